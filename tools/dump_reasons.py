@@ -4,7 +4,8 @@ from __future__ import annotations
 
 import re
 
-from lambdamoo.words import PREPOSITIONS, PROPERTY_RIGHTS, VERB_RIGHTS
+from lambdamoo.words import PROPERTY_RIGHTS, VERB_RIGHTS
+from moolib.slots import PREPOSITIONS
 
 WORDS = ("object", "property", "slot", "verb", "petition", "end")
 BITS = ("player", "programmer", "wizard", "r", "w", "f")

@@ -10,18 +10,10 @@ from collections.abc import Iterator, Mapping
 from lambdamoo.accepting import Accepting
 from lambdamoo.database import Database, Thing
 from lambdamoo.links import clash_in, owed_to_each
-from lambdamoo.losses import PROGRAMS, REFUSED_BYTES, REFUSED_FLOATS, STRANGE_NAMES, STRANGE_VERBS, Losses, add_words
-from lambdamoo.texts import Broken, finish, opened, write_out
-from lambdamoo.words import (
-    FLAGS,
-    PLACES,
-    PREPOSITIONS,
-    PROPERTY_RIGHTS,
-    VERB_RIGHTS,
-    escaped,
-    may_name_property,
-    quoted,
-)
+from lambdamoo.losses import REFUSED_BYTES, REFUSED_FLOATS, STRANGE_NAMES, STRANGE_VERBS, Losses, add_words
+from lambdamoo.texts import Broken, finish, opened
+from lambdamoo.words import FLAGS, PLACES, PROPERTY_RIGHTS, VERB_RIGHTS, escaped, may_name_property, quoted
+from moolib.slots import PREPOSITIONS
 
 TOOL = "from_lambdamoo"
 
@@ -166,15 +158,8 @@ def convert(asked: argparse.Namespace) -> int:
     with opened(asked.database) as stream:
         database = Database(stream, losses, asked.floats, asked.bytes, keep_lacking=asked.accept)
         dump = Dump(database, losses, Accepting(database, losses).lists if asked.accept else {})
-    losses.report(TOOL)
-    beyond = losses.beyond(asked.allow) if asked.strict else []
-    if REFUSED_FLOATS in losses.counts or REFUSED_BYTES in losses.counts or beyond:
-        why = f": --strict, and {', '.join(beyond)} not allowed" if beyond else ""
-        sys.stderr.write(f"{TOOL}: no dump was written{why}\n")
-        return 1
-    if not asked.check:
-        write_out(dump.pieces())
-    return 0
+    is_refused = REFUSED_FLOATS in losses.counts or REFUSED_BYTES in losses.counts
+    return losses.end(TOOL, "dump", asked, dump.pieces(), is_refused)
 
 
 def main(words: list[str]) -> int:

@@ -7,11 +7,12 @@ import argparse
 import sys
 from collections.abc import Iterator
 
+from lambdamoo.doubts import Doubts
 from lambdamoo.dump import Dump, Item, plain
-from lambdamoo.losses import NO_PROGRAM, NO_VERB, Losses, add_words
-from lambdamoo.origin import Kept, Origin
+from lambdamoo.losses import NO_PROGRAM, Losses, add_words
+from lambdamoo.origin import Origin
 from lambdamoo.programs import Header, Matching
-from lambdamoo.texts import finish, opened, shown, write_out
+from lambdamoo.texts import finish, opened
 from lambdamoo.words import FLAGS, NOTHING, VERSION
 
 TOOL = "to_lambdamoo"
@@ -63,7 +64,7 @@ class Writer:
             placed.update(self.placed_on(number, item))
         for number, kept in self.origin.programs.items():
             if number not in self.items:
-                self.tell_gone(number, kept)
+                Doubts(number, kept, {}, self.losses).tell_gone()
         return placed
 
     def placed_on(self, number: int, item: Item) -> dict[tuple[int, int], list[str]]:
@@ -73,7 +74,8 @@ class Writer:
         before, now = [verb.header for verb in kept], [header_of(names, text) for names, text in item.verbs]
         found = Matching(before, now).found
         is_untouched = self.dump.seq == 0 and before == now
-        for place in range(len(item.verbs)):
+        doubts = Doubts(number, kept, found, self.losses)
+        for place, (names, _) in enumerate(item.verbs):
             match = found.get(place)
             where = f"#{number}:{place}, line {item.verb_lines[place]}"
             program = kept[match.place].program if match else None
@@ -81,18 +83,10 @@ class Writer:
                 self.losses.note(NO_PROGRAM, where)
                 continue
             placed[number, place] = program
-            if match.doubt and not is_untouched:
-                was = kept[match.place].header.names
-                self.losses.note(match.doubt, where if was == item.verbs[place][0] else f"{where}, which was {shown(was)}")
-        matched = {match.place for match in found.values()}
-        self.tell_gone(number, [verb for place, verb in enumerate(kept) if place not in matched])
+            if not is_untouched:
+                doubts.tell(match, names, where)
+        doubts.tell_gone()
         return placed
-
-    def tell_gone(self, number: int, gone: list[Kept]) -> None:
-        """Reports the programs of verbs of an object that the dump doesn't have."""
-        for verb in gone:
-            if verb.program is not None:
-                self.losses.note(NO_VERB, f"#{number}:{shown(verb.header.names)}")
 
     def pieces(self) -> Iterator[str]:
         """The texts of the database, in their order."""
@@ -172,14 +166,7 @@ def convert(asked: argparse.Namespace) -> int:
     with opened(asked.dump) as stream:
         dump = Dump(stream, losses)
     writer = Writer(dump, Origin(asked.programs, losses), losses)
-    losses.report(TOOL)
-    beyond = losses.beyond(asked.allow) if asked.strict else []
-    if beyond:
-        sys.stderr.write(f"{TOOL}: no database was written: --strict, and {', '.join(beyond)} not allowed\n")
-        return 1
-    if not asked.check:
-        write_out(writer.pieces())
-    return 0
+    return losses.end(TOOL, "database", asked, writer.pieces())
 
 
 def main(words: list[str]) -> int:

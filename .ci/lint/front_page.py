@@ -15,15 +15,19 @@ LONGEST_README = 120
 PAGES = [*sorted(TOP.glob("*.md")), *sorted(TOP.glob("docs/*.md"))]
 
 
-def picture() -> list[list[str]]:
-    """The crates of each layer of the picture, from the top down."""
-    layers: list[list[str]] = []
+def picture() -> dict[str, tuple[int, int]]:
+    """The place of each crate in the picture: its storey, from the top down, and the tower of that storey."""
+    places: dict[str, tuple[int, int]] = {}
+    storey, tower, was_tower = 0, 0, False
     for line in (TOP / "docs/architecture.txt").read_text().splitlines():
         if line.startswith(" "):
-            layers[-1] += line.partition(":")[0].split()
+            for box in line.split("|"):
+                places.update((crate, (storey, tower)) for crate in box.partition(":")[0].split())
         elif line and not line.startswith("#"):
-            layers.append([])
-    return layers
+            stands_beside = was_tower and line.startswith("*")
+            storey, tower = (storey, tower + 1) if stands_beside else (storey + 1, 0)
+            was_tower = line.startswith("*")
+    return places
 
 
 def uses_of_crates() -> dict[str, list[str]]:
@@ -33,10 +37,16 @@ def uses_of_crates() -> dict[str, list[str]]:
     return {crate: [used for used in names if used in uses] for crate, names in uses.items()}
 
 
+def is_against_the_order(user: tuple[int, int], used: tuple[int, int]) -> bool:
+    """Whether a crate here uses one there that is higher, or in another tower. Those of the first tower, the words, use the other towers."""
+    return used[0] < user[0] or (used[0] == user[0] and used[1] != user[1] and user[1] > 0)
+
+
 def crates_against_the_order(uses: dict[str, list[str]]) -> list[str]:
-    """Each use of a crate of a higher layer."""
-    height = {crate: -number for number, layer in enumerate(picture()) for crate in layer}
-    return [f"{crate} uses {used}" for crate, names in uses.items() for used in names if height.get(used, 0) > height.get(crate, 0)]
+    """Each use of a crate that is higher in the picture, or in another tower."""
+    places = picture()
+    pairs = [(crate, used) for crate, names in uses.items() for used in names if crate in places and used in places]
+    return [f"{crate} uses {used}" for crate, used in pairs if is_against_the_order(places[crate], places[used])]
 
 
 def anchors(page: Path) -> set[str]:
@@ -72,8 +82,8 @@ def cases() -> Iterator[tuple[str, object]]:
     yield "the picture is that of its text (docs/draw_architecture.py draws it)", drawn.returncode != 0
     uses = uses_of_crates()
     product = {crate for crate in uses if crate.startswith("moo")}
-    yield "the picture has each crate", sorted(product - {crate for layer in picture() for crate in layer})
-    yield "a crate uses none of a higher layer", crates_against_the_order(uses)
+    yield "the picture has each crate", sorted(product - set(picture()))
+    yield "a crate uses none that is higher or in another tower", crates_against_the_order(uses)
     yield "each link leads somewhere", list(broken_links())
     yield "each page says first whom it is for", without_readers()
     yield "REFUSED says how many mutants there are", miscounted()

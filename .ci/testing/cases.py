@@ -1,6 +1,7 @@
 """The cases of one module of tests, or of one lint, run in this process."""
 from __future__ import annotations
 
+import re
 import runpy
 import sys
 import time
@@ -62,7 +63,7 @@ class Counts(unittest.TestResult):
     def tell(self, test: unittest.TestCase, error: Any) -> None:
         """Says of a case that it failed, and why; of an error that isn't a difference also at which place."""
         kind, fault, trace = error
-        why = str(fault) if issubclass(kind, AssertionError) else repr(fault)
+        why = str(fault) if issubclass(kind, AssertionError) else in_a_line(fault)
         self.told.append(failure(name_of(test), why))
         if not issubclass(kind, AssertionError):
             traceback.print_exception(kind, fault, trace)
@@ -75,9 +76,15 @@ def failure(name: str, why: object) -> str:
     return line
 
 
+def in_a_line(fault: BaseException) -> str:
+    """An error in a line. That of a module that can't be loaded has a whole trace in it, of which the last line says why."""
+    lines = str(fault).rstrip().splitlines()
+    return f"it can't be loaded: {lines[-1]}" if isinstance(fault, ImportError) and len(lines) > 1 else repr(fault)
+
+
 def name_of(test: unittest.TestCase) -> str:
-    """The name of a test, as FAILED says it."""
-    name = test.id()
+    """The name of a test, as FAILED says it. Of a whole class, `setUpClass (tests.web.test_full.Full)`, it is that of the class."""
+    name = re.sub(r"^setUpClass \((.*)\)$", r"\1", test.id())
     return name[len("tests.") :] if name.startswith("tests.") else name
 
 

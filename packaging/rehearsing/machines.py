@@ -22,14 +22,14 @@ HOME = {"HOME": "/root", "PATH": PATH, "LANG": "C.UTF-8", "DEBIAN_FRONTEND": "no
 
 
 def group_for(name: str) -> Path | None:
-    """A control group for a machine, if this machine's systemd doesn't make one: two machines may not share theirs."""
+    """A control group of this name for a machine, if this machine's systemd doesn't make one: two machines may not share theirs."""
     if os.path.exists("/run/systemd/system"):
         return None
     found = re.search(r"^\S+ (\S+) cgroup2 ", Path("/proc/mounts").read_text(), re.M)
     if not found:
         is_wrong("there is no cgroup2 on this machine")
     assert found
-    group = Path(found[1]) / f"rehearse-{name}"
+    group = Path(found[1]) / name
     group.mkdir(exist_ok=True)
     return group
 
@@ -43,6 +43,8 @@ class Machine:
     def __init__(self, folder: Path, name: str, disk2: str = "disk2") -> None:
         self.base, self.root, self.own = folder / "base", folder / name, folder / f"{name}.own"
         self.name, self.log = name, folder / f"{name}.log"
+        # Rehearsals in several folders may run side by side.
+        self.full_name = f"rehearse-{folder.name}-{name}"
         self.other, self.disk2 = folder / "other", folder / disk2
         self.first: int | None = None
         shutil.rmtree(self.own, ignore_errors=True)
@@ -56,9 +58,9 @@ class Machine:
 
     def boot(self) -> None:
         """Starts the machine, and waits until it is up."""
-        group = group_for(self.name)
+        group = group_for(self.full_name)
         binds = [f"--bind={self.other}:/other", f"--bind={self.disk2}:/srv/journal2"]
-        words = ["systemd-nspawn", "--quiet", f"--directory={self.root}", f"--machine=rehearse-{self.name}", *binds]
+        words = ["systemd-nspawn", "--quiet", f"--directory={self.root}", f"--machine={self.full_name}", *binds]
         # What is needed to give a unit a network of its own.
         words += ["--capability=CAP_NET_ADMIN", "--register=no", *(["--keep-unit"] if group else []), "--console=pipe", "--boot"]
         if group:
@@ -99,8 +101,13 @@ class Machine:
             )
             log.write(done.stdout.encode())
         if is_good and done.returncode:
+            self.log_units()
             is_wrong(f"machine {self.name}: status {done.returncode} of {here(lines)}; its log is {self.log}")
         return done.stdout
+
+    def log_units(self) -> None:
+        """Adds to its log what its units said last, which is in its journal alone."""
+        self.run(["systemctl --failed --no-legend", "grep ^Vm /proc/1/status", "journalctl --no-pager --output=short-precise --lines=200"], is_good=False)
 
     def start(self, lines: list[str]) -> subprocess.Popen[str]:
         """Lines of a shell that go on while others run."""
@@ -126,8 +133,36 @@ class Machine:
         shutil.rmtree(self.own)
 
 
+def run_to_answer(machine: Machine, lines: list[str]) -> None:
+    """Commands, and under them what the last one prints."""
+    *lines, answer = lines
+    printed = machine.run(lines)
+    if not printed.endswith(f"{answer}\n"):
+        is_wrong(f"{lines[-1]} printed {printed!r}")
+
+
+def until(machine: Machine, lines: list[str], seconds: float = SECONDS) -> str:
+    """Runs lines until all succeed, and gives what they print then."""
+    end = time.monotonic() + seconds
+    while time.monotonic() < end:
+        printed = machine.run([*lines, "echo '(done)'"], is_good=False)
+        if printed.endswith("(done)\n"):
+            return printed.removesuffix("(done)\n")
+        time.sleep(1)
+    is_wrong(f"machine {machine.name}: {lines} doesn't succeed")
+    raise AssertionError
+
+
+def test_shipped() -> None:
+    """The machines have the shipped program alone, so that it has to be of these sources."""
+    ran = subprocess.run([TOP / ".ci/sources"], stdout=subprocess.PIPE, text=True, check=True)
+    if ran.stdout.strip() != (TOP / "dist/SOURCES").read_text().strip():
+        is_wrong("the program in dist/ was made from other sources than these, and a new machine can build none")
+
+
 def make_base(folder: Path) -> None:
     """What each machine begins as, the sources for them, and the disk that outlives them."""
+    test_shipped()
     if not (folder / "base").exists():
         words = ["debootstrap", "--include=dbus,systemd-sysv", "bookworm", str(folder / "unfinished"), MIRROR]
         subprocess.run(words, stdout=subprocess.DEVNULL, check=True)

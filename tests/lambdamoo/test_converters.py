@@ -401,7 +401,9 @@ class Programs(Temporary):
         self.assertEqual(found, [["2"], ["1"], ["3"]])
         found, said = self.given(["put", "drop", "new"], database)
         self.assertEqual(found, [["1"], ["3"], None])
-        self.assertIn("programs without a verb in the dump, left out: 1, first at #0:'get'\n", said)
+        # `drop` may be `get`, and the last one `drop`: two changes, as many as one deleted and one added. `put` may be `get` by three.
+        may_be = "#0:'get', unless #0:0, line 4, or #0:1, line 5, is that verb\n"
+        self.assertIn(f"programs without a verb in the dump, left out: 1, first at {may_be}", said)
 
     def test_texts_of_programs(self):
         code = ["", " .", "..", "#0:0", "0 clocks", "caf\xe9 \x01", "  return 1;", "** LambdaMOO Database, Format Version 4 **"]

@@ -3,8 +3,10 @@
 `systemd-analyze`, `dpkg-deb`, `lintian` and `bash` are used if they are there.
 """
 
+import contextlib
 import gzip
 import hashlib
+import io
 import json
 import os
 import pathlib
@@ -565,14 +567,30 @@ class Units(InFolder):
 class Rehearsal(unittest.TestCase):
     """packaging/rehearse, which follows the page on new machines."""
 
+    def setUp(self):
+        self.rehearse = tool("rehearse", TOP / "packaging")
+
     def test_the_page_has_its_blocks(self):
-        rehearse = tool("rehearse", TOP / "packaging")
-        for name in rehearse.BLOCKS:
+        page = sys.modules["rehearsing.page"]
+        for name in page.BLOCKS:
             with self.subTest(name):
-                self.assertTrue(rehearse.block(name))
-        with self.assertRaises(SystemExit):
-            rehearse.BLOCKS["another"] = ("Run", "apt-get")
-            rehearse.block("another")
+                self.assertTrue(page.block(name))
+        with self.assertRaises(SystemExit), unittest.mock.patch.dict(page.BLOCKS, another=("Run", "apt-get")):
+            page.block("another")
+
+    def test_a_drill_by_its_name(self):
+        said = self.rehearse.read_words(["machines", "--from", "the clock was ahead"])
+        self.assertEqual((said.folder, said.first, said.only), (pathlib.Path("machines"), "the clock was ahead", None))
+        for words in (["--only", "the disk"], ["--from", "back to noon", "--only", "back to noon"]):
+            with self.subTest(words), self.assertRaises(SystemExit) as raised, contextlib.redirect_stderr(io.StringIO()):
+                self.rehearse.read_words(["machines", *words])
+            self.assertEqual(raised.exception.code, 2)
+
+    def test_a_start_has_room_for_systemd(self):
+        """Its process has the bound of a start before it becomes moo."""
+        bounds = sys.modules["rehearsing.full"].bounds
+        self.assertEqual(bounds(12 << 20), (52 << 20, 1 << 30))
+        self.assertEqual(bounds(1 << 30), (1064 << 20, 4256 << 20))
 
 
 class End(InFolder):

@@ -21,6 +21,8 @@ HEAD = "import os, pathlib, time, unittest\nTOP = pathlib.Path(__file__).parents
 PASSES = "    def test_passes(self):\n        for number in range(3):\n            with self.subTest(number):\n                pass\n"
 FAILS = '    def test_fails(self):\n        print("stray words")\n        self.assertEqual(1, 2)\n'
 LEFT = '    @unittest.skip("this machine has no lamp")\n    def test_lamp(self):\n        pass\n'
+LEFT_WHOLE = '    @classmethod\n    def setUpClass(cls):\n        raise unittest.SkipTest("this machine has no wick")\n\n' + PASSES
+CANT_BE_LOADED = "    import no_such_lamp\n"
 DIES = "    def test_dies(self):\n        os._exit(7)\n"
 # It says when it runs, and waits for another one that runs at the same time.
 MEETS = """    def test_meets(self):
@@ -103,6 +105,16 @@ class TestCommand(unittest.TestCase):
         ])
         self.assertIn("FAILED lamps.test_bad.Some.test_fails: 1 != 2", lines)
         self.assertIn("stray words", lines, "what a module with a failure said is shown")
+
+    def test_a_class_that_is_left_out_and_a_module_that_cant_be_loaded(self) -> None:
+        self.module("dark", LEFT_WHOLE)
+        self.module("lost", CANT_BE_LOADED)
+        _, lines = self.ran("-j1")
+        self.assertEqual(lines[lines.index("left out: 1, for these reasons:") :], [
+            "left out: 1, for these reasons:", "  this machine has no wick", "    lamps.test_dark.Some", "failed: 1",
+            "  unittest.loader._FailedTest.test_lost: it can't be loaded: ModuleNotFoundError: No module named 'no_such_lamp'",
+            "2 passed, 1 failed",
+        ])
 
     def test_modules_run_side_by_side(self) -> None:
         self.module("one", MEETS.format(own="one", other="two"))

@@ -16,7 +16,6 @@ from tests.support.alike_calls import Caller
 from tests.support.alike_dumps import Dump, differences, hidden
 from tests.support.alike_sides import LAST, TextSide, WebSide
 from tests.support.cases import ProgramTest
-from tests.support.program import ended
 from tests.support.worlds import remove, text_of
 
 PAIRS = int(os.environ.get("PAIRS", "60"))

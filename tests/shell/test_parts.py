@@ -7,6 +7,7 @@ import shutil
 import subprocess
 import tempfile
 import unittest
+from unittest import mock
 
 from tests.support import TOOLS
 from tests.support.cases import ProgramTest
@@ -247,6 +248,9 @@ class Parts(ProgramTest):
             ("drop lamp", elsewhere.PLAYED),
             (".tables", f"moo has no SQL; {elsewhere.SQL['.tables']}"),
             ("create table inn (a int)", f"moo has no SQL; {elsewhere.KINDS['create']}"),
+            ("table inn", f"moo has no SQL; {elsewhere.SQL['table']}"),
+            ("describe #5", f"moo has no SQL; {elsewhere.SQL['describe']}"),
+            ('#4.name := "Pub"', 'a property is set by #4.name = "Inn"'),
             ("nothing", ""),
             ("#5.name \\watch 1", "a word of the shell begins its line: \\watch 1 #5.name"),
             ("#5.name \\gset", elsewhere.PSQL["gset"]),
@@ -271,6 +275,8 @@ class Parts(ProgramTest):
             (["--username=bob"], "--username: --as N"), (["-v", "ON_ERROR_STOP=1"], "ON_ERROR_STOP: a script always stops"),
         ):  # fmt: skip
             self.case(f"the advice of {options}", elsewhere.of_options(options)[: len(begins) or 9], begins)
+        for word, begins in (("-qAtX", "-A: answers"), ("-q1x", "-x: \\show #5"), ("-q1", ""), ("-qc", ""), ("-fqAt", ""), ("-c-q", "")):
+            self.case(f"the advice of the bundle {word}", elsewhere.of_bundles([word])[: len(begins) or 9], begins)
 
     def test_the_examples_of_advice(self) -> None:
         """The calls of the examples are calls of moo, or words of the shell; each command of help has a form that is read."""
@@ -326,6 +332,20 @@ class Parts(ProgramTest):
         self.case("every error", sorted(found.reasons), errors)
         self.case("without a program", manual.manual_of(None).calls, {})
 
+
+    def test_help_on_a_word_of_psql(self) -> None:
+        """`\\d` is `\\show`, and not LambdaMOO's `d`, with which people go down."""
+        for asked, wanted in (("\\d", "  \\show #5"), ("\\i", "  \\include FILE"), ("\\x", elsewhere.PSQL["x"]), ("d", elsewhere.PLAYED)):
+            self.case(f"\\help {asked}", self.helped(asked).startswith(wanted), True)
+        self.case("what there is of psql", "In place of SELECT: \\show #5" in self.helped("psql"), True)
+
+    @staticmethod
+    def helped(asked: str) -> str:
+        """What `\\help` says of a word."""
+        shown: list[str] = []
+        output = mock.Mock(show=shown.append, width=lambda: None)
+        commands.show_help(mock.Mock(manual=manual.manual_of(None), output=output), asked)
+        return shown[0]
 
     def test_help_on_a_narrow_terminal(self) -> None:
         """Its lines fit, no word of it is lost, and calls stay apart. What fits stays as it is."""

@@ -282,7 +282,12 @@ class Scripts(OnWorld):
         self.case("no file has the name of a command", [each for each in os.listdir() if "|" in each], [])
         came = run_shell("-1", "-c", "create(#1)", "-c", "create(#77)", "world.db")
         self.case("-1 is one batch", (came.status, came.complaint.splitlines()[-1]), (1, "moo-shell: nothing was changed"))
-        self.case("-A says why not", "answers of a script are bare already" in run_shell("-A", "world.db").complaint, True)
+        came = run_shell("-c", "begin", "-c", "create(#1)", "-c", "commit", "world.db")
+        self.told("a batch over several -c", came, 1, "each -c is a text of its own: `end` is missing in it, and -1 makes one batch of all", file="-c")
+        for words in (("-A",), ("-qAtX",)):
+            came = run_shell(*words, "-c", "#3.name", "world.db")
+            self.case(f"{words} says why not", (came.status, "-A: answers of a script are bare already" in came.complaint), (2, True))
+        self.case("-V is --version", run_shell("-V").written, run_shell("--version").written)
         self.case("a copy runs no command", run_shell("--dry-run", "-c", "\\! echo there", "world.db").written.splitlines()[0] != "there", True)
 
     def test_the_examples(self) -> None:

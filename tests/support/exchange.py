@@ -58,16 +58,11 @@ def allow(method: str, is_head: bool = False) -> bytes:
     return answer("405 Method Not Allowed", error("method not allowed"), f"allow: {method}\r\n", is_head)
 
 
-def object_body(
-    name: str, parent: str = "#1", location: str = "#-1", children: Sequence[str] = (), contents: Sequence[str] = (), marks: int = 0,
-    fertile: int = 0,
-) -> str:  # fmt: skip
-    """The JSON of an object of #3. The marks are those of a player, a programmer and a wizard."""
-    parts = {
-        "children": children, "contents": contents, "f": fertile, "location": location, "name": name, "owner": "#3", "parent": parent,
-        "player": marks, "programmer": marks, "r": 0, "w": 0, "wizard": marks,
-    }
-    return json.dumps(parts, separators=(",", ":"))
+def object_body(name: str) -> str:
+    """The JSON of an object of #3 under #1, which is nowhere, and has nothing."""
+    parts: dict[str, object] = dict.fromkeys(("player", "programmer", "wizard", "r", "w", "f"), 0)
+    parts |= {"children": [], "contents": [], "location": "#-1", "name": name, "owner": "#3", "parent": "#1"}
+    return json.dumps(dict(sorted(parts.items())), separators=(",", ":"))
 
 
 def posted(path: str, body: bytes) -> bytes:

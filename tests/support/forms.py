@@ -2,7 +2,6 @@
 
 from __future__ import annotations
 
-import re
 import time
 import unittest
 from typing import Any, Optional

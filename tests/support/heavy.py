@@ -4,7 +4,6 @@ from __future__ import annotations
 import dataclasses
 import http.client
 import json
-import os
 import pathlib
 import subprocess
 import time
@@ -59,7 +58,7 @@ class Sizes(NamedTuple):
 
 # As the stranger had them; and of a tenth or less, for tests.
 FULL = Sizes(few=1000, wide=10_000, wider=100_000, properties=1000, deep=10_000, deeper=100_000, names=6000, values=100_000, let_in=1000)
-SMALL = Sizes(few=200, wide=1000, wider=10_000, properties=100, deep=1000, deeper=30_000, names=600, values=10_000, let_in=20)
+SMALL = Sizes(few=200, wide=1000, wider=10_000, properties=100, deep=1000, deeper=30_000, names=600, values=10_000, let_in=1000)
 
 
 def family(count: int, properties: int = 0) -> World:
@@ -98,9 +97,9 @@ def there_and_back(times: int, world: World) -> list[str]:
     return [f"chparent(#{TOP}, #{world.last})", f"chparent(#{TOP}, #1)"] * times
 
 
-def added(count: int, target: int = TOP) -> list[str]:
+def added(count: int) -> list[str]:
     """So many properties more."""
-    return [f'add_property(#{target}, "q{number}", 0, {{{WHO}, "rw"}})' for number in range(count)]
+    return [f'add_property(#{TOP}, "q{number}", 0, {{{WHO}, "rw"}})' for number in range(count)]
 
 
 def of_classes(sizes: Sizes) -> list[Request]:

@@ -9,7 +9,7 @@ import dataclasses
 import re
 import typing
 from random import Random
-from typing import Any, Iterable, Optional
+from typing import Any, Iterable
 
 ERRORS = ["E_NONE", "E_TYPE", "E_DIV", "E_PERM", "E_PROPNF", "E_VERBNF", "E_VARNF", "E_INVIND"] + [
     "E_RECMOVE", "E_MAXREC", "E_RANGE", "E_ARGS", "E_NACC", "E_INVARG", "E_QUOTA", "E_FLOAT"

@@ -37,6 +37,8 @@ PATHS = {
     "a form": f"/do/move?object=%23{FIRST_THING}", "a form to make objects": "/do/create",
 }  # fmt: skip
 BATCH = 300
+# So often a page is asked for.
+TRIES = 20
 
 
 def make_large(file: pathlib.Path, count: int) -> None:
@@ -181,24 +183,24 @@ class Measured:
             raise AssertionError(f"{path} was answered {status}: {text[:300]!r}")
         return text
 
-    def page(self, path: str, tries: int = 20) -> tuple[float, float]:
+    def page(self, path: str) -> tuple[float, float]:
         """The median of the seconds of a page, and the mean of its processor time. The first isn't counted."""
         self.must(self.guest, path)
         before = cpu_of(self.front.process.pid, self.moo.process.pid)
         seconds: list[float] = []
-        for _ in range(tries):
+        for _ in range(TRIES):
             began = time.monotonic()
             self.must(self.guest, path)
             seconds.append(time.monotonic() - began)
-        return statistics.median(seconds), (cpu_of(self.front.process.pid, self.moo.process.pid) - before) / tries
+        return statistics.median(seconds), (cpu_of(self.front.process.pid, self.moo.process.pid) - before) / TRIES
 
-    def after_write(self, token: str, tries: int = 20) -> tuple[float, float]:
+    def after_write(self, token: str) -> tuple[float, float]:
         """The same for the first page after a batch that renames an object, with a new one every time."""
         from tests.support.web import ask
 
         seconds: list[float] = []
         cpu = 0.0
-        for number in range(tries):
+        for number in range(TRIES):
             calls = [f'set(#{FIRST_THING + number}, "name", "renamed {number}")', f"create(#{FIRST_CLASS})"]
             status, said = ask(self.front.port, "POST", "/api/batch", {"calls": calls}, token)
             if status != 200:
@@ -207,4 +209,4 @@ class Measured:
             self.must(self.guest, "/")
             seconds.append(time.monotonic() - began)
             cpu += cpu_of(self.front.process.pid, self.moo.process.pid) - before
-        return statistics.median(seconds), cpu / tries
+        return statistics.median(seconds), cpu / TRIES

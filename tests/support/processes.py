@@ -36,9 +36,9 @@ def run_script(words: Sequence[Any], seconds: float, **variables: str) -> tuple[
     return script.returncode, said.decode(errors="replace")
 
 
-def run_python(script: object, *words: object, seconds: float = 300) -> tuple[int, str]:
+def run_python(script: object, *words: object) -> tuple[int, str]:
     """The same of a script in Python."""
-    return run_script([sys.executable, "-B", script, *words], seconds)
+    return run_script([sys.executable, "-B", script, *words], 300)
 
 
 def seconds_of_children() -> float:

@@ -6,12 +6,15 @@ Each verb is known through all changes, whatever it is called, so that its own p
 from __future__ import annotations
 
 import dataclasses
+from collections.abc import Sequence
 from random import Random
 from typing import Optional
 
 from tests.support.lambdamoo_worlds import Thing, Verb, World
 
 OBJECTS = (1, 2, 4)
+# What may happen, as often as it is written here.
+HAPPENINGS = ("add", "delete", "delete", "rename", "rename", "other arguments")
 NAMES = ("look", "open", "get take", "put")
 FRESH = ("fetch", "stow", "l*ook", "peek")
 PLACES = (("this", "none", "none"), ("any", "with/using", "any"), ("this", "none", "this"))
@@ -33,10 +36,12 @@ class Known:
 
 
 class Changed:
-    """A world, its verbs through some changes, and the calls that make them."""
+    """A world, its verbs through some changes, and the calls that make them. Without twins no two verbs of an object ever have a name in common."""
 
-    def __init__(self, random: Random) -> None:
-        self.random = random
+    def __init__(self, random: Random, happenings: Sequence[str] = HAPPENINGS, has_twins: bool = True) -> None:
+        self.random, self.happenings = random, happenings
+        # without twins, the names that no verb has had
+        self.unused = None if has_twins else [f"{name}{number}" for number in range(MOST_VERBS + MOST_CHANGES) for name in (*NAMES, *FRESH)]
         self.verbs = {number: [self.verb(f"#{number}:{place}") for place in range(random.randrange(MOST_VERBS + 1))] for number in OBJECTS}
         self.before = {number: [dataclasses.replace(verb) for verb in verbs] for number, verbs in self.verbs.items()}
         self.world = self.made()
@@ -45,7 +50,11 @@ class Changed:
     def verb(self, words: str) -> Known:
         """A verb that is a twin of others more often than not, with a program that no other has."""
         program = [f'return "{words}";'] if self.random.random() < 0.9 else None
-        return Known(self.random.choice(NAMES), self.random.choice(PLACES), program)
+        return Known(self.names(NAMES), self.random.choice(PLACES), program)
+
+    def names(self, among: Sequence[str]) -> str:
+        """Names for a verb, of these, or without twins names that no verb has had."""
+        return self.random.choice(among) if self.unused is None else self.unused.pop(self.random.randrange(len(self.unused)))
 
     def made(self) -> World:
         """The world before the changes."""
@@ -59,8 +68,8 @@ class Changed:
         """A change of a verb of an object, and the call that makes it."""
         verbs = self.verbs[number]
         place = self.random.randrange(len(verbs)) if verbs else 0
-        what = self.random.choice(("add", "delete", "delete", "rename", "rename", "other arguments")) if verbs else "add"
-        names, places = self.random.choice((*NAMES, *FRESH)), self.random.choice(PLACES)
+        what = self.random.choice(self.happenings) if verbs else "add"
+        names, places = self.names((*NAMES, *FRESH)), self.random.choice(PLACES)
         given = ", ".join(f'"{word.split("/")[0]}"' for word in places)
         if what == "add":
             verbs.append(Known(names, places, None))
@@ -83,10 +92,13 @@ class Changed:
         """The verbs that have another program than their own and of which nothing is told, with the report of all places.
 
         What is told of a verb names it, or a program of its object that has no verb. A verb without a program of its own may get that of one
-        that is gone and that had the same names and arguments: it can't be told from that.
+        that is gone and that had the same names and arguments: it can't be told from that. Nor can an object whose verbs all have the names
+        and arguments that they had be told from one on which nothing has happened.
         """
         wrong = []
         for number, verbs in self.verbs.items():
+            if [verb.header for verb in verbs] == [verb.header for verb in self.before[number]]:
+                continue
             gone = [verb for verb in self.before[number] if verb.program not in [each.program for each in verbs]]
             has_lost = f"    #{number}:'" in told
             for place, (verb, came) in enumerate(zip(verbs, found.things[number].verbs)):

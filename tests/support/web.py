@@ -28,6 +28,12 @@ def use_web() -> None:
     sys.path.insert(0, str(WEB))
 
 
+def whose_token(people: Any, secret: str) -> Any:
+    """The person whose token this is, by these accounts; None if it is nobody's."""
+    found = people.tokens.bearer(secret)
+    return found.person if found else None
+
+
 def lacking() -> str:
     """What is missing to run the front, and the command that installs it; nothing, if it can run."""
     try:

@@ -16,16 +16,16 @@ import time
 import unittest
 from typing import Any, Optional
 
-from tests.support.program import MOO, TOP, ended
+from tests.support.program import TOP, ended
 from tests.support.worlds import make
 
 import moo_client
 from moolib import calls, errors, values
+from moolib.begun import known_name, read_begun
 from moolib.calls import Call, NoCall, read_about, read_or_none
 from moolib.errors import LostAnswer, NoService, Stranger, TooLong, Unreachable, Unsure
-from moolib.exchange import Exchange
 from moolib.service import Patience, Service, batch_body
-from moolib.values import ErrorValue, Name, NoValue, Obj, TooGreat, read, written
+from moolib.values import ErrorValue, Name, Obj, TooGreat, cut_at_objects, read, written
 
 SEED, COUNT = int(os.environ.get("SEED", 20)), 400
 PAGE = (TOP / "docs/CALLS.md").read_text()
@@ -157,7 +157,8 @@ class Calls(unittest.TestCase):
         """An object, or a name of the batch; and a property, if the value after that is a text."""
         parts = {
             'set(#5, "name", "a(b")': ("set", Obj(5), "name", 2),
-            ' SET ( $room , "say \\"hi\\"" , {1, $x})': None,
+            ' SET ( $room , "say \\"hi\\"" , {1, $x})': ("set", Name("room"), 'say "hi"', 2),
+            ' SET ( $room , "say \\"hi\\"" , {1, $})': None,
             ' SET ( $room , "say \\"hi\\"" , {1, 2})': ("set", Name("room"), 'say "hi"', 2),
             "recycle($room)": ("recycle", Name("room"), "", 0),
             "move(#4, #2)": ("move", Obj(4), "", 1),
@@ -171,6 +172,51 @@ class Calls(unittest.TestCase):
             with self.subTest(text):
                 call = read_about(text)
                 self.assertEqual(call and (call.name, call.subject, call.property, len(call.others)), expected)
+
+    def test_names_in_the_place_of_values(self) -> None:
+        """They may be in lists too; in a string they are letters, and elsewhere a call has none."""
+        call = calls.read_named('set_property_info($room, "$a", {$_b2, "r"})')
+        self.assertEqual(call, calls.NamedCall("set_property_info", (Name("room"), "$a", [Name("_b2"), "r"])))
+        self.assertEqual(calls.read_named("Players()"), calls.NamedCall("players", ()))
+        for text in ("set($room", "$room", "set($)", "set($1)", "set($room $hall)", "set($room.name)"):
+            self.assertIsNone(calls.read_named(text), text)
+        for text in ("recycle($room)", "petition({{$room}})"):
+            self.assertIsNone(read_or_none(text), text)
+
+    def test_half_a_call(self) -> None:
+        """The texts of the values so far, and where they are."""
+        for text, texts, is_at_value in (
+            ("get(", ("",), True),
+            (" GET (", ("",), True),
+            ("get(#4, ", ("#4", ""), True),
+            ('get(#4, "na', ("#4", '"na'), True),
+            ('get(#4, "a, b) {c", ', ("#4", '"a, b) {c"', ""), True),
+            ("get({1, {2, 3}, ", ("{1, {2, 3},",), False),
+            ("get({1, 2}, ", ("{1, 2}", ""), True),
+            ("get(#4)", ("#4",), False),
+            ("get( )", (), False),
+            ("get(O, {OWNER, PERMS}), put(O)", ("O", "{OWNER, PERMS}"), False),
+            ("get(Lamp (old), The Inn)", ("Lamp (old)", "The Inn"), False),
+        ):
+            with self.subTest(text):
+                begun = read_begun(text)
+                self.assertEqual(begun and (begun.name, begun.texts, begun.is_at_value), ("get", texts, is_at_value))
+        for text in ("get", "", "#4", "(", '"get("', "$a = get("):
+            self.assertIsNone(read_begun(text), text)
+        whole = 'move(Lamp (old), "The (Inn") // x'
+        found = read_begun(whole)
+        self.assertEqual(found and whole[found.begin : found.end], 'Lamp (old), "The (Inn"')
+
+    def test_calls_without_brackets(self) -> None:
+        for text, name in (("Grant 3", "grant"), ("grant(3", "grant"), ("granted 3", ""), ("#4 grant", ""), ("", "")):
+            self.assertEqual(known_name(text), name, text)
+
+    def test_the_name_of_a_call_alone(self) -> None:
+        for text, name in ((" Create\t", "Create"), ("create(", ""), ("create #1", ""), ("1", ""), ("", ""), ("é", "")):
+            self.assertEqual(calls.bare_name(text), name, text)
+
+    def test_objects_in_a_text(self) -> None:
+        self.assertEqual(cut_at_objects('f(#4, "#5\\"", {#-1})'), ["f(", "#4", ", ", '"#5\\""', ", {", "#-1", "})"])
 
     def test_names_in_front(self) -> None:
         for text, name in (("create(#1", "create"), (" Sing (", "sing"), ("create", ""), ("#4", ""), ("grantor(1)", "grantor")):

@@ -17,7 +17,9 @@ import unittest
 import unittest.mock
 import urllib.request
 
+from tests.support import processes
 from tests.support.operating import KeptService, SECONDS, TOOLS, make_world, tool
+from tests.support.service import free_port
 
 FIRST = "batch as #3\ncreate(#1)\nend\n"
 
@@ -35,6 +37,22 @@ class Stranger(http.server.BaseHTTPRequestHandler):
 
     def log_message(self, *_: object) -> None:
         """Says nothing."""
+
+
+# A service whose store has failed, as its port and its words show it: `serve FILE PORT`.
+CLOSED = """
+import http.server, sys
+class Closed(http.server.BaseHTTPRequestHandler):
+    def do_GET(self):
+        self.send_response(503)
+        self.end_headers()
+        self.wfile.write(b'{"error":"closed"}')
+    def log_message(self, *_):
+        pass
+server = http.server.HTTPServer(("127.0.0.1", int(sys.argv[3])), Closed)
+print("listening", flush=True)
+server.serve_forever()
+"""
 
 
 class Watch(unittest.TestCase):
@@ -169,6 +187,12 @@ class Left(Watch):
                     watch.test_disk(self.room)
 
 
+def bound(pid: int, times: float, more: int = 0) -> None:
+    """Sets the bound of a process to so many times the address space that it takes now, and so many bytes more."""
+    taken = int(re.findall(r"(?m)^VmSize:\s+(\d+) kB$", pathlib.Path(f"/proc/{pid}/status").read_text())[0]) << 10
+    resource.prlimit(pid, resource.RLIMIT_AS, (int(taken * times) + more, resource.RLIM_INFINITY))
+
+
 class Memory(Watch):
     """A service with little memory, by a bound of its address space that is set while it runs."""
 
@@ -178,12 +202,10 @@ class Memory(Watch):
         self.service = KeptService(self.file)
         self.addCleanup(self.service.stop)
 
-    def bound(self, times: float) -> None:
-        """Sets the bound to so many times what the service takes now."""
+    def bound(self, times: float, more: int = 0) -> None:
+        """Sets the bound of the service."""
         assert self.service.process
-        pid = self.service.process.pid
-        taken = int(re.findall(r"(?m)^VmSize:\s+(\d+) kB$", pathlib.Path(f"/proc/{pid}/status").read_text())[0]) << 10
-        resource.prlimit(pid, resource.RLIMIT_AS, (int(taken * times), resource.RLIM_INFINITY))
+        bound(self.service.process.pid, times, more)
 
     def seq(self) -> bytes:
         """What the service answers about the number of its world."""
@@ -205,12 +227,34 @@ class Memory(Watch):
 
     def test_no_memory_for_a_batch(self) -> None:
         self.serve(FIRST)
-        self.bound(1)
+        # Room for a short request, and not for the batch of moo-watch, which has 900,000 bytes.
+        self.bound(1, 1 << 18)
         self.assertEqual(self.seq(), b'{"seq":1}')
-        self.assert_wrong("the service has no memory for a batch (nomemory)", "--wait", "2", self.service.port)
+        full = self.room / "full"
+        words = ("--wait", "2", "--world", self.file, "--full", full, self.service.port)
+        self.assert_wrong("the service has no memory for a batch (nomemory)", *words)
+        self.assertTrue(full.exists(), "what has no memory for a batch is full")
         self.bound(3)
-        self.assertEqual(self.watch(self.service.port), (0, "seq 1\n", ""))
+        self.assertEqual(self.watch(*words), (0, "seq 1\n", ""))
+        self.assertFalse(full.exists())
         self.assertEqual(self.seq(), b'{"seq":1}', "the batch has changed nothing")
+
+
+class Closed(Watch):
+    """A store that failed as its run came to its bound."""
+
+    def test_the_world_is_marked_before_the_run_ends(self) -> None:
+        self.file.touch()
+        port, full = free_port(), self.room / "full"
+        service = processes.start([sys.executable, "-c", CLOSED, "serve", str(self.file), str(port)], stdout=subprocess.PIPE)
+        assert service.stdout
+        self.assertEqual(service.stdout.readline(), b"listening\n")
+        bound(service.pid, 1.1)
+        script = 'test -e "$0" && touch "$1"'
+        status, _, told = self.watch("--world", self.file, "--full", full, port, "sh", "-c", script, full, self.room / "marked")
+        self.assertEqual(status, 1)
+        self.assertRegex(told, r"the service answers 503 closed; the service takes \d+ of \d+ MB: the world is full")
+        self.assertTrue((self.room / "marked").exists(), "the file was there when the command ran")
 
 
 class Answers(Watch):

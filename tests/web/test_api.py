@@ -101,7 +101,7 @@ class Api_(unittest.TestCase):
         routes.of_tokens.clock = routes.of_addresses.clock = lambda: 1000.0
         for name, number in (("wizard", 3), ("ada", 4)):
             self.people.add(name, number, PASSWORD)
-        self.tokens = {name: self.people.make_token(name) for name in ("wizard", "ada")}
+        self.tokens = {name: self.people.tokens.make(name) for name in ("wizard", "ada")}
         self.called, self.unread = Called(self.app), []
 
     def asked(self, who, method, path, said=None, **more):
@@ -148,7 +148,7 @@ class Rights(Api_):
         self.assertEqual(self.called.said("GET", "/api/seq", HTTP_AUTHORIZATION=f"bearer {self.tokens['ada']}"), (200, {"seq": 1}))
 
     def test_tokens_end(self):
-        self.people.end_tokens("ada")
+        self.people.tokens.end_all("ada")
         self.assertEqual(self.asked("ada", "GET", "/api/seq"), (401, {"error": "unauthorized"}))
         self.people.disable("wizard")
         self.assertEqual(self.asked("wizard", "GET", "/api/seq"), (401, {"error": "unauthorized"}))

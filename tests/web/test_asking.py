@@ -63,7 +63,8 @@ class AskingTest(FormsTest):
 
     def open_ones(self, number=3):
         """The numbers of the petitions that moo has, as this programmer sees them."""
-        return [one.number for one in petitions_in(Questions(self.door).read_now(number, "petitions()"))]
+        questions = Questions(self.door)
+        return [one.number for one in petitions_in(questions.read(number, ["petitions()"], questions.number())[0])]
 
 
 class Reasons(AskingTest):
@@ -120,7 +121,7 @@ class Reasons(AskingTest):
         self.has(self.somebody("wizard").get("/petitions/2"), WHY, status=200)
 
     def test_programs_say_why_too(self):
-        token = self.people.make_token("bram")
+        token = self.people.tokens.make("bram")
         reader = Reader(self.app)
 
         def batch(**said):

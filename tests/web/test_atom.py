@@ -96,7 +96,7 @@ class FeedsTest(AskingTest):
 
     def of(self, who, path="/feed", **lines):
         """The answer to somebody with a token."""
-        token = self.people.make_token(who, Terms(days=1, is_read_only=True))
+        token = self.people.tokens.make(who, Terms(days=1, is_read_only=True))
         return Reader(self.app).asked("GET", path, HTTP_AUTHORIZATION=f"Bearer {token}", **lines)
 
     def entries(self, who, path="/feed"):
@@ -138,7 +138,7 @@ class Feeds(FeedsTest):
 
     def test_who_may_read(self):
         self.ask()
-        token = self.people.make_token("ada")
+        token = self.people.tokens.make("ada")
         basic = base64.b64encode(f"ada:{token}".encode()).decode()
         password = base64.b64encode(b"ada:a password").decode()
         for path in FEEDS:
@@ -152,7 +152,7 @@ class Feeds(FeedsTest):
                 self.assertEqual(Reader(self.app).asked("GET", path, HTTP_AUTHORIZATION=line).status, 401, line)
             texts = {Reader(self.app).asked("GET", path, HTTP_AUTHORIZATION=line).bytes for line in (f"Bearer {token}", f"Basic {basic}")}
             self.assertEqual(texts, {self.reader("ada").get(path).bytes})
-        self.people.end_tokens("ada")
+        self.people.tokens.end_all("ada")
         self.assertEqual(Reader(self.app).asked("GET", "/feed", HTTP_AUTHORIZATION=f"Bearer {token}").status, 401)
 
     def test_a_feed_that_is_as_it_was_isnt_sent_again(self):
@@ -203,7 +203,7 @@ class NothingElse(FeedsTest):
             by = who if is_asked else "wizard"
             batch = ["petition({" + ", ".join(f"{{{text}}}" for text in texts) + "})"] if is_asked else [f"set({text[7:]})" for text in texts]
             reason = f"r{turn}q"
-            token = self.people.make_token(by, Terms(days=1))
+            token = self.people.tokens.make(by, Terms(days=1))
             body = json.dumps({"calls": batch, "words": reason}).encode()
             self.assertEqual(Reader(self.app).asked("POST", "/api/batch", body, HTTP_AUTHORIZATION=f"Bearer {token}").status, 200)
             told |= {word: (by, (number, name), is_asked) for number, name, word in calls}

@@ -13,7 +13,7 @@ from unittest import mock
 from tests.support.audits import audited
 from tests.support.operating import SECONDS
 from tests.support.program import TOP
-from tests.support.web import PASSWORD, ask, program, use_web
+from tests.support.web import PASSWORD, ask, use_web
 from tests.web.test_people import WithPeople
 from tests.web.test_serving import ServingTest
 
@@ -61,8 +61,8 @@ class Done(WithPeople):
         token = ""
         with visiting(Visitor("192.0.2.9", "wizard")):
             self.people.add("ben", 5, "a password of Ben's")
-            token = self.people.make_token("ben")
-            self.people.end_tokens("ben")
+            token = self.people.tokens.make("ben")
+            self.people.tokens.end_all("ben")
             self.people.set_password("ben", "another password")
             self.people.disable("ben")
             self.people.enable("ben")

@@ -9,6 +9,7 @@ import re
 import threading
 import unittest
 
+from tests.support.journals import accepted_in
 from tests.support.operating import KeptService, SECONDS, make_world
 from tests.support.service import free_port
 from tests.support.web import Front, Kept, RoomTest, add_person, use_web
@@ -17,7 +18,7 @@ use_web()
 
 import moo_client  # noqa: E402
 from moo_client import Moo, Obj  # noqa: E402
-from moo_web.journal.segments import Accepted, accepted_in  # noqa: E402
+from moo_web.journal.segments import Accepted  # noqa: E402
 
 KILLS = int(os.environ.get("KILLS", 12))
 CLIENTS = 20

@@ -10,7 +10,6 @@ import unittest
 from unittest import mock
 
 from tests.support.operating import SECONDS
-from tests.support.service import free_port
 from tests.support.web import RoomTest, ask, lacking, use_web
 from tests.web.test_serving import ServingTest
 
@@ -140,6 +139,8 @@ class Many(ChannelTest):
     silent, count = 2, 20
 
     def setUp(self):
+        if why := lacking():
+            self.skipTest(why)
         from moo_web.traffic import connections
 
         patched = mock.patch.object(connections, "MOST_CONNECTIONS", self.count)

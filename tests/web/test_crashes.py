@@ -18,6 +18,7 @@ import shutil
 import tempfile
 import unittest
 
+from tests.support.journals import accepted_in
 from tests.support.web import use_web
 from tests.web.test_writer import World
 
@@ -27,7 +28,7 @@ from moo_client import LostAnswer  # noqa: E402
 from moo_web.journal import journal as journal_module  # noqa: E402
 from moo_web.journal import writer as writer_module  # noqa: E402
 from moo_web.journal.journal import Journal  # noqa: E402
-from moo_web.journal.segments import Accepted, accepted_in  # noqa: E402
+from moo_web.journal.segments import Accepted  # noqa: E402
 from moo_web.journal.jobs import Busy, Job  # noqa: E402
 from moo_web.journal.writer import Writer  # noqa: E402
 

@@ -9,7 +9,10 @@ use_web()
 
 from moo_web.forms.catalogue import FORMS, PREPOSITIONS  # noqa: E402
 from moo_web.forms.forms import Field, Filled, Form, Me, Step, items_of, read_form  # noqa: E402
+from moo_web.forms.petitions import asked_of  # noqa: E402
+from moo_web.forms.unread import hidden_by_rights, is_of_value  # noqa: E402
 from moo_web.forms.input import Mistyped, number_value, text_value, typed_as, written_value  # noqa: E402
+from moolib.batches import Item  # noqa: E402
 from moo_client import ErrorValue, Obj  # noqa: E402
 
 ADA = Me(17)
@@ -300,6 +303,23 @@ class Mistakes(unittest.TestCase):
     def test_a_form_without_a_mistake_has_none(self):
         self.assertIsInstance(read_form(FORMS["recycle"], {"object": "#5"}, WORLD, ADA), Filled)
         self.assertEqual(mistakes("recycle", {"object": "#5"}), {})
+
+
+class Named(unittest.TestCase):
+    """Calls with a name in the place of an object that an earlier call makes."""
+
+    def test_what_cant_be_asked_for_is_shown_without_names(self):
+        made = [Item("create(#1)", "$lamp"), Item('set($lamp, "price", "$lamp")')]
+        self.assertEqual(asked_of(made, ADA).left_out, ['set((the new object), "price", "$lamp")'])
+
+    def test_rights_of_an_object_that_is_made_again_hide_a_value(self):
+        for owner, perms, hidden in (("$again5", "", {1, 2}), ("$again5", "r", set()), (f"#{ADA.number}", "", set())):
+            lines = ["$again5 = create(#1)", 'set(#9, "code", "1234")', f'set_property_info(#9, "code", {{{owner}, "{perms}"}})']
+            self.assertEqual(hidden_by_rights(lines, ADA.number), hidden, lines)
+
+    def test_a_line_that_gives_a_value(self):
+        self.assertTrue(is_of_value('set($again5, "friend", {$again6})'))
+        self.assertFalse(is_of_value('set($again5, "owner", $again6)'))
 
 
 if __name__ == "__main__":

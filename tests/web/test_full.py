@@ -46,9 +46,9 @@ class Full(RoomTest):
         subprocess.run([sys.executable, TOOLS / "moo-bound", str(self.service.pid), str(self.port), str(RUN_BYTES)], check=True, timeout=SECONDS)
         self.assertEqual(resource.prlimit(self.service.pid, resource.RLIMIT_AS), (RUN_BYTES, START_BYTES))
 
-    def watch(self):
-        """How moo-watch ends, and what it says."""
-        words = ["--wait", "10", "--world", self.room / "world.db", "--full", self.room / "full", self.port]
+    def watch(self, *command):
+        """How moo-watch ends, and what it says. A command ends the run if its store has failed."""
+        words = ["--wait", "10", "--world", self.room / "world.db", "--full", self.room / "full", self.port, *command]
         ran = subprocess.run([sys.executable, TOOLS / "moo-watch", *map(str, words)], capture_output=True, text=True, check=False)
         return ran.returncode, ran.stderr
 
@@ -75,13 +75,42 @@ class Full(RoomTest):
     def test_by_slots(self):
         self.fill(calls_of_slots)
 
-    def fill(self, calls_of):
+    def test_by_a_writer_who_is_faster_than_the_watch(self):
+        self.begin()
+        self.fill_to_the_bound()
+        status, told = self.watch("kill", self.service.pid)
+        self.assertEqual(status, 1)
+        # Where the memory ran out decides which it is: the store failed, and the watch ended the run; or a batch has no memory.
+        self.assertRegex(told, r"the service (answers 503 closed|has no memory for a batch.*); the service takes \d+ of 40 MB: the world is full")
+        self.service.terminate()
+        self.service.wait(SECONDS)
+        self.serve()
+        # A run begins with more address space than it may ask for, and would hold more than the one before.
+        status, said = self.batch('add_property(#4, "more", 1, {#4, "rw"})')
+        self.assertEqual((status, said.get("error")), (429, "too many"), said)
+        self.assertIn("the world is full", said["why"])
+        self.read()
+
+    def fill_to_the_bound(self):
+        """Adds one value after the other, while nobody watches, until a batch isn't answered."""
+        for number in range(2 * RUN_BYTES // len(LONG)):
+            status, said = self.batch(f'add_property(#4, "y{number}", {LONG}, {{#4, "rw"}})')
+            if status != 200:
+                self.assertEqual(status, 503, said)
+                return
+        self.fail("a run has taken twice its bound")
+
+    def begin(self):
+        """A world with its service, and a front with a builder."""
         make_world(self.room / "world.db", WORLD + "".join("batch as #4\n" + "create(#5)\n" * 1000 + "end\n" for _ in range(CHILDREN // 1000)))
         self.port, self.is_over = free_port(), threading.Event()
         self.serve()
         self.token = add_person(self.room / "front", "ada", 4)
         self.front = Front(self.room / "front", self.port, "--full", self.room / "full", "--daily-bytes", 1 << 40, "--share", "1e6,1e9,1e12")
         self.assertTrue(self.front.is_listening(), self.front.said())
+
+    def fill(self, calls_of):
+        self.begin()
         watching = threading.Thread(target=self.watch_on)
         watching.start()
         try:

@@ -35,7 +35,7 @@ class GrowthTest(FormsTest):
         growth = Growth(self.door, full=self.room / "full", clock=self.clock)
         self.writer.bound = growth.test
         self.writer.listeners.append(growth.take)
-        self.tokens = {name: self.people.make_token(name) for name in self.numbers}
+        self.tokens = {name: self.people.tokens.make(name) for name in self.numbers}
 
     def batch(self, who, *calls):
         """The status and the body of what `/api/batch` answers, and the seconds after which to try again."""

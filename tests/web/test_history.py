@@ -7,6 +7,7 @@ import re
 import tempfile
 import unittest
 
+from tests.support.journals import accepted_in
 from tests.support.pages import PagesTest
 from tests.support.web import use_web
 
@@ -14,7 +15,7 @@ use_web()
 
 from moo_web.journal.history import History, call_about  # noqa: E402
 from moo_web.journal.journal import Journal  # noqa: E402
-from moo_web.journal.segments import accepted_in, line_of  # noqa: E402
+from moo_web.journal.segments import line_of  # noqa: E402
 
 SEED = 7
 

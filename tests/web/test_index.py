@@ -106,7 +106,7 @@ class Parts(IndexTest):
         self.write("wizard", 'set(#50, "name", "fifty")', "move(#51, #-1)")
         self.asked.clear()
         self.check()
-        self.assertLessEqual(len(self.asked), 5, self.asked)
+        self.assertEqual(self.asked, ["/seq", "/each"])
         self.asked.clear()
         self.index.world()
         self.assertEqual(self.asked, ["/seq"])
@@ -123,6 +123,36 @@ class Parts(IndexTest):
         self.check()
         self.write("wizard", f"recycle({first})", "recycle(#0)")
         self.check()
+
+    def test_many_that_are_near_and_some_that_are_not(self):
+        for _ in range(2):
+            self.write("wizard", *["create(#1)"] * 1000)
+        self.check()
+        self.write("wizard", *(f'set(#{number}, "name", "named {number}")' for number in (*range(10, 60), 1500, 1900)), "create(#1)")
+        self.asked.clear()
+        self.index.world()
+        self.assertEqual(self.asked, ["/seq", "/objects/10", "/each"])
+        self.assertEqual(self.check().things[1900].name, "named 1900")
+
+    def test_calls_of_which_one_is_not_answered(self):
+        """That isn't taken for an object that is gone: each is read by itself."""
+        self.write("wizard", "create(#1)", "create(#1)")
+        self.check()
+        self.write("wizard", 'set(#4, "name", "four")', "recycle(#5)", "create(#1)")
+        counted = self.door.asked
+
+        def bounded(method, path, *given):
+            answer = counted(method, path, *given)
+            if path == "/each":
+                answer.said["each"][3] = {"error": "nomemory"}
+            return answer
+
+        self.door.asked = bounded
+        self.asked.clear()
+        self.index.world()
+        self.door.asked = counted
+        self.assertEqual(self.asked, ["/seq", "/each", "/object/4", "/object/5", "/object/6"])
+        self.assertEqual(self.check().things[4].name, "four")
 
     def test_children_and_contents_of_what_is_recycled(self):
         self.write("wizard", "create(#1)", "create(#4)", "create(#5)", "create(#1)", "set_accept(#5, {#1})", "move(#7, #5)")
@@ -191,6 +221,18 @@ class Elsewhere(IndexTest):
         self.door.sent("POST", "/batch", b'{"as":"#3","calls":["set(#4, \\"name\\", \\"renamed\\")"]}')
         self.assertIn("renamed", reader.get("/roots").text)
 
+    def test_a_page_after_a_batch(self):
+        """It asks for what has changed, and then what it shows; the batch told the number."""
+        reader = self.reader("wizard")
+        self.write("wizard", "create(#1)", "create(#1)")
+        reader.get("/")
+        self.asked.clear()
+        self.write("wizard", 'set(#4, "name", "fourth")', "create(#4)", "recycle(#5)")
+        self.asked.clear()
+        self.assertIn("fourth", reader.get("/").text)
+        self.assertEqual(self.asked, ["/each"])
+        self.check()
+
     def test_a_number_between_two_that_were_told(self):
         """All is read again, since nobody told what it changed."""
         self.check()
@@ -214,7 +256,7 @@ class Elsewhere(IndexTest):
         whole = self.door.asked
 
         def silent(method, path, *given):
-            if path.startswith("/object"):
+            if path.startswith(("/object", "/each")):
                 raise Unreachable
             return whole(method, path, *given)
 
@@ -232,7 +274,7 @@ class Elsewhere(IndexTest):
 
         def between(method, path, *given):
             answer = whole(method, path, *given)
-            if path.startswith("/objects/") and waiting:
+            if path.startswith(("/objects/", "/each")) and waiting:
                 self.writer.write("wizard", 3, [waiting.pop()])
             return answer
 

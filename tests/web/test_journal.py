@@ -11,13 +11,14 @@ import stat
 import tempfile
 import unittest
 
+from tests.support.journals import accepted_in
 from tests.support.web import use_web
 
 use_web()
 
 from moo_web.journal import journal as journal_module  # noqa: E402
 from moo_web.journal.journal import Broken, InUse, Journal, NoRoom  # noqa: E402
-from moo_web.journal.segments import Accepted, Damaged, accepted_in  # noqa: E402
+from moo_web.journal.segments import Accepted, Damaged  # noqa: E402
 
 BASE_KEYS = ["k", "version", "segment", "seq", "former", "t", "why", "branch"]
 

@@ -15,6 +15,7 @@ import time
 import unittest
 
 from tests.support.crashing_front import STEPS
+from tests.support.journals import accepted_in
 from tests.support.operating import KeptService, Pace, SECONDS, make_world, said
 from tests.support.program import TOP
 from tests.support.service import free_port
@@ -22,7 +23,7 @@ from tests.support.web import DEBIANS_PYTHON, Front, Kept, RoomTest, add_person,
 
 use_web()
 
-from moo_web.journal.segments import Accepted, accepted_in  # noqa: E402
+from moo_web.journal.segments import Accepted  # noqa: E402
 
 KILLS = int(os.environ.get("KILLS", 200))
 NAMES = ("wizard", "ada", "ben", "cas")

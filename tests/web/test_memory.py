@@ -5,13 +5,14 @@ import hashlib
 import shutil
 import unittest
 
+from tests.support.journals import accepted_in
 from tests.support.operating import checked, make_world, said
 from tests.support.web import program, use_web
 from tests.web.test_undoing import World
 
 use_web()
 
-from moo_web.journal.segments import Accepted, accepted_in  # noqa: E402
+from moo_web.journal.segments import Accepted  # noqa: E402
 from moo_web.journal.undoing import Undo, undone  # noqa: E402
 from moolib import facts  # noqa: E402
 

@@ -1,6 +1,5 @@
 """The form of a whole object, and of a new one: what is in it, what is sent, and how many pages it takes (web/moo_web/forms/one_form.py)."""
 
-import re
 import unittest
 
 from tests.support.forms import FormsTest

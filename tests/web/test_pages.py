@@ -297,14 +297,13 @@ class Looks(SiteTest):
         self.assertEqual([reader.get(f"/history/{number}").status for number in (0, 3, 6, 10**14)], [404] * 4)
 
     def test_links_to_forms_are_for_those_who_may_change_it(self):
-        self.pages.changes |= {"property": "/do/set", "verb": "/do/verb-args"}
         for who, wanted in (("ada", ["diary", "size", "colour"]), ("ben", []), ("wizard", ["diary", "size", "opener", "colour"])):
             answer = self.reader(who).get("/o/8")
             links = [link for link in answer.read.links if link.startswith("/do/set?object=8")]
             self.assertEqual(links, [f"/do/set?object=8&name={name}" for name in wanted])
             self.assertEqual(tidied(answer), "")
         links = self.reader("wizard").get("/o/6").read.links
-        self.assertEqual([link for link in links if "verb=" in link], ["/do/verb-args?object=6&verb=1", "/do/verb-args?object=6&verb=2"])
+        self.assertEqual([link for link in links if "verb=" in link], ["/do/verb-rights?object=6&verb=1", "/do/verb-rights?object=6&verb=2"])
 
     def test_values_have_links_and_are_spelled_as_in_a_call(self):
         answer = self.reader("ada").get("/o/9")

@@ -7,7 +7,7 @@ from tests.support.web import WEB, use_web
 
 use_web()
 
-from moo_web.paths import PATHS, Path, form_for, url_for  # noqa: E402
+from moo_web.paths import PATHS, Path, form_for, url_for, whole_number  # noqa: E402
 
 GIVEN = {"number": 5, "links": "owned", "tree": "places", "batch": 9, "key": "add-verb", "name": "Ada.2"}
 NAMED = re.compile(r'url_for\("([a-z]+)"')
@@ -39,6 +39,11 @@ class Addresses(unittest.TestCase):
         for text in ("/o/", "/o/x", "/o/5/", "/o/12345678901", "/o/5?", "/O/5", "/o/٣"):
             self.assertIsNone(PATHS["object"].read(text), text)
         self.assertIsNone(Path("/a.b").read("/aXb"))
+
+    def test_a_number_in_a_field(self):
+        for text, number in (("0", 0), ("007", 7), ("9" * 19, 10**19 - 1), ("", None), ("-1", None), ("²", None), (" 5", None), ("1" * 20, None)):
+            with self.subTest(text=text):
+                self.assertEqual(whole_number(text), number)
 
     def test_pages_name_what_is_there(self):
         named = set()

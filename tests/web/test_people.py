@@ -10,7 +10,7 @@ import unittest
 from unittest import mock
 
 from tests.support.operating import KeptService, make_world
-from tests.support.web import PASSWORD, program, use_web
+from tests.support.web import PASSWORD, program, use_web, whose_token
 
 use_web()
 
@@ -117,7 +117,7 @@ class Accounts(WithPeople):
 
     def test_nobody_of_that_name(self):
         for change in (
-            self.people.disable, self.people.enable, self.people.make_token, self.people.end_tokens, self.people.remove, self.people.tokens.of,
+            self.people.disable, self.people.enable, self.people.tokens.make, self.people.tokens.end_all, self.people.remove, self.people.tokens.of,
             self.people.sessions_of, self.people.links.make,
         ):  # fmt: skip
             with self.subTest(change.__name__), self.assertRaises(Wrong):
@@ -126,7 +126,7 @@ class Accounts(WithPeople):
             self.people.set_password("ben", "x")
 
     def test_the_file_is_for_its_owner_and_holds_no_secret(self):
-        signed, token = self.sign_in(), self.people.make_token("ada")
+        signed, token = self.sign_in(), self.people.tokens.make("ada")
         self.assertEqual(stat.S_IMODE(os.stat(self.file).st_mode), 0o600)
         held = self.file.read_bytes()
         for secret in (PASSWORD, signed.secret, token, token[4:]):
@@ -190,35 +190,35 @@ class Ends(WithPeople):
         self.assertTrue(self.people.session(second))
 
     def test_a_new_password_ends_sessions_and_not_tokens(self):
-        secret, token = self.sign_in().secret, self.people.make_token("ada")
+        secret, token = self.sign_in().secret, self.people.tokens.make("ada")
         self.people.set_password("ada", "another one")
         self.assertIsNone(self.people.session(secret))
-        self.assertEqual(self.people.of_token(token), Person("ada", 4))
+        self.assertEqual(whose_token(self.people, token), Person("ada", 4))
         self.fail()
         self.assertTrue(self.sign_in("another one"))
 
     def test_disabling_ends_sessions_and_tokens(self):
-        secret, token = self.sign_in().secret, self.people.make_token("ada")
+        secret, token = self.sign_in().secret, self.people.tokens.make("ada")
         self.people.disable("ada")
         self.assertIsNone(self.people.session(secret))
-        self.assertIsNone(self.people.of_token(token))
+        self.assertIsNone(whose_token(self.people, token))
         with self.assertRaises(WrongPassword):
             self.sign_in()
         with self.assertRaises(Wrong):
-            self.people.make_token("ada")
+            self.people.tokens.make("ada")
         self.people.enable("ada")
         self.assertIsNone(self.people.session(secret))
-        self.assertIsNone(self.people.of_token(token))
+        self.assertIsNone(whose_token(self.people, token))
         self.assertTrue(self.sign_in())
 
     def test_tokens(self):
         self.people.add("ben", 5, PASSWORD)
-        first, second, other = (self.people.make_token(name) for name in ("ada", "ada", "ben"))
-        self.assertEqual({self.people.of_token(token) for token in (first, second)}, {Person("ada", 4)})
-        self.people.end_tokens("ada")
-        self.assertEqual([self.people.of_token(token) for token in (first, second, other)], [None, None, Person("ben", 5)])
+        first, second, other = (self.people.tokens.make(name) for name in ("ada", "ada", "ben"))
+        self.assertEqual({whose_token(self.people, token) for token in (first, second)}, {Person("ada", 4)})
+        self.people.tokens.end_all("ada")
+        self.assertEqual([whose_token(self.people, token) for token in (first, second, other)], [None, None, Person("ben", 5)])
         for wrong in ("", "moo_", first[:-1], first + "x", "é\x00"):
-            self.assertIsNone(self.people.of_token(wrong))
+            self.assertIsNone(whose_token(self.people, wrong))
 
     def test_a_password_that_changes_while_it_is_checked(self):
         is_right = passwords.is_right
@@ -352,12 +352,12 @@ class Program(unittest.TestCase):
         self.assertEqual(self.people("list"), (0, "ada #4 0 sessions, 1 tokens\nwizard #3 0 sessions, 0 tokens\n", ""))
         people_ = People(self.folder / "people.db")
         self.addCleanup(people_.close)
-        self.assertEqual(people_.of_token(token.strip()), Person("ada", 4))
+        self.assertEqual(whose_token(people_, token.strip()), Person("ada", 4))
         self.assertEqual(people_.sign_in("ada", PASSWORD, HOME).session.person, Person("ada", 4))
         self.assertEqual(self.people("passwd", "ada", text="another one\r\n")[0], 0)
         self.assertEqual(people_.sign_in("ada", "another one", HOME).session.person, Person("ada", 4))
         self.assertEqual(self.people("untoken", "ada"), (0, "", ""))
-        self.assertIsNone(people_.of_token(token.strip()))
+        self.assertIsNone(whose_token(people_, token.strip()))
         self.assertEqual(self.people("disable", "ada"), (0, "", ""))
         self.assertEqual(self.people("list")[1].splitlines()[0], "ada #4 disabled")
         self.assertEqual(self.people("enable", "ada"), (0, "", ""))
@@ -382,7 +382,7 @@ class Program(unittest.TestCase):
         self.assertRegex(lines[2], rf"^old\t{moment}\t-\t-$")
         self.assertEqual(self.people("untoken", "ada", "--label", "old"), (0, "", ""))
         with contextlib.closing(People(self.folder / "people.db")) as kept:
-            self.assertEqual([kept.of_token(each) is not None for each in (first, second, third)], [True, True, False])
+            self.assertEqual([whose_token(kept, each) is not None for each in (first, second, third)], [True, True, False])
         status, printed, told = self.people("untoken", "ada", "--label", "old")
         self.assertEqual((status, printed), (1, ""))
         self.assertIn("'old'", told)

@@ -8,7 +8,7 @@ from unittest import mock
 from tests.support.audits import audited
 from tests.support.forms import Checked, FormsTest
 from tests.support.reader import in_process
-from tests.support.web import PASSWORD, use_web
+from tests.support.web import PASSWORD, use_web, whose_token
 from tests.support.with_front import WithFront
 
 use_web()
@@ -232,9 +232,9 @@ class WhatIsDone(PeopleTest):
         wizard, ada = self.somebody("wizard"), self.somebody("ada")
         token = self.people.tokens.make("ada", Terms("the bot"))
         self.has(wizard.get("/people/ada/disable"), "1 session ends.", "1 token ends: “the bot”.")
-        self.assertTrue(self.people.of_token(token), "the page alone does nothing")
+        self.assertTrue(whose_token(self.people, token), "the page alone does nothing")
         self.has(wizard.send("Do it"), "can’t come in any more", "disabled", status=200)
-        self.assertEqual((ada.get("/").status, self.people.of_token(token), self.people.may_come_in("ada")), (401, None, False))
+        self.assertEqual((ada.get("/").status, whose_token(self.people, token), self.people.may_come_in("ada")), (401, None, False))
         self.has(wizard.send("Let in again"), "may come in again", status=200)
         self.assertEqual(self.people.sign_in("ada", PASSWORD, "192.0.2.9").session.person, Person("ada", 4))
         self.assertEqual(self.logged()[1:], ['account disabled: name="ada" by="wizard"', 'account enabled: name="ada" by="wizard"'])
@@ -270,7 +270,7 @@ class WhatIsDone(PeopleTest):
         wizard.get("/people/ada/remove")
         token = self.people.tokens.make("ada", Terms("made meanwhile"))
         self.has(wizard.send("Do it"), "has changed since you looked", "made meanwhile", status=409)
-        self.assertTrue(self.people.of_token(token))
+        self.assertTrue(whose_token(self.people, token))
         self.has(wizard.send("Do it"), "The account is gone.")
         self.assertEqual(wizard.post("/people/ada/remove", {"form": wizard.typed("Sign out")["form"]}).status, 404)
 
@@ -335,7 +335,7 @@ class OnesOwn(PeopleTest):
         self.assertNotIn("brams", page.text)
         self.assertEqual(round((self.people.tokens.of("ada")[0].until - self.now) / 86400), 90)
         self.has(ada.send("End the token the bot"), "It has ended.")
-        self.assertIsNone(self.people.of_token(token))
+        self.assertIsNone(whose_token(self.people, token))
         of_ada = [line for line in self.logged() if 'name="ada"' in line]
         self.assertEqual(of_ada, [
             'token made: name="ada" label="the bot" days=90 read_only="yes"', 'token ended: name="ada" label="the bot"',

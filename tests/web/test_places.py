@@ -4,14 +4,16 @@ import time
 import unittest
 
 from tests.support.operating import SECONDS
-from tests.support.pages import PagesTest, tidied
+from tests.support.pages import PagesTest, lacking, tidied
 from tests.support.web import use_web
 
 use_web()
 
-from moo_web.pages.joined import STEPS, between, laid_out  # noqa: E402
-from moo_web.pages.sight import LONGEST_DESCRIPTION, Exit, described, exits_in  # noqa: E402
 from moolib.values import read  # noqa: E402
+
+if not lacking():
+    from moo_web.pages.joined import STEPS, between, laid_out
+    from moo_web.pages.sight import LONGEST_DESCRIPTION, Exit, described, exits_in
 
 # #4 is the class of the rooms #5 to #9. Ada #10 is in The Inn #6, with a mug #11. #12 is an exit as an object of its own, to #9.
 WORLD = """batch as #3
@@ -219,6 +221,10 @@ class Map(PlaceTest):
 
 
 class Shapes(unittest.TestCase):
+    def setUp(self):
+        if why := lacking():
+            self.skipTest(why)
+
     def test_descriptions(self):
         for value, lines in (
             ("A room.", ["A room."]), (["One.", "", "Two."], ["One.", "Two."]), (7, []), (None, []), ("", []), ([1, "a"], ["a"]), ("  ", []),

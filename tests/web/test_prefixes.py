@@ -7,6 +7,7 @@ import tempfile
 import unittest
 from unittest import mock
 
+from tests.support.journals import accepted_in
 from tests.support.pages import PagesTest
 from tests.support.web import program, use_web
 
@@ -18,8 +19,9 @@ from moo_web.journal import segments  # noqa: E402
 from moo_web.journal.history import History  # noqa: E402
 from moo_web.journal.journal import Journal  # noqa: E402
 from moo_web.journal.mending import Survey  # noqa: E402
-from moo_web.journal.segments import Accepted, Damaged, accepted_in  # noqa: E402
+from moo_web.journal.segments import Accepted, Damaged  # noqa: E402
 from moo_web.journal.tables import sum_of  # noqa: E402
+from moo_web.journal.talks import decided_of  # noqa: E402
 
 SEED = 11
 PEOPLE = {"ada": 4, "Ben": 5, "wizard": 3}
@@ -101,7 +103,7 @@ def seen_in(history):
 def answers_of(history):
     """What an index answers to all questions of these tests."""
     said = [history.found(who, number, 1000) for who in (None, "ada", "ben", "wizard") for number in (None, *range(20))]
-    said += [history.decided(who, 100) for who in PEOPLE]
+    said += [decided_of(history, who, 100) for who in PEOPLE]
     said += [history.one(seq) for seq in range(100)]
     said += [history.same(who, sum_of([f"move(#{number}, #1)"]), after) for who in PEOPLE for number in range(9) for after in (0, 20)]
     return said + [history.petition(number) for number in range(20)]

@@ -16,7 +16,8 @@ from moo_web.forms.excuses import excuse  # noqa: E402
 from moo_web.forms.forms import Me  # noqa: E402
 from moo_web.forms.input import Mistyped  # noqa: E402
 from moo_web.forms.petitions import asked_of, petition_item, petitions_in  # noqa: E402
-from moo_web.forms.previews import Done, NotSent, Previews  # noqa: E402
+from moo_web.forms.previewing import Preview  # noqa: E402
+from moo_web.forms.previews import Done, Previews  # noqa: E402
 from moo_web.forms.questions import Questions, reads_before  # noqa: E402
 from moo_web.journal.journal import Journal  # noqa: E402
 from moo_web.journal.history import History  # noqa: E402
@@ -85,11 +86,11 @@ class WithWorld(unittest.TestCase):
             self.journal.close()
 
     def read(self, call, who=3):
-        return self.questions.read_now(who, call).text
+        return self.questions.read(who, [call], self.questions.number())[0].text
 
     def petitions_of(self, who):
         """The petitions that this programmer sees."""
-        return petitions_in(self.questions.read_now(who, "petitions()"))
+        return petitions_in(self.questions.read(who, ["petitions()"], self.questions.number())[0])
 
     def apply(self, person, calls, look=None):
         """What comes of calls that were looked at before."""
@@ -158,7 +159,7 @@ class Applied(WithWorld):
 
     def test_it_is_done_as_it_was_seen(self):
         done = self.apply(ADA, items('set(#7, "name", "Oil lamp")'))
-        self.assertEqual(done, Done(2, ['set(#7, "name", "Oil lamp")'], ["0"]))
+        self.assertEqual(done, Done(2, ['set(#7, "name", "Oil lamp")']))
         self.assertEqual(self.read('get(#7, "name")'), '"Oil lamp"')
 
     def test_if_the_world_moved_on_and_the_preview_is_the_same_it_is_done(self):
@@ -172,11 +173,10 @@ class Applied(WithWorld):
         look = seen(self.previews.of(ADA, calls))
         self.writer.write("wizard", 3, ['set(#7, "name", "Lantern")'])
         shown = self.apply(ADA, calls, look)
-        self.assertIsInstance(shown, NotSent)
-        self.assertTrue(shown.is_moved)
-        self.assertEqual([said.text for _, said in shown.preview.changes[0].before], ['"Lantern"'])
+        self.assertIsInstance(shown, Preview)
+        self.assertEqual([said.text for _, said in shown.changes[0].before], ['"Lantern"'])
         self.assertEqual(self.read('get(#7, "name")'), '"Lantern"')
-        self.assertIsInstance(self.apply(ADA, calls, seen(shown.preview)), Done)
+        self.assertIsInstance(self.apply(ADA, calls, seen(shown)), Done)
 
     def test_a_verb_that_moved_down_isnt_taken_for_another(self):
         for name in ("look", "take"):
@@ -184,7 +184,7 @@ class Applied(WithWorld):
         calls = items("delete_verb(#7, 1)")
         look = seen(self.previews.of(ADA, calls))
         self.writer.write("wizard", 3, ["delete_verb(#7, 1)"])
-        self.assertIsInstance(self.apply(ADA, calls, look), NotSent)
+        self.assertIsInstance(self.apply(ADA, calls, look), Preview)
         self.assertEqual(self.read("verbs(#7)"), '{"take"}')
 
     def test_another_number_of_a_new_object_is_shown_first(self):
@@ -192,15 +192,15 @@ class Applied(WithWorld):
         look = seen(self.previews.of(ADA, calls))
         self.writer.write("wizard", 3, ["create(#6)"])
         shown = self.apply(ADA, calls, look)
-        self.assertIsInstance(shown, NotSent)
-        self.assertEqual(shown.preview.calls, ["create(#6)", 'set(#9, "name", "Key")'])
+        self.assertIsInstance(shown, Preview)
+        self.assertEqual(shown.calls, ["create(#6)", 'set(#9, "name", "Key")'])
 
     def test_sent_twice_it_acts_once(self):
         calls = items("create(#6)")
         look = seen(self.previews.of(ADA, calls))
         first, second = self.apply(ADA, calls, look), self.apply(ADA, calls, look)
-        self.assertEqual((first.answers, first.is_again), (["#8"], False))
-        self.assertEqual((second.seq, second.answers, second.is_again), (first.seq, ["#8"], True))
+        self.assertFalse(first.is_again)
+        self.assertEqual((second.seq, second.is_again), (first.seq, True))
         self.assertEqual(self.read("max_object()"), "#8")
 
     def test_sent_twice_across_a_stop_of_the_front_it_acts_once(self):
@@ -233,7 +233,7 @@ class Applied(WithWorld):
         calls = items("create(#6)")
         look = seen(self.previews.of(ADA, calls))
         self.writer.write("bram", 5, ["create(#6)"])
-        self.assertIsInstance(self.apply(ADA, calls, look), NotSent)
+        self.assertIsInstance(self.apply(ADA, calls, look), Preview)
 
     def test_what_isnt_decided_yet_is_found_later(self):
         calls = items('set(#7, "weight", 4)')
@@ -290,7 +290,7 @@ class Applied(WithWorld):
         look = seen(self.previews.of(ADA, calls))
         self.writer.write("wizard", 3, ["recycle(#7)"])
         shown = self.apply(ADA, calls, look)
-        self.assertEqual((shown.preview.refusal.call, shown.preview.refusal.error), (1, "E_INVIND"))
+        self.assertEqual((shown.refusal.call, shown.refusal.error), (1, "E_INVIND"))
 
     def test_what_is_remembered_is_bounded(self):
         recent = Recent(self.writer, self.history, 3)
@@ -311,7 +311,7 @@ class Asking(WithWorld):
     def test_a_petition_of_a_form_and_its_grant(self):
         asked = asked_of(items('set(#6, "name", "Thing")', "create(#1)"), Me(5))
         self.assertEqual(asked, (['set(#6, "name", "Thing")', "create(#1, #5)"], []))
-        self.assertEqual(self.apply(BRAM, [petition_item(asked.calls)]).answers, ["1"])
+        self.assertIsInstance(self.apply(BRAM, [petition_item(asked.calls)]), Done)
         (petition,) = self.petitions_of(3)
         self.assertEqual(petition, (1, 5, asked.calls))
         self.assertEqual((self.petitions_of(4), self.petitions_of(5)), ([], [petition]))
@@ -325,7 +325,7 @@ class Asking(WithWorld):
         look = seen(self.previews.of(WIZARD, items("grant(1)")))
         self.writer.write("ada", 4, ['set(#7, "weight", 9)'])
         self.writer.write("wizard", 3, ['set(#6, "name", "Other")'])
-        self.assertIsInstance(self.apply(WIZARD, items("grant(1)"), look), NotSent)
+        self.assertIsInstance(self.apply(WIZARD, items("grant(1)"), look), Preview)
 
     def test_a_petition_that_cant_be_granted(self):
         self.apply(BRAM, [petition_item(["recycle(#99)"])])
@@ -342,7 +342,7 @@ class Asking(WithWorld):
             with self.subTest(calls=calls[:1]), self.assertRaisesRegex(Mistyped, told):
                 petition_item(calls)
         deepest = "{" * 28 + "}" * 28
-        self.assertEqual(self.apply(BRAM, [petition_item([f'set(#5, "name", {deepest})'])]).answers, ["1"])
+        self.assertIsInstance(self.apply(BRAM, [petition_item([f'set(#5, "name", {deepest})'])]), Done)
         with self.assertRaisesRegex(Mistyped, "30 deep"):
             petition_item([f'set(#5, "name", {{{deepest}}})'])
 

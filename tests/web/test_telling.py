@@ -51,6 +51,14 @@ class Telling(unittest.TestCase):
             with self.subTest(call=call):
                 self.assertEqual(self.told(call), words)
 
+    def test_links(self):
+        """By the name that the object has in this world: blank ones are unnamed, and long ones cut."""
+        blank, shown = '<i class="dim">unnamed</i>', "x" * 80 + "…"
+        for name, wanted in (("Lamp", "Lamp"), ("", blank), (" " * 100, blank), ("x" * 81, shown), ("<b>&", "&lt;b&gt;&amp;"), ("Lamp", "Lamp")):
+            world = self.world.changed(2, {5: self.world.things[5]._replace(name=name)})
+            self.assertEqual(self.links.link(world, 5), f'<a href="/o/5">{wanted}</a>&nbsp;<span class="n">#5</span>')
+        self.assertEqual(self.links.link(self.world, 6), '<span class="gone">#6</span>')
+
     def test_of_many_the_long_ones_are_not_told(self):
         long = f'set(#5, "text", "{"x" * 1000}")'
         self.assertNotEqual(self.told(long), "")

@@ -9,7 +9,7 @@ import unittest
 from unittest import mock
 
 from tests.support.pages import PagesTest, Reader
-from tests.support.web import PASSWORD, use_web
+from tests.support.web import PASSWORD, use_web, whose_token
 from tests.web.test_people import AWAY, DAY, HOME, HOUR, WithPeople
 
 use_web()
@@ -65,7 +65,7 @@ class OfAPerson(WithPeople):
         token, began = self.make(), self.clock.now
         for later, wanted in ((0, began), (59, began), (61, began + 61), (62, began + 61)):
             self.clock.now = began + later
-            self.assertTrue(self.people.of_token(token))
+            self.assertTrue(whose_token(self.people, token))
             self.assertEqual(self.listed()[0][3], wanted)
 
     def test_a_use_that_cannot_be_noted_is_one(self):
@@ -109,7 +109,7 @@ class OfAPerson(WithPeople):
         for table in ("person", "session", "token", "place", "link"):
             self.assertEqual(self.people.rows(f"SELECT * FROM {table}"), [], table)
         self.people.add("ada", 9, "another password")
-        self.assertEqual((self.people.session(signed.secret), self.people.of_token(token), self.people.links.whose(link)), (None,) * 3)
+        self.assertEqual((self.people.session(signed.secret), whose_token(self.people, token), self.people.links.whose(link)), (None,) * 3)
         self.assertEqual(self.sign_in("another password").session.person, Person("ada", 9))
         with self.assertRaises(Wrong):
             self.people.remove("ben")
@@ -117,7 +117,7 @@ class OfAPerson(WithPeople):
     def test_another_number_is_that_of_sessions_and_tokens(self):
         signed, token = self.sign_in(), self.make()
         self.people.renumber("ada", 7)
-        self.assertEqual((self.people.session(signed.secret).person, self.people.of_token(token)), (Person("ada", 7),) * 2)
+        self.assertEqual((self.people.session(signed.secret).person, whose_token(self.people, token)), (Person("ada", 7),) * 2)
         for name, number in (("ben", 7), ("ada", -1), ("ada", 2**31)):
             with self.subTest(name=name, number=number), self.assertRaises(Wrong):
                 self.people.renumber(name, number)

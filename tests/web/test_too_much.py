@@ -56,7 +56,7 @@ class Bounded(FormsTest):
         patched = mock.patch.object(Service, "sent", bounded)
         patched.start()
         self.addCleanup(patched.stop)
-        self.token = self.people.make_token("ada")
+        self.token = self.people.tokens.make("ada")
 
     def api(self, path, calls):
         """The status and the body of what a program is answered."""

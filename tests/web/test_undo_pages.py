@@ -3,11 +3,14 @@
 from unittest import mock
 
 from tests.support.forms import FormsTest
+from tests.support.pages import lacking
 from tests.support.with_front import WithFront
 from tests.web.test_losses import APPLES
 
-from moo_web.forms.undo import with_known_names
 from moo_web.journal import undoing
+
+if not lacking():
+    from moo_web.forms.undo import with_known_names
 
 
 class UndoTest(FormsTest):

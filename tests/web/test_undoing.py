@@ -4,24 +4,21 @@ What an undo can't put back is left out of the comparison, and nothing else: cou
 petitions, and of recycled objects. `UNDOS` in the environment is another number of batches (200), `SEED` the seed.
 """
 
-import json
 import os
 import pathlib
 import random
 import tempfile
-import time
 import unittest
 
-from tests.support.operating import KeptService, make_world, said
+from tests.support.operating import KeptService, make_world
 from tests.support.undoing import Generator, asked_for, numbers_in, without_numbers
-from tests.support.web import program, use_web
+from tests.support.web import use_web
 
 use_web()
 
 from moolib.batches import Item, resolved  # noqa: E402
 from moolib.lines import read_line  # noqa: E402
 from moo_web.journal.journal import Journal  # noqa: E402
-from moo_web.journal.segments import accepted_in  # noqa: E402
 from moo_web.journal.undoing import LEFT_BY, undone  # noqa: E402
 from moo_web.journal.writer import Writer  # noqa: E402
 from moo_web.world.door import Door  # noqa: E402

@@ -9,7 +9,7 @@ import re
 import unittest
 import urllib.parse
 
-from tests.support.pages import PagesTest
+from tests.support.pages import PagesTest, lacking
 from tests.support.undoing import WORDS as UNDOING_WORDS, Generator, asked_for
 
 from moolib.calls import objects_in  # noqa: E402
@@ -106,6 +106,8 @@ class ValuesTest(PagesTest):
 class Random(ValuesTest):
     def setUp(self):
         """Each world has its own."""
+        if why := lacking():
+            self.skipTest(why)
 
     def test_random_worlds(self):
         self.own = self.inherited = self.left_out = 0

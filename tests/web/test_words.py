@@ -5,13 +5,14 @@ import re
 import unittest
 
 from tests.support.forms import FormsTest
-from tests.support.pages import Reader
+from tests.support.pages import Reader, lacking
 from tests.support.web import use_web
 
 use_web()
 
-from moo_web.pages.about import DEFAULT, LONGEST_TEXT, BadText, text_in  # noqa: E402
-from moo_web.pages.glossary import GLOSSARY, anchor_of, title_of  # noqa: E402
+if not lacking():
+    from moo_web.pages.about import DEFAULT, LONGEST_TEXT, BadText, text_in
+    from moo_web.pages.glossary import GLOSSARY, anchor_of, title_of
 
 # The twenty words that stopped a newcomer, each with the words of a line that explains it.
 WORDS = {

@@ -13,6 +13,7 @@ import threading
 import time
 import unittest
 
+from tests.support.journals import accepted_in
 from tests.support.web import use_web
 
 use_web()
@@ -20,12 +21,12 @@ use_web()
 from moo_client import LostAnswer, NoService  # noqa: E402
 from moo_web.journal import writer as writer_module  # noqa: E402
 from moo_web.journal.journal import Journal, NoRoom  # noqa: E402
-from moo_web.journal.segments import Accepted, accepted_in  # noqa: E402
+from moo_web.journal.segments import Accepted  # noqa: E402
 from moo_web.journal.jobs import Barred, Busy, Stopped, Unknown  # noqa: E402
 from moo_web.journal.writer import Writer  # noqa: E402
 from moo_web.traffic.turns import NobodyWaits  # noqa: E402
 from moo_web.traffic.writing import Free  # noqa: E402
-from moo_web.world.door import Door, TooLong, said_by  # noqa: E402
+from moo_web.world.door import Door, TooLong, own_answer  # noqa: E402
 
 # How long is waited for what comes at once on a machine that has time; and how long if it doesn't come, but a batch has to be sent.
 SECONDS = 60
@@ -53,15 +54,15 @@ class World(Door):
     def judged(self, said):
         """The answer to a batch, which isn't done."""
         if "at" in said and said["at"] != self.seq:
-            return said_by(409, error="stale", seq=self.seq)
+            return own_answer(409, error="stale", seq=self.seq)
         for place, call in enumerate(said["calls"], 1):
             if call == "no":
-                return said_by(409, call=place, error="E_PERM", why="no")
+                return own_answer(409, call=place, error="E_PERM", why="no")
         answers, top = [], self.top
         for call in said["calls"]:
             top += call == "make"
             answers.append(f"#{top}" if call == "make" else "0")
-        return said_by(200, answers=answers, seq=self.seq)
+        return own_answer(200, answers=answers, seq=self.seq)
 
     def act(self, said):
         """Does a batch."""
@@ -71,13 +72,13 @@ class World(Door):
         self.seq += 1
         self.top += said["calls"].count("make")
         self.acted.append(tuple(said["calls"]))
-        return said_by(200, answers=answer.said["answers"], seq=self.seq)
+        return own_answer(200, answers=answer.said["answers"], seq=self.seq)
 
     def sent(self, method, path, body=None, wait=None):
         if self.is_away:
             raise NoService
         if path == "/seq":
-            return said_by(200, seq=self.seq)
+            return own_answer(200, seq=self.seq)
         said = json.loads(body)
         if path == "/ask?why":
             return self.judged(said)
@@ -89,12 +90,12 @@ class World(Door):
         if word in ("taken", "away"):
             raise LostAnswer if word == "taken" else NoService
         if word in ("broken", "closed", "nomemory"):
-            return said_by(503, error={"broken": "fault"}.get(word, word))
+            return own_answer(503, error={"broken": "fault"}.get(word, word))
         answer = self.act(said)
         self.strange(2 if word == "late" else 0)
         if word in ("lost", "late"):
             raise LostAnswer
-        return said_by(503, error="fault") if word == "fault" and answer.status == 200 else answer
+        return own_answer(503, error="fault") if word == "fault" and answer.status == 200 else answer
 
 
 class WriterTest(unittest.TestCase):
@@ -244,7 +245,7 @@ class Sizes(WriterTest):
         def judging(said):
             answer = judged(said)
             is_much = answer.status == 200 and said["calls"] == ["much"]
-            return said_by(200, answers=[long], seq=self.world.seq) if is_much else answer
+            return own_answer(200, answers=[long], seq=self.world.seq) if is_much else answer
 
         self.world.judged = judging
         for plan in ([], ["lost"]):
@@ -435,7 +436,7 @@ class Starts(WriterTest):
 
     def test_it_is_refused_now(self):
         world = self.left_open(False)
-        world.judged = lambda said: said_by(409, call=1, error="E_QUOTA")
+        world.judged = lambda said: own_answer(409, call=1, error="E_QUOTA")
         self.begin(world=world)
         self.assertEqual((self.kinds()[-2:], self.writer.seq), (["intent", "void"], 1))
 

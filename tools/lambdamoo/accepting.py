@@ -1,7 +1,7 @@
 """Accept lists, made of verbs `accept` that only say yes or no or name classes.
 
     return 1;                                               what is under the objects without a parent: anything
-    return 0;                                               nothing
+    return 0;                                               nothing; so does a verb without a program
     return isa(args[1], $thing) || args[1] == #7;           what is under #0.thing, and #7
 
 An object with another verb `accept` accepts nothing, so that nothing comes in which the verb would keep out. Remarks, and a name for the
@@ -14,15 +14,16 @@ import re
 from collections.abc import Mapping
 from typing import Optional
 
-from lambdamoo.database import Database
+from lambdamoo.database import Database, Verb
 from lambdamoo.links import owed_to_each
 from lambdamoo.losses import OTHER_ACCEPTS, Losses
-from lambdamoo.words import NOTHING
+from lambdamoo.words import NOTHING, VERB_RIGHTS
+from moolib.slots import matches
 
 LONGEST_LIST = 1000
 REMARK = re.compile(r'\s*"(?:[^"\\]|\\.)*"\s*;')
 NAMING = re.compile(r"\s*(?:([A-Za-z_]\w*)\s*=\s*args\[1\]|\{\s*([A-Za-z_]\w*)\s*(?:,\s*@\w+\s*)?\}\s*=\s*args)\s*;")
-RETURN = re.compile(r"\s*return\s+([^;]*?)\s*;\s*")
+RETURN = re.compile(r"\s*return\b\s*([^;]*?)\s*;\s*")
 THING = r"#(\d{1,10})|\$(\w+)"
 
 
@@ -35,14 +36,19 @@ class Accepting:
         self.names = self.names_of_zero(database)
         self.lists: dict[int, str] = {}
         for number, thing in self.things.items():
-            place = next((place for place, verb in enumerate(thing.verbs) if "accept" in verb.names.split()), None)
-            if place is None or (number, place) not in database.programs:
+            place = next((place for place, verb in enumerate(thing.verbs) if self.is_asked(verb)), None)
+            if place is None:
                 continue
-            found = self.accepted(" ".join(database.programs[number, place]))
+            found = self.accepted(" ".join(database.programs.get((number, place), ())))
             if found is None or len(found) > LONGEST_LIST:
                 losses.note(OTHER_ACCEPTS, f"#{number}:{place}, line {thing.verbs[place].line}")
                 found = []
             self.lists[number] = "{" + ", ".join(f"#{each}" for each in found) + "}"
+
+    @staticmethod
+    def is_asked(verb: Verb) -> bool:
+        """Whether LambdaMOO's `move` calls a verb: one that has `x`, under a name that matches `accept`."""
+        return bool(verb.rights & VERB_RIGHTS["x"]) and any(matches(name, "accept") for name in verb.names.split(" ") if name)
 
     @staticmethod
     def names_of_zero(database: Database) -> Mapping[str, str]:
@@ -65,10 +71,12 @@ class Accepting:
             if not found:
                 break
             place = found.end()
+        if not code[place:].strip():
+            return []
         returned = RETURN.fullmatch(code, place)
         if not returned:
             return None
-        answer = returned[1]
+        answer = returned[1] or "0"
         if re.fullmatch(r"-?\d+", answer):
             return [number for number, thing in self.things.items() if thing.parent == NOTHING] if int(answer) else []
         classes = [self.named(part.strip(), "|".join(given)) for part in answer.split("||")]

@@ -7,56 +7,17 @@ from collections.abc import Iterable
 from typing import Optional, Tuple
 
 from lambdamoo import stunt
-from lambdamoo.links import loop_in
+from lambdamoo.links import listed_otherwise, loop_in
 from lambdamoo.losses import (
-    BYTES,
-    CHILDREN,
-    CLOCKS,
-    CONNECTIONS,
-    CONTENTS,
-    DEEP_LISTS,
-    FLOATS,
-    HANDLES,
-    LONG_STRINGS,
-    MORE_LINES,
-    NO_CONNECTIONS,
-    OLD_FLAGS,
-    OWN_CLEAR,
-    PLAYERS,
-    PROGRAMS,
-    REFUSED_BYTES,
-    REFUSED_FLOATS,
-    STRANGE_PARENTS,
-    STRANGE_PLACES,
-    TASKS,
-    Kind,
-    Losses,
-)
+    BYTES, CHILDREN, CLOCKS, CONNECTIONS, CONTENTS, DEEP_LISTS, FLOATS, HANDLES, LONG_STRINGS, MORE_LINES, NO_CONNECTIONS, OLD_FLAGS,
+    OWN_CLEAR, PLAYERS, PROGRAMS, REFUSED_BYTES, REFUSED_FLOATS, STRANGE_PARENTS, STRANGE_PLACES, TASKS, Kind, Losses,
+)  # fmt: skip
 from lambdamoo.texts import Broken, Lines, shown
 from lambdamoo.words import (
-    CLEAR,
-    DEEPEST_LIST,
-    ERROR,
-    ERRORS,
-    FLAGS,
-    FLOAT,
-    GREATEST_INTEGER,
-    GREATEST_OBJECT,
-    INTEGER,
-    LEAST_INTEGER,
-    LEAST_OBJECT,
-    LIST,
-    LONGEST_STRING,
-    NOTHING,
-    OBJECT,
-    OBSOLETE_FLAGS,
-    PREPOSITIONS,
-    STRANGE_BYTE,
-    STRING,
-    VERSION,
-    escaped,
-    quoted,
-)
+    CLEAR, DEEPEST_LIST, ERROR, FLAGS, FLOAT, INTEGER, LIST, NOTHING, OBJECT, OBSOLETE_FLAGS, STRANGE_BYTE, STRING, VERSION, escaped, quoted,
+)  # fmt: skip
+from moolib.slots import PREPOSITIONS
+from moolib.values import ERRORS, GREATEST_INTEGER, GREATEST_OBJECT, LEAST_INTEGER, LEAST_OBJECT, LONGEST_STRING
 
 # A value of a file as a literal, or None for a clear one, with its owner and rights.
 Value = Tuple[Optional[str], int, int]
@@ -391,15 +352,6 @@ class Database:
 
     def check_lists(self, link: str, first: str, following: str, kind: Kind) -> None:
         """Tells of each object whose list holds others than those that link to it."""
-        linked: dict[int, set[int]] = {}
-        for number, thing in self.things.items():
-            linked.setdefault(getattr(thing, link), set()).add(number)
-        for number, thing in self.things.items():
-            wanted = linked.get(number, set())
-            listed: set[int] = set()
-            member = getattr(thing, first)
-            while member in wanted and member not in listed:
-                listed.add(member)
-                member = getattr(self.things[member], following)
-            if member != NOTHING or listed != wanted:
-                self.losses.note(kind, f"#{number}, line {thing.line}")
+        links, firsts, nexts = ({number: getattr(thing, each) for number, thing in self.things.items()} for each in (link, first, following))
+        for number in listed_otherwise(links, firsts, nexts):
+            self.losses.note(kind, f"#{number}, line {self.things[number].line}")

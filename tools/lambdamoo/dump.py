@@ -10,26 +10,10 @@ from lambdamoo.links import clash_in, loop_in, owed_to_each
 from lambdamoo.losses import ACCEPT_LISTS, BATCHES, PETITIONS, WIDE, Losses
 from lambdamoo.texts import Broken, Lines, shown
 from lambdamoo.words import (
-    CLEAR,
-    DEEPEST_LIST,
-    ERROR,
-    ERRORS,
-    FLAGS,
-    GREATEST_INTEGER,
-    GREATEST_OBJECT,
-    INTEGER,
-    LEAST_INTEGER,
-    LEAST_OBJECT,
-    LIST,
-    NOTHING,
-    OBJECT,
-    PLACES,
-    PREPOSITIONS,
-    PROPERTY_RIGHTS,
-    STRING,
-    VERB_RIGHTS,
-    may_name_property,
-)
+    CLEAR, DEEPEST_LIST, ERROR, FLAGS, INTEGER, LIST, NOTHING, OBJECT, PLACES, PROPERTY_RIGHTS, STRING, VERB_RIGHTS, may_name_property,
+)  # fmt: skip
+from moolib.slots import PREPOSITIONS
+from moolib.values import ERRORS, GREATEST_INTEGER, GREATEST_OBJECT, LEAST_INTEGER, LEAST_OBJECT
 
 NOT_HERE = "a dump doesn't have such a line here"
 VALUES = '12, #4, "a text", E_PERM or {1, #2}'

@@ -24,6 +24,22 @@ def loop_in(links: dict[int, int]) -> int | None:
     return None
 
 
+def listed_otherwise(links: dict[int, int], firsts: dict[int, int], nexts: dict[int, int]) -> list[int]:
+    """The objects whose lists have others than those that link to them. A list goes from its first member on by what is next to each."""
+    linked: dict[int, set[int]] = {}
+    for number, link in links.items():
+        linked.setdefault(link, set()).add(number)
+    found = []
+    for number, member in firsts.items():
+        wanted, listed = linked.get(number, set()), set[int]()
+        while member in wanted and member not in listed:
+            listed.add(member)
+            member = nexts[member]
+        if member != NOTHING or listed != wanted:
+            found.append(number)
+    return found
+
+
 def owed_to_each(parents: dict[int, int], defines: dict[int, list[T]]) -> dict[int, list[T]]:
     """What each object and its ancestors define, its own first, as a list. There are no loops. Objects share lists that are equal."""
     owed: dict[int, list[T]] = {NOTHING: []}

@@ -4,8 +4,10 @@ from __future__ import annotations
 
 import argparse
 import sys
-from collections.abc import Collection
+from collections.abc import Collection, Iterable
 from typing import NamedTuple
+
+from lambdamoo.texts import write_out
 
 
 class Kind(NamedTuple):
@@ -53,6 +55,7 @@ BY_PLACE = Kind("place", "programs given by their place to a verb of other names
 SHIFTED = Kind("place", "programs given by their names to a verb that may be the one renamed, if the one after it was added")
 TWINS = Kind("twins", "programs given by their order to one of several verbs of the same names and arguments")
 NAMESAKES = Kind("twins", "programs given by their arguments to one of several verbs of the same names, of which some have changed")
+IN_DOUBT = Kind("doubt", "programs given by their names and arguments to a verb that may be another one renamed, or a new one")
 MOVED = Kind("order", "programs given by their names to a verb that has another place among the object's verbs")
 
 
@@ -86,6 +89,18 @@ class Losses:
     def beyond(self, allowed: Collection[str]) -> list[str]:
         """The words of the kinds that there are and that aren't allowed."""
         return sorted({kind.word for kind in self.counts} - set(allowed))
+
+    def end(self, tool: str, what: str, asked: argparse.Namespace, pieces: Iterable[str], is_refused: bool = False) -> int:
+        """Reports the losses, and writes what a tool makes, unless they aren't allowed or this is a check alone. Answers the status."""
+        self.report(tool)
+        beyond = self.beyond(asked.allow) if asked.strict else []
+        if is_refused or beyond:
+            why = f": --strict, and {', '.join(beyond)} not allowed" if beyond else ""
+            sys.stderr.write(f"{tool}: no {what} was written{why}\n")
+            return 1
+        if not asked.check:
+            write_out(pieces)
+        return 0
 
 
 def words_of(text: str) -> list[str]:

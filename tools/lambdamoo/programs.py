@@ -1,14 +1,16 @@
 """Which program is that of which verb, though verbs were added, deleted and renamed since.
 
-On each object verbs are matched by their names and arguments, then by their names, then by their place. What isn't certain is told.
+On each object verbs are matched by their names and arguments, then by their names, then by their place. What isn't certain is told: also a
+verb of the same names and arguments, if what happened may be read in another way.
 """
 
 from __future__ import annotations
 
-from collections.abc import Callable, Hashable
+from collections.abc import Callable, Collection, Hashable
 from typing import NamedTuple, Optional
 
 from lambdamoo.losses import BY_NAMES, BY_PLACE, MOVED, NAMESAKES, SHIFTED, TWINS, Kind
+from lambdamoo.readings import MORE, Readings
 
 # The bits of a verb's number above its rights: its direct and indirect objects.
 ARGUMENTS_SHIFT = 4
@@ -28,10 +30,11 @@ class Header(NamedTuple):
 
 
 class Match(NamedTuple):
-    """The place that a verb had, and why that isn't certain; None if it is."""
+    """The place that a verb had; why that isn't certain, or None; else the other places that it may have had, with None if it may be new."""
 
     place: int
     doubt: Optional[Kind]
+    others: Collection[Optional[int]] = ()
 
 
 class Matching:
@@ -49,11 +52,12 @@ class Matching:
         self.match_by_place()
         self.doubt_renamed()
         self.doubt_order()
+        self.others = self.read_otherwise()
 
     @property
     def found(self) -> dict[int, Match]:
         """For each place of a verb that was there before: the place that it had, and the doubt."""
-        return {place: Match(was, self.doubts.get(place)) for place, was in self.places.items()}
+        return {place: Match(was, self.doubts.get(place), self.others.get(place, ())) for place, was in self.places.items()}
 
     def take(self, place: int, was: int, doubt: Optional[Kind]) -> None:
         """Notes that a verb had another's place."""
@@ -117,7 +121,25 @@ class Matching:
                 self.doubts.setdefault(place, SHIFTED)
 
     def doubt_order(self) -> None:
-        """A verb that has a later place, or another one among the others, was deleted and added, or others were renamed."""
+        """Doubts each verb with a later place than it had, or another one among the others: it was deleted and added, or others were renamed."""
         for place, was in self.places.items():
             if place > was or any((other < place) != (others < was) for other, others in self.places.items() if other != place):
                 self.doubts.setdefault(place, MOVED)
+
+    def read_otherwise(self) -> dict[int, list[Optional[int]]]:
+        """For each verb without a doubt that by another reading had another place, or is new: these places, and None.
+
+        If all verbs have the names and arguments that they had, each other reading needs two changes more.
+        """
+        before, now = ([header[:2] for header in verbs] for verbs in (self.before, self.now))
+        sure = sorted(self.places.keys() - self.doubts.keys())
+        if before == now or not sure:
+            return {}
+        readings = Readings(before, now, MORE if self.is_reading() else MORE + 1)
+        found = {place: [other for other in readings.of(place) if other != self.places[place]] for place in sure}
+        return {place: others for place, others in found.items() if others}
+
+    def is_reading(self) -> bool:
+        """Whether this may have happened: no verb has another place among the others, and those that were there before are the first."""
+        found = [self.places[place] for place in sorted(self.places)]
+        return found == sorted(found) and sorted(self.places) == list(range(len(found)))

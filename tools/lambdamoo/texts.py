@@ -10,7 +10,7 @@ import sys
 from collections.abc import Callable, Iterable, Iterator
 from typing import BinaryIO, TextIO
 
-from lambdamoo.words import GREATEST_OBJECT, LEAST_OBJECT
+from moolib.values import GREATEST_OBJECT, LEAST_OBJECT
 
 NUMBER = re.compile(r"-?[0-9]{1,20}")
 

@@ -8,35 +8,10 @@ import re
 VERSION = 4
 
 NOTHING = -1
-LEAST_OBJECT, GREATEST_OBJECT = -(2**31), 2**31 - 1
-LEAST_INTEGER, GREATEST_INTEGER = -(2**63), 2**63 - 1
-LONGEST_STRING = 65535
 # Lists nest 32 deep in moo. A line of a dump is a list too, which isn't counted.
 DEEPEST_LIST = 32
 LONGEST_NAME = 255
 
-# The errors in the order of their numbers in a file.
-ERRORS = (
-    "E_NONE E_TYPE E_DIV E_PERM E_PROPNF E_VERBNF E_VARNF E_INVIND E_RECMOVE E_MAXREC E_RANGE E_ARGS E_NACC E_INVARG E_QUOTA E_FLOAT"
-).split()
-# The fifteen sets in the order of their numbers in a file, from 0.
-PREPOSITIONS = (
-    "with/using",
-    "at/to",
-    "in front of",
-    "in/inside/into",
-    "on top of/on/onto/upon",
-    "out of/from inside/from",
-    "over",
-    "through",
-    "under/underneath/beneath",
-    "behind",
-    "beside",
-    "for/about",
-    "is",
-    "as",
-    "off/off of",
-)
 PLACES = ("none", "any", "this")
 FLAGS = {"player": 1, "programmer": 2, "wizard": 4, "r": 16, "w": 32, "f": 128}
 OBSOLETE_FLAGS = 8 | 64

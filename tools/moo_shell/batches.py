@@ -89,10 +89,7 @@ class Batches:
                 if at is not None:
                     raise stale(moved, at) from None
                 continue
-            if not answer.is_good:
-                raise self.refusal(items, calls, answer)
-            self.seq = int(answer.said["seq"])
-            return Done(answer.said["answers"], self.seq)
+            return self.done(items, calls, answer)
 
     def losses(self, items: list[Item], who: int, names: Mapping[str, str], done: Done, is_script: bool) -> list[str]:
         """What a batch would destroy or replace that was asked and would be answered so, in lines."""
@@ -144,6 +141,10 @@ class Batches:
         if answer.error == "stale":
             self.seq = int(answer.said["seq"])
             raise Unsure(at) if was_lost else Stale(self.seq)
+        return self.done(items, calls, answer)
+
+    def done(self, items: list[Item], calls: list[str], answer: Answer) -> Done:
+        """What a service has answered to a batch. `Refused`: it has refused it."""
         if not answer.is_good:
             raise self.refusal(items, calls, answer)
         self.seq = int(answer.said["seq"])

@@ -86,7 +86,7 @@ def echo(session: Session, text: str) -> None:
 
 def conninfo(session: Session, _: str) -> None:
     """Which world this is, its number, and who calls."""
-    session.output.show(f"{session.door.where()}: number {session.door.seq()}, {session.find_programmer()}")
+    session.output.show(f"{session.door.where()}: number {session.door.seq()}, {session.world.caller_in_words()}")
 
 
 def set_name(session: Session, text: str) -> None:
@@ -164,14 +164,19 @@ def petitions(session: Session, _: str) -> None:
     session.output.show(looks.shown_petitions(found, things) or "there are no petitions")
 
 
+def call_in(session: Session, text: str, what: str) -> Item:
+    """The call that a word is given. `Failed`: it isn't one, and this is what is wanted."""
+    line = meant(text, (), session.read)
+    if line.kind != "call":
+        raise Failed(what)
+    session.test_call(line.text)
+    return Item(line.text, line.name, session.place)
+
+
 def ask(session: Session, text: str) -> None:
     """What a call would answer, or the open batch so far."""
     if text:
-        line = meant(text, (), session.read)
-        if line.kind != "call":
-            raise Failed("\\ask CALL: a call is tried, as \\ask create(#1)")
-        session.test_call(line.text)
-        items, who = [Item(line.text, line.name, session.place)], session.who
+        items, who = [call_in(session, text, "\\ask CALL: a call is tried, as \\ask create(#1)")], session.who
         if session.open is not None:
             items, who = [*session.open, *items], session.open_who
     elif session.open is not None:
@@ -216,7 +221,7 @@ def as_number(session: Session, text: str) -> None:
     if session.open or (session.open is not None and not session.is_single):
         raise Failed("a batch is open: it is of one programmer")
     if not text:
-        session.output.show(session.find_programmer())
+        session.output.show(session.world.caller_in_words())
         return
     number = session.number(text)
     session.world.built_in(number)
@@ -224,7 +229,7 @@ def as_number(session: Session, text: str) -> None:
     if session.is_single:
         session.open_who = number
     if not session.is_script:
-        session.output.note(session.find_programmer())
+        session.output.note(session.world.caller_in_words())
 
 
 def seq(session: Session, _: str) -> None:
@@ -275,6 +280,8 @@ def include(session: Session, text: str) -> None:
 def show_help(session: Session, text: str) -> None:
     """The overview, or what help says about a word."""
     is_all = text.lower() in ("", "commands", "options", "variables")
+    if text.startswith("\\"):
+        text = "\\" + ALIASES.get(text[1:].lower(), text[1:])
     told = overview(session.manual, COMMANDS_BY_HELP) if is_all else help_on(session.manual, COMMANDS_BY_HELP, text)
     session.output.show(fitted(told, session.output.width()))
 
@@ -300,11 +307,7 @@ def fix(session: Session, text: str) -> None:
     """Sends a batch that was refused again, with another call in the place of the refused one."""
     if session.open is not None:
         raise Failed("a batch is open: \\abandon drops it")
-    line = meant(text, (), session.read)
-    if line.kind != "call":
-        raise Failed("\\fix CALL: the call that takes the place of the refused one")
-    session.test_call(line.text)
-    session.fix(Item(line.text, line.name, session.place))
+    session.fix(call_in(session, text, "\\fix CALL: the call that takes the place of the refused one"))
 
 
 def abandon(session: Session, _: str) -> None:

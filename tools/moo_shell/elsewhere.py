@@ -50,6 +50,9 @@ SQL = {
     "start": "`begin` opens a batch, and `end` sends it",
     "with": "\\find WORD finds objects by their names",
     "values": "a value alone on a line is shown",
+    "table": "\\show #5 shows an object with its properties, and \\tree #5 lists what is under one",
+    "describe": "\\show #5 shows an object with its properties, and @describe #5 as .. sets its description",
+    "desc": "\\show #5 shows an object with its properties, and @describe #5 as .. sets its description",
     "revoke": 'set_property_info(#5, "light", {#3, ""}) says who may read a property',
     "copy": "\\dump FILE writes the whole world, and \\i FILE does the calls of a file",
     "vacuum": "after the service has ended, `sqlite3 FILE VACUUM` makes the file smaller",
@@ -123,7 +126,14 @@ OPTIONS = {
     "-v": "-c '$x = 5' before the other words gives a name to a value",
     "-e": "standard error names the line that is refused",
     "-a": "standard error names the line that is refused",
+    "-E": "standard error names the line that is refused",
+    "-n": "a line is edited at a terminal alone",
+    "-P": f"{ONE_WAY}; PAGER=cat moo-shell has no pager",
+    "-x": "\\show #5 always has a line for each property",
     "-F": BARE,
+    "-R": BARE,
+    "-z": BARE,
+    "-0": BARE,
     "-H": BARE,
     "-L": "\\o FILE writes answers to a file",
     "-b": "standard error names the line that is refused",
@@ -136,6 +146,7 @@ WHOLE = {
     "--set": "-v",
     "--echo-all": "-a", "--echo-queries": "-e", "--echo-errors": "-b", "--no-align": "-A", "--tuples-only": "-t", "--no-psqlrc": "-X", "--html": "-H",
     "--field-separator": "-F", "--log-file": "-L", "--single-step": "-s",
+    "--echo-hidden": "-E", "--no-readline": "-n", "--pset": "-P", "--expanded": "-x", "--record-separator": "-R",
 }  # fmt: skip
 
 
@@ -163,6 +174,12 @@ def of_sql(text: str) -> str:
 def of_psql(word: str) -> str:
     """What to write for a `\\` word of psql, with or without its `+` or `S`. Another word gives an empty text."""
     return PSQL.get(word) or PSQL.get(word.rstrip("+")) or (SHOWN if re.fullmatch(r"d[a-z]{1,3}[+]?", word) else "")
+
+
+def of_bundles(words: list[str]) -> str:
+    """The same for options of one letter that are written as one word, as `-qAt`, which begins with some of the shell's that take no value."""
+    bundles = (re.fullmatch(r"-[q1]+([A-Za-z0])[A-Za-z01]*", word) for word in words)
+    return of_options([f"-{found[1]}" for found in bundles if found])
 
 
 def of_options(words: list[str]) -> str:

@@ -11,6 +11,7 @@ import tempfile
 from pathlib import Path
 
 from moolib.errors import Failed
+from moolib.private import for_owner_alone
 
 # The bytes of a database file that SQLite locks for each reader: where they begin, and how many.
 SHARED_FIRST, SHARED_SIZE = 0x40000002, 510
@@ -54,7 +55,7 @@ def write_whole(path: Path, text: str) -> None:
 
 def write_new(path: Path, text: str) -> None:
     """Writes a new file that nobody else may read, since it may hold all of a world. It fails if the file is there."""
-    with open(path, "x", opener=lambda name, flags: os.open(name, flags, 0o600)) as file:
+    with open(path, "x", opener=for_owner_alone) as file:
         file.write(text)
 
 

@@ -8,8 +8,9 @@ from collections.abc import Iterator, Mapping
 from typing import Optional
 
 from moo_shell.building import help_on_commands
-from moo_shell.elsewhere import of_lambdamoo, of_sql
+from moo_shell.elsewhere import of_lambdamoo, of_psql, of_sql
 from moo_shell.manual import Manual
+from moolib.calls import call_name
 from moolib.errors import Failed
 from moolib.lines import did_you_mean
 
@@ -101,6 +102,20 @@ Who may not do something asks a wizard for it. The calls are written as lists:
 \\petitions shows them with their numbers, `\\ask grant(1)` tries what a grant
 would do, and `grant(1)` or `decline(1)` ends one.""",
 }
+TOPICS["psql"] = """\
+There is no SQL. These are as in psql, or nearly so:
+
+  \\d #5, \\d                 shows an object; lists the classes, as \\dt
+  BEGIN, COMMIT, ROLLBACK   a batch, which acts whole or not at all
+  -c CALL, -f FILE, -1, -q  words of the command line
+  \\set x 5                  $x is 5 from then on; it is written $x, and not :x
+  \\i FILE, \\o FILE, \\e, \\s, \\p, \\r, \\g, \\watch 5 LINE, \\timing, \\!, \\l, \\q
+A call is done at Enter, also without `;`. A script always stops at the first
+line that is refused, with status 1. A text is in double quotes: "It's open".
+
+In place of SELECT: \\show #5, \\tree #5, \\find WORD, #5.name. Of INSERT:
+create(#1). Of UPDATE: #5.name = "Inn". Of DELETE: recycle(#5). Of ALTER TABLE:
+add_property(#5, "light", 0, {#3, "rc"}). Of EXPLAIN: \\ask CALL."""
 TOPICS["lambdamoo"] = f"""\
 Commands of LambdaMOO are done by the calls that do the same. The prompt shows
 them first. `me` is who calls, `here` is the place of that, and an object may
@@ -127,8 +142,11 @@ def overview(manual: Manual, commands: Mapping[str, tuple[str, str]]) -> str:
 
 def help_on(manual: Manual, commands: Mapping[str, tuple[str, str]], word: str) -> str:
     """What `\\help WORD` says."""
-    word = word.strip().lstrip("\\").rstrip("()").strip()
-    found = [told for told in (help_on_commands(word), of_lambdamoo(word), of_sql(word)) if told]
+    is_of_psql = word.strip().startswith("\\")
+    word = word.strip().lstrip("\\")
+    word = call_name(word) or word
+    elsewhere = (of_psql(word),) if is_of_psql else (help_on_commands(word), of_lambdamoo(word), of_sql(word))
+    found = [told for told in elsewhere if told]
     if word.lower() in commands:
         given, does = commands[word.lower()]
         found.append(f"  \\{f'{word.lower()} {given}'.strip()}   {does}")

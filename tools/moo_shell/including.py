@@ -15,6 +15,8 @@ if TYPE_CHECKING:
     from moo_shell.session import Session
 
 DEEPEST = 20
+# What a text of the command line is called.
+GIVEN = "-c"
 
 
 def include(session: Session, name: str) -> None:
@@ -80,4 +82,5 @@ def test_end(session: Session, name: str, start: Start, count: int) -> None:
     if start.line > max(count, 1):
         raise Failed(f"--from-line {start}: the file has {counted(count, 'line')}", (name, max(count, 1)))
     if session.open is not None and not session.is_single:
-        raise Failed("the file ends inside a batch: `end` is missing", (name, max(count, 1)))
+        what = f"each {GIVEN} is a text of its own: `end` is missing in it, and -1 makes one batch of all" if name == GIVEN else ""
+        raise Failed(what or "the file ends inside a batch: `end` is missing", (name, max(count, 1)))

@@ -7,10 +7,11 @@ import re
 import subprocess
 from typing import Optional
 
+from moolib.begun import Begun, read_begun
+from moolib.calls import call_name
 from moolib.errors import Failed
 
 PATIENCE = 30
-ENTRY = re.compile(r"  (?=[a-z_]+\()")
 REASON = re.compile(r"  (E_[A-Z]+)\s+(.*)")
 
 
@@ -48,55 +49,49 @@ class Manual:
         return kinds[place] if place < len(kinds) else ""
 
 
-def values_of(signature: str) -> list[str]:
-    """The words between the brackets of `get(O, NAME)`, with a list as one word."""
-    inside = signature[signature.index("(") + 1 : signature.rindex(")")]
-    return [word.strip() for word in re.findall(r"(?:\{(?:[^{}]|\{[^{}]*\})*\}|[^,{}])+", inside)]
+def is_entry(line: str) -> bool:
+    """Whether the lines about some calls begin with this one."""
+    return line[:2] == "  " and line[2:3].isalpha() and bool(call_name(line))
 
 
-def signatures(text: str) -> list[str]:
-    """The calls that are written at the front of an entry: `valid(O), max_object()`."""
-    return re.findall(r"[a-z_]+\([^()]*\)", re.split(r"(?<=\))  +", text, maxsplit=1)[0])
+def signatures(text: str) -> list[Begun]:
+    """The calls that are written at the front of an entry, with words for their values: `valid(O), max_object()`."""
+    found: list[Begun] = []
+    call = read_begun(text)
+    while call:
+        found.append(call)
+        text = text[call.end + 1 :]
+        call = read_begun(text[1:]) if text[:1] == "," else None
+    return found
 
 
 def read_entry(manual: Manual, entry: list[str]) -> None:
     """Takes in the lines about some calls."""
-    found = signatures(entry[0].strip())
-    for signature in found:
-        name = signature[: signature.index("(")]
-        manual.calls[name] = "\n".join(entry)
-        manual.kinds[name] = values_of(signature)
+    for call in signatures(entry[0]):
+        manual.calls[call.name] = "\n".join(entry)
+        manual.kinds[call.name] = list(call.texts)
+
+
+def items_in(lines: list[str]) -> list[list[str]]:
+    """The items of a paragraph: a line, with those below it that begin with four blanks."""
+    items: list[list[str]] = []
+    for line in lines:
+        if items and line.startswith("    "):
+            items[-1].append(line)
+        else:
+            items.append([line])
+    return items
 
 
 def read_help(text: str) -> Manual:
     """The manual that a help is."""
-    manual = Manual()
-    paragraph: list[str] = []
-    for line in [*text.splitlines(), ""]:
-        if line.strip():
-            paragraph.append(line)
-        elif paragraph:
-            manual.parts.append(paragraph)
-            paragraph = []
-    for lines in manual.parts:
-        entry: list[str] = []
-        last = ""
-        for line in [*lines, ""]:
-            if entry and not line.startswith("    "):
-                read_entry(manual, entry)
-                entry = []
-            if ENTRY.match(line):
-                entry = [line]
-            elif entry:
-                entry.append(line)
-            reason = REASON.fullmatch(line)
-            if reason:
-                last = reason[1]
-                manual.reasons[last] = reason[2]
-            elif last and line.startswith("    "):
-                manual.reasons[last] += " " + line.strip()
-            else:
-                last = ""
+    manual = Manual(parts=[part.splitlines() for part in re.split(r"\n\s*\n", text.strip("\n")) if part])
+    for item in (item for lines in manual.parts for item in items_in(lines)):
+        reason = REASON.fullmatch(item[0])
+        if reason:
+            manual.reasons[reason[1]] = " ".join([reason[2], *map(str.strip, item[1:])])
+        elif is_entry(item[0]):
+            read_entry(manual, item)
     return manual
 
 

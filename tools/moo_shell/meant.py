@@ -7,6 +7,7 @@ from collections.abc import Callable, Collection
 from typing import Optional
 
 from moo_shell.elsewhere import NO_VERBS, of_lambdamoo, of_psql, of_sql
+from moolib.begun import known_name
 from moolib.calls import NAMES, call_name
 from moolib.lines import Line, pieces, read_line
 from moolib.values import written
@@ -25,13 +26,13 @@ VERB = re.compile(rf"(?:{THING}|[A-Za-z_]\w*):\w+.*", re.DOTALL)
 EVALUATED = re.compile(r"(?:eval|return)\s+(.*)", re.IGNORECASE | re.DOTALL)
 WORD = re.compile(r"[@.]?([A-Za-z]+)(?:\s+(.*))?", re.DOTALL)
 
-# An expression that moo would have to reckon, and the word with which a value that isn't one begins, in the words of moo.
+# An expression that moo would have to reckon; and in the words of moo what isn't a value, and the word with which it begins.
 SUM = re.compile(
     r'(?:-?\d+|"(?:[^"\\]|\\.)*"|[#$]\w+(?:\.\w+)*|\{.*\})\s*[-+*/%<>=?[]|(?:for|if|while|fork|try|return)\b', re.DOTALL
 )
 RECKONS = "moo reckons nothing: a line is a call, or a property as #5.name"
 NO_SUMS = "; a call isn't a value of another one: $x = CALL gives its answer a name"
-WORD_OF_VALUE = re.compile(r"(?:.*: )?'([A-Za-z]\w*)(\()?[^']*' isn't a value")
+NO_VALUE = re.compile(r"(?:.*: )?'(([A-Za-z]\w*)[^']*)' isn't a value")
 # What ends a line of psql; and a word of the shell after a call.
 GO = re.compile(r"(?<=\S)\s*\\gx?\s*$")
 LATE_WORD = re.compile(r'([^"]*\S)\s+\\(\w+)(.*)', re.DOTALL)
@@ -131,15 +132,16 @@ def advice(text: str) -> str:
 def signs_advice(text: str, why: str) -> str:
     """How texts, petitions and comments are written, for a call that is malformed for this reason; or nothing."""
     outside = "".join(piece for kind, piece in pieces(text) if kind == "other")
-    found = WORD_OF_VALUE.match(why)
+    found = NO_VALUE.match(why)
+    word, inner = (found[2], call_name(found[1])) if found else ("", "")
     told = ""
-    if found and found[1].lower() in OWN_WORDS:
-        told = f"; in a call it is {OWN_WORDS[found[1].lower()]}"
-    elif found and found[1].lower() in NAMES and found[2]:
+    if word.lower() in OWN_WORDS:
+        told = f"; in a call it is {OWN_WORDS[word.lower()]}"
+    elif inner in NAMES:
         told = '; a call in a petition is a list, as petition({{"set", #4, "name", "Ada"}})' if call_name(text) == "petition" else NO_SUMS
-    elif "'" in outside or found and not found[2]:
-        found = found or re.search(r"'([^'\"]+)'", outside)
-        told = f'; a text is in double quotes, as "{found[1] if found else "Inn"}", and an object is a number, as #5'
+    elif "'" in outside or word and not inner:
+        quoted = None if word else re.search(r"'([^'\"]+)'", outside)
+        told = f'; a text is in double quotes, as "{quoted[1] if quoted else word or "Inn"}", and an object is a number, as #5'
     named = re.search(r"(?<![\w:]):([A-Za-z]\w*)", outside)
     told += f"; a name is written ${named[1]}" if named else ""
     return told + ("; a comment begins with // and ends with its line" if "/*" in outside else "")
@@ -153,8 +155,10 @@ def expression_advice(text: str) -> str:
         return "a comment begins with // and ends with its line"
     if SUM.match(text):
         return RECKONS
-    called = re.match(r"([A-Za-z_]+)(?:\s+(.*))?", text, re.DOTALL)
-    if called and called[1].lower() in NAMES:
-        return f"{called[1].lower()} is a call, and its values are in brackets: \\help {called[1].lower()}"
-    found = re.match(rf"({THING})\.([A-Za-z_]\w*)", text)
+    name = known_name(text)
+    if name:
+        return f"{name} is a call, and its values are in brackets: \\help {name}"
+    found = re.match(rf"({THING})\.([A-Za-z_]\w*)(\s*:=)?", text)
+    if found and found[3]:
+        return f'a property is set by {found[1]}.{found[2]} = "Inn"'
     return f'a property is read by get({found[1]}, "{found[2]}")' if found else ""

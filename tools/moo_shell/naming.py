@@ -4,15 +4,14 @@ from __future__ import annotations
 
 import contextlib
 import itertools
-import re
 from collections.abc import Collection, Iterable, Mapping
 from pathlib import Path
 from typing import TYPE_CHECKING, Optional
 
 from moo_shell.files import read_lines
 from moolib.errors import Failed
-from moolib.lines import did_you_mean, pieces, read_line
-from moolib.values import read
+from moolib.lines import did_you_mean, read_line
+from moolib.values import cut_at_objects, read
 
 if TYPE_CHECKING:
     from moo_shell.session import Session
@@ -60,14 +59,13 @@ def with_made(text: str, made: Mapping[str, Optional[str]]) -> str:
 
     `Failed`: one has no name, or its name is that of something else at the end of the batch.
     """
-
-    def name_of(found: re.Match[str]) -> str:
-        name = made.get(found[0], found[0])
+    parts = []
+    for piece in cut_at_objects(text):
+        name = made.get(piece, piece)
         if name is None:
-            raise Failed(f"{found[0]} is made by the open batch and has no name there that lasts: `end` sends the batch first")
-        return name
-
-    return "".join(piece if kind == "text" else re.sub(r"#\d+", name_of, piece) for kind, piece in pieces(text)) if made else text
+            raise Failed(f"{piece} is made by the open batch and has no name there that lasts: `end` sends the batch first")
+        parts.append(name)
+    return "".join(parts)
 
 
 def own_values(session: Session, wanted: set[str]) -> dict[str, str]:

@@ -14,12 +14,12 @@ from moo_shell.commands import COMMANDS
 from moo_shell.files import history_file
 from moo_shell.helping import TOPICS
 from moo_shell.session import Session
-from moo_shell.statements import goes_on, statements
+from moo_shell.statements import goes_on, statements, without_front
 from moo_shell.told import BOLD, PLAIN
 from moo_shell.world import BUILT_IN
-from moolib.calls import call_name
+from moolib.begun import read_begun
 from moolib.errors import Failed
-from moolib.lines import counted, pieces
+from moolib.lines import counted
 from moolib.values import written
 
 try:
@@ -74,7 +74,7 @@ class Completion:
         inside = call_at(before)
         if inside and word.startswith('"'):
             return self.offered_texts(inside, word)
-        if not inside and re.fullmatch(r"(?:\\(?:ask|fix|watch)\b)?(?:\s*\$\w+\s*=)?", start):
+        if not without_front(before):
             return self.offered_calls(start, word)
         return []
 
@@ -116,22 +116,8 @@ class Completion:
 
 def call_at(before: str) -> Optional[tuple[str, list[str]]]:
     """The call that is open at the end of a text, with its values so far; the last one isn't written yet."""
-    text = re.sub(r"^\s*(?:\\(?:ask|fix|watch)\s+)?(?:\$\w+\s*=\s*)?", "", before)
-    name = call_name(text)
-    if not name:
-        return None
-    values, depth = [""], 0
-    parts = [(kind, part) for kind, piece in pieces(text[text.index("(") + 1 :]) for part in (piece if kind == "other" else [piece])]
-    for kind, part in parts:
-        if kind == "other" and part in "{(":
-            depth += 1
-        elif kind == "other" and part in "})":
-            depth -= 1
-        if kind == "other" and part == "," and depth == 0:
-            values.append("")
-        else:
-            values[-1] += part
-    return (name, [value.strip() for value in values]) if depth == 0 else None
+    call = read_begun(without_front(before))
+    return (call.name, list(call.texts)) if call and call.is_at_value else None
 
 
 def offered_files(word: str) -> list[str]:

@@ -9,7 +9,7 @@ from typing import NamedTuple, Optional
 
 from moo_shell.batches import Unsure
 from moo_shell.files import lines_of, write_whole
-from moo_shell.including import run_file, run_lines
+from moo_shell.including import GIVEN, run_file, run_lines
 from moo_shell.naming import names_in_file, text_of_names
 from moo_shell.resuming import Start, file_of_stop, how_to_go_on
 from moo_shell.session import Session
@@ -18,7 +18,7 @@ from moolib.lines import counted
 from moolib.values import written
 
 LONGEST_LIST = 1000
-STANDARD_INPUT, GIVEN = "standard input", "-c"
+STANDARD_INPUT = "standard input"
 
 
 class Script(NamedTuple):

@@ -389,13 +389,3 @@ class Session:
         except OSError as error:
             raise Failed(f"{self.file_of_names}: {error.strerror}") from None
         self.saved_names = dict(self.names)
-
-    def find_programmer(self) -> str:
-        """Who calls, in words, for the first line of a prompt."""
-        try:
-            who = self.world.caller()
-            said = self.world.built_in(who)
-        except Failed:
-            return f"as #{self.who}, which isn't an object: \\as N names another programmer" if self.door.can_name else "as the person of the token"
-        kind = "a wizard" if said["wizard"] else "a player" if said["player"] else "not a player"
-        return f'as #{who} "{said["name"]}", {kind}'

@@ -9,11 +9,11 @@ import re
 from collections.abc import Iterable, Iterator
 from typing import NamedTuple
 
-from moolib.lines import BLANKS, pieces, without_comment
+from moolib.lines import ASSIGNMENT, BLANKS, pieces, without_comment
 
 COMMENT = re.compile(r"#(?:\s|$)")
 # Words of the shell that are given a call, which may go on on the next line.
-CALLING = re.compile(r"\\(?:ask|fix|watch)\b", re.IGNORECASE)
+CALLING = re.compile(r"^\\(?:ask|fix|watch)\b", re.IGNORECASE)
 OPENING = {")": "(", "}": "{"}
 
 
@@ -32,6 +32,13 @@ def is_word(text: str) -> bool:
     if re.match(r"include\s", stripped, re.IGNORECASE) or stripped.startswith("@"):
         return True
     return stripped.startswith("\\") and not CALLING.match(stripped)
+
+
+def without_front(text: str) -> str:
+    """What a line has of a call, which may be half typed: without the word of the shell before it, and without the name of its answer."""
+    text = CALLING.sub("", text.lstrip(BLANKS), 1).lstrip(BLANKS)
+    named = ASSIGNMENT.fullmatch(text)
+    return named[2] if named else text
 
 
 def signs_of(text: str) -> Iterator[str]:

@@ -62,10 +62,6 @@ class Output:
         """A text of less weight, if there are colours."""
         return f"{DIM}{text}{PLAIN}" if self.has_colours else text
 
-    def bold(self, text: str) -> str:
-        """A text of more weight, if there are colours."""
-        return f"{BOLD}{text}{PLAIN}" if self.has_colours else text
-
     def width(self) -> Optional[int]:
         """How many letters a line of the terminal has; None if it isn't a terminal."""
         return shutil.get_terminal_size().columns if self.is_terminal else None

@@ -9,7 +9,7 @@ from typing import TYPE_CHECKING
 
 from moo_shell.world import BUILT_IN
 from moolib.batches import Item, written_calls
-from moolib.calls import READING, Call, call_name, read_or_none
+from moolib.calls import READING, Call, call_name, call_text, read_about, read_named, read_or_none
 from moolib.errors import Failed
 from moolib.lines import did_you_mean
 from moolib.values import Obj, Value, written
@@ -18,9 +18,6 @@ if TYPE_CHECKING:
     from moo_shell.batches import Refused
     from moo_shell.session import Session
 
-# A call with what it is given; the object, property and value of one.
-WHOLE = re.compile(r"\s*(\w+)\s*\((.*)\)\s*", re.DOTALL)
-OF_PROPERTY = re.compile(r'\s*\w+\s*\(\s*(#\d+|\$\w+)\s*,\s*"([^"\\]*)"\s*(?:,\s*(.*))?\)\s*', re.DOTALL)
 # A petition that is longer isn't written out.
 LONGEST = 300
 ASKED = re.compile(r"nor is a wizard|only a wizard")
@@ -32,37 +29,39 @@ EMPTY: tuple[Value, ...] = ("", 0, [], Obj(-1))
 
 def like_property(session: Session, text: str) -> str:
     """A property of the object of a call that is like the one that isn't there, or the only one that begins so."""
-    found = OF_PROPERTY.fullmatch(text)
-    if not found:
+    call = read_about(text)
+    if not call:
         return ""
-    known = set(BUILT_IN) if call_name(text) in ("get", "set") else set()
+    known = set(BUILT_IN) if call.name in ("get", "set") else set()
     # An object that the batch was to make isn't there.
     with contextlib.suppress(Failed):
-        known.update(session.world.properties(session.number(found[1])))
-    begun = [name for name in known if found[2] and name.startswith(found[2])]
-    return f" (did you mean {begun[0]}?)" if len(begun) == 1 else did_you_mean(found[2], sorted(known))
+        known.update(session.world.properties(session.number(str(call.subject))))
+    begun = [name for name in known if call.property and name.startswith(call.property)]
+    return f" (did you mean {begun[0]}?)" if len(begun) == 1 else did_you_mean(call.property, sorted(known))
 
 
 def adding(session: Session, _: str, text: str) -> str:
     """The call that adds the property that a `set` lacks."""
-    found = OF_PROPERTY.fullmatch(text)
-    if not found or call_name(text) != "set":
+    call = read_about(text)
+    if not call or call.name != "set":
         return ""
-    return f'add_property({found[1]}, "{found[2]}", {found[3]}, {{#{session.world.caller()}, "rc"}}) adds it'
+    added = call_text("add_property", (call.subject, *call.others, [Obj(session.world.caller()), "rc"]))
+    return f"{added} adds it"
 
 
 def numbering(_session: Session, _reason: str, text: str) -> str:
     """How the number of an object is written that a call is given as a number or a text."""
-    found = re.match(r'\s*\w+\s*\(\s*(?:"#?(\d+)"|(\d+))\s*[,)]', text)
-    return f"an object is written #{found[1] or found[2]}" if found else ""
+    call = read_named(text)
+    first = str(call.given[0]).removeprefix("#") if call and call.given and isinstance(call.given[0], (int, str)) else ""
+    return f"an object is written #{first}" if first.isdecimal() else ""
 
 
 def asking(_: Session, reason: str, text: str) -> str:
     """The petition for a call that a wizard may make."""
-    found = WHOLE.fullmatch(text)
-    if not found or found[1].lower() in READING or not ASKED.search(reason):
+    call = read_named(text)
+    if not call or call.name in READING or not ASKED.search(reason):
         return ""
-    asked = f'petition({{{{"{found[1].lower()}", {found[2]}}}}})'
+    asked = call_text("petition", [[[call.name, *call.given]]])
     return f"{asked if len(asked) <= LONGEST else 'petition({{..}})'} asks a wizard for it"
 
 
@@ -96,18 +95,23 @@ def way_on(session: Session, refused: Refused, text: str, is_alone: bool) -> str
     told = ""
     with contextlib.suppress(Failed):
         told = WAYS[refused.error](session, refused.reason, text)
-    if told.startswith("petition") and not is_alone:
+    if call_name(told) == "petition" and not is_alone:
         told = f"\\fix {told}"
     return f"; {told}" if told else ""
 
 
 def putting_back(session: Session, items: list[Item], names: Mapping[str, str]) -> tuple[str, str]:
     """The call that will put back what a batch does, if one does, of `recycle` its name alone; and the value that is replaced, if it is told."""
-    first = call_name(items[0].text)
-    if first == "create" and all(re.match(rf"\s*\w+\(\s*{re.escape(str(items[0].name))}\s*,", item.text) for item in items[1:]):
+    if call_name(items[0].text) == "create" and all(gives(item, str(items[0].name)) for item in items[1:]):
         return "recycle", ""
     call = read_or_none(written_calls(items, names, {})[0]) if len(items) == 1 else None
     return replaced(session, call) if call and call.subject is not None else ("", "")
+
+
+def gives(item: Item, name: str) -> bool:
+    """Whether a call gives something to what has this name."""
+    call = read_about(item.text)
+    return call is not None and str(call.subject) == name and bool(call.others)
 
 
 def replaced(session: Session, call: Call) -> tuple[str, str]:

@@ -16,7 +16,7 @@ from typing import NoReturn, Optional
 from moo_shell.batches import Unsure
 from moo_shell.commands import COMMANDS, dump_of, run_command
 from moo_shell.door import Door, Front
-from moo_shell.elsewhere import of_options
+from moo_shell.elsewhere import of_bundles, of_options
 from moo_shell.files import copy_world, load_copy
 from moo_shell.manual import manual_of
 from moo_shell.prompt import Prompt
@@ -35,13 +35,14 @@ INTERRUPTED = 130
 SHORTEST_PATIENCE = 4.0
 
 
-def read_words(words: list[str]) -> argparse.Namespace:
-    """What the command line says."""
+def words_parser() -> argparse.ArgumentParser:
+    """The words of the command line."""
     parser = argparse.ArgumentParser(
         prog="moo-shell",
         usage=USAGE,
         description="A prompt for a world of moo, and a reader of scripts. \\help at the prompt tells the rest.",
     )
+    parser.add_argument("-?", action="help", help=argparse.SUPPRESS)
     parser.add_argument("world", metavar="FILE", nargs="?", help="the database file; the shell runs a service of its own on it")
     parser.add_argument("-p", "--port", type=int, metavar="PORT", help="a service that runs on this machine already")
     parser.add_argument("--web", metavar="URL", help="a front of moo; the token is that of --token, MOO_TOKEN, or asked for")
@@ -58,8 +59,16 @@ def read_words(words: list[str]) -> argparse.Namespace:
     parser.add_argument("--dry-run", action="store_true", help="do all on a copy, say what it would make, and change nothing")
     parser.add_argument("-q", "--quiet", action="store_true", help="write no answers of calls")
     parser.add_argument("--names", metavar="FILE", type=Path, help="keep the names in FILE")
-    parser.add_argument("--version", action="store_true", help="write the version of the program moo and end")
+    parser.add_argument("-V", "--version", action="store_true", help="write the version of the program moo and end")
     parser.add_argument("--moo", metavar="PROGRAM", help="the program moo, which serves FILE and gives help")
+    return parser
+
+
+def read_words(words: list[str]) -> argparse.Namespace:
+    """What the command line says."""
+    parser = words_parser()
+    if of_bundles(words):
+        parser.error(of_bundles(words))
     said, others = parser.parse_known_args(words)
     if others:
         parser.error(of_options(others) or f"unrecognized arguments: {' '.join(others)}")
@@ -168,7 +177,7 @@ def greet(session: Session, said: argparse.Namespace) -> None:
     """The first line of a prompt."""
     copy = "a copy of " if said.dry_run else ""
     world = said.world or said.web or f"port {said.port}"
-    session.output.note(f"{copy}{world}: number {session.door.seq()}, {session.find_programmer()}. \\help helps, Ctrl-D ends.")
+    session.output.note(f"{copy}{world}: number {session.door.seq()}, {session.world.caller_in_words()}. \\help helps, Ctrl-D ends.")
 
 
 def what_stays(session: Session, is_unsure: bool) -> str:

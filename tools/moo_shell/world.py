@@ -116,6 +116,16 @@ class World:
             raise refusal(said)
         return said
 
+    def caller_in_words(self) -> str:
+        """Who calls, in words, for the first line of a prompt."""
+        try:
+            who = self.caller()
+            said = self.built_in(who)
+        except Failed:
+            return f"as #{self.who}, which isn't an object: \\as N names another programmer" if self.door.can_name else "as the person of the token"
+        kind = "a wizard" if said["wizard"] else "a player" if said["player"] else "not a player"
+        return f'as #{who} "{said["name"]}", {kind}'
+
     def things(self) -> dict[int, Thing]:
         """What everybody may know of each object, ascending."""
         found: Optional[dict[int, Thing]] = None

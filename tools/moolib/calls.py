@@ -1,4 +1,4 @@
-"""Calls: a name and values, read once from a text and understood by nothing else.
+"""Calls: a name and values, read once from a text and understood by nothing else. `begun` has what is read of a call that is half typed.
 
     call = Call.read('Create(#1, #4)')
     call.name, call.values              "create", (Obj(1), Obj(4))
@@ -8,14 +8,13 @@
 
 from __future__ import annotations
 
-import contextlib
 import dataclasses
 import functools
 import re
 from collections.abc import Iterable, Iterator
-from typing import Optional, Union
+from typing import Optional, Union, cast
 
-from moolib.values import BLANKS, Name, NoValue, Obj, Value, values_at, written
+from moolib.values import BLANKS, Given, Name, NoValue, Obj, Value, given_at, written
 
 # A line isn't longer than that.
 LONGEST_CALL = 262_144
@@ -30,14 +29,15 @@ CHANGING = frozenset(
     "add_verb delete_verb set_verb_info set_verb_args petition grant decline".split()
 )
 NAMES = READING | CHANGING
+# Those about one verb of an object.
+OF_VERBS = frozenset("add_verb delete_verb verb_info verb_args set_verb_info set_verb_args".split())
 # Those that destroy something.
 LOSING = frozenset("recycle delete_property delete_verb chparent".split())
 # Those that give rights away; of `set` the properties of an object that do.
 GIVING = frozenset("set_player_flag set_property_info set_verb_info".split())
 RIGHTS = frozenset("wizard owner programmer w f".split())
 FRONT = re.compile(r"[ \t]*([A-Za-z_]\w*)[ \t]*\([ \t]*(\)?)", re.ASCII)
-# A name that is the first value of a call, with the sign after it.
-FIRST_NAME = re.compile(r"\$([A-Za-z]\w*)[ \t]*([,)])", re.ASCII)
+BARE = re.compile(r"[ \t]*([A-Za-z_]\w*)[ \t]*", re.ASCII)
 
 
 class NoCall(ValueError):
@@ -50,22 +50,32 @@ def call_name(text: str) -> str:
     return found[1].lower() if found else ""
 
 
+def bare_name(text: str) -> str:
+    """The name of a call that a text is, as it is written there, without brackets; empty if it is more, or none."""
+    found = BARE.fullmatch(text)
+    return found[1] if found else ""
+
+
 def call_text(name: str, given: Iterable[object]) -> str:
     """A call as it is written, of its name and what it is given: values, or names in their place."""
     return f"{name}({', '.join(map(written, given))})"
 
 
-def values_to_the_end(text: str, place: int, is_closed: bool) -> tuple[Value, ...]:
-    """The values of a call from this place of its text on, where it may be closed already. `NoCall`: something else is there."""
-    values: list[Value] = []
+def taken_apart(text: str, has_names: bool) -> tuple[str, tuple[Given, ...]]:
+    """The name of the call that a text is, in small letters, and what it is given: values, and names if it may have them. `NoCall`: it isn't one."""
+    front = FRONT.match(text)
+    if not front or len(text) > LONGEST_CALL:
+        raise NoCall(f"no call: {text[:200]!r}")
+    given: list[Given] = []
+    place = front.end()
     try:
-        if not is_closed:
-            values, place = values_at(text, place, ")", any_case=True)
+        if not front[2]:
+            given, place = given_at(text, place, ")", True, has_names)
     except NoValue as error:
         raise NoCall(str(error)) from error
-    if text[place:].strip(BLANKS) or len(text) > LONGEST_CALL:
+    if text[place:].strip(BLANKS):
         raise NoCall(f"no call: {text[:200]!r}")
-    return tuple(values)
+    return front[1].lower(), tuple(given)
 
 
 @dataclasses.dataclass(frozen=True)
@@ -78,10 +88,8 @@ class Call:
     @staticmethod
     def read(text: str) -> Call:
         """The call that a text is, its name and the names of errors in any case. `NoCall`: it isn't one, whatever its name."""
-        found = FRONT.match(text)
-        if not found:
-            raise NoCall(f"no call: {text[:200]!r}")
-        return Call(found[1].lower(), values_to_the_end(text, found.end(), bool(found[2])))
+        name, values = taken_apart(text, has_names=False)
+        return Call(name, cast("tuple[Value, ...]", values))
 
     @staticmethod
     def of(value: Value) -> Call:
@@ -172,12 +180,28 @@ def read_or_none(text: str) -> Optional[Call]:
 
 
 @dataclasses.dataclass(frozen=True)
+class NamedCall:
+    """A call with names in the place of some values, which earlier calls of its batch give."""
+
+    name: str
+    given: tuple[Given, ...]
+
+
+def read_named(text: str) -> Optional[NamedCall]:
+    """The call with names that a text is, or None."""
+    try:
+        return NamedCall(*taken_apart(text, has_names=True))
+    except NoCall:
+        return None
+
+
+@dataclasses.dataclass(frozen=True)
 class CallAbout:
-    """A call about an object, or about a name that an earlier call of its batch gives: its name, that first value, and the values after it."""
+    """A call about an object, or about a name that an earlier call of its batch gives: its name, that first value, and what is after it."""
 
     name: str
     subject: Union[Obj, Name]
-    others: tuple[Value, ...]
+    others: tuple[Given, ...]
 
     @property
     def property(self) -> str:
@@ -187,12 +211,6 @@ class CallAbout:
 
 def read_about(text: str) -> Optional[CallAbout]:
     """The call about an object or a name that a text is, or None."""
-    front = FRONT.match(text)
-    first = FIRST_NAME.match(text, front.end()) if front else None
-    if front and first:
-        with contextlib.suppress(NoCall):
-            return CallAbout(front[1].lower(), Name(first[1]), values_to_the_end(text, first.end(), first[2] == ")"))
-        return None
-    call = read_or_none(text)
-    subject = call.values[0] if call and call.values else None
-    return CallAbout(call.name, subject, call.values[1:]) if call and isinstance(subject, Obj) else None
+    call = read_named(text)
+    subject = call.given[0] if call and call.given else None
+    return CallAbout(call.name, subject, call.given[1:]) if call and isinstance(subject, (Obj, Name)) else None

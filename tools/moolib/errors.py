@@ -179,8 +179,8 @@ class TooLong(MooError):
 
 
 class Failed(MooError):
-    """Why a line that somebody wrote wasn't done. `place` is the file and the line that it is about, if that isn't the line that is being
-    done.
+    """Why a line that somebody wrote, or what a program was told, wasn't done. `place` is the file and the line that it is about, if that
+    isn't the line that is being done.
 
     `status` is what a script ends with: 1, or what the program `moo` ended with. `afterword` is what is told in lines after it.
     """

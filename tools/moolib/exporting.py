@@ -16,7 +16,8 @@ from typing import Any, NamedTuple, Optional
 
 from moolib.calls import objects_in
 from moolib.facts import Facts
-from moolib.scripts import MOST_CALLS, ObjectNames, calls_in_batches
+from moolib.scripts import ObjectNames, calls_in_batches
+from moolib.service import MOST_CALLS
 from moolib.slots import MARKS, PROPERTY_LETTERS, VERB_LETTERS, letters_of, slot_calls
 from moolib.values import Obj, Value, written
 

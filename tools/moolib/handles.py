@@ -12,7 +12,8 @@ from collections.abc import Iterable
 from types import TracebackType
 from typing import Any, Optional, Protocol, Union
 
-from moolib.calls import call_text
+from moolib.batches import Item
+from moolib.calls import call_name, call_text
 from moolib.names import item_of
 from moolib.values import Name, Obj
 
@@ -58,7 +59,7 @@ class Batch:
 
     def __init__(self, world: Runner, as_: Union[int, Obj, None], at: Optional[int]) -> None:
         self.world, self.as_, self.at = world, as_, at
-        self.calls: list[str] = []
+        self.items: list[Item] = []
         self.handles: list[Handle] = []
 
     def __enter__(self) -> Batch:
@@ -70,18 +71,20 @@ class Batch:
 
     def add(self, name: str, *given: Any) -> Handle:
         """One more call, as a text, or by its name and what it is given. A text may name its answer itself."""
-        item = item_of(name if name.rstrip().endswith(")") else written_call((name, *given)))
-        handle = Handle(item.name[1:] if item.name else f"a{len(self.calls) + 1}")
-        self.calls.append(item.text)
+        item = item_of(name)
+        if not call_name(item.text):
+            item = item_of(written_call((name, *given)))
+        handle = Handle(item.name[1:] if item.name else f"a{len(self.items) + 1}")
+        self.items.append(item)
         self.handles.append(handle)
         return handle
 
     def texts(self) -> list[str]:
         """The calls, with the names of the answers that later calls use."""
         found = []
-        for place, (call, handle) in enumerate(zip(self.calls, self.handles)):
-            is_used = any(str(handle) in later for later in self.calls[place + 1 :])
-            found.append(f"{handle} = {call}" if is_used else call)
+        for place, (item, handle) in enumerate(zip(self.items, self.handles)):
+            is_used = any(str(handle) in later.names for later in self.items[place + 1 :])
+            found.append(f"{handle} = {item.text}" if is_used else item.text)
         return found
 
     def run(self) -> list[Any]:

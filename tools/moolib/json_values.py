@@ -13,14 +13,13 @@ import json
 import re
 from typing import Any, Union
 
-from moolib.calls import call_text
-from moolib.names import NAME
+from moolib.calls import bare_name, call_text
+from moolib.names import NAME, item_of
 from moolib.values import DEEPEST, ERRORS, ErrorValue, Name, NoValue, Obj, TooGreat, Value, integer, object_number
 
 # Floats hold the integers up to this one, and not all beyond.
 SURE_INTEGER = 2**53
 DIGITS = re.compile(r"-?[0-9]+")
-FRONT = re.compile(rf"[ \t]*(?:\$({NAME.pattern})[ \t]*=[ \t]*)?([A-Za-z_][A-Za-z0-9_]*)[ \t]*")
 FORMS = 'a value is an integer, a string, a list, {"obj":N}, {"err":"E_NAME"}, {"int":"N"} or, in a call, {"name":"NAME"}'
 
 
@@ -68,11 +67,12 @@ def of_object(said: dict[str, Any]) -> Union[Value, Name]:
 
 def call_of(said: list[Any]) -> str:
     """The text of a call that is a list: its name, which may come after `$NAME = `, and its values. `ValueError`: it isn't one."""
-    front = FRONT.fullmatch(said[0]) if said and isinstance(said[0], str) else None
-    if not front:
+    front = item_of(said[0]) if said and isinstance(said[0], str) else None
+    name = bare_name(front.text) if front else ""
+    if not front or not name:
         raise NoValue("a list begins with the name of a call, as [\"create\",{\"obj\":1}]")
-    named = f"${front[1]} = " if front[1] else ""
-    return f"{named}{call_text(front[2], map(of_json, said[1:]))}"
+    named = f"{front.name} = " if front.name else ""
+    return f"{named}{call_text(name, map(of_json, said[1:]))}"
 
 
 def calls_of(said: list[Any]) -> list[Any]:

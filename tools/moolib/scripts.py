@@ -13,13 +13,14 @@ import re
 from collections.abc import Callable, Iterable, Iterator
 from typing import Optional
 
+from moolib.service import MOST_CALLS
 from moolib.values import Name, Obj, Value, written
 
 LONGEST_NAME = 40
 # Names that mean something else to the shell.
 TAKEN = {"me", "player", "here"}
 # So many calls, and so many letters of them, are in one batch.
-MOST_CALLS, MOST_LETTERS = 1000, 600_000
+MOST_LETTERS = 600_000
 
 
 class ObjectNames:

@@ -22,7 +22,8 @@ from moolib.exchange import Exchange
 from moolib.shapes import is_of_calls, is_of_moo
 from moolib.values import read
 
-LONGEST_BODY = 1_048_576
+# So many calls a batch has at most, and so many bytes the body of a request.
+MOST_CALLS, LONGEST_BODY = 1000, 1_048_576
 # A dump may be as long.
 LONGEST_ANSWER = 1 << 32
 FIRST_PAUSE, LONGEST_PAUSE = 0.01, 0.5
@@ -148,8 +149,9 @@ def object_in(body: bytes) -> dict[str, Any]:
 class Service:
     """A service at a port of this machine, or of another. Threads may share it.
 
-    `wait` is how many seconds one answer may take, `patience` how many a request may be tried, `longest` how many bytes an answer may have. `NoService`, `LostAnswer`, `Stranger` and `TooLong`
-    say what became of one request; `tried` and what is made of it raise `Unreachable` in place of the first three.
+    `wait` is how many seconds one answer may take, `patience` how many a request may be tried, `longest` how many bytes an answer may have.
+    `NoService`, `LostAnswer`, `Stranger` and `TooLong` say what became of one request; `tried` and what is made of it raise `Unreachable` in
+    place of the first three.
     """
 
     # Whether requests name the programmer, and whether the last try of a request too ends with one's patience.

@@ -9,6 +9,11 @@ from moolib.calls import Call
 from moolib.values import Obj, Value, written
 
 PROPERTY_LETTERS, VERB_LETTERS = "rwc", "rwxd"
+# The prepositions of verbs, each with all its words, in the order of their numbers in LambdaMOO's files.
+PREPOSITIONS = (
+    "with/using", "at/to", "in front of", "in/inside/into", "on top of/on/onto/upon", "out of/from inside/from", "over", "through",
+    "under/underneath/beneath", "behind", "beside", "for/about", "is", "as", "off/off of",
+)  # fmt: skip
 # The built-in properties that `set` changes.
 SETTABLE = ("name", "owner", "programmer", "wizard", "r", "w", "f")
 # What an object has besides slots and verbs, with the call that tells it.

@@ -10,7 +10,7 @@ from __future__ import annotations
 
 import dataclasses
 import re
-from typing import List, Union
+from typing import List, Union, cast
 
 LEAST_INTEGER, GREATEST_INTEGER = -(2**63), 2**63 - 1
 LEAST_OBJECT, GREATEST_OBJECT = -(2**31), 2**31 - 1
@@ -54,6 +54,8 @@ class Name:
 
 
 Value = Union[int, str, Obj, ErrorValue, List["Value"]]
+# What a call is given: a value, or a name in the place of one.
+Given = Union[int, str, Obj, ErrorValue, Name, List["Given"]]
 
 
 class NoValue(ValueError):
@@ -64,17 +66,18 @@ class TooGreat(NoValue):
     """A value is greater than worlds hold. The message says what is, and how great it may be."""
 
 
-# What errors are called.
+# What errors are called, in the order of their numbers in LambdaMOO's files.
 ERRORS = tuple(
     "E_NONE E_TYPE E_DIV E_PERM E_PROPNF E_VERBNF E_VARNF E_INVIND E_RECMOVE E_MAXREC E_RANGE E_ARGS E_NACC E_INVARG E_QUOTA E_FLOAT".split()
 )
 LETTERS = r"[\t !#-\[\]-~]*"
-# A value, or the brace that begins a list; and the sign after it, if there is one.
+# A value, a name, or the brace that begins a list; and the sign after it, if there is one.
 VALUE = re.compile(
-    rf'[ \t]*(?:\#(-?[0-9]+)|"({LETTERS}(?:\\[\t -~]{LETTERS})*)"|(-?[0-9]+)|([Ee]\w*)|(\{{))[ \t]*([,}})]?)',
+    rf'[ \t]*(?:\#(-?[0-9]+)|"({LETTERS}(?:\\[\t -~]{LETTERS})*)"|(-?[0-9]+)|([Ee]\w*)|\$([A-Za-z_]\w*)|(\{{))[ \t]*([,}})]?)',
     re.ASCII,
 )
 SIGN = re.compile(r"[ \t]*([,})]?)")
+STRING_OR_OBJECT = re.compile(r'("(?:[^"\\]|\\.)*"|#-?\d{1,10})')
 BACKSLASHED = re.compile(r"\\(.)")
 TO_ESCAPE = re.compile(r'(["\\])')
 STRANGE = re.compile(r"[^\t -~]")
@@ -82,49 +85,53 @@ STRANGE = re.compile(r"[^\t -~]")
 
 def read(text: str) -> Value:
     """The value whose literal a text is, with blanks around it, the names of errors in capitals. `NoValue`: it isn't one, or too great."""
-    values, place = values_at(text, 0, "")
+    values, place = given_at(text, 0, "", any_case=False, has_names=False)
     if len(values) != 1 or text[place:].strip(BLANKS):
         raise NoValue(f"no value: {text[:200]!r}")
-    return values[0]
+    return cast("Value", values[0])
 
 
-def values_at(text: str, place: int, end: str, levels: int = DEEPEST, any_case: bool = False) -> tuple[list[Value], int]:
+def cut_at_objects(text: str) -> list[str]:
+    """The text of values or of a call, cut at its strings and its objects: these are at the odd places. A number in a string isn't an object."""
+    return STRING_OR_OBJECT.split(text)
+
+
+def given_at(text: str, place: int, end: str, any_case: bool, has_names: bool, levels: int = DEEPEST) -> tuple[list[Given], int]:
     """The values with commas between them, one at least, at this place of a text, up to the sign `end`; and the place after that.
 
-    Lists nest so deep in them at most. `any_case` is of errors' names.
+    `any_case` is of errors' names, and `has_names` is whether a name may be in the place of a value. Lists nest so deep in them at most.
     """
-    values: list[Value] = []
+    given: list[Given] = []
     sign = ","
     while sign == ",":
         found = VALUE.match(text, place)
         if not found:
             raise NoValue(f"no value: {text[:200]!r}")
-        number, inside, digits, word, brace, sign = found.groups()
+        number, inside, digits, word, name, brace, sign = found.groups()
         place = found.end()
         if number is not None:
-            values.append(Obj(object_number(number)))
+            given.append(Obj(object_number(number)))
         elif inside is not None:
-            values.append(string(inside))
+            given.append(string(inside))
         elif digits is not None:
-            values.append(integer(digits))
+            given.append(integer(digits))
         elif word is not None:
-            values.append(error_value(word, any_case))
-        else:
-            some, place = list_at(text, found.end(5), sign, levels, any_case)
-            values.append(some)
+            given.append(error_value(word, any_case))
+        elif brace is not None:
+            if not levels:
+                raise TooGreat(f"lists are at most {DEEPEST} deep")
+            some, place = ([], place) if sign == "}" else given_at(text, found.end(6), "}", any_case, has_names, levels - 1)
+            given.append(some)
             after = SIGN.match(text, place)
             assert after
             sign, place = after[1], after.end()
+        elif has_names:
+            given.append(Name(name))
+        else:
+            raise NoValue(f"no value: {text[:200]!r}")
     if sign != end:
         raise NoValue(f"no value: {text[:200]!r}")
-    return values, place
-
-
-def list_at(text: str, place: int, sign: str, levels: int, any_case: bool) -> tuple[list[Value], int]:
-    """The list after its brace, which this sign follows, and the place after it."""
-    if not levels:
-        raise TooGreat(f"lists are at most {DEEPEST} deep")
-    return ([], text.index("}", place) + 1) if sign == "}" else values_at(text, place, "}", levels - 1, any_case)
+    return given, place
 
 
 def error_value(word: str, any_case: bool) -> ErrorValue:
@@ -161,8 +168,11 @@ def string(inside: str) -> str:
 
 
 def written(value: object) -> str:
-    """The literal of a value; a tuple is a list, and a `Name` is written as it is. `TypeError`: it isn't one. `ValueError`: a string has other letters than tabs and printing
-    ASCII; `TooGreat`, a kind of that: it is greater than worlds hold."""
+    """The literal of a value; a tuple is a list, and a `Name` is written as it is.
+
+    `TypeError`: it isn't one. `ValueError`: a string has other letters than tabs and printing ASCII; `TooGreat`, a kind of that: it is
+    greater than worlds hold.
+    """
     return written_in(value, DEEPEST)
 
 

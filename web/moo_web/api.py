@@ -7,7 +7,7 @@ import io
 import tempfile
 import threading
 import time
-from typing import Any, cast
+from typing import cast
 
 from moolib.batches import Item, resolved
 from moolib.errors import Failed
@@ -25,7 +25,7 @@ from moo_web.people.audit import TOKEN_REFUSED
 from moo_web.people.limits import Rate, network_of
 from moo_web.people.people import People
 from moo_web.people.person import Person
-from moo_web.world.door import Answer, Door, Unreachable, batch_body, packed, said_by
+from moo_web.world.door import Answer, Door, Unreachable, batch_body, own_answer, packed
 from moo_web.world.losing import answer_with_losses
 from moo_web.world.overseeing import Overseeing
 
@@ -175,9 +175,9 @@ class Api:
                 if sent.at is not None:
                     return [], moved.answer
             except ValueError:
-                return [], said_by(413, error="too large")
+                return [], own_answer(413, error="too large")
             except Failed as failed:
-                return [], said_by(400, error="bad request", why=failed.reason)
+                return [], own_answer(400, error="bad request", why=failed.reason)
         raise Unreachable
 
     def each(self, request: Request) -> Reply:
@@ -226,8 +226,7 @@ class Api:
 
     def is_wizard(self, person: Person) -> bool:
         """Whether the person's object is a wizard now."""
-        answer = self.door.asked("GET", f"/object/{person.number}", None, time.monotonic() + READING)
-        return answer.status == 200 and answer.said.get("wizard") == 1
+        return self.door.is_wizard(person.number, READING)
 
     def question(self, path: str, body: bytes) -> Answer:
         """moo's answer to a question. `Unreachable`: there is none in time."""
@@ -247,7 +246,7 @@ class Api:
                 return passed_on(first)
             each = self.answers_at(sent.person, sent.calls, first.said["seq"], end)
             if each is not None:
-                return replied(sent, said_by(200, each=each, seq=first.said["seq"]))
+                return replied(sent, own_answer(200, each=each, seq=first.said["seq"]))
             if sent.at is not None:
                 return in_json(409, error="stale", seq=self.door.asked("GET", "/seq", None, end).said["seq"])
         raise Unreachable

@@ -19,10 +19,12 @@ import tempfile
 from pathlib import Path
 from typing import NamedTuple
 
+from moolib.calls import call_name
+from moolib.errors import Failed
 from moolib.front import FrontService
 
 from moo_web.people.people import People
-from moo_web.programs import PEOPLE_FILE, Failed, only_ours, port_number
+from moo_web.programs import PEOPLE_FILE, only_ours, port_number
 from moo_web.serving import DEBIANS_MODULES, PORT
 
 WEB = Path(__file__).resolve().parents[1]
@@ -122,13 +124,13 @@ class Demo:
         try:
             for guest in self.guests:
                 people.add(guest.name, guest.number, guest.password)
-            tokens = {guest.name: people.make_token(guest.name) for guest in self.guests}
+            tokens = {guest.name: people.tokens.make(guest.name) for guest in self.guests}
             front = [str(WEB / "moo-web"), str(self.folder / "front"), "--moo-port", str(self.moo_port), "--port", str(self.port)]
             self.launched(front)
             for name, calls in FIRST:
-                self.send(tokens[name], calls, REASONS.get(name, "") if calls[0].startswith("petition") else "")
+                self.send(tokens[name], calls, REASONS.get(name, "") if call_name(calls[0]) == "petition" else "")
             for name in tokens:
-                people.end_tokens(name)
+                people.tokens.end_all(name)
         finally:
             people.close()
 
@@ -149,7 +151,7 @@ class Demo:
             raise Failed(f"the village is another one than this program knows: {answer.text}")
 
     def wait(self) -> None:
-        """Waits until one of the programs ends."""
+        """Waits for the front, which ends by itself only with a failure. `Failed`: it has."""
         self.running[-1].wait()
         raise Failed(f"the front ended: {(self.folder / 'told').read_text().strip()}")
 

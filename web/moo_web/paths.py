@@ -8,6 +8,7 @@ A part in brackets is of a kind (`<number>`), which says what it may be and what
 
 from __future__ import annotations
 
+import functools
 import re
 from typing import Any, Callable, NamedTuple
 from urllib.parse import quote
@@ -32,6 +33,8 @@ KINDS = {
     # The number of an object as moo takes it, or mistakes it.
     "any": Kind("[-+0-9]{1,32}", str),
 }
+# So many addresses are kept: a page has up to some hundred, and the next page many of the same.
+MOST_KEPT = 1 << 13
 PART = re.compile(r"<(\w+)>")
 
 
@@ -60,9 +63,13 @@ class Path:
 
     def made(self, given: dict[str, Any]) -> str:
         """The address with these parts. Those of no name in it make the query, but for those that are None. `ValueError`: a part can't be."""
-        path = self.template.format(**given) if self.kinds else self.text
+        if not self.kinds:
+            return self.text + query_of(**given) if given else self.text
+        path = self.template.format(**given)
         if not self.pattern.fullmatch(path):
             raise ValueError(f"{path} isn't as {self.text}")
+        if len(given) == len(self.kinds):
+            return path
         return path + query_of(**{key: value for key, value in given.items() if key not in self.kinds})
 
 
@@ -70,6 +77,11 @@ def query_of(**given: Any) -> str:
     """The query of these fields, with its mark, but for those that are None; by itself the same page with that query."""
     query = "&".join([f"{key}={quote(str(value))}" for key, value in given.items() if value is not None])
     return f"?{query}" if query else ""
+
+
+def whole_number(text: str) -> int | None:
+    """The number that a field of a query is, of at most 19 digits; None if it is something else."""
+    return int(text) if re.fullmatch(KINDS["batch"].pattern, text) else None
 
 
 PATHS = {
@@ -88,6 +100,7 @@ PATHS = {
 }  # fmt: skip
 
 
+@functools.lru_cache(MOST_KEPT)
 def url_for(name: str, /, **given: Any) -> str:
     """The address of this name in `PATHS`, with its parts by their kinds; what else is given makes its query. `KeyError`: there is none."""
     return PATHS[name].made(given)
@@ -95,4 +108,4 @@ def url_for(name: str, /, **given: Any) -> str:
 
 def form_for(key: str, number: int, field: str = "object") -> str:
     """The address of a form that is about an object, which is in this field of it."""
-    return url_for("form", key=key, **{field: f"#{number}"})
+    return f"{url_for('form', key=key)}?{field}=%23{number}"

@@ -12,11 +12,9 @@ import threading
 import time
 from pathlib import Path
 
+from moolib.errors import Failed
+
 PEOPLE_FILE = "people.db"
-
-
-class Failed(Exception):
-    """The program can't do what it was told, for this reason."""
 
 
 class Teller:
@@ -68,11 +66,21 @@ def only_ours() -> None:
     os.umask(0o077)
 
 
+def number_word(text: str, least: int, most: int, what: str) -> int:
+    """The number that a word of the command line is. `ArgumentTypeError`: it isn't `what`, which is between these."""
+    if not text.isascii() or not text.isdigit() or len(text) > 19 or not least <= int(text) <= most:
+        raise argparse.ArgumentTypeError(f"{text!r} isn't {what}")
+    return int(text)
+
+
 def port_number(text: str) -> int:
     """A port."""
-    if not text.isascii() or not text.isdigit() or not 0 <= int(text) <= 65535:
-        raise argparse.ArgumentTypeError(f"{text!r} isn't a port")
-    return int(text)
+    return number_word(text, 0, 65535, "a port")
+
+
+def object_number(text: str) -> int:
+    """The number of an object, with or without #."""
+    return number_word(text.removeprefix("#"), 0, 9_999_999_999, "the number of an object")
 
 
 def utc(moment: float) -> str:

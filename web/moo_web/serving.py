@@ -12,6 +12,8 @@ import time
 from pathlib import Path
 from typing import TYPE_CHECKING, Any
 
+from moolib.errors import Failed
+
 from moo_web.api import Api, token_of
 from moo_web.app import App, Reply, Request
 from moo_web.journal.history import History
@@ -25,7 +27,7 @@ from moo_web.people.file import Wrong
 from moo_web.people.people import People
 from moo_web.people.person import Person
 from moo_web.people.sessions import secret_of
-from moo_web.programs import PEOPLE_FILE, Failed, Teller, notify, only_ours, own_folder, port_number
+from moo_web.programs import PEOPLE_FILE, Teller, notify, number_word, only_ours, own_folder, port_number
 from moo_web.status import port, process, standbys
 from moo_web.status.access import AccessLog, open_anew_at_hangup
 from moo_web.status.activity import Activity
@@ -102,9 +104,7 @@ def read_words(words: list[str]) -> argparse.Namespace:
 
 def byte_count(text: str) -> int:
     """How many bytes: at least one."""
-    if not text.isascii() or not text.isdigit() or not 0 < int(text) < 1 << 63:
-        raise argparse.ArgumentTypeError(f"{text!r} isn't a number of bytes")
-    return int(text)
+    return number_word(text, 1, (1 << 63) - 1, "a number of bytes")
 
 
 def need_server() -> None:

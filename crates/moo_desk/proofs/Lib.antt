@@ -1,3 +1,4 @@
 pub mod Ripening
 pub mod Onward
+pub mod Reading
 pub mod Ledgers

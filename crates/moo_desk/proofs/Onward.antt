@@ -1,5 +1,6 @@
 -- Connections stay the same from step to step.
-use Rattle.std.proofs.Common.{◌≡◌, ◌<◌, ℕ, ℤ, zero, suc, List, [], ◌∷◌, ◌++◌, length, drop, get_or, set, refl, sym, ap, subst, ◌∙◌, arith}
+use Rattle.std.proofs.Common.{◌≡◌, ◌<◌, ◌+◌, add-one, ℕ, ℤ, zero, suc, List, [], ◌∷◌, ◌++◌, length, drop, get_or, set, refl, sym, ap, subst, ◌∙◌, inl, inr, arith}
+use Rattle.std.specs.Prelude.{⊤}
 use Rattle.std.specs.Io.KnownBytes.{Keeps, append_known, prepend_known}
 use Rattle.std.proofs.KnownBytes.{Keeps-refl, Keeps-trans}
 use Rattle.std.specs.declared.io.Read as Reading
@@ -11,6 +12,9 @@ use Rattle.moo_desk.specs.declared.slot.Slot.{Slot}
 use Rattle.moo_desk.specs.declared.leaving.Leaving.{Leaving}
 use Rattle.moo_desk.specs.Each.{Each}
 use Rattle.moo_desk.specs.Later.{IsGathered, IsLater, IsOnlyWoken}
+use Rattle.moo_desk.specs.declared.leaving.Stage.{Stage}
+use Rattle.moo_desk.specs.declared.leaving.Stage.TheVariants.{Sending, Lingering, Done, Lost}
+use Rattle.moo_desk.specs.Stages.{MayFollow}
 
 -- ---- two lists
 
@@ -39,28 +43,71 @@ each_set Holds join (a ∷ xs) [] at d z p few q = absurd p
 each_set Holds join (a ∷ xs) (b ∷ ys) zero d z p few q = (join a b z p.0 q, p.1)
 each_set Holds join (a ∷ xs) (b ∷ ys) (suc at) d z p few q = (p.0, each_set Holds join xs ys at d z p.1 (omega (arith, few)) q)
 
+-- it holds of so many of them, and the others are as they were
+abbrev pub EachSoFar : {A : Type 0} → (A → A → Type 0) → ℕ → List A → List A → Type 0
+EachSoFar Holds zero xs ys = ys ≡ xs
+EachSoFar Holds (suc n) [] [] = ⊤
+EachSoFar Holds (suc n) (x ∷ xs) (y ∷ ys) = Holds x y × EachSoFar Holds n xs ys
+EachSoFar Holds (suc n) xs ys = ⊥
+
+each_next : {A : Type 0} (Holds : A → A → Type 0) → (n : ℕ) (xs ys : List A) (d z : A) → n < length ys → EachSoFar Holds n xs ys → Holds (get_or ys n d) z → EachSoFar Holds (suc n) xs (set ys n z)
+each_next Holds zero xs [] d z few it holds = absurd (omega (arith, few))
+each_next Holds zero xs (y ∷ ys) d z few it holds = subst (λ l. EachSoFar Holds (suc zero) l (z ∷ ys)) it (holds, refl)
+each_next Holds (suc n) [] [] d z few it holds = absurd (omega (arith, few))
+each_next Holds (suc n) [] (y ∷ ys) d z few it holds = absurd it
+each_next Holds (suc n) (x ∷ xs) [] d z few it holds = absurd it
+each_next Holds (suc n) (x ∷ xs) (y ∷ ys) d z few it holds = (it.0, each_next Holds n xs ys d z (omega (arith, few)) it.1 holds)
+
+pub each_then : {A : Type 0} (Holds : A → A → Type 0) → (n : ℕ) (xs ys : List A) (d z : A) → n < length ys → EachSoFar Holds n xs ys → Holds (get_or ys n d) z → EachSoFar Holds (n + 1) xs (set ys n z)
+each_then Holds n xs ys d z few it holds = subst (λ m. EachSoFar Holds m xs (set ys n z)) (sym (add-one n)) (each_next Holds n xs ys d z few it holds)
+
+pub each_all : {A : Type 0} (Holds : A → A → Type 0) → (n : ℕ) (xs ys : List A) → length ys < suc n → EachSoFar Holds n xs ys → Each Holds xs ys
+each_all Holds zero [] [] few it = tt
+each_all Holds zero (x ∷ xs) [] few it = absurd (omega (arith, ap length it))
+each_all Holds zero xs (y ∷ ys) few it = absurd (omega (arith, few))
+each_all Holds (suc n) [] [] few it = tt
+each_all Holds (suc n) [] (y ∷ ys) few it = absurd it
+each_all Holds (suc n) (x ∷ xs) [] few it = absurd it
+each_all Holds (suc n) (x ∷ xs) (y ∷ ys) few it = (it.0, each_all Holds n xs ys (omega (arith, few)) it.1)
+
+-- ---- the stages
+
+pub follows_same : (a b : Stage) → b ≡ a → MayFollow a b
+follows_same Sending b same = tt
+follows_same Lingering b same = inl same
+follows_same Done b same = same
+follows_same (Lost cause) b same = same
+
+pub follows_joined : (a b c : Stage) → MayFollow a b → MayFollow b c → MayFollow a c
+follows_joined Sending b c p q = tt
+follows_joined Lingering b c (inl is) q = subst (λ it. MayFollow it c) is q
+follows_joined Lingering b c (inr is) q = inr (subst (λ it. MayFollow it c) is q)
+follows_joined Done b c p q = subst (λ it. MayFollow it c) p q
+follows_joined (Lost cause) b c p q = subst (λ it. MayFollow it c) p q
+
 -- ---- one connection
 
 module _ {R W : Type 0} (writer : Writing.Ghosts W) (to : W → ℤ) where
   pub later_same : (it : Leaving R W) → IsLater writer to it it
-  later_same it = record { answer = (refl, Keeps-refl _); peer = refl; route = refl }
+  later_same it = record { answer = (refl, Keeps-refl _); peer = refl; route = refl; stage = follows_same it.stage it.stage refl }
 
   pub later_joined : (a b c : Leaving R W) → IsLater writer to a b → IsLater writer to b c → IsLater writer to a c
-  later_joined a b c p q = record { answer = (q.answer.0 ∙ p.answer.0, Keeps-trans _ _ _ p.answer.1 q.answer.1); peer = q.peer ∙ p.peer; route = q.route ∙ p.route }
+  later_joined a b c p q = record { answer = (q.answer.0 ∙ p.answer.0, Keeps-trans _ _ _ p.answer.1 q.answer.1); peer = q.peer ∙ p.peer; route = q.route ∙ p.route; stage = follows_joined a.stage b.stage c.stage p.stage q.stage }
 
   -- its writer didn't change
-  pub later_kept : (old new : Leaving R W) → new.writer ≡ old.writer → new.route ≡ old.route → IsLater writer to old new
-  later_kept old new same route = record {
+  pub later_kept : (old new : Leaving R W) → new.writer ≡ old.writer → new.route ≡ old.route → MayFollow old.stage new.stage → IsLater writer to old new
+  later_kept old new same route stage = record {
     answer = (ap (λ it. it.text.items) same, subst (λ it. Keeps (append_known (writer.contents old.writer.writer) (drop old.writer.sent old.writer.text.items)) (append_known (writer.contents it.writer) (drop it.sent it.text.items))) (sym same) (Keeps-refl _));
     peer = ap (λ it. to it.writer) same;
     route = route;
+    stage = stage;
   }
 
 -- ---- one connection whose request is gathered
 
 module _ {R W : Type 0} {inward : Inward.Ghosts R} {incoming : Incoming.Ghosts R} {reader : Reading.Ghosts R} {outward : Outward.Ghosts W} {writer : Writing.Ghosts W} where
   pub gathered_same : (it : Slot R W inward incoming reader outward writer) → IsGathered it it
-  gathered_same it = record { request = Keeps-refl _; peer = refl; answer = refl; limited = refl; rests = λ is. (is, refl, refl) }
+  gathered_same it = record { request = Keeps-refl _; peer = refl; answer = refl; limited = refl; since = refl; rests = λ is. (is, refl, refl) }
 
   pub gathered_joined : (a b c : Slot R W inward incoming reader outward writer) → IsGathered a b → IsGathered b c → IsGathered a c
   gathered_joined a b c p q = record {
@@ -68,6 +115,7 @@ module _ {R W : Type 0} {inward : Inward.Ghosts R} {incoming : Incoming.Ghosts R
     peer = q.peer ∙ p.peer;
     answer = q.answer ∙ p.answer;
     limited = q.limited ∙ p.limited;
+    since = q.since ∙ p.since;
     rests = λ is.
         let first = p.rests is in
         let then = q.rests first.0 in
@@ -75,10 +123,11 @@ module _ {R W : Type 0} {inward : Inward.Ghosts R} {incoming : Incoming.Ghosts R
   }
 
   pub gathered_untouched : (old new : Slot R W inward incoming reader outward writer) → IsOnlyWoken old new → IsGathered old new
-  gathered_untouched old new (same, writes, limited, rests, cause) = record {
-    request = subst (λ it. Keeps (prepend_known (drop old.reader.at old.reader.bytes.items) (reader.remaining old.reader.reader)) (prepend_known (drop it.at it.bytes.items) (reader.remaining it.reader))) (sym same) (Keeps-refl _);
-    peer = ap (λ it. inward.peer it.reader) same;
-    answer = writes;
-    limited = limited;
-    rests = λ is. (rests ∙ is, same, cause);
+  gathered_untouched old new it = record {
+    request = subst (λ of. Keeps (prepend_known (drop old.reader.at old.reader.bytes.items) (reader.remaining old.reader.reader)) (prepend_known (drop of.at of.bytes.items) (reader.remaining of.reader))) (sym it.halves.0) (Keeps-refl _);
+    peer = ap (λ of. inward.peer of.reader) it.halves.0;
+    answer = it.halves.1;
+    limited = it.halves.2;
+    since = it.times.0;
+    rests = λ is. (it.ends.0 ∙ is, it.halves.0, it.ends.1);
   }

@@ -1,7 +1,13 @@
 -- What is known of the end of a request stays so as it grows, and tells when it is whole.
 use Rattle.std.proofs.Math.Logic.{∥∥₁_map}
-use Rattle.std.proofs.Common.{◌≡◌, ◌≤◌, ◌<◌, ℕ, List, [], ◌++◌, length, Option, Bool, true, false, true≢false, refl, sym, subst, append_assoc, append-nil}
+use Rattle.std.proofs.Common.{◌≡◌, ◌≤◌, ◌<◌, ℕ, List, [], ◌++◌, length, Option, None, Some, Bool, ◌||◌, unwrap_or, true, false, true≢false, refl, sym, subst, append_assoc, append-nil}
 use Rattle.moo_http_request.specs.Whole.{IsWhole, IsCutOff, IsWholeFrom}
+use Rattle.std.specs.declared.time.Duration.{Duration}
+use Rattle.moo_arrivals.specs.declared.cause.Cause.{Cause}
+use Rattle.moo_http_request.specs.declared.head.TheConstants.{MAX_HEAD}
+use Rattle.moo_desk.specs.declared.gathered.Coming.{Coming}
+use Rattle.moo_desk.specs.declared.gathered.Coming.TheVariants.{More}
+use Rattle.moo_desk.specs.Read.{Gave, MayStop, limit_of}
 use Rattle.moo_desk.specs.Ripe.{IsKnownFrom}
 
 whole_from_more : (bytes more : List ℕ) (n : ℕ) → IsWholeFrom bytes n → IsWholeFrom (bytes ++ more) n
@@ -27,3 +33,19 @@ ripe_if false known = ∣ (λ is. absurd (true≢false (sym is))) ∣₁
 pub not_ripe : {X : Type 0} (test : Bool) → test ≡ false → ∥ (test ≡ true → X) ∥₁
 not_ripe true is = absurd (true≢false is)
 not_ripe false is = ∣ (λ holds. absurd (true≢false (sym holds))) ∣₁
+
+-- one of which more is read stops for no cause
+pub stops_open : {R : Type 0} (reads : R → Gave → R → Type 0) (last : R) (since heard looked : Duration) (cause : Cause) (coming : Coming) → coming ≡ More → ∥ MayStop reads last since heard looked cause coming ∥₁
+stops_open reads last since heard looked cause coming is = subst (λ of. ∥ MayStop reads last since heard looked cause of ∥₁) (sym is) ∣ tt ∣₁
+
+-- what holds of one that isn't due
+pub idle_if : {X : Type 0} (due also : Bool) → ∥ (due ≡ false → X) ∥₁ → ∥ ((due || also) ≡ false → X) ∥₁
+idle_if true also known = ∣ (λ is. absurd (true≢false is)) ∣₁
+idle_if false also known = ∥∥₁_map known (λ x is. x refl)
+
+pub not_idle : {X : Type 0} → ∥ (true ≡ false → X) ∥₁
+not_idle = ∣ (λ is. absurd (true≢false is)) ∣₁
+
+pub limit_is : (total : Option ℕ) → unwrap_or total MAX_HEAD ≡ limit_of total
+limit_is None = refl
+limit_is (Some n) = refl

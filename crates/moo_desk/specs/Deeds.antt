@@ -1,5 +1,5 @@
 -- What a desk does with the connections that it holds.
-use Rattle.std.specs.Prelude.{◌≡◌, ◌⊎◌, ◌++◌, true, List, [], ◌∷◌, length}
+use Rattle.std.specs.Prelude.{◌≡◌, ◌⊎◌, ◌++◌, ◌+◌, ◌≤◌, ℕ, List, [], ◌∷◌, length}
 use Rattle.std.specs.declared.io.Read as Reading
 use Rattle.std.specs.declared.io.Write as Writing
 use Rattle.moo_arrivals.specs.declared.cause.Cause.{Cause}
@@ -33,6 +33,13 @@ pub data Deed (S R W : Type 0) : Type 0 where
   steps : Deed S R W
   ends : Leaving R W → Deed S R W
 
+-- how many connections come in these deeds
+abbrev pub count_taken : {S R W : Type 0} → List (Deed S R W) → ℕ
+count_taken [] = 0
+count_taken (takes slot ∷ earlier) = count_taken earlier + 1
+count_taken (steps ∷ earlier) = count_taken earlier
+count_taken (ends it ∷ earlier) = count_taken earlier
+
 module _ {R W : Type 0}
     {inward : Inward.Ghosts R} {incoming : Incoming.Ghosts R} {reader : Reading.Ghosts R} {outward : Outward.Ghosts W}
     {writer : Writing.Ghosts W} where
@@ -65,12 +72,22 @@ module _ {R W : Type 0}
   After (deed ∷ earlier) old new =
       (between : Book (Slot R W inward incoming reader outward writer) R W) × After earlier old between × Does deed between new
 
-  -- Nothing happens but deeds: each connection that came is held until it is handed out, and each that is given back until all of its
-  -- answer was sent, or its loss is noted.
-  pub record Keep (old new : Book (Slot R W inward incoming reader outward writer) R W) : Type 0 where
+  -- Nothing happens but deeds, in which so many connections come: each that came is held until it is handed out, and each that is given
+  -- back until all of its answer was sent, or its loss is noted.
+  pub record Keep (came : ℕ) (old new : Book (Slot R W inward incoming reader outward writer) R W) : Type 0 where
     pub deeds : List (Deed (Slot R W inward incoming reader outward writer) R W)
     pub after : After deeds old new
+    pub count : count_taken deeds ≡ came
 
-  -- nothing happened to what a desk holds but deeds
+  -- nothing happened to what a desk holds but deeds, and none came
   abbrev pub Goes : Held R W inward incoming reader outward writer → Held R W inward incoming reader outward writer → Type 0
-  Goes old new = Keep (book_of old) (book_of new)
+  Goes old new = Keep 0 (book_of old) (book_of new)
+
+  -- Nothing happens but deeds, and each connection that the gate gave meanwhile came, but for so many at most that were lost as they came.
+  -- With each book is how many the gate gave by then.
+  pub record Admits (most : ℕ) (old new : Book (Slot R W inward incoming reader outward writer) R W × ℕ) : Type 0 where
+    pub came : ℕ
+    pub lost : ℕ
+    pub keep : Keep came old.0 new.0
+    pub all : new.1 ≡ old.1 + (came + lost)
+    pub few : lost ≤ most

@@ -1,5 +1,5 @@
 -- What a desk hands out, is given back, and tells of.
-use Rattle.std.specs.Prelude.{◌≡◌, ◌++◌, true, List, [], ◌∷◌, Option, Some, None}
+use Rattle.std.specs.Prelude.{◌≡◌, ◌++◌, ℕ, true, [], ◌∷◌, Option, Some, None}
 use Rattle.std.specs.declared.io.Read as Reading
 use Rattle.std.specs.declared.io.Write as Writing
 use Rattle.moo_arrivals.specs.declared.arrivals.Closing.{Closing}
@@ -16,7 +16,7 @@ use Rattle.moo_desk.specs.declared.leaving.Stage.TheVariants.{Sending}
 use Rattle.moo_desk.specs.declared.outgoing.Outgoing.{Outgoing}
 use Rattle.moo_desk.specs.declared.slot.Slot.{Slot}
 use Rattle.moo_desk.specs.Each.{TakesOut}
-use Rattle.moo_desk.specs.Deeds.{Book, book_of, Keep, Goes}
+use Rattle.moo_desk.specs.Deeds.{Book, book_of, Keep, Admits}
 use Rattle.moo_desk.specs.Ripe.{IsRipe}
 use Rattle.moo_desk.specs.Told.{TellsOf}
 
@@ -48,34 +48,35 @@ module _ {R W : Type 0}
   TakesSlot old (Some slot) new =
       (slot.rests ≡ true) × TakesOut old.slots slot new.slots × (new.leaving ≡ old.leaving) × (new.losses ≡ old.losses)
 
-  -- A connection is handed out, and isn't held any more; all others are.
-  abbrev pub Hands : Held R W inward incoming reader outward writer → Option (Connection (Gathered R) (Outgoing W))
-      → Held R W inward incoming reader outward writer → Type 0
-  Hands old None new = Goes old new
+  -- A connection is handed out, and isn't held any more; all others are that the gate gave. If none is handed out one of these at most
+  -- was lost as it came. With what the desk holds is how many connections its gate gave by then.
+  abbrev pub Hands : Held R W inward incoming reader outward writer × ℕ → Option (Connection (Gathered R) (Outgoing W))
+      → Held R W inward incoming reader outward writer × ℕ → Type 0
+  Hands old None new = Admits 1 (book_of old.0, old.1) (book_of new.0, new.1)
   Hands old (Some it) new =
       (slot : Slot R W inward incoming reader outward writer) × (between : Book (Slot R W inward incoming reader outward writer) R W)
-      × Keep (book_of old) between × TakesSlot between (Some slot) (book_of new) × IsHandedOut slot it
+      × Admits 0 (book_of old.0, old.1) (between, new.1) × TakesSlot between (Some slot) (book_of new.0) × IsHandedOut slot it
 
   -- this one is held too
   abbrev pub with_back : Book (Slot R W inward incoming reader outward writer) R W → Leaving R W
       → Book (Slot R W inward incoming reader outward writer) R W
   with_back book it = record { slots = book.slots; leaving = book.leaving ++ it ∷ []; losses = book.losses }
 
-  -- A connection is given back, to be closed so.
-  abbrev pub GetsBack : Held R W inward incoming reader outward writer → Connection (Gathered R) (Outgoing W) → Closing → Route
-      → Held R W inward incoming reader outward writer → Type 0
+  -- A connection is given back, to be closed so. None comes, and the gate gives none.
+  abbrev pub GetsBack : Held R W inward incoming reader outward writer × ℕ → Connection (Gathered R) (Outgoing W) → Closing → Route
+      → Held R W inward incoming reader outward writer × ℕ → Type 0
   GetsBack old given closing route new =
-      (it : Leaving R W) × Begins given closing route it × Keep (with_back (book_of old) it) (book_of new)
+      (it : Leaving R W) × Begins given closing route it × Keep 0 (with_back (book_of old.0) it) (book_of new.0) × (new.1 ≡ old.1)
 
   -- a connection is given back, to be closed in some way
-  abbrev pub TakesBack : Held R W inward incoming reader outward writer → Connection (Gathered R) (Outgoing W)
-      → Held R W inward incoming reader outward writer → Type 0
+  abbrev pub TakesBack : Held R W inward incoming reader outward writer × ℕ → Connection (Gathered R) (Outgoing W)
+      → Held R W inward incoming reader outward writer × ℕ → Type 0
   TakesBack old given new = (closing : Closing) × (route : Route) × GetsBack old given closing route new
 
-  -- A loss that was noted is told of, or none if none is noted.
-  abbrev pub TellsNext : Held R W inward incoming reader outward writer → Option Loss → Held R W inward incoming reader outward writer
-      → Type 0
+  -- A loss that was noted is told of, or none if none is noted. None comes, and the gate gives none.
+  abbrev pub TellsNext : Held R W inward incoming reader outward writer × ℕ → Option Loss
+      → Held R W inward incoming reader outward writer × ℕ → Type 0
   TellsNext old told new =
-      (between : Book (Slot R W inward incoming reader outward writer) R W) × Keep (book_of old) between
-      × (new.slots.items ≡ between.slots) × (new.leaving.items ≡ between.leaving)
-      × TellsOf between.losses told new.losses
+      (between : Book (Slot R W inward incoming reader outward writer) R W) × Keep 0 (book_of old.0) between
+      × (new.0.slots.items ≡ between.slots) × (new.0.leaving.items ≡ between.leaving)
+      × TellsOf between.losses told new.0.losses × (new.1 ≡ old.1)

@@ -10,6 +10,7 @@ use Rattle.moo_desk.specs.declared.gathered.Gathered.{Gathered}
 use Rattle.moo_desk.specs.declared.leaving.Leaving.{Leaving}
 use Rattle.moo_desk.specs.declared.outgoing.Outgoing.{Outgoing}
 use Rattle.moo_desk.specs.declared.slot.Slot.{Slot}
+use Rattle.moo_desk.specs.Stages.{MayFollow}
 
 -- More of a request was gathered: whoever reads sees no difference.
 abbrev pub GathersOn : {R : Type 0} → Reading.Ghosts R → Gathered R → Gathered R → Type 0
@@ -27,11 +28,12 @@ SendsOn writer old new =
 module _ {R W : Type 0}
     {inward : Inward.Ghosts R} {incoming : Incoming.Ghosts R} {reader : Reading.Ghosts R} {outward : Outward.Ghosts W}
     {writer : Writing.Ghosts W} where
-  -- at most whether it is looked at changed
-  abbrev pub IsOnlyWoken : Slot R W inward incoming reader outward writer → Slot R W inward incoming reader outward writer → Type 0
-  IsOnlyWoken old new =
-      (new.reader ≡ old.reader) × (new.writer ≡ old.writer) × (new.is_limited ≡ old.is_limited) × (new.rests ≡ old.rests)
-      × (new.cause ≡ old.cause)
+  -- At most whether it is looked at changed: one that was to be looked at still is.
+  pub record IsOnlyWoken (old new : Slot R W inward incoming reader outward writer) : Type 0 where
+    pub halves : (new.reader ≡ old.reader) × (new.writer ≡ old.writer) × (new.is_limited ≡ old.is_limited)
+    pub ends : (new.rests ≡ old.rests) × (new.cause ≡ old.cause)
+    pub times : (new.since ≡ old.since) × (new.heard ≡ old.heard) × (new.looked ≡ old.looked)
+    pub due : (new.mark ≡ old.mark) × (old.is_due ≡ true → new.is_due ≡ true)
 
   -- The same connection while its request is gathered. Once it is to be handed out nothing more is read of it, and it isn't given up.
   pub record IsGathered (old new : Slot R W inward incoming reader outward writer) : Type 0 where
@@ -39,10 +41,13 @@ module _ {R W : Type 0}
     pub peer : inward.peer new.reader.reader ≡ inward.peer old.reader.reader
     pub answer : new.writer ≡ old.writer
     pub limited : new.is_limited ≡ old.is_limited
+    pub since : new.since ≡ old.since
     pub rests : old.rests ≡ true → (new.rests ≡ true) × (new.reader ≡ old.reader) × (new.cause ≡ old.cause)
 
--- The same connection after its request was judged, with the answer to this peer.
+-- The same connection after its request was judged, with the answer to this peer. An answer that was sent whole isn't lost later, and one
+-- that is lost isn't sent.
 pub record IsLater {R W : Type 0} (writer : Writing.Ghosts W) (to : W → ℤ) (old new : Leaving R W) : Type 0 where
   pub answer : SendsOn writer old.writer new.writer
   pub peer : to new.writer.writer ≡ to old.writer.writer
   pub route : new.route ≡ old.route
+  pub stage : MayFollow old.stage new.stage

@@ -1,8 +1,11 @@
+pub mod Read
+pub mod Filling
 pub mod Ripe
 pub mod Broken
 pub mod Stages
 pub mod Each
 pub mod Later
+pub mod Rounds
 pub mod Pairs
 pub mod Told
 pub mod Deeds

@@ -1,7 +1,8 @@
 //! The desk: connections side by side, and the next one whose request is whole.
 
-ghost use Rattle.std.specs.Prelude.{◌≡◌, [], true, IfOk};
-ghost use Rattle.moo_desk.specs.Deeds.{Goes, HoldsNone, Keep, book_of};
+ghost use Rattle.std.specs.Prelude.{◌≡◌, ◌≢◌, ◌≤◌, ◌*◌, [], true, IfOk};
+ghost use Rattle.std.specs.Duration.{as_nanos};
+ghost use Rattle.moo_desk.specs.Deeds.{Admits, Goes, HoldsNone, Keep, book_of};
 ghost use Rattle.moo_desk.specs.Exchange.{GetsBack, Hands, TakesBack, TellsNext, with_back};
 
 use crate::gate::{Gate, NEWS, Taken};
@@ -55,7 +56,7 @@ pub struct Desk<'a, G: Gate, C> {
 impl<'a, G: Gate + Drop, C: Clock> Desk<'a, G, C> {
     /// A desk with no connections, and room for all that it may have.
     pub fn new(alloc: Global, clock: &'a C, gate: G) -> Result<Desk<'a, G, C>, AllocError>
-        ensures { IfOk result (λ desk. HoldsNone desk.held) }
+        ensures { IfOk result (λ desk. HoldsNone desk.held × (desk.gate ≡ gate)) }
     {
         Ok(Desk {
             clock,
@@ -77,7 +78,7 @@ impl<'a, G: Gate + Drop, C: Clock> Desk<'a, G, C> {
 
     /// A mark that no other connection has.
     fn next_mark(&mut self) -> usize
-        ensures { self.new.held ≡ self.old.held }
+        ensures { (self.new.held ≡ self.old.held) × (self.new.gate ≡ self.old.gate) }
     {
         self.mark = self.mark.wrapping_add(1).max(NEWS + 1);
         self.mark
@@ -85,7 +86,9 @@ impl<'a, G: Gate + Drop, C: Clock> Desk<'a, G, C> {
 
     /// Takes the connection that came, if one did.
     fn take_one(&mut self, now: Duration) -> Took
-        ensures { Goes self.old.held self.new.held }
+        ensures one { Admits 1 (book_of self.old.held, G.gave self.old.gate) (book_of self.new.held, G.gave self.new.gate) }
+        ensures none { result ≢ Took.Lost →
+            Admits 0 (book_of self.old.held, G.gave self.old.gate) (book_of self.new.held, G.gave self.new.gate) }
     {
         match self.gate.take() {
             Taken::Nobody => {
@@ -108,7 +111,9 @@ impl<'a, G: Gate + Drop, C: Clock> Desk<'a, G, C> {
     /// Takes the next connection, if one came and so many are still to come. If there is no room, it is taken in place of another. While a
     /// request that is whole is to be judged none is taken, so that whoever came first is judged first.
     fn take_next(&mut self, left: usize, now: Duration) -> Took
-        ensures { Goes self.old.held self.new.held }
+        ensures one { Admits 1 (book_of self.old.held, G.gave self.old.gate) (book_of self.new.held, G.gave self.new.gate) }
+        ensures none { result ≢ Took.Lost →
+            Admits 0 (book_of self.old.held, G.gave self.old.gate) (book_of self.new.held, G.gave self.new.gate) }
     {
         let is_full = self.held.is_full();
         let has_room = self.held.slots.len() < left && (!is_full || self.held.has_spare(now));
@@ -116,14 +121,17 @@ impl<'a, G: Gate + Drop, C: Clock> Desk<'a, G, C> {
             return Took::Nobody;
         }
         let took = self.take_one(now);
-        if is_full && took == Took::One {
+        if took == Took::One {
             self.held.shed(now);
         }
         took
     }
 
     /// How long the desk waits at most, and how long it doesn't look at a connection of which nothing was told.
-    fn period(&self) -> Duration {
+    fn period(&self) -> Duration
+        ensures most { as_nanos result ≤ PAUSE * 1_000_000 }
+        ensures sends { self.now.held.leaving.items ≢ [] → as_nanos result ≤ GRACE * 1_000_000 }
+    {
         if self.held.leaving.is_empty() {
             Duration::from_millis(PAUSE)
         } else {
@@ -133,7 +141,8 @@ impl<'a, G: Gate + Drop, C: Clock> Desk<'a, G, C> {
 
     /// Waits until something may have changed, but not past a time at which something may be due.
     fn pause(&mut self, now: Duration)
-        ensures { Goes self.old.held self.new.held }
+        ensures all { Goes self.old.held self.new.held }
+        ensures gate { G.gave self.new.gate ≡ G.gave self.old.gate }
     {
         let most = self.period();
         match self.held.spared(now) {
@@ -144,7 +153,8 @@ impl<'a, G: Gate + Drop, C: Clock> Desk<'a, G, C> {
 
     /// Waits so, unless something changed.
     fn pause_unless(&mut self, changed: bool, now: Duration)
-        ensures { Goes self.old.held self.new.held }
+        ensures all { Goes self.old.held self.new.held }
+        ensures gate { G.gave self.new.gate ≡ G.gave self.old.gate }
     {
         if !changed {
             self.pause(now);
@@ -153,7 +163,8 @@ impl<'a, G: Gate + Drop, C: Clock> Desk<'a, G, C> {
 
     /// Waits for so long at most, and has those be looked at of which something is told.
     fn wait(&mut self, most: Duration)
-        ensures { Goes self.old.held self.new.held }
+        ensures all { Goes self.old.held self.new.held }
+        ensures gate { G.gave self.new.gate ≡ G.gave self.old.gate }
     {
         watch_all(&mut self.gate, &mut self.held.slots);
         self.gate.wait(most, &mut self.told);
@@ -164,7 +175,8 @@ impl<'a, G: Gate + Drop, C: Clock> Desk<'a, G, C> {
 
     /// Has those be looked at of which something was told.
     fn wake_told(&mut self)
-        ensures { Goes self.old.held self.new.held }
+        ensures all { Goes self.old.held self.new.held }
+        ensures gate { G.gave self.new.gate ≡ G.gave self.old.gate }
     {
         for mark in &self.told {
             self.has_news |= *mark == NEWS;
@@ -174,7 +186,8 @@ impl<'a, G: Gate + Drop, C: Clock> Desk<'a, G, C> {
 
     /// Asks what may have changed, if that is due, so that nobody waits for long though some are always whole.
     fn ask(&mut self, now: Duration)
-        ensures { Goes self.old.held self.new.held }
+        ensures all { Goes self.old.held self.new.held }
+        ensures gate { G.gave self.new.gate ≡ G.gave self.old.gate }
     {
         let is_due = now.saturating_sub(self.asked) > Duration::from_millis(PERIOD);
         if is_due || self.turns >= TURNS {
@@ -184,7 +197,8 @@ impl<'a, G: Gate + Drop, C: Clock> Desk<'a, G, C> {
 
     /// Has each be looked at, if that is due.
     fn sweep(&mut self, now: Duration)
-        ensures { Goes self.old.held self.new.held }
+        ensures all { Goes self.old.held self.new.held }
+        ensures gate { G.gave self.new.gate ≡ G.gave self.old.gate }
     {
         if now.saturating_sub(self.swept) >= self.period() {
             self.swept = now;
@@ -195,7 +209,8 @@ impl<'a, G: Gate + Drop, C: Clock> Desk<'a, G, C> {
 
     /// Asks what may have changed, and has each be looked at, as that is due.
     fn listen(&mut self, now: Duration)
-        ensures { Goes self.old.held self.new.held }
+        ensures all { Goes self.old.held self.new.held }
+        ensures gate { G.gave self.new.gate ≡ G.gave self.old.gate }
     {
         self.ask(now);
         self.sweep(now);
@@ -204,7 +219,9 @@ impl<'a, G: Gate + Drop, C: Clock> Desk<'a, G, C> {
     /// Does what can be done without waiting: takes a connection, gathers and sends. What came of taking one, and whether anything else
     /// changed.
     fn go_round(&mut self, routes: &Routes, left: u32, now: Duration) -> (Took, bool)
-        ensures { Goes self.old.held self.new.held }
+        ensures one { Admits 1 (book_of self.old.held, G.gave self.old.gate) (book_of self.new.held, G.gave self.new.gate) }
+        ensures none { result.0 ≢ Took.Lost →
+            Admits 0 (book_of self.old.held, G.gave self.old.gate) (book_of self.new.held, G.gave self.new.gate) }
     {
         self.listen(now);
         let took = self.take_next(left as usize, now);
@@ -216,7 +233,8 @@ impl<'a, G: Gate + Drop, C: Clock> Desk<'a, G, C> {
 
     /// Sends what can be sent at once, and holds the connection until its answer is sent or lost.
     fn hold(&mut self, mut leaving: Leaving<G::Reader, G::Writer>, now: Duration)
-        ensures { Keep (with_back (book_of self.old.held) leaving) (book_of self.new.held) }
+        ensures all { Keep 0 (with_back (book_of self.old.held) leaving) (book_of self.new.held) }
+        ensures gate { G.gave self.new.gate ≡ G.gave self.old.gate }
     {
         leaving.begin(now);
         if leaving.is_over() {
@@ -238,6 +256,7 @@ impl<'a, G: Gate + Drop, C: Clock> Desk<'a, G, C> {
     /// Waits until each answer is sent or lost. After so many rounds that no system gets there, what is left is given up.
     fn send_out(&mut self)
         ensures all { Goes self.old.held self.new.held }
+        ensures gate { G.gave self.new.gate ≡ G.gave self.old.gate }
         ensures none { self.new.held.leaving.items ≡ [] }
     {
         for _ in 0..u64::MAX {
@@ -254,14 +273,15 @@ impl<'a, G: Gate + Drop, C: Clock> Desk<'a, G, C> {
 }
 
 impl<'a, G: Gate + Drop, C: Clock> Arrivals for Desk<'a, G, C> {
-    // A connection is handed out only once its request is whole, or nothing more of it comes, and isn't held any more.
-    ghost hands_out = { λ old handed new. Hands old.held handed new.held };
+    // A connection is handed out only once its request is whole, or nothing more of it comes, and isn't held any more. Each other that the
+    // gate gave is, but for one at most that was lost as it came, after which none is handed out.
+    ghost hands_out = { λ old handed new. Hands (old.held, G.gave old.gate) handed (new.held, G.gave new.gate) };
 
     // One that is given back is held until all of its answer was sent, or its loss is noted.
-    ghost takes_back = { λ old given new. TakesBack old.held given new.held };
+    ghost takes_back = { λ old given new. TakesBack (old.held, G.gave old.gate) given (new.held, G.gave new.gate) };
 
     // A loss that was noted is told of, once; none is told of only if none is noted.
-    ghost loses = { λ old told new. TellsNext old.held told new.held };
+    ghost loses = { λ old told new. TellsNext (old.held, G.gave old.gate) told (new.held, G.gave new.gate) };
 
     type Reader = Gathered<G::Reader>;
 
@@ -272,7 +292,7 @@ impl<'a, G: Gate + Drop, C: Clock> Arrivals for Desk<'a, G, C> {
         routes: &Routes,
         left: u32,
     ) -> Option<Connection<Gathered<G::Reader>, Outgoing<G::Writer>>>
-        ensures hands { Hands self.old.held result self.new.held }
+        ensures hands { Hands (self.old.held, G.gave self.old.gate) result (self.new.held, G.gave self.new.gate) }
     {
         for _ in 0..u64::MAX {
             let now = self.now();
@@ -300,10 +320,10 @@ impl<'a, G: Gate + Drop, C: Clock> Arrivals for Desk<'a, G, C> {
         closing: Closing,
         route: Route,
     )
-        ensures back { TakesBack self.old.held connection self.new.held }
+        ensures back { TakesBack (self.old.held, G.gave self.old.gate) connection (self.new.held, G.gave self.new.gate) }
 
         // It is held with this route, and closed so.
-        ensures gets { GetsBack self.old.held connection closing route self.new.held }
+        ensures gets { GetsBack (self.old.held, G.gave self.old.gate) connection closing route (self.new.held, G.gave self.new.gate) }
     {
         let now = self.now();
         let leaving = Leaving {
@@ -322,7 +342,7 @@ impl<'a, G: Gate + Drop, C: Clock> Arrivals for Desk<'a, G, C> {
     }
 
     fn settle(&mut self, is_last: bool) -> Option<Loss>
-        ensures tells { TellsNext self.old.held result self.new.held }
+        ensures tells { TellsNext (self.old.held, G.gave self.old.gate) result (self.new.held, G.gave self.new.gate) }
         ensures last { is_last ≡ true → self.new.held.leaving.items ≡ [] }
     {
         if is_last {

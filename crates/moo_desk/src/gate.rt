@@ -1,9 +1,10 @@
 //! Where connections come from.
 
-ghost use Rattle.std.specs.Prelude.{◌≡◌, ℤ};
+ghost use Rattle.std.specs.Prelude.{◌≡◌, ◌<◌, ℕ, ℤ, length};
 ghost use Rattle.std.specs.Io.{ReadsAtMost, WritesAtMost};
 ghost use Rattle.std.specs.Io.KnownBytes.{ReadConsumes, WriteAppends};
-ghost use Rattle.moo_desk.specs.Pairs.{IsOfOnePeer};
+ghost use Rattle.moo_desk.specs.Pairs.{CountsTaken, IsOfOnePeer};
+ghost use Rattle.moo_desk.specs.Read.{Gave};
 
 use moo_http_request::Incoming;
 use std::io::{Result, Write};
@@ -27,15 +28,21 @@ pub enum Taken<R, W> {
 }
 
 /// The reader of a peer. Whose it is, no read changes.
+///
+/// A function over `R: Inward` is proved for all readers. So it can say of none that it was read, or what a read gave, unless it read it.
 pub trait Inward: Incoming {
     /// The number of its connection.
     ghost peer: { Self → ℤ };
+
+    /// The reader before a read, what the read gave, and the reader after it.
+    ghost reads: { Self → Gave → Self → Type 0 };
 
     /// Reads as `Read::read` does.
     fn take_in(&mut self, buf: &mut [u8]) -> Result<usize>
         ensures bound { ReadsAtMost result buf.new }
         ensures bytes { ReadConsumes (Self.remaining self.old) (Self.remaining self.new) result buf.new }
-        ensures peer { peer self.new ≡ peer self.old };
+        ensures peer { peer self.new ≡ peer self.old }
+        ensures read { 0 < length buf.new → reads self.old result self.new };
 }
 
 /// The writer of a peer. Whose it is, no write changes.
@@ -56,18 +63,25 @@ pub trait Gate {
 
     type Writer: Outward + OpenStream + Drop;
 
+    /// How many connections it gave.
+    ghost gave: { Self → ℕ };
+
     /// Takes the next connection, if one is there: the reader and the writer of one peer. If it takes none and one is there, the next wait
     /// tells `NEWS`.
     fn take(&mut self) -> Taken<Self::Reader, Self::Writer>
-        ensures { IsOfOnePeer Self.Reader.peer Self.Writer.peer result };
+        ensures pair { IsOfOnePeer Self.Reader.peer Self.Writer.peer result }
+        ensures count { CountsTaken (gave self.old) result (gave self.new) };
 
     /// From now on a wait also ends when bytes may have come to this reader, and tells this mark then; whether it does.
-    fn watch(&mut self, reader: &Self::Reader, mark: usize) -> bool;
+    fn watch(&mut self, reader: &Self::Reader, mark: usize) -> bool
+        ensures { gave self.new ≡ gave self.old };
 
     /// The same of the connection of this writer, and also when the writer may take more. This mark is told in place of an earlier one.
-    fn watch_writer(&mut self, writer: &Self::Writer, mark: usize) -> bool;
+    fn watch_writer(&mut self, writer: &Self::Writer, mark: usize) -> bool
+        ensures { gave self.new ≡ gave self.old };
 
     /// Waits until something that is watched may have changed, but no longer than this. What changed is told by its mark, and that a
     /// connection may have come by `NEWS`. A mark may be told though nothing changed. If one is lost, it only takes longer.
-    fn wait(&mut self, most: Duration, told: &mut Vec<usize>);
+    fn wait(&mut self, most: Duration, told: &mut Vec<usize>)
+        ensures { gave self.new ≡ gave self.old };
 }

@@ -2,6 +2,7 @@
 
 ghost use Rattle.std.specs.Prelude.{◌≡◌, ◌≤◌, ◌<◌, ◌++◌, ℕ, List, [], length, drop};
 ghost use Rattle.std.specs.Io.KnownBytes.{Keeps, prepend_known};
+ghost use Rattle.moo_desk.specs.declared.gathered.Coming.TheVariants.{More as StillMore};
 
 use crate::gate::Inward;
 use moo_arrivals::Cause;
@@ -49,7 +50,7 @@ pub struct Gathered<R> {
 impl<R> Gathered<R> {
     /// Nothing was gathered yet.
     pub fn new(alloc: Global, reader: R) -> Gathered<R>
-        ensures { (result.reader ≡ reader) × (result.bytes.items ≡ []) × (result.at ≡ 0) }
+        ensures { (result.reader ≡ reader) × (result.bytes.items ≡ []) × (result.at ≡ 0) × (result.coming ≡ StillMore) }
     {
         Gathered {
             reader,
@@ -61,6 +62,8 @@ impl<R> Gathered<R> {
 }
 
 impl<R: Inward> Gathered<R> {
+    ghost use Rattle.moo_desk.specs.Filling.{Fills};
+
     /// Takes a piece of what the reader has now, up to so many bytes in all. Whoever reads sees no difference.
     pub fn fill(&mut self, limit: usize) -> Filled
         requires { length self.old.bytes.items < limit }
@@ -68,8 +71,8 @@ impl<R: Inward> Gathered<R> {
             (prepend_known (drop self.new.at self.new.bytes.items) (R.remaining self.new.reader)) }
         ensures bound { length self.new.bytes.items ≤ limit }
         ensures grows { (more : List ℕ) × (self.new.bytes.items ≡ self.old.bytes.items ++ more) }
-        ensures same { self.new.coming ≡ self.old.coming }
-        ensures peer { R.peer self.new.reader ≡ R.peer self.old.reader }
+        ensures same { (self.new.coming ≡ self.old.coming) × (R.peer self.new.reader ≡ R.peer self.old.reader) }
+        ensures fills { Fills R.reads self.old self.new result }
     {
         let mut piece = [0; PIECE];
         let room = (limit - self.bytes.len()).min(piece.len());

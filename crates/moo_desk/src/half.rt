@@ -46,9 +46,11 @@ impl Incoming for Half {
     }
 }
 
-// It is known by the number of its socket.
+// It is known by the number of its socket. A socket tells nothing of what it was asked.
 impl Inward for Half {
     ghost peer = { λ it. stream_raw_fd it.socket.value };
+
+    ghost reads = { λ _ _ _. ⊤ };
 
     fn take_in(&mut self, buf: &mut [u8]) -> Result<usize> {
         let mut socket = self.socket.as_ref();

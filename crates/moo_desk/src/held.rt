@@ -1,10 +1,12 @@
 //! The connections that a desk holds: those whose requests are gathered, those whose answers are sent, and the losses that were noted.
 
-ghost use Rattle.std.specs.Prelude.{◌≡◌, ◌⊎◌, [], IfOk};
+ghost use Rattle.std.specs.Prelude.{◌≡◌, ◌⊎◌, ◌+◌, ◌≤◌, ◌<◌, ⊤, [], true, false, length, min, IfOk};
 ghost use Rattle.moo_arrivals.specs.declared.cause.Cause.{Cause as Why};
 ghost use Rattle.moo_desk.specs.declared.leaving.Stage.TheVariants.{Done, Lost};
 ghost use Rattle.moo_desk.specs.Deeds.{LetsGo, Goes, HoldsNone, book_of};
+ghost use Rattle.moo_desk.specs.Each.{Each};
 ghost use Rattle.moo_desk.specs.Exchange.{TakesSlot};
+ghost use Rattle.moo_desk.specs.Rounds.{IsTimed, IsWokenFor, ReadsDue, gathered_of};
 
 use crate::gate::{Inward, Outward};
 use crate::leaving::Leaving;
@@ -47,15 +49,23 @@ impl<R: Inward + OpenStream + Drop, W: Outward + OpenStream + Drop> Held<R, W> {
         })
     }
 
-    pub fn is_full(&self) -> bool {
-        self.slots.len().saturating_add(self.leaving.len()) >= MOST
+    /// How many connections are held.
+    fn count(&self) -> usize
+        ensures { result ≡ min (length self.now.slots.items + length self.now.leaving.items) usize.MAX }
+    {
+        self.slots.len().saturating_add(self.leaving.len())
+    }
+
+    pub fn is_full(&self) -> bool
+        ensures full { result ≡ true → MOST ≤ length self.now.slots.items + length self.now.leaving.items }
+        ensures room { result ≡ false → length self.now.slots.items + length self.now.leaving.items < MOST }
+    {
+        self.count() >= MOST
     }
 
     /// The place of the oldest unfinished request that may be ended.
     fn stale(&self, now: Duration) -> Option<usize> {
-        self.slots
-            .iter()
-            .position(|slot| slot.is_older(now, Duration::from_millis(GRACE)))
+        self.slots.iter().position(|slot| slot.is_stale(now))
     }
 
     /// The place of a connection that only waits for its peer's last bytes.
@@ -70,32 +80,40 @@ impl<R: Inward + OpenStream + Drop, W: Outward + OpenStream + Drop> Held<R, W> {
         self.lingering().is_some() || self.stale(now).is_some()
     }
 
-    /// Ends the connection that can best be spared, if one can be: one that lingers, or else the oldest unfinished request.
+    /// If more are held than may be, ends the connection that can best be spared, if one can be: one that lingers, or else the oldest
+    /// unfinished request.
     pub fn shed(&mut self, now: Duration)
-        ensures { Goes self.old self.new }
+        ensures all { Goes self.old self.new }
+        ensures few { length self.old.slots.items + length self.old.leaving.items ≤ MOST → self.new ≡ self.old }
+        ensures times { Each (IsTimed now) self.old.slots.items self.new.slots.items }
     {
+        if self.count() <= MOST {
+            return;
+        }
         if let Some(place) = self.lingering() {
             self.cut_answer(place);
         } else if let Some(place) = self.stale(now) {
-            self.cut_request(place);
+            self.cut_request(place, now);
         }
     }
 
     /// Gives up the answer at this place.
     fn cut_answer(&mut self, place: usize)
-        ensures { Goes self.old self.new }
+        ensures all { Goes self.old self.new }
+        ensures slots { self.new.slots ≡ self.old.slots }
     {
         if place < self.leaving.len() {
             self.leaving[place].give_up(Cause::Crowded);
         }
     }
 
-    /// Gives up the request at this place, if it is unfinished. It isn't read any more, and handed out so.
-    fn cut_request(&mut self, place: usize)
-        ensures { Goes self.old self.new }
+    /// Gives up the request at this place, if it may be ended. It isn't read any more, and handed out so.
+    fn cut_request(&mut self, place: usize, now: Duration)
+        ensures all { Goes self.old self.new }
+        ensures times { Each (IsTimed now) self.old.slots.items self.new.slots.items }
     {
-        if place < self.slots.len() && !self.slots[place].rests {
-            self.slots[place].give_up(Cause::Crowded);
+        if place < self.slots.len() && self.slots[place].is_stale(now) {
+            self.slots[place].give_up(Cause::Crowded, now);
         }
     }
 
@@ -183,14 +201,19 @@ impl<R: Inward + OpenStream + Drop, W: Outward + OpenStream + Drop> Held<R, W> {
 
     /// Gathers what is there; whether anything changed.
     pub fn gather(&mut self, routes: &Routes, now: Duration) -> bool
-        ensures { Goes self.old self.new }
+        ensures all { Goes self.old self.new }
+
+        // Each that is due is read, or is to be handed out after this; of very much the first unfinished one.
+        ensures reads { ReadsDue (gathered_of self.old.slots.items < BUDGET) self.old.slots.items self.new.slots.items }
+        ensures times { Each (IsTimed now) self.old.slots.items self.new.slots.items }
     {
         gather_all(&mut self.slots, routes, now)
     }
 
     /// Has those be looked at that have this mark.
     pub fn wake_at(&mut self, mark: usize)
-        ensures { Goes self.old self.new }
+        ensures all { Goes self.old self.new }
+        ensures wakes { Each (IsWokenFor (λ it. it ≡ mark)) self.old.slots.items self.new.slots.items }
     {
         wake_slots(&mut self.slots, mark);
         wake_leaving(&mut self.leaving, mark);
@@ -198,7 +221,8 @@ impl<R: Inward + OpenStream + Drop, W: Outward + OpenStream + Drop> Held<R, W> {
 
     /// Has each be looked at.
     pub fn wake_all(&mut self)
-        ensures { Goes self.old self.new }
+        ensures all { Goes self.old self.new }
+        ensures wakes { Each (IsWokenFor (λ _. ⊤)) self.old.slots.items self.new.slots.items }
     {
         wake_all_slots(&mut self.slots);
         wake_all_leaving(&mut self.leaving);
@@ -206,7 +230,8 @@ impl<R: Inward + OpenStream + Drop, W: Outward + OpenStream + Drop> Held<R, W> {
 
     /// If too much of answers is held and a request is whole, gives up an answer of which its peer took nothing for a while.
     pub fn relieve(&mut self, now: Duration)
-        ensures { Goes self.old self.new }
+        ensures all { Goes self.old self.new }
+        ensures slots { self.new.slots ≡ self.old.slots }
     {
         if held(&self.leaving) < BUDGET || !self.slots.iter().any(|slot| slot.rests) {
             return;

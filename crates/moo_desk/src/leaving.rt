@@ -64,14 +64,14 @@ pub struct Leaving<R, W> {
 impl<R, W> Leaving<R, W> {
     /// It is looked at if it has this mark.
     pub fn wake_at(&mut self, mark: usize)
-        ensures { (self.new.writer ≡ self.old.writer) × (self.new.route ≡ self.old.route) }
+        ensures { (self.new.writer ≡ self.old.writer) × (self.new.route ≡ self.old.route) × (self.new.stage ≡ self.old.stage) }
     {
         self.is_due |= self.mark == mark;
     }
 
     /// It is looked at, since something may have changed.
     pub fn wake(&mut self)
-        ensures { (self.new.writer ≡ self.old.writer) × (self.new.route ≡ self.old.route) }
+        ensures { (self.new.writer ≡ self.old.writer) × (self.new.route ≡ self.old.route) × (self.new.stage ≡ self.old.stage) }
     {
         self.is_due = true;
     }
@@ -201,6 +201,7 @@ impl<R: Inward + OpenStream, W: Outward + OpenStream> Leaving<R, W> {
         ensures invisible { Keeps (append_known (W.contents self.old.writer.writer) (drop self.old.writer.sent self.old.writer.text.items))
             (append_known (W.contents self.new.writer.writer) (drop self.new.writer.sent self.new.writer.text.items)) }
         ensures peer { W.peer self.new.writer.writer ≡ W.peer self.old.writer.writer }
+        ensures stage { MayFollow self.old.stage self.new.stage }
     {
         let _went = self.step(now) && self.step(now);
     }
@@ -211,6 +212,7 @@ impl<R: Inward + OpenStream, W: Outward + OpenStream> Leaving<R, W> {
         ensures invisible { Keeps (append_known (W.contents self.old.writer.writer) (drop self.old.writer.sent self.old.writer.text.items))
             (append_known (W.contents self.new.writer.writer) (drop self.new.writer.sent self.new.writer.text.items)) }
         ensures peer { W.peer self.new.writer.writer ≡ W.peer self.old.writer.writer }
+        ensures stage { MayFollow self.old.stage self.new.stage }
     {
         self.is_due && self.step(now)
     }

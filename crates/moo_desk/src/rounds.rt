@@ -1,7 +1,9 @@
 //! What is done for all connections in a round.
 
+ghost use Rattle.std.specs.Prelude.{◌≡◌, ◌<◌, ⊤, min};
 ghost use Rattle.moo_desk.specs.Each.{Each};
 ghost use Rattle.moo_desk.specs.Later.{IsGathered, IsLater};
+ghost use Rattle.moo_desk.specs.Rounds.{IsTimed, IsWokenFor, ReadsDue, gathered_of};
 
 use crate::gate::{Gate, Inward, Outward};
 use crate::leaving::Leaving;
@@ -19,13 +21,15 @@ pub fn gather_all<R: Inward, W: Outward>(
     routes: &Routes,
     now: Duration,
 ) -> bool
-    ensures { Each IsGathered slots.old slots.new }
+    ensures gathers { Each IsGathered slots.old slots.new }
+    ensures reads { ReadsDue (gathered_of slots.old < BUDGET) slots.old slots.new }
+    ensures times { Each (IsTimed now) slots.old slots.new }
 {
     let is_full = gathered(slots) >= BUDGET;
     let mut changed = false;
     let mut is_first = true;
     for slot in slots {
-        let is_next = !slot.rests && (is_first || !is_full);
+        let is_next = is_first | !is_full;
         is_first &= slot.rests;
         changed |= slot.turn(is_next, routes, now);
     }
@@ -33,10 +37,14 @@ pub fn gather_all<R: Inward, W: Outward>(
 }
 
 /// How many bytes were gathered.
-fn gathered<R: Inward, W: Outward>(slots: &[Slot<R, W>]) -> usize {
-    slots.iter().fold(0, |sum: usize, slot| {
-        sum.saturating_add(slot.reader.bytes.len())
-    })
+fn gathered<R: Inward, W: Outward>(slots: &[Slot<R, W>]) -> usize
+    ensures { result ≡ min (gathered_of slots.now) usize.MAX }
+{
+    let mut sum: usize = 0;
+    for slot in slots {
+        sum = sum.saturating_add(slot.reader.bytes.len());
+    }
+    sum
 }
 
 /// Steps each that is due; whether anything went or came.
@@ -66,7 +74,8 @@ pub fn held<R: Inward + OpenStream, W: Outward + OpenStream>(leaving: &[Leaving<
 
 /// Has a wait end when bytes come of any whose request isn't whole.
 pub fn watch_all<G: Gate>(gate: &mut G, slots: &mut [Slot<G::Reader, G::Writer>])
-    ensures { Each IsGathered slots.old slots.new }
+    ensures all { Each IsGathered slots.old slots.new }
+    ensures gate { G.gave gate.new ≡ G.gave gate.old }
 {
     for slot in slots {
         slot.watch(gate);
@@ -75,7 +84,8 @@ pub fn watch_all<G: Gate>(gate: &mut G, slots: &mut [Slot<G::Reader, G::Writer>]
 
 /// Has those requests be looked at that have this mark.
 pub fn wake_slots<R: Inward, W: Outward>(slots: &mut [Slot<R, W>], mark: usize)
-    ensures { Each IsGathered slots.old slots.new }
+    ensures gathers { Each IsGathered slots.old slots.new }
+    ensures wakes { Each (IsWokenFor (λ it. it ≡ mark)) slots.old slots.new }
 {
     for slot in slots {
         slot.wake_at(mark);
@@ -93,7 +103,8 @@ pub fn wake_leaving<R, W: Outward>(leaving: &mut [Leaving<R, W>], mark: usize)
 
 /// Has each request be looked at.
 pub fn wake_all_slots<R: Inward, W: Outward>(slots: &mut [Slot<R, W>])
-    ensures { Each IsGathered slots.old slots.new }
+    ensures gathers { Each IsGathered slots.old slots.new }
+    ensures wakes { Each (IsWokenFor (λ _. ⊤)) slots.old slots.new }
 {
     for slot in slots {
         slot.wake();

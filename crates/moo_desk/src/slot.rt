@@ -1,13 +1,15 @@
 //! A connection while its request is gathered.
 
-ghost use Rattle.std.specs.Prelude.{◌≡◌, true, false, [], drop};
+ghost use Rattle.std.specs.Prelude.{◌≡◌, ◌≤◌, ◌<◌, true, false, [], drop, length, IfSome, IfNone, Ok};
 ghost use Rattle.std.specs.Io.KnownBytes.{Keeps, prepend_known};
-ghost use Rattle.moo_desk.specs.declared.gathered.Coming.TheVariants.{Unread};
+ghost use Rattle.moo_desk.specs.declared.gathered.Coming.TheVariants.{More, Unread};
 ghost use Rattle.moo_http_request.specs.Whole.{IsWhole};
+ghost use Rattle.moo_desk.specs.Read.{HasFoundNothing, LastGave, MayGiveUp, MayStop, limit_of};
 ghost use Rattle.moo_desk.specs.Ripe.{IsKnownFrom, IsRipe};
 
 use crate::gate::{Gate, Inward, Outward};
 use crate::gathered::{Coming, Filled, Gathered};
+use crate::held::GRACE;
 use crate::outgoing::Outgoing;
 use moo_arrivals::Cause;
 use moo_http_request::{MAX_HEAD, Routes, Wanted, wants};
@@ -27,9 +29,10 @@ pub struct Slot<R: Inward, W: Outward> {
     pub writer: Outgoing<W>,
     /// Neither of them waits.
     pub is_limited: bool,
-    /// When it came, and when bytes of it came last.
+    /// When it came, when bytes of it came last, and when it was last seen whether that is too long ago.
     pub since: Duration,
     pub heard: Duration,
+    pub looked: Duration,
     /// Why it fails, if nothing more comes.
     pub cause: Cause,
     /// How many bytes the request has, once that is known.
@@ -45,12 +48,22 @@ pub struct Slot<R: Inward, W: Outward> {
     ghost pair: { R.peer reader.reader ≡ W.peer writer.writer },
     ghost known: { ∥ IsKnownFrom reader.bytes.items total ∥₁ },
     ghost ripe: { ∥ (rests ≡ true → IsRipe is_limited reader.coming reader.bytes.items) ∥₁ },
+
+    // Until then more of it may come, and has room.
+    ghost unfinished: { rests ≡ false → (reader.coming ≡ More) × (length reader.bytes.items < limit_of total) },
+
+    // Nothing more of it is read only if its peer has ended, or if it may be given up for its cause.
+    ghost stops: { ∥ MayStop R.reads reader.reader since heard looked cause reader.coming ∥₁ },
+
+    // It isn't due only if the last read of it found nothing there.
+    ghost idle: { ∥ (is_due ≡ false → HasFoundNothing R.reads reader.reader) ∥₁ },
 }
 
 /// How many bytes a request has that begins with these, once its head tells.
 fn total_of(routes: &Routes, bytes: &[u8], known: Option<usize>) -> Option<usize>
     requires { ∥ IsKnownFrom bytes.now known ∥₁ }
-    ensures { ∥ IsKnownFrom bytes.now result ∥₁ }
+    ensures known { ∥ IsKnownFrom bytes.now result ∥₁ }
+    ensures room { length bytes.now ≤ limit_of known → result ≡ None → length bytes.now < limit_of None }
 {
     let count = bytes.len();
     if known.is_some() || count == 0 || count > MAX_HEAD {
@@ -62,7 +75,23 @@ fn total_of(routes: &Routes, bytes: &[u8], known: Option<usize>) -> Option<usize
     }
 }
 
+/// Whether as many bytes came as the request has, if it begins with these.
+fn is_whole(bytes: &[u8], total: Option<usize>) -> bool
+    requires known { ∥ IsKnownFrom bytes.now total ∥₁ }
+    requires room { total ≡ None → length bytes.now < limit_of None }
+    ensures whole { result ≡ true → ∥ IsWhole bytes.now ∥₁ }
+    ensures room { result ≡ false → length bytes.now < limit_of total }
+{
+    match total {
+        Some(total) => bytes.len() >= total,
+        None => false,
+    }
+}
+
 impl<R: Inward, W: Outward> Slot<R, W> {
+    ghost use Rattle.moo_desk.specs.Later.{IsOnlyWoken};
+    ghost use Rattle.moo_desk.specs.Rounds.{IsStale};
+
     pub fn new(
         alloc: Global,
         reader: R,
@@ -74,6 +103,7 @@ impl<R: Inward, W: Outward> Slot<R, W> {
         requires { R.peer reader ≡ W.peer writer }
         ensures reader { (result.reader.reader ≡ reader) × (result.reader.bytes.items ≡ []) }
         ensures writer { (result.writer.writer ≡ writer) × (result.writer.sent ≡ 0) × (result.writer.text.items ≡ []) }
+        ensures due { (result.is_due ≡ true) × (result.mark ≡ mark) × (result.since ≡ now) × (result.heard ≡ now) }
     {
         Slot {
             reader: Gathered::new(alloc, reader),
@@ -81,6 +111,7 @@ impl<R: Inward, W: Outward> Slot<R, W> {
             is_limited,
             since: now,
             heard: now,
+            looked: now,
             cause: Cause::BrokenOff,
             total: None,
             rests: !is_limited,
@@ -92,24 +123,24 @@ impl<R: Inward, W: Outward> Slot<R, W> {
 
     /// It is looked at, since bytes may have come.
     pub fn wake(&mut self)
-        ensures { (self.new.reader ≡ self.old.reader) × (self.new.writer ≡ self.old.writer)
-            × (self.new.is_limited ≡ self.old.is_limited) × (self.new.rests ≡ self.old.rests) × (self.new.cause ≡ self.old.cause) }
+        ensures same { IsOnlyWoken self.old self.new }
+        ensures due { self.new.is_due ≡ true }
     {
         self.is_due = true;
     }
 
     /// It is looked at if it has this mark.
     pub fn wake_at(&mut self, mark: usize)
-        ensures { (self.new.reader ≡ self.old.reader) × (self.new.writer ≡ self.old.writer)
-            × (self.new.is_limited ≡ self.old.is_limited) × (self.new.rests ≡ self.old.rests) × (self.new.cause ≡ self.old.cause) }
+        ensures same { IsOnlyWoken self.old self.new }
+        ensures due { self.old.mark ≡ mark → self.new.is_due ≡ true }
     {
         self.is_due |= self.mark == mark;
     }
 
     /// From now on a wait ends when bytes come, if more are waited for and it can be watched.
     pub fn watch<G: Gate<Reader = R, Writer = W>>(&mut self, gate: &mut G)
-        ensures { (self.new.reader ≡ self.old.reader) × (self.new.writer ≡ self.old.writer)
-            × (self.new.is_limited ≡ self.old.is_limited) × (self.new.rests ≡ self.old.rests) × (self.new.cause ≡ self.old.cause) }
+        ensures same { IsOnlyWoken self.old self.new }
+        ensures gate { G.gave gate.new ≡ G.gave gate.old }
     {
         if !self.rests && !self.is_watched {
             self.is_watched = gate.watch(&self.reader.reader, self.mark);
@@ -117,12 +148,15 @@ impl<R: Inward, W: Outward> Slot<R, W> {
     }
 
     /// Nothing more is waited for, for this cause. What came of the request isn't judged, unless it is whole.
-    pub fn give_up(&mut self, cause: Cause)
+    pub fn give_up(&mut self, cause: Cause, now: Duration)
+        requires { ∥ MayGiveUp R.reads self.old.reader.reader self.old.since self.old.heard now cause ∥₁ }
         ensures stays { (self.new.reader.bytes ≡ self.old.reader.bytes) × (self.new.reader.at ≡ self.old.reader.at)
             × (self.new.reader.reader ≡ self.old.reader.reader) × (self.new.writer ≡ self.old.writer)
             × (self.new.is_limited ≡ self.old.is_limited) }
         ensures ends { (self.new.reader.coming ≡ Unread) × (self.new.rests ≡ true) × (self.new.cause ≡ cause) }
+        ensures times { (self.new.since ≡ self.old.since) × (self.new.heard ≡ self.old.heard) × (self.new.looked ≡ now) }
     {
+        self.looked = now;
         self.reader.coming = Coming::Unread;
         self.cause = cause;
         self.rests = true;
@@ -130,23 +164,31 @@ impl<R: Inward, W: Outward> Slot<R, W> {
 
     /// Its peer has ended. What came is judged.
     fn end(&mut self)
+        requires { ∥ LastGave R.reads (Ok 0) self.old.reader.reader ∥₁ }
         ensures stays { (self.new.reader.bytes ≡ self.old.reader.bytes) × (self.new.reader.at ≡ self.old.reader.at)
             × (self.new.reader.reader ≡ self.old.reader.reader) × (self.new.writer ≡ self.old.writer)
             × (self.new.is_limited ≡ self.old.is_limited) }
+        ensures ends { self.new.rests ≡ true }
+        ensures times { (self.new.since ≡ self.old.since) × (self.new.heard ≡ self.old.heard) × (self.new.looked ≡ self.old.looked) }
     {
         self.reader.coming = Coming::Nothing;
         self.rests = true;
     }
 
-    /// Whether its request is unfinished, and it came so long ago.
-    pub fn is_older(&self, now: Duration, age: Duration) -> bool
-        ensures { result ≡ true → self.now.rests ≡ false }
+    /// Whether its request is unfinished, and may be given up if another connection needs its place.
+    pub fn is_stale(&self, now: Duration) -> bool
+        ensures old { result ≡ true → IsStale now self.now }
+        ensures young { result ≡ false → ¬ (IsStale now self.now) }
     {
-        !self.rests && now.saturating_sub(self.since) > age
+        !self.rests && now.saturating_sub(self.since) > Duration::from_millis(GRACE)
     }
 
     /// Why it was waited for long enough, if it was.
-    fn lateness(&self, now: Duration) -> Option<Cause> {
+    fn lateness(&self, now: Duration) -> Option<Cause>
+        ensures some { IfSome result (λ cause. MayGiveUp R.reads self.now.reader.reader self.now.since self.now.heard now cause) }
+        ensures none { IfNone result (¬ (MayGiveUp R.reads self.now.reader.reader self.now.since self.now.heard now Cause.Silent)
+            × ¬ (MayGiveUp R.reads self.now.reader.reader self.now.since self.now.heard now Cause.Late)) }
+    {
         if now.saturating_sub(self.heard) > Duration::from_secs(SILENCE) {
             Some(Cause::Silent)
         } else if now.saturating_sub(self.since) > Duration::from_secs(PATIENCE) {
@@ -155,24 +197,11 @@ impl<R: Inward, W: Outward> Slot<R, W> {
             None
         }
     }
-
-    /// How many bytes are taken of it by now: of a head none beyond its limit, of a request none beyond its end.
-    fn limit(&self) -> usize {
-        self.total.unwrap_or(MAX_HEAD)
-    }
-
-    /// Whether as many bytes came as the request has.
-    fn is_whole(&self) -> bool
-        ensures { result ≡ true → ∥ IsWhole self.now.reader.bytes.items ∥₁ }
-    {
-        match self.total {
-            Some(total) => self.reader.bytes.len() >= total,
-            None => false,
-        }
-    }
 }
 
 impl<R: Inward, W: Outward> Slot<R, W> {
+    ghost use Rattle.moo_desk.specs.Rounds.{IsReadIfDue, IsTimed};
+
     /// Takes what is there of its request, without waiting; whether anything changed. Whoever reads sees no difference.
     pub fn step(&mut self, routes: &Routes, now: Duration) -> bool
         ensures invisible { Keeps (prepend_known (drop self.old.reader.at self.old.reader.bytes.items) (R.remaining self.old.reader.reader))
@@ -181,20 +210,19 @@ impl<R: Inward, W: Outward> Slot<R, W> {
         ensures writer { (self.new.writer ≡ self.old.writer) × (self.new.is_limited ≡ self.old.is_limited) }
         ensures rests { self.old.rests ≡ true →
             (self.new.rests ≡ true) × (self.new.reader ≡ self.old.reader) × (self.new.cause ≡ self.old.cause) }
+        ensures read { IsReadIfDue self.old self.new }
+        ensures times { IsTimed now self.old self.new }
     {
         if self.rests {
             return false;
         }
-        let limit = self.limit();
-        if self.reader.bytes.len() >= limit {
-            self.give_up(Cause::BrokenOff);
-            return true;
-        }
-        match self.reader.fill(limit) {
+        self.is_due = true;
+        // Of a head none are taken beyond its limit, and of a request none beyond its end.
+        match self.reader.fill(self.total.unwrap_or(MAX_HEAD)) {
             Filled::Grew => {
                 self.heard = now;
                 self.total = total_of(routes, &self.reader.bytes, self.total);
-                self.rests = self.is_whole();
+                self.rests = is_whole(&self.reader.bytes, self.total);
                 true
             }
             Filled::Ended => {
@@ -202,13 +230,13 @@ impl<R: Inward, W: Outward> Slot<R, W> {
                 true
             }
             Filled::Failed(cause) => {
-                self.give_up(cause);
+                self.give_up(cause, now);
                 true
             }
             Filled::Waits => {
                 self.is_due = false;
                 if let Some(cause) = self.lateness(now) {
-                    self.give_up(cause);
+                    self.give_up(cause, now);
                 }
                 self.rests
             }
@@ -223,6 +251,8 @@ impl<R: Inward, W: Outward> Slot<R, W> {
         ensures writer { (self.new.writer ≡ self.old.writer) × (self.new.is_limited ≡ self.old.is_limited) }
         ensures rests { self.old.rests ≡ true →
             (self.new.rests ≡ true) × (self.new.reader ≡ self.old.reader) × (self.new.cause ≡ self.old.cause) }
+        ensures read { may ≡ true → IsReadIfDue self.old self.new }
+        ensures times { IsTimed now self.old self.new }
     {
         may && self.is_due && self.step(routes, now)
     }

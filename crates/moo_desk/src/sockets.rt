@@ -1,6 +1,7 @@
 //! The one place with sockets.
 
-ghost use Rattle.std.specs.Prelude.{◌≡◌, [], true};
+ghost use Rattle.std.specs.Prelude.{◌≡◌, [], true, IfOk};
+ghost use Rattle.moo_desk.specs.Deeds.{HoldsNone};
 ghost use Rattle.moo_desk.specs.Exchange.{GetsBack, Hands, TakesBack, TellsNext};
 
 use crate::desk::Desk;
@@ -30,6 +31,8 @@ pub struct SocketGate {
     listener: TcpListener,
     /// A connection was taken since the last wait.
     has_taken: bool,
+    /// How many connections it gave.
+    gave: u64,
 }
 
 /// Has a change of this source end a wait, which then tells this mark.
@@ -65,7 +68,9 @@ fn is_no_file(error: &Error) -> bool {
 
 impl SocketGate {
     /// Binds a port of 127.0.0.1, and of no other address. An error if it can't be bound.
-    fn listen(rt: &HostRuntime, port: u16) -> Result<SocketGate> {
+    fn listen(rt: &HostRuntime, port: u16) -> Result<SocketGate>
+        ensures { IfOk result (λ gate. gate.gave ≡ 0) }
+    {
         let poll = Poll::new(rt)?;
         let events = Events::with_capacity(rt.alloc(), 64)?;
         let listener = TcpListener::bind(rt, (Ipv4Addr::LOCALHOST, port))?;
@@ -77,11 +82,14 @@ impl SocketGate {
             events,
             listener,
             has_taken: false,
+            gave: 0,
         })
     }
 }
 
 impl Gate for SocketGate {
+    ghost gave = { λ it. it.gave };
+
     type Reader = Half;
 
     type Writer = Half;
@@ -93,6 +101,9 @@ impl Gate for SocketGate {
         {
             return Taken::Nobody;
         }
+        let Some(gave) = self.gave.checked_add(1) else {
+            return Taken::NoRoom;
+        };
         let socket = match self.listener.accept() {
             Ok((socket, _)) => socket,
             Err(error) if error.kind() == ErrorKind::WouldBlock => return Taken::Nobody,
@@ -102,7 +113,10 @@ impl Gate for SocketGate {
         self.has_taken = true;
         let is_limited = socket.set_nonblocking(true).is_ok();
         match Half::both(self.alloc, socket) {
-            Some((reader, writer)) => Taken::Came(reader, writer, is_limited),
+            Some((reader, writer)) => {
+                self.gave = gave;
+                Taken::Came(reader, writer, is_limited)
+            }
             None => Taken::Failed,
         }
     }
@@ -134,7 +148,9 @@ pub struct SocketDesk<'a> {
 
 impl<'a> SocketDesk<'a> {
     /// Binds a port of 127.0.0.1. An error if it can't be bound.
-    pub fn listen(rt: &'a HostRuntime, port: u16) -> Result<SocketDesk<'a>> {
+    pub fn listen(rt: &'a HostRuntime, port: u16) -> Result<SocketDesk<'a>>
+        ensures { IfOk result (λ it. HoldsNone it.desk.held × (it.desk.gate.gave ≡ 0)) }
+    {
         let gate = SocketGate::listen(rt, port)?;
         let desk = Desk::new(rt.alloc(), rt, gate)?;
         Ok(SocketDesk { desk })
@@ -143,11 +159,11 @@ impl<'a> SocketDesk<'a> {
 
 // The desk's promises, of sockets.
 impl<'a> Arrivals for SocketDesk<'a> {
-    ghost hands_out = { λ old handed new. Hands old.desk.held handed new.desk.held };
+    ghost hands_out = { λ old handed new. Hands (old.desk.held, old.desk.gate.gave) handed (new.desk.held, new.desk.gate.gave) };
 
-    ghost takes_back = { λ old given new. TakesBack old.desk.held given new.desk.held };
+    ghost takes_back = { λ old given new. TakesBack (old.desk.held, old.desk.gate.gave) given (new.desk.held, new.desk.gate.gave) };
 
-    ghost loses = { λ old told new. TellsNext old.desk.held told new.desk.held };
+    ghost loses = { λ old told new. TellsNext (old.desk.held, old.desk.gate.gave) told (new.desk.held, new.desk.gate.gave) };
 
     type Reader = Gathered<Half>;
 
@@ -158,7 +174,7 @@ impl<'a> Arrivals for SocketDesk<'a> {
         routes: &Routes,
         left: u32,
     ) -> Option<Connection<Gathered<Half>, Outgoing<Half>>>
-        ensures hands { Hands self.old.desk.held result self.new.desk.held }
+        ensures hands { Hands (self.old.desk.held, self.old.desk.gate.gave) result (self.new.desk.held, self.new.desk.gate.gave) }
     {
         self.desk.accept(routes, left)
     }
@@ -169,16 +185,16 @@ impl<'a> Arrivals for SocketDesk<'a> {
         closing: Closing,
         route: Route,
     )
-        ensures back { TakesBack self.old.desk.held connection self.new.desk.held }
+        ensures back { TakesBack (self.old.desk.held, self.old.desk.gate.gave) connection (self.new.desk.held, self.new.desk.gate.gave) }
 
         // It is held with this route, and closed so.
-        ensures gets { GetsBack self.old.desk.held connection closing route self.new.desk.held }
+        ensures gets { GetsBack (self.old.desk.held, self.old.desk.gate.gave) connection closing route (self.new.desk.held, self.new.desk.gate.gave) }
     {
         self.desk.close(connection, closing, route)
     }
 
     fn settle(&mut self, is_last: bool) -> Option<Loss>
-        ensures tells { TellsNext self.old.desk.held result self.new.desk.held }
+        ensures tells { TellsNext (self.old.desk.held, self.old.desk.gate.gave) result (self.new.desk.held, self.new.desk.gate.gave) }
         ensures last { is_last ≡ true → self.new.desk.held.leaving.items ≡ [] }
     {
         self.desk.settle(is_last)

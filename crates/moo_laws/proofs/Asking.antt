@@ -1,5 +1,5 @@
 -- Calls that only read answer the same in worlds that look alike.
-use Rattle.moo_world.{proofs.Lemmas.{◌≡◌, Bool, true, false, List, arith, refl, sym, ap, subst, ◌∙◌, Option, Some, None, Result, Ok, is_some, unwrap_or, if◌then◌else◌, option_map, option_and_then, false≢true, none-some, same_Some, filter, map, length, nat_lt, Code, ObjNo, ObjRow, Value, VerbRow, Name, same_object, World, WorldObject, Slot, is_object, parent_of, slot_of, parents_same, names_same, property_names_of, row_passes, row_of, Outcome, Failed, check, found_or, named_call, world_call}, specs.declared.name.CallName.{CallName}, specs.declared.call.Call.{Call}, specs.declared.descriptor.Desc.{Desc}}
+use Rattle.moo_world.{proofs.Lemmas.{◌≡◌, Bool, true, false, List, arith, refl, sym, ap, subst, ◌∙◌, Option, Some, None, Result, Ok, is_some, unwrap_or, if◌then◌else◌, option_map, option_and_then, false≢true, none-some, same_Some, filter, map, length, nat_lt, Code, ObjNo, ObjRow, Value, VerbRow, Name, same_object, World, WorldObject, Slot, is_object, SameButSlots, parent_of, slot_of, parents_same, names_same, property_names_of, row_passes, row_of, Outcome, Failed, check, found_or, named_call, world_call}, specs.declared.name.CallName.{CallName}, specs.declared.call.Call.{Call}, specs.declared.descriptor.Desc.{Desc}}
 use Rattle.moo_world.specs.declared.name.CallName.TheVariants.{Valid, Parent, Children, IsPlayer, Players, MaxObject, Get, Properties, PropertyInfo, IsClearProperty, Verbs, VerbInfo, VerbArgs, AcceptList, Create, Chparent, Recycle, Move, SetPlayerFlag, Set, AddProperty, DeleteProperty, SetPropertyInfo, ClearProperty, AddVerb, DeleteVerb, SetVerbInfo, SetVerbArgs, SetAccept, Petition, Petitions, Grant, Decline}
 use Rattle.moo_world.specs.declared.descriptor.Desc.TheVariants.{Index, Name as a_word}
 use Rattle.moo_world.specs.declared.built_in.BuiltIn.{BuiltIn}
@@ -61,12 +61,24 @@ bare_verbs o = grind arith
 bare_some : (o : Option WorldObject) → is_some (option_map (with_slots (λ n. None)) o) ≡ is_some o
 bare_some o = grind arith
 
+module _ (w v : World) (same : SameButSlots w v) where
+  pub same_rows : row_of v ≡ row_of w
+  same_rows = (λ i x. sym (bare_row (v.object x)) i) ∙ ap row_of (sym same) ∙ (λ i x. bare_row (w.object x) i)
+
+  same_verbs : directory_of v ≡ directory_of w
+  same_verbs = (λ i x. unwrap_or (sym (bare_verbs (v.object x)) i) []) ∙ ap directory_of (sym same) ∙ (λ i x. unwrap_or (bare_verbs (w.object x) i) [])
+
+  -- the verb that a descriptor names
+  pub same_verb : (x : ObjNo) (d : Desc) → found_verb v x d ≡ found_verb w x d
+  same_verb x (Index n) = ap (λ (verbs : List VerbRow). option_and_then (λ place. option_map (λ verb. (place, verb)) (slice_get verbs place)) (option_and_then (λ place. if nat_lt place (length verbs) then Some place else None) (place_numbered n))) (ap (λ f. f x) same_verbs)
+  same_verb x (a_word word) = ap (λ (verbs : List VerbRow). option_and_then (λ place. option_map (λ verb. (place, verb)) (slice_get verbs place)) (position (λ verb. one_matches verb.names word) verbs)) (ap (λ f. f x) same_verbs)
+
 module _ (p : ObjNo) (w v : World) (alike : LookAlike p w v) where
   rows : row_of v ≡ row_of w
-  rows = (λ i x. sym (bare_row (v.object x)) i) ∙ ap row_of (sym alike.rest) ∙ (λ i x. bare_row (w.object x) i)
+  rows = same_rows w v alike.rest
 
   verbs_same : directory_of v ≡ directory_of w
-  verbs_same = (λ i x. unwrap_or (sym (bare_verbs (v.object x)) i) []) ∙ ap directory_of (sym alike.rest) ∙ (λ i x. unwrap_or (bare_verbs (w.object x) i) [])
+  verbs_same = same_verbs w v alike.rest
 
   pub there : is_object v ≡ is_object w
   there = (λ i x. sym (bare_some (v.object x)) i) ∙ ap is_object (sym alike.rest) ∙ (λ i x. bare_some (w.object x) i)
@@ -87,8 +99,7 @@ module _ (p : ObjNo) (w v : World) (alike : LookAlike p w v) where
   may_see verb = ap (λ b. b || (same_object p verb.owner || verb.bits.r)) (ap (λ f. f p) (passes (λ row. row.wizard)))
 
   one_verb : (x : ObjNo) (d : Desc) → found_verb v x d ≡ found_verb w x d
-  one_verb x (Index n) = ap (λ (verbs : List VerbRow). option_and_then (λ place. option_map (λ verb. (place, verb)) (slice_get verbs place)) (option_and_then (λ place. if nat_lt place (length verbs) then Some place else None) (place_numbered n))) (ap (λ f. f x) verbs_same)
-  one_verb x (a_word word) = ap (λ (verbs : List VerbRow). option_and_then (λ place. option_map (λ verb. (place, verb)) (slice_get verbs place)) (position (λ verb. one_matches verb.names word) verbs)) (ap (λ f. f x) verbs_same)
+  one_verb = same_verb w v alike.rest
 
   field_same : (x : ObjNo) (f : BuiltIn) → field_of v x f ≡ field_of w x f
   field_same x f = ap (λ (r : Option ObjRow). unwrap_or (option_map (field_in v x f) r) (Int (pos 0))) (ap (λ k. k x) rows) ∙ ap (λ (g : ObjRow → Value). unwrap_or (option_map g (row_of w x)) (Int (pos 0))) (λ i row. inside row f i)

@@ -100,7 +100,7 @@ kept_by w v p call k again = record {
 }
 
 -- what is done in the world alone
-done_in_world : (s next : State) (o : Outcome World) (v : Value) → in_world s o ≡ Done v next → o ≡ Done v next.world
+pub done_in_world : (s next : State) (o : Outcome World) (v : Value) → in_world s o ≡ Done v next → o ≡ Done v next.world
 done_in_world s next o v h = grind arith
 
 -- the calls of petitions give no new names
@@ -139,14 +139,18 @@ abbrev pub FormedBy : State → ObjNo → List Call → Type 0
 FormedBy s p [] = IsWellFormed s.world
 FormedBy s p (call ∷ calls) = IsWellFormed s.world × ((v : Value) (next : State) → batch_call s p call ≡ Done v next → FormedBy next p calls)
 
-still_none : (w v : World) (p : ObjNo) → NobodyRises w v → is_wizard w p ≡ false → is_wizard v p ≡ false
+pub still_none : (w v : World) (p : ObjNo) → NobodyRises w v → is_wizard w p ≡ false → is_wizard v p ≡ false
 still_none w v p rises none = by (is_wizard v p) refl
   where
     by : (b : Bool) → is_wizard v p ≡ b → is_wizard v p ≡ false
     by false e = e
     by true e = absurd (both_ways (is_wizard w p) none (rises.wizards p e))
 
-ran_on : (v : Value) (r : Ran) (answers : List Value) (end : State) → after_one v r ≡ Through answers end → (rest : List Value) × (r ≡ Through rest end)
+-- and who isn't a wizard doesn't become one by a call
+pub none_after : (s next : State) (p : ObjNo) (call : Call) (v : Value) → IsWellFormed s.world → is_wizard s.world p ≡ false → batch_call s p call ≡ Done v next → is_wizard next.world p ≡ false
+none_after s next p call v formed none done = still_none s.world next.world p (one_call s next p call v formed none done).rises none
+
+pub ran_on : (v : Value) (r : Ran) (answers : List Value) (end : State) → after_one v r ≡ Through answers end → (rest : List Value) × (r ≡ Through rest end)
 ran_on v (Through rest s) answers end h = (rest, grind arith)
 ran_on v (FailedAt k e) answers end h = absurd (grind arith)
 ran_on v (FullAt k) answers end h = absurd (grind arith)
@@ -174,7 +178,7 @@ calls_keep s p (call ∷ calls) formed none answers end h = by (batch_call s p c
 
 -- ---- batches
 
-accepted_ran : (s : State) (b : Batch) (answers : List Value) (next : State) → judge s b ≡ Accepted answers next → (end : State) × (run_calls s b.programmer b.calls ≡ Through answers end) × (next.world ≡ end.world)
+pub accepted_ran : (s : State) (b : Batch) (answers : List Value) (next : State) → judge s b ≡ Accepted answers next → (end : State) × (run_calls s b.programmer b.calls ≡ Through answers end) × (next.world ≡ end.world)
 unfolding judge
 accepted_ran s b answers next h = by (is_due b.at s.seq) (nat_lt s.seq last_seq) (run_calls s b.programmer b.calls) refl h
   where

@@ -17,7 +17,7 @@ use Rattle.moo_laws.proofs.PetitionsSeen.{same_list}
 abbrev Stays : {S : Type 0} → S → Outcome S → Type 0
 Stays {S} s o = Holds (λ (v : Value) (next : S). next ≡ s) o
 
-stays : (w : World) (p : ObjNo) (name : CallName) (values : List Value) → is_question name ≡ true → Stays w (named_call w p name values)
+pub stays : (w : World) (p : ObjNo) (name : CallName) (values : List Value) → is_question name ≡ true → Stays w (named_call w p name values)
 stays w p Valid values h = search each_check depth 12
 stays w p Parent values h = search each_check depth 12
 stays w p Children values h = search each_check depth 12

@@ -18,7 +18,7 @@ other_value p x n value s wf hidden =
 -- ---- petitions of others
 
 module _ (p : ObjNo) where
-  abbrev own : Option PetitionRow → Option PetitionRow
+  abbrev pub own : Option PetitionRow → Option PetitionRow
   own o = option_and_then (λ row. if same_object row.who p then Some row else None) o
 
   own_or_none : (o : Option PetitionRow) → ((row : PetitionRow) × ((row.who ≡ p) × (o ≡ Some row))) ⊎ (own o ≡ None)
@@ -37,12 +37,13 @@ module _ (p : ObjNo) where
       by (inr none) (inl (row, (theirs, e))) = ap own (e ∙ sym ((h row theirs).0 e))
       by (inr none) (inr neither) = neither ∙ sym none
 
+  -- who isn't a wizard sees their own
+  pub seen_own : (u : State) (id : PetitionId) → is_wizard u.world p ≡ false → seen_petition u p id ≡ own (get u.petitions id)
+  seen_own u id e = ap (λ b. option_and_then (λ row. if b || same_object row.who p then Some row else None) (get u.petitions id)) e
+
   pub own_agree : (s t : State) → is_wizard s.world p ≡ false → LookAlike p s.world t.world → t.seq ≡ s.seq → SameOwnPetitions p s t → AgreeFor p s t
   own_agree s t plain alike seq same = record {
     worlds = alike;
-    petitions = λ id. seen t id (ap (λ f. f p) (passes p s.world t.world alike (λ r. r.wizard)) ∙ plain) ∙ same_own (get s.petitions id) (get t.petitions id) (same id) ∙ sym (seen s id plain);
+    petitions = λ id. seen_own t id (ap (λ f. f p) (passes p s.world t.world alike (λ r. r.wizard)) ∙ plain) ∙ same_own (get s.petitions id) (get t.petitions id) (same id) ∙ sym (seen_own s id plain);
     accepted = seq;
   }
-    where
-      seen : (u : State) (id : PetitionId) → is_wizard u.world p ≡ false → seen_petition u p id ≡ own (get u.petitions id)
-      seen u id e = ap (λ b. option_and_then (λ row. if b || same_object row.who p then Some row else None) (get u.petitions id)) e

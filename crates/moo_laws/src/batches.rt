@@ -13,8 +13,8 @@ ghost use Rattle.moo_laws.specs.Agreeing.{AgreeFor, SameVerdict, TellTheSame, Sa
 ghost use Rattle.moo_laws.specs.Reading.{IsHidden, LookAlike};
 
 /// What batches of calls that only read tell their programmer depends on no value and on no petition that the programmer may not see: from
-/// two states that agree for the programmer they have the same verdicts, one after another. What batches that change something tell isn't
-/// said here.
+/// two states that agree for the programmer they have the same verdicts, one after another. `batches_tell_no_more` is about batches that
+/// change something, too.
 ///
 /// LambdaMOO Programmer's Manual, 'Properties on Objects' in the chapter on the database. Petitions are this server's own.
 pub fn reading_batches_tell_no_more()

@@ -4,11 +4,15 @@
 #![tactic(auto)]
 
 mod batches;
+mod guarded;
 mod numbers;
 mod questions;
+mod quotas;
 mod rights;
 
 pub use batches::reading_batches_tell_no_more;
+pub use guarded::batches_tell_no_more;
 pub use numbers::object_numbers_stay;
 pub use questions::questions_tell_no_more;
+pub use quotas::kept_quotas_move;
 pub use rights::nobody_rises;

@@ -12,9 +12,9 @@ ghost use Rattle.moo_world.specs.Rights.{is_wizard};
 ghost use Rattle.moo_world.specs.Rows.{IsGood, world_of};
 ghost use Rattle.moo_laws.specs.NobodyRises.{NoWizardActs, KeepsRights};
 
-/// If no accepted batch is a wizard's at its turn, nobody rises. Whoever is a player, a programmer or a wizard in the end was one before. An
-/// object that stays keeps its owner and these bits, and a slot that is never away keeps its owner, whatever name it gets. What the batches
-/// give may nest 32 deep, with integers of 64 bits, objects whose numbers have 32, and strings that are texts.
+/// If no accepted batch is a wizard's at its turn, nobody rises. Whoever is a player, a programmer or a wizard in the end was one before.
+/// An object that stays keeps its owner and these bits, and a slot that is never away keeps its owner, whatever name it gets. What the
+/// batches give may nest 32 deep, with integers of 64 bits, objects whose numbers have 32, and strings that are texts.
 ///
 /// LambdaMOO Programmer's Manual, 'Fundamental Object Attributes' and 'Properties on Objects' in the chapter on the database.
 pub fn nobody_rises()

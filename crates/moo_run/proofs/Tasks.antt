@@ -1,5 +1,6 @@
 -- From what was done to a World to how a task ends.
-use Rattle.moo_run.{proofs.Words.{◌≡◌, ◌≢◌, NoBatches, NoMemory, Read, Write, TooLong, inl, inr, ℕ, ◌≤◌, Bool, true, false, List, [], Option, Result, Ok, Err, IfOk, IfErr, OnOk, MatchResult, refl, sym, ap, subst, arith, IsTrue, if◌then◌else◌, codes, bytes_eq, HasCleanDisk, Survives, Batch, IsGood, State, World, Stand, Works, store_of, StandsFor, CrashLeaves, text_failure, Texts, texts_by, None, Some, true≢false, ◌∙◌, lost_status, course_status, AppliesText, RehearsesText, StopsRehearsing, StopsApplying, RunsText, MayLead, EndsTask, Failure}, specs.Texts.{OpenedBy, LacksBy}, specs.Run.{TellsLack}}
+use Rattle.moo_run.{proofs.Words.{◌≡◌, ◌≢◌, NoBatches, NoMemory, Read, Write, TooLong, inl, inr, ℕ, ◌≤◌, Bool, true, false, List, [], Option, Result, Ok, Err, IfOk, IfErr, OnOk, MatchResult, refl, sym, ap, subst, arith, IsTrue, if◌then◌else◌, codes, bytes_eq, HasCleanDisk, Survives, Batch, IsGood, State, World, Stand, Works, store_of, StandsFor, CrashLeaves, text_failure, Texts, texts_by, None, Some, true≢false, ◌∙◌, lost_status, course_status, AppliesText, RehearsesText, StopsRehearsing, StopsApplying, MayLead, EndsTask, Failure}, specs.Texts.{OpenedBy, LacksBy}, specs.Run.{TellsLack, StopsAs}, specs.declared.texts.Manner.{Manner}}
+use Rattle.moo_run.specs.declared.texts.Manner.TheVariants as manner
 use Rattle.sqlite.{specs.State.{State as Database}, specs.Store.{Ghosts}, specs.Held.{state}}
 use Rattle.moo_text.specs.declared.fault.TextFault.{TextFault}
 use Rattle.std.specs.Prelude.{IsErr}
@@ -65,10 +66,6 @@ module _ {S : Type 0} (g : Ghosts S) (known : Bool) (was world : World S) where
   pub ends_map : (P Q : Stand → Type 0) → ((end : Stand) → P end → Q end) → EndsTask g known was world P → EndsTask g known was world Q
   ends_map P Q f it = record { end = it.end; clean = it.clean; crash = it.crash; ends = f it.end it.ends }
 
-  -- the run of the text that is given is that of the text of that name
-  pub text_runs : (r : Result Course Failure) (stop : Bool) (s : State) (text named old new : Option (List ℕ)) → named ≡ text → RunsText g known was world stop s text old new r → RunsText g known was world stop s named old new r
-  text_runs r stop s text named old new is it = subst (λ t. RunsText g known was world stop s t old new r) (sym is) it
-
   -- a call that commits nothing leaves what a crash could leave before
   pub stays_at : (s : State) (P : Stand → Type 0) → Survives (store_of g was) (store_of g world) (λ _. ⊥) → (IsTrue known → HasCleanDisk (store_of g was) → CrashLeaves (store_of g was) (Works s)) → P (Works s) → EndsTask g known was world P
   stays_at s P it leaves p =
@@ -87,6 +84,12 @@ unchanged g known world s P leaves p = record { end = Works s; clean = λ clean.
 -- no batches lead to its own rows
 pub unmoved : {S : Type 0} (g : Ghosts S) (known : Bool) (world : World S) (s : State) → IsSettled (store_of g world) → (world.failed ≡ false → IsGood world.rows.maps) → StandsFor g known world s → MayLead g known world world [] []
 unmoved g known world s settled good stands = moved_led g known world world s good stands [] [] (written_none g world settled)
+
+-- nothing is done with a text whose file can't be opened
+pub never_opened : {S : Type 0} (g : Ghosts S) (known : Bool) (world : World S) (how : Manner) (s : State) (text old : Option (List ℕ)) → MayLead g known world world [] [] → StopsAs how (MayLead g known world world) s (Works s) NoBatches text old old
+never_opened g known world (manner.Apply options) s text old led = inr (refl, refl, refl, led)
+never_opened g known world (manner.Rehearse options) s text old led = (refl, (Works s, inr (refl, refl, refl, tt)))
+never_opened g known world manner.Ask s text old led = (refl, inr (refl, refl))
 
 -- by the result, more of what is known of either
 pub by_result : {A E : Type 0} (P Q : A → Type 0) (R T : E → Type 0) (r : Result A E) → ((a : A) → P a → Q a) → ((e : E) → R e → T e) → IfOk r P → IfErr r R → MatchResult r Q T

@@ -24,6 +24,6 @@ pub use Rattle.sqlite_wal.specs.Recovery.{Image}
 pub use Rattle.moo_run.specs.Ends.{EndsWith, HoldsRows, IsClosedEnd, RanFrom, RanOver, RefusedOver, RunsClosed, RunsFile, RunsOver, RunsRows}
 pub use Rattle.moo_run.specs.Given.{Given, Run, Texts, attended, given_to, texts_by}
 pub use Rattle.moo_run_lines.specs.Lines.{Reports, Tells, load_failure, loaded_line, read_failure, service_failure, store_failure, text_failure}
-pub use Rattle.moo_run.specs.Run.{RehearsesBy, RehearsesText, StopsRehearsing, course_status, AppliesText, AsksBy, BeginsNumbered, BeginsWith, Done, EndsTask, FailsAtOnce, FailsToBegin, IsDumpedAs, IsOpening, KeepsInput, Leads, LeadsFrom, LeavesNothingNew, MayLead, MayRefuse, ReadsFile, RefusesDump, RefusesFile, RunsAction, RunsFrom, RunsIn, RunsNew, RunsTask, RunsText, RunsUnseen, Serving, ShowsTables, StopsApplying, StopsIn, StopsServing, StopsTask, begins_anew, dump_word, is_input, is_load, lost_status, makes_world, only_reads, reads_input, serves}
+pub use Rattle.moo_run.specs.Run.{AnswersBy, RehearsesText, StopsRehearsing, course_status, AppliesText, AsksText, BeginsNumbered, BeginsWith, Done, EndsTask, FailsAtOnce, FailsToBegin, IsDumpedAs, IsOpening, KeepsInput, Leads, LeadsFrom, LeavesNothingNew, MayLead, MayRefuse, ReadsFile, RefusesDump, RefusesFile, RunsAction, RunsFrom, RunsIn, RunsNew, RunsTask, RunsUnseen, Serving, ShowsTables, StopsApplying, StopsIn, StopsServing, StopsTask, begins_anew, dump_word, is_input, is_load, lost_status, makes_world, only_reads, reads_input, serves}
 pub use Rattle.moo_run_lines.specs.declared.failure.Failure.{Failure}
 pub use Rattle.moo_run_lines.specs.declared.failure.Failure.TheVariants.{Damaged, NewerVersion, NoBatches, NoMemory, NotADump, Read, Store, TooLong, Write}

@@ -41,6 +41,8 @@ use Rattle.moo_store.specs.World.{store_of, CrashLeaves}
 use Rattle.moo_cli.specs.declared.task.Task.{Task}
 use Rattle.moo_cli.specs.declared.task.Action.{Action}
 use Rattle.moo_cli.specs.declared.task.Action.TheVariants.{Init, Apply, Rehearse, Ask, Dump, Load, Check, Serve}
+use Rattle.moo_run.specs.declared.texts.Manner.{Manner}
+use Rattle.moo_run.specs.declared.texts.Manner.TheVariants as manner
 use Rattle.moo_http.specs.Ledger.{Ledger, no_batches}
 use Rattle.moo_http.specs.Lines.{listening_line}
 use Rattle.moo_http.specs.Turns.{Attendance, SaysAttended}
@@ -186,6 +188,26 @@ StopsAsking s failure text old new =
     ((fault : TextFault) × (failure ≡ text_failure fault) × Halts AsksBatch (Works s) (Works s) text old new fault)
     ⊎ ((failure ≡ NoBatches) × (new ≡ old))
 
+-- ---- what is done with a text of batches
+
+-- a text that is run may change the world
+abbrev pub changes_world : Manner → Bool
+changes_world (manner.Apply options) = true
+changes_world other = false
+
+-- A text of batches is answered in a manner. The world moves from a state to an end.
+abbrev pub AnswersAs : Manner → Leads → State → Stand → Option (List ℕ) → Option (List ℕ) → Option (List ℕ) → ℕ → Type 0
+AnswersAs (manner.Apply options) Led s end text old new status = AppliesText Led options.stop s end text old new status
+AnswersAs (manner.Rehearse options) Led s end text old new status = (end ≡ Works s) × RehearsesText options.stop s text old new status
+AnswersAs manner.Ask Led s end text old new status = (end ≡ Works s) × AsksText s text old new status
+
+-- The answering of a text stops, or its file can't be opened.
+abbrev pub StopsAs : Manner → Leads → State → Stand → Failure → Option (List ℕ) → Option (List ℕ) → Option (List ℕ) → Type 0
+StopsAs (manner.Apply options) Led s end failure text old new = StopsApplying Led options.stop s end failure text old new
+StopsAs (manner.Rehearse options) Led s end failure text old new =
+    (end ≡ Works s) × StopsRehearsing options.stop s failure text old new
+StopsAs manner.Ask Led s end failure text old new = (end ≡ Works s) × StopsAsking s failure text old new
+
 -- The connections that came to a port were served, so many of them, and what is said of them is written. The world moved by what they
 -- asked, and by nothing else: the ledger has just the batches that they asked and that were run.
 abbrev pub Serving : Attendance → ℕ → ℕ → Ledger → State → Stand → Option (List ℕ) → Option (List ℕ) → ℕ → Type 0
@@ -273,11 +295,11 @@ abbrev pub ShowsTables : {S : Type 0} → Ghosts S → World S → Database → 
 ShowsTables g world after = HasCleanDisk after → (tables : Tables) → Rests (store_of g world) tables → ShowsRows tables world.rows.maps
 
 module _ {S : Type 0} (g : Ghosts S) (known : Bool) (was world : World S) where
-  -- A text of batches was run over the World, which stood for a state, to its end or until it stopped; by its course.
-  abbrev pub RunsText : Bool → State → Option (List ℕ) → Option (List ℕ) → Option (List ℕ) → Result Course Failure → Type 0
-  RunsText stop s text old new r = MatchResult r
-      (λ course. EndsTask g known was world (λ end. AppliesText (MayLead g known was world) stop s end text old new (course_status course)))
-      (λ failure. EndsTask g known was world (λ end. StopsApplying (MayLead g known was world) stop s end failure text old new))
+  -- A text of batches was answered over the World, which stood for a state, to its end or until it stopped; by its status.
+  abbrev pub AnswersBy : Manner → State → Option (List ℕ) → Option (List ℕ) → Option (List ℕ) → Result ℕ Failure → Type 0
+  AnswersBy how s text old new r = MatchResult r
+      (λ status. EndsTask g known was world (λ end. AnswersAs how (MayLead g known was world) s end text old new status))
+      (λ failure. EndsTask g known was world (λ end. StopsAs how (MayLead g known was world) s end failure text old new))
 
   -- A task was done over the World, which stood for a state, or it stopped; by its status.
   abbrev pub RunsAction : Action → State → Run → Result ℕ Failure → Type 0
@@ -286,15 +308,6 @@ module _ {S : Type 0} (g : Ghosts S) (known : Bool) (was world : World S) where
       Done action s end (MayLead g known was world) (ShowsTables g was (store_of g world)) (record run { status = status })))
       (λ failure. EndsTask g known was world (λ end.
       StopsTask action s end failure (MayLead g known was world) (IsTrue known × HasCleanDisk (store_of g world)) run))
-
--- A text of batches was rehearsed to its end, or stopped; by its status.
-abbrev pub RehearsesBy : Bool → State → Option (List ℕ) → Option (List ℕ) → Option (List ℕ) → Result ℕ Failure → Type 0
-RehearsesBy stop s text old new r =
-    MatchResult r (RehearsesText stop s text old new) (λ failure. StopsRehearsing stop s failure text old new)
-
--- A text of batches was asked to its end, or stopped; by its status.
-abbrev pub AsksBy : State → Option (List ℕ) → Option (List ℕ) → Option (List ℕ) → Result ℕ Failure → Type 0
-AsksBy s text old new r = MatchResult r (AsksText s text old new) (λ failure. StopsAsking s failure text old new)
 
 -- ---- a task over a connection
 

@@ -1,7 +1,6 @@
 //! What each command does over a world.
 
-ghost use Rattle.std.specs.Prelude.{◌≡◌, ◌≢◌, ◌⊎◌, ℕ, List, true, false, codes, length, IfOk, IfErr, OnOk, Bool, IsTrue};
-ghost use Rattle.std.specs.Str.{bytes_eq};
+ghost use Rattle.std.specs.Prelude.{◌≡◌, ◌⊎◌, ℕ, List, true, false, length, IfOk, IfErr, OnOk, Bool, IsTrue};
 ghost use Rattle.std.specs.Io.KnownBytes.{Appends};
 ghost use Rattle.sqlite.specs.State.{HasCleanDisk, Survives};
 ghost use Rattle.moo_world.specs.Judge.{State};
@@ -10,245 +9,21 @@ ghost use Rattle.moo_dump.specs.Dump.{dump};
 ghost use Rattle.moo_store_rows.specs.declared.fault.StoreFault.{StoreFault};
 ghost use Rattle.moo_store_rows.specs.Opening.{IsOfStore};
 ghost use Rattle.moo_store.specs.World.{store_of, StandsFor};
-ghost use Rattle.moo_run.specs.Texts.{OpenedBy, LacksBy};
 ghost use Rattle.moo_run_lines.specs.Lines.{store_failure, checked_line, loaded_line};
-ghost use Rattle.moo_run.specs.Run.{lost_status, course_status, RunsText, RehearsesBy, RunsAction, AsksBy, StopsIn, ShowsTables};
-ghost use Rattle.moo_run.specs.Run.{LeavesNothingNew, TellsLack};
+ghost use Rattle.moo_run.specs.Run.{RunsAction, StopsIn, ShowsTables, LeavesNothingNew};
 ghost use Rattle.moo_run.specs.Run.{only_reads, serves, reads_input, ReadsFile};
 
 use crate::host::BatchFiles;
 use crate::session::{Runs, Session, Streams};
-use moo_cli::{Action, Batches, Options, Service, Task};
+use crate::texts::{Manner, answer_batches, open_batches};
+use moo_cli::{Action, Service, Task};
 use moo_http::{Duty, Tools, serve_port};
-use moo_reasons::StandardNotes;
-use moo_run_lines::{Failure, checked_text, explain_lost, loaded_text};
-use moo_store::{Course, Tally, World, apply_until, ask_text, rehearse_text};
+use moo_run_lines::{Failure, checked_text, loaded_text};
+use moo_store::World;
 use moo_text::put_all;
 use sqlite::Alter;
 use std::alloc::Global;
-use std::io::{self, Eprint, Read, Write};
-
-/// The status of a text with this tally.
-fn status_after(tally: Tally) -> u8
-    ensures { result ≡ lost_status tally.lost }
-{
-    if tally.lost == 0 { 0 } else { 1 }
-}
-
-/// The status of a text with this course.
-fn course_status(course: Course) -> u8
-    ensures { result ≡ course_status course }
-{
-    if course.stopped {
-        1
-    } else {
-        status_after(course.tally)
-    }
-}
-
-/// Runs the batches of a text. The notes say on standard error why a batch isn't accepted.
-fn run_text<C: Eprint, R: Read + Drop, W: Write, B: Alter + Drop>(
-    world: &mut World<B>,
-    text: R,
-    stop: bool,
-    output: &mut W,
-    mut notes: StandardNotes<'_, C>,
-) -> Result<Course, Failure>
-    ensures ran { (known : Bool) (s : State) → StandsFor B.Store known world.old s →
-        RunsText B.Store known world.old world.new stop s (R.remaining text) (W.contents output.old) (W.contents output.new) result }
-    ensures opened { IfErr result (λ failure. failure ≢ Failure.NoBatches) }
-{
-    let done = apply_until(text, output, world, stop, &mut notes);
-    notes.finish();
-    match done {
-        Ok(course) => Ok(course),
-        Err(fault) => Err(Failure::from(fault)),
-    }
-}
-
-/// The file of batches of this path, if it can be opened; or none for `-`, which is the input.
-fn open_batches<H: BatchFiles>(host: &H, batches: &str) -> Option<io::Result<H::Text>>
-    requires { bytes_eq batches.now (codes "-") ≡ false → H.may_read host.now batches.now }
-    ensures opened { OpenedBy H.Text.remaining (H.text host.now) batches.now result }
-    ensures lacks { LacksBy (H.lacks host.now) batches.now result }
-{
-    if batches == "-" {
-        None
-    } else {
-        Some(host.open(batches))
-    }
-}
-
-/// Runs the batches of a file that was opened, or of the input if none was.
-fn apply_batches<'s, S: Streams, B: Alter + Drop>(
-    session: &mut Session<'s, S>,
-    world: &mut World<B>,
-    batches: Batches<'_>,
-    text: Option<io::Result<<S::Host as BatchFiles>::Text>>,
-) -> Result<Course, Failure>
-    ensures ran { OpenedBy S.Host.Text.remaining (S.Host.text session.old.host) batches.entry.path.now text →
-        (known : Bool) (s : State) → StandsFor B.Store known world.old s →
-        let run = ⟦<Session<'s, S> as Runs>⟧.run session.old session.new in
-        RunsText B.Store known world.old world.new batches.entry.options.stop s
-        (run.given.text batches.entry.path.now) run.before run.after result }
-    ensures lacks { LacksBy (S.Host.lacks session.old.host) batches.entry.path.now text →
-        IfErr result (TellsLack (S.Host.lacks session.old.host) batches.entry.path.now) }
-    ensures rests { session.new.host ≡ session.old.host }
-    ensures input { OpenedBy S.Host.Text.remaining (S.Host.text session.old.host) batches.entry.path.now text →
-        bytes_eq batches.entry.path.now (codes "-") ≡ false → session.new.input ≡ session.old.input }
-{
-    let Batches { path, options } = batches;
-    let Options { stop } = options;
-    world.leaves();
-    world.has_good_rows();
-    match text {
-        None => {
-            let notes = StandardNotes::new(session.console, session.alloc, None);
-            run_text(world, &mut session.input, stop, &mut session.output, notes)
-        }
-        Some(opened) => match opened {
-            Ok(file) => {
-                let notes = StandardNotes::new(session.console, session.alloc, Some(path));
-                run_text(world, file, stop, &mut session.output, notes)
-            }
-            Err(_) => Err(Failure::NoBatches),
-        },
-    }
-}
-
-/// Runs the batches of a file that was opened, or of the input if none was. Standard error says why a batch isn't accepted, and what to do
-/// if the store failed in one.
-fn apply<'s, S: Streams, B: Alter + Drop>(
-    session: &mut Session<'s, S>,
-    world: &mut World<B>,
-    batches: Batches<'_>,
-    text: Option<io::Result<<S::Host as BatchFiles>::Text>>,
-) -> Result<u8, Failure>
-    ensures applies { OpenedBy S.Host.Text.remaining (S.Host.text session.old.host) batches.entry.path.now text →
-        LacksBy (S.Host.lacks session.old.host) batches.entry.path.now text →
-        (known : Bool) (s : State) → StandsFor B.Store known world.old s →
-        let run = ⟦<Session<'s, S> as Runs>⟧.run session.old session.new in
-        RunsAction B.Store known world.old world.new (Action.Apply batches.entry) s run result }
-    ensures rests { session.new.host ≡ session.old.host }
-    ensures input { OpenedBy S.Host.Text.remaining (S.Host.text session.old.host) batches.entry.path.now text →
-        bytes_eq batches.entry.path.now (codes "-") ≡ false → session.new.input ≡ session.old.input }
-{
-    match apply_batches(session, world, batches, text) {
-        Ok(course) => {
-            explain_lost(session.console, course.tally);
-            Ok(course_status(course))
-        }
-        Err(failure) => Err(failure),
-    }
-}
-
-/// Rehearses the batches of a text. The notes say on standard error why a batch isn't accepted.
-fn rehearse_batches<C: Eprint, R: Read + Drop, W: Write, B: Alter + Drop>(
-    world: &mut World<B>,
-    text: R,
-    stop: bool,
-    output: &mut W,
-    mut notes: StandardNotes<'_, C>,
-) -> Result<u8, Failure>
-    ensures rehearses { (known : Bool) (s : State) → StandsFor B.Store known world.old s →
-        RehearsesBy stop s (R.remaining text) (W.contents output.old) (W.contents output.new) result }
-    ensures opened { IfErr result (λ failure. failure ≢ Failure.NoBatches) }
-    ensures still { world.new.connection ≡ world.old.connection }
-{
-    let done = rehearse_text(text, output, world, stop, &mut notes);
-    notes.finish();
-    match done {
-        Ok(course) => Ok(course_status(course)),
-        Err(fault) => Err(Failure::from(fault)),
-    }
-}
-
-/// Rehearses the batches of a file that was opened, or of the input if none was. Standard error says why a batch isn't accepted.
-fn rehearse<'s, S: Streams, B: Alter + Drop>(
-    session: &mut Session<'s, S>,
-    world: &mut World<B>,
-    batches: Batches<'_>,
-    text: Option<io::Result<<S::Host as BatchFiles>::Text>>,
-) -> Result<u8, Failure>
-    ensures rehearses { OpenedBy S.Host.Text.remaining (S.Host.text session.old.host) batches.entry.path.now text →
-        (known : Bool) (s : State) → StandsFor B.Store known world.old s →
-        let run = ⟦<Session<'s, S> as Runs>⟧.run session.old session.new in
-        RehearsesBy batches.entry.options.stop s (run.given.text batches.entry.path.now) run.before run.after result }
-    ensures lacks { LacksBy (S.Host.lacks session.old.host) batches.entry.path.now text →
-        IfErr result (TellsLack (S.Host.lacks session.old.host) batches.entry.path.now) }
-    ensures still { world.new.connection ≡ world.old.connection }
-    ensures rests { session.new.host ≡ session.old.host }
-    ensures input { OpenedBy S.Host.Text.remaining (S.Host.text session.old.host) batches.entry.path.now text →
-        bytes_eq batches.entry.path.now (codes "-") ≡ false → session.new.input ≡ session.old.input }
-{
-    let Batches { path, options } = batches;
-    let Options { stop } = options;
-    match text {
-        None => {
-            let notes = StandardNotes::new(session.console, session.alloc, None);
-            rehearse_batches(world, &mut session.input, stop, &mut session.output, notes)
-        }
-        Some(opened) => match opened {
-            Ok(file) => {
-                let notes = StandardNotes::new(session.console, session.alloc, Some(path));
-                rehearse_batches(world, file, stop, &mut session.output, notes)
-            }
-            Err(_) => Err(Failure::NoBatches),
-        },
-    }
-}
-
-/// Says what the batches of a text would answer. The notes say on standard error why a batch isn't accepted.
-fn ask_batches<C: Eprint, R: Read + Drop, W: Write, B: Alter + Drop>(
-    world: &World<B>,
-    text: R,
-    output: &mut W,
-    mut notes: StandardNotes<'_, C>,
-) -> Result<u8, Failure>
-    ensures asks { (known : Bool) (s : State) → StandsFor B.Store known world.now s →
-        AsksBy s (R.remaining text) (W.contents output.old) (W.contents output.new) result }
-    ensures opened { IfErr result (λ failure. failure ≢ Failure.NoBatches) }
-{
-    let done = ask_text(text, output, world, &mut notes);
-    notes.finish();
-    match done {
-        Ok(tally) => Ok(status_after(tally)),
-        Err(fault) => Err(Failure::from(fault)),
-    }
-}
-
-/// Says what the batches of a file that was opened, or of the input if none was, would answer. Standard error says why a batch isn't
-/// accepted.
-fn ask<'s, S: Streams, B: Alter + Drop>(
-    session: &mut Session<'s, S>,
-    world: &World<B>,
-    batches: &str,
-    text: Option<io::Result<<S::Host as BatchFiles>::Text>>,
-) -> Result<u8, Failure>
-    ensures asks { OpenedBy S.Host.Text.remaining (S.Host.text session.old.host) batches.now text →
-        (known : Bool) (s : State) → StandsFor B.Store known world.now s →
-        let run = ⟦<Session<'s, S> as Runs>⟧.run session.old session.new in
-        AsksBy s (run.given.text batches.now) run.before run.after result }
-    ensures lacks { LacksBy (S.Host.lacks session.old.host) batches.now text →
-        IfErr result (TellsLack (S.Host.lacks session.old.host) batches.now) }
-    ensures rests { session.new.host ≡ session.old.host }
-    ensures input { OpenedBy S.Host.Text.remaining (S.Host.text session.old.host) batches.now text →
-        bytes_eq batches.now (codes "-") ≡ false → session.new.input ≡ session.old.input }
-{
-    match text {
-        None => {
-            let notes = StandardNotes::new(session.console, session.alloc, None);
-            ask_batches(world, &mut session.input, &mut session.output, notes)
-        }
-        Some(opened) => match opened {
-            Ok(file) => {
-                let notes = StandardNotes::new(session.console, session.alloc, Some(batches));
-                ask_batches(world, file, &mut session.output, notes)
-            }
-            Err(_) => Err(Failure::NoBatches),
-        },
-    }
-}
+use std::io::Write;
 
 /// Writes what the world holds.
 fn show<W: Write, B: Alter + Drop>(world: &World<B>, output: &mut W) -> Result<u8, Failure>
@@ -379,15 +154,17 @@ pub(crate) fn do_task<'s, S: Streams, B: Alter + Drop>(
         Action::Init => put_text("created\n", &mut session.output),
         Action::Apply(batches) => {
             let text = open_batches(&session.host, batches.path);
-            apply(session, world, batches, text)
+            let manner = Manner::Apply(batches.options);
+            answer_batches(session, world, manner, batches.path, text)
         }
         Action::Rehearse(batches) => {
             let text = open_batches(&session.host, batches.path);
-            rehearse(session, world, batches, text)
+            let manner = Manner::Rehearse(batches.options);
+            answer_batches(session, world, manner, batches.path, text)
         }
         Action::Ask { batches } => {
             let text = open_batches(&session.host, batches);
-            ask(session, world, batches, text)
+            answer_batches(session, world, Manner::Ask, batches, text)
         }
         Action::Dump => show(world, &mut session.output),
         Action::Load { .. } => show_loaded(session.alloc, world, &mut session.output),

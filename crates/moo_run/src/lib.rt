@@ -9,6 +9,7 @@ mod loading;
 mod over;
 mod run;
 mod session;
+mod texts;
 
 pub use ends::Ends;
 pub use files::run_from;

@@ -1,5 +1,5 @@
 -- From what the service sees of a connection of a desk to what its peer sees.
-use Rattle.std.{proofs.Common.{◌≡◌, ◌⊎◌, inl, inr, ℕ, zero, suc, List, [], length, drop, refl, sym, ap, subst, ◌∙◌, arith}, specs.Io.KnownBytes.{Keeps, append_known, prepend_known}, proofs.KnownBytes.{Keeps-refl}}
+use Rattle.std.{proofs.Common.{◌≡◌, ◌⊎◌, inl, inr, ℕ, List, [], length, drop, refl, sym, ap, subst, ◌∙◌, arith}, specs.Io.KnownBytes.{Keeps, append_known, prepend_known}, proofs.KnownBytes.{Keeps-refl}}
 use Rattle.std.proofs.Math.ListN.{drop_of_length-le}
 use Rattle.std.specs.declared.io.Read as Reading
 use Rattle.std.specs.declared.io.Write as Writing

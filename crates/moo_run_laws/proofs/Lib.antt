@@ -5,3 +5,4 @@ mod LedLemmas
 mod InTurnLemmas
 pub mod Desks
 mod HaltedLemmas
+pub mod LedgerLemmas

@@ -18,6 +18,7 @@ use Rattle.moo_desk.specs.declared.slot.Slot.{Slot}
 use Rattle.moo_desk.specs.Deeds.{IsFresh}
 use Rattle.moo_desk.specs.Exchange.{Begins, IsHandedOut}
 use Rattle.moo_desk.specs.Later.{IsGathered, IsLater}
+use Rattle.moo_desk.specs.Read.{Gave}
 use Rattle.moo_store.specs.Stand.{Stand}
 use Rattle.moo_http.specs.Traffic.{Traffic, traffic_of}
 use Rattle.moo_http.specs.Ledger.{Ledger}
@@ -60,11 +61,11 @@ module _ {R W : Type 0}
   }
 
 -- a reader and a writer of a peer, by whose they are, and what a desk makes of them
-module _ {R W : Type 0} (from : R → ℤ) (fails : R → R → Type 0) (reader : Reading.Ghosts R) (gathered : Reading.Ghosts (Gathered R))
-    (to : W → ℤ) (writer : Writing.Ghosts W) (outgoing : Writing.Ghosts (Outgoing W)) where
+module _ {R W : Type 0} (from : R → ℤ) (reads : R → Gave → R → Type 0) (fails : R → R → Type 0) (reader : Reading.Ghosts R)
+    (gathered : Reading.Ghosts (Gathered R)) (to : W → ℤ) (writer : Writing.Ghosts W) (outgoing : Writing.Ghosts (Outgoing W)) where
   -- a connection whose request is gathered, with these words for its reader and its writer
   abbrev pub PeerSlot : Type 0
-  PeerSlot = Slot R W (record { peer = from }) (record { fails = fails }) reader (record { peer = to }) writer
+  PeerSlot = Slot R W (record { peer = from; reads = reads }) (record { fails = fails }) reader (record { peer = to }) writer
 
   -- An answer that was sent whole is the answer to what its peer asked.
   abbrev pub DeskAnswers : Type 0

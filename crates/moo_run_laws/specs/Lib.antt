@@ -5,3 +5,5 @@ pub mod Twice
 pub mod Desk
 pub mod Halted
 pub mod Halting
+pub mod Fates
+pub mod DeskRuns

@@ -30,7 +30,7 @@ pub fn chain<R: Rows>(alloc: Global, rows: &R, x: ObjNo) -> Result<Vec<ObjNo>, A
 }
 
 /// The object and its ancestors as the keys of a map, in which others are looked up; no key if it isn't an object. The chain is climbed
-/// once: m log m steps for a chain of m objects. An `Err` is a lack of memory.
+/// once: m log m steps for a chain of m objects. An `Err` is a lack of memory. As any single climb it goes on when the ticks are spent.
 pub fn chain_keys<R: Rows>(
     alloc: Global,
     rows: &R,
@@ -43,7 +43,6 @@ pub fn chain_keys<R: Rows>(
     let mut keys = BTreeMap::new(alloc);
     let mut at = x;
     while let Some(row) = rows.object(at) {
-        go_on(rows)?;
         ordered::put(&mut keys, at, ())?;
         at = row.parent;
     }

@@ -2,6 +2,8 @@
 
 from __future__ import annotations
 
+from moolib import slots
+
 from moo_web.forms.forms import Field, Form, Step
 
 PROPERTY_LETTERS = (
@@ -13,11 +15,7 @@ VERB_LETTERS = (
     ("r", "everybody may read it"), ("w", "everybody may change it"), ("x", "kept, and not looked at"), ("d", "kept, and not looked at")
 )
 OBJECT_WORDS = (("this", "this object"), ("any", "any object"), ("none", "nothing"))
-PHRASES = (
-    "with/using", "at/to", "in front of", "in/inside/into", "on top of/on/onto/upon", "out of/from inside/from", "over", "through",
-    "under/underneath/beneath", "behind", "beside", "for/about", "is", "as", "off/off of",
-)  # fmt: skip
-PREPOSITIONS = (("none", "none"), ("any", "any"), *((phrase, phrase) for phrase in PHRASES))
+PREPOSITIONS = tuple((phrase, phrase) for phrase in ("none", "any", *slots.PREPOSITIONS))
 QUOTA = '"ownership_quota"'
 FIRST_QUOTA = "100"
 

@@ -12,9 +12,11 @@ import re
 from collections.abc import Mapping
 
 from moolib.batches import Item
+from moolib.begun import read_begun
 from moolib.lines import Line, filled, hint, read_line
 from moolib.errors import Failed
 from moolib.naming import Found, numbered
+from moolib.service import MOST_CALLS
 
 from moo_web.app import Reply
 from moo_web.forms.forms import Ambiguous, Field, Form, Me, Mistake, Names, number_at
@@ -24,7 +26,6 @@ from moo_web.forms.views import NamesOf
 from moo_web.pages.pages import Visit
 from moo_web.paths import url_for
 
-MOST_CALLS = 1000
 MOST_LISTED = 400
 # In a longer text no objects are offered for a name, since each of them has the whole text with it.
 LONGEST_WITH_CHOICES = 20_000
@@ -105,7 +106,8 @@ def take_line(typed: str, number: int, items: list[Item], values: dict[str, str]
 
 def with_numbers(typed: str, line: Line, names: Names, me: Me) -> str:
     """The call or the value of a line, with numbers in place of names of objects. `Mistyped`, `Ambiguous`: at which letter one isn't known."""
-    first, last = (line.text.index("(") + 1, line.text.rindex(")")) if line.kind == "call" else (0, len(line.text))
+    call = read_begun(line.text) if line.kind == "call" else None
+    first, last = (call.begin, call.end) if call else (0, len(line.text))
     before = typed.index(line.text) + first
 
     def number_of(found: Found) -> str:

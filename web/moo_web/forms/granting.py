@@ -8,7 +8,7 @@ from __future__ import annotations
 from collections.abc import Callable, Sequence
 from typing import NamedTuple
 
-from moolib.calls import LOSING, Call, read_or_none
+from moolib.calls import LOSING, OF_VERBS, Call, read_or_none
 from moolib.draft import PETITIONS, QUOTA
 from moolib.facts import Facts
 from moolib.losses import Losses
@@ -109,7 +109,7 @@ class Granting:
             return found
         if call.name in LOSING:
             found += [f"properties(#{above.number})" for above in self.world.chain(number)]
-        if "verb" in call.name and number == call.subject:
+        if call.name in OF_VERBS and number == call.subject:
             found += [f"{what}(#{number}, {place})" for place in range(1, MOST_VERBS + 1) for what in ("verb_info", "verb_args")]
         if call.name in ("create", "recycle"):
             owners = {number, thing.owner} & self.world.things.keys()

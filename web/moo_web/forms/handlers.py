@@ -32,7 +32,7 @@ from moo_web.journal.jobs import Busy, Stopped, TooMuch, Unknown
 from moo_web.pages.accepting import accepting
 from moo_web.pages.pages import Visit
 from moo_web.pages.sentences import is_grave, linked, told
-from moo_web.paths import url_for
+from moo_web.paths import url_for, whole_number
 from moo_web.world.door import TooLong, Unreachable
 from moo_web.world.things import Thing, World
 
@@ -175,7 +175,7 @@ class FormPages:
                 outcome = self.previews.apply(person, items, seen, note)
                 if isinstance(outcome, Done):
                     return self.went(visit, form, outcome, found)
-                found.preview, found.trouble, found.status = outcome.preview, TROUBLES["moved"], 409
+                found.preview, found.trouble, found.status = outcome, TROUBLES["moved"], 409
             else:
                 found.preview = self.previews.of(person, items)
         except (Mistyped, Failed) as wrong:
@@ -297,9 +297,9 @@ def offered_by(visit: Visit) -> dict[str, str]:
     """What the address of a form says, with the objects in or under one, or one's own, that it offers to be ticked."""
     typed = dict(visit.fields)
     for key, links in (("in", visit.world.contents), ("under", visit.world.children)):
-        of = typed.get(key, "")
-        if of.isascii() and of.isdigit():
-            typed["objects.offered"] = ",".join(map(str, links.get(int(of[:10]), ())[:MOST_OFFERED]))
+        of = whole_number(typed.get(key, ""))
+        if of is not None:
+            typed["objects.offered"] = ",".join(map(str, links.get(of, ())[:MOST_OFFERED]))
     if typed.get("mine"):
         typed["objects.offered"] = ",".join(map(str, visit.world.owned.get(visit.number, [])[:MOST_OFFERED]))
     return typed

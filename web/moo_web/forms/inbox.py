@@ -24,6 +24,7 @@ from moo_web.journal.talks import Talk, decided_of, talks_of
 from moo_web.pages.batches import readable
 from moo_web.pages.pages import Visit
 from moo_web.pages.sentences import is_grave, linked, told
+from moo_web.paths import whole_number
 from moo_web.world.door import TooLong
 
 ON_A_PAGE = 10
@@ -70,7 +71,8 @@ class PetitionPages:
 
     def inbox(self, visit: Visit) -> Reply:
         """The petitions that the person may see, the oldest first."""
-        first, of = number_in(visit, "after"), number_in(visit, "of") if visit.is_wizard else 0
+        first, of = (whole_number(visit.fields.get(key, "")) or 0 for key in ("after", "of"))
+        of = of if visit.is_wizard else 0
         try:
             listed, told_all = self.listed(visit, of)
         except TooLong:
@@ -79,7 +81,7 @@ class PetitionPages:
         rows = self.rows(visit, found[:ON_A_PAGE], None if of else told_all)
         return visit.page(
             "forms/petitions.html", rows=rows, more=len(found) - len(rows), last=rows[-1].petition.number if rows else 0, first=first,
-            of=of or None, decided=[] if first or of else self.decided(visit), **self.words(visit),
+            of=of or None, decided=[] if first or of else decided_of(self.history, visit.name, MOST_DECIDED), **self.words(visit),
         )  # fmt: skip
 
     def listed(self, visit: Visit, of: int = 0) -> tuple[list[Petition], Said]:
@@ -113,10 +115,6 @@ class PetitionPages:
         players = [visit.world.things[number] for number in visit.world.with_bit("player")] if visit.is_wizard and not of else []
         return visit.page("forms/too_long.html", 413, players=players, of=of or None)
 
-    def decided(self, visit: Visit) -> list[Talk]:
-        """The person's own petitions that were decided lately, the newest first."""
-        return [talk for talk in decided_of(self.history, visit.name, MOST_DECIDED) if talk.decided]
-
     # One petition
 
     def one(self, visit: Visit, number: int) -> Reply:
@@ -129,10 +127,10 @@ class PetitionPages:
             (row,) = self.rows(visit, found, said)
             return self.page_of(visit, self.with_acceptance(visit, row))
         talk = talks_of(self.history, [number]).get(number)
-        if talk is None or talk.decided is None or not (visit.is_wizard or talk.asked.who.lower() == visit.name.lower()):
+        if talk is None or talk.ended is None or not (visit.is_wizard or talk.asked.who.lower() == visit.name.lower()):
             return visit.refused("not found", 404)
         calls = list(map(str, talk.calls))
-        return visit.page("forms/decided.html", one=talk.decided, talk=talk, calls=calls, **self.words(visit))
+        return visit.page("forms/decided.html", talk=talk, calls=calls, **self.words(visit))
 
     def page_of(self, visit: Visit, row: Row, status: int = 200, wrong: str = "", typed: str = "") -> Reply:
         """The page of an open petition. `wrong` is what is wrong with the words that were typed."""
@@ -189,9 +187,3 @@ def ask_for_all(visit: Visit, petitions: list[Petition]) -> None:
 def items_of(petition: Petition) -> list[Item]:
     """The calls of a petition as a batch."""
     return [Item(call) for call in petition.calls]
-
-
-def number_in(visit: Visit, field: str) -> int:
-    """The number in a field of the address; 0 if there is none."""
-    text = visit.fields.get(field, "")
-    return int(text) if text.isascii() and text.isdigit() and len(text) < 11 else 0

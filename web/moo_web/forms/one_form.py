@@ -17,6 +17,7 @@ from moo_web.forms.views import NamesOf, by_field, chosen_of, default_of
 from moo_web.forms.whole import EntriesForm, edit_form, new_form
 from moo_web.journal.recent import Seen
 from moo_web.pages.pages import TRIES, Visit
+from moo_web.paths import whole_number
 from moo_web.world.asking import Moved
 from moo_web.world.door import Unreachable
 
@@ -135,9 +136,9 @@ class ObjectPages(EntriesPages):
         """What the address says for the fields of a new object: its name and place, properties by their names, and `from`, to which it leads."""
         keys = {"name": "name", "place": "place"} | {field.label: field.key for field in form.fields if field.key.startswith("p")}
         found = {keys[name]: text for name, text in visit.fields.items() if name in keys}
-        start, exits = visit.fields.get("from", ""), key_of("p", visit.pages.sight_names.exits)
-        if start.isascii() and start.isdigit() and int(start[:10]) in visit.world.things and exits in form.keys:
-            found.setdefault(exits, exit_to(visit, int(start[:10])))
+        start, exits = whole_number(visit.fields.get("from", "")), key_of("p", visit.pages.sight_names.exits)
+        if start is not None and start in visit.world.things and exits in form.keys:
+            found.setdefault(exits, exit_to(visit, start))
         return found
 
 

@@ -2,12 +2,11 @@
 
 from __future__ import annotations
 
-import re
 from typing import Any, NamedTuple
 
 from moolib.batches import Item
 from moolib.calls import Call, read_or_none
-from moolib.lines import names_in
+from moolib.lines import filled, names_in
 from moolib.service import Said
 from moolib.values import Obj, Value, written
 
@@ -16,7 +15,7 @@ from moo_web.forms.input import Mistyped
 from moo_web.forms.questions import Questions
 from moo_web.world.door import TooLong
 
-MOST_CALLS = 64
+MOST_ASKED = 64
 DEEPEST = 30
 
 
@@ -40,7 +39,7 @@ def asked_of(items: list[Item], me: Me) -> Asked:
     calls, left_out, local = [], [], {item.name for item in items if item.name}
     for item in items:
         if names_in(item.text) & local:
-            left_out.append(re.sub(r"\$\w+", "(the new object)", item.text))
+            left_out.append(filled(item.text, dict.fromkeys(item.names, "(the new object)")))
             continue
         call = read_or_none(item.text)
         is_ownerless = call is not None and call.makes == "object" and len(call.values) == 1
@@ -52,8 +51,8 @@ def petition_item(calls: list[str]) -> Item:
     """The call that asks for these calls. `Mistyped`: they can't be asked for."""
     if not calls:
         raise Mistyped("Nothing of this can be asked for.")
-    if len(calls) > MOST_CALLS:
-        raise Mistyped(f"A petition has at most {MOST_CALLS} calls, and this one would have {len(calls)}. Make several of it.")
+    if len(calls) > MOST_ASKED:
+        raise Mistyped(f"A petition has at most {MOST_ASKED} calls, and this one would have {len(calls)}. Make several of it.")
     asked: list[Value] = []
     for text in calls:
         call = read_or_none(text)

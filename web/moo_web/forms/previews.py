@@ -34,26 +34,16 @@ from moo_web.world.losing import losses_of
 from moo_web.world.overseeing import Overseeing
 
 TRIES = 20
-MOST_CALLS = 1000
 APPLYING = 10.0
 
 
 @dataclasses.dataclass(frozen=True)
 class Done:
-    """The batch was accepted, as this number. `is_again`: that was before now. `answers` is None if they weren't kept."""
+    """The batch was accepted, as this number. `is_again`: that was before now."""
 
     seq: int
     calls: list[str]
-    answers: list[str] | None
     is_again: bool = False
-
-
-@dataclasses.dataclass(frozen=True)
-class NotSent:
-    """The batch wasn't sent: this preview has to be looked at first. `is_moved`: since the world has moved on."""
-
-    preview: Preview
-    is_moved: bool
 
 
 class Previews:
@@ -128,8 +118,11 @@ class Previews:
         except Busy:
             raise Unknown(seq - 1) from None
 
-    def apply(self, person: Person, items: list[Item], seen: Seen, note: Note = NO_NOTE) -> Done | NotSent:
-        """Sends the calls, if their preview is the one that was seen. What is raised is `Writer.write`'s, and `of`'s."""
+    def apply(self, person: Person, items: list[Item], seen: Seen, note: Note = NO_NOTE) -> Done | Preview:
+        """Sends the calls, if their preview is the one that was seen; else nothing is sent, and the new preview has to be looked at first.
+
+        What is raised is `Writer.write`'s, and `of`'s.
+        """
         end = time.monotonic() + APPLYING
         while True:
             preview = self.of(person, items)
@@ -138,11 +131,11 @@ class Previews:
                 self.wait_for(person, preview.seq)
                 continue
             if mine := self.recent.same(person.name, seen):
-                return Done(mine.seq, mine.calls, mine.answers, True)
+                return Done(mine.seq, mine.calls, True)
             if preview.refusal or preview.seen != seen.seen:
-                return NotSent(preview, preview.seq != seen.at)
+                return preview
             answer = self.writer.write(person.name, person.number, preview.calls, preview.seq, note=note)
             if answer.status == 200:
-                return Done(answer.said["seq"], preview.calls, answer.said["answers"])
+                return Done(answer.said["seq"], preview.calls)
             if answer.error != "stale" or time.monotonic() > end:
-                return NotSent(self.of(person, items), True)
+                return self.of(person, items)

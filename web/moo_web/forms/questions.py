@@ -5,16 +5,14 @@ from __future__ import annotations
 import time
 from typing import NamedTuple
 
-from moolib.calls import read_or_none
-from moolib.errors import Failed
+from moolib.calls import OF_VERBS, read_or_none
 from moolib.service import Said
 from moolib.values import written
 
-from moo_web.world.asking import Asker, Moved
-from moo_web.world.door import Answer, Door, Unreachable, batch_body
+from moo_web.world.asking import Asker, batch_asked
+from moo_web.world.door import Answer, Door, Unreachable
 
 PATIENCE = 10.0
-TRIES = 20
 LONGEST_WORD = 60
 # Of how many calls it is read what is there before them.
 MOST_BEFORE = 300
@@ -29,14 +27,7 @@ class Questions:
 
     def ask(self, programmer: int, calls: list[str], at: int | None = None) -> Answer:
         """What a batch would answer. `Moved`: the world doesn't have the number `at`. `Failed`: it is longer than moo takes."""
-        try:
-            body = batch_body(programmer, calls, at)
-        except ValueError as error:
-            raise Failed(str(error)) from None
-        answer = self.door.asked("POST", "/ask?why", body, time.monotonic() + self.patience)
-        if answer.error == "stale":
-            raise Moved
-        return answer
+        return batch_asked(self.door, programmer, calls, at, time.monotonic() + self.patience)
 
     def number(self) -> int:
         """The world's number."""
@@ -48,15 +39,6 @@ class Questions:
     def read(self, programmer: int, calls: list[str], at: int) -> list[Said]:
         """What each reading call answers, by itself, in the world of the number `at`. `Moved`: it has another one."""
         return self.reader.said(programmer, calls, at)
-
-    def read_now(self, programmer: int, call: str) -> Said:
-        """What one reading call answers now."""
-        for _ in range(TRIES):
-            try:
-                return self.read(programmer, [call], self.number())[0]
-            except Moved:
-                continue
-        raise Unreachable
 
 
 class Before(NamedTuple):
@@ -91,7 +73,7 @@ def reads_before(text: str) -> list[Before]:
     if not call or not reads or call.subject is None:
         return []
     about = call.values[1] if len(call.values) > 1 else None
-    if reads[0][0].count("{}") > 1 and not isinstance(about, (int, str) if "verb" in call.name else str):
+    if reads[0][0].count("{}") > 1 and not isinstance(about, (int, str) if call.name in OF_VERBS else str):
         return []
     given = [written(value) for value in call.values[:2]]
     return [Before(read.format(*given), words or str(about)[:LONGEST_WORD]) for read, words in reads]

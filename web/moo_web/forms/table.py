@@ -20,7 +20,7 @@ from moo_web.forms.views import NamesOf
 from moo_web.forms.whole import EntriesForm, form_of, is_exits, may_write, pairs_on, setting
 from moo_web.pages.lists import part_of
 from moo_web.pages.pages import Visit
-from moo_web.paths import url_for
+from moo_web.paths import url_for, whole_number
 from moo_web.world.properties import Property, properties_of, property_calls
 
 ROWS, NEW_ROWS, MOST_NEW = 40, 10, 100
@@ -139,7 +139,8 @@ def table_form(visit: Visit, number: int, asked: Typed) -> TableForm:
 
 def rows_in(text: str) -> int:
     """How many empty rows are asked for."""
-    return min(int(text), MOST_NEW) if text.isascii() and text.isdigit() and len(text) < 5 else NEW_ROWS
+    asked = whole_number(text)
+    return NEW_ROWS if asked is None else min(asked, MOST_NEW)
 
 
 def columns_on(visit: Visit, number: int) -> list[Property]:

@@ -23,11 +23,14 @@ from moo_web.journal.recent import Recent
 from moo_web.journal.segments import Accepted
 from moo_web.journal.undoing import Undo, undone
 from moo_web.pages.pages import Visit
+from moo_web.paths import whole_number
 from moo_web.world.asking import Moved
 from moo_web.world.door import Unreachable
+from moo_web.world.things import shortened
 
 UNDO = Form("undo", "Undo a batch", "A batch is some changes that were done together. What it replaced is put back, in the world as it is now.", BATCH.fields, ())
-# So many calls are left out one by one.
+# So many letters of a line are shown, and so many calls are left out one by one.
+LONGEST_LINE = 200
 MOST_LEFT_OUT = 200
 TRIES = 5
 UNREAD = "{:,} value{} that you may not read can’t be put back by you. A wizard can do it."
@@ -49,10 +52,9 @@ class UndoPages(BatchPages):
         if batch is None or not (visit.is_wizard or batch.who.lower() == visit.name.lower()):
             return visit.refused("not found", 404)
         whole = undone(batch)
-        asked = visit.fields.get("part", "1")
-        part = int(asked) if asked.isascii() and asked.isdigit() and len(asked) < 8 else 1
         parts = whole.parts or [[]]
-        found = FormResult(undone=batch, part=min(max(part, 1), len(parts)), parts=len(parts))
+        part = min(whole_number(visit.fields.get("part", "")) or 1, len(parts))
+        found = FormResult(undone=batch, part=part, parts=len(parts))
         for _ in range(TRIES):
             try:
                 return self.looked_over(visit, found, whole, parts[found.part - 1])
@@ -132,4 +134,4 @@ def shown_line(line: str) -> str:
     call = read_about(line)
     if call and call.name in ("set", "add_property", "set_property_info", "clear_property"):
         return f"{call.name} of {call.property} on {call.subject}"
-    return line if len(line) <= 200 else f"{line[:200]}…"
+    return shortened(line, LONGEST_LINE)

@@ -14,7 +14,7 @@ from moolib.slots import SETTABLE
 from moolib.errors import Failed
 from moolib.lines import read_line
 from moolib.service import Answer
-from moolib.values import Obj, Value
+from moolib.values import Given, Obj
 
 # So many refusals are looked at one by one.
 MOST_REFUSED = 200
@@ -82,6 +82,6 @@ def hidden_by_rights(lines: list[str], me: int) -> set[int]:
     return found
 
 
-def is_hidden(info: Value, me: int) -> bool:
+def is_hidden(info: Given, me: int) -> bool:
     """Whether the rights of a property keep somebody from reading it."""
     return isinstance(info, list) and info[:1] != [Obj(me)] and "r" not in str(info[1])

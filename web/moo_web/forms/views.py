@@ -13,7 +13,7 @@ from moolib.values import ErrorValue, Obj
 from moo_web.forms.forms import Ambiguous, Field, Form, Me, Mistake, object_value
 from moo_web.forms.input import VALUE_KINDS, Mistyped, text_value, typed_as
 from moo_web.forms.patterns import pattern
-from moo_web.world.things import Thing, World
+from moo_web.world.things import Thing, World, cut_name
 
 MOST_OFFERED = 100
 LONGEST_LABEL = 50
@@ -47,8 +47,7 @@ class NamesOf:
         thing = self.world.things.get(number)
         if thing is None:
             return "nothing" if number < 0 else f"#{number}"
-        name = thing.name.strip() or "unnamed"
-        return f"{name if len(name) <= LONGEST_LABEL else name[: LONGEST_LABEL - 1] + '…'} #{number}"
+        return f"{cut_name(thing.name.strip(), LONGEST_LABEL)} #{number}"
 
     def label(self, thing: Thing) -> str:
         """An object in words that tell it from others of its name."""

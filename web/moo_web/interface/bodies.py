@@ -8,6 +8,7 @@ from typing import Any, NamedTuple
 from moolib.batches import Item
 from moolib.json_values import calls_of, in_json as value_in_json
 from moolib.names import NoName, have_names, names_of, read_items
+from moolib.service import MOST_CALLS
 from moolib.values import read
 
 from moo_web.app import Reply, Request, in_json
@@ -15,7 +16,6 @@ from moo_web.journal.notes import Note, Unfit, words_in
 from moo_web.people.person import Person
 from moo_web.world.door import Answer
 
-MOST_CALLS = 1000
 NOT_JSON = in_json(400, error="bad request", why="the body isn't JSON")
 NOT_AN_OBJECT = in_json(400, error="bad request", why="the body isn't an object")
 

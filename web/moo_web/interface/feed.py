@@ -15,10 +15,10 @@ import threading
 from pathlib import Path
 from typing import Callable, NamedTuple
 
-from moo_web.journal.recent import MOST_LETTERS, letters_of
+from moo_web.journal.recent import MOST_LETTERS
 from moo_web.journal.segments import Accepted
 from moo_web.journal.since import batches_since, begin_of, petitions_before
-from moo_web.journal.subjects import Subjects, BatchSubjects, Wish, answered, wishes_of
+from moo_web.journal.subjects import Subjects, BatchSubjects, Wish, wishes_of
 from moo_web.journal.jobs import Busy
 from moo_web.journal.writer import Writer
 
@@ -75,9 +75,9 @@ class Feed:
                 self.held = 0
                 self.subjects = Subjects(Wishes(self.folder, accepted.at))
             self.kept.append(self.subjects.tell(accepted))
-            self.held += letters_of(accepted)
+            self.held += accepted.letters
             while len(self.kept) > 1 and (len(self.kept) > self.most or self.held > self.letters):
-                self.held -= letters_of(self.kept.popleft().accepted)
+                self.held -= self.kept.popleft().accepted.letters
             self.changed.notify_all()
 
     # For those who follow
@@ -161,5 +161,5 @@ class Wishes:
         if self.found is None:
             self.found = {}
             for accepted in petitions_before(self.folder, self.at):
-                self.found.update(wishes_of(answered(accepted)))
+                self.found.update(wishes_of(accepted))
         return self.found.get(number, Wish())

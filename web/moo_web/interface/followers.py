@@ -11,6 +11,7 @@ from moo_web.app import JSON, Reply, Request, in_json
 from moo_web.interface.bodies import wants
 from moo_web.interface.feed import About, Feed, Gone, NotYet
 from moo_web.journal.jobs import Busy
+from moo_web.paths import whole_number
 from moo_web.people.person import Person
 from moo_web.programs import utc
 from moo_web.traffic.visitors import present, visiting
@@ -84,16 +85,17 @@ class Followers:
         has_batches = wants(request, "batches")
         if has_batches and not self.is_wizard(person):
             return in_json(403, error="forbidden")
-        text = request.fields().get("wait", "0")
-        if not (text.isascii() and text.isdigit() and len(text) < 4 and int(text) <= LONGEST_WAIT):
+        asked = whole_number(request.fields().get("wait", "0"))
+        if asked is None or asked > LONGEST_WAIT:
             return in_json(400, error="bad request", why=f"wait is a number of seconds from 0 to {LONGEST_WAIT}")
+        seconds: int = asked
         try:
             some = self.since(person, at, has_batches)
         except Gone as gone:
             return in_json(410, error="gone", seq=gone.seq)
         except NotYet as early:
             return in_json(400, error="bad request", why=f"the world has number {early.seq}")
-        if some or text == "0":
+        if some or not seconds:
             return Reply(200, body_of(at, some, has_batches))
         self.waiting.begin(person.name)
         away, visitor = request.environ.get(AWAY, contextlib.nullcontext), present()
@@ -101,7 +103,7 @@ class Followers:
         def awaited() -> bytes:
             # It is read when the request is over, and is still its visitor's.
             with visiting(visitor):
-                return self.awaited(person, at, int(text), has_batches, away)
+                return self.awaited(person, at, seconds, has_batches, away)
 
         later = LaterBody(awaited, lambda: self.waiting.end(person.name))
         return Reply(200, b"", JSON, (), later)  # type: ignore[arg-type]

@@ -9,9 +9,9 @@ import subprocess
 from pathlib import Path
 
 from moolib.calls import call_name
+from moolib.errors import Failed
 
 from moo_web.journal.segments import Accepted, kept_of
-from moo_web.programs import Failed
 
 # moo takes texts of at most 1 GiB.
 LONGEST_TEXT = 1 << 29

@@ -13,11 +13,12 @@ VERB_WORDS = {"set_verb_info": "owner, rights and names of verb {}", "set_verb_a
 
 
 class Aspect(NamedTuple):
-    """What a call changes: of which object, what in words, the property that it is if it is one, and the value that it gets, as written.
+    """What a call changes: the call's name, of which object, what in words, the property that it is if it is one, and the value that it gets.
 
-    The value is None if there is none of its own, or none any more.
+    The value is as it is written; None if there is none of its own, or none any more.
     """
 
+    by: str
     number: int
     what: str
     of_property: str
@@ -36,15 +37,15 @@ def aspect_of(call: Call, is_undoing: bool = False) -> Optional[Aspect]:
         return None
     name = str(given[1])
     if call.name in ("set", "add_property"):
-        return Aspect(number, name, "" if name.lower() in SETTABLE else name, written(given[2]))
+        return Aspect(call.name, number, name, "" if name.lower() in SETTABLE else name, written(given[2]))
     if call.name in ("clear_property", "delete_property"):
-        return None if is_undoing and call.name == "delete_property" else Aspect(number, name, name, None)
+        return None if is_undoing and call.name == "delete_property" else Aspect(call.name, number, name, name, None)
     if call.name == "set_property_info":
         # A property that gets another name is known by that one.
         name = name if is_undoing else renamed(name, given[2])
-        return Aspect(number, f"owner and rights of {name}", name, written(given[2]))
+        return Aspect(call.name, number, f"owner and rights of {name}", name, written(given[2]))
     what = PLAIN.get(call.name) or VERB_WORDS.get(call.name, "").format(name)
-    return Aspect(number, what, "", written(given[-1])) if what else None
+    return Aspect(call.name, number, what, "", written(given[-1])) if what else None
 
 
 def renamed(name: str, info: Value) -> str:

@@ -10,9 +10,9 @@ from pathlib import Path
 from typing import Iterable, Iterator
 
 from moolib.copies import Place
+from moolib.errors import Failed
 
 from moo_web.journal.segments import FIRST_SUM, Accepted, Line, Outcomes, Reading, Segment, branch_of, next_branch, segments_of
-from moo_web.programs import Failed
 
 
 class Course:

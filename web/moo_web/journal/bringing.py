@@ -5,12 +5,12 @@ from __future__ import annotations
 from typing import Callable
 
 from moolib.copies import Place
+from moolib.errors import Failed
 
 from moo_web.journal.applying import WorldFile
 from moo_web.journal.branches import Course
 from moo_web.journal.marks import Mark
 from moo_web.journal.segments import FIRST_SUM, Accepted, Line, Outcomes, Segment, next_branch
-from moo_web.programs import Failed
 
 
 class Bringing:

@@ -10,10 +10,11 @@ from pathlib import Path
 from typing import Callable
 
 from moolib.copies import Place, WorldCopy, copies_in, fault_of
+from moolib.errors import Failed
 
 from moo_web.journal.branches import Course, course_of
 from moo_web.journal.marks import Mark
-from moo_web.programs import Failed, sync_folder
+from moo_web.programs import sync_folder
 
 
 def make_file(said: argparse.Namespace, program: str, tell: Callable[[str], None]) -> None:

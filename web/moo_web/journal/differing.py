@@ -12,10 +12,10 @@ from collections.abc import Iterable
 from typing import Callable, NamedTuple, Optional, Sequence
 
 from moolib.calls import Call, read_or_none
+from moolib.errors import Failed
 
 from moo_web.journal.aspects import Aspect, aspect_of
 from moo_web.journal.segments import Accepted
-from moo_web.programs import Failed
 
 # In place of a value: it has none of its own; there is no such property or object.
 CLEAR, GONE = "clear", "gone"
@@ -45,14 +45,13 @@ class Between:
         """Takes in one more batch. `Failed`: what it replaced isn't in the journal."""
         if batch.memory is None:
             raise Failed(f"batch {batch.seq} is of a journal from before batches could be undone: what its calls replaced wasn't kept")
-        answers = batch.answers or [""] * len(batch.calls)
         for place, text in enumerate(batch.calls):
             call = read_or_none(text)
             if call and not call.is_reading:
                 calls = list(self.asked(call.petition)) if call.name == "grant" and call.petition is not None else [call]
-                self.take_calls(calls, answers[place], batch.memory.before[place] or [])
+                self.take_calls(calls, batch.memory.before[place] or [])
 
-    def take_calls(self, calls: list[Call], answer: str, before: list[str]) -> None:
+    def take_calls(self, calls: list[Call], before: list[str]) -> None:
         """Takes in a call, or those that a grant did, with what undoes them."""
         steps = [step for step in map(read_or_none, before) if step]
         after = {aspect.key: aspect for call in calls if (aspect := aspect_of(call))}

@@ -12,13 +12,13 @@ from __future__ import annotations
 
 import argparse
 import contextlib
-import os
 import signal
 import time
 from pathlib import Path
 from typing import Callable, Iterator
 
 from moolib.copies import Place
+from moolib.errors import Failed
 
 from moo_web.journal.applying import Ended, WorldFile
 from moo_web.journal.branches import Course
@@ -26,7 +26,7 @@ from moo_web.journal.bringing import Bringing
 from moo_web.journal.marks import Mark, place_beside
 from moo_web.journal.receiving import Receiver
 from moo_web.journal.tail import LinesGone, Tail
-from moo_web.programs import Failed, notify, only_ours
+from moo_web.programs import notify, only_ours
 
 PAUSE = 0.1
 SAY_EVERY = 1.0

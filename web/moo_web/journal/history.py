@@ -61,35 +61,6 @@ class Batches(NamedTuple):
         return [batch for _, batch in self.places]
 
 
-class Decided(NamedTuple):
-    """A petition that was granted or declined: its number, the batch that made it, and the one that ended it."""
-
-    number: int
-    asked: Accepted
-    ended: Accepted
-
-    @property
-    def call(self) -> str:
-        """The call that made it."""
-        answers = self.asked.answers or []
-        return next((call for call, answer in zip(self.asked.calls, answers) if answer == str(self.number)), "")
-
-    @property
-    def word(self) -> str:
-        """The word that came with its end; empty if there was none."""
-        return self.ended.note.words
-
-    @property
-    def is_asked_again(self) -> bool:
-        """Whether who made it took it back and asked once more, in one batch."""
-        return any(call_name(call) == "petition" for call in self.ended.calls)
-
-    @property
-    def is_granted(self) -> bool:
-        """Whether it was granted."""
-        return any(call.name == "grant" and call.petition == self.number for call in map(Call.read, self.ended.calls))
-
-
 class Petition(NamedTuple):
     """A petition as it was made: by whom, and its calls."""
 
@@ -99,8 +70,7 @@ class Petition(NamedTuple):
 
 def call_about(accepted: Accepted, number: int | None) -> str:
     """The first call of a batch that names an object or makes it; else, and of no object, the first one. Empty: it has no call."""
-    answers = accepted.answers or [""] * len(accepted.calls)
-    for call, answer in zip(accepted.calls, answers):
+    for call, answer in accepted.answered:
         is_made = call_name(call) == "create" and answer == f"#{number}"
         if number is None or is_made or number in numbers_in(call):
             return call
@@ -162,6 +132,7 @@ class History:
         self.turn = threading.Lock()
         # The segments that were read, in their order; and up to where the file beside the last one goes.
         self.parts: list[SegmentBatches] = []
+        self.headers: dict[tuple[str, int], Segment] = {}
         self.kept = 0
         self.ledger = Ledger()
         # How many events of the last segment are in it, and which segment is to be checked again.
@@ -190,18 +161,6 @@ class History:
                 total, is_more = total + len(places), is_more or end > taken
             return Batches(list(self.read(wanted)), total, wanted[-1] if wanted and is_more else None)
 
-    def decided(self, who: str, count: int, patience: float = READING) -> list[Decided]:
-        """The last petitions of a person that were granted or declined, the newest first: at most so many."""
-        with self.caught_up(patience) as is_read:
-            if not is_read:
-                return []
-            found = []
-            for number, place in self.ledger.decided_of(who, count):
-                batches = [batch for _, batch in self.read([place, self.ledger.ended[number]])]
-                if len(batches) == 2:
-                    found.append(Decided(number, batches[0], batches[1]))
-            return found
-
     def one(self, seq: int, patience: float = READING) -> Accepted | None:
         """The batch that made this number of the world. After the journal was begun anew at a lower number, the last batch of it counts.
 
@@ -224,10 +183,8 @@ class History:
         with self.caught_up() as is_read:
             place = self.ledger.made.get(number) if is_read else None
             batch = None if place is None else next((batch for _, batch in self.read([place])), None)
-        if batch is None:
-            return None
-        made = (call for call, answer in zip(batch.calls, batch.answers or []) if answer == str(number) and call_name(call) == "petition")
-        return next((Petition(batch.who, tuple(Call.read(call).asked)) for call in made), None)
+        made = batch.made_petition(number) if batch else ""
+        return Petition(batch.who, tuple(Call.read(made).asked)) if batch and made else None
 
     def same(self, who: str, calls: str, after: int) -> Accepted | None:
         """A batch of this person whose calls have this sum, accepted after that number of the present world.
@@ -300,7 +257,7 @@ class History:
     def catch_up(self) -> None:
         """Reads what was written since the last time, and writes files beside segments."""
         try:
-            segments, _ = segments_of(self.folder)
+            segments, _ = segments_of(self.folder, self.headers)
         except (Damaged, OSError):
             return
         known = {part.path for part in self.parts[:-1]}

@@ -17,6 +17,10 @@ from moo_web.journal.mending import Survey, whole_journal
 from moo_web.journal.segments import FIRST_SUM, VERSION, line_of
 
 SEGMENT_BYTES = 1 << 26
+GAP_ADVICE = (
+    "Nothing is written until an operator decides. If the world is right as it is, stop the front and start it with --rebase: the journal "
+    "begins anew at its number. If another copy was served by mistake, put the right one back first, and bring it up by moo-replay"
+)
 
 
 class InUse(Exception):
@@ -241,3 +245,9 @@ class Journal:
         for place in self.places:
             place.close()
         self.places = []
+
+
+def told_of_gap(gap: dict[str, Any]) -> str:
+    """What a gap means, and what to do."""
+    numbers = f"the world has number {gap['world']} and the journal {gap['journal']}"
+    return f"{numbers}: somebody else wrote, or another copy is served. {GAP_ADVICE}"

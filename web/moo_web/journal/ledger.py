@@ -42,10 +42,10 @@ class Ledger:
         else:
             self.ended[number] = place
 
-    def decided_of(self, who: str, count: int) -> list[tuple[int, int]]:
-        """The last petitions of a person that were ended, the newest first: their numbers, each with the place of its batch."""
+    def decided_of(self, who: str, count: int) -> list[int]:
+        """The numbers of the last petitions of a person that were ended, the newest first."""
         theirs = reversed(self.of_people.get(who.lower(), []))
-        return [(number, place) for number, place in theirs if number in self.ended and self.made[number] == place][:count]
+        return [number for number, place in theirs if number in self.ended and self.made[number] == place][:count]
 
     def last_replies(self, number: int) -> list[Reply]:
         """The answers to a petition: the last one of each person, the oldest first."""

@@ -7,8 +7,8 @@ import re
 from pathlib import Path
 
 from moolib.copies import PLACE_FILE, Place, read_place
+from moolib.errors import Failed
 
-from moo_web.programs import Failed
 
 MARK = re.compile(r"(\d{1,20}) ([0-9a-f]{64})\n")
 

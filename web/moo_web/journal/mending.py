@@ -9,6 +9,8 @@ import time
 from pathlib import Path
 from typing import Any, BinaryIO, Callable
 
+from moolib.private import for_owner_alone
+
 from moo_web.journal.prefixes import Prefix, unread_lines
 from moo_web.journal.segments import Damaged, Line, Reading, Segment, branch_of
 from moo_web.programs import sync_folder
@@ -115,7 +117,7 @@ def cut_tail(reading: Reading, tell: Callable[[str], None]) -> None:
     path = reading.segments[-1].path
     if reading.is_whole_line:
         aside = path.with_name(f"damaged-{path.name}-{int(time.time())}")
-        with open(path, "rb") as file, open(aside, "wb", opener=private_opener) as copy:
+        with open(path, "rb") as file, open(aside, "wb", opener=for_owner_alone) as copy:
             file.seek(reading.end)
             copy.write(file.read())
         tell(f"{path}: the last line was damaged: its {reading.torn} bytes were moved to {aside}; the world's number tells what it was")
@@ -149,7 +151,7 @@ def copy_rest(source: Path, target: Path, first: int) -> int:
 
     Both have the same `first` bytes.
     """
-    with open(source, "rb") as full, open(target, "a+b", opener=private_opener) as part:
+    with open(source, "rb") as full, open(target, "a+b", opener=for_owner_alone) as part:
         size = part.seek(0, os.SEEK_END)
         part.seek(first)
         full.seek(first)
@@ -169,8 +171,3 @@ def is_beginning(part: BinaryIO, full: BinaryIO, size: int) -> bool:
             return False
         size -= len(piece)
     return True
-
-
-def private_opener(path: str, flags: int) -> int:
-    """Opens a file that nobody else may read, if it is a new one."""
-    return os.open(path, flags, 0o600)

@@ -15,7 +15,7 @@ import sys
 from pathlib import Path
 from typing import Any, Callable, Iterator, NamedTuple
 
-from moo_web.journal.segments import LONGEST_LINE, SUM_LENGTH, Line, Reading, Segment, sum_after
+from moo_web.journal.segments import LONGEST_LINE, Line, Reading, Segment, sum_after, sum_if_whole, text_in
 from moo_web.programs import sync_folder
 
 VERSION = 1
@@ -106,7 +106,7 @@ def read_prefix(segment: Segment) -> PrefixFile | None:
     try:
         with open(index_path(segment.path), "rb") as file:
             line = file.readline(LONGEST_HEAD)
-        text = line[SUM_LENGTH + 1 : -1]
+        text = text_in(line)
         if line != hashlib.sha256(text).hexdigest().encode() + b" " + text + b"\n":
             return None
         said = json.loads(text)
@@ -129,19 +129,16 @@ def is_of(prefix: Prefix, segment: Segment) -> bool:
     with open(segment.path, "rb") as file:
         file.seek(start)
         raw = file.read(min(prefix.end - start, LONGEST_LINE))
-    text = raw[SUM_LENGTH + 1 : -1]
-    return prefix.sum == sum_after(before, text) and raw == prefix.sum.encode() + b" " + text + b"\n"
+    return prefix.sum == sum_after(before, text_in(raw)) and raw == prefix.sum.encode() + b" " + text_in(raw) + b"\n"
 
 
 def is_as_it_was(segment: Segment, prefix: Prefix) -> bool:
     """Whether all sums of a prefix are right still."""
-    now, end = segment.former, 0
+    now: str | None = segment.former
+    end = 0
     with open(segment.path, "rb") as file:
-        while end < prefix.end and (raw := file.readline(LONGEST_LINE)):
-            text = raw[SUM_LENGTH + 1 : -1]
-            now, end = sum_after(now, text), end + len(raw)
-            if raw != now.encode() + b" " + text + b"\n":
-                return False
+        while now and end < prefix.end and (raw := file.readline(LONGEST_LINE)):
+            now, end = sum_if_whole(now, raw), end + len(raw)
     return (end, now) == (prefix.end, prefix.sum)
 
 

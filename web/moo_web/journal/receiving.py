@@ -14,13 +14,15 @@ import time
 from pathlib import Path
 from typing import IO, Any, Callable
 
+from moolib.errors import Failed
+
 from moo_web.journal.journal import hold, write_whole
 from moo_web.journal.mending import mended
 from moo_web.journal.prefixes import Prefix, unread_lines
-from moo_web.journal.segments import FIRST_SUM, SEGMENT_NAME, SUM_LENGTH, Damaged, Reading, Segment, sum_after
+from moo_web.journal.segments import FIRST_SUM, SEGMENT_NAME, SUM_LENGTH, Damaged, Reading, Segment, sum_if_whole, text_in
 from moo_web.journal.sending import CopyRequest, Place
 from moo_web.people.keeping import put_people
-from moo_web.programs import PEOPLE_FILE, Failed, own_folder, sync_folder
+from moo_web.programs import PEOPLE_FILE, own_folder, sync_folder
 
 # As many lines as a stop of the other machine may cost, and more.
 OFFERED = 64
@@ -136,11 +138,10 @@ def chained(text: bytes, head: dict[str, Any], former: str | None) -> tuple[list
     """The places of lines that come there, and the last sum. Without a sum before them the first one says it. `Failed`: a sum is wrong."""
     places, at = [], head["at"]
     for raw in text.splitlines(keepends=True):
-        body = raw[SUM_LENGTH + 1 : -1]
         if former is None:
-            former = str(json.loads(body)["former"])
-        now = sum_after(former, body)
-        if raw != now.encode() + b" " + body + b"\n":
+            former = str(json.loads(text_in(raw))["former"])
+        now = sum_if_whole(former, raw)
+        if now is None:
             raise Failed("a line came with a wrong sum")
         places.append(Place(head["segment"], at, at + len(raw), now))
         at, former = at + len(raw), now

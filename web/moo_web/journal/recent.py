@@ -10,13 +10,9 @@ from moo_web.journal.segments import Accepted
 from moo_web.journal.tables import sum_of
 from moo_web.journal.jobs import Busy
 from moo_web.journal.writer import Writer
+from moo_web.paths import whole_number
 
 MOST_LETTERS = 1 << 24
-
-
-def letters_of(accepted: Accepted) -> int:
-    """How many letters the calls and the answers of a batch have."""
-    return sum(map(len, accepted.calls)) + sum(map(len, accepted.answers or []))
 
 
 class Seen(NamedTuple):
@@ -29,10 +25,8 @@ class Seen(NamedTuple):
     @staticmethod
     def read(fields: Mapping[str, str]) -> Seen | None:
         """The same of the fields of a form; None if there is none."""
-        at = fields.get("seen.at", "")
-        if not (at.isascii() and at.isdigit() and len(at) < 20):
-            return None
-        return Seen(int(at), fields.get("seen.all", ""), fields.get("seen.calls", ""))
+        at = whole_number(fields.get("seen.at", ""))
+        return None if at is None else Seen(at, fields.get("seen.all", ""), fields.get("seen.calls", ""))
 
 
 class Recent:
@@ -50,10 +44,10 @@ class Recent:
     def take(self, accepted: Accepted) -> None:
         """Remembers one more."""
         self.kept[accepted.seq] = (accepted.who, sum_of(accepted.calls), accepted)
-        self.held += letters_of(accepted)
+        self.held += accepted.letters
         while len(self.kept) > self.most or self.held > self.letters:
             self.first = next(iter(self.kept))
-            self.held -= letters_of(self.kept.pop(self.first)[2])
+            self.held -= self.kept.pop(self.first)[2].letters
 
     def same(self, who: str, seen: Seen) -> Accepted | None:
         """A batch of this person with the calls that were seen, accepted since. `Busy`: the journal is still being read."""

@@ -15,6 +15,7 @@ from typing import Callable, Optional
 
 from moolib.calls import Call, call_name
 from moolib.copies import Place
+from moolib.errors import Failed
 
 from moo_web.journal.applying import WorldFile, program_named
 from moo_web.journal.branches import course_of, history_of, lines_until
@@ -26,7 +27,7 @@ from moo_web.journal.journal import InUse
 from moo_web.journal.marks import Mark, place_beside
 from moo_web.journal.segments import Accepted, Damaged
 from moo_web.journal.undoing import text_of, undone
-from moo_web.programs import Failed, Teller
+from moo_web.programs import Teller, number_word, object_number
 
 USAGE = """moo-replay FOLDER FILE [--to S] [--at TIME] [--copies COPIES | --branch SUM] [--moo PROGRAM]
        moo-replay FOLDER FILE --follow [--from COMMAND] [--late SECONDS] [--branch SUM] [--moo PROGRAM]
@@ -87,16 +88,7 @@ def read_words(words: list[str]) -> argparse.Namespace:
 
 def batch_number(text: str) -> int:
     """A number of the world."""
-    if not text.isascii() or not text.isdigit():
-        raise argparse.ArgumentTypeError(f"{text!r} isn't a number of a world")
-    return int(text)
-
-
-def object_number(text: str) -> int:
-    """The number of an object, as `#4`."""
-    if not (text.removeprefix("#").isascii() and text.removeprefix("#").isdigit()):
-        raise argparse.ArgumentTypeError(f"{text!r} isn't an object such as #4")
-    return int(text.removeprefix("#"))
+    return number_word(text, 0, (1 << 63) - 1, "a number of a world")
 
 
 def seconds(text: str) -> float:
@@ -203,7 +195,7 @@ def print_differences(folder: Path, first: int, last: int, number: Optional[int]
     petitions: dict[int, list[Call]] = {}
     between, reached = Between(lambda petition: petitions.get(petition, [])), None
     for batch in history_of(folder):
-        for text, answer in zip(batch.calls, batch.answers or ()):
+        for text, answer in batch.answered:
             if call_name(text) == "petition" and answer.isdigit():
                 petitions[int(answer)] = Call.read(text).asked
         if low < batch.seq <= high:

@@ -8,10 +8,14 @@ it: 64 zeros after `new`, the last sum before it after `rebase`, and that of the
 from __future__ import annotations
 
 import hashlib
+import itertools
 import json
+import os
 import re
 from pathlib import Path
-from typing import Any, Iterable, Iterator, NamedTuple
+from typing import Any, BinaryIO, Iterable, Iterator, NamedTuple
+
+from moolib.calls import call_name
 
 from moo_web.journal.notes import NO_NOTE, Note, note_of
 
@@ -76,6 +80,26 @@ def sum_after(former: str, text: bytes) -> str:
     return hashlib.sha256(former.encode() + text).hexdigest()
 
 
+def text_in(raw: bytes) -> bytes:
+    """The JSON of a line."""
+    return raw[SUM_LENGTH + 1 : -1]
+
+
+def sum_if_whole(former: str, raw: bytes) -> str | None:
+    """The sum of a line after a line with that sum. None: it isn't whole, or has another sum."""
+    now = sum_after(former, text_in(raw))
+    return now if raw == now.encode() + b" " + text_in(raw) + b"\n" else None
+
+
+def has_line(file: BinaryIO, start: int, end: int, sum_: str) -> bool:
+    """Whether a file has a line with this sum at this place."""
+    file.seek(start)
+    if file.read(SUM_LENGTH) != sum_.encode():
+        return False
+    file.seek(end - 1)
+    return file.read(1) == b"\n"
+
+
 def line_of(former: str, said: dict[str, Any]) -> tuple[str, bytes]:
     """A line's sum, and its bytes."""
     text = json.dumps(said, separators=(",", ":")).encode()
@@ -115,16 +139,21 @@ def next_branch(segment: Segment, branch: str) -> str:
     return worked_out if segment.branch is None else segment.branch
 
 
-def segments_of(folder: Path) -> tuple[list[Segment], list[Path]]:
-    """The segments of a folder in their order, and the files whose first line was torn."""
-    found, torn = [], []
-    for path in sorted(folder.iterdir()):
-        if SEGMENT_NAME.fullmatch(path.name):
-            segment = header_of(path)
-            if segment:
-                found.append(segment)
-            else:
-                torn.append(path)
+def segments_of(folder: Path, known: dict[tuple[str, int], Segment] | None = None) -> tuple[list[Segment], list[Path]]:
+    """The segments of a folder in their order, and the files whose first line was torn.
+
+    `known` keeps those that were found, by name and inode, for who looks again and again: their first lines aren't read a second time.
+    """
+    found, torn, known = [], [], {} if known is None else known
+    with os.scandir(folder) as entries:
+        files = sorted((entry.name, entry.inode()) for entry in entries if SEGMENT_NAME.fullmatch(entry.name))
+    for file in files:
+        segment = known.get(file) or header_of(folder / file[0])
+        if segment:
+            known[file] = segment
+            found.append(segment)
+        else:
+            torn.append(folder / file[0])
     found.sort(key=lambda segment: segment.number)
     for former, segment in zip(found, found[1:]):
         if segment.number != former.number + 1:
@@ -173,19 +202,18 @@ class Reading:
             file.seek(self.end)
             while raw := file.readline(LONGEST_LINE):
                 self.number += 1
-                text = raw[SUM_LENGTH + 1 : -1]
-                now = sum_after(self.sum, text)
-                if raw != now.encode() + b" " + text + b"\n":
+                now = sum_if_whole(self.sum, raw)
+                if now is None:
                     self.stop_at(segment, self.number, raw, bool(file.read(1)) or segment is not self.segments[-1])
                     return
                 self.sum, self.end = now, self.end + len(raw)
-                yield Line(segment, self.number, now, text, self.end)
+                yield Line(segment, self.number, now, text_in(raw), self.end)
 
     def stop_at(self, segment: Segment, number: int, raw: bytes, is_damage: bool) -> None:
         """Takes the last line for a torn one if it may be."""
         if is_damage or number == 1:
             raise Damaged(f"{segment.path}, line {number}: its sum is wrong")
-        text = raw[SUM_LENGTH + 1 : -1]
+        text = text_in(raw)
         self.torn = len(raw)
         self.is_whole_line = raw.endswith(b"\n") or raw[:-1] == sum_after(self.sum, text).encode() + b" " + text
 
@@ -239,9 +267,24 @@ class Accepted(NamedTuple):
         return self.kept.get("answers")
 
     @property
+    def answered(self) -> list[tuple[str, str]]:
+        """Each call with its answer, which is empty if it wasn't kept."""
+        answers = self.answers or []
+        return list(itertools.zip_longest(self.calls, answers[: len(self.calls)], fillvalue=""))
+
+    @property
+    def letters(self) -> int:
+        """How many letters its calls and answers have."""
+        return sum(map(len, self.calls)) + sum(map(len, self.answers or ()))
+
+    @property
     def seq(self) -> int:
         """The world's number after it."""
         return self.at + 1
+
+    def made_petition(self, number: int) -> str:
+        """The call that made the petition of this number; empty if none did, or its answer wasn't kept."""
+        return next((call for call, answer in self.answered if answer == str(number) and call_name(call) == "petition"), "")
 
 
 def accepted_of(intent: dict[str, Any], done: dict[str, Any]) -> Accepted:
@@ -275,14 +318,3 @@ class Outcomes:
             raise Damaged(f"{line.segment.path}, line {line.number}: an outcome of no intent")
         self.sum = found[0]
         return accepted_of(found[1], said)
-
-
-def accepted_in(folder: Path) -> Iterator[Accepted | dict[str, Any]]:
-    """Each accepted batch of a journal in its order, and each `base` and `gap` between them, as an object.
-
-    It reads what is whole by now, also while a front writes. `Damaged`: a sum is wrong.
-    """
-    outcomes = Outcomes()
-    for line in Reading(folder).lines():
-        if (told := outcomes.take(line)) is not None:
-            yield told

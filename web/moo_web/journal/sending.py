@@ -21,10 +21,11 @@ import time
 from pathlib import Path
 from typing import Any, Iterator, NamedTuple
 
-from moo_web.journal.segments import SUM_LENGTH, Damaged, Segment
+from moolib.errors import Failed
+
+from moo_web.journal.segments import SUM_LENGTH, Damaged, Segment, has_line
 from moo_web.journal.tail import LinesGone, Tail
 from moo_web.people.keeping import people_in, state_of
-from moo_web.programs import Failed
 from moo_web.status.standbys import Progress
 
 VERSION = 1
@@ -162,11 +163,7 @@ def number_in(said: dict[str, Any]) -> int:
 def is_there(segment: Segment, place: Place) -> bool:
     """Whether a segment has this line at this place."""
     with open(segment.path, "rb") as file:
-        file.seek(place.start)
-        if file.read(SUM_LENGTH) != place.sum.encode():
-            return False
-        file.seek(place.end - 1)
-        return file.read(1) == b"\n"
+        return has_line(file, place.start, place.end, place.sum)
 
 
 def frame_of(segment: Segment, at: int, text: bytes) -> Frame:

@@ -6,8 +6,7 @@ takes the number after the last one, so these objects are counted, and the next 
 
 from __future__ import annotations
 
-import itertools
-from typing import Callable, Iterable, Iterator, NamedTuple
+from typing import Callable, NamedTuple
 
 from moolib.calls import Call, read_or_none
 
@@ -29,23 +28,15 @@ class BatchSubjects(NamedTuple):
     counted: tuple[int, ...]
 
 
-def answered(accepted: Accepted) -> Iterator[tuple[Call, str]]:
-    """The calls of a batch, each with its answer, which is empty if it isn't kept."""
-    answers = accepted.answers or []
-    for text, answer in itertools.zip_longest(accepted.calls, answers[: len(accepted.calls)], fillvalue=""):
-        call = read_or_none(text)
-        if call:
-            yield call, answer
-
-
 def wish_of(call: Call) -> Wish:
     """What the petition that this call makes asks for."""
     return Wish(call.objects, sum(asked.name == "create" for asked in call.asked))
 
 
-def wishes_of(calls: Iterable[tuple[Call, str]]) -> dict[int, Wish]:
-    """The petitions that calls with these answers made, by their numbers."""
-    return {int(answer): wish_of(call) for call, answer in calls if call.name == "petition" and answer.isdigit()}
+def wishes_of(accepted: Accepted) -> dict[int, Wish]:
+    """The petitions that a batch made, by their numbers."""
+    read = ((read_or_none(text), answer) for text, answer in accepted.answered if answer.isdigit())
+    return {int(answer): wish_of(call) for call, answer in read if call and call.name == "petition"}
 
 
 class Subjects:
@@ -61,10 +52,10 @@ class Subjects:
         """The same of the next batch."""
         found: set[int] = set()
         counted: list[int] = []
-        calls = list(answered(accepted))
-        self.wishes.update(wishes_of(calls))
-        for call, answer in calls:
-            if call.name == "petition":
+        self.wishes.update(wishes_of(accepted))
+        for text, answer in accepted.answered:
+            call = read_or_none(text)
+            if call is None or call.name == "petition":
                 continue
             found |= call.objects
             if call.name == "create":

@@ -21,7 +21,7 @@ from typing import Any, Iterator, NamedTuple, Sequence
 from moolib.calls import Call, call_name
 
 from moo_web.journal.prefixes import NAMED_LINES, LinePlace, Prefix, PrefixFile, index_path, read_prefix
-from moo_web.journal.segments import SUM_LENGTH, Accepted, Segment, accepted_of, sum_after
+from moo_web.journal.segments import Accepted, Segment, accepted_of, sum_if_whole, text_in
 
 # An object that is named, in a text too.
 OBJECT_NUMBER = re.compile(r"#\s*([-+]?\d{1,10})")
@@ -51,9 +51,8 @@ def sum_of(said: object) -> str:
 def named_in(accepted: Accepted, asked: dict[int, set[int]]) -> set[int]:
     """The objects that a batch names, those that it made, and those of the petitions that it granted: `asked` has what petitions name."""
     found: set[int] = set()
-    answers = accepted.answers or []
-    for place, call in enumerate(accepted.calls):
-        name, answer = call_name(call), answers[place] if place < len(answers) else ""
+    for call, answer in accepted.answered:
+        name = call_name(call)
         found |= numbers_in(call)
         if name == "create":
             found |= numbers_in(answer)
@@ -129,11 +128,10 @@ class Growing:
 
     def take(self, raw: bytes) -> bool:
         """Takes the next line in. False: it isn't one, or not yet, or its sum is wrong."""
-        text = raw[SUM_LENGTH + 1 : -1]
-        now = sum_after(self.sum, text)
-        if raw != now.encode() + b" " + text + b"\n":
+        now = sum_if_whole(self.sum, raw)
+        if now is None:
             return False
-        self.take_in(json.loads(text.decode()), self.end)
+        self.take_in(json.loads(text_in(raw).decode()), self.end)
         self.last.append(LinePlace(self.end, now))
         self.end, self.lines, self.sum = self.end + len(raw), self.lines + 1, now
         return True

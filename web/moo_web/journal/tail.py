@@ -12,7 +12,7 @@ from __future__ import annotations
 from pathlib import Path
 from typing import BinaryIO, Callable, Iterator
 
-from moo_web.journal.segments import LONGEST_LINE, SEGMENT_NAME, SUM_LENGTH, Damaged, Line, Segment, header_of, sum_after
+from moo_web.journal.segments import LONGEST_LINE, SEGMENT_NAME, Damaged, Line, Segment, has_line, header_of, sum_if_whole, text_in
 
 
 class LinesGone(Exception):
@@ -63,18 +63,13 @@ class Tail:
         """Whether the last line that was read is still there."""
         if not self.end:
             return True
-        file.seek(self.start)
-        if file.read(SUM_LENGTH) != self.sum.encode():
-            return False
-        file.seek(self.end - 1)
-        return file.read(1) == b"\n"
+        return has_line(file, self.start, self.end, self.sum)
 
     def whole(self, raw: bytes) -> Line | None:
         """The line that these bytes are, and the place after it. None: they aren't one, or not yet."""
         assert self.segment
-        text = raw[SUM_LENGTH + 1 : -1]
-        now = sum_after(self.sum, text)
-        if raw != now.encode() + b" " + text + b"\n":
+        now = sum_if_whole(self.sum, raw)
+        if now is None:
             is_torn = not raw.endswith(b"\n")
             self.why = "its last line isn't whole" if is_torn else f"{self.segment.path}, line {self.number + 1}: its sum is wrong"
             return None
@@ -82,7 +77,7 @@ class Tail:
             self.is_at_limit = True
             return None
         self.start, self.end, self.number, self.sum = self.end, self.end + len(raw), self.number + 1, now
-        return Line(self.segment, self.number, now, text, self.end)
+        return Line(self.segment, self.number, now, text_in(raw), self.end)
 
     def enter(self, segment: Segment) -> None:
         """Goes on with the first line of a segment."""

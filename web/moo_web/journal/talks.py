@@ -5,9 +5,9 @@ from __future__ import annotations
 from collections.abc import Collection
 from typing import NamedTuple, Optional
 
-from moolib.calls import Call
+from moolib.calls import Call, call_name
 
-from moo_web.journal.history import READING, Decided, History
+from moo_web.journal.history import History
 from moo_web.journal.segments import Accepted
 
 
@@ -32,12 +32,24 @@ class Talk(NamedTuple):
     @property
     def calls(self) -> list[Call]:
         """The calls that it asks for."""
-        return Call.read(made_by(self)).asked if made_by(self) else []
+        made = self.asked.made_petition(self.number)
+        return Call.read(made).asked if made else []
 
     @property
-    def decided(self) -> Optional[Decided]:
-        """How it ended; None while it is open."""
-        return Decided(self.number, self.asked, self.ended) if self.ended else None
+    def word(self) -> str:
+        """The word that came with its end; empty if there was none, or it is open."""
+        return self.ended.note.words if self.ended else ""
+
+    @property
+    def is_asked_again(self) -> bool:
+        """Whether who made it took it back and asked once more, in one batch."""
+        return self.ended is not None and any(call_name(call) == "petition" for call in self.ended.calls)
+
+    @property
+    def is_granted(self) -> bool:
+        """Whether it was granted."""
+        calls = map(Call.read, self.ended.calls) if self.ended else ()
+        return any(call.name == "grant" and call.petition == self.number for call in calls)
 
     @property
     def changed(self) -> float:
@@ -54,27 +66,21 @@ class Talk(NamedTuple):
         return next((one for one in self.answers if one.says == "done"), None)
 
 
-def made_by(talk: Talk) -> str:
-    """The call that made a petition; empty, if the journal doesn't have it."""
-    pairs = zip(talk.asked.calls, talk.asked.answers or [])
-    return next((call for call, answer in pairs if answer == str(talk.number)), "")
-
-
-def talks_of(history: History, numbers: Collection[int], patience: float = READING) -> dict[int, Talk]:
+def talks_of(history: History, numbers: Collection[int]) -> dict[int, Talk]:
     """What was said of these petitions. Those that the journal doesn't have, or not yet, are left out."""
     found = {}
-    with history.caught_up(patience) as is_read:
+    with history.caught_up() as is_read:
         for number in numbers if is_read else ():
             if (talk := talk_of(history, number)) is not None:
                 found[number] = talk
     return found
 
 
-def decided_of(history: History, who: str, count: int, patience: float = READING) -> list[Talk]:
+def decided_of(history: History, who: str, count: int) -> list[Talk]:
     """The last petitions of a person that were granted or declined, the newest first: at most so many."""
-    with history.caught_up(patience) as is_read:
-        numbers = [number for number, _ in history.ledger.decided_of(who, count)] if is_read else []
-        return [talk for number in numbers if (talk := talk_of(history, number)) is not None]
+    with history.caught_up() as is_read:
+        numbers = history.ledger.decided_of(who, count) if is_read else []
+        return [talk for number in numbers if (talk := talk_of(history, number)) is not None and talk.ended]
 
 
 def talk_of(history: History, number: int) -> Optional[Talk]:

@@ -11,15 +11,17 @@ can't make an object again.
 from __future__ import annotations
 
 import collections
-from typing import Iterator, NamedTuple, Optional
+from typing import Iterator, NamedTuple, Optional, Union
 
-from moolib.calls import Call, read_or_none
-from moolib.service import LONGEST_BODY, packed
-from moolib.values import Obj, Value, written
+from moolib.calls import Call, call_text, read_or_none
+from moolib.service import LONGEST_BODY, MOST_CALLS, packed
+from moolib.values import Name, Obj, Value
 
 from moo_web.journal.segments import Accepted, Kept
+from moo_web.world.things import shortened
 
-MOST_CALLS = 1000
+# So many letters of a call that stays are shown.
+LONGEST_TOLD = 200
 # What the calls of a batch may have of a body; its other keys have the rest.
 MOST_BYTES = LONGEST_BODY - 100
 OLD = "Batch {} is of a journal from before batches could be undone: what its calls replaced wasn’t kept."
@@ -78,14 +80,13 @@ class Undoing:
         self.calls = [read_or_none(text) for text in batch.calls]
         self.texts, self.kept = batch.calls, kept
         self.remakes: list[Optional[dict[str, list[str]]]] = [None] * len(self.calls) if is_text or not kept.remakes else kept.remakes
-        answers = batch.answers or [""] * len(self.calls)
-        made = [call.made(answer) for call, answer in zip(self.calls, answers) if call]
+        made = [call.made(answer) for call, (_, answer) in zip(self.calls, batch.answered) if call]
         gone = [call.subject for call in self.calls if call and call.name == "recycle"]
         self.gone = {number for number in gone if number is not None}
         # What came and went in this very batch, and what came and stayed.
         self.passing = self.gone.intersection(number for number in made if number is not None)
         self.made = {number for number in made if number is not None} - self.gone
-        self.names: dict[int, str] = {}
+        self.names: dict[int, Name] = {}
 
     def undo(self) -> Undo:
         """The lines, those that undo the last call first."""
@@ -124,14 +125,15 @@ class Undoing:
         """The lines that make an object again."""
         lasting[TOLD_AGAIN.format(number)] += 1
         first, *others = map(Call.read, calls)
-        yield f"$again{number} = {renamed(first, self.names)}"
-        self.names[number] = f"$again{number}"
+        name = Name(f"again{number}")
+        yield f"{name} = {renamed(first, self.names)}"
+        self.names[number] = name
         yield from (renamed(call, self.names) for call in others)
 
 
 def told_lasting(call: Optional[Call], text: str) -> str:
     """What stays of a call that nothing undoes."""
-    shown = text if len(text) <= 200 else f"{text[:200]}…"
+    shown = shortened(text, LONGEST_TOLD)
     if call and call.name == "recycle":
         return f"{shown}: the object is gone for good, and its number isn’t given again."
     if call and call.name == "decline":
@@ -139,22 +141,23 @@ def told_lasting(call: Optional[Call], text: str) -> str:
     return f"{shown}: what it replaced can’t be put back, or was too much to be kept."
 
 
-def renamed(call: Call, names: dict[int, str]) -> str:
+def renamed(call: Call, names: dict[int, Name]) -> str:
     """A call with names in place of the numbers of objects that are made again. In values the numbers stay."""
     if not numbers_of(call) & names.keys():
         return str(call)
-    given, places = [], naming_places(call)
+    given: list[object] = []
+    places = naming_places(call)
     for place, value in enumerate(call.values):
         if place in places and isinstance(value, list):
-            given.append("{" + ", ".join([name_in(value[0], names), *map(written, value[1:])]) + "}")
+            given.append([name_in(value[0], names), *value[1:]])
         else:
-            given.append(name_in(value, names) if place in places else written(value))
-    return f"{call.name}({', '.join(given)})"
+            given.append(name_in(value, names) if place in places else value)
+    return call_text(call.name, given)
 
 
-def name_in(value: Value, names: dict[int, str]) -> str:
-    """A value as it is written, by its name if it has one."""
-    return names.get(value.number, str(value)) if isinstance(value, Obj) else written(value)
+def name_in(value: Value, names: dict[int, Name]) -> Union[Value, Name]:
+    """A value, or in the place of an object its name if it has one."""
+    return names.get(value.number, value) if isinstance(value, Obj) else value
 
 
 def naming_places(call: Call) -> set[int]:

@@ -20,7 +20,7 @@ from moolib.errors import Failed, LostAnswer, NoService
 from moolib.service import FIRST_PAUSE, LONGEST_PAUSE
 
 from moo_web.journal.jobs import Barred, Busy, Job, Stopped, TooMuch, Unknown
-from moo_web.journal.journal import Broken, Journal, NoRoom
+from moo_web.journal.journal import Broken, Journal, NoRoom, told_of_gap
 from moo_web.journal.memory import Memory
 from moo_web.journal.notes import NO_NOTE, Note
 from moo_web.journal.segments import Accepted, accepted_of, kept_of
@@ -29,16 +29,11 @@ from moo_web.traffic.turns import NobodyWaits
 from moo_web.traffic.visitors import never, present, visiting
 from moo_web.traffic.writing import Free
 from moo_web.world.asking import Moved
-from moo_web.world.door import Answer, Door, TooLong, Unreachable, batch_body, said_by
+from moo_web.world.door import Answer, Door, TooLong, Unreachable, batch_body, own_answer, told_of_answer
 
 PATIENCE = 10.0
 LONGEST_QUEUE = 64
 TOLD_AFTER = 5.0
-
-GAP_ADVICE = (
-    "Nothing is written until an operator decides. If the world is right as it is, stop the front and start it with --rebase: the journal "
-    "begins anew at its number. If another copy was served by mistake, put the right one back first, and bring it up by moo-replay"
-)
 
 
 class Writer:
@@ -71,7 +66,7 @@ class Writer:
         `Busy`: nothing was sent. `Unknown`: it was sent and isn't decided yet. `Stopped`: writing has stopped. `TooLong`: nothing was sent,
         since the answer would be too long. `Barred`, `Spent`, `TooMuch`: nothing was sent, since who wrote it may not, or may not add so much.
         """
-        self.watch.begin(present(), Person(who, programmer))
+        self.watch.test_share(present(), Person(who, programmer))
         job = Job(who, programmer, calls, at, self.patience, items, note)
         with self.wake:
             if self.stopped:
@@ -206,10 +201,10 @@ class Writer:
             job.fail(error if isinstance(error, TooLong) else Busy())
             return None
         except ValueError:
-            job.finish(said_by(413, error="too large"))
+            job.finish(own_answer(413, error="too large"))
             return None
         except Failed as failed:
-            job.finish(said_by(400, error="bad request", why=failed.reason))
+            job.finish(own_answer(400, error="bad request", why=failed.reason))
             return None
         seq = answer.said.get("seq")
         if seq is not None and seq != self.seq:
@@ -354,7 +349,7 @@ class Writer:
         self.tell_listeners(accepted_of(intent, done))
         self.seq = intent["at"] + 1
         if job:
-            job.finish(answer or said_by(200, answers=job.would, seq=self.seq))
+            job.finish(answer or own_answer(200, answers=job.would, seq=self.seq))
 
     def tell_listeners(self, accepted: Accepted) -> None:
         """Tells those who keep something up with the world. What they do wrong stops nothing."""
@@ -401,14 +396,3 @@ class Writer:
         if back > 0 and self.journal.seq is not None:
             self.tell(f"the clock went back: the journal's last line is of {back:.3f} seconds later")
         return now
-
-
-def told_of_answer(answer: Answer) -> str:
-    """What an answer is that decides nothing."""
-    return f"moo answers {answer.status} {answer.error}" + (f": {answer.why}" if answer.why else "")
-
-
-def told_of_gap(gap: dict[str, Any]) -> str:
-    """What a gap means, and what to do."""
-    numbers = f"the world has number {gap['world']} and the journal {gap['journal']}"
-    return f"{numbers}: somebody else wrote, or another copy is served. {GAP_ADVICE}"

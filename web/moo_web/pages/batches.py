@@ -11,30 +11,26 @@ import time
 from typing import Any, Iterable, NamedTuple, Optional, Sequence
 
 from markupsafe import Markup, escape
-from moolib.calls import Call, read_or_none
+from moolib.calls import OF_VERBS, Call, read_or_none
+from moolib.service import MOST_CALLS
 from moolib.slots import SETTABLE
-from moolib.errors import Failed
 from moolib.values import Obj, Value, read, written
 
-from moo_web.journal.aspects import VERB_WORDS, Aspect, aspect_of
+from moo_web.journal.aspects import Aspect, aspect_of
 from moo_web.journal.history import Batches, History, call_about
 from moo_web.journal.segments import Accepted
-from moo_web.journal.undoing import MOST_CALLS, undone
+from moo_web.journal.undoing import undone
 from moo_web.forms.input import clipped
 from moo_web.forms.unread import is_of_value, readable_lines
-from moo_web.pages.links import UNNAMED
+from moo_web.pages.links import link_named, name_shown
 from moo_web.pages.pages import Visit
-from moo_web.pages.sentences import Link, in_words, told_call
+from moo_web.pages.sentences import LONGEST_OF_MANY, Link, in_words, told_call
 from moo_web.pages.words import REPLIES
-from moo_web.paths import url_for
-from moo_web.world.asking import READING, Moved, Refusal
-from moo_web.world.door import Answer, batch_body
+from moo_web.world.asking import READING, Refusal, batch_asked
+from moo_web.world.door import Answer
 
-LONGEST_NAME = 80
 OF_PROPERTIES = ("set", "clear_property", "set_property_info", "delete_property", "add_property")
-OF_VERBS = ("add_verb", "delete_verb", "set_verb_info", "set_verb_args")
 NOBODYS = ("petition",)
-OF_VERB_INFO = VERB_WORDS["set_verb_info"].partition("{")[0]
 # So many calls of a petition are told in a line.
 FEW = 3
 # So many calls of a batch are in a list of batches.
@@ -78,11 +74,11 @@ class Told(NamedTuple):
 
 
 class ListedBatch(NamedTuple):
-    """A batch in a line of a list: a sentence, how many more calls it has, and the first calls in words, if there are several."""
+    """A batch in a line of a list: a sentence, how many more calls it has, and the first calls in words, if they are unfolded and several."""
 
     words: Markup
     more: int
-    all: list[Markup]
+    all: list[Markup] = []
 
 
 def is_about(call: Optional[Call], answer: str, number: Optional[int]) -> bool:
@@ -97,15 +93,18 @@ class Telling:
         self.visit, self.history, self.batch = visit, history, batch
         self.is_own = visit.is_wizard or batch.who.lower() == visit.name.lower()
         self.link = link_then(visit, batch)
-        self.calls = [read_or_none(text) for text in batch.calls]
         self.unread = 0
+
+    @functools.cached_property
+    def calls(self) -> list[Optional[Call]]:
+        """The calls of the batch; None for one that can't be read."""
+        return [read_or_none(text) for text in self.batch.calls]
 
     def told(self) -> Told:
         """The batch as it is shown."""
         shown = [True] * len(self.calls) if self.is_own else readable(self.visit, self.calls)
         rows = [self.row(place) for place, is_shown in enumerate(shown) if is_shown]
-        answers = self.batch.answers or []
-        made = [number for call, answer in zip(self.calls, answers) if call and (number := call.made(answer)) is not None]
+        made = [number for call, (_, answer) in zip(self.calls, self.batch.answered) if call and (number := call.made(answer)) is not None]
         subjects = [call.subject for call in self.calls if call and not call.makes == "object" and not call.is_reading]
         about = [number for number in dict.fromkeys([*made, *subjects]) if number is not None and number in self.visit.world.things]
         return Told(rows, shown.count(False), self.unread, self.is_own, made, about)
@@ -125,20 +124,27 @@ class Telling:
     def line(self, number: Optional[int]) -> ListedBatch:
         """The batch in a line of a list: its first call about an object, or of no object its first one, among those that may be read."""
         text = call_about(self.batch, number) if self.is_own else self.readable_about(number)
+        more = len(self.batch.calls) - 1
         if not text:
-            return ListedBatch(self.without_call() if self.is_own else Markup("something that you may not read"), len(self.calls) - 1, [])
-        asked, who = self.asked_by(read_or_none(text))
-        words = self.sentence(text) + self.reason
+            return ListedBatch(self.without_call() if self.is_own else Markup("something that you may not read"), more)
+        call = read_or_none(text)
+        asked, who = self.asked_by(call)
+        words = self.sentence(text, call) + self.reason
         if asked:
             done = [each for each, is_shown in zip(asked, readable(self.visit, list(asked))) if self.is_own or is_shown]
             inner = Markup(" ").join(told_call(each, self.link) or escape(str(each)) for each in done[:FEW])
             words += Markup(" <span class='dim'>{}’s petition:</span> {}{}").format(who, inner, " …" if len(done) > FEW else "")
-        return ListedBatch(words, len(self.calls) - 1, self.first_sentences() if len(self.calls) > 1 else [])
+        return ListedBatch(words, more)
+
+    def unfolded(self, number: Optional[int]) -> ListedBatch:
+        """The same with its first calls in words, if it has several and any may be read."""
+        line = self.line(number)
+        return line._replace(all=self.first_sentences()) if line.more > 0 else line
 
     @property
     def count(self) -> int:
         """How many calls of it the person may read."""
-        return len(self.calls) if self.is_own else sum(readable(self.visit, self.calls))
+        return len(self.batch.calls) if self.is_own else sum(readable(self.visit, self.calls))
 
     @property
     def reason(self) -> Markup:
@@ -151,20 +157,24 @@ class Telling:
         note = self.batch.note
         return Markup("Petition {} is answered: {}{}").format(note.petition, REPLIES[note.says], self.reason) if note.says else Markup("no call")
 
-    def sentence(self, text: str) -> Markup:
-        """A call in words, or as it is written."""
-        return in_words(text, self.link) or Markup('<span class="code">{}</span>').format(self.visit.call(text, 300))
+    def sentence(self, text: str, call: Optional[Call]) -> Markup:
+        """A call of this text in words, or as it is written."""
+        words = told_call(call, self.link) if call and len(text) <= LONGEST_OF_MANY else Markup()
+        return words or Markup('<span class="code">{}</span>').format(self.visit.call(text, 300))
 
     def first_sentences(self) -> list[Markup]:
         """The first calls that the person may read."""
-        shown = [True] * len(self.calls) if self.is_own else readable(self.visit, self.calls)
-        return [self.sentence(text) for text, is_shown in zip(self.batch.calls, shown) if is_shown][:MOST_IN_LIST]
+        if self.is_own:
+            return [self.sentence(text, read_or_none(text)) for text in self.batch.calls[:MOST_IN_LIST]]
+        calls = zip(self.batch.calls, self.calls, readable(self.visit, self.calls))
+        shown = [(text, call) for text, call, is_shown in calls if is_shown]
+        return [self.sentence(text, call) for text, call in shown[:MOST_IN_LIST]]
 
     def readable_about(self, number: Optional[int]) -> str:
         """The first call about an object that the person may read, else the first one that they may; empty if there is none."""
         places = [place for place, is_shown in enumerate(readable(self.visit, self.calls)) if is_shown]
-        answers = self.batch.answers or [""] * len(self.calls)
-        about = [place for place in places if is_about(self.calls[place], answers[place], number)]
+        answered = self.batch.answered
+        about = [place for place in places if is_about(self.calls[place], answered[place][1], number)]
         if number is None:
             owned = {self.visit.number, *self.visit.world.owned.get(self.visit.number, ())}
             about = [place for place in places if (call := self.calls[place]) and call.objects & owned]
@@ -204,7 +214,7 @@ class Telling:
         answers = self.visit.answers([test for test in tests if test])
         given = dict(zip([test for test in tests if test], answers))
         lost = self.could_read() if any(isinstance(answer, Refusal) and answer.error == "E_PROPNF" for answer in answers) else set()
-        verbs = [not is_about_verb(aspect) or is_open_verb(self.visit, read(aspect.value or "{}")) for aspect in aspects]
+        verbs = [aspect.by != "set_verb_info" or is_open_verb(self.visit, read(aspect.value or "{}")) for aspect in aspects]
         may = [not test or not isinstance(given[test], Refusal) or aspect.key in lost for test, aspect in zip(tests, aspects)]
         return [is_good and is_open for is_good, is_open in zip(may, verbs)]
 
@@ -212,27 +222,12 @@ class Telling:
         """The lost values that who made the batch could read: those that it would have again if it was undone."""
         if not self.is_own:
             return set()
-        ask = functools.partial(asked_by, self.visit)
+        def ask(calls: list[str]) -> Answer:
+            return batch_asked(self.visit.asker.door, self.visit.number, calls, self.visit.world.seq, time.monotonic() + READING)
+
         lines = readable_lines(undone(self.batch).lines[:MOST_CALLS], self.visit.number, ask)
         found = (aspect_of(call, is_undoing=True) for line in lines if is_of_value(line) and (call := read_or_none(line)))
         return {aspect.key for aspect in found if aspect}
-
-
-def asked_by(visit: Visit, calls: list[str]) -> Answer:
-    """What a batch of a person's would answer in the world of their page. `Moved`: it has moved on. `Failed`: it is longer than moo takes."""
-    try:
-        body = batch_body(visit.number, calls, visit.world.seq)
-    except ValueError as error:
-        raise Failed(str(error)) from None
-    answer = visit.asker.door.asked("POST", "/ask?why", body, time.monotonic() + READING)
-    if answer.error == "stale":
-        raise Moved
-    return answer
-
-
-def is_about_verb(aspect: Aspect) -> bool:
-    """Whether the rights of a verb are what changes."""
-    return aspect.what.startswith(OF_VERB_INFO)
 
 
 def info_call(number: int, name: str) -> str:
@@ -292,10 +287,9 @@ def link_then(visit: Visit, batch: Accepted) -> Link:
         name, thing = names.get(f"#{number}"), visit.world.things.get(number)
         if name is None or thing and thing.name == name:
             return visit.link(number)
-        shown = escape(name if len(name) <= LONGEST_NAME else name[:LONGEST_NAME] + "…") if name.strip() else UNNAMED
         if thing is None:
-            return Markup('<span class="gone">{}</span>&nbsp;<span class="n">#{}</span>').format(shown, number)
-        return Markup('<a href="{}">{}</a>&nbsp;<span class="n">#{}</span>').format(url_for("object", number=number), shown, number)
+            return Markup('<span class="gone">{}</span>&nbsp;<span class="n">#{}</span>').format(name_shown(name), number)
+        return link_named(number, name)
 
     return link
 
@@ -311,11 +305,11 @@ class InTime(NamedTuple):
 def in_time(visit: Visit, history: History, number: int, name: str) -> list[InTime]:
     """The values that a property of an object got in the last batches that name the object, the newest first."""
     found = history.found(None, number, MOST_IN_TIME, patience=SOON)
-    return [one for batch in found.batches for one in reversed(in_batch(Telling(visit, history, batch), number, name))] if found else []
+    return [one for batch in found.batches for one in reversed(values_in_batch(Telling(visit, history, batch), number, name))] if found else []
 
 
-def in_batch(telling: Telling, number: int, name: str) -> list[InTime]:
-    """The same of one batch."""
+def values_in_batch(telling: Telling, number: int, name: str) -> list[InTime]:
+    """The values that one batch gave a property of an object, each with what was there before."""
     batch, key = telling.batch, (number, name.lower())
     values = []
     for place, call in enumerate(telling.calls):
@@ -330,11 +324,6 @@ def in_batch(telling: Telling, number: int, name: str) -> list[InTime]:
             new = telling.value(now.value) if now and now.value is not None else INHERITED if is_cleared else GONE
             values.append(InTime(batch, old, new))
     return values
-
-
-def told(visit: Visit, history: History, batch: Accepted) -> Told:
-    """A batch as it is shown to a person."""
-    return Telling(visit, history, batch).told()
 
 
 def concerns(visit: Visit, history: History, batch: Accepted) -> bool:

@@ -5,6 +5,7 @@ from __future__ import annotations
 from typing import Optional
 
 from moolib.calls import Call
+from moolib.errors import Failed
 
 from moo_web.app import Reply
 from moo_web.journal.differing import Differing, differing, swapped
@@ -13,7 +14,7 @@ from moo_web.journal.segments import Accepted
 from moo_web.pages.history import numbers_for
 from moo_web.pages.lists import part_of
 from moo_web.pages.pages import Visit
-from moo_web.programs import Failed
+from moo_web.paths import whole_number
 
 # So many batches are gone through for a page; moo-replay has no bound.
 MOST_BATCHES = 2000
@@ -24,7 +25,7 @@ def differences(visit: Visit, history: History) -> Reply:
     """What differs, of all objects or of one."""
     if not visit.is_wizard:
         return visit.refused("forbidden", 403)
-    first, last = (number_in(visit.fields.get(key, "")) for key in ("a", "b"))
+    first, last = (whole_number(visit.fields.get(key, "")) for key in ("a", "b"))
     asked = visit.fields.get("o", "").strip()[:256]
     numbers = numbers_for(visit, asked)
     wrong, found = "", list[Differing]()
@@ -38,11 +39,6 @@ def differences(visit: Visit, history: History) -> Reply:
     return visit.page(
         "pages/differences.html", first=first, last=last, asked=asked, wrong=wrong, part=part_of(found, visit.fields.get("page", ""), PAGE)
     )
-
-
-def number_in(text: str) -> Optional[int]:
-    """The number of the world that was typed."""
-    return int(text) if text.isascii() and text.isdigit() and len(text) < 20 else None
 
 
 def found_between(visit: Visit, history: History, first: int, last: int, number: Optional[int]) -> list[Differing]:

@@ -27,6 +27,7 @@ from moo_web.paths import PATHS, url_for
 from moo_web.people import sessions
 from moo_web.people.audit import TOKEN_REFUSED
 from moo_web.people.people import Session
+from moo_web.world.things import shortened
 
 MOST_ENTRIES = 30
 LONGEST_TITLE = 200
@@ -66,7 +67,7 @@ class FeedPages:
         """The petitions that the person may see, and their own that were decided. `TooLong`: there are too many."""
         listed, _ = self.petitions.listed(visit)
         rows = self.petitions.rows(visit, listed[-MOST_ENTRIES:], None)
-        ended = [talk for talk in decided_of(self.history, visit.name, MOST_ENTRIES) if talk.decided]
+        ended = decided_of(self.history, visit.name, MOST_ENTRIES)
         entries = [*(entry_of_row(visit, row) for row in rows), *(entry_of_talk(visit, talk, list(map(str, talk.calls))) for talk in ended)]
         return given(visit, "Petitions", "feed", url_for("petitions"), entries)
 
@@ -130,9 +131,9 @@ def entry_of_talk(visit: Visit, talk: Talk, calls: list[str], hidden: int = 0) -
     for one in talk.answers:
         lines += [f"{one.who} {REPLIES[one.says]}", *([one.words] if one.words else [])]
     ended = ""
-    if one_ended := talk.decided:
-        ended = "Granted: " if one_ended.is_granted else "Done: " if talk.done_by else "Ended: "
-        lines += [f"{ended}by {one_ended.ended.who}.", *([one_ended.word] if one_ended.word else [])]
+    if talk.ended:
+        ended = "Granted: " if talk.is_granted else "Done: " if talk.done_by else "Ended: "
+        lines += [f"{ended}by {talk.ended.who}.", *([talk.word] if talk.word else [])]
     mark = mark_of("petition", talk.number, asked.t, asked.who.lower())
     title = titled(f"{ended}{asked.who}", sentences)
     return Entry(mark, title, talk.changed, asked.who, url_for("petition", number=talk.number), "\n".join(lines))
@@ -145,15 +146,14 @@ def sentences_of(visit: Visit, calls: list[str], hidden: int) -> list[str]:
 
 
 def titled(name: str, sentences: list[str]) -> str:
-    """The title of what somebody asks for."""
-    text = f"{name}: {sentences[0]}" if sentences else name
-    return text if len(text) <= LONGEST_TITLE else text[:LONGEST_TITLE] + "…"
+    """The title of what somebody asks for or has done: their name, and the first sentence."""
+    return shortened(f"{name}: {sentences[0]}" if sentences else name, LONGEST_TITLE)
 
 
 def entry_of_batch(visit: Visit, history: History, batch: Accepted, number: int | None) -> Entry:
     """A batch that was accepted."""
     telling = Telling(visit, history, batch)
-    line = telling.line(number)
+    line = telling.unfolded(number)
     sentences = [plain(words) for words in line.all] or [plain(line.words)]
     more = telling.count - len(sentences)
     lines = [*sentences, *([f"And {more} more."] if more > 0 else [])]

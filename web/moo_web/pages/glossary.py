@@ -6,6 +6,7 @@
 
 from __future__ import annotations
 
+import functools
 from typing import NamedTuple
 
 from markupsafe import Markup
@@ -48,8 +49,9 @@ GLOSSARY = {
         Word("error", "why something was refused, in the words of the manual, such as E_PERM: you may not do it"),
     )
 }  # fmt: skip
+# So many of the words that are shown are kept as they are written in a page.
+MOST_KEPT = 256
 LETTERS = {"r": "everybody may read it", "w": "everybody may write it", "c": "who owns a child owns it there"}
-ANSWERS = "what the world says to this"
 
 
 def title_of(word: str) -> str:
@@ -63,17 +65,20 @@ def anchor_of(word: str) -> str:
     return "word-" + "".join(letter if letter.isalnum() else "-" for letter in word.lower())
 
 
+@functools.lru_cache(MOST_KEPT)
 def term(word: str, shown: str = "") -> Markup:
     """A word as a link to what it means, which is its title too. `shown` is how it is written here, if not as it is."""
     address = f"{url_for('about')}#{anchor_of(word)}"
     return Markup('<a class="term" href="{}" title="{}">{}</a>').format(address, title_of(word), shown or word)
 
 
+@functools.lru_cache(MOST_KEPT)
 def named(word: str, shown: str = "") -> Markup:
     """A word with what it means as its title."""
     return Markup('<abbr title="{}">{}</abbr>').format(title_of(word), shown or word)
 
 
+@functools.lru_cache(MOST_KEPT)
 def rights(letters: str) -> Markup:
     """The rights of a property or a verb, with what they mean as their title."""
     means = ", ".join(LETTERS[letter] for letter in letters.lower() if letter in LETTERS)

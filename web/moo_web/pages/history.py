@@ -11,9 +11,9 @@ from moolib.calls import read_or_none
 from moo_web.app import Reply
 from moo_web.journal.history import Batches, History
 from moo_web.journal.segments import Accepted
-from moo_web.pages.batches import Telling, concerns, told, without_unreadable
+from moo_web.pages.batches import Telling, concerns, without_unreadable
 from moo_web.pages.pages import Visit
-from moo_web.paths import url_for
+from moo_web.paths import url_for, whole_number
 from moo_web.people.person import PERSON_NAME
 
 PAGE = 50
@@ -29,13 +29,12 @@ def batches(visit: Visit, history: History) -> Reply:
     numbers = numbers_for(visit, asked)
     number = numbers[0] if len(numbers) == 1 else None
     before, since, until = (visit.fields.get(key, "") for key in ("before", "since", "until"))
-    from_place = int(before) if re.fullmatch(r"[0-9]{1,15}", before) else None
     found: Optional[Batches] = Batches([], 0, None)
     if number is not None or not asked:
-        found = seen_by(visit, history, who, number, from_place, moment_in(visit, since), moment_in(visit, until, DAY))
+        found = seen_by(visit, history, who, number, whole_number(before), moment_in(visit, since), moment_in(visit, until, DAY))
     return visit.page(
         "pages/history.html", found=found, number=number, asked=asked, numbers=numbers[:MOST_OFFERED], who=who, since=since, until=until,
-        is_first=not before, feed=feed_of(number, who), line=lambda batch: Telling(visit, history, batch).line(number),
+        is_first=not before, feed=feed_of(number, who), line=lambda batch: Telling(visit, history, batch).unfolded(number),
     )  # fmt: skip
 
 
@@ -86,7 +85,7 @@ def one(visit: Visit, history: History, number: int, is_done: bool = False) -> R
     if batch is None or not concerns(visit, history, batch):
         return visit.refused("not found", 404)
     return visit.page(
-        "pages/one_batch.html", batch=batch, told=told(visit, history, batch), here=walked_to(visit, batch),
+        "pages/one_batch.html", batch=batch, told=Telling(visit, history, batch).told(), here=walked_to(visit, batch),
         is_done=is_done and batch.who.lower() == visit.name.lower(),
     )  # fmt: skip
 

@@ -51,10 +51,10 @@ def by_others(visit: Visit, found: Batches | None) -> int:
 
 def parents_of(seen: World) -> list[Node]:
     """The tree of who inherits from whom."""
-    return tree(seen, seen.children, seen.children.get(NOTHING, ())[:MOST_ROOTS], MOST_NODES)
+    return tree(seen.children, seen.children.get(NOTHING, ())[:MOST_ROOTS], MOST_NODES)
 
 
 def places_of(seen: World) -> list[Node]:
     """The tree of what is where: places that aren't in another one."""
     nowhere = (number for number in seen.contents.get(NOTHING, ()) if number in seen.contents)
-    return tree(seen, seen.contents, list(itertools.islice(nowhere, MOST_ROOTS)), MOST_NODES)
+    return tree(seen.contents, list(itertools.islice(nowhere, MOST_ROOTS)), MOST_NODES)

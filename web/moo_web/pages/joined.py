@@ -11,6 +11,7 @@ from typing import NamedTuple, Optional
 
 from moolib.values import written
 
+from moo_web.forms.input import clipped
 from moo_web.pages.pages import Visit
 from moo_web.pages.sight import DESTINATION, MOST_EXITS, Exit, exits_in, leading
 from moo_web.world.properties import SightNames
@@ -127,7 +128,7 @@ def pictured(visit: Visit, places: Places) -> Picture:
     left, top = min(x for x, _ in cells.values()), min(y for _, y in cells.values())
     at = {number: (x - left, y - top) for number, (x, y) in cells.items()}
     boxes = [
-        Box(number, cut(visit.short(number)), x * ACROSS + (ACROSS - WIDTH) // 2, y * DOWN + (DOWN - HEIGHT) // 2)
+        Box(number, clipped(visit.short(number), LETTERS), x * ACROSS + (ACROSS - WIDTH) // 2, y * DOWN + (DOWN - HEIGHT) // 2)
         for number, (x, y) in at.items()
     ]
     width, height = (max(x for x, _ in at.values()) + 1) * ACROSS, (max(y for _, y in at.values()) + 1) * DOWN
@@ -158,7 +159,7 @@ def line_of(start: Cell, end: Cell, taken: set[Cell], words: str, is_one_way: bo
     path = f"M{x} {y}Q{through_x} {through_y} {to_x} {to_y}"
     step = step_of(words)
     is_said = step is not None and (start[0] + step[0], start[1] + step[1]) == end
-    return Line(path, through_x - bend_x // 2, through_y - bend_y // 2, "" if is_said else cut(words), is_one_way)
+    return Line(path, through_x - bend_x // 2, through_y - bend_y // 2, "" if is_said else clipped(words, LETTERS), is_one_way)
 
 
 def middle_of(cell: Cell) -> Cell:
@@ -173,8 +174,3 @@ def between(start: Cell, end: Cell) -> list[Cell]:
     if abs(to_x - x) not in (0, far) or abs(to_y - y) not in (0, far):
         return []
     return [(x + (to_x - x) // far * step, y + (to_y - y) // far * step) for step in range(1, far)]
-
-
-def cut(text: str) -> str:
-    """A text that fits into a box."""
-    return text if len(text) <= LETTERS else text[: LETTERS - 1] + "…"

@@ -2,28 +2,39 @@
 
 from __future__ import annotations
 
-import re
+import functools
 from typing import Any
 
 from markupsafe import Markup, escape
-from moolib.values import written
+from moolib.values import cut_at_objects, written
 
 from moo_web.pages.glossary import named
 from moo_web.paths import url_for
-from moo_web.world.things import Thing, World
+from moo_web.world.things import World, shortened
 
-LONGEST_NAME = 80
 LONGEST_VALUE = 1200
 # More than the calls and answers of a batch have that are kept.
 WHOLE = 1 << 22
-PIECES = re.compile(r'("(?:[^"\\]|\\.)*"|#-?\d{1,10})')
+# So many links are kept, each of at most some 500 bytes.
+MOST_KEPT = 1 << 13
 UNNAMED = Markup('<i class="dim">unnamed</i>')
 
 
-def short_name(thing: Thing) -> str:
-    """The name of an object, cut to a length that a page can bear; `unnamed` if it is blank."""
-    name = thing.name if len(thing.name) <= LONGEST_NAME else thing.name[:LONGEST_NAME] + "…"
-    return name if name.strip() else "unnamed"
+def name_shown(name: str) -> Markup:
+    """A name as it is shown, cut; `unnamed` if it is blank."""
+    return escape(shortened(name)) if name.strip() else UNNAMED
+
+
+def link_named(number: int, name: str) -> Markup:
+    """The link to an object that is there, by this name."""
+    return kept_link(number, shortened(name) if name.strip() else "")
+
+
+@functools.lru_cache(MOST_KEPT)
+def kept_link(number: int, name: str) -> Markup:
+    """The same of a name that is cut already, or empty. A page has hundreds of links, and the next page mostly the same ones."""
+    # This is ten times as fast as the form that escapes by itself. A number has nothing to escape.
+    return Markup(f'<a href="{url_for("object", number=number)}">{name_shown(name)}</a>&nbsp;<span class="n">#{number}</span>')
 
 
 def link(world: World, number: int, nothing: str = "nothing") -> Markup:
@@ -32,9 +43,7 @@ def link(world: World, number: int, nothing: str = "nothing") -> Markup:
     if thing is None:
         shown = ("gone", f"#{number}") if number >= 0 else ("dim", nothing)
         return Markup('<span class="{}">{}</span>').format(*shown)
-    # A page has hundreds of links, and this is ten times as fast as the form that escapes by itself. A number has nothing to escape.
-    name = escape(short_name(thing)) if thing.name.strip() else UNNAMED
-    return Markup(f'<a href="{url_for("object", number=number)}">{name}</a>&nbsp;<span class="n">#{number}</span>')
+    return link_named(number, thing.name)
 
 
 def text(given: str, longest: int = LONGEST_VALUE) -> Markup:
@@ -55,7 +64,7 @@ def value(world: World, given: Any, longest: int = LONGEST_VALUE) -> Markup:
 def call(world: World, text: str, longest: int = LONGEST_VALUE) -> Markup:
     """A call or a value, its objects as links. After so many letters it is cut, and says so."""
     shown, left = Markup(), longest
-    for place, piece in enumerate(PIECES.split(text)):
+    for place, piece in enumerate(cut_at_objects(text)):
         if left <= 0:
             break
         # What is between two pieces may begin with # too.

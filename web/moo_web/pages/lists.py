@@ -7,11 +7,11 @@ from typing import Any, NamedTuple, Sequence
 from moo_web.app import Reply
 from moo_web.pages.pages import Visit
 from moo_web.pages.sorting import Wanted, orders, sorted_list
+from moo_web.paths import whole_number
 from moo_web.world.things import NOTHING, Thing
 
 # So many objects are on one page.
 PAGE = 100
-MOST_PAGES = 1_000_000
 
 
 class Part(NamedTuple):
@@ -26,7 +26,7 @@ class Part(NamedTuple):
 def part_of(items: Sequence[Any], asked: str, size: int = PAGE) -> Part:
     """The page of this number. One that can't be is the first, or the last."""
     pages = max(1, -(-len(items) // size))
-    number = min(int(asked), pages) if asked.isascii() and asked.isdigit() and 0 < len(asked) < 8 and int(asked) > 0 else 1
+    number = min(whole_number(asked) or 1, pages)
     return Part(items[(number - 1) * size : number * size], number, pages, len(items))
 
 

@@ -13,7 +13,7 @@ from moo_web.pages.lists import part_of
 from moo_web.pages.pages import Visit
 from moo_web.pages.picture import drawn
 from moo_web.world.properties import SightNames
-from moo_web.paths import url_for
+from moo_web.paths import url_for, whole_number
 from moo_web.world.things import NOTHING
 from moo_web.world.trees import tree
 
@@ -30,8 +30,8 @@ def first(visit: Visit) -> Reply:
 
 def map_page(visit: Visit, names: SightNames, what: str) -> Reply:
     """A map: of all, or from one object on."""
-    asked = visit.fields.get("from", "")
-    start = int(asked) if asked.isascii() and asked.isdigit() and len(asked) <= 10 and int(asked) in visit.world.things else None
+    asked = whole_number(visit.fields.get("from", ""))
+    start = asked if asked in visit.world.things else None
     return exits_page(visit, names, start) if what == "exits" else tree_page(visit, what, start)
 
 
@@ -55,7 +55,7 @@ def tree_page(visit: Visit, what: str, start: int | None) -> Reply:
     if what == "places" and start is None:
         roots = tuple(number for number in roots if number in links)
     part = part_of(roots, visit.fields.get("page", ""), MOST_TREES)
-    trees = tree(world, links, part.items, MOST_NODES)
+    trees = tree(links, part.items, MOST_NODES)
     above = [thing.number for thing in (world.chain(start) if what == "parents" else world.places(start))][1:] if start is not None else []
     loose = len(world.contents.get(NOTHING, ())) - len(roots) if what == "places" and start is None else 0
     pictures = [drawn(one) for one in trees]

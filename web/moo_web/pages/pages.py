@@ -19,11 +19,13 @@ from typing import Any, Callable
 
 import jinja2
 from markupsafe import Markup
+from moolib.calls import call_name
 from moolib.service import Said
 
 from moo_web.app import App, Reply, Request, TooLarge
 from moo_web.journal.history import History
 from moo_web.pages import links
+from moo_web.pages.branches import in_branches
 from moo_web.pages.glossary import named, rights, term
 from moo_web.pages.moments import Zone, zone_of
 from moo_web.pages.sentences import in_words
@@ -38,7 +40,8 @@ from moo_web.world.asking import Asker, Moved
 from moo_web.world.door import Unreachable
 from moo_web.world.index import Index
 from moo_web.world.properties import SightNames
-from moo_web.world.things import World
+from moo_web.world.things import World, cut_name
+from moo_web.world.trees import Node
 
 HERE = Path(__file__).parents[1]
 HTML = "text/html; charset=utf-8"
@@ -88,12 +91,12 @@ class Visit:
     def world(self) -> World:
         """The public facts of the world, of one number for the whole page. `NoObject`: the person's object isn't in it.
 
-        The first try of a page takes the world that was known last. What is asked of it, or `confirm`, tells if it has moved on.
+        The first try of a page takes the world of which the writer has told last. What is asked of it, or `confirm`, tells if it has moved on.
         """
         if self.seen is None:
-            kept = self.index.kept
-            self.is_trusting = self.is_first and kept is not None and self.number in kept.things and self.index.is_last(kept)
-            self.seen = kept if kept and self.is_trusting else self.index.world()
+            last = self.index.last_told() if self.is_first else None
+            self.is_trusting = last is not None and self.number in last.things
+            self.seen = last if last and self.is_trusting else self.index.world()
         if self.number not in self.seen.things:
             raise NoObject
         return self.seen
@@ -107,6 +110,10 @@ class Visit:
     def is_wizard(self) -> bool:
         """Whether the person's object is a wizard."""
         return self.world.is_wizard(self.number)
+
+    def may_change(self, owner: int | None, rights: str) -> bool:
+        """Whether the person may change a property or a verb of this owner, with these rights."""
+        return owner == self.number or "w" in rights or self.is_wizard
 
     @property
     def waiting(self) -> Waiting | None:
@@ -145,11 +152,15 @@ class Visit:
     def short(self, number: int) -> str:
         """The name of an object, cut if it is long; its number, if it isn't there."""
         thing = self.world.things.get(number)
-        return links.short_name(thing) if thing else f"#{number}"
+        return cut_name(thing.name) if thing else f"#{number}"
 
     def link(self, number: int, nothing: str = "nothing") -> Markup:
         """An object as a link; `nothing` is written for #-1."""
         return links.link(self.world, number, nothing)
+
+    def tree(self, nodes: list[Node], what: str) -> Markup:
+        """Trees of objects as lists that fold: their `children`, or their `contents`."""
+        return in_branches(self.world, nodes, what)
 
     def value(self, given: Any, longest: int = links.LONGEST_VALUE) -> Markup:
         """A value, its objects as links."""
@@ -196,8 +207,6 @@ class Pages:
         self.rate = Rate(2 * rate, BURST_SECONDS * 2 * rate)
         self.kept_forms: list[tuple[paths.Path, PageHandler]] = []
         self.names: set[str] = set()
-        # The addresses of the forms that change a property or a verb, by `property` and `verb`.
-        self.changes = {"property": url_for("form", key="set"), "verb": url_for("form", key="verb-rights")}
         # The properties that say what is seen at a place.
         self.sight_names = SightNames()
         loader = jinja2.FileSystemLoader(HERE / "templates")
@@ -206,7 +215,7 @@ class Pages:
         )
         self.templates.globals |= {
             "whole": links.WHOLE, "in_words": in_words, "url_for": url_for, "form_for": form_for,
-            "query_of": query_of, "replies": REPLIES, "term": term, "named": named, "rights": rights,
+            "query_of": query_of, "call_name": call_name, "replies": REPLIES, "term": term, "named": named, "rights": rights,
         }  # fmt: skip
         self.sheet = (HERE / "static" / "style.css").read_bytes()
         self.mark = hashlib.sha256(self.sheet).hexdigest()[:12]

@@ -7,7 +7,7 @@ from typing import Optional
 
 from moolib.exporting import WITH, Exported, TooManyObjects, exported_by
 from moolib.facts import Facts, TooMuch
-from moolib.scripts import MOST_CALLS
+from moolib.service import MOST_CALLS
 
 from moo_web.app import Reply
 from moo_web.pages.pages import POLICY, Visit

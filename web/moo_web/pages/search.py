@@ -13,7 +13,7 @@ from moo_web.pages import links
 from moo_web.pages.lists import Part, part_of
 from moo_web.pages.pages import Visit
 from moo_web.pages.sight import DESTINATION
-from moo_web.paths import query_of, url_for
+from moo_web.paths import url_for
 from moo_web.world import finding
 from moo_web.world.definers import Definers
 from moo_web.world.dumped import ACCEPTS

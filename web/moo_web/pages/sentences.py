@@ -71,7 +71,7 @@ def value_in_words(value: Any, link: Link) -> Markup:
         elements = Markup(", ").join(value_in_words(each, link) for each in value[:20])
         return Markup("{") + elements + Markup(" …}" if len(value) > 20 else "}")
     if isinstance(value, str):
-        return Markup("“{}”").format(clipped(value))
+        return Markup(f"“{escape(clipped(value))}”")
     return escape(written(value))
 
 
@@ -133,7 +133,8 @@ def told_call(call: Call, link: Link) -> Markup:
     in_order = [value_in_words(value, link) for value in given]
     if call.name == "set_property_info" and len(given) > 2:
         in_order[2] = rights_in_words(given[2], link)
-    words = str(Markup(sentence).format(*in_order))
+    # All of them are escaped, so that this needn't be the form that escapes by itself.
+    words = sentence.format(*in_order)
     # A text that ends as a sentence does needs no second full stop.
     return Markup(re.sub(r"^<b>the", "<b>The", re.sub(r"([.!?]”)\.$", r"\1", words)))
 

@@ -49,8 +49,8 @@ def sight_of(visit: Visit, names: SightNames, number: int) -> Sight:
     """What somebody sees at an object of the world."""
     description, exits = visit.answers(sight_calls(names, number))
     lines, is_cut = described(description)
-    here, players = visit.world.contents.get(number, ()), visit.world.with_bit("player")
-    people = [one for one in players if visit.world.things[one].location == number]
+    here, things_of_world = visit.world.contents.get(number, ()), visit.world.things
+    people = [one for one in visit.world.with_bit("player") if things_of_world[one].location == number]
     things = without(here, set(people), MOST_HERE)
     more_things = len(here) - len(people) - len(things)
     return Sight(

@@ -10,12 +10,14 @@ import sys
 from pathlib import Path
 from typing import Callable
 
+from moolib.errors import Failed
+
 from moo_web.people.audit import audit_to_system
 from moo_web.people.checking import checked
 from moo_web.people.file import Wrong
 from moo_web.people.people import People
 from moo_web.people.tokens import MOST_DAYS, Terms
-from moo_web.programs import PEOPLE_FILE, Failed, only_ours, own_folder, port_number
+from moo_web.programs import PEOPLE_FILE, number_word, object_number, only_ours, own_folder, port_number
 from moo_web.world.door import Door
 
 USAGE = """moo-people FOLDER add NAME NUMBER [--moo-port M] [--any]
@@ -71,19 +73,9 @@ def read_words(words: list[str]) -> argparse.Namespace:
     return parser.parse_args(words)
 
 
-def object_number(text: str) -> int:
-    """The number of an object, with or without #."""
-    digits = text.removeprefix("#")
-    if not digits.isascii() or not digits.isdigit() or len(digits) > 10:
-        raise argparse.ArgumentTypeError(f"{text!r} isn't the number of an object")
-    return int(digits)
-
-
 def day_count(text: str) -> int:
     """How many days: at least one."""
-    if not text.isascii() or not text.isdigit() or len(text) > 9 or not 1 <= int(text) <= MOST_DAYS:
-        raise argparse.ArgumentTypeError(f"{text!r} isn't a number of days from 1 to {MOST_DAYS}")
-    return int(text)
+    return number_word(text, 1, MOST_DAYS, f"a number of days from 1 to {MOST_DAYS}")
 
 
 def file_of(said: argparse.Namespace) -> Path:

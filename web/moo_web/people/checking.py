@@ -5,7 +5,8 @@ from __future__ import annotations
 import time
 from typing import NamedTuple
 
-from moo_web.programs import Failed
+from moolib.errors import Failed
+
 from moo_web.world.door import Door, Unreachable
 
 WAIT = 10.0

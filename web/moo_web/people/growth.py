@@ -4,9 +4,10 @@
     writer.bound = growth.test
     writer.listeners.append(growth.take)
 
-Bytes are those of accepted batches: of their calls and words, and of the answers that the journal keeps. What wasn't accepted costs nothing. Wizards
-may add ten times as many. All bytes of a day may be added at once, and then as many as time brings back. A front that is started anew has forgotten what was added. A world is full while there is a file that says so:
-`moo-watch` makes it when the service takes three quarters of the memory that it may have.
+Bytes are those of accepted batches: of their calls and words, and of the answers that the journal keeps. What wasn't accepted costs
+nothing. Wizards may add ten times as many. All bytes of a day may be added at once, and then as many as time brings back. A front that is
+started anew has forgotten what was added. A world is full while there is a file that says so: `moo-watch` makes it when the service takes
+three quarters of the memory that it may have.
 """
 
 from __future__ import annotations
@@ -82,7 +83,7 @@ class Growth:
         if asked := [call for call in calls if call_name(call) == "petition"]:
             self.test_petitions(programmer, asked)
         wait = self.of_people.wait(who.lower())
-        if wait and self.is_wizard(programmer):
+        if wait and self.door.is_wizard(programmer, READING):
             wait = self.of_wizards.wait(who.lower())
         if wait:
             raise TooMuch(OF_BYTES.format(seconds=wait), wait)
@@ -91,7 +92,7 @@ class Growth:
         """Counts a batch that was accepted. A wizard's bytes are those of a person first."""
         name = accepted.who.lower()
         allowance = self.of_wizards if self.of_people.wait(name) else self.of_people
-        bytes_ = len(accepted.note.words.encode()) + sum(map(len, accepted.calls)) + sum(map(len, accepted.answers or []))
+        bytes_ = len(accepted.note.words.encode()) + accepted.letters
         allowance.take(name, bytes_)
 
     def test_petitions(self, programmer: int, asked: list[str]) -> None:
@@ -109,8 +110,3 @@ class Growth:
             raise TooMuch(OF_PETITIONS, NEXT_PETITION)
         if sum(own) + sum(map(len, asked)) > MOST_PETITION_BYTES:
             raise TooMuch(OF_PETITION_BYTES, NEXT_PETITION)
-
-    def is_wizard(self, number: int) -> bool:
-        """Whether this object is a wizard now."""
-        answer = self.door.asked("GET", f"/object/{number}", None, time.monotonic() + READING)
-        return answer.status == 200 and answer.said.get("wizard") == 1

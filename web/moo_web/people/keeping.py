@@ -10,6 +10,8 @@ import urllib.parse
 from pathlib import Path
 from typing import Callable
 
+from moolib.private import for_owner_alone
+
 from moo_web.programs import PEOPLE_FILE, sync_folder
 
 LOOK_EVERY = 1.0
@@ -40,14 +42,10 @@ def put_people(folder: Path, text: bytes) -> None:
     new = folder / f"{PEOPLE_FILE}.new"
     with contextlib.suppress(FileNotFoundError):
         new.unlink()
-    file = os.open(new, os.O_WRONLY | os.O_CREAT | os.O_EXCL, 0o600)
-    try:
-        left = memoryview(text)
-        while left:
-            left = left[os.write(file, left) :]
-        os.fsync(file)
-    finally:
-        os.close(file)
+    with open(new, "xb", opener=for_owner_alone) as file:
+        file.write(text)
+        file.flush()
+        os.fsync(file.fileno())
     new.rename(folder / PEOPLE_FILE)
     sync_folder(folder)
 

@@ -2,6 +2,7 @@
 
 from __future__ import annotations
 
+import functools
 import ipaddress
 import threading
 import time
@@ -11,6 +12,7 @@ MOST_NAMES = 10_000
 Clock = Callable[[], float]
 
 
+@functools.lru_cache(MOST_NAMES)
 def network_of(address: str) -> str:
     """What stands for one peer: an address of IPv4, or the network of 64 bits of one of IPv6."""
     try:

@@ -18,7 +18,7 @@ from moo_web.people.limits import BackOff, Rate, network_of
 from moo_web.people.links import Links
 from moo_web.people.person import PERSON_NAME, Person, test_name, test_number
 from moo_web.people.secret import MARK, hash_of
-from moo_web.people.tokens import Terms, Tokens
+from moo_web.people.tokens import Tokens
 
 IDLE_SECONDS = 12 * 3600.0
 SESSION_SECONDS = 7 * 86400.0
@@ -210,21 +210,6 @@ class People(PeopleFile):
         now = self.clock()
         rows = self.rows(LISTED.format(which), now, now, now - IDLE_SECONDS, now - SESSION_SECONDS, *given)
         return [Listed(name, number, bool(off), *more) for name, number, off, *more in rows]
-
-    # Tokens
-
-    def make_token(self, name: str, terms: Terms = Terms()) -> str:
-        """A new token of a person: `Tokens.make`."""
-        return self.tokens.make(name, terms)
-
-    def end_tokens(self, name: str) -> None:
-        """Ends all tokens of a person. `Wrong`: nobody has the name."""
-        self.tokens.end_all(name)
-
-    def of_token(self, secret: str) -> Person | None:
-        """Whose token this is, if anybody's."""
-        found = self.tokens.bearer(secret)
-        return found.person if found else None
 
     # Sessions
 

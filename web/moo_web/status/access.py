@@ -14,7 +14,9 @@ import time
 from pathlib import Path
 from typing import Callable
 
-from moo_web.programs import Failed, utc
+from moolib.errors import Failed
+
+from moo_web.programs import utc
 
 
 class AccessLog:

@@ -58,11 +58,11 @@ class Counter(Metric):
         super().__init__(name, says, *labels)
         self.counts: dict[Labels, float] = {} if labels else {(): 0}
 
-    def add(self, *labels: str, by: float = 1) -> None:
-        """Counts it once more, or so often."""
+    def add(self, *labels: str) -> None:
+        """Counts it once more."""
         with self.lock:
             key = labels if labels in self.counts or len(self.counts) < MOST_SERIES else (OTHER,) * len(labels)
-            self.counts[key] = self.counts.get(key, 0) + by
+            self.counts[key] = self.counts.get(key, 0) + 1
 
     def samples(self) -> Iterator[tuple[str, str, float]]:
         with self.lock:

@@ -10,8 +10,9 @@ import threading
 from collections.abc import Iterable
 from typing import Any, Callable
 
+from moolib.errors import Failed
+
 from moo_web.app import App, Reply, Request
-from moo_web.programs import Failed
 from moo_web.status.activity import Activity
 from moo_web.status.metrics import KIND, Metric, text_of
 from moo_web.status.readiness import Readiness

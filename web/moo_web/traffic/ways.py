@@ -8,7 +8,7 @@ import socket
 import stat
 from pathlib import Path
 
-from moo_web.programs import Failed
+from moolib.errors import Failed
 
 FIRST_SOCKET = 3
 PROXY_MODE = 0o660

@@ -20,7 +20,7 @@ MOST_ROWS = 1_000_000
 class Free:
     """Nothing is asked and nothing is counted."""
 
-    def begin(self, visitor: Visitor, person: Person) -> None:
+    def test_share(self, visitor: Visitor, person: Person) -> None:
         """What is asked when a batch comes. `Spent`: the person has written too much."""
 
     def may_send(self, name: str) -> bool:
@@ -37,7 +37,7 @@ class Counted(Free):
     def __init__(self, shares: Shares, may_come_in: Callable[[str], bool], world: Callable[[], World | None]) -> None:
         self.shares, self.may_come_in, self.world = shares, may_come_in, world
 
-    def begin(self, visitor: Visitor, person: Person) -> None:
+    def test_share(self, visitor: Visitor, person: Person) -> None:
         self.shares.must_have(visitor, person, WRITING)
 
     def may_send(self, name: str) -> bool:

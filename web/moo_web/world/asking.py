@@ -5,11 +5,11 @@ from __future__ import annotations
 import time
 from typing import Any, NamedTuple
 
-from moolib.service import Said
+from moolib.errors import Failed
+from moolib.service import MOST_CALLS, Said
 
-from moo_web.world.door import Answer, Door, TooLong, Unreachable
+from moo_web.world.door import Answer, Door, TooLong, Unreachable, batch_body
 
-MOST_CALLS = 1000
 READING = 10.0
 
 
@@ -26,6 +26,21 @@ class Refusal(NamedTuple):
 
 TOO_LONG = Said("too long", False, "its answer is too long to be shown")
 TOO_MUCH = Said("too much", False, "it is too much work for one request")
+
+
+def batch_asked(door: Door, programmer: int, calls: list[str], at: int | None, end: float) -> Answer:
+    """What a batch would answer. It is waited for until the moment `end` of the monotonic clock, or `Unreachable`.
+
+    `Moved`: the world doesn't have the number `at`. `Failed`: the batch is longer than moo takes.
+    """
+    try:
+        body = batch_body(programmer, calls, at)
+    except ValueError as error:
+        raise Failed(str(error)) from None
+    answer = door.asked("POST", "/ask?why", body, end)
+    if answer.error == "stale":
+        raise Moved
+    return answer
 
 
 class Asker:

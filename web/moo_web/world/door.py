@@ -14,7 +14,7 @@ from moolib.service import WAIT, Answer, Service, batch_body, packed
 
 from moo_web.traffic.turns import Turnstile
 
-__all__ = ["Answer", "Door", "TooLong", "Unreachable", "batch_body", "packed", "said_by"]
+__all__ = ["Answer", "Door", "TooLong", "Unreachable", "batch_body", "own_answer", "packed"]
 # A longer answer isn't taken, but for a dump.
 LONGEST_ANSWER = 1 << 24
 
@@ -26,10 +26,15 @@ def no_note(target: str, seconds: float, answer: Answer | None) -> None:
     """Takes note of nothing."""
 
 
-def said_by(status: int, **parts: object) -> Answer:
+def own_answer(status: int, **parts: object) -> Answer:
     """An answer that the front gives by itself, its keys ascending as in moo's."""
     said = dict(sorted(parts.items()))
     return Answer(status, packed(said), said)
+
+
+def told_of_answer(answer: Answer) -> str:
+    """What moo has answered, in words."""
+    return f"moo answers {answer.status} {answer.error}" + (f": {answer.why}" if answer.why else "")
 
 
 class Door(Service):
@@ -56,6 +61,11 @@ class Door(Service):
             finally:
                 self.note(route, time.monotonic() - began, answer)
 
+    def is_wizard(self, number: int, seconds: float) -> bool:
+        """Whether this object is a wizard now. `Unreachable`: no answer came in this time."""
+        answer = self.asked("GET", f"/object/{number}", None, time.monotonic() + seconds)
+        return answer.status == 200 and answer.said.get("wizard") == 1
+
     def copied(self, route: str, file: IO[bytes], end: float | None = None) -> Answer | None:
         """As a service has it, in its turn too, for which it waits until the moment `end` of the monotonic clock.
 
@@ -66,7 +76,7 @@ class Door(Service):
                 began, answer = time.monotonic(), None
                 try:
                     refusal = super().copied(route, file)
-                    answer = refusal or said_by(200)
+                    answer = refusal or own_answer(200)
                     return refusal
                 finally:
                     self.note(route, time.monotonic() - began, answer)

@@ -53,9 +53,9 @@ def with_word(visit: Visit, literals: Literals, word: str, most: int = MOST_FOUN
     return Finding(visit, literals, lambda value: has_word(written(value), word)).found(rows, most)
 
 
-def with_number(visit: Visit, literals: Literals, number: int, most: int = MOST_FOUND) -> Found:
+def with_number(visit: Visit, literals: Literals, number: int) -> Found:
     """The values and the lists of what is accepted that name an object, as far as the person may read them."""
-    return Finding(visit, literals, lambda value: names(value, number)).found(literals.with_number(number), most)
+    return Finding(visit, literals, lambda value: names(value, number)).found(literals.with_number(number), MOST_FOUND)
 
 
 def names(value: Any, number: int) -> bool:

@@ -17,7 +17,6 @@ from typing import IO, Any, NamedTuple, Optional, cast
 from moolib.calls import Call
 from moolib.values import written
 
-from moo_web.journal.recent import letters_of
 from moo_web.journal.segments import Accepted
 from moo_web.world.asking import Asker, Moved, Refusal
 from moo_web.world.door import Door, Unreachable
@@ -69,7 +68,7 @@ class Holdings:
     def take(self, accepted: Accepted) -> None:
         """Notes an accepted batch."""
         with self.told:
-            self.letters += letters_of(accepted)
+            self.letters += accepted.letters
             if self.batches is not None:
                 self.batches.append(accepted)
             if self.letters > MOST_LETTERS or self.last not in (-1, accepted.at):
@@ -97,7 +96,7 @@ class Holdings:
         with self.told:
             if self.batches is not None:
                 self.batches = [batch for batch in self.batches if batch.seq > seq]
-                self.begin, self.letters = max(self.begin, seq), sum(map(letters_of, self.batches))
+                self.begin, self.letters = max(self.begin, seq), sum(batch.letters for batch in self.batches)
 
     # What searches ask
 

@@ -5,11 +5,12 @@
     world = index.world()
 
 Each accepted batch tells which objects it may have changed: those that it names, the children and contents of those that it recycles, those
-of a petition that it grants, and new ones. Only these are read again, when the next page wants the world.
+of a petition that it grants, and new ones. Only these are read again, when the next page wants the world: few of them by one request.
 """
 
 from __future__ import annotations
 
+import bisect
 import sys
 import threading
 import time
@@ -29,30 +30,36 @@ READING = 10.0
 TOLD_WITHIN = 2.0
 # So many objects are in one answer.
 PAGE = 1000
-# So few objects with so few others under them are asked for one by one.
-FEW, SMALL = 3, 200
+# So few objects of a page are asked for by calls, and so many in one request.
+FEW, MOST_BY_CALLS = 40, 80
 # What tells the public facts of an object: its name, owner, parent and place, and its bits in the order of `BITS`.
 FACTS = (
     'get(#{}, "name")', 'get(#{}, "owner")', "parent(#{})", 'get(#{}, "location")', "is_player(#{})",
     *(f'get(#{{}}, "{bit}")' for bit in BITS[1:]),
 )  # fmt: skip
+# The errors of such calls on an object that isn't there.
+NOT_THERE = ("E_INVARG", "E_INVIND")
 
 
 class Changes:
-    """What accepted batches may have changed: the objects that they name, and which of them may have been recycled.
+    """What accepted batches may have changed: the objects that they name, which of them may have been recycled, and those that they made.
 
-    `is_all` says that it may be anything.
+    `is_making` says that they may have made others too, and `is_all` that they may have changed anything.
     """
 
     def __init__(self) -> None:
         self.named: set[int] = set()
         self.recycled: set[int] = set()
+        self.made: set[int] = set()
+        self.is_making = False
         self.is_all = False
 
     def join(self, other: Changes) -> None:
         """Takes in what other batches may have changed."""
         self.named |= other.named
         self.recycled |= other.recycled
+        self.made |= other.made
+        self.is_making = self.is_making or other.is_making
         self.is_all = self.is_all or other.is_all
 
     def touched(self, world: World) -> list[int]:
@@ -89,9 +96,8 @@ class Index:
             if accepted.at > self.told_seq:
                 self.changes.is_all = True
             self.told_seq = max(self.told_seq, accepted.seq)
-            answers = accepted.answers or []
-            for place, call in enumerate(accepted.calls):
-                self.take_call(read_or_none(call), answers[place] if place < len(answers) else "")
+            for call, answer in accepted.answered:
+                self.take_call(read_or_none(call), answer)
             self.told.notify_all()
 
     def take_call(self, call: Call | None, answer: str) -> None:
@@ -99,7 +105,7 @@ class Index:
         if call and call.makes == "petition" and answer.isdigit():
             self.petitions[int(answer)] = changes_of(call.asked)
             return
-        changes = changes_of([call]) if call else None
+        changes = changes_of([call], answer) if call else None
         if call and call.name == "grant":
             changes = self.petitions.pop(-1 if call.petition is None else call.petition, None)
         if changes is None:
@@ -126,10 +132,6 @@ class Index:
 
     # What pages ask
 
-    def is_last(self, world: World) -> bool:
-        """Whether the writer has told of no batch after this world."""
-        return self.told_seq <= world.seq
-
     def is_present(self, world: World) -> bool:
         """Whether this is the world as it is now. `Unreachable`: moo didn't tell in time."""
         return self.number(time.monotonic() + READING) == world.seq
@@ -137,7 +139,19 @@ class Index:
     def world(self) -> World:
         """The world as it is now. `Unreachable`: moo didn't tell in time."""
         end = time.monotonic() + READING
-        kept, seq = self.kept, self.number(end)
+        return self.at(self.number(end), end)
+
+    def last_told(self) -> World | None:
+        """The world after the last batch of which the writer has told. moo isn't asked for its number, so it may have a later one.
+
+        None: no world was read yet. `Unreachable`: moo didn't tell in time what has changed.
+        """
+        kept = self.kept
+        return kept and self.at(max(self.told_seq, kept.seq), time.monotonic() + READING)
+
+    def at(self, seq: int, end: float) -> World:
+        """The world of this number or of a later one."""
+        kept = self.kept
         if kept and kept.seq == seq:
             return kept
         if not self.turn.acquire(timeout=max(0.0, end - time.monotonic())):
@@ -231,43 +245,51 @@ class Index:
 
     def read_changed(self, world: World, changes: Changes, reached: int, end: float) -> World:
         """The world of the number `reached`, after what these changes name and what is new was read again."""
-        found: dict[int, Thing | None] = {}
-        touched = changes.touched(world)
-        while touched:
-            first = touched[0]
-            near = [number for number in touched if number < first + PAGE]
-            if len(near) <= FEW:
-                is_small = len(world.children.get(first, ())) + len(world.contents.get(first, ())) <= SMALL
-                found[first] = self.one(first, end) if is_small else self.by_calls(world, first, end)
-                after = first + 1
-            else:
-                after = self.some(first, touched, found, end) or world.top + 1
-            touched = [number for number in touched if number >= after]
-        more: int | None = world.top + 1
+        new = sorted(number for number in changes.made if number > world.top)
+        found = self.read_these(world, changes.touched(world) + new, end)
+        more = world.top + 1 if changes.is_making else None
         while more is not None:
             more = self.some(more, [], found, end)
         with self.told:
             if self.definers is not None:
                 self.definers |= found.keys()
-        return world.changed(reached, found)
+        return world.changed(reached, dict(sorted(found.items())))
+
+    def read_these(self, world: World, numbers: list[int], end: float) -> dict[int, Thing | None]:
+        """These objects and perhaps others; None for one that isn't there. Many that are near each other are read with a page of others."""
+        found: dict[int, Thing | None] = {}
+        few: list[int] = []
+        while numbers:
+            near = numbers[: bisect.bisect_left(numbers, numbers[0] + PAGE)]
+            if len(near) <= FEW:
+                few += near
+                after = near[-1] + 1
+            else:
+                after = self.some(numbers[0], numbers, found, end) or numbers[-1] + 1
+            numbers = numbers[bisect.bisect_left(numbers, after) :]
+        for first in range(0, len(few), MOST_BY_CALLS):
+            part = few[first : first + MOST_BY_CALLS]
+            found.update(self.by_calls(world, part, end) or {number: self.one(number, end) for number in part})
+        return found
+
+    def by_calls(self, world: World, numbers: list[int], end: float) -> dict[int, Thing | None]:
+        """These objects by one request with calls, which everybody may make. None are found if moo doesn't answer all of them."""
+        wizards = world.with_bit("wizard")
+        calls = [call.format(number) for number in numbers for call in FACTS]
+        try:
+            answer = self.door.asked("POST", "/each", batch_body(wizards[0], calls), end) if wizards else None
+        except TooLong:
+            return {}
+        each = answer.said.get("each", ()) if answer and answer.status == 200 else ()
+        if len(each) != len(calls) or any("answer" not in one and one.get("error") not in NOT_THERE for one in each):
+            return {}
+        told = [one.get("answer") for one in each]
+        return {number: told_thing(number, told[place * len(FACTS) :][: len(FACTS)]) for place, number in enumerate(numbers)}
 
     def one(self, number: int, end: float) -> Thing | None:
-        """One object; None if it isn't there."""
+        """One object; None if it isn't there. The answer names all that are under it."""
         answer = self.door.asked("GET", f"/object/{number}", None, end)
         return None if answer.status == 404 else thing_of(number, answer.said)
-
-    def by_calls(self, world: World, number: int, end: float) -> Thing | None:
-        """The same of an object with so many under it that the answer of `one` would be long: by calls, which everybody may make."""
-        wizards = world.with_bit("wizard")
-        calls = [call.format(number) for call in FACTS]
-        answer = self.door.asked("POST", "/each", batch_body(wizards[0], calls), end) if wizards else None
-        each = answer.said.get("each", ()) if answer and answer.status == 200 else ()
-        values: list[Any] = [read(one["answer"]) for one in each if "answer" in one]
-        if len(values) < len(FACTS):
-            return self.one(number, end)
-        name, owner, parent, location, *bits = values
-        sum_of_bits = sum(bool(bit) << place for place, bit in enumerate(bits))
-        return Thing(number, sys.intern(name), owner.number, parent.number, location.number, sum_of_bits)
 
     def some(self, first: int, touched: list[int], found: dict[int, Thing | None], end: float) -> int | None:
         """Finds the objects from a number on, at most a page of them, and which of those touched are gone. It gives the next number."""
@@ -286,11 +308,27 @@ class Index:
         return answer
 
 
-def changes_of(calls: Iterable[Call]) -> Changes:
-    """What calls may change."""
+def told_thing(number: int, told: list[Any]) -> Thing | None:
+    """An object, of what was answered to the calls of `FACTS`; None if it isn't there."""
+    if None in told:
+        return None
+    name, owner, parent, location, *bits = told
+    sum_of_bits = sum((bit != "0") << place for place, bit in enumerate(bits))
+    return Thing(number, sys.intern(str(read(name))), number_in(owner), number_in(parent), number_in(location), sum_of_bits)
+
+
+def changes_of(calls: Iterable[Call], answer: str = "") -> Changes:
+    """What calls may change. Of one call, whose answer this is, the object that it made is known."""
     changes = Changes()
     for call in calls:
-        changes.named |= call.objects
+        # What an object is made under stays as it is.
+        if call.makes != "object" and not call.is_reading:
+            changes.named |= call.objects
         if call.name == "recycle":
             changes.recycled |= call.objects
+        made = call.made(answer)
+        if made is not None:
+            changes.made.add(made)
+        elif call.makes == "object":
+            changes.is_making = True
     return changes

@@ -13,7 +13,7 @@ from moolib.values import written
 
 from moo_web.people.person import Person
 from moo_web.world.asking import Moved
-from moo_web.world.door import Answer, Unreachable, said_by
+from moo_web.world.door import Answer, Unreachable, own_answer
 from moo_web.world.overseeing import Overseeing
 
 READING = 10.0
@@ -47,5 +47,5 @@ def answer_with_losses(overseeing: Overseeing, person: Person, ask: Callable[[],
             continue
         rows = [{"object": f"#{loss.number}", "property": loss.name, "value": written(loss.value)} for loss in losses.found]
         hidden = losses.hidden + losses.further if losses.is_known else None
-        return said_by(200, **answer.said, losses=rows, hidden=hidden)
+        return own_answer(200, **answer.said, losses=rows, hidden=hidden)
     raise Unreachable

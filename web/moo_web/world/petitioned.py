@@ -66,17 +66,17 @@ class OpenPetitions:
 
     def take(self, accepted: Accepted) -> None:
         """Takes in an accepted batch."""
-        answers, note = accepted.answers or [], accepted.note
+        note = accepted.note
         with self.turn:
             if note.says:
                 self.said.setdefault(note.petition, {})[accepted.who.lower()] = note.says
-            for place, text in enumerate(accepted.calls):
+            for text, answer in accepted.answered:
                 call = read_or_none(text) if call_name(text) in ABOUT_PETITIONS else None
                 if call and call.petition is not None:
                     self.end(call.petition)
-                elif call and call.makes == "petition" and place < len(answers) and answers[place].isdigit():
-                    self.found[int(answers[place])] = OpenPetition(accepted.programmer, about_all(call.asked))
-                    self.ended.discard(int(answers[place]))
+                elif call and call.makes == "petition" and answer.isdigit():
+                    self.found[int(answer)] = OpenPetition(accepted.programmer, about_all(call.asked))
+                    self.ended.discard(int(answer))
 
     def end(self, number: int) -> None:
         """Forgets a petition that was granted or declined."""

@@ -4,9 +4,10 @@ from __future__ import annotations
 
 from typing import TYPE_CHECKING, Any, NamedTuple
 
+from moolib.service import MOST_CALLS
 from moolib.values import written
 
-from moo_web.world.asking import MOST_CALLS, Refusal
+from moo_web.world.asking import Refusal
 
 if TYPE_CHECKING:
     from moo_web.pages.pages import Visit

@@ -2,25 +2,33 @@
 
 from __future__ import annotations
 
-import re
 from collections.abc import Iterable
 from typing import Any, Optional
 
+from moolib.calls import Call, call_name, read_or_none
 from moolib.service import Said
 from moolib.values import Obj, written
 
 from moo_web.world.things import Thing, World
 
-FACT = re.compile(r'(parent|children|valid|is_player|get)\(#([0-9]{1,10})(?:, "(name|owner|location|contents|programmer|wizard|r|w|f)")?\)')
+OF_AN_OBJECT = ("parent", "children", "valid", "is_player")
+BUILT_IN = ("name", "owner", "location", "contents", "programmer", "wizard", "r", "w", "f")
 
 
-def public_fact(world: World, call: str) -> Optional[Said]:
+def public_fact(world: World, text: str) -> Optional[Said]:
     """What a reading call answers, by what is known of this world; None if that has to be asked."""
-    found = FACT.fullmatch(call)
-    thing = world.things.get(int(found[2])) if found else None
-    if found is None or thing is None or (found[1] == "get") != (found[3] is not None):
-        return None
-    return Said(written(fact_of(world, thing, found[3] or found[1])))
+    call = read_or_none(text) if call_name(text) in (*OF_AN_OBJECT, "get") else None
+    what = asked_fact(call) if call else ""
+    thing = world.things.get(call.subject) if call and call.subject is not None and what else None
+    return Said(written(fact_of(world, thing, what))) if thing else None
+
+
+def asked_fact(call: Call) -> str:
+    """The public fact of an object that a call reads, as `parent` or `name`; empty if it reads something else."""
+    if call.name == "get":
+        name = str(call.values[1]).lower() if len(call.values) == 2 else ""
+        return name if name in BUILT_IN else ""
+    return call.name if call.name in OF_AN_OBJECT and len(call.values) == 1 else ""
 
 
 def fact_of(world: World, thing: Thing, what: str) -> Any:

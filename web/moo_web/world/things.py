@@ -16,6 +16,18 @@ BITS = ("player", "programmer", "wizard", "r", "w", "f")
 # The places of the bits whose objects are listed: player, wizard, f.
 LISTED = (0, 2, 5)
 NOTHING = -1
+# So many letters of a name are shown.
+LONGEST_SHOWN = 80
+
+
+def cut_name(name: str, longest: int = LONGEST_SHOWN) -> str:
+    """The name of an object, cut to a length that a page can bear; `unnamed` if it is blank."""
+    return shortened(name, longest) if name.strip() else "unnamed"
+
+
+def shortened(name: str, longest: int = LONGEST_SHOWN) -> str:
+    """A name, cut to a length that a page can bear."""
+    return name if len(name) <= longest else name[:longest] + "…"
 
 
 class Thing(NamedTuple):

@@ -42,12 +42,11 @@ class Touching:
     def run(self, batches: Iterable[Accepted]) -> None:
         """Takes in batches. `TooMany`: one of their calls may have changed anything."""
         for batch in batches:
-            answers = batch.answers or []
-            for place, text in enumerate(batch.calls):
+            for text, answer in batch.answered:
                 call = read_or_none(text)
                 if call is None:
                     raise TooMany
-                self.take(call, batch.programmer, answers[place] if place < len(answers) else "")
+                self.take(call, batch.programmer, answer)
 
     def take(self, call: Call, programmer: int, answer: str = "") -> None:
         """Takes in a call, or those of a petition that it grants."""

@@ -7,7 +7,6 @@ import itertools
 from typing import Sequence
 
 from moo_web.world.linking import Links, is_among
-from moo_web.world.things import World
 
 # So many objects are shown in all, and of leaves under one object so many.
 MOST_NODES = 240
@@ -23,13 +22,13 @@ class Node:
         self.nodes: list[Node] = []
 
 
-def tree(world: World, links: Links, roots: Sequence[int], most: int = MOST_NODES) -> list[Node]:
+def tree(links: Links, roots: Sequence[int], most: int = MOST_NODES) -> list[Node]:
     """The trees under these objects, with at most so many nodes: those near the roots come first."""
     top = [Node(root, len(links.get(root, ()))) for root in roots]
     left, waiting = most - len(top), collections.deque(top)
     while waiting and left > 0:
         node = waiting.popleft()
-        numbers = picked(world, links, node.number)[:left]
+        numbers = picked(links, node.number)[:left]
         node.nodes = [Node(number, len(links.get(number, ()))) for number in numbers]
         node.more -= len(numbers)
         left -= len(numbers)
@@ -37,7 +36,7 @@ def tree(world: World, links: Links, roots: Sequence[int], most: int = MOST_NODE
     return top
 
 
-def picked(world: World, links: Links, number: int) -> list[int]:
+def picked(links: Links, number: int) -> list[int]:
     """Those under an object that are shown: first those with something under them, then some others. One or two aren't left out."""
     under = links.get(number, ())
     # Of many that are under it few have something under them, and then these are looked through.

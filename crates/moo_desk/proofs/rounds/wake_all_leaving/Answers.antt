@@ -1,6 +1,6 @@
 use Rattle.std.proofs.Common.{arith}
 use Rattle.moo_desk.specs.Later.{IsLater}
-use Rattle.moo_desk.proofs.Onward.{each_same, each_set, later_same, later_joined, later_kept}
+use Rattle.moo_desk.proofs.Onward.{each_same, each_set, later_same, later_joined, later_kept, follows_same}
 use Rattle.moo_desk.proofs.rounds.wake_all_leaving.Goals as goal
 
 pub loop-connection-init : goal.loop-connection-init
@@ -10,4 +10,4 @@ pub loop-connection-preserved : goal.loop-connection-preserved
 loop-connection-preserved g c =
     each_set (IsLater g.W.Write g.W.Outward.peer) (later_joined g.W.Write g.W.Outward.peer) c.args.leaving.now c.loop-connection.connection-items c.loop-connection.connection-index c.connection-item.result c.wake.new.self c.loop-connection.invariant
     (omega (arith, c.loop-connection-test.true, c.loop-connection.auto.connection-items))
-    (later_kept g.W.Write g.W.Outward.peer _ _ c.wake.ensures.0 c.wake.ensures.1)
+    (later_kept g.W.Write g.W.Outward.peer _ _ c.wake.ensures.0 c.wake.ensures.1 (follows_same _ _ c.wake.ensures.2))

@@ -1,6 +1,7 @@
+use Rattle.std.specs.Prelude.{◌≡◌}
 use Rattle.moo_desk.specs.Each.{Each}
 use Rattle.moo_desk.specs.Later.{IsGathered}
 use Rattle.moo_desk.proofs.rounds.watch_all.Given as goal
 
 abbrev pub invariant-loop-slot : goal.invariant-loop-slot
-invariant-loop-slot g l = Each IsGathered l.fn.slots l.slot-items
+invariant-loop-slot g l = Each IsGathered l.fn.slots l.slot-items × (g.G.Gate.gave l.gate ≡ g.G.Gate.gave l.fn.gate)

@@ -1,5 +1,5 @@
 use Rattle.moo_cli.specs.Tasks.{text_word}
-use Rattle.moo_run.{proofs.Words.{refl, sym, ap, subst, state, store_of, LeavesNothingNew, inl, inr, true≢false, Works}, proofs.Tasks.{unchanged, still_there, stays_at, both_ok, by_result, by_either, with_failure}}
+use Rattle.moo_run.{proofs.Words.{refl, sym, ap, subst, state, store_of, LeavesNothingNew, inl, inr, true≢false, Works}, proofs.Tasks.{unchanged, stays_at, both_ok, by_result, by_either, with_failure, ends_map}}
 use Rattle.moo_run.proofs.commands.do_task.Goals as goal
 
 pub returns-in-Init : goal.returns-in-Init
@@ -12,26 +12,32 @@ returns-in-Init g c = record {
 
 pub returns-in-Apply : goal.returns-in-Apply
 returns-in-Apply g c = record {
-  ends = λ known s stands. rw c.in-Apply.is (c.apply.ensures.applies c.open_batches-text.ensures.opened c.open_batches-text.ensures.lacks known s stands);
-  rests = λ other. c.apply.ensures.rests;
+  ends = λ known s stands.
+      rw c.in-Apply.is (by_either _ _ _ _ c.answer_batches.result (λ status it. it) (λ failure it. ends_map g.B.Store known c.args.world.now c.answer_batches.new.world _ _ (λ end stops. (stops, it.1)) it.0)
+      (with_failure c.answer_batches.result _ _ _ (c.answer_batches.ensures.answers c.open_batches-text.ensures.opened known s stands) (c.answer_batches.ensures.lacks c.open_batches-text.ensures.lacks)));
+  rests = λ other. c.answer_batches.ensures.rests;
   still = rw c.in-Apply.is (λ reads. absurd (true≢false (sym reads)));
-  input = rw c.in-Apply.is (c.apply.ensures.input c.open_batches-text.ensures.opened);
+  input = rw c.in-Apply.is (c.answer_batches.ensures.input c.open_batches-text.ensures.opened);
 }
 
 pub returns-in-Rehearse : goal.returns-in-Rehearse
 returns-in-Rehearse g c = record {
-  ends = λ known s stands. rw c.in-Rehearse.is (by_either _ _ _ _ c.rehearse.result (λ status it. still_there g.B.Store known c.args.world.now c.rehearse.new.world s _ c.rehearse.ensures.still (c.leaves.ensures known (Works s) stands) (refl, it)) (λ failure it. still_there g.B.Store known c.args.world.now c.rehearse.new.world s _ c.rehearse.ensures.still (c.leaves.ensures known (Works s) stands) (refl, it.0, it.1)) (with_failure c.rehearse.result _ _ _ (c.rehearse.ensures.rehearses c.open_batches-text-in-Rehearse.ensures.opened known s stands) (c.rehearse.ensures.lacks c.open_batches-text-in-Rehearse.ensures.lacks)));
-  rests = λ other. c.rehearse.ensures.rests;
-  still = λ reads. subst (λ conn. LeavesNothingNew (store_of g.B.Store c.args.world.now) (state g.B.Store conn)) (sym c.rehearse.ensures.still) (λ clean trees may. may);
-  input = rw c.in-Rehearse.is (c.rehearse.ensures.input c.open_batches-text-in-Rehearse.ensures.opened);
+  ends = λ known s stands.
+      rw c.in-Rehearse.is (by_either _ _ _ _ c.answer_batches-in-Rehearse.result (λ status it. it) (λ failure it. ends_map g.B.Store known c.args.world.now c.answer_batches-in-Rehearse.new.world _ _ (λ end stops. (stops.0, stops.1, it.1)) it.0)
+      (with_failure c.answer_batches-in-Rehearse.result _ _ _ (c.answer_batches-in-Rehearse.ensures.answers c.open_batches-text-in-Rehearse.ensures.opened known s stands) (c.answer_batches-in-Rehearse.ensures.lacks c.open_batches-text-in-Rehearse.ensures.lacks)));
+  rests = λ other. c.answer_batches-in-Rehearse.ensures.rests;
+  still = λ reads. subst (λ conn. LeavesNothingNew (store_of g.B.Store c.args.world.now) (state g.B.Store conn)) (sym (c.answer_batches-in-Rehearse.ensures.still refl)) (λ clean trees may. may);
+  input = rw c.in-Rehearse.is (c.answer_batches-in-Rehearse.ensures.input c.open_batches-text-in-Rehearse.ensures.opened);
 }
 
 pub returns-in-Ask : goal.returns-in-Ask
 returns-in-Ask g c = record {
-  ends = λ known s stands. rw c.in-Ask.is (by_either _ _ _ _ c.ask.result (λ status it. unchanged g.B.Store known c.args.world.now s _ (c.leaves.ensures known (Works s) stands) (refl, it)) (λ failure it. unchanged g.B.Store known c.args.world.now s _ (c.leaves.ensures known (Works s) stands) (refl, it.0, it.1)) (with_failure c.ask.result _ _ _ (c.ask.ensures.asks c.open_batches-text-in-Ask.ensures.opened known s stands) (c.ask.ensures.lacks c.open_batches-text-in-Ask.ensures.lacks)));
-  rests = λ other. c.ask.ensures.rests;
-  still = λ reads clean trees may. may;
-  input = rw c.in-Ask.is (c.ask.ensures.input c.open_batches-text-in-Ask.ensures.opened);
+  ends = λ known s stands.
+      rw c.in-Ask.is (by_either _ _ _ _ c.answer_batches-in-Ask.result (λ status it. it) (λ failure it. ends_map g.B.Store known c.args.world.now c.answer_batches-in-Ask.new.world _ _ (λ end stops. (stops.0, stops.1, it.1)) it.0)
+      (with_failure c.answer_batches-in-Ask.result _ _ _ (c.answer_batches-in-Ask.ensures.answers c.open_batches-text-in-Ask.ensures.opened known s stands) (c.answer_batches-in-Ask.ensures.lacks c.open_batches-text-in-Ask.ensures.lacks)));
+  rests = λ other. c.answer_batches-in-Ask.ensures.rests;
+  still = λ reads. subst (λ conn. LeavesNothingNew (store_of g.B.Store c.args.world.now) (state g.B.Store conn)) (sym (c.answer_batches-in-Ask.ensures.still refl)) (λ clean trees may. may);
+  input = rw c.in-Ask.is (c.answer_batches-in-Ask.ensures.input c.open_batches-text-in-Ask.ensures.opened);
 }
 
 pub returns-in-Dump : goal.returns-in-Dump

@@ -1,14 +1,44 @@
 use Rattle.std.proofs.Common.{refl, ap, ◌∙◌, ◌++◌, ◌∷◌, []}
-use Rattle.moo_desk.proofs.Ledgers.{keeps_taken, keeps_steps, same_slots, same_leaving}
+use Rattle.moo_desk.proofs.Ledgers.{keeps_taken, keeps_same, keeps_steps, same_slots, same_leaving, admits_gone, admits_one, admits_lost}
 use Rattle.moo_desk.proofs.desk.Desk.take_one.Goals.{in-Ok, in-Err}
 use Rattle.moo_desk.proofs.desk.Desk.take_one.Goals as goal
 
-pub returns-after-push : goal.returns-after-push
-returns-after-push g c =
+pub returns-in-Nobody-clause-one : goal.returns-in-Nobody-clause-one
+returns-in-Nobody-clause-one g c = admits_gone 1 _ _ (keeps_same _ _ refl) c.in-Nobody.ensures.count
+
+pub returns-in-Nobody-clause-none : goal.returns-in-Nobody-clause-none
+returns-in-Nobody-clause-none g c not = admits_gone 0 _ _ (keeps_same _ _ refl) c.in-Nobody.ensures.count
+
+pub returns-in-NoRoom-clause-one : goal.returns-in-NoRoom-clause-one
+returns-in-NoRoom-clause-one g c = admits_gone 1 _ _ (keeps_same _ _ refl) c.in-NoRoom.ensures.count
+
+pub returns-in-NoRoom-clause-none : goal.returns-in-NoRoom-clause-none
+returns-in-NoRoom-clause-none g c not = admits_gone 0 _ _ (keeps_same _ _ refl) c.in-NoRoom.ensures.count
+
+pub returns-in-Failed-clause-one : goal.returns-in-Failed-clause-one
+returns-in-Failed-clause-one g c = admits_gone 1 _ _ (keeps_same _ _ refl) c.in-Failed.ensures.count
+
+pub returns-after-push-clause-one : goal.returns-after-push-clause-one
+returns-after-push-clause-one g c =
+    let same = c.next_mark-mark.ensures in
+    let leaving = ap (λ held. held.leaving.items) same.0 in
+    let losses = ap (λ held. held.losses) same.0 in
+    let more = ap (λ gate. g.G.Gate.gave gate) same.1 ∙ c.in-Came.ensures.count in
     elim c.match-push.branch [
-      | in-Ok w ↦ keeps_taken _ _ c.new-slot.result (c.new-slot.ensures.reader.1, c.new-slot.ensures.writer.2)
-          (w.in-Ok.ensures.items ∙ ap (λ held. held.slots.items ++ c.new-slot.result ∷ []) c.next_mark-mark.ensures) (ap (λ held. held.leaving.items) c.next_mark-mark.ensures)
-          (ap (λ held. held.losses) c.next_mark-mark.ensures)
-      | in-Err w ↦ keeps_steps _ _ (same_slots _ _ (w.in-Err.ensures.items ∙ ap (λ held. held.slots.items) c.next_mark-mark.ensures))
-          (same_leaving g.G.Writer.Write g.G.Writer.Outward.peer _ _ (ap (λ held. held.leaving.items) c.next_mark-mark.ensures)) (ap (λ held. held.losses) c.next_mark-mark.ensures)
+      | in-Ok w ↦ admits_one 1 _ _ (keeps_taken _ _ c.new-slot.result (c.new-slot.ensures.reader.1, c.new-slot.ensures.writer.2)
+          (w.in-Ok.ensures.items ∙ ap (λ held. held.slots.items ++ c.new-slot.result ∷ []) same.0) leaving losses) more
+      | in-Err w ↦ admits_lost _ _ (keeps_steps _ _ (same_slots _ _ (w.in-Err.ensures.items ∙ ap (λ held. held.slots.items) same.0))
+          (same_leaving g.G.Writer.Write g.G.Writer.Outward.peer _ _ leaving) losses) more
+    ]
+
+pub returns-after-push-clause-none : goal.returns-after-push-clause-none
+returns-after-push-clause-none g c not =
+    let same = c.next_mark-mark.ensures in
+    let leaving = ap (λ held. held.leaving.items) same.0 in
+    let losses = ap (λ held. held.losses) same.0 in
+    let more = ap (λ gate. g.G.Gate.gave gate) same.1 ∙ c.in-Came.ensures.count in
+    elim c.match-push.branch [
+      | in-Ok w ↦ admits_one 0 _ _ (keeps_taken _ _ c.new-slot.result (c.new-slot.ensures.reader.1, c.new-slot.ensures.writer.2)
+          (w.in-Ok.ensures.items ∙ ap (λ held. held.slots.items ++ c.new-slot.result ∷ []) same.0) leaving losses) more
+      | in-Err w ↦ absurd (not w.result-is)
     ]

@@ -3,7 +3,7 @@ use Rattle.moo_desk.proofs.Onward.{later_kept}
 use Rattle.moo_desk.proofs.Ledgers.{keeps_set}
 use Rattle.moo_desk.proofs.held.Held.cut_answer.Goals as goal
 
-pub returns-then-place-len : goal.returns-then-place-len
-returns-then-place-len g c =
+pub returns-then-place-len-clause-all : goal.returns-then-place-len-clause-all
+returns-then-place-len-clause-all g c =
     keeps_set _ _ c.args.place c.index_mut.result.now c.give_up.new.self (omega (arith, c.if-place-len.true, c.len.ensures, c.args.self.now.leaving.ok.0))
-    c.index_mut.ensures.value (later_kept g.W.Write g.W.Outward.peer c.index_mut.result.now c.give_up.new.self c.give_up.ensures.same.0 c.give_up.ensures.same.1) refl refl refl
+    c.index_mut.ensures.value (later_kept g.W.Write g.W.Outward.peer c.index_mut.result.now c.give_up.new.self c.give_up.ensures.same.0 c.give_up.ensures.same.1 c.give_up.ensures.stage) refl refl refl

@@ -1,11 +1,25 @@
-use Rattle.std.proofs.Common.{◌<◌, length, refl, sym, ap, ◌∙◌, arith}
+use Rattle.std.proofs.Common.{◌<◌, length, inl, inr, refl, sym, ap, subst, ◌∙◌, arith}
+use Rattle.moo_desk.specs.Rounds.{IsTimed}
+use Rattle.moo_desk.proofs.Onward.{each_same, each_set}
 use Rattle.moo_desk.proofs.Ledgers.{keeps_slot_set, gathered_given_up, get_or_same}
+use Rattle.moo_desk.proofs.Reading.{timed_same, timed_joined}
 use Rattle.moo_desk.proofs.held.Held.cut_request.Goals as goal
 
-pub returns-then-not-index : goal.returns-then-not-index
-returns-then-not-index g c =
+pub returns-then-is_stale-clause-all : goal.returns-then-is_stale-clause-all
+returns-then-is_stale-clause-all g c =
     let few : c.args.place < length c.args.self.now.slots.items = (omega (arith, c.if-place-len.true, c.len.ensures, c.args.self.now.slots.ok.0)) in
     let same = c.index_mut.ensures.value ∙ get_or_same c.args.self.now.slots.items c.args.place c.index_mut.result.now c.index.result.now few ∙ sym c.index.ensures in
     let stays = c.give_up.ensures.stays in
     keeps_slot_set _ _ c.args.place c.index_mut.result.now c.give_up.new.self few c.index_mut.ensures.value
-    (gathered_given_up c.index_mut.result.now c.give_up.new.self (ap (λ slot. slot.rests) same ∙ c.if-not-index.true) stays.0 stays.1 stays.2 stays.3 stays.4) refl refl refl
+    (gathered_given_up c.index_mut.result.now c.give_up.new.self (ap (λ slot. slot.rests) same ∙ (c.is_stale.ensures.old c.if-is_stale.true).0) stays.0 stays.1 stays.2 stays.3 stays.4 c.give_up.ensures.times.0) refl refl refl
+
+pub returns-then-is_stale-clause-times : goal.returns-then-is_stale-clause-times
+returns-then-is_stale-clause-times g c =
+    let few : c.args.place < length c.args.self.now.slots.items = (omega (arith, c.if-place-len.true, c.len.ensures, c.args.self.now.slots.ok.0)) in
+    let slots = c.args.self.now.slots.items in
+    let given = c.give_up.ensures in
+    each_set (IsTimed c.args.now) (timed_joined c.args.now) slots slots c.args.place c.index_mut.result.now c.give_up.new.self (each_same (IsTimed c.args.now) (timed_same c.args.now) slots) few
+    (subst (λ it. IsTimed c.args.now it c.give_up.new.self) c.index_mut.ensures.value (record { since = given.times.0; heard = inr (given.times.1, ap (λ bytes. bytes.items) given.stays.0); looked = inl given.times.2 }))
+
+pub returns-else-place-len-clause-times : goal.returns-else-place-len-clause-times
+returns-else-place-len-clause-times g c = each_same (IsTimed c.args.now) (timed_same c.args.now) c.args.self.now.slots.items

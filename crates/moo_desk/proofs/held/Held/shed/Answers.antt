@@ -1,0 +1,16 @@
+use Rattle.std.proofs.Common.{subst, sym}
+use Rattle.moo_desk.specs.Each.{Each}
+use Rattle.moo_desk.specs.Rounds.{IsTimed}
+use Rattle.moo_desk.proofs.Onward.{each_same}
+use Rattle.moo_desk.proofs.Reading.{timed_same}
+use Rattle.moo_desk.proofs.held.Held.shed.Goals as goal
+
+pub returns-then-count-le-MOST-clause-times : goal.returns-then-count-le-MOST-clause-times
+returns-then-count-le-MOST-clause-times g c = each_same (IsTimed c.args.now) (timed_same c.args.now) c.args.self.now.slots.items
+
+pub returns-in-Some-clause-times : goal.returns-in-Some-clause-times
+returns-in-Some-clause-times g c =
+    subst (λ slots. Each (IsTimed c.args.now) c.args.self.now.slots.items slots.items) (sym c.cut_answer.ensures.slots) (each_same (IsTimed c.args.now) (timed_same c.args.now) c.args.self.now.slots.items)
+
+pub returns-in_default-stale-clause-times : goal.returns-in_default-stale-clause-times
+returns-in_default-stale-clause-times g c = each_same (IsTimed c.args.now) (timed_same c.args.now) c.args.self.now.slots.items

@@ -1,0 +1,26 @@
+-- What came of filling.
+use Rattle.std.specs.Prelude.{◌≡◌, ◌≢◌, ℕ, ⊤, Ok, Err}
+use Rattle.std.specs.IoError.{error_kind}
+use Rattle.std.specs.declared.io.Error.{Error}
+use Rattle.std.specs.declared.io.ErrorKind.TheVariants.{WouldBlock}
+use Rattle.moo_arrivals.specs.declared.cause.Cause.{Cause}
+use Rattle.moo_arrivals.specs.declared.cause.Cause.TheVariants.{BrokenOff, NoMemory}
+use Rattle.moo_desk.specs.declared.gathered.Filled.{Filled}
+use Rattle.moo_desk.specs.declared.gathered.Filled.TheVariants.{Grew, Waits, Ended, Failed}
+use Rattle.moo_desk.specs.declared.gathered.Gathered.{Gathered}
+use Rattle.moo_desk.specs.Read.{Gave}
+
+module _ {R : Type 0} (reads : R → Gave → R → Type 0) where
+  -- the reader failed, or memory ran out
+  abbrev pub FailsToFill : R → R → Cause → Type 0
+  FailsToFill old new BrokenOff = (error : Error) × (error_kind error ≢ WouldBlock) × reads old (Err error) new
+  FailsToFill old new NoMemory = ⊤
+  FailsToFill old new other = ⊥
+
+  -- The reader was read, unless memory ran out, and gave what is told; it is told if bytes came.
+  abbrev pub Fills : Gathered R → Gathered R → Filled → Type 0
+  Fills old new Grew = (count : ℕ) × reads old.reader (Ok count) new.reader
+  Fills old new Waits =
+      (new.bytes.items ≡ old.bytes.items) × ((error : Error) × (error_kind error ≡ WouldBlock) × reads old.reader (Err error) new.reader)
+  Fills old new Ended = (new.bytes.items ≡ old.bytes.items) × reads old.reader (Ok 0) new.reader
+  Fills old new (Failed cause) = (new.bytes.items ≡ old.bytes.items) × FailsToFill old.reader new.reader cause

@@ -1,0 +1,49 @@
+-- What a round does with the connections whose requests are gathered.
+use Rattle.std.specs.Prelude.{◌≡◌, ◌⊎◌, ◌*◌, ℕ, ⊤, true, false, List, [], ◌∷◌, length}
+use Rattle.std.specs.List.{sum_by}
+use Rattle.std.specs.declared.io.Read as Reading
+use Rattle.std.specs.declared.io.Write as Writing
+use Rattle.std.specs.declared.time.Duration.{Duration}
+use Rattle.moo_http_request.specs.declared.incoming.Incoming as Incoming
+use Rattle.moo_desk.specs.declared.gate.Inward as Inward
+use Rattle.moo_desk.specs.declared.gate.Outward as Outward
+use Rattle.moo_desk.specs.declared.held.TheConstants.{GRACE}
+use Rattle.moo_desk.specs.declared.slot.Slot.{Slot}
+use Rattle.moo_desk.specs.Read.{Gave, IsLonger}
+
+module _ {R W : Type 0}
+    {inward : Inward.Ghosts R} {incoming : Incoming.Ghosts R} {reader : Reading.Ghosts R} {outward : Outward.Ghosts W}
+    {writer : Writing.Ghosts W} where
+  -- it was read
+  abbrev pub WasRead : Slot R W inward incoming reader outward writer → Slot R W inward incoming reader outward writer → Type 0
+  WasRead old new = (gave : Gave) × inward.reads old.reader.reader gave new.reader.reader
+
+  -- An unfinished request that is due is read, or is to be handed out after this.
+  abbrev pub IsReadIfDue : Slot R W inward incoming reader outward writer → Slot R W inward incoming reader outward writer → Type 0
+  IsReadIfDue old new = old.rests ≡ false → old.is_due ≡ true → WasRead old new ⊎ (new.rests ≡ true)
+
+  -- Each that is due is read, or is to be handed out after this, if this holds; else the first unfinished one.
+  abbrev pub ReadsDue : Type 0 → List (Slot R W inward incoming reader outward writer)
+      → List (Slot R W inward incoming reader outward writer) → Type 0
+  ReadsDue All [] [] = ⊤
+  ReadsDue All (old ∷ olds) (new ∷ news) = IsReadIfDue old new × (All ⊎ (old.rests ≡ true) → ReadsDue All olds news)
+  ReadsDue All olds news = ⊥
+
+  -- how many bytes of requests are gathered
+  abbrev pub gathered_of : List (Slot R W inward incoming reader outward writer) → ℕ
+  gathered_of slots = sum_by (λ slot. length slot.reader.bytes.items) slots
+
+  -- It is this time now: when it came stays, bytes that come are heard now, and whether that is too long ago is seen now.
+  pub record IsTimed (now : Duration) (old new : Slot R W inward incoming reader outward writer) : Type 0 where
+    pub since : new.since ≡ old.since
+    pub heard : (new.heard ≡ now) ⊎ ((new.heard ≡ old.heard) × (new.reader.bytes.items ≡ old.reader.bytes.items))
+    pub looked : (new.looked ≡ now) ⊎ (new.looked ≡ old.looked)
+
+  -- its request is unfinished, and old enough to be given up if another connection needs its place
+  abbrev pub IsStale : Duration → Slot R W inward incoming reader outward writer → Type 0
+  IsStale now slot = (slot.rests ≡ false) × IsLonger (GRACE * 1_000_000) slot.since now
+
+  -- those with a mark of which this holds are due, and those that were stay so
+  abbrev pub IsWokenFor : (ℕ → Type 0) → Slot R W inward incoming reader outward writer
+      → Slot R W inward incoming reader outward writer → Type 0
+  IsWokenFor Told old new = (new.mark ≡ old.mark) × (Told old.mark ⊎ (old.is_due ≡ true) → new.is_due ≡ true)

@@ -1,0 +1,38 @@
+//! What somebody who isn't a wizard learns by any batches.
+
+ghost use Rattle.std.specs.Prelude.{◌≡◌, List, Some, true, false};
+ghost use Rattle.std.specs.List.{list_all};
+ghost use Rattle.std.specs.FinMap.{get, insert};
+ghost use Rattle.moo_value.specs.declared.value.ObjNo.{ObjNo};
+ghost use Rattle.moo_value.specs.declared.value.Value.{Value};
+ghost use Rattle.moo_rows.specs.declared.row.PetitionId.{PetitionId};
+ghost use Rattle.moo_rows.specs.declared.row.PetitionRow.{PetitionRow};
+ghost use Rattle.moo_world.specs.declared.call.Batch.{Batch};
+ghost use Rattle.moo_world.specs.Judge.{State, after};
+ghost use Rattle.moo_world.specs.Objects.{Name, folded, same_object};
+ghost use Rattle.moo_world.specs.Requests.{IsFormed};
+ghost use Rattle.moo_world.specs.Rights.{is_wizard};
+ghost use Rattle.moo_world.specs.World.{Slot, slot_of};
+ghost use Rattle.moo_laws.specs.Agreeing.{TellTheSame, with_value};
+ghost use Rattle.moo_laws.specs.Guarded.{AlikeFor, IsGuarded, is_batch_of};
+
+/// What somebody who isn't a wizard is told by any batches depends on no guarded value, and on nothing of the petitions of others but their
+/// numbers: from two states that are alike for the programmer the batches have the same verdicts, one after another, and leave states that
+/// are alike. What they give may nest 32 deep, with integers of 64 bits, objects whose numbers have 32, and strings that are texts.
+///
+/// LambdaMOO Programmer's Manual, 'Properties on Objects' in the chapter on the database. Petitions are this server's own.
+pub fn batches_tell_no_more()
+    ensures batches { (programmer : ObjNo) (state other : State) (batches : List Batch) → IsFormed state →
+        is_wizard state.world programmer ≡ false → AlikeFor programmer state other →
+        list_all (is_batch_of programmer) batches ≡ true →
+        TellTheSame batches state other × AlikeFor programmer (after state batches) (after other batches) }
+    // A guarded value may be any: the states are alike, whatever it is. Each value makes another state.
+    ensures values { (programmer object : ObjNo) (name : Name) (slot : Slot) (value other : Value) (state : State) →
+        slot_of state.world object (folded name) ≡ Some slot → IsGuarded state.world programmer slot.definer (folded name) →
+        AlikeFor programmer state (with_value state object name value) ×
+        (with_value state object name value ≡ with_value state object name other → value ≡ other) }
+    // Nor does it matter which of the others made a petition, and for what.
+    ensures petitions { (programmer : ObjNo) (state : State) (id : PetitionId) (row other : PetitionRow) →
+        get state.petitions id ≡ Some row → same_object row.who programmer ≡ false → same_object other.who programmer ≡ false →
+        AlikeFor programmer state (record state { petitions = insert state.petitions id other }) }
+{}

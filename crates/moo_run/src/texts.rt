@@ -1,0 +1,193 @@
+//! What is done with a text of batches: they are run, rehearsed or asked.
+
+ghost use Rattle.std.specs.Prelude.{◌≡◌, ◌≢◌, Bool, false, codes, IfErr};
+ghost use Rattle.std.specs.Str.{bytes_eq};
+ghost use Rattle.moo_world.specs.Judge.{State};
+ghost use Rattle.moo_store.specs.World.{StandsFor};
+ghost use Rattle.moo_run.specs.Texts.{OpenedBy, LacksBy};
+ghost use Rattle.moo_run.specs.Run.{lost_status, course_status, changes_world, AnswersBy, TellsLack};
+ghost use Rattle.moo_run.specs.declared.texts.Manner.TheVariants.{Apply, Rehearse, Ask};
+
+use crate::host::BatchFiles;
+use crate::session::{Runs, Session, Streams};
+use moo_cli::Options;
+use moo_reasons::StandardNotes;
+use moo_run_lines::{Failure, explain_lost};
+use moo_store::{Course, Tally, World, apply_until, ask_text, rehearse_text};
+use sqlite::Alter;
+use std::io::{self, Eprint, Read, Write};
+
+/// What is done with the batches of a text.
+#[derive(Clone, Copy, Drop)]
+pub(crate) enum Manner {
+    /// They are run.
+    Apply(Options),
+    /// It is said what running them would answer.
+    Rehearse(Options),
+    /// It is said what each would answer at present.
+    Ask,
+}
+
+/// The status of a text with this tally.
+fn status_after(tally: Tally) -> u8
+    ensures { result ≡ lost_status tally.lost }
+{
+    if tally.lost == 0 { 0 } else { 1 }
+}
+
+/// The status of a text with this course.
+fn course_status(course: Course) -> u8
+    ensures { result ≡ course_status course }
+{
+    if course.stopped {
+        1
+    } else {
+        status_after(course.tally)
+    }
+}
+
+/// Runs the batches of a text. The notes say on standard error why a batch isn't accepted, and the console what to do if the store failed in
+/// one.
+fn apply<C: Eprint, R: Read + Drop, W: Write, B: Alter + Drop>(
+    world: &mut World<B>,
+    text: R,
+    options: Options,
+    output: &mut W,
+    console: &C,
+    mut notes: StandardNotes<'_, C>,
+) -> Result<u8, Failure>
+    ensures applies { (known : Bool) (s : State) → StandsFor B.Store known world.old s → AnswersBy B.Store known world.old world.new
+        (Apply options) s (R.remaining text) (W.contents output.old) (W.contents output.new) result }
+    ensures opened { IfErr result (λ failure. failure ≢ Failure.NoBatches) }
+{
+    let done = apply_until(text, output, world, options.stop, &mut notes);
+    notes.finish();
+    match done {
+        Ok(course) => {
+            explain_lost(console, course.tally);
+            Ok(course_status(course))
+        }
+        Err(fault) => Err(Failure::from(fault)),
+    }
+}
+
+/// Rehearses the batches of a text. The notes say on standard error why a batch isn't accepted.
+fn rehearse<C: Eprint, R: Read + Drop, W: Write, B: Alter + Drop>(
+    world: &mut World<B>,
+    text: R,
+    options: Options,
+    output: &mut W,
+    mut notes: StandardNotes<'_, C>,
+) -> Result<u8, Failure>
+    ensures rehearses { (known : Bool) (s : State) → StandsFor B.Store known world.old s → AnswersBy B.Store known world.old world.new
+        (Rehearse options) s (R.remaining text) (W.contents output.old) (W.contents output.new) result }
+    ensures opened { IfErr result (λ failure. failure ≢ Failure.NoBatches) }
+    ensures still { world.new.connection ≡ world.old.connection }
+{
+    world.leaves();
+    let done = rehearse_text(text, output, world, options.stop, &mut notes);
+    notes.finish();
+    match done {
+        Ok(course) => Ok(course_status(course)),
+        Err(fault) => Err(Failure::from(fault)),
+    }
+}
+
+/// Says what the batches of a text would answer. The notes say on standard error why a batch isn't accepted.
+fn ask<C: Eprint, R: Read + Drop, W: Write, B: Alter + Drop>(
+    world: &World<B>,
+    text: R,
+    output: &mut W,
+    mut notes: StandardNotes<'_, C>,
+) -> Result<u8, Failure>
+    ensures asks { (known : Bool) (s : State) → StandsFor B.Store known world.now s → AnswersBy B.Store known world.now world.now
+        Ask s (R.remaining text) (W.contents output.old) (W.contents output.new) result }
+    ensures opened { IfErr result (λ failure. failure ≢ Failure.NoBatches) }
+{
+    world.leaves();
+    let done = ask_text(text, output, world, &mut notes);
+    notes.finish();
+    match done {
+        Ok(tally) => Ok(status_after(tally)),
+        Err(fault) => Err(Failure::from(fault)),
+    }
+}
+
+/// Does with the batches of a text what the manner says. The notes say on standard error why a batch isn't accepted.
+fn answer_text<C: Eprint, R: Read + Drop, W: Write, B: Alter + Drop>(
+    world: &mut World<B>,
+    text: R,
+    manner: Manner,
+    output: &mut W,
+    console: &C,
+    notes: StandardNotes<'_, C>,
+) -> Result<u8, Failure>
+    ensures answers { (known : Bool) (s : State) → StandsFor B.Store known world.old s → AnswersBy B.Store known world.old world.new
+        manner s (R.remaining text) (W.contents output.old) (W.contents output.new) result }
+    ensures opened { IfErr result (λ failure. failure ≢ Failure.NoBatches) }
+    ensures still { changes_world manner ≡ false → world.new.connection ≡ world.old.connection }
+{
+    match manner {
+        Manner::Apply(options) => apply(world, text, options, output, console, notes),
+        Manner::Rehearse(options) => rehearse(world, text, options, output, notes),
+        Manner::Ask => ask(world, text, output, notes),
+    }
+}
+
+/// The file of batches of this path, if it can be opened; or none for `-`, which is the input.
+pub(crate) fn open_batches<H: BatchFiles>(host: &H, batches: &str) -> Option<io::Result<H::Text>>
+    requires { bytes_eq batches.now (codes "-") ≡ false → H.may_read host.now batches.now }
+    ensures opened { OpenedBy H.Text.remaining (H.text host.now) batches.now result }
+    ensures lacks { LacksBy (H.lacks host.now) batches.now result }
+{
+    if batches == "-" {
+        None
+    } else {
+        Some(host.open(batches))
+    }
+}
+
+/// Does with the batches of a file that was opened, or of the input if none was, what the manner says. Standard error says why a batch isn't
+/// accepted, and what to do if the store failed in one that was run.
+pub(crate) fn answer_batches<'s, S: Streams, B: Alter + Drop>(
+    session: &mut Session<'s, S>,
+    world: &mut World<B>,
+    manner: Manner,
+    path: &str,
+    text: Option<io::Result<<S::Host as BatchFiles>::Text>>,
+) -> Result<u8, Failure>
+    ensures answers { OpenedBy S.Host.Text.remaining (S.Host.text session.old.host) path.now text →
+        (known : Bool) (s : State) → StandsFor B.Store known world.old s →
+        let run = ⟦<Session<'s, S> as Runs>⟧.run session.old session.new in
+        AnswersBy B.Store known world.old world.new manner s (run.given.text path.now) run.before run.after result }
+    ensures lacks { LacksBy (S.Host.lacks session.old.host) path.now text →
+        IfErr result (TellsLack (S.Host.lacks session.old.host) path.now) }
+    ensures still { changes_world manner ≡ false → world.new.connection ≡ world.old.connection }
+    ensures rests { session.new.host ≡ session.old.host }
+    ensures input { OpenedBy S.Host.Text.remaining (S.Host.text session.old.host) path.now text →
+        bytes_eq path.now (codes "-") ≡ false → session.new.input ≡ session.old.input }
+{
+    world.leaves();
+    world.has_good_rows();
+    let (console, alloc) = (session.console, session.alloc);
+    match text {
+        None => {
+            let notes = StandardNotes::new(console, alloc, None);
+            answer_text(
+                world,
+                &mut session.input,
+                manner,
+                &mut session.output,
+                console,
+                notes,
+            )
+        }
+        Some(opened) => match opened {
+            Ok(file) => {
+                let notes = StandardNotes::new(console, alloc, Some(path));
+                answer_text(world, file, manner, &mut session.output, console, notes)
+            }
+            Err(_) => Err(Failure::NoBatches),
+        },
+    }
+}
