@@ -3,8 +3,8 @@
 What a name in a body means is read off the imports of its file. The type of a method's receiver isn't known, so all methods with the name
 are taken, of the crates that the caller uses: a function may pass for reached that isn't.
 
-A `surface.rt` has calls that the program leaves out: none of them is reached, and no page names one but PROMISES, which says of each call
-that the program leaves out that it is unused.
+A `surface.rt` has the calls that the program leaves out: none of them is reached, each other function is, and no page names one but
+PROMISES, which says of each call that the program leaves out that it is unused.
 """
 from __future__ import annotations
 
@@ -255,6 +255,12 @@ def surface_fault(crate: str, source: Source, program: Program) -> Optional[str]
     return f"the program reaches {', '.join(used)}" if used else None
 
 
+def unreached(crate: str, source: Source, program: Program) -> Optional[str]:
+    """Which functions of a file the program leaves out, or nothing. A law has an empty body, and isn't counted."""
+    missed = [str(f) for f in source.functions if f not in program.reached and f.body.strip("{} \n")]
+    return f"the program doesn't reach {', '.join(missed)}: they belong in {SURFACE}.rt" if missed else None
+
+
 def left_out_in(line: str, program: Program) -> Iterator[Function]:
     """The functions that a line of a page names and the program leaves out. A law has an empty body, and isn't counted."""
     for name in (name for quoted in QUOTED.findall(line) for name in re.split(r"[^\w:]+", quoted)):
@@ -283,5 +289,7 @@ def cases() -> Iterator[tuple[str, Optional[str]]]:
     for (crate, file), source in program.sources.items():
         if file == SURFACE:
             yield f"{crate}, {SURFACE}.rt", surface_fault(crate, source, program)
+        elif fault := unreached(crate, source, program):
+            yield f"{crate}, {file}.rt", fault
     for page in (page for pattern in PAGES for page in sorted(TOP.glob(pattern))):
         yield str(page.relative_to(TOP)), naming_fault(page, program)

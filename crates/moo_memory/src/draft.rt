@@ -9,7 +9,7 @@ use crate::links::{definer_of, forget_defined, row_defined, row_has};
 use crate::names::{forget_tagged, row_named, tag_if, tag_of};
 use crate::overlay;
 use crate::own::OwnLinks;
-use crate::ticks::{ENDLESS, Ticks};
+use crate::ticks::Ticks;
 use moo_rows::{
     Head, Link, ObjRow, PetitionId, PetitionRow, PropId, PropRow, Rows, SlotRow, VerbId, VerbRow,
     ordered,
@@ -76,15 +76,6 @@ impl<'a, R: Rows> Model for Draft<'a, R> {
 }
 
 impl<'a, R: Rows> Draft<'a, R> {
-    /// A draft without changes.
-    pub fn new(alloc: Global, base: &'a R) -> Draft<'a, R>
-        ensures maps { result.maps ≡ (R.held base.now).maps }
-        ensures base { result.base.maps ≡ (R.held base.now).maps }
-        ensures writes { result.writes ≡ 0 }
-    {
-        Draft::within(alloc, base, ENDLESS)
-    }
-
     /// A draft without changes, whose rows may be looked up, put and removed so often. Past that a row that is put or removed is refused.
     pub fn within(alloc: Global, base: &'a R, ticks: u64) -> Draft<'a, R>
         ensures maps { result.maps ≡ (R.held base.now).maps }

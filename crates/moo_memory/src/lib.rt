@@ -13,6 +13,7 @@ mod names;
 mod opening;
 mod overlay;
 mod own;
+mod surface;
 mod ticks;
 
 pub use changes::{ChangeList, Changes, apply_changes};

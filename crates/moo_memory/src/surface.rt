@@ -1,0 +1,19 @@
+//! The program doesn't come this way. It gives each draft its ticks by `Draft::within`. `test_rows` makes drafts without a bound.
+
+ghost use Rattle.std.specs.Prelude.{◌≡◌};
+
+use crate::draft::Draft;
+use crate::ticks::ENDLESS;
+use moo_rows::Rows;
+use std::alloc::Global;
+
+impl<'a, R: Rows> Draft<'a, R> {
+    /// A draft without changes.
+    pub fn new(alloc: Global, base: &'a R) -> Draft<'a, R>
+        ensures maps { result.maps ≡ (R.held base.now).maps }
+        ensures base { result.base.maps ≡ (R.held base.now).maps }
+        ensures writes { result.writes ≡ 0 }
+    {
+        Draft::within(alloc, base, ENDLESS)
+    }
+}
