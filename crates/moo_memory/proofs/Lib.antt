@@ -1,6 +1,7 @@
 pub mod Words
 pub mod Overlays
 pub mod Drafts
+pub mod Keeping
 pub mod Changing
 pub mod Exactly
 pub mod Tied

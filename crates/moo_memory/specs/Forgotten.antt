@@ -1,12 +1,13 @@
 -- What maps keep of links, definers and names, and what is forgotten of it.
-use Rattle.std.specs.Prelude.{◌≡◌, Bool, true, false, Option, is_some}
+use Rattle.std.specs.Prelude.{◌≡◌, ◌⊎◌, Bool, true, false, Option, is_some}
 use Rattle.std.specs.BTreeMap.{BTreeMap}
 use Rattle.std.specs.FinMap.{get}
 use Rattle.std.specs.declared.cmp.Ordering.{Ordering}
 use Rattle.moo_value.specs.declared.value.ObjNo.{ObjNo}
 use Rattle.moo_rows.specs.declared.row.Link.{Link}
 use Rattle.moo_rows.specs.declared.row.Ties.{Ties}
-use Rattle.moo_rows.specs.Links.{LinkSets, may_have, ties_have}
+use Rattle.moo_rows.specs.declared.row.ObjRow.{ObjRow}
+use Rattle.moo_rows.specs.Links.{LinkSets, has_link, is_kept, is_to_nothing, may_have, row_has, ties_have}
 use Rattle.moo_rows.specs.Ordered.{contents}
 
 -- the map has the key
@@ -17,3 +18,21 @@ has_key cmp rows key = is_some (get (contents cmp rows) key)
 abbrev pub ForgetsOnly : ObjNo → Option Ties → LinkSets → LinkSets → Type 0
 ForgetsOnly key stays old new =
     (link : Link) (x : ObjNo) → (x ≡ key → ties_have link stays ≡ true) → may_have new link x ≡ false → may_have old link x ≡ false
+
+-- Nobody is kept for a link but an object that has it, and nobody for a link to nothing.
+abbrev pub KeepsNoOther : (ObjNo → Option ObjRow) → LinkSets → Type 0
+KeepsNoOther row_at sets =
+    (link : Link) (x : ObjNo) → is_kept sets link x ≡ true → (is_to_nothing link ≡ false) × (row_has link (row_at x) ≡ true)
+
+-- nobody more is kept for a link, but this object for the links of these ties, those to nothing aside
+abbrev pub AddsOnly : ObjNo → Ties → LinkSets → LinkSets → Type 0
+AddsOnly key ties old new =
+    (link : Link) (x : ObjNo) → is_kept new link x ≡ true →
+    (is_kept old link x ≡ true) ⊎ ((x ≡ key) × ((is_to_nothing link ≡ false) × (has_link link ties ≡ true)))
+
+-- nobody more is kept for a link, and this object for none of the links that went with old ties, but for those that stay
+abbrev pub Forgets : ObjNo → (was stays : Option Ties) → LinkSets → LinkSets → Type 0
+Forgets key was stays old new =
+    (link : Link) (x : ObjNo) → is_kept new link x ≡ true →
+    (is_kept old link x ≡ true)
+    × (x ≡ key → is_to_nothing link ≡ false → ties_have link was ≡ true → ties_have link stays ≡ true)

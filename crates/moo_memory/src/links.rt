@@ -1,13 +1,13 @@
 //! Objects by their links, and properties by who defines them: those that may have one, whose rows are still to be looked at.
 
-ghost use Rattle.std.specs.Prelude.{◌≡◌, ◌≢◌, ◌↔◌, true, false, Some, option_map, IfOk, IfSome, IsTrue, OnOk};
+ghost use Rattle.std.specs.Prelude.{◌≡◌, ◌≢◌, ◌⊎◌, ◌↔◌, true, false, Some, option_map, IfOk, IfSome, IsTrue, OnOk};
 ghost use Rattle.moo_value.specs.declared.value.ObjNo.{ObjNo};
 ghost use Rattle.moo_rows.specs.declared.row.Link.{Link};
 ghost use Rattle.moo_rows.specs.declared.row.PropId.{PropId};
 ghost use Rattle.moo_rows.specs.Maps.{object_cmp, prop_cmp, slot_cmp};
 ghost use Rattle.moo_rows.specs.Ordered.{contents};
-ghost use Rattle.moo_rows.specs.Links.{IsFirst, tie_cmp, has_link, is_candidate, is_kept, may_have, row_defined, row_has, ties_have, ties_of};
-ghost use Rattle.moo_memory.specs.Forgotten.{has_key, ForgetsOnly};
+ghost use Rattle.moo_rows.specs.Links.{IsFirst, tie_cmp, has_link, is_candidate, is_kept, is_to_nothing, may_have, row_defined, row_has, ties_have, ties_of};
+ghost use Rattle.moo_memory.specs.Forgotten.{AddsOnly, Forgets, ForgetsOnly, has_key};
 
 use moo_rows::{Link, ObjRow, PropId, PropRow, Ties, ordered};
 use moo_value::ObjNo;
@@ -204,6 +204,8 @@ impl Links {
     fn add_one(&mut self, link: Link, key: ObjNo) -> Result<(), AllocError>
         ensures others { (l : Link) (q : ObjNo) → may_have self.new l q ≡ false → may_have self.old l q ≡ false }
         ensures there { OnOk result (may_have self.new link key ≡ true) }
+        ensures only { (l : Link) (q : ObjNo) → is_kept self.new l q ≡ true →
+            (is_kept self.old l q ≡ true) ⊎ ((q ≡ key) × ((l ≡ link) × (is_to_nothing l ≡ false))) }
     {
         if link.is_to_nothing() {
             return Ok(());
@@ -219,6 +221,7 @@ impl Links {
     pub fn add(&mut self, key: ObjNo, ties: Ties) -> Result<(), AllocError>
         ensures others { (l : Link) (q : ObjNo) → may_have self.new l q ≡ false → may_have self.old l q ≡ false }
         ensures there { OnOk result ((l : Link) → has_link l ties ≡ true → may_have self.new l key ≡ true) }
+        ensures only { AddsOnly key ties self.old self.new }
     {
         self.add_one(Link::ChildOf(ties.parent), key)?;
         self.add_one(Link::Within(ties.location), key)?;
@@ -230,7 +233,9 @@ impl Links {
 
     /// Forgets that the object may have the link, unless it has it by these ties. Takes no memory.
     fn forget_one(&mut self, link: Link, key: ObjNo, stays: Option<Ties>)
-        ensures { ForgetsOnly key stays self.old self.new }
+        ensures only { ForgetsOnly key stays self.old self.new }
+        ensures gone { (l : Link) (q : ObjNo) → is_kept self.new l q ≡ true →
+            (is_kept self.old l q ≡ true) × (q ≡ key → l ≡ link → is_to_nothing l ≡ false → ties_have l stays ≡ true) }
     {
         if link.is_to_nothing() {
             return;
@@ -247,7 +252,8 @@ impl Links {
 
     /// Forgets the links that went with old ties, if there were any, but for those that the object has by these. Takes no memory.
     pub fn forget(&mut self, key: ObjNo, old: Option<Ties>, stays: Option<Ties>)
-        ensures { ForgetsOnly key stays self.old self.new }
+        ensures only { ForgetsOnly key stays self.old self.new }
+        ensures gone { Forgets key old stays self.old self.new }
     {
         let old = match old {
             None => return,

@@ -18,8 +18,8 @@ invariant_of-self-2 c =
     let row_at = get (contents object_cmp c.self.inside.objects) in
     let ties = c.ties-ties.ensures in (
       covered-put row_at (get (contents object_cmp c.replace.new.rows)) c.args.key c.self.inside.links c.forget.new.self c.args.row c.self.invariant.0
-          (λ l q has e. c.add.ensures.others l q (c.forget.ensures l q (λ same. ap (has_link l) ties ∙ has same) e))
-          (λ l h. stays-there l c.args.row c.forget.new.self c.add.new.self c.args.key (c.forget.ensures l c.args.key (λ _. ap (has_link l) ties ∙ h)) (c.in_default.ensures.there l (ap (has_link l) ties ∙ h)))
+          (λ l q has e. c.add.ensures.others l q (c.forget.ensures.only l q (λ same. ap (has_link l) ties ∙ has same) e))
+          (λ l h. stays-there l c.args.row c.forget.new.self c.add.new.self c.args.key (c.forget.ensures.only l c.args.key (λ _. ap (has_link l) ties ∙ h)) (c.in_default.ensures.there l (ap (has_link l) ties ∙ h)))
           (λ q. ap (λ m. get m q) c.in_ok-old.ensures.ok ∙ get-insert object_total (contents object_cmp c.self.inside.objects) c.args.key c.args.row q),
       c.self.invariant.1,
       c.self.invariant.2,

@@ -4,7 +4,7 @@ use Rattle.moo_memory.proofs.flat.FlatRows.remove_object.Goals as goal
 pub invariant_of-self : goal.invariant_of-self
 invariant_of-self c = (
   covered-remove (get (contents object_cmp c.self.inside.objects)) (get (contents object_cmp c.remove.new.rows)) c.args.key c.self.inside.links c.forget.new.self c.self.invariant.0
-      (λ l q has e. c.forget.ensures l q has e)
+      (λ l q has e. c.forget.ensures.only l q has e)
       (λ q. ap (λ m. get m q) c.remove.ensures ∙ get-remove object_total (contents object_cmp c.self.inside.objects) c.args.key q),
   c.self.invariant.1,
   c.self.invariant.2,

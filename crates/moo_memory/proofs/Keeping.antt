@@ -1,0 +1,102 @@
+-- Who is kept for a link after more are kept and some are forgotten: nobody but who has it.
+use Rattle.moo_memory.proofs.Words.{◌≡◌, ◌≢◌, Bool, true, false, cond, Option, None, Some, Less, Equal, Greater, Ordering, is_some, refl, sym, ap, ◌∙◌, subst, eq_by_cmp, is_eq, FinMap, get, insert, get-insert, get-remove, ObjNo, LinkSets, object_cmp, object_exact, object_total, tie_cmp, tie_total, is_kept, is_to_nothing, has_link, ties_have, ⊤}
+use Rattle.std.{specs.Prelude.{◌⊎◌, OnErr, OnOk}, specs.FinMap.{remove}, proofs.Common.{Result, Ok, Err, inl, inr}, specs.Cmp.{IsTotalOrder, tied_itself}, proofs.lemmas.Bool.{true≢false}, proofs.lemmas.Map.Lookups.{CmpEqualImpliesEq}}
+use Rattle.moo_rows.{specs.Exact.{tie_exact}, specs.declared.row.Ties.{Ties}, specs.declared.row.Link.{Link}, specs.declared.row.Link.TheVariants.{ChildOf, Within, Player}}
+
+-- ---- one map
+
+module _ {K X : Type 0} {cmp : K → K → Ordering} (total : IsTotalOrder cmp) (exact : CmpEqualImpliesEq cmp) where
+  -- a key that is there was there, or was put
+  pub had-insert : (m : FinMap cmp X) (k : K) (v : X) (q : K) → is_some (get (insert m k v) q) ≡ true → (is_some (get m q) ≡ true) ⊎ (q ≡ k)
+  had-insert m k v q h = by (cmp q k) refl
+    where
+      stays : (o : Ordering) → cmp q k ≡ o → is_eq o ≡ false → is_some (get m q) ≡ true
+      stays o is apart = sym (ap is_some (get-insert total m k v q) ∙ ap (λ b. is_some (cond b (Some v) (get m q))) (ap is_eq is ∙ apart)) ∙ h
+
+      by : (o : Ordering) → cmp q k ≡ o → (is_some (get m q) ≡ true) ⊎ (q ≡ k)
+      by Equal o = inr (exact q k o)
+      by Less o = inl (stays Less o refl)
+      by Greater o = inl (stays Greater o refl)
+
+  -- the same if there may be no memory for it
+  pub had-put : {U E : Type 0} (r : Result U E) (old new : FinMap cmp X) (k : K) (v : X) → OnOk r (new ≡ insert old k v) → OnErr r (new ≡ old)
+      → (q : K) → is_some (get new q) ≡ true → (is_some (get old q) ≡ true) ⊎ (q ≡ k)
+  had-put (Ok u) old new k v ok err q h = had-insert old k v q (ap (λ m. is_some (get m q)) (sym ok) ∙ h)
+  had-put (Err e) old new k v ok err q h = inl (ap (λ m. is_some (get m q)) (sym err) ∙ h)
+
+  -- a key that is there was there, and isn't the one that was removed
+  pub had-removed : (m : FinMap cmp X) (k : K) (q : K) → is_some (get (remove m k) q) ≡ true → (is_some (get m q) ≡ true) × (q ≢ k)
+  had-removed m k q h = by (cmp q k) refl
+    where
+      now : (o : Ordering) → cmp q k ≡ o → is_some (cond (is_eq o) None (get m q)) ≡ true
+      now o is = sym (ap is_some (get-remove total m k q) ∙ ap (λ o. is_some (cond (is_eq o) None (get m q))) is) ∙ h
+
+      apart : (o : Ordering) → cmp q k ≡ o → is_eq o ≡ false → q ≢ k
+      apart o is other same = true≢false (sym (ap is_eq (ap (λ z. cmp z k) same ∙ tied_itself total k)) ∙ ap is_eq is ∙ other)
+
+      by : (o : Ordering) → cmp q k ≡ o → (is_some (get m q) ≡ true) × (q ≢ k)
+      by Equal o = absurd (true≢false (sym (now Equal o)))
+      by Less o = (now Less o, apart Less o refl)
+      by Greater o = (now Greater o, apart Greater o refl)
+
+-- ---- one link
+
+-- nobody more is kept, but the object for the link
+abbrev pub KeepsAlso : Link → ObjNo → (old new : LinkSets) → Type 0
+KeepsAlso link key old new = (l : Link) (q : ObjNo) → is_kept new l q ≡ true → (is_kept old l q ≡ true) ⊎ ((q ≡ key) × ((l ≡ link) × (is_to_nothing l ≡ false)))
+
+module _ (before s : LinkSets) (same : s ≡ before) (link : Link) (key : ObjNo) (something : is_to_nothing link ≡ false) where
+  was : (l : Link) (q : ObjNo) → is_kept s l q ≡ true → is_kept before l q ≡ true
+  was l q h = ap (λ sets. is_kept sets l q) (sym same) ∙ h
+
+  -- what the link is, is known from the pair
+  one : (l l' : Link) → l ≡ l' → l' ≡ link → (l ≡ link) × (is_to_nothing l ≡ false)
+  one l l' is is' = (is ∙ is', ap is_to_nothing (is ∙ is') ∙ something)
+
+  pub also-parents : (x : ObjNo) → link ≡ ChildOf x → (new : FinMap tie_cmp ⊤) → ((p : ObjNo × ObjNo) → is_some (get new p) ≡ true → (is_some (get s.parents p) ≡ true) ⊎ (p ≡ (x, key))) → KeepsAlso link key before (record s { parents = new })
+  also-parents x is new h (ChildOf y) q e = elim (h (y, q) e) [ inl a ↦ inl (was (ChildOf y) q a) | inr pair ↦ inr (ap (λ p. p.1) pair, one (ChildOf y) (ChildOf x) (ap (λ (p : ObjNo × ObjNo). ChildOf p.0) pair) (sym is)) ]
+  also-parents x is new h (Within y) q e = inl (was (Within y) q e)
+  also-parents x is new h Player q e = inl (was Player q e)
+
+  pub also-locations : (x : ObjNo) → link ≡ Within x → (new : FinMap tie_cmp ⊤) → ((p : ObjNo × ObjNo) → is_some (get new p) ≡ true → (is_some (get s.locations p) ≡ true) ⊎ (p ≡ (x, key))) → KeepsAlso link key before (record s { locations = new })
+  also-locations x is new h (ChildOf y) q e = inl (was (ChildOf y) q e)
+  also-locations x is new h (Within y) q e = elim (h (y, q) e) [ inl a ↦ inl (was (Within y) q a) | inr pair ↦ inr (ap (λ p. p.1) pair, one (Within y) (Within x) (ap (λ (p : ObjNo × ObjNo). Within p.0) pair) (sym is)) ]
+  also-locations x is new h Player q e = inl (was Player q e)
+
+  pub also-players : link ≡ Player → (new : FinMap object_cmp ⊤) → ((p : ObjNo) → is_some (get new p) ≡ true → (is_some (get s.players p) ≡ true) ⊎ (p ≡ key)) → KeepsAlso link key before (record s { players = new })
+  also-players is new h (ChildOf y) q e = inl (was (ChildOf y) q e)
+  also-players is new h (Within y) q e = inl (was (Within y) q e)
+  also-players is new h Player q e = elim (h q e) [ inl a ↦ inl (was Player q a) | inr pair ↦ inr (pair, one Player Player refl (sym is)) ]
+
+-- nobody more is kept, and the object for this link only if it stays
+abbrev pub ForgetsOne : Link → ObjNo → Option Ties → (old new : LinkSets) → Type 0
+ForgetsOne link key stays old new =
+    (l : Link) (q : ObjNo) → is_kept new l q ≡ true → (is_kept old l q ≡ true) × (q ≡ key → l ≡ link → is_to_nothing l ≡ false → ties_have l stays ≡ true)
+
+module _ (before s : LinkSets) (same : s ≡ before) (link : Link) (key : ObjNo) (stays : Option Ties) where
+  stood : (l : Link) (q : ObjNo) → is_kept s l q ≡ true → is_kept before l q ≡ true
+  stood l q h = ap (λ sets. is_kept sets l q) (sym same) ∙ h
+
+  pair : (a b c d : ObjNo) → a ≡ b → c ≡ d → ◌≡◌ {A = ObjNo × ObjNo} (a, c) (b, d)
+  pair a b c d left right = λ i. (left i, right i)
+
+  pub gone-parents : (x : ObjNo) → link ≡ ChildOf x → (new : FinMap tie_cmp ⊤) → new ≡ remove s.parents (x, key) → ForgetsOne link key stays before (record s { parents = new })
+  gone-parents x is new removed (ChildOf y) q e =
+      let had = had-removed tie_total tie_exact s.parents (x, key) (y, q) (ap (λ m. is_some (get m (y, q))) (sym removed) ∙ e) in
+      (stood (ChildOf y) q had.0, λ here it _. absurd (had.1 (pair y x q key (let kind : ChildOf y ≡ ChildOf x = it ∙ is in cc) here)))
+  gone-parents x is new removed (Within y) q e = (stood (Within y) q e, λ here it _. absurd (let kind : Within y ≡ ChildOf x = it ∙ is in cc))
+  gone-parents x is new removed Player q e = (stood Player q e, λ here it _. absurd (let kind : Player ≡ ChildOf x = it ∙ is in cc))
+
+  pub gone-locations : (x : ObjNo) → link ≡ Within x → (new : FinMap tie_cmp ⊤) → new ≡ remove s.locations (x, key) → ForgetsOne link key stays before (record s { locations = new })
+  gone-locations x is new removed (ChildOf y) q e = (stood (ChildOf y) q e, λ here it _. absurd (let kind : ChildOf y ≡ Within x = it ∙ is in cc))
+  gone-locations x is new removed (Within y) q e =
+      let had = had-removed tie_total tie_exact s.locations (x, key) (y, q) (ap (λ m. is_some (get m (y, q))) (sym removed) ∙ e) in
+      (stood (Within y) q had.0, λ here it _. absurd (had.1 (pair y x q key (let kind : Within y ≡ Within x = it ∙ is in cc) here)))
+  gone-locations x is new removed Player q e = (stood Player q e, λ here it _. absurd (let kind : Player ≡ Within x = it ∙ is in cc))
+
+  pub gone-players : link ≡ Player → (new : FinMap object_cmp ⊤) → new ≡ remove s.players key → ForgetsOne link key stays before (record s { players = new })
+  gone-players is new removed (ChildOf y) q e = (stood (ChildOf y) q e, λ here it _. absurd (let kind : ChildOf y ≡ Player = it ∙ is in cc))
+  gone-players is new removed (Within y) q e = (stood (Within y) q e, λ here it _. absurd (let kind : Within y ≡ Player = it ∙ is in cc))
+  gone-players is new removed Player q e =
+      let had = had-removed object_total object_exact s.players key q (ap (λ m. is_some (get m q)) (sym removed) ∙ e) in
+      (stood Player q had.0, λ here it _. absurd (had.1 here))
