@@ -1,7 +1,8 @@
 -- Who is kept for a link after more are kept and some are forgotten: nobody but who has it.
-use Rattle.moo_memory.proofs.Words.{◌≡◌, ◌≢◌, Bool, true, false, cond, Option, None, Some, Less, Equal, Greater, Ordering, is_some, refl, sym, ap, ◌∙◌, subst, eq_by_cmp, is_eq, FinMap, get, insert, get-insert, get-remove, ObjNo, LinkSets, object_cmp, object_exact, object_total, tie_cmp, tie_total, is_kept, is_to_nothing, has_link, ties_have, ⊤}
-use Rattle.std.{specs.Prelude.{◌⊎◌, OnErr, OnOk}, specs.FinMap.{remove}, proofs.Common.{Result, Ok, Err, inl, inr}, specs.Cmp.{IsTotalOrder, tied_itself}, proofs.lemmas.Bool.{true≢false}, proofs.lemmas.Map.Lookups.{CmpEqualImpliesEq}}
-use Rattle.moo_rows.{specs.Exact.{tie_exact}, specs.declared.row.Ties.{Ties}, specs.declared.row.Link.{Link}, specs.declared.row.Link.TheVariants.{ChildOf, Within, Player}}
+use Rattle.moo_memory.proofs.Words.{◌≡◌, ◌≢◌, Bool, true, false, cond, Option, None, Some, Less, Equal, Greater, Ordering, is_some, refl, sym, ap, ◌∙◌, subst, eq_by_cmp, is_eq, FinMap, get, insert, get-insert, get-remove, ObjNo, LinkSets, object_cmp, object_exact, object_total, tie_cmp, tie_total, is_kept, is_to_nothing, has_link, row_has, ties_have, ties_of, ⊤}
+use Rattle.moo_memory.specs.Forgotten.{AddsOnly, Forgets, KeepsNoOther}
+use Rattle.std.{specs.Prelude.{◌⊎◌, OnErr, OnOk}, specs.Option.{option_map}, specs.FinMap.{remove}, proofs.Common.{Result, Ok, Err, inl, inr}, specs.Cmp.{IsTotalOrder, tied_itself}, proofs.lemmas.Bool.{true≢false}, proofs.lemmas.Map.Lookups.{CmpEqualImpliesEq}}
+use Rattle.moo_rows.{specs.Exact.{tie_exact}, specs.declared.row.ObjRow.{ObjRow}, specs.declared.row.Ties.{Ties}, specs.declared.row.Link.{Link}, specs.declared.row.Link.TheVariants.{ChildOf, Within, Player}}
 
 -- ---- one map
 
@@ -100,3 +101,61 @@ module _ (before s : LinkSets) (same : s ≡ before) (link : Link) (key : ObjNo)
   gone-players is new removed Player q e =
       let had = had-removed object_total object_exact s.players key q (ap (λ m. is_some (get m q)) (sym removed) ∙ e) in
       (stood Player q had.0, λ here it _. absurd (had.1 here))
+
+-- ---- rows
+
+-- whether ties of a row have a link is whether the row has it
+ties-row : (l : Link) (o : Option ObjRow) → ties_have l (option_map ties_of o) ≡ row_has l o
+ties-row l None = refl
+ties-row l (Some r) = refl
+
+module _ (row_at row_at' : ObjNo → Option ObjRow) (key : ObjNo) (old : LinkSets) (before : KeepsNoOther row_at old) where
+  -- what an object has that was kept for a link
+  had_link : (l : Link) (q : ObjNo) → is_kept old l q ≡ true → q ≡ key → ties_have l (option_map ties_of (row_at key)) ≡ true
+  had_link l q e here = ties-row l (row_at key) ∙ ap (λ x. row_has l (row_at x)) (sym here) ∙ (before l q e).1
+
+  -- the row of the key is another, or none
+  other-row : (new : LinkSets) (o : Option ObjRow)
+      → ((l : Link) (q : ObjNo) → is_kept new l q ≡ true → (is_to_nothing l ≡ false) × ((q ≡ key → ties_have l (option_map ties_of o) ≡ true) × (q ≢ key → is_kept old l q ≡ true)))
+      → ((q : ObjNo) → row_at' q ≡ cond (eq_by_cmp object_cmp q key) o (row_at q)) → KeepsNoOther row_at' new
+  other-row new o kept is l q e = ((kept l q e).0, ap (row_has l) (is q) ∙ by (object_cmp q key) refl)
+    where
+      apart : (o : Ordering) → object_cmp q key ≡ o → is_eq o ≡ false → q ≢ key
+      apart o c other same = true≢false (sym (ap is_eq (ap (λ z. object_cmp z key) same ∙ tied_itself object_total key)) ∙ ap is_eq c ∙ other)
+
+      by : (c : Ordering) → object_cmp q key ≡ c → row_has l (cond (is_eq c) o (row_at q)) ≡ true
+      by Equal c = sym (ties-row l o) ∙ ((kept l q e).1).0 (object_exact q key c)
+      by Less c = (before l q (((kept l q e).1).1 (apart Less c refl))).1
+      by Greater c = (before l q (((kept l q e).1).1 (apart Greater c refl))).1
+
+  -- a row with the same ties is put
+  pub same-other : (row : ObjRow) → option_map ties_of (row_at key) ≡ Some (ties_of row)
+      → ((q : ObjNo) → row_at' q ≡ cond (eq_by_cmp object_cmp q key) (Some row) (row_at q)) → KeepsNoOther row_at' old
+  same-other row same is = other-row old (Some row) (λ l q e. ((before l q e).0, ((λ here. sym (ap (ties_have l) same) ∙ had_link l q e here), λ _. e))) is
+
+  -- a row is put, and its links are kept in place of those of the row before
+  pub put-other : (mid new : LinkSets) (row : ObjRow) → AddsOnly key (ties_of row) old mid → Forgets key (option_map ties_of (row_at key)) (Some (ties_of row)) mid new
+      → ((q : ObjNo) → row_at' q ≡ cond (eq_by_cmp object_cmp q key) (Some row) (row_at q)) → KeepsNoOther row_at' new
+  put-other mid new row adds forgets is = other-row new (Some row) kept is
+    where
+      kept : (l : Link) (q : ObjNo) → is_kept new l q ≡ true → (is_to_nothing l ≡ false) × ((q ≡ key → has_link l (ties_of row) ≡ true) × (q ≢ key → is_kept old l q ≡ true))
+      kept l q e =
+          let gone = forgets l q e in
+          elim (adds l q gone.0) [
+            inl was ↦ ((before l q was).0, ((λ here. gone.1 here (before l q was).0 (had_link l q was here)), λ _. was))
+            | inr own ↦ ((own.1).0, ((λ _. (own.1).1), λ other. absurd (other own.0)))
+          ]
+
+  -- there was no memory for all its links: the row before is put back, and the links that were added go
+  pub back-other : (mid new : LinkSets) (ties : Ties) → AddsOnly key ties old mid → Forgets key (Some ties) (option_map ties_of (row_at key)) mid new → KeepsNoOther row_at new
+  back-other mid new ties adds forgets l q e =
+      let gone = forgets l q e in
+      elim (adds l q gone.0) [
+        inl was ↦ before l q was
+        | inr own ↦ ((own.1).0, ap (λ x. row_has l (row_at x)) own.0 ∙ sym (ties-row l (row_at key)) ∙ gone.1 own.0 (own.1).0 (own.1).1)
+      ]
+
+  -- a row is removed
+  pub remove-other : (new : LinkSets) → Forgets key (option_map ties_of (row_at key)) None old new
+      → ((q : ObjNo) → row_at' q ≡ cond (eq_by_cmp object_cmp q key) None (row_at q)) → KeepsNoOther row_at' new
+  remove-other new forgets is = other-row new None (λ l q e. let gone = forgets l q e in ((before l q gone.0).0, ((λ here. gone.1 here (before l q gone.0).0 (had_link l q gone.0 here)), λ _. gone.0))) is

@@ -56,11 +56,13 @@ impl Model for Flat {
     ghost use Rattle.std.specs.FinMap as map;
     ghost use Rattle.moo_rows.specs.Links.{AreCovered, AreOfDefiners};
     ghost use Rattle.moo_rows.specs.Named.{AreByName, named_cmp};
+    ghost use Rattle.moo_memory.specs.Forgotten.{KeepsNoOther};
 
     ghost invariant = { λ f.
         AreCovered (map.get (contents object_cmp f.objects)) f.links
         × AreOfDefiners (map.get (contents prop_cmp f.props)) (contents slot_cmp f.definers)
-        × AreByName (map.get (contents prop_cmp f.props)) (contents named_cmp f.names) };
+        × AreByName (map.get (contents prop_cmp f.props)) (contents named_cmp f.names)
+        × KeepsNoOther (map.get (contents object_cmp f.objects)) f.links };
 }
 
 impl Flat {
@@ -174,6 +176,7 @@ impl Rows for Flat {
             return Ok(());
         }
         if let Err(error) = self.links.add(key, ties) {
+            self.links.forget(key, Some(ties), was);
             ordered::put_back(&mut self.objects, key, old);
             return Err(error);
         }

@@ -1,4 +1,5 @@
 use Rattle.moo_memory.proofs.Words.{rules, ap, ◌∙◌, sym, subst, refl, ⊤, get, contents, AreCovered, AreOfDefiners, AreByName, Tag, named_cmp, ObjNo, PropId, Held, object_cmp, prop_cmp, slot_cmp}
+use Rattle.moo_memory.specs.Forgotten.{KeepsNoOther}
 use Rattle.moo_memory.proofs.flat.Flat.copy.Goals as goal
 use Rattle.std.proofs.lemmas.Map.Entries.{entries_from_clone}
 use Rattle.std.specs.FinMap as map
@@ -28,4 +29,6 @@ invariant_of-result c =
           (subst (AreOfDefiners (get (contents prop_cmp c.self.inside.props))) (sym (λ i. map.from_entries {R = slot_cmp} (definers i))) c.self.invariant.1),
       subst (λ m. AreByName (get m) (contents named_cmp c.in_ok-clone-7.field-0)) (sym (λ i. map.from_entries {R = prop_cmp} (props i)))
           (subst (AreByName (get (contents prop_cmp c.self.inside.props))) (sym (λ i. map.from_entries {R = named_cmp} (names i))) c.self.invariant.2),
+      subst (λ m. KeepsNoOther (get m) c.in_ok-copy.field-0) (sym (λ i. map.from_entries {R = object_cmp} (objects i)))
+          (subst (KeepsNoOther (get (contents object_cmp c.self.inside.objects))) (sym c.in_ok-copy.ensures) c.self.invariant.3),
     )

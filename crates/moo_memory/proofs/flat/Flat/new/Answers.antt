@@ -7,4 +7,5 @@ invariant_of-result c = (
   λ link key _. ap (row_has link) (ap (λ es. get (from_entries {R = object_cmp} es) key) c.new.ensures.empty ∙ get-empty object_cmp key),
   λ x id _. ap (row_defined x) (ap (λ es. get (from_entries {R = prop_cmp} es) id) c.new-2.ensures.empty ∙ get-empty prop_cmp id),
   λ id row h. absurd (none-some row (sym (ap (λ es. get (from_entries {R = prop_cmp} es) id) c.new-2.ensures.empty ∙ get-empty prop_cmp id) ∙ h)),
+  ?,
 )

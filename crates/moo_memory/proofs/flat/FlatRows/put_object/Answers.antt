@@ -1,5 +1,6 @@
-use Rattle.moo_memory.proofs.Words.{◌≡◌, Some, ap, ◌∙◌, arith, rules, get, get-insert, contents, object_cmp, has_link, ties_of, object_total, covered-put, covered-there, stays-there}
+use Rattle.moo_memory.proofs.Words.{◌≡◌, Some, ap, ◌∙◌, arith, rules, get, get-insert, contents, object_cmp, has_link, ties_of, sym, object_total, covered-put, covered-there, stays-there}
 use Rattle.moo_memory.proofs.flat.FlatRows.put_object.Goals as goal
+use Rattle.moo_memory.proofs.Keeping.{back-other, put-other, same-other}
 use Rattle.std.{specs.Option.{option_map}, proofs.lemmas.Grind.{common_steps}}
 
 pub invariant_of-self-then-are_same : goal.invariant_of-self-then-are_same
@@ -11,6 +12,8 @@ invariant_of-self-then-are_same c =
           (λ q. ap (λ m. get m q) c.in_ok-old.ensures.ok ∙ get-insert object_total (contents object_cmp c.self.inside.objects) c.args.key c.args.row q),
       c.self.invariant.1,
       c.self.invariant.2,
+      same-other row_at (get (contents object_cmp c.replace.new.rows)) c.args.key c.self.inside.links c.self.invariant.3 c.args.row was
+          (λ q. ap (λ m. get m q) c.in_ok-old.ensures.ok ∙ get-insert object_total (contents object_cmp c.self.inside.objects) c.args.key c.args.row q),
     )
 
 pub invariant_of-self-2 : goal.invariant_of-self-2
@@ -23,6 +26,8 @@ invariant_of-self-2 c =
           (λ q. ap (λ m. get m q) c.in_ok-old.ensures.ok ∙ get-insert object_total (contents object_cmp c.self.inside.objects) c.args.key c.args.row q),
       c.self.invariant.1,
       c.self.invariant.2,
+      put-other row_at (get (contents object_cmp c.replace.new.rows)) c.args.key c.self.inside.links c.self.invariant.3 c.add.new.self c.forget.new.self c.args.row
+          ? ? (λ q. ap (λ m. get m q) c.in_ok-old.ensures.ok ∙ get-insert object_total (contents object_cmp c.self.inside.objects) c.args.key c.args.row q),
     )
 
 pub returns-clause-ok : goal.returns-clause-ok

@@ -1,4 +1,5 @@
 use Rattle.moo_memory.proofs.Words.{ap, ◌∙◌, get, get-remove, contents, object_cmp, object_total, covered-remove}
+use Rattle.moo_memory.proofs.Keeping.{remove-other}
 use Rattle.moo_memory.proofs.flat.FlatRows.remove_object.Goals as goal
 
 pub invariant_of-self : goal.invariant_of-self
@@ -8,4 +9,6 @@ invariant_of-self c = (
       (λ q. ap (λ m. get m q) c.remove.ensures ∙ get-remove object_total (contents object_cmp c.self.inside.objects) c.args.key q),
   c.self.invariant.1,
   c.self.invariant.2,
+  remove-other (get (contents object_cmp c.self.inside.objects)) (get (contents object_cmp c.remove.new.rows)) c.args.key c.self.inside.links c.self.invariant.3 c.forget.new.self
+      ? (λ q. ap (λ m. get m q) c.remove.ensures ∙ get-remove object_total (contents object_cmp c.self.inside.objects) c.args.key q),
 )

@@ -12,4 +12,5 @@ invariant_of-self c = (
       (contents named_cmp c.self.inside.names) (contents named_cmp c.forget_tagged.new.names) c.self.invariant.2
       (λ p apart h. c.forget_tagged.ensures p.0 p.1 (λ same. absurd (apart same)) h)
       (λ q. ap (λ m. get m q) c.remove.ensures ∙ get-remove prop_total (contents prop_cmp c.self.inside.props) c.args.key q),
+  c.self.invariant.3,
 )
