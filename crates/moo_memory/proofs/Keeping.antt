@@ -1,6 +1,6 @@
 -- Who is kept for a link after more are kept and some are forgotten: nobody but who has it.
-use Rattle.moo_memory.proofs.Words.{◌≡◌, ◌≢◌, Bool, true, false, cond, Option, None, Some, Less, Equal, Greater, Ordering, is_some, refl, sym, ap, ◌∙◌, subst, eq_by_cmp, is_eq, FinMap, get, insert, get-insert, get-remove, ObjNo, LinkSets, object_cmp, object_exact, object_total, tie_cmp, tie_total, is_kept, is_to_nothing, has_link, row_has, ties_have, ties_of, ⊤}
-use Rattle.moo_memory.specs.Forgotten.{AddsOnly, Forgets, KeepsNoOther}
+use Rattle.moo_memory.proofs.Words.{◌≡◌, ◌≢◌, Bool, true, false, cond, Option, None, Some, Less, Equal, Greater, Ordering, is_some, refl, sym, ap, ◌∙◌, subst, eq_by_cmp, is_eq, FinMap, get, insert, get-insert, get-remove, ObjNo, LinkSets, object_cmp, object_exact, object_total, tie_cmp, tie_total, AreCovered, is_kept, may_have, is_to_nothing, has_link, row_has, ties_have, ties_of, ⊤}
+use Rattle.moo_memory.specs.Forgotten.{AddsOnly, Forgets, ForgetsOnly, KeepsNoOther}
 use Rattle.std.{specs.Prelude.{◌⊎◌, OnErr, OnOk}, specs.Option.{option_map}, specs.FinMap.{remove}, proofs.Common.{Result, Ok, Err, inl, inr}, specs.Cmp.{IsTotalOrder, tied_itself}, proofs.lemmas.Bool.{true≢false}, proofs.lemmas.Map.Lookups.{CmpEqualImpliesEq}}
 use Rattle.moo_rows.{specs.Exact.{tie_exact}, specs.declared.row.ObjRow.{ObjRow}, specs.declared.row.Ties.{Ties}, specs.declared.row.Link.{Link}, specs.declared.row.Link.TheVariants.{ChildOf, Within, Player}}
 
@@ -159,3 +159,20 @@ module _ (row_at row_at' : ObjNo → Option ObjRow) (key : ObjNo) (old : LinkSet
   pub remove-other : (new : LinkSets) → Forgets key (option_map ties_of (row_at key)) None old new
       → ((q : ObjNo) → row_at' q ≡ cond (eq_by_cmp object_cmp q key) None (row_at q)) → KeepsNoOther row_at' new
   remove-other new forgets is = other-row new None (λ l q e. let gone = forgets l q e in ((before l q gone.0).0, ((λ here. gone.1 here (before l q gone.0).0 (had_link l q gone.0 here)), λ _. gone.0))) is
+
+-- the same: whoever has a link still may, once the row before is back and the links that were added are gone
+pub back-covered : (row_at : ObjNo → Option ObjRow) (key : ObjNo) (old mid new : LinkSets) → AreCovered row_at old
+    → ((l : Link) (q : ObjNo) → may_have mid l q ≡ false → may_have old l q ≡ false) → ForgetsOnly key (option_map ties_of (row_at key)) mid new → AreCovered row_at new
+back-covered row_at key old mid new covered more forgets l q e = by (object_cmp q key) refl
+  where
+    own : q ≡ key → (b : Bool) → ties_have l (option_map ties_of (row_at key)) ≡ b → row_has l (row_at q) ≡ false
+    own here true h = covered l q (more l q (forgets l q (λ _. h) e))
+    own here false h = ap (λ x. row_has l (row_at x)) here ∙ sym (ties-row l (row_at key)) ∙ h
+
+    apart : (o : Ordering) → object_cmp q key ≡ o → is_eq o ≡ false → q ≡ key → ties_have l (option_map ties_of (row_at key)) ≡ true
+    apart o c other same = absurd (true≢false (sym (ap is_eq (ap (λ z. object_cmp z key) same ∙ tied_itself object_total key)) ∙ ap is_eq c ∙ other))
+
+    by : (o : Ordering) → object_cmp q key ≡ o → row_has l (row_at q) ≡ false
+    by Equal o = own (object_exact q key o) (ties_have l (option_map ties_of (row_at key))) refl
+    by Less o = covered l q (more l q (forgets l q (apart Less o refl) e))
+    by Greater o = covered l q (more l q (forgets l q (apart Greater o refl) e))
