@@ -1,5 +1,5 @@
 -- Who is kept for a link after more are kept and some are forgotten: nobody but who has it.
-use Rattle.moo_memory.proofs.Words.{◌≡◌, ◌≢◌, Bool, true, false, cond, Option, None, Some, Less, Equal, Greater, Ordering, is_some, refl, sym, ap, ◌∙◌, subst, eq_by_cmp, is_eq, FinMap, get, insert, get-insert, get-remove, ObjNo, LinkSets, object_cmp, object_exact, object_total, tie_cmp, tie_total, AreCovered, is_kept, may_have, is_to_nothing, has_link, row_has, ties_have, ties_of, ⊤}
+use Rattle.moo_memory.proofs.Words.{◌≡◌, ◌≢◌, Bool, true, false, cond, ◌||◌, Option, None, Some, Less, Equal, Greater, Ordering, is_some, refl, sym, ap, ◌∙◌, subst, eq_by_cmp, is_eq, FinMap, get, insert, get-insert, get-remove, ObjNo, LinkSets, object_cmp, object_exact, object_total, tie_cmp, tie_total, AreCovered, is_kept, may_have, is_to_nothing, has_link, row_has, ties_have, ties_of, ⊤}
 use Rattle.moo_memory.specs.Forgotten.{AddsOnly, Forgets, ForgetsOnly, KeepsNoOther}
 use Rattle.std.{specs.Prelude.{◌⊎◌, OnErr, OnOk}, specs.Option.{option_map}, specs.FinMap.{remove}, proofs.Common.{Result, Ok, Err, inl, inr}, specs.Cmp.{IsTotalOrder, tied_itself}, proofs.lemmas.Bool.{true≢false}, proofs.lemmas.Map.Lookups.{CmpEqualImpliesEq}}
 use Rattle.moo_rows.{specs.Exact.{tie_exact}, specs.declared.row.ObjRow.{ObjRow}, specs.declared.row.Ties.{Ties}, specs.declared.row.Link.{Link}, specs.declared.row.Link.TheVariants.{ChildOf, Within, Player}}
@@ -176,3 +176,12 @@ back-covered row_at key old mid new covered more forgets l q e = by (object_cmp 
     by Equal o = own (object_exact q key o) (ties_have l (option_map ties_of (row_at key))) refl
     by Less o = covered l q (more l q (forgets l q (apart Less o refl) e))
     by Greater o = covered l q (more l q (forgets l q (apart Greater o refl) e))
+
+-- an object is kept for a link exactly if it has it
+pub kept-exactly : (row_at : ObjNo → Option ObjRow) (sets : LinkSets) → AreCovered row_at sets → KeepsNoOther row_at sets
+    → (l : Link) → is_to_nothing l ≡ false → (q : ObjNo) → is_kept sets l q ≡ row_has l (row_at q)
+kept-exactly row_at sets covered no_other l something q = by (is_kept sets l q) refl
+  where
+    by : (b : Bool) → is_kept sets l q ≡ b → b ≡ row_has l (row_at q)
+    by true kept = sym (no_other l q kept).1
+    by false lacks = sym (covered l q (ap (λ b. b || is_kept sets l q) something ∙ lacks))

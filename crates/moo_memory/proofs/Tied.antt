@@ -1,7 +1,7 @@
 -- The objects that have a link, found among pairs in order.
 use Rattle.moo_memory.proofs.Words.{◌≡◌, Bool, true, false, ◌&&◌, cond, T, List, [], ◌∷◌, Less, Equal, Greater, Ordering, is_some, None, refl, sym, ap, ◌∙◌, subst, ⊤, FinMap, get-from_entries, find, is_sorted, contents, has_key, ObjNo, Maps, object_cmp, object_total, object_exact, tie_cmp, tie_total, is_linked, IsFirst, is_lt, is_eq, ordering_reverse}
 use Rattle.std.{proofs.Common.{int_eq, map, not, BTreeMap}, specs.Cmp.{IsTotalOrder, tied_itself}, specs.Ordering.{ordering_then}, specs.BTreeMap.{keys, IsOrdered}, specs.BTreeMap.Range.{entries_between}, specs.List.{AllByRecursion, filter}, specs.List.Sorted.{IsStrictlySortedBy}, specs.FinMap.Entries.{below_all, where_key, is_sorted-where_key, find-where_key}, specs.declared.ops.Bound.TheVariants.{Excluded, Unbounded}, proofs.lemmas.Bool.{true≢false}, proofs.lemmas.Bool.Decides.{Decides-int_eq}}
-use Rattle.moo_rows.{specs.declared.row.Link.{Link}, specs.Exact.{tie_exact}, specs.Links.{linked_left}, proofs.Listing.{linked_first, linked_end}, proofs.Walking.{first_of, second_of, less_of, elsewhere, below}}
+use Rattle.moo_rows.{specs.declared.row.Link.{Link}, specs.Exact.{tie_exact}, specs.Links.{linked_left}, proofs.Listing.{linked_first, linked_end}, proofs.Walking.{here, first_of, second_of, less_of, elsewhere, below}}
 
 both : (a b : Bool) → T a → T b → T (a && b)
 both true b p q = q
@@ -145,3 +145,43 @@ module _ (x : ObjNo) where
         kept q far =
             find-where_key tie_cmp passes (x, q) (λ p same. ap passes (sym (tie_exact (x, q) p same))) pairs.entries
             ∙ ap (λ b. cond (is_lt b && true) (find tie_cmp (x, q) pairs.entries) None) (tied_order after q ∙ far)
+
+    -- each pair is of an object that has the link
+    tied_all : (es : List ((ObjNo × ObjNo) × ⊤)) → ((q : ObjNo) → is_some (find tie_cmp (x, q) es) ≡ true → is_linked t link q ≡ true) → tied_to x (λ _. true) es ≡ tied_to x (is_linked t link) es
+    tied_all [] all = refl
+    tied_all (e ∷ es) all = by (int_eq e.0.0.0 x.0) refl (tied_all es rest)
+      where
+        first : tie_cmp (x, e.0.1) (x, e.0.1) ≡ Equal
+        first = tied_itself tie_total (x, e.0.1)
+
+        rest : (q : ObjNo) → is_some (find tie_cmp (x, q) es) ≡ true → is_linked t link q ≡ true
+        rest q h = later (is_eq (tie_cmp (x, q) e.0)) refl
+          where
+            later : (b : Bool) → is_eq (tie_cmp (x, q) e.0) ≡ b → is_linked t link q ≡ true
+            later true same = all q (ap is_some (here tie_cmp (x, q) e es same))
+            later false apart = all q (ap is_some (elsewhere tie_cmp (x, q) e es apart) ∙ h)
+
+        by : (b : Bool) → int_eq e.0.0.0 x.0 ≡ b → tied_to x (λ _. true) es ≡ tied_to x (is_linked t link) es → cond b (e.0.1 ∷ tied_to x (λ _. true) es) [] ≡ cond b (cond (is_linked t link e.0.1) (e.0.1 ∷ tied_to x (is_linked t link) es) (tied_to x (is_linked t link) es)) []
+        by true same after =
+            let number = (Decides-int_eq e.0.0.0 x.0).0 same in
+            let key : e.0 ≡ (x, e.0.1) = λ i. (record { 0 = number i }, e.0.1) in
+            let own : is_linked t link e.0.1 ≡ true = all e.0.1 (ap is_some (here tie_cmp (x, e.0.1) e es (ap (λ p. is_eq (tie_cmp (x, e.0.1) p)) key ∙ ap is_eq first))) in
+            ap (λ l. e.0.1 ∷ l) after ∙ sym (ap (λ b. cond b (e.0.1 ∷ tied_to x (is_linked t link) es) (tied_to x (is_linked t link) es)) own)
+        by false other after = refl
+
+    -- the partners of x past `after` are the objects that have the link, if an object is a partner exactly if it has it
+    pub tied_partners : (pairs : BTreeMap (ObjNo × ObjNo) ⊤) (after : ObjNo) → IsOrdered tie_cmp pairs
+        → ((q : ObjNo) → has_key tie_cmp pairs (x, q) ≡ is_linked t link q)
+        → tied_to x (λ _. true) (entries_between tie_cmp (Excluded (x, after)) Unbounded pairs.entries) ≡ map (λ e. e.0) (linked_left link after t)
+    tied_partners pairs after ordered exact = tied_all _ found ∙ tied_left pairs after ordered (λ q none. sym (exact q) ∙ none)
+      where
+        passes : ObjNo × ObjNo → Bool
+        passes p = is_lt (tie_cmp (x, after) p) && true
+
+        found : (q : ObjNo) → is_some (find tie_cmp (x, q) (where_key tie_cmp passes pairs.entries)) ≡ true → is_linked t link q ≡ true
+        found q h = sym (exact q) ∙ ap is_some (get-from_entries tie_total pairs.entries (x, q)) ∙ within (passes (x, q))
+            (sym (ap is_some (find-where_key tie_cmp passes (x, q) (λ p same. ap passes (sym (tie_exact (x, q) p same))) pairs.entries)) ∙ h)
+          where
+            within : (b : Bool) → is_some (cond b (find tie_cmp (x, q) pairs.entries) None) ≡ true → is_some (find tie_cmp (x, q) pairs.entries) ≡ true
+            within true h = h
+            within false h = absurd (true≢false (sym h))

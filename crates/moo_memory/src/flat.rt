@@ -155,7 +155,7 @@ impl Rows for Flat {
         list: &mut Vec<ObjNo>,
     ) -> Result<(), AllocError> {
         match self.links.pairs_of(link) {
-            Some((pairs, x)) => list_tied(&self.objects, pairs, x, link, after, list),
+            Some((pairs, x)) => list_tied(pairs, x, after, list),
             None => {
                 let mut last = after;
                 while let Some(y) = self.next_linked(link, last) {

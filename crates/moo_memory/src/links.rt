@@ -186,9 +186,10 @@ impl Links {
         }
     }
 
-    /// The pairs that tell whom a link to an object may have, and that object; `None` for one to `#-1`, and for that of players.
+    /// The pairs that tell who is kept for a link to an object, and that object; `None` for one to `#-1`, and for that of players.
     pub fn pairs_of(&self, link: Link) -> Option<(&BTreeMap<(ObjNo, ObjNo), ()>, ObjNo)>
-        ensures { IfSome result (λ p. (key : ObjNo) → has_key tie_cmp p.0.now (p.1, key) ≡ may_have self.now link key) }
+        ensures { IfSome result (λ p. (is_to_nothing link ≡ false)
+            × ((key : ObjNo) → has_key tie_cmp p.0.now (p.1, key) ≡ is_kept self.now link key)) }
     {
         if link.is_to_nothing() {
             return None;

@@ -1,5 +1,6 @@
 use Rattle.std.proofs.Common.{map}
-use Rattle.moo_memory.proofs.Words.{◌++◌, [], ◌∷◌, sym, ap, ◌∙◌, append_assoc, append-nil}
+use Rattle.moo_memory.proofs.Keeping.{kept-exactly}
+use Rattle.moo_memory.proofs.Words.{Held, contents, get, object_cmp, row_has, ◌++◌, [], ◌∷◌, sym, ap, ◌∙◌, append_assoc, append-nil}
 use Rattle.moo_rows.{specs.Links.{linked_left}, proofs.Listing.{linked_first, linked_end}}
 use Rattle.moo_memory.proofs.flat.FlatRows.list_linked.Goals as goal
 
@@ -19,3 +20,9 @@ returns-in_default c =
     sym (append-nil c.loop-y.list.items)
     ∙ ap (λ l. c.loop-y.list.items ++ l) (sym (linked_end t c.args.link c.loop-y.last c.in_default.ensures))
     ∙ c.loop-y.invariant
+
+pub returns-in-Some : goal.returns-in-Some
+returns-in-Some c =
+    let kept = kept-exactly (get (contents object_cmp c.self.inside.objects)) c.self.inside.links c.self.invariant.0 c.self.invariant.3 c.args.link c.in-Some.ensures.0 in
+    c.list_tied.ensures c.args.self.now.maps c.args.link
+    (λ q. c.in-Some.ensures.1 q ∙ kept q ∙ ap (λ (held : Held). row_has c.args.link (get held.maps.objects q)) c.self.view_is)
