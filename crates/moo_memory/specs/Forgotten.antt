@@ -1,10 +1,12 @@
 -- What maps keep of links, definers and names, and what is forgotten of it.
-use Rattle.std.specs.Prelude.{◌≡◌, ◌⊎◌, Bool, true, false, Option, is_some}
+use Rattle.std.specs.Prelude.{◌≡◌, ◌⊎◌, ◌↔◌, Bool, true, false, Option, Some, is_some, option_map, ⊤}
 use Rattle.std.specs.BTreeMap.{BTreeMap}
-use Rattle.std.specs.FinMap.{get}
+use Rattle.std.specs.FinMap.{FinMap, get}
 use Rattle.std.specs.declared.cmp.Ordering.{Ordering}
 use Rattle.moo_value.specs.declared.value.ObjNo.{ObjNo}
 use Rattle.moo_rows.specs.declared.row.Link.{Link}
+use Rattle.moo_rows.specs.declared.row.PropId.{PropId}
+use Rattle.moo_rows.specs.declared.row.PropRow.{PropRow}
 use Rattle.moo_rows.specs.declared.row.Ties.{Ties}
 use Rattle.moo_rows.specs.declared.row.ObjRow.{ObjRow}
 use Rattle.moo_rows.specs.Links.{LinkSets, has_link, is_kept, is_to_nothing, may_have, row_has, ties_have}
@@ -36,3 +38,19 @@ Forgets key was stays old new =
     (link : Link) (x : ObjNo) → is_kept new link x ≡ true →
     (is_kept old link x ≡ true)
     × (x ≡ key → is_to_nothing link ≡ false → ties_have link was ≡ true → ties_have link stays ≡ true)
+
+-- ---- properties, kept by their definers and by their tags
+
+-- a property is kept for a key exactly if its row has the key
+abbrev pub AreKeysOf : {K : Type 0} {cmp : K × PropId → K × PropId → Ordering} → (PropRow → K) → (PropId → Option PropRow) → FinMap cmp ⊤ → Type 0
+AreKeysOf of row_at kept = (k : _) (id : PropId) → (is_some (get kept (k, id)) ≡ true) ↔ (option_map of (row_at id) ≡ Some k)
+
+-- at most this is kept besides, and nothing is gone
+abbrev pub AddsAtMost : {K : Type 0} {cmp : K → K → Ordering} → K → FinMap cmp ⊤ → FinMap cmp ⊤ → Type 0
+AddsAtMost one old new = (k : _) → (is_some (get new k) ≡ true → (is_some (get old k) ≡ true) ⊎ (k ≡ one)) × (is_some (get old k) ≡ true → is_some (get new k) ≡ true)
+
+-- the property isn't kept for the key that it had, unless that stays; nothing else changes
+abbrev pub ForgetsKey : {K : Type 0} {cmp : K × PropId → K × PropId → Ordering} → PropId → (was stays : Option K) → FinMap cmp ⊤ → FinMap cmp ⊤ → Type 0
+ForgetsKey key was stays old new =
+    (k : _) (id : PropId) →
+    (is_some (get new (k, id)) ≡ true) ↔ ((is_some (get old (k, id)) ≡ true) × (id ≡ key → was ≡ Some k → stays ≡ Some k))

@@ -271,7 +271,7 @@ impl<'a, R: Rows> Rows for Draft<'a, R> {
         let definer = definer_of(row);
         let tag = tag_if(row);
         overlay::put(&mut self.props, &mut self.writes, &self.ticks, key, None)?;
-        forget_defined(&mut self.definers, definer, key);
+        forget_defined(&mut self.definers, definer, None, key);
         forget_tagged(&mut self.names, tag, None, key);
         Ok(())
     }

@@ -7,7 +7,7 @@ use crate::links::{
     Links, are_same, definer_of, forget_defined, next_defined, row_defined, row_has, ties_of,
 };
 use crate::listing::list_tied;
-use crate::names::{forget_tagged, next_tagged, row_named, tag_if, tag_of};
+use crate::names::{forget_tagged, keep_property, next_tagged, row_named, tag_if, tag_of};
 use moo_rows::{
     Head, Link, ObjRow, PetitionId, PetitionRow, PropId, PropRow, Rows, SlotRow, VerbId, VerbRow,
     Writes, ordered,
@@ -54,14 +54,14 @@ impl Model for Flat {
     } };
 
     ghost use Rattle.std.specs.FinMap as map;
-    ghost use Rattle.moo_rows.specs.Links.{AreCovered, AreOfDefiners};
-    ghost use Rattle.moo_rows.specs.Named.{AreByName, named_cmp};
-    ghost use Rattle.moo_memory.specs.Forgotten.{KeepsNoOther};
+    ghost use Rattle.moo_rows.specs.Links.{AreCovered};
+    ghost use Rattle.moo_rows.specs.Named.{named_cmp, tag_of};
+    ghost use Rattle.moo_memory.specs.Forgotten.{AreKeysOf, KeepsNoOther};
 
     ghost invariant = { λ f.
         AreCovered (map.get (contents object_cmp f.objects)) f.links
-        × AreOfDefiners (map.get (contents prop_cmp f.props)) (contents slot_cmp f.definers)
-        × AreByName (map.get (contents prop_cmp f.props)) (contents named_cmp f.names)
+        × AreKeysOf (λ row. row.definer) (map.get (contents prop_cmp f.props)) (contents slot_cmp f.definers)
+        × AreKeysOf tag_of (map.get (contents prop_cmp f.props)) (contents named_cmp f.names)
         × KeepsNoOther (map.get (contents object_cmp f.objects)) f.links };
 }
 
@@ -233,11 +233,19 @@ impl Rows for Flat {
     }
 
     fn put_prop(&mut self, key: PropId, row: PropRow) -> Result<(), AllocError> {
+        let definer = row.definer;
         let tag = tag_of(&row);
-        ordered::put(&mut self.definers, (row.definer, key), ())?;
-        ordered::put(&mut self.names, (tag, key), ())?;
         let old = ordered::replace(&mut self.props, key, row)?;
-        forget_tagged(&mut self.names, tag_if(old.as_ref()), Some(tag), key);
+        let defined = definer_of(old.as_ref());
+        let was = tag_if(old.as_ref());
+        if let Err(error) = keep_property(&mut self.definers, &mut self.names, tag, key) {
+            forget_defined(&mut self.definers, Some(definer), defined, key);
+            forget_tagged(&mut self.names, Some(tag), was, key);
+            ordered::put_back(&mut self.props, key, old);
+            return Err(error);
+        }
+        forget_defined(&mut self.definers, defined, Some(definer), key);
+        forget_tagged(&mut self.names, was, Some(tag), key);
         self.writes.rise();
         Ok(())
     }
@@ -250,7 +258,7 @@ impl Rows for Flat {
         let definer = definer_of(row);
         let tag = tag_if(row);
         ordered::remove(&mut self.props, key);
-        forget_defined(&mut self.definers, definer, key);
+        forget_defined(&mut self.definers, definer, None, key);
         forget_tagged(&mut self.names, tag, None, key);
         self.writes.rise();
         Ok(())

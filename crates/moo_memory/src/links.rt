@@ -7,7 +7,7 @@ ghost use Rattle.moo_rows.specs.declared.row.PropId.{PropId};
 ghost use Rattle.moo_rows.specs.Maps.{object_cmp, prop_cmp, slot_cmp};
 ghost use Rattle.moo_rows.specs.Ordered.{contents};
 ghost use Rattle.moo_rows.specs.Links.{IsFirst, tie_cmp, has_link, is_candidate, is_kept, is_to_nothing, may_have, row_defined, row_has, ties_have, ties_of};
-ghost use Rattle.moo_memory.specs.Forgotten.{AddsOnly, Forgets, ForgetsOnly, has_key};
+ghost use Rattle.moo_memory.specs.Forgotten.{AddsOnly, Forgets, ForgetsKey, ForgetsOnly, has_key};
 
 use moo_rows::{Link, ObjRow, PropId, PropRow, Ties, ordered};
 use moo_value::ObjNo;
@@ -114,20 +114,30 @@ pub fn definer_of(row: Option<&PropRow>) -> Option<ObjNo>
     }
 }
 
-/// Forgets that a property may be defined by one who defined it, if anyone did. Takes no memory.
+/// Whether it is this object.
+fn is_that(one: Option<ObjNo>, other: ObjNo) -> bool
+    ensures { IsTrue result ↔ (one ≡ Some other) }
+{
+    one == Some(other)
+}
+
+/// Forgets that a property is defined by who defined it, if anyone did, unless that stays. Takes no memory.
 pub fn forget_defined(
     pairs: &mut BTreeMap<(ObjNo, PropId), ()>,
-    definer: Option<ObjNo>,
+    was: Option<ObjNo>,
+    stays: Option<ObjNo>,
     key: PropId,
 )
-    ensures { (x : ObjNo) (id : PropId) → id ≢ key →
-        has_key slot_cmp pairs.new (x, id) ≡ false → has_key slot_cmp pairs.old (x, id) ≡ false }
+    ensures { ForgetsKey key was stays (contents slot_cmp pairs.old) (contents slot_cmp pairs.new) }
 {
-    let definer = match definer {
+    let was = match was {
         None => return,
-        Some(definer) => definer,
+        Some(was) => was,
     };
-    ordered::remove(pairs, (definer, key));
+    if is_that(stays, was) {
+        return;
+    }
+    ordered::remove(pairs, (was, key));
 }
 
 /// Whether there are ties, and they have the link.

@@ -1,15 +1,17 @@
 //! Properties by their names: those that may have one, whose rows are still to be looked at. They are kept by tag, a definer and the
 //! hash of a name.
 
-ghost use Rattle.std.specs.Prelude.{◌≡◌, ◌↔◌, true, Some, option_map, IsTrue};
+ghost use Rattle.std.specs.Prelude.{◌≡◌, ◌↔◌, true, Some, option_map, IsTrue, OnOk};
 ghost use Rattle.moo_rows.specs.declared.row.PropId.{PropId};
 ghost use Rattle.moo_rows.specs.Links.{IsFirst};
-ghost use Rattle.moo_rows.specs.Maps.{prop_cmp};
-ghost use Rattle.moo_rows.specs.Named.{Tag, is_alike, named_cmp, row_named, tag_of};
-ghost use Rattle.moo_memory.specs.Forgotten.{has_key};
+ghost use Rattle.moo_rows.specs.Maps.{prop_cmp, slot_cmp};
+ghost use Rattle.moo_rows.specs.Ordered.{contents};
+ghost use Rattle.moo_rows.specs.Named.{is_alike, named_cmp, row_named, tag_of};
+ghost use Rattle.moo_memory.specs.Forgotten.{AddsAtMost, ForgetsKey, has_key};
 
 use moo_rows::{PropId, PropRow, name_hash, ordered};
 use moo_value::ObjNo;
+use std::alloc::AllocError;
 use std::collections::BTreeMap;
 
 /// Whether two names are the same, ASCII case aside.
@@ -37,7 +39,9 @@ pub fn tag_of(row: &PropRow) -> (ObjNo, u64)
 }
 
 /// The tag of a row, if there is one.
-pub fn tag_if(row: Option<&PropRow>) -> Option<(ObjNo, u64)> {
+pub fn tag_if(row: Option<&PropRow>) -> Option<(ObjNo, u64)>
+    ensures { result ≡ option_map tag_of (option_map (λ row. row.now) row.entry) }
+{
     match row {
         None => None,
         Some(row) => Some(tag_of(row)),
@@ -73,15 +77,14 @@ fn is_tag(stays: Option<(ObjNo, u64)>, tag: (ObjNo, u64)) -> bool
     }
 }
 
-/// Forgets that a property may have the tag that it had, if it had one, unless it stays. Takes no memory.
+/// Forgets that a property has the tag that it had, if it had one, unless it stays. Takes no memory.
 pub fn forget_tagged(
     names: &mut BTreeMap<((ObjNo, u64), PropId), ()>,
     was: Option<(ObjNo, u64)>,
     stays: Option<(ObjNo, u64)>,
     key: PropId,
 )
-    ensures { (tag : Tag) (id : PropId) → (id ≡ key → stays ≡ Some tag) →
-        has_key named_cmp names.old (tag, id) ≡ true → has_key named_cmp names.new (tag, id) ≡ true }
+    ensures { ForgetsKey key was stays (contents named_cmp names.old) (contents named_cmp names.new) }
 {
     let was = match was {
         None => return,
@@ -91,4 +94,19 @@ pub fn forget_tagged(
         return;
     }
     ordered::remove(names, (was, key));
+}
+
+/// Keeps a property for its definer and for its tag, which has the definer too. If there is no memory for both, it may be kept for one.
+pub fn keep_property(
+    definers: &mut BTreeMap<(ObjNo, PropId), ()>,
+    names: &mut BTreeMap<((ObjNo, u64), PropId), ()>,
+    tag: (ObjNo, u64),
+    key: PropId,
+) -> Result<(), AllocError>
+    ensures definers { AddsAtMost (tag.0, key) (contents slot_cmp definers.old) (contents slot_cmp definers.new) }
+    ensures names { AddsAtMost (tag, key) (contents named_cmp names.old) (contents named_cmp names.new) }
+    ensures both { OnOk result ((has_key slot_cmp definers.new (tag.0, key) ≡ true) × (has_key named_cmp names.new (tag, key) ≡ true)) }
+{
+    ordered::put(definers, (tag.0, key), ())?;
+    ordered::put(names, (tag, key), ())
 }

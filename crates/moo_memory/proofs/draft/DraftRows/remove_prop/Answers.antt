@@ -1,4 +1,4 @@
-use Rattle.moo_memory.{proofs.Words.{None, refl, prop_exact, prop_total, contents, slot_cmp, named_cmp}, proofs.Drafts.{seen-done, draft-remove, draft-untag}}
+use Rattle.moo_memory.{proofs.Words.{None, refl, prop_exact, prop_total, contents, slot_cmp, named_cmp}, proofs.Drafts.{seen-done, draft-remove, draft-untag}, proofs.Keys.{lost-none}}
 use Rattle.moo_memory.proofs.draft.DraftRows.remove_prop.Goals as goal
 
 pub returns-clause-ok : goal.returns-clause-ok
@@ -7,7 +7,7 @@ returns-clause-ok g c = seen-done prop_total prop_exact (λ t. t.props) (λ m t.
 pub invariant_of-self-2 : goal.invariant_of-self-2
 invariant_of-self-2 g c = (
   c.self.invariant.0,
-  draft-remove _ _ c.args.key (contents slot_cmp c.self.inside.definers) (contents slot_cmp c.forget_defined.new.pairs) c.in_ok-put.ensures.ok.0 c.self.invariant.1 (λ x id other e. c.forget_defined.ensures x id other e),
-  draft-untag _ _ c.args.key (contents named_cmp c.self.inside.names) (contents named_cmp c.forget_tagged.new.names) c.in_ok-put.ensures.ok.0 c.self.invariant.2 (λ p apart h. c.forget_tagged.ensures p.0 p.1 (λ same. absurd (apart same)) h),
+  draft-remove _ _ c.args.key (contents slot_cmp c.self.inside.definers) (contents slot_cmp c.forget_defined.new.pairs) c.in_ok-put.ensures.ok.0 c.self.invariant.1 (lost-none (contents slot_cmp c.self.inside.definers) (contents slot_cmp c.forget_defined.new.pairs) (λ k id other h. (c.forget_defined.ensures k id).1 (h, λ same _. absurd (other same)))),
+  draft-untag _ _ c.args.key (contents named_cmp c.self.inside.names) (contents named_cmp c.forget_tagged.new.names) c.in_ok-put.ensures.ok.0 c.self.invariant.2 (λ p apart h. (c.forget_tagged.ensures p.0 p.1).1 (h, λ same _. absurd (apart same))),
   c.in_ok-put.ensures.most c.self.invariant.3,
 )

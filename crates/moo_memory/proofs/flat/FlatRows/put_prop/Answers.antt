@@ -1,37 +1,48 @@
-use Rattle.moo_memory.proofs.Words.{◌≡◌, Some, sym, ap, ◌∙◌, subst, is_some, get, get-insert, insert, contents, prop_cmp, slot_cmp, row_defined, prop_total, slot_total, has-insert, lacked-insert, defined-put, AreByName, Tag, named_cmp, named_total, tag_of, kept-insert, named-more, named-put}
+use Rattle.moo_memory.{proofs.Words.{◌≡◌, cond, eq_by_cmp, is_some, true, PropId, Some, sym, ap, ◌∙◌, subst, rules, get, get-insert, contents, prop_cmp, slot_cmp, prop_total, Tag, named_cmp, tag_of}, proofs.Keys.{keys-back, keys-put}, specs.Forgotten.{AddsAtMost, AreKeysOf, ForgetsKey}}
+use Rattle.std.specs.Option.{option_map}
+use Rattle.moo_rows.specs.declared.row.PropRow.{PropRow}
 use Rattle.moo_memory.proofs.flat.FlatRows.put_prop.Goals as goal
 
-pub invariant_of-self-in_err-put-2 : goal.invariant_of-self-in_err-put-2
-invariant_of-self-in_err-put-2 c = (
-  c.self.invariant.0,
-  λ x id e.
-      c.self.invariant.1 x id (lacked-insert slot_total (contents slot_cmp c.self.inside.definers) (c.args.row.definer, c.args.key) tt (x, id) (ap (λ m. is_some (get m (x, id))) (sym c.in_ok-put.ensures.ok) ∙ e)),
-  subst (AreByName (get (contents prop_cmp c.self.inside.props))) (sym c.in_err-put-2.ensures.err) c.self.invariant.2,
-  c.self.invariant.3,
-)
-
-pub invariant_of-self-in_err-old : goal.invariant_of-self-in_err-old
-invariant_of-self-in_err-old c = (
-  c.self.invariant.0,
-  λ x id e.
-      ap (λ m. row_defined x (get m id)) c.in_err-old.ensures.err
-      ∙ c.self.invariant.1 x id (lacked-insert slot_total (contents slot_cmp c.self.inside.definers) (c.args.row.definer, c.args.key) tt (x, id) (ap (λ m. is_some (get m (x, id))) (sym c.in_ok-put.ensures.ok) ∙ e)),
-  named-more (get (contents prop_cmp c.self.inside.props)) (get (contents prop_cmp c.replace.new.rows)) c.args.key (contents named_cmp c.self.inside.names) (contents named_cmp c.put-2.new.rows) c.self.invariant.2
-      (λ p h. ap (λ m. is_some (get m p)) c.in_ok-put-2.ensures.ok ∙ kept-insert named_total (contents named_cmp c.self.inside.names) (c.tag_of-tag.result, c.args.key) tt p h)
-      (λ q. ap (λ m. get m q) c.in_err-old.ensures.err),
-  c.self.invariant.3,
-)
+pub invariant_of-self-in-Err : goal.invariant_of-self-in-Err
+invariant_of-self-in-Err c =
+    let row_at = get (contents prop_cmp c.self.inside.props) in
+    let back : contents prop_cmp c.put_back.new.rows ≡ contents prop_cmp c.self.inside.props =
+    c.put_back.ensures (contents prop_cmp c.self.inside.props) c.args.row c.in_ok-old.ensures.ok c.in_ok-old.ensures.old in
+    let defined : c.definer_of-defined.result ≡ option_map (λ (row : PropRow). row.definer) (row_at c.args.key) = search rules in
+    let was : c.tag_if-was.result ≡ option_map tag_of (row_at c.args.key) = search rules in
+    let definers = contents slot_cmp c.keep_property.new.definers in
+    let names = contents named_cmp c.keep_property.new.names in (
+      c.self.invariant.0,
+      subst (λ m. AreKeysOf (λ (row : PropRow). row.definer) (get m) (contents slot_cmp c.forget_defined.new.pairs)) (sym back)
+          (keys-back (λ (row : PropRow). row.definer) row_at row_at c.args.key (contents slot_cmp c.self.inside.definers) c.self.invariant.1 definers (contents slot_cmp c.forget_defined.new.pairs) c.args.row.definer
+          (subst (λ (tag : Tag). AddsAtMost (tag.0, c.args.key) (contents slot_cmp c.self.inside.definers) definers) c.tag_of-tag.ensures c.keep_property.ensures.definers)
+          (subst (λ was. ForgetsKey c.args.key (Some c.args.row.definer) was definers (contents slot_cmp c.forget_defined.new.pairs)) defined c.forget_defined.ensures)),
+      subst (λ m. AreKeysOf tag_of (get m) (contents named_cmp c.forget_tagged.new.names)) (sym back)
+          (keys-back tag_of row_at row_at c.args.key (contents named_cmp c.self.inside.names) c.self.invariant.2 names (contents named_cmp c.forget_tagged.new.names) c.tag_of-tag.result c.keep_property.ensures.names
+          (subst (λ was. ForgetsKey c.args.key (Some c.tag_of-tag.result) was names (contents named_cmp c.forget_tagged.new.names)) was c.forget_tagged.ensures)),
+      c.self.invariant.3,
+    )
 
 pub invariant_of-self-2 : goal.invariant_of-self-2
 invariant_of-self-2 c =
-    let old = contents named_cmp c.self.inside.names in
-    let put : contents named_cmp c.put-2.new.rows ≡ insert old (tag_of c.args.row, c.args.key) tt = c.in_ok-put-2.ensures.ok ∙ ap (λ (t : Tag). insert old (t, c.args.key) tt) c.tag_of-tag.ensures in (
+    let row_at = get (contents prop_cmp c.self.inside.props) in
+    let put : (q : PropId) → get (contents prop_cmp c.replace.new.rows) q ≡ cond (eq_by_cmp prop_cmp q c.args.key) (Some c.args.row) (row_at q) =
+    λ q. ap (λ m. get m q) c.in_ok-old.ensures.ok ∙ get-insert prop_total (contents prop_cmp c.self.inside.props) c.args.key c.args.row q in
+    let defined : c.definer_of-defined.result ≡ option_map (λ (row : PropRow). row.definer) (row_at c.args.key) = search rules in
+    let was : c.tag_if-was.result ≡ option_map tag_of (row_at c.args.key) = search rules in
+    let definers = contents slot_cmp c.keep_property.new.definers in
+    let names = contents named_cmp c.keep_property.new.names in (
       c.self.invariant.0,
-      defined-put (get (contents prop_cmp c.self.inside.props)) (get (contents prop_cmp c.replace.new.rows)) c.args.key (contents slot_cmp c.self.inside.definers) (contents slot_cmp c.put.new.rows) c.args.row c.self.invariant.1
-          c.in_ok-put.ensures.ok (λ q. ap (λ m. get m q) c.in_ok-old.ensures.ok ∙ get-insert prop_total (contents prop_cmp c.self.inside.props) c.args.key c.args.row q),
-      named-put (get (contents prop_cmp c.self.inside.props)) (get (contents prop_cmp c.replace.new.rows)) c.args.key old (contents named_cmp c.forget_tagged.new.names) c.self.invariant.2 c.args.row
-          (c.forget_tagged.ensures (tag_of c.args.row) c.args.key (λ _. ap Some c.tag_of-tag.ensures) (ap (λ m. is_some (get m (tag_of c.args.row, c.args.key))) put ∙ has-insert named_total old (tag_of c.args.row, c.args.key) tt))
-          (λ p is h. c.forget_tagged.ensures p.0 p.1 (λ same. ap Some (c.tag_of-tag.ensures ∙ sym (is same))) (ap (λ m. is_some (get m p)) put ∙ kept-insert named_total old (tag_of c.args.row, c.args.key) tt p h))
-          (λ q. ap (λ m. get m q) c.in_ok-old.ensures.ok ∙ get-insert prop_total (contents prop_cmp c.self.inside.props) c.args.key c.args.row q),
+      keys-put (λ (row : PropRow). row.definer) row_at (get (contents prop_cmp c.replace.new.rows)) c.args.key (contents slot_cmp c.self.inside.definers) c.self.invariant.1 definers (contents slot_cmp c.forget_defined-2.new.pairs) c.args.row
+          (subst (λ (tag : Tag). AddsAtMost (tag.0, c.args.key) (contents slot_cmp c.self.inside.definers) definers) c.tag_of-tag.ensures c.keep_property.ensures.definers)
+          (subst (λ (tag : Tag). is_some (get definers (tag.0, c.args.key)) ≡ true) c.tag_of-tag.ensures c.in_default.ensures.both.0)
+          (subst (λ was. ForgetsKey c.args.key was (Some c.args.row.definer) definers (contents slot_cmp c.forget_defined-2.new.pairs)) defined c.forget_defined-2.ensures)
+          put,
+      keys-put tag_of row_at (get (contents prop_cmp c.replace.new.rows)) c.args.key (contents named_cmp c.self.inside.names) c.self.invariant.2 names (contents named_cmp c.forget_tagged-2.new.names) c.args.row
+          (subst (λ (tag : Tag). AddsAtMost (tag, c.args.key) (contents named_cmp c.self.inside.names) names) c.tag_of-tag.ensures c.keep_property.ensures.names)
+          (subst (λ (tag : Tag). is_some (get names (tag, c.args.key)) ≡ true) c.tag_of-tag.ensures c.in_default.ensures.both.1)
+          (subst (λ was. ForgetsKey c.args.key was (Some (tag_of c.args.row)) names (contents named_cmp c.forget_tagged-2.new.names)) was
+          (subst (λ (tag : Tag). ForgetsKey c.args.key c.tag_if-was.result (Some tag) names (contents named_cmp c.forget_tagged-2.new.names)) c.tag_of-tag.ensures c.forget_tagged-2.ensures))
+          put,
       c.self.invariant.3,
     )
