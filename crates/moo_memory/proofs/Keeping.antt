@@ -1,5 +1,5 @@
 -- Who is kept for a link after more are kept and some are forgotten: nobody but who has it.
-use Rattle.moo_memory.proofs.Words.{◌≡◌, ◌≢◌, Bool, true, false, cond, ◌||◌, Option, None, Some, Less, Equal, Greater, Ordering, is_some, refl, sym, ap, ◌∙◌, subst, eq_by_cmp, is_eq, FinMap, get, insert, get-insert, get-remove, ObjNo, LinkSets, object_cmp, object_exact, object_total, tie_cmp, tie_total, AreCovered, is_kept, may_have, is_to_nothing, has_link, row_has, ties_have, ties_of, ⊤}
+use Rattle.moo_memory.proofs.Words.{◌≡◌, ◌≢◌, Bool, true, false, cond, ◌||◌, Option, None, Some, Less, Equal, Greater, Ordering, is_some, refl, sym, ap, ◌∙◌, eq_by_cmp, is_eq, FinMap, get, insert, get-insert, get-remove, ObjNo, LinkSets, object_cmp, object_exact, object_total, tie_cmp, tie_total, AreCovered, is_kept, may_have, is_to_nothing, has_link, row_has, ties_have, ties_of, ⊤}
 use Rattle.moo_memory.specs.Forgotten.{AddsOnly, Forgets, ForgetsOnly, KeepsNoOther}
 use Rattle.std.{specs.Prelude.{◌⊎◌, OnErr, OnOk}, specs.Option.{option_map}, specs.FinMap.{remove}, proofs.Common.{Result, Ok, Err, inl, inr}, specs.Cmp.{IsTotalOrder, tied_itself}, proofs.lemmas.Bool.{true≢false}, proofs.lemmas.Map.Lookups.{CmpEqualImpliesEq}}
 use Rattle.moo_rows.{specs.Exact.{tie_exact}, specs.declared.row.ObjRow.{ObjRow}, specs.declared.row.Ties.{Ties}, specs.declared.row.Link.{Link}, specs.declared.row.Link.TheVariants.{ChildOf, Within, Player}}
@@ -142,7 +142,7 @@ module _ (row_at row_at' : ObjNo → Option ObjRow) (key : ObjNo) (old : LinkSet
       kept l q e =
           let gone = forgets l q e in
           elim (adds l q gone.0) [
-            inl was ↦ ((before l q was).0, ((λ here. gone.1 here (before l q was).0 (had_link l q was here)), λ _. was))
+            | inl was ↦ ((before l q was).0, ((λ here. gone.1 here (before l q was).0 (had_link l q was here)), λ _. was))
             | inr own ↦ ((own.1).0, ((λ _. (own.1).1), λ other. absurd (other own.0)))
           ]
 
@@ -151,7 +151,7 @@ module _ (row_at row_at' : ObjNo → Option ObjRow) (key : ObjNo) (old : LinkSet
   back-other mid new ties adds forgets l q e =
       let gone = forgets l q e in
       elim (adds l q gone.0) [
-        inl was ↦ before l q was
+        | inl was ↦ before l q was
         | inr own ↦ ((own.1).0, ap (λ x. row_has l (row_at x)) own.0 ∙ sym (ties-row l (row_at key)) ∙ gone.1 own.0 (own.1).0 (own.1).1)
       ]
 

@@ -1,6 +1,6 @@
 -- Properties, kept by a key of their rows: exactly those that have it, after more are kept and some are forgotten.
-use Rattle.moo_memory.{proofs.Words.{◌≡◌, ◌≢◌, Bool, true, false, cond, Option, None, Some, Less, Equal, Greater, Ordering, is_some, refl, sym, ap, ◌∙◌, eq_by_cmp, is_eq, FinMap, get, insert, get-remove, get-insert, PropId, prop_cmp, prop_exact, prop_total, slot_cmp, named_cmp, row_defined, AreOfDefiners, AreByName, Tag, tag_of, has-insert, ⊤}, specs.Forgotten.{AddsAtMost, AreKeysOf, ForgetsKey}, proofs.Keeping.{had-insert, had-removed}}
-use Rattle.std.{specs.Prelude.{◌⊎◌, ◌↔◌, OnErr, OnOk}, specs.FinMap.{remove}, specs.Option.{option_map}, proofs.Common.{Result, Ok, Err, inl, inr, int_eq}, specs.Cmp.{IsTotalOrder, tied_itself}, proofs.lemmas.Bool.{true≢false}, proofs.lemmas.Bool.Decides.{Decides-int_eq}, proofs.lemmas.Map.Lookups.{CmpEqualImpliesEq}, proofs.lemmas.Option.{none-some, same_Some}}
+use Rattle.moo_memory.{proofs.Words.{◌≡◌, ◌≢◌, Bool, true, false, cond, Option, None, Some, Less, Equal, Greater, Ordering, is_some, refl, sym, ap, ◌∙◌, eq_by_cmp, is_eq, FinMap, get, insert, get-remove, get-insert, PropId, prop_cmp, prop_exact, prop_total, slot_cmp, named_cmp, row_defined, AreOfDefiners, AreByName, tag_of, ⊤}, specs.Forgotten.{AddsAtMost, AreKeysOf, ForgetsKey}, proofs.Keeping.{had-insert, had-removed}}
+use Rattle.std.{specs.Prelude.{◌↔◌, OnErr, OnOk}, specs.FinMap.{remove}, specs.Option.{option_map}, proofs.Common.{Result, Ok, Err, inl, inr, int_eq}, specs.Cmp.{IsTotalOrder, tied_itself}, proofs.lemmas.Bool.{true≢false}, proofs.lemmas.Bool.Decides.{Decides-int_eq}, proofs.lemmas.Map.Lookups.{CmpEqualImpliesEq}, proofs.lemmas.Option.{none-some, same_Some}}
 use Rattle.moo_rows.specs.declared.row.PropRow.{PropRow}
 use Rattle.moo_value.specs.declared.value.ObjNo.{ObjNo}
 
@@ -19,17 +19,9 @@ module _ {K : Type 0} {cmp : K → K → Ordering} (total : IsTotalOrder cmp) (e
       ((λ h. had-insert total exact old k tt q (ap (λ m. is_some (get m q)) (sym ok) ∙ h)), λ h. ap (λ m. is_some (get m q)) ok ∙ still-inserted old k q h)
   adds-put (Err e) old new k ok err q = ((λ h. inl (ap (λ m. is_some (get m q)) (sym err) ∙ h)), λ h. ap (λ m. is_some (get m q)) err ∙ h)
 
-  pub adds-none : (old : FinMap cmp ⊤) (k : K) → AddsAtMost k old old
-  adds-none old k q = ((λ h. inl h), λ h. h)
-
 -- ---- forgetting
 
 module _ {K : Type 0} {cmp : K × PropId → K × PropId → Ordering} (old : FinMap cmp ⊤) (key : PropId) (stays : Option K) where
-  pub forgets-none : ForgetsKey key None stays old old
-  forgets-none k id = ((λ h. (h, λ _ was. absurd (none-some k was))), λ h. h.0)
-
-  pub forgets-kept : (was : K) → stays ≡ Some was → ForgetsKey key (Some was) stays old old
-  forgets-kept was same k id = ((λ h. (h, λ _ is. same ∙ is)), λ h. h.0)
 
   module _ (total : IsTotalOrder cmp) (exact : CmpEqualImpliesEq cmp) where
     -- an entry stays if another is removed
@@ -102,7 +94,7 @@ module _ {K : Type 0} {cmp : K × PropId → K × PropId → Ordering} (of : Pro
   pub keys-back : (mid new : FinMap cmp ⊤) (k' : K) → AddsAtMost (k', key) old mid → ForgetsKey key (Some k') (option_map of (row_at key)) mid new → AreKeysOf of row_at new
   keys-back mid new k' adds forgets k id = (
     λ h. elim ((adds (k, id)).0 ((forgets k id).0 h).0) [
-      inl was ↦ (before k id).0 was
+      | inl was ↦ (before k id).0 was
       | inr same ↦ ap (λ z. option_map of (row_at z)) (ap (λ p. p.1) same) ∙ ((forgets k id).0 h).1 (ap (λ p. p.1) same) (ap (λ (p : K × PropId). Some p.0) (sym same))
     ],
     λ h. (forgets k id).1 ((adds (k, id)).1 ((before k id).1 h), λ here _. ap (λ z. option_map of (row_at z)) (sym here) ∙ h),

@@ -1,6 +1,6 @@
 -- The objects that have a link, found among pairs in order.
-use Rattle.moo_memory.proofs.Words.{◌≡◌, Bool, true, false, ◌&&◌, cond, T, List, [], ◌∷◌, Less, Equal, Greater, Ordering, is_some, None, refl, sym, ap, ◌∙◌, subst, ⊤, FinMap, get-from_entries, find, is_sorted, contents, has_key, ObjNo, Maps, object_cmp, object_total, object_exact, tie_cmp, tie_total, is_linked, IsFirst, is_lt, is_eq, ordering_reverse}
-use Rattle.std.{proofs.Common.{int_eq, map, not, BTreeMap}, specs.Cmp.{IsTotalOrder, tied_itself}, specs.Ordering.{ordering_then}, specs.BTreeMap.{keys, IsOrdered}, specs.BTreeMap.Range.{entries_between}, specs.List.{AllByRecursion, filter}, specs.List.Sorted.{IsStrictlySortedBy}, specs.FinMap.Entries.{below_all, where_key, is_sorted-where_key, find-where_key}, specs.declared.ops.Bound.TheVariants.{Excluded, Unbounded}, proofs.lemmas.Bool.{true≢false}, proofs.lemmas.Bool.Decides.{Decides-int_eq}}
+use Rattle.moo_memory.proofs.Words.{◌≡◌, Bool, true, false, ◌&&◌, cond, T, List, [], ◌∷◌, Less, Equal, Greater, Ordering, is_some, None, refl, sym, ap, ◌∙◌, subst, ⊤, get-from_entries, find, is_sorted, has_key, ObjNo, Maps, object_cmp, object_total, object_exact, tie_cmp, tie_total, is_linked, is_lt, is_eq, ordering_reverse}
+use Rattle.std.{proofs.Common.{int_eq, map, not, BTreeMap}, specs.Cmp.{tied_itself}, specs.Ordering.{ordering_then}, specs.BTreeMap.{IsOrdered}, specs.BTreeMap.Range.{entries_between}, specs.List.{AllByRecursion}, specs.List.Sorted.{IsStrictlySortedBy}, specs.FinMap.Entries.{below_all, where_key, is_sorted-where_key, find-where_key}, specs.declared.ops.Bound.TheVariants.{Excluded, Unbounded}, proofs.lemmas.Bool.{true≢false}, proofs.lemmas.Bool.Decides.{Decides-int_eq}}
 use Rattle.moo_rows.{specs.declared.row.Link.{Link}, specs.Exact.{tie_exact}, specs.Links.{linked_left}, proofs.Listing.{linked_first, linked_end}, proofs.Walking.{here, first_of, second_of, less_of, elsewhere, below}}
 
 both : (a b : Bool) → T a → T b → T (a && b)
@@ -49,11 +49,6 @@ module _ (x : ObjNo) (has : ObjNo → Bool) (e : (ObjNo × ObjNo) × ⊤) (es : 
   -- the first pair, by its partner
   pub tied-has : false ≡ not (int_eq e.0.0.0 x.0) → has e.0.1 ≡ true → tied_to x has (e ∷ es) ≡ e.0.1 ∷ tied_to x has es
   tied-has own h =
-      ap (λ b. cond b (cond (has e.0.1) (e.0.1 ∷ tied_to x has es) (tied_to x has es)) []) (own_partner _ own)
-      ∙ ap (λ b. cond b (e.0.1 ∷ tied_to x has es) (tied_to x has es)) h
-
-  pub tied-lacks : false ≡ not (int_eq e.0.0.0 x.0) → has e.0.1 ≡ false → tied_to x has (e ∷ es) ≡ tied_to x has es
-  tied-lacks own h =
       ap (λ b. cond b (cond (has e.0.1) (e.0.1 ∷ tied_to x has es) (tied_to x has es)) []) (own_partner _ own)
       ∙ ap (λ b. cond b (e.0.1 ∷ tied_to x has es) (tied_to x has es)) h
 

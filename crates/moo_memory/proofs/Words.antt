@@ -4,8 +4,8 @@ pub use Rattle.std.specs.FinMap.{FinMap, empty, entries, find, from_entries, get
 pub use Rattle.std.specs.Prelude.{is_some, ⊤}
 pub use Rattle.moo_rows.specs.Ordered.{IsNext, IsNextAt, contents, lesser}
 pub use Rattle.moo_rows.proofs.Firsts.{either-first, first-found, first-none, first-skipped, has-insert, lacked-insert, lacked-put, next-first, on_ok, or_first, or_second, pair-none}
-pub use Rattle.moo_rows.proofs.Linking.{candidate-covers, covered-put, covered-remove, covered-there, defined-put, defined-remove, forgot-other, kept-may, less-locations, less-parents, less-players, may-as-kept, more-locations, more-parents, more-players, none-may, stays-there}
-pub use Rattle.moo_rows.proofs.Naming.{kept-forgotten, kept-insert, named-covers, named-more, named-none, named-past, named-put, named-remove, named-same, named_total}
+pub use Rattle.moo_rows.proofs.Linking.{candidate-covers, covered-put, covered-remove, covered-there, defined-put, defined-remove, kept-may, less-locations, less-parents, less-players, may-as-kept, more-locations, more-parents, more-players, none-may, stays-there}
+pub use Rattle.moo_rows.proofs.Naming.{kept-insert, named-covers, named-more, named-none, named-past, named-put, named-remove, named-same, named_total}
 pub use Rattle.moo_rows.proofs.Orders.{object_total, petition_total, prop_total, slot_total, tie_total, verb_total}
 pub use Rattle.moo_rows.specs.Links.{AreCovered, AreOfDefiners, IsFirst, LinkSets, has_link, is_candidate, is_definer, is_kept, is_linked, is_to_nothing, may_have, row_defined, row_has, tie_cmp, ties_have, ties_of}
 pub use Rattle.moo_rows.specs.Maps.{Held, Maps, no_maps, object_cmp, petition_cmp, prop_cmp, slot_cmp, verb_cmp, with_petition, without_petition}

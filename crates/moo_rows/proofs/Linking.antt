@@ -186,9 +186,3 @@ module _ (row_at row_at' : PropId → Option PropRow) (key : PropId) where
       by Equal o = refl
       by Less o = covered x q (kept x q (apart Less o refl) e)
       by Greater o = covered x q (kept x q (apart Greater o refl) e)
-
--- the pairs without one of a property have all pairs of the others
-pub forgot-other : (key : PropId) (definers : FinMap slot_cmp ⊤) (definer : ObjNo) (new : FinMap slot_cmp ⊤) → new ≡ remove definers (definer, key)
-    → (x : ObjNo) (id : PropId) → id ≢ key → is_some (get new (x, id)) ≡ false → is_some (get definers (x, id)) ≡ false
-forgot-other key definers definer new is x id other e =
-    lacked-remove slot_total slot_exact definers (definer, key) (x, id) (λ same. other (ap (λ p. p.1) same)) (ap (λ m. is_some (get m (x, id))) (sym is) ∙ e)

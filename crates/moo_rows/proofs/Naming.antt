@@ -80,13 +80,6 @@ kept-remove {cmp} total exact m k q apart h = ap is_some (get-remove total m k q
     by Less o = h
     by Greater o = h
 
--- without one pair of a property all pairs stay but those that aren't said to
-pub kept-forgotten : (names new : FinMap named_cmp ⊤) (was : Tag) (key : PropId) (stays : Option Tag) → (stays ≡ Some was → ⊥) → new ≡ remove names (was, key)
-    → (tag : Tag) (id : PropId) → (id ≡ key → stays ≡ Some tag) → is_some (get names (tag, id)) ≡ true → is_some (get new (tag, id)) ≡ true
-kept-forgotten names new was key stays other is tag id has h =
-    ap (λ m. is_some (get m (tag, id))) is
-    ∙ kept-remove named_total named_exact names (was, key) (tag, id) (λ same. other (has (ap (λ p. p.1) same) ∙ ap (λ (p : Tag × PropId). Some p.0) same)) h
-
 module _ (row_at row_at' : PropId → Option PropRow) (key : PropId) (old new : FinMap named_cmp ⊤) (kept : AreByName row_at old) where
   -- more are kept, and the rows are as they were
   pub named-more : ((p : Tag × PropId) → is_some (get old p) ≡ true → is_some (get new p) ≡ true) → ((q : PropId) → row_at' q ≡ row_at q) → AreByName row_at' new

@@ -1,4 +1,4 @@
-use Rattle.moo_memory.{proofs.Words.{◌≡◌, ◌++◌, [], ◌∷◌, true, false, sym, ap, ◌∙◌, refl, append_assoc, append-nil}, proofs.Tied.{tied_to, tied-has, tied-past, tied_partners}}
+use Rattle.moo_memory.{proofs.Words.{◌++◌, [], ◌∷◌, true, sym, ap, ◌∙◌, refl, append_assoc, append-nil}, proofs.Tied.{tied_to, tied-has, tied-past, tied_partners}}
 use Rattle.moo_memory.proofs.listing.list_tied.Goals as goal
 
 pub loop-pair-init : goal.loop-pair-init
