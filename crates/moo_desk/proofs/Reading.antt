@@ -13,10 +13,10 @@ use Rattle.std.proofs.lemmas.List.Sums.{sum_by-drop_more}
 use Rattle.moo_desk.specs.Later.{IsOnlyWoken}
 use Rattle.moo_desk.specs.Rounds.{IsReadIfDue, IsTimed, IsWokenFor, ReadsDue, gathered_of}
 
-saturated : (sum more rest left most : ℕ) → left ≡ more + rest → min (min (sum + more) most + rest) most ≡ min (sum + left) most
+pub saturated : (sum more rest left most : ℕ) → left ≡ more + rest → min (min (sum + more) most + rest) most ≡ min (sum + left) most
 saturated sum more rest left most is = omega (arith, is)
 
-all_counted : (sum rest all most : ℕ) → rest ≡ 0 → sum ≤ most → min (sum + rest) most ≡ min all most → sum ≡ min all most
+pub all_counted : (sum rest all most : ℕ) → rest ≡ 0 → sum ≤ most → min (sum + rest) most ≡ min all most → sum ≡ min all most
 all_counted sum rest all most none fits it = omega (arith, none, fits, it)
 
 -- ---- tests

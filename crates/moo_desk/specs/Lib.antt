@@ -6,7 +6,10 @@ pub mod Stages
 pub mod Each
 pub mod Later
 pub mod Rounds
+pub mod Choices
 pub mod Pairs
 pub mod Told
 pub mod Deeds
 pub mod Exchange
+pub mod Turns
+pub mod Calls

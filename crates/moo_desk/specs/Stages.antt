@@ -1,5 +1,7 @@
 -- The stages of a connection whose request was judged.
-use Rattle.std.specs.Prelude.{◌≡◌, ◌⊎◌, ⊤}
+use Rattle.std.specs.Prelude.{◌≡◌, ◌⊎◌, ◌+◌, ◌/◌, ℕ, ⊤}
+use Rattle.moo_arrivals.specs.declared.cause.Cause.{Cause}
+use Rattle.moo_desk.specs.declared.leaving.TheConstants.{PATIENCE, MEGABYTE, LINGER}
 use Rattle.moo_desk.specs.declared.leaving.Stage.{Stage}
 use Rattle.moo_desk.specs.declared.leaving.Stage.TheVariants.{Sending, Lingering, Done, Lost}
 
@@ -17,3 +19,24 @@ MayFollow Sending new = ⊤
 MayFollow Lingering new = (new ≡ Lingering) ⊎ (new ≡ Done)
 MayFollow Done new = new ≡ Done
 MayFollow (Lost cause) new = new ≡ Lost cause
+
+-- how many of so many bytes are still held
+abbrev pub unsent_at : Stage → ℕ → ℕ
+unsent_at Sending unsent = unsent
+unsent_at Lingering unsent = 0
+unsent_at Done unsent = 0
+unsent_at (Lost cause) unsent = 0
+
+-- the stage of one that is given up for a cause
+abbrev pub ended : Cause → Stage → Stage
+ended cause Sending = Lost cause
+ended cause Lingering = Done
+ended cause Done = Done
+ended cause (Lost earlier) = Lost earlier
+
+-- For how many seconds an answer of so many bytes may be sent, or a peer may be listened to.
+abbrev pub patience_of : Stage → ℕ → ℕ
+patience_of Sending bytes = PATIENCE + bytes / MEGABYTE
+patience_of Lingering bytes = LINGER
+patience_of Done bytes = 0
+patience_of (Lost cause) bytes = 0

@@ -1,9 +1,13 @@
 //! The desk: connections side by side, and the next one whose request is whole.
 
-ghost use Rattle.std.specs.Prelude.{◌≡◌, ◌≢◌, ◌≤◌, ◌*◌, [], true, IfOk};
+ghost use Rattle.std.specs.Prelude.{◌≡◌, ◌≢◌, ◌≤◌, ◌<◌, ◌+◌, ◌-◌, ◌^◌, ⊤, [], true, false, vec_capacity, IfOk};
 ghost use Rattle.std.specs.Duration.{as_nanos};
 ghost use Rattle.moo_desk.specs.Deeds.{Admits, Goes, HoldsNone, Keep, book_of};
 ghost use Rattle.moo_desk.specs.Exchange.{GetsBack, Hands, TakesBack, TellsNext, with_back};
+ghost use Rattle.moo_desk.specs.declared.held.TheConstants.{MOST};
+ghost use Rattle.moo_desk.specs.Each.{Each};
+ghost use Rattle.moo_desk.specs.Rounds.{IsWokenFor};
+ghost use Rattle.moo_desk.specs.Turns.{ComesIn, EndsInTime, HasWaited, IsDueToAsk, MayTake, TakesIn, period_of};
 
 use crate::gate::{Gate, NEWS, Taken};
 use crate::gathered::Gathered;
@@ -51,6 +55,7 @@ pub struct Desk<'a, G: Gate, C> {
     turns: u32,
     /// When each connection was looked at last.
     swept: Duration,
+    ghost room: { MOST ≤ vec_capacity told },
 }
 
 impl<'a, G: Gate + Drop, C: Clock> Desk<'a, G, C> {
@@ -78,7 +83,8 @@ impl<'a, G: Gate + Drop, C: Clock> Desk<'a, G, C> {
 
     /// A mark that no other connection has.
     fn next_mark(&mut self) -> usize
-        ensures { (self.new.held ≡ self.old.held) × (self.new.gate ≡ self.old.gate) }
+        ensures same { (self.new.held ≡ self.old.held) × (self.new.gate ≡ self.old.gate) × (self.new.has_news ≡ self.old.has_news) }
+        ensures next { (result ≡ self.new.mark) × (self.old.mark + 1 < 2 ^ 64 → result ≡ self.old.mark + 1) }
     {
         self.mark = self.mark.wrapping_add(1).max(NEWS + 1);
         self.mark
@@ -89,6 +95,8 @@ impl<'a, G: Gate + Drop, C: Clock> Desk<'a, G, C> {
         ensures one { Admits 1 (book_of self.old.held, G.gave self.old.gate) (book_of self.new.held, G.gave self.new.gate) }
         ensures none { result ≢ Took.Lost →
             Admits 0 (book_of self.old.held, G.gave self.old.gate) (book_of self.new.held, G.gave self.new.gate) }
+        ensures comes { (taken : Taken G.Reader G.Writer) × G.takes self.old.gate taken self.new.gate
+            × ComesIn now self.new.mark taken result (self.old.held, self.old.has_news) (self.new.held, self.new.has_news) }
     {
         match self.gate.take() {
             Taken::Nobody => {
@@ -114,23 +122,31 @@ impl<'a, G: Gate + Drop, C: Clock> Desk<'a, G, C> {
         ensures one { Admits 1 (book_of self.old.held, G.gave self.old.gate) (book_of self.new.held, G.gave self.new.gate) }
         ensures none { result ≢ Took.Lost →
             Admits 0 (book_of self.old.held, G.gave self.old.gate) (book_of self.new.held, G.gave self.new.gate) }
+        ensures takes { MayTake left now self.old.has_news self.old.held →
+            TakesIn G.takes now self.new.mark result self.old.gate self.new.gate (self.old.held, self.old.has_news) (self.new.held, self.new.has_news) }
+        ensures waits { ¬ (MayTake left now self.old.has_news self.old.held) → (result ≡ Took.Nobody) × (self.new ≡ self.old) }
     {
-        let is_full = self.held.is_full();
-        let has_room = self.held.slots.len() < left && (!is_full || self.held.has_spare(now));
-        if !self.has_news || !has_room || self.held.has_whole() {
+        if !self.may_take(left, now) {
             return Took::Nobody;
         }
         let took = self.take_one(now);
-        if took == Took::One {
+        if let Took::One = took {
             self.held.shed(now);
         }
         took
     }
 
+    fn may_take(&self, left: usize, now: Duration) -> bool
+        ensures yes { result ≡ true → MayTake left now self.now.has_news self.now.held }
+        ensures no { result ≡ false → ¬ (MayTake left now self.now.has_news self.now.held) }
+    {
+        let has_room = !self.held.is_full() || self.held.has_spare(now);
+        self.has_news && self.held.slots.len() < left && has_room && !self.held.has_whole()
+    }
+
     /// How long the desk waits at most, and how long it doesn't look at a connection of which nothing was told.
     fn period(&self) -> Duration
-        ensures most { as_nanos result ≤ PAUSE * 1_000_000 }
-        ensures sends { self.now.held.leaving.items ≢ [] → as_nanos result ≤ GRACE * 1_000_000 }
+        ensures { as_nanos result ≡ period_of self.now.held.leaving.items }
     {
         if self.held.leaving.is_empty() {
             Duration::from_millis(PAUSE)
@@ -139,22 +155,32 @@ impl<'a, G: Gate + Drop, C: Clock> Desk<'a, G, C> {
         }
     }
 
+    /// How long it may wait at most, so that nothing is due before.
+    fn patience(&self, now: Duration) -> Duration
+        ensures { EndsInTime now self.now.held result }
+    {
+        let most = self.period();
+        match self.held.spared(now) {
+            Some(left) if self.held.is_full() && left < most => left,
+            _ => most,
+        }
+    }
+
     /// Waits until something may have changed, but not past a time at which something may be due.
     fn pause(&mut self, now: Duration)
         ensures all { Goes self.old.held self.new.held }
         ensures gate { G.gave self.new.gate ≡ G.gave self.old.gate }
+        ensures waits { HasWaited G.waits (EndsInTime now self.old.held) self.new.told.items self.new.gate }
     {
-        let most = self.period();
-        match self.held.spared(now) {
-            Some(left) if self.held.is_full() => self.wait(left.min(most)),
-            _ => self.wait(most),
-        }
+        let most = self.patience(now);
+        self.wait(most);
     }
 
     /// Waits so, unless something changed.
     fn pause_unless(&mut self, changed: bool, now: Duration)
         ensures all { Goes self.old.held self.new.held }
         ensures gate { G.gave self.new.gate ≡ G.gave self.old.gate }
+        ensures waits { changed ≡ false → HasWaited G.waits (EndsInTime now self.old.held) self.new.told.items self.new.gate }
     {
         if !changed {
             self.pause(now);
@@ -165,6 +191,8 @@ impl<'a, G: Gate + Drop, C: Clock> Desk<'a, G, C> {
     fn wait(&mut self, most: Duration)
         ensures all { Goes self.old.held self.new.held }
         ensures gate { G.gave self.new.gate ≡ G.gave self.old.gate }
+        ensures waits { HasWaited G.waits (λ it. it ≡ most) self.new.told.items self.new.gate }
+        ensures turns { self.new.turns ≡ 0 }
     {
         watch_all(&mut self.gate, &mut self.held.slots);
         self.gate.wait(most, &mut self.told);
@@ -176,7 +204,8 @@ impl<'a, G: Gate + Drop, C: Clock> Desk<'a, G, C> {
     /// Has those be looked at of which something was told.
     fn wake_told(&mut self)
         ensures all { Goes self.old.held self.new.held }
-        ensures gate { G.gave self.new.gate ≡ G.gave self.old.gate }
+        ensures gate { self.new.gate ≡ self.old.gate }
+        ensures told { self.new.told ≡ self.old.told }
     {
         for mark in &self.told {
             self.has_news |= *mark == NEWS;
@@ -188,6 +217,9 @@ impl<'a, G: Gate + Drop, C: Clock> Desk<'a, G, C> {
     fn ask(&mut self, now: Duration)
         ensures all { Goes self.old.held self.new.held }
         ensures gate { G.gave self.new.gate ≡ G.gave self.old.gate }
+        ensures asks { IsDueToAsk now self.old.asked self.old.turns →
+            HasWaited G.waits (λ most. as_nanos most ≡ 0) self.new.told.items self.new.gate }
+        ensures stays { ¬ (IsDueToAsk now self.old.asked self.old.turns) → self.new ≡ self.old }
     {
         let is_due = now.saturating_sub(self.asked) > Duration::from_millis(PERIOD);
         if is_due || self.turns >= TURNS {
@@ -199,6 +231,10 @@ impl<'a, G: Gate + Drop, C: Clock> Desk<'a, G, C> {
     fn sweep(&mut self, now: Duration)
         ensures all { Goes self.old.held self.new.held }
         ensures gate { G.gave self.new.gate ≡ G.gave self.old.gate }
+        ensures sweeps { period_of self.old.held.leaving.items ≤ as_nanos now - as_nanos self.old.swept →
+            (self.new.swept ≡ now) × (self.new.has_news ≡ true)
+            × Each (IsWokenFor (λ _. ⊤)) self.old.held.slots.items self.new.held.slots.items }
+        ensures stays { as_nanos now - as_nanos self.old.swept < period_of self.old.held.leaving.items → self.new ≡ self.old }
     {
         if now.saturating_sub(self.swept) >= self.period() {
             self.swept = now;

@@ -1,11 +1,12 @@
 //! Where connections come from.
 
-ghost use Rattle.std.specs.Prelude.{◌≡◌, ◌<◌, ℕ, ℤ, length};
+ghost use Rattle.std.specs.Prelude.{◌≡◌, ◌<◌, ◌≤◌, ℕ, ℤ, List, length, vec_capacity};
 ghost use Rattle.std.specs.Io.{ReadsAtMost, WritesAtMost};
 ghost use Rattle.std.specs.Io.KnownBytes.{ReadConsumes, WriteAppends};
 ghost use Rattle.moo_desk.specs.Pairs.{CountsTaken, IsOfOnePeer};
 ghost use Rattle.moo_desk.specs.Read.{Gave};
 
+use crate::held::MOST;
 use moo_http_request::Incoming;
 use std::io::{Result, Write};
 use std::net::OpenStream;
@@ -59,6 +60,9 @@ pub trait Outward: Write {
 
 /// A gate, through which connections come. None is waited for but by `wait`.
 pub trait Gate {
+    ghost use Rattle.moo_desk.specs.declared.gate.Taken.{Taken};
+    ghost use Rattle.std.specs.declared.time.Duration.{Duration};
+
     type Reader: Inward + OpenStream + Drop;
 
     type Writer: Outward + OpenStream + Drop;
@@ -66,11 +70,18 @@ pub trait Gate {
     /// How many connections it gave.
     ghost gave: { Self → ℕ };
 
+    /// The gate before it was asked for a connection, what it gave, and the gate after that.
+    ghost takes: { Self → Taken Self.Reader Self.Writer → Self → Type 0 };
+
+    /// The gate before a wait of so long at most, the marks that it told, and the gate after it.
+    ghost waits: { Self → Duration → List ℕ → Self → Type 0 };
+
     /// Takes the next connection, if one is there: the reader and the writer of one peer. If it takes none and one is there, the next wait
     /// tells `NEWS`.
     fn take(&mut self) -> Taken<Self::Reader, Self::Writer>
         ensures pair { IsOfOnePeer Self.Reader.peer Self.Writer.peer result }
-        ensures count { CountsTaken (gave self.old) result (gave self.new) };
+        ensures count { CountsTaken (gave self.old) result (gave self.new) }
+        ensures taken { takes self.old result self.new };
 
     /// From now on a wait also ends when bytes may have come to this reader, and tells this mark then; whether it does.
     fn watch(&mut self, reader: &Self::Reader, mark: usize) -> bool
@@ -81,7 +92,10 @@ pub trait Gate {
         ensures { gave self.new ≡ gave self.old };
 
     /// Waits until something that is watched may have changed, but no longer than this. What changed is told by its mark, and that a
-    /// connection may have come by `NEWS`. A mark may be told though nothing changed. If one is lost, it only takes longer.
+    /// connection may have come by `NEWS`. A mark may be told though nothing changed.
     fn wait(&mut self, most: Duration, told: &mut Vec<usize>)
-        ensures { gave self.new ≡ gave self.old };
+        requires { MOST ≤ vec_capacity told.old }
+        ensures gave { gave self.new ≡ gave self.old }
+        ensures told { waits self.old most told.new.items self.new }
+        ensures room { vec_capacity told.old ≤ vec_capacity told.new };
 }

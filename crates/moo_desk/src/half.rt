@@ -1,6 +1,6 @@
 //! A socket as a reader and as a writer.
 
-ghost use Rattle.std.specs.Prelude.{◌≡◌, ⊤, IfSome};
+ghost use Rattle.std.specs.Prelude.{◌≡◌, ⊤, Some, IfSome};
 ghost use Rattle.std.specs.Net.Tcp.{stream_raw_fd};
 
 use crate::gate::{Inward, Outward};
@@ -20,7 +20,7 @@ pub struct Half {
 impl Half {
     /// The reader and the writer of a socket. None if memory runs out; the socket is closed then.
     pub(crate) fn both(alloc: Global, socket: TcpStream) -> Option<(Half, Half)>
-        ensures { IfSome result (λ both. stream_raw_fd both.0.socket.value ≡ stream_raw_fd both.1.socket.value) }
+        ensures { IfSome result (λ both. (both.0.socket.value ≡ socket) × (both.1.socket.value ≡ socket)) }
     {
         let socket = Rc::new(alloc, socket).ok()?;
         let writer = Half {
@@ -89,6 +89,8 @@ impl OpenStream for Half {
 }
 
 impl AsRawFd for Half {
+    ghost raw_fd = { λ it. Some (stream_raw_fd it.socket.value) };
+
     fn as_raw_fd(&self) -> RawFd {
         self.socket.as_raw_fd()
     }

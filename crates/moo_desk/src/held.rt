@@ -1,13 +1,15 @@
 //! The connections that a desk holds: those whose requests are gathered, those whose answers are sent, and the losses that were noted.
 
-ghost use Rattle.std.specs.Prelude.{◌≡◌, ◌⊎◌, ◌+◌, ◌≤◌, ◌<◌, ⊤, [], true, false, length, min, IfOk};
+ghost use Rattle.std.specs.Prelude.{◌≡◌, ◌⊎◌, ◌+◌, ◌≤◌, ◌<◌, ⊤, [], true, false, length, min, Some, None, IfOk};
 ghost use Rattle.moo_arrivals.specs.declared.cause.Cause.{Cause as Why};
 ghost use Rattle.moo_desk.specs.declared.leaving.Stage.TheVariants.{Done, Lost};
 ghost use Rattle.moo_desk.specs.Deeds.{LetsGo, Goes, HoldsNone, book_of};
-ghost use Rattle.moo_desk.specs.Each.{Each};
+ghost use Rattle.moo_desk.specs.Choices.{CutsAt, EndsOne, HasNoSpare, HasWhole, IsCrowdedOut, IsLingering, IsReady, IsSpared, IsUnfinished, Relieves, count_of};
+ghost use Rattle.moo_desk.specs.Each.{Each, IsFirstPlace, HoldsOfNone, OfFirst, TurnsFirst};
 ghost use Rattle.moo_desk.specs.Exchange.{TakesSlot};
-ghost use Rattle.moo_desk.specs.Rounds.{IsTimed, IsWokenFor, ReadsDue, gathered_of};
+ghost use Rattle.moo_desk.specs.Rounds.{IsStale, IsTimed, IsWokenFor, ReadsDue, gathered_of};
 
+use crate::first::{Lingerer, Ready, Stale, Stuck, Unfinished, any, first};
 use crate::gate::{Inward, Outward};
 use crate::leaving::Leaving;
 use crate::losses::Losses;
@@ -64,27 +66,33 @@ impl<R: Inward + OpenStream + Drop, W: Outward + OpenStream + Drop> Held<R, W> {
     }
 
     /// The place of the oldest unfinished request that may be ended.
-    fn stale(&self, now: Duration) -> Option<usize> {
-        self.slots.iter().position(|slot| slot.is_stale(now))
+    fn stale(&self, now: Duration) -> Option<usize>
+        ensures { IsFirstPlace (IsStale now) self.now.slots.items result }
+    {
+        first(&self.slots, &Stale { now })
     }
 
     /// The place of a connection that only waits for its peer's last bytes.
-    fn lingering(&self) -> Option<usize> {
-        self.leaving
-            .iter()
-            .position(|connection| connection.is_lingering())
+    fn lingering(&self) -> Option<usize>
+        ensures { IsFirstPlace IsLingering self.now.leaving.items result }
+    {
+        first(&self.leaving, &Lingerer)
     }
 
     /// Whether a connection can be ended to make room for another.
-    pub fn has_spare(&self, now: Duration) -> bool {
-        self.lingering().is_some() || self.stale(now).is_some()
+    pub fn has_spare(&self, now: Duration) -> bool
+        ensures yes { result ≡ true → ¬ (HasNoSpare now self.now) }
+        ensures no { result ≡ false → HasNoSpare now self.now }
+    {
+        any(&self.leaving, &Lingerer) || any(&self.slots, &Stale { now })
     }
 
     /// If more are held than may be, ends the connection that can best be spared, if one can be: one that lingers, or else the oldest
     /// unfinished request.
     pub fn shed(&mut self, now: Duration)
         ensures all { Goes self.old self.new }
-        ensures few { length self.old.slots.items + length self.old.leaving.items ≤ MOST → self.new ≡ self.old }
+        ensures few { count_of self.old ≤ MOST → self.new ≡ self.old }
+        ensures full { MOST < count_of self.old → EndsOne now self.old self.new }
         ensures times { Each (IsTimed now) self.old.slots.items self.new.slots.items }
     {
         if self.count() <= MOST {
@@ -101,6 +109,7 @@ impl<R: Inward + OpenStream + Drop, W: Outward + OpenStream + Drop> Held<R, W> {
     fn cut_answer(&mut self, place: usize)
         ensures all { Goes self.old self.new }
         ensures slots { self.new.slots ≡ self.old.slots }
+        ensures cuts { place < length self.old.leaving.items → CutsAt place self.old.leaving.items self.new.leaving.items }
     {
         if place < self.leaving.len() {
             self.leaving[place].give_up(Cause::Crowded);
@@ -111,6 +120,9 @@ impl<R: Inward + OpenStream + Drop, W: Outward + OpenStream + Drop> Held<R, W> {
     fn cut_request(&mut self, place: usize, now: Duration)
         ensures all { Goes self.old self.new }
         ensures times { Each (IsTimed now) self.old.slots.items self.new.slots.items }
+        ensures cuts { IsFirstPlace (IsStale now) self.old.slots.items (Some place) →
+            TurnsFirst (IsStale now) IsCrowdedOut self.old.slots.items self.new.slots.items }
+        ensures answers { self.new.leaving ≡ self.old.leaving }
     {
         if place < self.slots.len() && self.slots[place].is_stale(now) {
             self.slots[place].give_up(Cause::Crowded, now);
@@ -170,8 +182,19 @@ impl<R: Inward + OpenStream + Drop, W: Outward + OpenStream + Drop> Held<R, W> {
     }
 
     /// Whether one is to be handed out.
-    pub fn has_whole(&self) -> bool {
-        held(&self.leaving) < BUDGET && self.slots.iter().any(|slot| slot.rests)
+    pub fn has_whole(&self) -> bool
+        ensures yes { result ≡ true → HasWhole self.now }
+        ensures no { result ≡ false → ¬ (HasWhole self.now) }
+    {
+        held(&self.leaving) < BUDGET && self.is_any_ready()
+    }
+
+    /// Whether a request is whole, or nothing more of it comes.
+    fn is_any_ready(&self) -> bool
+        ensures yes { result ≡ true → ¬ (HoldsOfNone IsReady self.now.slots.items) }
+        ensures no { result ≡ false → HoldsOfNone IsReady self.now.slots.items }
+    {
+        any(&self.slots, &Ready)
     }
 
     /// The longest connected one whose request is whole, or of which nothing more comes. None while too much of answers is held.
@@ -189,11 +212,13 @@ impl<R: Inward + OpenStream + Drop, W: Outward + OpenStream + Drop> Held<R, W> {
     }
 
     /// For how long the oldest unfinished request can't be ended yet. None if it can be, or if there is none.
-    pub fn spared(&self, now: Duration) -> Option<Duration> {
-        let place = self.slots.iter().position(|slot| !slot.rests)?;
-        if place >= self.slots.len() {
+    pub fn spared(&self, now: Duration) -> Option<Duration>
+        ensures oldest { OfFirst IsUnfinished (IsSpared now result) self.now.slots.items }
+        ensures none { HoldsOfNone IsUnfinished self.now.slots.items → result ≡ None }
+    {
+        let Some(place) = first(&self.slots, &Unfinished) else {
             return None;
-        }
+        };
         let age = now.saturating_sub(self.slots[place].since);
         let left = Duration::from_millis(GRACE + 1).saturating_sub(age);
         if left.is_zero() { None } else { Some(left) }
@@ -232,11 +257,12 @@ impl<R: Inward + OpenStream + Drop, W: Outward + OpenStream + Drop> Held<R, W> {
     pub fn relieve(&mut self, now: Duration)
         ensures all { Goes self.old self.new }
         ensures slots { self.new.slots ≡ self.old.slots }
+        ensures relieves { Relieves now self.old self.new }
     {
-        if held(&self.leaving) < BUDGET || !self.slots.iter().any(|slot| slot.rests) {
+        if held(&self.leaving) < BUDGET || !self.is_any_ready() {
             return;
         }
-        if let Some(place) = self.leaving.iter().position(|it| it.is_stuck(now)) {
+        if let Some(place) = first(&self.leaving, &Stuck { now }) {
             self.cut_answer(place);
         }
     }

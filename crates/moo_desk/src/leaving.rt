@@ -1,9 +1,11 @@
 //! A connection after its request was judged.
 
-ghost use Rattle.std.specs.Prelude.{◌≡◌, ◌≢◌, ◌≤◌, ◌+◌, ◌-◌, ◌⊎◌, ℕ, List, length, drop, true, false, IfSome, IfNone};
+ghost use Rattle.std.specs.Prelude.{◌≡◌, ◌≢◌, ◌≤◌, ◌<◌, ◌+◌, ◌-◌, ◌*◌, ◌/◌, ◌⊎◌, ℕ, List, length, drop, true, false, IfSome, IfNone};
 ghost use Rattle.std.specs.Io.KnownBytes.{Consumes, Keeps, append_known};
+ghost use Rattle.moo_arrivals.specs.declared.cause.Cause.TheVariants.{Late as TooLate};
 ghost use Rattle.moo_desk.specs.declared.leaving.Stage.TheVariants.{Sending as StillSends, Lingering, Done, Lost};
-ghost use Rattle.moo_desk.specs.Stages.{IsSentAt, MayFollow};
+ghost use Rattle.moo_desk.specs.Read.{IsLonger};
+ghost use Rattle.moo_desk.specs.Stages.{IsSentAt, MayFollow, ended, patience_of};
 
 use crate::gate::{Inward, Outward};
 use crate::gathered::Gathered;
@@ -76,19 +78,29 @@ impl<R, W> Leaving<R, W> {
         self.is_due = true;
     }
 
-    fn has_waited(&self, now: Duration, seconds: u64) -> bool {
+    /// Whether it is at its stage for more seconds than these.
+    fn has_waited(&self, now: Duration, seconds: u64) -> bool
+        ensures yes { result ≡ true → IsLonger (seconds * 1_000_000_000) self.now.since now }
+        ensures no { result ≡ false → ¬ (IsLonger (seconds * 1_000_000_000) self.now.since now) }
+    {
         now.saturating_sub(self.since) > Duration::from_secs(seconds)
     }
 
     /// For how many seconds its answer may be sent.
-    fn patience(&self) -> u64 {
+    fn patience(&self) -> u64
+        ensures { result ≡ patience_of StillSends (length self.now.writer.text.items) }
+    {
         PATIENCE.saturating_add((self.writer.text.len() / MEGABYTE) as u64)
     }
 }
 
 impl<R: Inward + OpenStream, W: Outward + OpenStream> Leaving<R, W> {
+    ghost use Rattle.moo_desk.specs.Choices.{IsLate, IsStuck, held_of};
+
     /// Whether bytes came that weren't read.
-    fn has_more(&self) -> bool {
+    fn has_more(&self) -> bool
+        ensures { self.now.reader.at < length self.now.reader.bytes.items → result ≡ true }
+    {
         let mut byte = [0];
         self.reader.at < self.reader.bytes.len()
             || matches!(self.reader.reader.peek(&mut byte), Ok(1))
@@ -100,6 +112,7 @@ impl<R: Inward + OpenStream, W: Outward + OpenStream> Leaving<R, W> {
         ensures same { (self.new.writer.text ≡ self.old.writer.text) × (self.new.writer.sent ≡ self.old.writer.sent)
             × (self.new.writer.writer ≡ self.old.writer.writer) × (self.new.route ≡ self.old.route) }
         ensures gentle { self.old.closing ≡ Closing.Gently → self.new.stage ≡ Lingering }
+        ensures stage { (self.new.stage ≡ Lingering) ⊎ (self.new.stage ≡ Done) }
     {
         let is_gentle = match self.closing {
             Closing::AtOnce => false,
@@ -123,6 +136,8 @@ impl<R: Inward + OpenStream, W: Outward + OpenStream> Leaving<R, W> {
             (append_known (W.contents self.new.writer.writer) (drop self.new.writer.sent self.new.writer.text.items)) }
         ensures peer { W.peer self.new.writer.writer ≡ W.peer self.old.writer.writer }
         ensures gentle { self.old.closing ≡ Closing.Gently → self.new.stage ≢ Done }
+        ensures late { self.new.stage ≡ Lost TooLate → IsLate now self.old }
+        ensures patient { result ≡ false → (self.new.stage ≡ StillSends) ⊎ (self.new.stage ≡ Lingering) → ¬ (IsLate now self.new) }
     {
         if self.writer.unsent() == 0 {
             self.close(now);
@@ -148,6 +163,7 @@ impl<R: Inward + OpenStream, W: Outward + OpenStream> Leaving<R, W> {
         ensures few { self.old.drained ≤ 65536 → self.new.drained ≤ 65536 }
         ensures takes { (bytes : List ℕ) × Consumes (R.remaining self.old.reader.reader) (R.remaining self.new.reader.reader) bytes
             × (self.old.drained + length bytes ≡ self.new.drained) }
+        ensures patient { result ≡ false → (self.new.stage ≡ StillSends) ⊎ (self.new.stage ≡ Lingering) → ¬ (IsLate now self.new) }
     {
         let mut piece = [0; PIECE];
         if self.drained >= DRAIN || self.has_waited(now, LINGER) {
@@ -182,6 +198,9 @@ impl<R: Inward + OpenStream, W: Outward + OpenStream> Leaving<R, W> {
         ensures stage { MayFollow self.old.stage self.new.stage }
         // After a refusal, which is closed gently, its peer is listened to first.
         ensures gentle { self.old.closing ≡ Closing.Gently → self.old.stage ≡ StillSends → self.new.stage ≢ Done }
+        // An answer is given up as late only after its patience, and one of which nothing goes isn't held longer; nor is a peer listened to.
+        ensures late { self.old.stage ≡ StillSends → self.new.stage ≡ Lost TooLate → IsLate now self.old }
+        ensures patient { result ≡ false → (self.new.stage ≡ StillSends) ⊎ (self.new.stage ≡ Lingering) → ¬ (IsLate now self.new) }
     {
         let went = match self.stage {
             Stage::Sending => self.send(now),
@@ -222,6 +241,7 @@ impl<R: Inward + OpenStream, W: Outward + OpenStream> Leaving<R, W> {
         ensures same { (self.new.writer ≡ self.old.writer) × (self.new.route ≡ self.old.route) }
         ensures stage { MayFollow self.old.stage self.new.stage }
         ensures over { (self.new.stage ≡ Done) ⊎ ((cause : _) × (self.new.stage ≡ Lost cause)) }
+        ensures ends { self.new.stage ≡ ended cause self.old.stage }
     {
         match self.stage {
             Stage::Sending => self.stage = Stage::Lost(cause),
@@ -232,7 +252,8 @@ impl<R: Inward + OpenStream, W: Outward + OpenStream> Leaving<R, W> {
 
     /// Whether its answer is held, and its peer took nothing of it for a while.
     pub fn is_stuck(&self, now: Duration) -> bool
-        ensures { result ≡ true → self.now.stage ≡ StillSends }
+        ensures yes { result ≡ true → IsStuck now self.now }
+        ensures no { result ≡ false → ¬ (IsStuck now self.now) }
     {
         matches!(self.stage, Stage::Sending)
             && now.saturating_sub(self.moved) > Duration::from_secs(STALL)
@@ -246,7 +267,8 @@ impl<R: Inward + OpenStream, W: Outward + OpenStream> Leaving<R, W> {
     }
 
     pub fn is_lingering(&self) -> bool
-        ensures { result ≡ true → self.now.stage ≡ Lingering }
+        ensures yes { result ≡ true → self.now.stage ≡ Lingering }
+        ensures no { result ≡ false → self.now.stage ≢ Lingering }
     {
         matches!(self.stage, Stage::Lingering)
     }
@@ -267,7 +289,7 @@ impl<R: Inward + OpenStream, W: Outward + OpenStream> Leaving<R, W> {
 
     /// How many bytes of its answer are held.
     pub fn held(&self) -> usize
-        ensures { self.now.stage ≡ StillSends → result ≡ length self.now.writer.text.items - self.now.writer.sent }
+        ensures { result ≡ held_of self.now }
     {
         match self.stage {
             Stage::Sending => self.writer.unsent(),

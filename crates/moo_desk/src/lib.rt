@@ -2,6 +2,7 @@
 #![tactic(auto)]
 
 mod desk;
+mod first;
 mod gate;
 mod gathered;
 mod half;
@@ -12,6 +13,7 @@ mod outgoing;
 mod rounds;
 mod slot;
 mod sockets;
+mod system;
 
 pub use desk::Desk;
 pub use gate::{Gate, Inward, NEWS, Outward, Taken};
@@ -22,4 +24,5 @@ pub use leaving::{Leaving, Stage};
 pub use losses::Losses;
 pub use outgoing::{Outgoing, Sending};
 pub use slot::Slot;
-pub use sockets::{SocketDesk, SocketGate};
+pub use sockets::{SocketGate, Sockets};
+pub use system::{SocketDesk, SystemSockets};

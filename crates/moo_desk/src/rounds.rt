@@ -1,6 +1,7 @@
 //! What is done for all connections in a round.
 
 ghost use Rattle.std.specs.Prelude.{◌≡◌, ◌<◌, ⊤, min};
+ghost use Rattle.moo_desk.specs.Choices.{answers_of};
 ghost use Rattle.moo_desk.specs.Each.{Each};
 ghost use Rattle.moo_desk.specs.Later.{IsGathered, IsLater};
 ghost use Rattle.moo_desk.specs.Rounds.{IsTimed, IsWokenFor, ReadsDue, gathered_of};
@@ -62,12 +63,15 @@ pub fn step_all<R: Inward + OpenStream, W: Outward + OpenStream>(
 }
 
 /// How many bytes of answers are held, beside the largest.
-pub fn held<R: Inward + OpenStream, W: Outward + OpenStream>(leaving: &[Leaving<R, W>]) -> usize {
+pub fn held<R: Inward + OpenStream, W: Outward + OpenStream>(leaving: &[Leaving<R, W>]) -> usize
+    ensures { result ≡ answers_of leaving.now }
+{
     let mut sum: usize = 0;
     let mut largest = 0;
     for connection in leaving {
-        sum = sum.saturating_add(connection.held());
-        largest = connection.held().max(largest);
+        let bytes = connection.held();
+        sum = sum.saturating_add(bytes);
+        largest = bytes.max(largest);
     }
     sum.saturating_sub(largest)
 }

@@ -1,6 +1,6 @@
 //! A connection while its request is gathered.
 
-ghost use Rattle.std.specs.Prelude.{◌≡◌, ◌≤◌, ◌<◌, true, false, [], drop, length, IfSome, IfNone, Ok};
+ghost use Rattle.std.specs.Prelude.{◌≡◌, ◌≤◌, ◌<◌, true, false, not, [], drop, length, IfSome, IfNone, Ok};
 ghost use Rattle.std.specs.Io.KnownBytes.{Keeps, prepend_known};
 ghost use Rattle.moo_desk.specs.declared.gathered.Coming.TheVariants.{More, Unread};
 ghost use Rattle.moo_http_request.specs.Whole.{IsWhole};
@@ -104,6 +104,7 @@ impl<R: Inward, W: Outward> Slot<R, W> {
         ensures reader { (result.reader.reader ≡ reader) × (result.reader.bytes.items ≡ []) }
         ensures writer { (result.writer.writer ≡ writer) × (result.writer.sent ≡ 0) × (result.writer.text.items ≡ []) }
         ensures due { (result.is_due ≡ true) × (result.mark ≡ mark) × (result.since ≡ now) × (result.heard ≡ now) }
+        ensures limited { (result.is_limited ≡ is_limited) × (result.rests ≡ not is_limited) }
     {
         Slot {
             reader: Gathered::new(alloc, reader),

@@ -1,118 +1,196 @@
-//! The one place with sockets.
+//! A gate over sockets.
 
-ghost use Rattle.std.specs.Prelude.{◌≡◌, [], true, IfOk};
-ghost use Rattle.moo_desk.specs.Deeds.{HoldsNone};
-ghost use Rattle.moo_desk.specs.Exchange.{GetsBack, Hands, TakesBack, TellsNext};
+ghost use Rattle.std.specs.Prelude.{◌≡◌, ◌≤◌, ◌^◌, ℤ, [], true, false, length, is_ok, Some, IfOk, IfSome, vec_capacity};
+ghost use Rattle.mio.specs.Events.{items as events_items, capacity as events_capacity};
+ghost use Rattle.moo_desk.specs.declared.held.TheConstants.{MOST};
+ghost use Rattle.moo_desk.specs.Calls.{Asks, IsFor, IsNoFile, SaysWhy, TakesSocket, WaitsFor, Watches, WatchesAnew, marks_of};
+ghost use Rattle.moo_desk.specs.Calls.{accepts, polls, registers, reregisters, splits, unblocks};
 
-use crate::desk::Desk;
-use crate::gate::{Gate, NEWS, Taken};
-use crate::gathered::Gathered;
-use crate::half::Half;
-use crate::outgoing::Outgoing;
-use mio::unix::SourceFd;
-use mio::{Events, Interest, Poll, Token};
-use moo_arrivals::{Arrivals, Closing, Connection, Loss, Route};
-use moo_http_request::Routes;
+use crate::gate::{Gate, Inward, NEWS, Outward, Taken};
+use crate::held::MOST;
+use mio::{Events, Interest};
 use std::alloc::Global;
 use std::io::{Error, ErrorKind, Result};
-use std::net::{Ipv4Addr, TcpListener};
-use std::os::fd::AsRawFd;
+use std::net::OpenStream;
+use std::os::fd::RawFd;
 use std::time::Duration;
 
 /// The system's numbers for no more open files, of this program and of all.
 const NO_FILES: [i32; 2] = [24, 23];
 
-/// The connections of a port of 127.0.0.1. Nothing is known of what they ask.
+/// A listener, what is watched, and what is asked of both: each function is one call of the system.
+///
+/// A gate over `S: Sockets` is proved for all of them. So it can say of no call what it gave, unless it made it.
+pub trait Sockets {
+    ghost use Rattle.moo_desk.specs.Calls.{SocketCall};
+
+    /// A connection as it was accepted.
+    type Socket: Drop;
+
+    type Reader: Inward + OpenStream + Drop;
+
+    type Writer: Outward + OpenStream + Drop;
+
+    /// The number of the listener, and that of a connection.
+    ghost listener: { Self → ℤ };
+
+    ghost number: { Self.Socket → ℤ };
+
+    /// What was asked, what came of it, and the sockets before and after that.
+    ghost does: { Self → SocketCall Self.Socket Self.Reader Self.Writer → Self → Type 0 };
+
+    fn listener_number(&self) -> RawFd
+        ensures { result ≡ listener self.now };
+
+    fn reader_number(&self, reader: &Self::Reader) -> RawFd
+        ensures { result ≡ Self.Reader.peer reader.now };
+
+    fn writer_number(&self, writer: &Self::Writer) -> RawFd
+        ensures { result ≡ Self.Writer.peer writer.now };
+
+    /// Accepts the next connection, if one is there.
+    fn accept(&mut self) -> Result<Self::Socket>
+        ensures { does self.old (accepts result) self.new };
+
+    /// Has reads and writes of a connection not wait; whether they don't.
+    fn unblock(&mut self, socket: &Self::Socket) -> bool
+        ensures { does self.old (unblocks socket.now result) self.new };
+
+    /// The reader and the writer of a connection. None if memory runs out; it is closed then.
+    fn split(&mut self, alloc: Global, socket: Self::Socket) -> Option<(Self::Reader, Self::Writer)>
+        ensures does { does self.old (splits socket result) self.new }
+        ensures pair { IfSome result (λ both. (Self.Reader.peer both.0 ≡ number socket) × (Self.Writer.peer both.1 ≡ number socket)) };
+
+    /// Has a change of this source end a wait, which then tells this mark.
+    fn register(&mut self, source: RawFd, mark: usize, interest: Interest) -> Result<()>
+        ensures { does self.old (registers source mark interest (is_ok result)) self.new };
+
+    /// The same of a source that is registered already.
+    fn reregister(&mut self, source: RawFd, mark: usize, interest: Interest) -> Result<()>
+        ensures { does self.old (reregisters source mark interest (is_ok result)) self.new };
+
+    /// Waits until a source changes, but no longer than this.
+    fn poll(&mut self, events: &mut Events, most: Duration)
+        ensures does { does self.old (polls most (events_items events.new)) self.new }
+        ensures few { length (events_items events.new) ≤ events_capacity events.old }
+        ensures room { events_capacity events.new ≡ events_capacity events.old };
+}
+
+/// The connections of a listener.
 #[derive(Drop)]
-pub struct SocketGate {
+pub struct SocketGate<S> {
     alloc: Global,
-    poll: Poll,
+    sockets: S,
     events: Events,
-    listener: TcpListener,
     /// A connection was taken since the last wait.
     has_taken: bool,
     /// How many connections it gave.
     gave: u64,
-}
-
-/// Has a change of this source end a wait, which then tells this mark.
-fn register<S: AsRawFd>(poll: &Poll, source: &S, mark: usize, interest: Interest) -> Result<()> {
-    let fd = source.as_raw_fd();
-    poll.registry()
-        .register(&mut SourceFd(&fd), Token(mark), interest)
-}
-
-/// The same of a source that may be registered already.
-fn register_anew<S: AsRawFd>(
-    poll: &Poll,
-    source: &S,
-    mark: usize,
-    interest: Interest,
-) -> Result<()> {
-    let fd = source.as_raw_fd();
-    let changed = poll
-        .registry()
-        .reregister(&mut SourceFd(&fd), Token(mark), interest);
-    if changed.is_ok() {
-        return changed;
-    }
-    register(poll, source, mark, interest)
+    ghost room: { events_capacity events ≡ MOST },
 }
 
 /// Whether the system has no room for another open file.
-fn is_no_file(error: &Error) -> bool {
-    error
-        .raw_os_error()
-        .is_some_and(|number| NO_FILES.contains(&number))
+fn is_no_file(error: &Error) -> bool
+    ensures yes { result ≡ true → IsNoFile error.now }
+    ensures no { result ≡ false → ¬ (IsNoFile error.now) }
+{
+    match error.raw_os_error() {
+        Some(number) => number == NO_FILES[0] || number == NO_FILES[1],
+        None => false,
+    }
 }
 
-impl SocketGate {
-    /// Binds a port of 127.0.0.1, and of no other address. An error if it can't be bound.
-    fn listen(rt: &HostRuntime, port: u16) -> Result<SocketGate>
-        ensures { IfOk result (λ gate. gate.gave ≡ 0) }
+/// What is said of a connection that couldn't be accepted.
+fn why_none<R, W>(error: &Error) -> Taken<R, W>
+    ensures { SaysWhy error.now result }
+{
+    if error.kind() == ErrorKind::WouldBlock {
+        Taken::Nobody
+    } else if is_no_file(error) {
+        Taken::NoRoom
+    } else {
+        Taken::Failed
+    }
+}
+
+/// Has a change of this source end a wait, though it may be registered already; whether it does.
+fn watch_anew<S: Sockets>(sockets: &mut S, number: RawFd, mark: usize, interest: Interest) -> bool
+    ensures { (writes : _) → IsFor writes interest → WatchesAnew S.does number mark writes result sockets.old sockets.new }
+{
+    sockets.reregister(number, mark, interest).is_ok()
+        || sockets.register(number, mark, interest).is_ok()
+}
+
+/// Tells the marks of these events.
+fn tell(events: &Events, told: &mut Vec<usize>)
+    requires none { told.old.items ≡ [] }
+    requires room { length (events_items events.now) ≤ vec_capacity told.old }
+    ensures marks { told.new.items ≡ marks_of (events_items events.now) }
+    ensures room { vec_capacity told.new ≡ vec_capacity told.old }
+{
+    for event in events {
+        told.push_reserved(event.token().0);
+    }
+}
+
+impl<S: Sockets + Drop> SocketGate<S> {
+    /// A gate over these sockets. An error if the listener can't be watched.
+    pub fn new(alloc: Global, mut sockets: S) -> Result<SocketGate<S>>
+        ensures { IfOk result (λ gate. (gate.gave ≡ 0) × (gate.has_taken ≡ false)
+            × Watches S.does (S.listener sockets) NEWS false true sockets gate.sockets) }
     {
-        let poll = Poll::new(rt)?;
-        let events = Events::with_capacity(rt.alloc(), 64)?;
-        let listener = TcpListener::bind(rt, (Ipv4Addr::LOCALHOST, port))?;
-        listener.set_nonblocking(true)?;
-        register(&poll, &listener, NEWS, Interest::READABLE)?;
+        let events = Events::with_capacity(alloc, MOST)?;
+        let listener = sockets.listener_number();
+        sockets.register(listener, NEWS, Interest::READABLE)?;
         Ok(SocketGate {
-            alloc: rt.alloc(),
-            poll,
+            alloc,
+            sockets,
             events,
-            listener,
             has_taken: false,
             gave: 0,
         })
     }
 }
 
-impl Gate for SocketGate {
+impl<S: Sockets> SocketGate<S> {
+    /// Whether a connection was taken since the last wait, and the listener is watched anew.
+    fn has_to_wait(&mut self) -> bool
+        ensures waits { result ≡ true → (self.old.has_taken ≡ true)
+            × WatchesAnew S.does (S.listener self.old.sockets) NEWS false true self.old.sockets self.new.sockets }
+        ensures asks { result ≡ false → Asks S.does (S.listener self.old.sockets) self.old.has_taken self.old.sockets self.new.sockets }
+        ensures same { (self.new.has_taken ≡ self.old.has_taken) × (self.new.gave ≡ self.old.gave) }
+    {
+        let listener = self.sockets.listener_number();
+        self.has_taken && watch_anew(&mut self.sockets, listener, NEWS, Interest::READABLE)
+    }
+}
+
+impl<S: Sockets + Drop> Gate for SocketGate<S> {
     ghost gave = { λ it. it.gave };
 
-    type Reader = Half;
+    ghost takes = { λ old taken new. TakesSocket S.does (S.listener old.sockets) old.gave old.has_taken old.sockets taken new.sockets };
 
-    type Writer = Half;
+    ghost waits = { λ old most told new. WaitsFor S.does old.sockets most told new.sockets × (new.has_taken ≡ false) };
+
+    type Reader = S::Reader;
+
+    type Writer = S::Writer;
 
     // Whether another is there, a wait tells. The system is not asked for one in vain: it makes a socket before it looks.
-    fn take(&mut self) -> Taken<Half, Half> {
-        if self.has_taken
-            && register_anew(&self.poll, &self.listener, NEWS, Interest::READABLE).is_ok()
-        {
-            return Taken::Nobody;
-        }
+    fn take(&mut self) -> Taken<S::Reader, S::Writer> {
         let Some(gave) = self.gave.checked_add(1) else {
             return Taken::NoRoom;
         };
-        let socket = match self.listener.accept() {
-            Ok((socket, _)) => socket,
-            Err(error) if error.kind() == ErrorKind::WouldBlock => return Taken::Nobody,
-            Err(error) if is_no_file(&error) => return Taken::NoRoom,
-            Err(_) => return Taken::Failed,
+        if self.has_to_wait() {
+            return Taken::Nobody;
+        }
+        let socket = match self.sockets.accept() {
+            Ok(socket) => socket,
+            Err(error) => return why_none(&error),
         };
         self.has_taken = true;
-        let is_limited = socket.set_nonblocking(true).is_ok();
-        match Half::both(self.alloc, socket) {
+        let is_limited = self.sockets.unblock(&socket);
+        match self.sockets.split(self.alloc, socket) {
             Some((reader, writer)) => {
                 self.gave = gave;
                 Taken::Came(reader, writer, is_limited)
@@ -121,82 +199,29 @@ impl Gate for SocketGate {
         }
     }
 
-    fn watch(&mut self, reader: &Half, mark: usize) -> bool {
-        register(&self.poll, reader, mark, Interest::READABLE).is_ok()
+    fn watch(&mut self, reader: &S::Reader, mark: usize) -> bool
+        ensures gave { self.new.gave ≡ self.old.gave }
+        ensures watches { Watches S.does (S.Reader.peer reader.now) mark false result self.old.sockets self.new.sockets }
+    {
+        let number = self.sockets.reader_number(reader);
+        self.sockets
+            .register(number, mark, Interest::READABLE)
+            .is_ok()
     }
 
-    fn watch_writer(&mut self, writer: &Half, mark: usize) -> bool {
+    fn watch_writer(&mut self, writer: &S::Writer, mark: usize) -> bool
+        ensures gave { self.new.gave ≡ self.old.gave }
+        ensures watches { WatchesAnew S.does (S.Writer.peer writer.now) mark true result self.old.sockets self.new.sockets }
+    {
         let both = Interest::READABLE | Interest::WRITABLE;
-        register_anew(&self.poll, writer, mark, both).is_ok()
+        let number = self.sockets.writer_number(writer);
+        watch_anew(&mut self.sockets, number, mark, both)
     }
 
     fn wait(&mut self, most: Duration, told: &mut Vec<usize>) {
         told.clear();
         self.has_taken = false;
-        let _waited = self.poll.poll(&mut self.events, Some(most));
-        for event in self.events.iter() {
-            let _kept = told.push(event.token().0);
-        }
-    }
-}
-
-/// The desk of a port of 127.0.0.1: a desk over sockets.
-#[derive(Drop)]
-pub struct SocketDesk<'a> {
-    desk: Desk<'a, SocketGate, HostRuntime>,
-}
-
-impl<'a> SocketDesk<'a> {
-    /// Binds a port of 127.0.0.1. An error if it can't be bound.
-    pub fn listen(rt: &'a HostRuntime, port: u16) -> Result<SocketDesk<'a>>
-        ensures { IfOk result (λ it. HoldsNone it.desk.held × (it.desk.gate.gave ≡ 0)) }
-    {
-        let gate = SocketGate::listen(rt, port)?;
-        let desk = Desk::new(rt.alloc(), rt, gate)?;
-        Ok(SocketDesk { desk })
-    }
-}
-
-// The desk's promises, of sockets.
-impl<'a> Arrivals for SocketDesk<'a> {
-    ghost hands_out = { λ old handed new. Hands (old.desk.held, old.desk.gate.gave) handed (new.desk.held, new.desk.gate.gave) };
-
-    ghost takes_back = { λ old given new. TakesBack (old.desk.held, old.desk.gate.gave) given (new.desk.held, new.desk.gate.gave) };
-
-    ghost loses = { λ old told new. TellsNext (old.desk.held, old.desk.gate.gave) told (new.desk.held, new.desk.gate.gave) };
-
-    type Reader = Gathered<Half>;
-
-    type Writer = Outgoing<Half>;
-
-    fn accept(
-        &mut self,
-        routes: &Routes,
-        left: u32,
-    ) -> Option<Connection<Gathered<Half>, Outgoing<Half>>>
-        ensures hands { Hands (self.old.desk.held, self.old.desk.gate.gave) result (self.new.desk.held, self.new.desk.gate.gave) }
-    {
-        self.desk.accept(routes, left)
-    }
-
-    fn close(
-        &mut self,
-        connection: Connection<Gathered<Half>, Outgoing<Half>>,
-        closing: Closing,
-        route: Route,
-    )
-        ensures back { TakesBack (self.old.desk.held, self.old.desk.gate.gave) connection (self.new.desk.held, self.new.desk.gate.gave) }
-
-        // It is held with this route, and closed so.
-        ensures gets { GetsBack (self.old.desk.held, self.old.desk.gate.gave) connection closing route (self.new.desk.held, self.new.desk.gate.gave) }
-    {
-        self.desk.close(connection, closing, route)
-    }
-
-    fn settle(&mut self, is_last: bool) -> Option<Loss>
-        ensures tells { TellsNext (self.old.desk.held, self.old.desk.gate.gave) result (self.new.desk.held, self.new.desk.gate.gave) }
-        ensures last { is_last ≡ true → self.new.desk.held.leaving.items ≡ [] }
-    {
-        self.desk.settle(is_last)
+        self.sockets.poll(&mut self.events, most);
+        tell(&self.events, told);
     }
 }

@@ -1,8 +1,11 @@
 use Rattle.std.proofs.Common.{◌<◌, length, inl, inr, refl, sym, ap, subst, ◌∙◌, arith}
-use Rattle.moo_desk.specs.Rounds.{IsTimed}
+use Rattle.moo_desk.specs.Rounds.{IsStale, IsTimed}
 use Rattle.moo_desk.proofs.Onward.{each_same, each_set}
 use Rattle.moo_desk.proofs.Ledgers.{keeps_slot_set, gathered_given_up, get_or_same}
 use Rattle.moo_desk.proofs.Reading.{timed_same, timed_joined}
+use Rattle.moo_desk.specs.Choices.{IsCrowdedOut}
+use Rattle.moo_desk.proofs.Firsts.{first_below, first_holds, turns_at}
+use Rattle.moo_desk.proofs.held.Held.cut_request.Goals.{else-place-len-via-then-place-len+else-is_stale, else-place-len-via-else-place-len}
 use Rattle.moo_desk.proofs.held.Held.cut_request.Goals as goal
 
 pub returns-then-is_stale-clause-all : goal.returns-then-is_stale-clause-all
@@ -23,3 +26,16 @@ returns-then-is_stale-clause-times g c =
 
 pub returns-else-place-len-clause-times : goal.returns-else-place-len-clause-times
 returns-else-place-len-clause-times g c = each_same (IsTimed c.args.now) (timed_same c.args.now) c.args.self.now.slots.items
+
+pub returns-then-is_stale-clause-cuts : goal.returns-then-is_stale-clause-cuts
+returns-then-is_stale-clause-cuts g c is =
+    let ends = c.give_up.ensures.ends in
+    turns_at (IsStale c.args.now) IsCrowdedOut c.args.place c.args.self.now.slots.items c.index_mut.result.now c.give_up.new.self is (ends.1, ends.0, ends.2)
+
+pub returns-else-place-len-clause-cuts : goal.returns-else-place-len-clause-cuts
+returns-else-place-len-clause-cuts g c is = elim c.else-place-len.branch [
+  | else-place-len-via-then-place-len+else-is_stale w ↦
+      absurd (w.is_stale.ensures.young w.if-is_stale.false (subst (λ it. IsStale c.args.now it) (sym w.index.ensures) (first_holds (IsStale c.args.now) c.args.place c.args.self.now.slots.items w.index.result.now is)))
+  | else-place-len-via-else-place-len w ↦
+      absurd (omega (arith, first_below (IsStale c.args.now) c.args.place c.args.self.now.slots.items is, w.if-place-len.false, c.len.ensures, c.args.self.now.slots.ok.0))
+]

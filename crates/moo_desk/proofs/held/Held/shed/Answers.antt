@@ -1,6 +1,8 @@
-use Rattle.std.proofs.Common.{subst, sym}
+use Rattle.std.proofs.Common.{inl, subst, sym}
+use Rattle.moo_desk.specs.Choices.{IsLingering}
 use Rattle.moo_desk.specs.Each.{Each}
 use Rattle.moo_desk.specs.Rounds.{IsTimed}
+use Rattle.moo_desk.proofs.Firsts.{cut_lingers, first_below}
 use Rattle.moo_desk.proofs.Onward.{each_same}
 use Rattle.moo_desk.proofs.Reading.{timed_same}
 use Rattle.moo_desk.proofs.held.Held.shed.Goals as goal
@@ -14,3 +16,11 @@ returns-in-Some-clause-times g c =
 
 pub returns-in_default-stale-clause-times : goal.returns-in_default-stale-clause-times
 returns-in_default-stale-clause-times g c = each_same (IsTimed c.args.now) (timed_same c.args.now) c.args.self.now.slots.items
+
+pub returns-in-Some-clause-full : goal.returns-in-Some-clause-full
+returns-in-Some-clause-full g c _ =
+    let leaving = c.args.self.now.leaving.items in
+    inl (
+      cut_lingers c.in-Some.place leaving c.cut_answer.new.self.leaving.items c.in-Some.ensures (c.cut_answer.ensures.cuts (first_below IsLingering c.in-Some.place leaving c.in-Some.ensures)),
+      c.cut_answer.ensures.slots,
+    )

@@ -1,0 +1,113 @@
+//! The first connection of which something holds.
+
+ghost use Rattle.std.specs.Prelude.{◌≡◌, ◌<◌, true, false, length, IfSome};
+ghost use Rattle.moo_desk.specs.Choices.{IsLingering, IsReady, IsStuck, IsUnfinished};
+ghost use Rattle.moo_desk.specs.Each.{IsFirstPlace, HoldsOfNone};
+ghost use Rattle.moo_desk.specs.Rounds.{IsStale};
+
+use crate::gate::{Inward, Outward};
+use crate::leaving::Leaving;
+use crate::slot::Slot;
+use std::net::OpenStream;
+use std::time::Duration;
+
+/// A question about an item.
+pub trait Question<T> {
+    /// What it asks of it.
+    ghost asks: { Self → T → Type 0 };
+
+    /// Whether that holds of it.
+    fn holds(&self, item: &T) -> bool
+        ensures yes { result ≡ true → asks self.now item.now }
+        ensures no { result ≡ false → ¬ (asks self.now item.now) };
+}
+
+/// The place of the first item of which it holds.
+pub fn first<T, Q: Question<T>>(items: &[T], question: &Q) -> Option<usize>
+    ensures first { IsFirstPlace (Q.asks question.now) items.now result }
+    ensures bound { IfSome result (λ place. place < length items.now) }
+{
+    let mut place = 0;
+    while place < items.len() {
+        if question.holds(&items[place]) {
+            return Some(place);
+        }
+        place += 1;
+    }
+    None
+}
+
+/// Whether it holds of any.
+pub fn any<T, Q: Question<T>>(items: &[T], question: &Q) -> bool
+    ensures yes { result ≡ true → ¬ (HoldsOfNone (Q.asks question.now) items.now) }
+    ensures no { result ≡ false → HoldsOfNone (Q.asks question.now) items.now }
+{
+    match first(items, question) {
+        Some(_) => true,
+        None => false,
+    }
+}
+
+/// Is its request unfinished, and may it be given up?
+#[derive(Clone, Copy, Drop)]
+pub struct Stale {
+    pub now: Duration,
+}
+
+impl<R: Inward, W: Outward> Question<Slot<R, W>> for Stale {
+    ghost asks = { λ it slot. IsStale it.now slot };
+
+    fn holds(&self, slot: &Slot<R, W>) -> bool {
+        slot.is_stale(self.now)
+    }
+}
+
+/// Is it to be handed out?
+#[derive(Clone, Copy, Drop)]
+pub struct Ready;
+
+impl<R: Inward, W: Outward> Question<Slot<R, W>> for Ready {
+    ghost asks = { λ _ slot. IsReady slot };
+
+    fn holds(&self, slot: &Slot<R, W>) -> bool {
+        slot.rests
+    }
+}
+
+/// May more of its request come?
+#[derive(Clone, Copy, Drop)]
+pub struct Unfinished;
+
+impl<R: Inward, W: Outward> Question<Slot<R, W>> for Unfinished {
+    ghost asks = { λ _ slot. IsUnfinished slot };
+
+    fn holds(&self, slot: &Slot<R, W>) -> bool {
+        !slot.rests
+    }
+}
+
+/// Does it only wait for its peer's last bytes?
+#[derive(Clone, Copy, Drop)]
+pub struct Lingerer;
+
+impl<R: Inward + OpenStream, W: Outward + OpenStream> Question<Leaving<R, W>> for Lingerer {
+    ghost asks = { λ _ leaving. IsLingering leaving };
+
+    fn holds(&self, leaving: &Leaving<R, W>) -> bool {
+        leaving.is_lingering()
+    }
+}
+
+/// Is its answer held, and did its peer take nothing of it for a while?
+#[derive(Clone, Copy, Drop)]
+pub struct Stuck {
+    pub now: Duration,
+}
+
+impl<R: Inward + OpenStream, W: Outward + OpenStream> Question<Leaving<R, W>> for Stuck {
+    ghost asks = { λ it leaving. IsStuck it.now leaving };
+
+    fn holds(&self, leaving: &Leaving<R, W>) -> bool {
+        leaving.is_stuck(self.now)
+    }
+}
