@@ -26,14 +26,14 @@ abbrev pub IsWhyOf : Bool → List (Option (List ℕ)) → Type 0
 IsWhyOf asks_why whys = asks_why ≡ false → whys ≡ []
 
 -- what is received is refused, before the World is asked
-abbrev pub IsRefused : Received → Type 0
-IsRefused Nothing = ⊥
-IsRefused (Request is_head asks_why (asked.Refused refusal)) = ⊤
-IsRefused (Request is_head asks_why asked) = ⊥
+abbrev pub HasRefusal : Received → Type 0
+HasRefusal Nothing = ⊥
+HasRefusal (Request is_head asks_why (asked.Refused refusal)) = ⊤
+HasRefusal (Request is_head asks_why asked) = ⊥
 
 -- The reader gave some bytes, and if what they ask is refused the connection is to be closed gently, as a part of it may be unread.
 abbrev pub ClosesGently : Option (List ℕ) → Option (List ℕ) → Closing → Type 0
-ClosesGently left rest closing = (received : Received) × Takes left rest received × (IsRefused received → closing ≡ Gently)
+ClosesGently left rest closing = (received : Received) × Takes left rest received × (HasRefusal received → closing ≡ Gently)
 
 -- The answer to what is received: nothing if nothing came. The ledger has the batch of what was asked, if it was run.
 abbrev pub Gets : Stand → Received → List ℕ → Ledger → Stand → Type 0
