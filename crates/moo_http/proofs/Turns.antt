@@ -122,11 +122,11 @@ module _ {A R W : Type 0} (source : Arrivals.Ghosts A R W) (reader : Reading.Gho
       (text, (answered, failed, sum, (between, from, to, opened, holds, closed), is), wrote)
   serves_on ports first between last (Err service.Port) port count ledger from old to new before after opened closed other it = absurd (other refl)
   serves_on ports first between last (Err service.Write) port count ledger from old to new before after opened closed other (inl (stays, front)) =
-      inl ((stays.1, stays.2, (between, from, to, opened, ([], refl, refl, stays.2, (stays.0, stays.1)), closed)), front)
+      inl ((stays.1, stays.2, (between, from, to, opened, (([], refl, refl, stays.2, (stays.0, stays.1)), inl refl), closed)), front)
   serves_on ports first between last (Err service.Write) port count ledger from old to new before after opened closed other (inr (text, (answered, failed, sum, holds, is), front)) =
       inr (text, (answered, failed, sum, (between, from, to, opened, holds, closed), is), front)
   serves_on ports first between last (Err service.OutOfMemory) port count ledger from old to new before after opened closed other (inl (stays, front)) =
-      inl ((stays.1, stays.2, (between, from, to, opened, ([], refl, refl, stays.2, (stays.0, stays.1)), closed)), front)
+      inl ((stays.1, stays.2, (between, from, to, opened, (([], refl, refl, stays.2, (stays.0, stays.1)), inl refl), closed)), front)
   serves_on ports first between last (Err service.OutOfMemory) port count ledger from old to new before after opened closed other (inr (text, (answered, failed, sum, holds, is), front)) =
       inr (text, (answered, failed, sum, (between, from, to, opened, holds, closed), is), front)
 

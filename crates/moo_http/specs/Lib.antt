@@ -6,6 +6,6 @@ pub mod Settled
 pub mod Serves
 pub mod Lines
 pub mod Connections
-pub mod Turns
 pub mod Settling
+pub mod Turns
 pub mod Through

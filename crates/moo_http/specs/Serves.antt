@@ -1,5 +1,5 @@
 -- What a request makes of its bytes, of the World and of what is written.
-use Rattle.std.specs.Prelude.{◌≡◌, ◌⊎◌, ℕ, Option, List, [], take, Result, Ok, Err, Bool, false, IsTrue}
+use Rattle.std.specs.Prelude.{◌≡◌, ◌⊎◌, ⊤, ℕ, Option, List, [], take, Result, Ok, Err, Bool, false, IsTrue}
 use Rattle.std.specs.Io.KnownBytes.{Appends}
 use Rattle.sqlite.specs.State.{HasCleanDisk}
 use Rattle.sqlite.specs.Store.{Ghosts}
@@ -8,6 +8,9 @@ use Rattle.moo_store.specs.Kept.{World}
 use Rattle.moo_store.specs.World.{store_of, CrashLeaves, StandsAt}
 use Rattle.moo_http_request.specs.Request.{Takes}
 use Rattle.moo_http_request.specs.declared.asked.Asked.{Asked}
+use Rattle.moo_http_request.specs.declared.asked.Asked.TheVariants as asked
+use Rattle.moo_arrivals.specs.declared.arrivals.Closing.{Closing}
+use Rattle.moo_arrivals.specs.declared.arrivals.Closing.TheVariants.{Gently}
 use Rattle.moo_http_request.specs.declared.request.Received.{Received}
 use Rattle.moo_http_request.specs.declared.request.Received.TheVariants.{Nothing, Request}
 use Rattle.moo_http.specs.declared.fault.ServeFault.{ServeFault}
@@ -21,6 +24,16 @@ use Rattle.moo_http.specs.Answers.{MayAnswer, Consulted, ledger_by, IsMovedAs}
 -- it is said why a body, a batch or a call alone is refused only if that was asked too
 abbrev pub IsWhyOf : Bool → List (Option (List ℕ)) → Type 0
 IsWhyOf asks_why whys = asks_why ≡ false → whys ≡ []
+
+-- what is received is refused, before the World is asked
+abbrev pub HasRefusal : Received → Type 0
+HasRefusal Nothing = ⊥
+HasRefusal (Request is_head asks_why (asked.Refused refusal)) = ⊤
+HasRefusal (Request is_head asks_why asked) = ⊥
+
+-- The reader gave some bytes, and if what they ask is refused the connection is to be closed gently, as a part of it may be unread.
+abbrev pub ClosesGently : Option (List ℕ) → Option (List ℕ) → Closing → Type 0
+ClosesGently left rest closing = (received : Received) × Takes left rest received × (HasRefusal received → closing ≡ Gently)
 
 -- The answer to what is received: nothing if nothing came. The ledger has the batch of what was asked, if it was run.
 abbrev pub Gets : Stand → Received → List ℕ → Ledger → Stand → Type 0

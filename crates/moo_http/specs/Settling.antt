@@ -16,3 +16,7 @@ module _ {A : Type 0} (loses : A → Option Loss → A → Type 0) where
   TellsLosses zero from answered failed to left lost = (to ≡ from) × (left ≡ answered) × (lost ≡ failed)
   TellsLosses (suc n) from answered failed to left lost =
       (between : A) × (some more : ℕ) × TellsLosses n from answered failed between some more × TellsLoss between some more to left lost
+
+  -- none counts as answered, or the source was asked for a lost answer and told of none
+  abbrev pub HasNoneLeft : ℕ → A → Type 0
+  HasNoneLeft answered to = (answered ≡ 0) ⊎ ((from : A) × loses from None to)

@@ -20,6 +20,7 @@ use Rattle.moo_http.specs.Traffic.{Traffic, traffic_of}
 use Rattle.moo_http.specs.Ledger.{Ledger, no_batches, and_then}
 use Rattle.moo_http.specs.Serves.{Gets}
 use Rattle.moo_http.specs.Connections.{SaysAll, SaysByResult}
+use Rattle.moo_http.specs.Settling.{HasNoneLeft}
 
 -- ---- one connection
 
@@ -126,18 +127,23 @@ module _ {A R W : Type 0} (source : Arrivals.Ghosts A R W) (reader : Reading.Gho
       (turns : List Happening) × (answered_in turns ≡ answered + lost_in turns) × (failed_in turns + lost_in turns ≡ failed)
       × (ledger ≡ ledger_in turns) × AfterTurns turns from old to new
 
+  -- After all turns: at last the source told of no lost answer, unless none of so many counts as answered.
+  abbrev pub AttendsAll : ℕ → ℕ → Ledger → A → Stand → A → Stand → Type 0
+  AttendsAll answered failed ledger from old to new =
+      Attended answered failed ledger from old to new × HasNoneLeft source.loses answered to
+
   -- What comes of the service, by its result.
   abbrev pub ServesFrom : Result (Unit {0}) ServiceFault → ℕ → ℕ → Ledger → A → Stand → A → Stand
       → Option (List ℕ) → Option (List ℕ) → Type 0
   ServesFrom result port count ledger from old to new before after =
-      SaysByResult (λ answered failed. Attended answered failed ledger from old to new)
+      SaysByResult (λ answered failed. AttendsAll answered failed ledger from old to new)
       ((to ≡ from) × (new ≡ old) × (ledger ≡ no_batches)) result port count before after
 
   -- What came of the ports, from these to those, by what they are before and after one is listened on and its source is closed.
   abbrev pub attended_between : {P : Type 0} → Ports.Ghosts P A R W → P → P → Attendance
   attended_between {P} ports before after = record {
     attends = λ port answered failed ledger old new. (between : P) × (from to : A)
-        × ports.listens before port (Some from) between × Attended answered failed ledger from old to new
+        × ports.listens before port (Some from) between × AttendsAll answered failed ledger from old to new
         × ports.closes between to after;
     refuses = λ port. ports.listens before port None after;
     rests = after ≡ before;

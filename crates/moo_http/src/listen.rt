@@ -1,14 +1,15 @@
 //! Connections, served in turn.
 
-ghost use Rattle.std.specs.Prelude.{◌≡◌, ◌+◌, ◌^◌, ◌<◌, ℕ, false, List};
+ghost use Rattle.std.specs.Prelude.{◌≡◌, ◌+◌, ◌^◌, ◌<◌, ℕ, true, false, List};
 ghost use Rattle.moo_world.specs.declared.call.Batch.{Batch};
 ghost use Rattle.moo_store.specs.Untouched.{IsMovedBy};
 ghost use Rattle.sqlite.specs.State.{HasCleanDisk};
 ghost use Rattle.moo_store.specs.World.{store_of};
 ghost use Rattle.moo_http.specs.Traffic.{traffic_of};
 ghost use Rattle.moo_http.specs.Connections.{ConveysBy};
-ghost use Rattle.moo_http.specs.Turns.{Visited, IsLeftUnread, Visit, Attended};
-ghost use Rattle.moo_http.specs.Settling.{TellsLoss, TellsLosses};
+ghost use Rattle.moo_http.specs.Serves.{ClosesGently};
+ghost use Rattle.moo_http.specs.Turns.{Visited, IsLeftUnread, Visit, Attended, AttendsAll};
+ghost use Rattle.moo_http.specs.Settling.{TellsLoss, TellsLosses, HasNoneLeft};
 
 use crate::log::Log;
 use crate::note::{Note, Trouble};
@@ -41,6 +42,9 @@ pub fn serve_connection<S: Alter + Drop, R: Incoming, W: Write>(
         (traffic_of R.Read W.Write connection.old connection.new) ledger) }
     ensures unlimited { connection.old.is_limited ≡ false →
         (result ≡ false) × (world.new ≡ world.old) × (connection.new ≡ connection.old) }
+    // If it was answered by a refusal, the note says that it is to be closed gently.
+    ensures gentle { result ≡ true →
+        ClosesGently (R.remaining connection.old.reader) (R.remaining connection.new.reader) note.new.closing }
     ensures moved { (batches lost : List Batch) × IsMovedBy S.Store world.old world.new batches lost }
     ensures clean { HasCleanDisk (store_of S.Store world.new) → HasCleanDisk (store_of S.Store world.old) }
 {
@@ -94,8 +98,10 @@ fn settle_one<'a, A: Arrivals, C: Clock + Eprint>(
     is_last: bool,
 ) -> bool
     requires { served.old.answered + served.old.failed < 2 ^ 32 }
-    ensures { TellsLoss A.loses arrivals.old served.old.answered served.old.failed
+    ensures tells { TellsLoss A.loses arrivals.old served.old.answered served.old.failed
         arrivals.new served.new.answered served.new.failed }
+    ensures more { result ≡ true → served.new.answered + 1 ≡ served.old.answered }
+    ensures none { result ≡ false → HasNoneLeft A.loses served.new.answered arrivals.new }
 {
     if served.answered == 0 {
         return false;
@@ -116,8 +122,9 @@ fn settle_rest<'a, A: Arrivals, C: Clock + Eprint>(
     served: &mut Served,
 )
     requires { served.old.answered + served.old.failed < 2 ^ 32 }
-    ensures { (asked : ℕ) × TellsLosses A.loses asked arrivals.old served.old.answered served.old.failed
+    ensures tells { (asked : ℕ) × TellsLosses A.loses asked arrivals.old served.old.answered served.old.failed
         arrivals.new served.new.answered served.new.failed }
+    ensures none { HasNoneLeft A.loses served.new.answered arrivals.new }
 {
     for _ in 0..served.answered {
         if !settle_one(arrivals, log, served, true) {
@@ -170,8 +177,9 @@ pub fn serve_on<'a, S: Alter + Drop, A: Arrivals, C: Clock + Eprint>(
     ensures count { result.answered + result.failed ≡ count }
     // The World moved by what the connections asked that the source handed out, in their order, each of which got its answer or failed,
     // and by nothing else. So many of them were answered, and so many failed. Just the batches that they asked and that were run wrote to
-    // the tables: each keeps the cells of what stays, and all numbers.
-    ensures serves { ConveysBy S.Store world.old world.new (λ ledger stand end. Attended A.Arrivals A.Reader.Read A.Reader.fails
+    // the tables: each keeps the cells of what stays, and all numbers. At last the source told of no lost answer, unless none counts as
+    // answered.
+    ensures serves { ConveysBy S.Store world.old world.new (λ ledger stand end. AttendsAll A.Arrivals A.Reader.Read A.Reader.fails
         A.Writer.Write result.answered result.failed ledger arrivals.old stand arrivals.new end) }
     // It moved by accepted batches, one after another: each wrote only rows that differ, and kept all numbers.
     ensures moved { (batches lost : List Batch) × IsMovedBy S.Store world.old world.new batches lost }

@@ -1,6 +1,7 @@
 //! The notes on a connection.
 
-ghost use Rattle.std.specs.Prelude.{◌≡◌, ◌≢◌, IfSome, IfNone, is_ok};
+ghost use Rattle.std.specs.Prelude.{◌≡◌, ◌≢◌, IfSome, IfNone, is_ok, true};
+ghost use Rattle.moo_http_request.specs.declared.asked.Refusal.{Refusal};
 ghost use Rattle.moo_http_response.specs.Responses.{response_of, reply_response};
 
 use crate::fault::ServeFault;
@@ -84,7 +85,9 @@ fn route_of(asked: &Asked) -> Route {
 }
 
 /// How a connection is closed after its answer. A refusal may leave a part of the request unread; else only more than was asked for can be.
-fn closing_after(asked: &Asked) -> Closing {
+fn closing_after(asked: &Asked) -> Closing
+    ensures { (refusal : Refusal) → asked.now ≡ Asked.Refused refusal → result ≡ Closing.Gently }
+{
     match asked {
         Asked::Refused(_) => Closing::Gently,
         _ => Closing::IfMoreCame,
@@ -138,13 +141,17 @@ impl Note {
     }
 
     /// Notes what is asked.
-    pub(crate) fn asks(&mut self, asked: &Asked) {
+    pub(crate) fn asks(&mut self, asked: &Asked)
+        ensures { (refusal : Refusal) → asked.now ≡ Asked.Refused refusal → self.new.closing ≡ Closing.Gently }
+    {
         self.route = route_of(asked);
         self.closing = closing_after(asked);
     }
 
     /// Notes what comes of it.
-    pub(crate) fn comes_to(&mut self, outcome: &RequestOutcome) {
+    pub(crate) fn comes_to(&mut self, outcome: &RequestOutcome)
+        ensures { self.new.closing ≡ self.old.closing }
+    {
         self.trouble = trouble_of(outcome);
     }
 
@@ -158,7 +165,8 @@ impl Note {
 
     /// Notes how serving it ended; whether it was answered.
     pub(crate) fn ends(&mut self, served: Result<(), ServeFault>) -> bool
-        ensures { result ≡ is_ok served }
+        ensures answered { result ≡ is_ok served }
+        ensures closing { result ≡ true → self.new.closing ≡ self.old.closing }
     {
         match served {
             Ok(()) => true,

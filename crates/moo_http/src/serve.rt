@@ -1,6 +1,6 @@
 //! One request, answered.
 
-ghost use Rattle.std.specs.Prelude.{◌≡◌, ◌≢◌, IfErr, Bool, List};
+ghost use Rattle.std.specs.Prelude.{◌≡◌, ◌≢◌, IfErr, OnOk, Bool, List};
 ghost use Rattle.moo_world.specs.declared.call.Batch.{Batch};
 ghost use Rattle.moo_store.specs.Untouched.{IsMovedBy};
 ghost use Rattle.moo_store.specs.Stand.{Stand};
@@ -8,7 +8,9 @@ ghost use Rattle.sqlite.specs.State.{HasCleanDisk};
 ghost use Rattle.moo_store.specs.World.{store_of, StandsAt};
 ghost use Rattle.moo_http_request.specs.Given.{HasFailed};
 ghost use Rattle.moo_http.specs.Traffic.{traffic};
-ghost use Rattle.moo_http.specs.Serves.{AnswersTo, Served};
+ghost use Rattle.moo_http_request.specs.declared.asked.Refusal.{Refusal};
+ghost use Rattle.moo_arrivals.specs.declared.arrivals.Closing.{Closing};
+ghost use Rattle.moo_http.specs.Serves.{AnswersTo, ClosesGently, Served};
 
 use crate::consult::consult;
 use crate::fault::ServeFault;
@@ -57,6 +59,7 @@ fn serve_asked<S: Alter + Drop, W: Write>(
     ensures fault { IfErr result (λ fault. fault ≢ ServeFault.Read) }
     ensures moved { (batches lost : List Batch) × IsMovedBy S.Store world.old world.new batches lost }
     ensures clean { HasCleanDisk (store_of S.Store world.new) → HasCleanDisk (store_of S.Store world.old) }
+    ensures gentle { (refusal : Refusal) → inquiry.now.asked ≡ Asked.Refused refusal → note.new.closing ≡ Closing.Gently }
 {
     note.asks(&inquiry.asked);
     let mut whys = Whys::new(means.alloc, inquiry.asks_why, means.ticks);
@@ -91,6 +94,8 @@ pub fn serve_one<S: Alter + Drop, R: Incoming, W: Write>(
     ensures moved { (batches lost : List Batch) × IsMovedBy S.Store world.old world.new batches lost }
     // A disk that returns what was written did so before.
     ensures clean { HasCleanDisk (store_of S.Store world.new) → HasCleanDisk (store_of S.Store world.old) }
+    // After a refusal the note says that the connection is to be closed gently.
+    ensures gentle { OnOk result (ClosesGently (R.remaining reader.old) (R.remaining reader.new) note.new.closing) }
 {
     world.leaves();
     let mut wrong = None;

@@ -5,7 +5,7 @@ pub returns-clause-visited : goal.returns-clause-visited
 returns-clause-visited g c known stand at =
     visited g.S.Store known stand c.args.world.now c.serve_one-served.new.world (g.met.S.Store.settled c.args.world.now.connection.store)
     (traffic g.R.Read g.W.Write c.args.connection.now.reader c.serve_one-served.new.reader c.args.connection.now.writer c.serve_one-served.new.writer)
-    (HasFailed g.R.Incoming.fails c.serve_one-served.new.reader ⊎ (c.args.connection.now.is_limited ≡ false)) c.serve_one-served.result c.ends.result c.ends.ensures at
+    (HasFailed g.R.Incoming.fails c.serve_one-served.new.reader ⊎ (c.args.connection.now.is_limited ≡ false)) c.serve_one-served.result c.ends.result c.ends.ensures.answered at
     (is_unread _ _ c.serve_one-served.result c.serve_one-served.ensures.cause) (c.serve_one-served.ensures.served known stand at)
 
 -- a connection that isn't read leaves the World where it stood

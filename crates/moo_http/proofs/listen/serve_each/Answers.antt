@@ -59,7 +59,7 @@ loop-turn-preserved g c =
     record {
       passed = passed_on source reader fails writer g.S.Store c.args.world.now c.serve_next.new.world first next c.settle_one-more.new.arrivals
           now.answered now.failed c.settle_one-more.new.served.answered c.settle_one-more.new.served.failed (c.loop-turn.turn + 1)
-          (record { sum = sum; leads = leads }) c.settle_one-more.ensures;
+          (record { sum = sum; leads = leads }) c.settle_one-more.ensures.tells;
       batches = before.batches ++ one.0;
       lost = before.lost ++ one.1;
       moved = moved_then g.S.Store c.args.world.now c.loop-turn.world c.serve_next.new.world before.batches before.lost one.0 one.1 before.moved one.2;

@@ -1,8 +1,8 @@
-use Rattle.moo_http.{proofs.Words.{refl, suc, arith}, proofs.Turns.{settles_all_sum}}
+use Rattle.moo_http.{proofs.Words.{refl, suc, inl, arith}, proofs.Turns.{settles_all_sum}}
 use Rattle.moo_http.proofs.listen.settle_rest.Goals as goal
 
 pub loop-init : goal.loop-init
-loop-init g c = record { asked = 0; settled = (refl, refl, refl) }
+loop-init g c = record { asked = 0; settled = (refl, refl, refl); left = omega arith }
 
 -- asking changes no sum
 pub settle_one-requires : goal.settle_one-requires
@@ -13,12 +13,19 @@ settle_one-requires g c =
 pub loop-preserved : goal.loop-preserved
 loop-preserved g c =
     let it = c.loop.invariant in
-    record { asked = suc it.asked; settled = (c.loop.arrivals, c.loop.served.answered, c.loop.served.failed, it.settled, c.settle_one.ensures) }
+    record {
+      asked = suc it.asked;
+      settled = (c.loop.arrivals, c.loop.served.answered, c.loop.served.failed, it.settled, c.settle_one.ensures.tells);
+      left = omega (arith, it.left, c.settle_one.ensures.more c.if-not-settle_one.false);
+    }
 
-pub returns : goal.returns
-returns g c = let it = c.loop.invariant in (it.asked, it.settled)
+pub returns-clause-tells : goal.returns-clause-tells
+returns-clause-tells g c = let it = c.loop.invariant in (it.asked, it.settled)
 
-pub returns-then-not-settle_one : goal.returns-then-not-settle_one
-returns-then-not-settle_one g c =
+pub returns-clause-none : goal.returns-clause-none
+returns-clause-none g c = inl (omega (arith, c.loop.invariant.left, c.loop-test.false))
+
+pub returns-then-not-settle_one-clause-tells : goal.returns-then-not-settle_one-clause-tells
+returns-then-not-settle_one-clause-tells g c =
     let it = c.loop.invariant in
-    (suc it.asked, (c.loop.arrivals, c.loop.served.answered, c.loop.served.failed, it.settled, c.settle_one.ensures))
+    (suc it.asked, (c.loop.arrivals, c.loop.served.answered, c.loop.served.failed, it.settled, c.settle_one.ensures.tells))
