@@ -19,7 +19,7 @@ from moolib.naming import Found, numbered
 from moolib.service import MOST_CALLS
 
 from moo_web.app import Reply
-from moo_web.forms.forms import Ambiguous, Field, Form, Me, Mistake, Names, number_at
+from moo_web.forms.forms import Ambiguous, Field, Form, Me, Mistake, ObjectLookup, number_at
 from moo_web.forms.handlers import TROUBLES, FormPages, FormResult, me_of
 from moo_web.forms.input import Mistyped, test_letters
 from moo_web.forms.views import NamesOf
@@ -60,7 +60,7 @@ def line_wrong(lines: list[str], number: int, wrong: Mistyped) -> LineWrong:
     return LineWrong(number, Mistake(wrong.reason, with_line(wrong.better) if wrong.better else "", offered))
 
 
-def items_in(text: str, names: Names, me: Me) -> list[Item]:
+def items_in(text: str, names: ObjectLookup, me: Me) -> list[Item]:
     """The calls of a text, each with its line. `LineWrong`: one can't be taken."""
     lines = all_lines(text)
     items: list[Item] = []
@@ -79,7 +79,7 @@ def items_in(text: str, names: Names, me: Me) -> list[Item]:
     return items
 
 
-def take_line(typed: str, number: int, items: list[Item], values: dict[str, str], names: Names, me: Me) -> None:
+def take_line(typed: str, number: int, items: list[Item], values: dict[str, str], names: ObjectLookup, me: Me) -> None:
     """Takes in a line. `Mistyped`, `Failed`: it can't be taken."""
     line = read_line(typed)
     if line.kind in ("command", "include"):
@@ -104,7 +104,7 @@ def take_line(typed: str, number: int, items: list[Item], values: dict[str, str]
     items.append(Item(text, line.name, ("", number)))
 
 
-def with_numbers(typed: str, line: Line, names: Names, me: Me) -> str:
+def with_numbers(typed: str, line: Line, names: ObjectLookup, me: Me) -> str:
     """The call or the value of a line, with numbers in place of names of objects. `Mistyped`, `Ambiguous`: at which letter one isn't known."""
     call = read_begun(line.text) if line.kind == "call" else None
     first, last = (call.begin, call.end) if call else (0, len(line.text))

@@ -1,7 +1,7 @@
 """Forms as data: the fields of each, what kinds of things are typed into them, and the calls that are made of them.
 
     filled = read_form(FORMS["rename"], {"object": "#4", "name": "Lamp"}, names, Me(17, False))
-    items_of(FORMS["rename"], filled)      [Item('set(#4, "name", "Lamp")')]
+    items_of_form(FORMS["rename"], filled)      [Item('set(#4, "name", "Lamp")')]
 
 The forms themselves are in `catalogue`. What was typed comes as texts under the keys of the fields: of a value also its kind under
 `KEY.kind`, of letters and of several objects one text for each under `KEY.r` or `KEY.5`, of a flag what it was under `KEY.was`.
@@ -155,7 +155,7 @@ class Ambiguous(Mistyped):
         self.choices = (*((f"#{number}", label) for number, label in choices), *typed)
 
 
-class Names(Protocol):
+class ObjectLookup(Protocol):
     """What forms ask about the objects of a world."""
 
     def is_object(self, number: int) -> bool:
@@ -176,7 +176,7 @@ class Filled:
     mistakes: dict[str, Mistake] = dataclasses.field(default_factory=dict)
 
 
-def object_value(typed: str, names: Names, me: Me, may_be_nothing: bool = False) -> str:
+def object_value(typed: str, names: ObjectLookup, me: Me, may_be_nothing: bool = False) -> str:
     """An object that is typed by its number, its name, or both. `Mistyped`, `Ambiguous`: it isn't one, or it could be several."""
     word = typed.strip()
     if may_be_nothing and word.lower() in WORDS_FOR_NOTHING:
@@ -201,14 +201,14 @@ def object_value(typed: str, names: Names, me: Me, may_be_nothing: bool = False)
     raise Mistyped(f"No object is named “{clipped(word)}”. Write its number, such as #5, or its name.")
 
 
-def known_number(number: int, names: Names) -> int:
+def known_number(number: int, names: ObjectLookup) -> int:
     """The number of an object that is there. `Mistyped`: it isn't."""
     if not names.is_object(number):
         raise Mistyped(f"There is no object #{number}. If there was one, it was recycled.")
     return number
 
 
-def shown_number(name: str, number: int, names: Names) -> int:
+def shown_number(name: str, number: int, names: ObjectLookup) -> int:
     """The number of an object that is typed as pages show it. `Mistyped`, `Ambiguous`: it isn't there, or has another name."""
     known_number(number, names)
     is_cut = name.endswith("…")
@@ -219,7 +219,7 @@ def shown_number(name: str, number: int, names: Names) -> int:
     raise Ambiguous(f"#{number} isn’t named “{clipped(name)}”. Choose one:", choices)
 
 
-def several_objects(field: Field, typed: Typed, names: Names, me: Me) -> list[str]:
+def several_objects(field: Field, typed: Typed, names: ObjectLookup, me: Me) -> list[str]:
     """Objects that are ticked, or typed with commas or line ends between them."""
     ticked = [f"#{key.split('.')[1]}" for key in typed if re.fullmatch(re.escape(field.key) + r"\.\d{1,10}", key)]
     words = [word for word in re.split(r"[,\r\n]+", typed.get(field.key, "")) if word.strip()]
@@ -239,12 +239,12 @@ def property_name(typed: str) -> str:
     return text_value(typed, LONGEST_NAME)
 
 
-def any_value(field: Field, typed: Typed, names: Names, me: Me) -> str:
+def any_value(field: Field, typed: Typed, names: ObjectLookup, me: Me) -> str:
     """A value of the kind that was chosen beside it."""
     return value_of_kind(typed.get(f"{field.key}.kind", "text"), typed.get(field.key, ""), names, me)
 
 
-def value_of_kind(kind: str, text: str, names: Names, me: Me) -> str:
+def value_of_kind(kind: str, text: str, names: ObjectLookup, me: Me) -> str:
     """A value that is typed as this kind. `Mistyped`, `Ambiguous`: it can't be taken."""
     if kind == "number":
         return number_value(text)
@@ -253,7 +253,7 @@ def value_of_kind(kind: str, text: str, names: Names, me: Me) -> str:
     return value_with_names(text, names, me) if kind == "written" else text_value(text)
 
 
-def value_with_names(text: str, names: Names, me: Me) -> str:
+def value_with_names(text: str, names: ObjectLookup, me: Me) -> str:
     """A value that is typed as it is written, with names of objects or without. `Mistyped`, `Ambiguous`: at which letter it can't be taken."""
     try:
         return written_value(text)
@@ -269,7 +269,7 @@ def value_with_names(text: str, names: Names, me: Me) -> str:
     return written_value(text)
 
 
-def number_at(text: str, found: Found, names: Names, me: Me) -> str:
+def number_at(text: str, found: Found, names: ObjectLookup, me: Me) -> str:
     """The number of the object whose name is in a text. `Mistyped`, `Ambiguous`: as `object_value`, with the letter at which the name begins."""
     try:
         return object_value(found.word, names, me, may_be_nothing=True)
@@ -327,7 +327,7 @@ def verb_value(typed: str) -> str:
 READERS: dict[str, Callable[[str], str]] = {"text": text_value, "name": property_name, "number": number_value, "verb": verb_value}
 
 
-def read_field(field: Field, typed: Typed, names: Names, me: Me) -> Any:
+def read_field(field: Field, typed: Typed, names: ObjectLookup, me: Me) -> Any:
     """What a field was given, as a value or as several; None if nothing. `Mistyped`: it can't be taken."""
     text, kind = typed.get(field.key, ""), field.kind
     if kind == "objects":
@@ -355,7 +355,7 @@ def is_asked(field: Field, filled: Filled) -> bool:
     return "=" not in field.section or condition(field.section).holds(filled.values)
 
 
-def read_form(form: Form, typed: Typed, names: Names, me: Me) -> Filled:
+def read_form(form: Form, typed: Typed, names: ObjectLookup, me: Me) -> Filled:
     """What a form was given."""
     filled = Filled({"me": f"#{me.number}"})
     for field in form.fields:
@@ -367,12 +367,12 @@ def read_form(form: Form, typed: Typed, names: Names, me: Me) -> Filled:
             choices = mistyped.choices if isinstance(mistyped, Ambiguous) else ()
             lines = mistyped.lines if field.kind == "value" else ""
             filled.mistakes[field.key] = Mistake(mistyped.reason, mistyped.better, choices, lines)
-    if not filled.mistakes and not items_of(form, filled):
+    if not filled.mistakes and not items_of_form(form, filled):
         filled.mistakes[form.fields[-1].key] = Mistake("Nothing is changed yet.")
     return filled
 
 
-def items_of(form: Form, filled: Filled) -> list[Item]:
+def items_of_form(form: Form, filled: Filled) -> list[Item]:
     """The calls of a form, with names such as $new1 for objects that it makes."""
     several = (filled.values.get(form.each) or [None]) if form.each else [None]
     items = []

@@ -17,7 +17,7 @@ from moolib.errors import Failed
 from moo_web.app import Reply
 from moo_web.forms import catalogue
 from moo_web.forms.excuses import Excuse, excuse
-from moo_web.forms.forms import Form, Me, Mistake, items_of, read_form
+from moo_web.forms.forms import Form, Me, Mistake, items_of_form, read_form
 from moo_web.forms.input import Mistyped
 from moo_web.forms.owners import owners_asked
 from moo_web.forms.petitions import asked_of, petition_item
@@ -31,7 +31,7 @@ from moo_web.journal.segments import Accepted
 from moo_web.journal.jobs import Busy, Stopped, TooMuch, Unknown
 from moo_web.pages.accepting import accepting
 from moo_web.pages.pages import Visit
-from moo_web.pages.sentences import is_grave, linked, told
+from moo_web.pages.sentences import is_grave, preview_link, told
 from moo_web.paths import url_for, whole_number
 from moo_web.world.door import TooLong, Unreachable
 from moo_web.world.things import Thing, World
@@ -159,7 +159,7 @@ class FormPages:
             filled = read_form(form, typed, names, me)
         if filled.mistakes:
             return self.page(visit, form, typed, filled.mistakes, FormResult(status=422))
-        return self.sent(visit, form, typed, items_of(form, filled), go)
+        return self.sent(visit, form, typed, items_of_form(form, filled), go)
 
     def sent(self, visit: Visit, form: Form, typed: dict[str, str], items: list[Item], go: str) -> Reply:
         """Previews or applies calls, or the petition of them."""
@@ -213,7 +213,7 @@ class FormPages:
         names, me = NamesOf(visit.world), me_of(visit)
         about = self.about(visit, form, typed)
         shown = (*found.preview.changes, *found.preview.inner) if found.preview else ()
-        link = linked(visit.link, [(change.call, change.answer) for change in shown])
+        link = preview_link(visit.link, [(change.call, change.answer) for change in shown])
         offers = self.offers(visit, form, about) if about >= 0 and not found.trouble else {}
         view = view_of(form, typed, mistakes, names, me, offers)
         return visit.page(

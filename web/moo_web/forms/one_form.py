@@ -7,8 +7,8 @@ from collections.abc import Callable, Mapping
 from moolib.values import written
 
 from moo_web.app import Reply
-from moo_web.forms.entries import Differing, key_of, sum_of_typed, typed_with
-from moo_web.forms.exits import exits_in, free_direction
+from moo_web.forms.entries import ChangedEntries, property_key, sum_of_typed, typed_with
+from moo_web.forms.exits import typed_exits, free_direction
 from moo_web.forms.forms import Field, Form, Typed, object_value
 from moo_web.forms.handlers import TROUBLES, FormPages, FormResult, me_of
 from moo_web.forms.input import Mistyped
@@ -77,7 +77,7 @@ class EntriesPages(FormPages):
             found = form.differing(typed, names, me)
         return self.decided(visit, form, typed, found, go)
 
-    def decided(self, visit: Visit, form: EntriesForm, typed: dict[str, str], found: Differing, go: str) -> Reply:
+    def decided(self, visit: Visit, form: EntriesForm, typed: dict[str, str], found: ChangedEntries, go: str) -> Reply:
         """The page for what was changed: its mistakes, that it is nothing, or its preview. What was sent before may be there by now."""
         typed = typed_with(form.entries, typed)
         if gone := unknown_texts(form, visit.form):
@@ -136,7 +136,7 @@ class ObjectPages(EntriesPages):
         """What the address says for the fields of a new object: its name and place, properties by their names, and `from`, to which it leads."""
         keys = {"name": "name", "place": "place"} | {field.label: field.key for field in form.fields if field.key.startswith("p")}
         found = {keys[name]: text for name, text in visit.fields.items() if name in keys}
-        start, exits = whole_number(visit.fields.get("from", "")), key_of("p", visit.pages.sight_names.exits)
+        start, exits = whole_number(visit.fields.get("from", "")), property_key("p", visit.pages.sight_names.exits)
         if start is not None and start in visit.world.things and exits in form.keys:
             found.setdefault(exits, exit_to(visit, start))
         return found
@@ -145,7 +145,7 @@ class ObjectPages(EntriesPages):
 def exit_to(visit: Visit, room: int) -> str:
     """The line of an exit to a room, in a direction whose way back is free there."""
     (value,) = visit.answers([f"get(#{room}, {written(visit.pages.sight_names.exits)})"])
-    return f"{free_direction(exits_in(value) or [])}: {NamesOf(visit.world).short(room)}"
+    return f"{free_direction(typed_exits(value) or [])}: {NamesOf(visit.world).short(room)}"
 
 
 class ClassPages(EntriesPages):

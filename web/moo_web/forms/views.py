@@ -109,7 +109,7 @@ class View:
 ACCEPTS = "accept_list(<object>)"
 
 
-def keys_of(field: Field, typed: Mapping[str, str]) -> list[str]:
+def field_keys(field: Field, typed: Mapping[str, str]) -> list[str]:
     """The fields of a request that belong to a field of a form."""
     return [key for key in typed if key == field.key or key.startswith(f"{field.key}.")]
 
@@ -171,7 +171,7 @@ def reads_at_first(form: Form, typed: Mapping[str, str], known: Mapping[str, str
     """By the key of a field: the reading call that tells what is there now, if nothing is typed in it yet."""
     found = {}
     for field in form.fields:
-        if field.now and pattern(field.now).keys <= known.keys() and not keys_of(field, typed):
+        if field.now and pattern(field.now).keys <= known.keys() and not field_keys(field, typed):
             found[field.key] = pattern(field.now).filled(known)
     return found
 
@@ -194,7 +194,7 @@ def typed_at_first(form: Form, typed: Mapping[str, str], answers: Mapping[str, A
     """What is typed in a form at first: what its address says, what is there now, and what is usual. An answer may be a refusal."""
     found = dict(typed)
     for field in form.fields:
-        if keys_of(field, typed):
+        if field_keys(field, typed):
             if field.kind in ("object", "place") and typed.get(field.key, "").isdigit():
                 found[field.key] = f"#{typed[field.key]}"
             continue
@@ -243,11 +243,11 @@ def shown_field(field: Field, typed: Mapping[str, str], mistake: Mistake | None,
         offered_to(field, typed, names) if field.kind == "objects" else (),
         suggested_to(field, names, me) if field.kind in ("object", "place") else (),
         mistake,
-        named_in(typed.get(field.key, ""), names) if field.kind in ("object", "place") else "",
+        object_named(typed.get(field.key, ""), names) if field.kind in ("object", "place") else "",
     )
 
 
-def named_in(text: str, names: NamesOf) -> str:
+def object_named(text: str, names: NamesOf) -> str:
     """The object whose number was typed, with its name; empty, if it is another text."""
     found = re.fullmatch(r"\s*#(\d{1,10})\s*", text)
     return names.short(int(found[1])) if found and names.is_object(int(found[1])) else ""

@@ -9,9 +9,9 @@ from typing import Union
 from moolib.batches import Item
 from moolib.values import Obj, written
 
-from moo_web.forms.entries import Differing, Entry, differing, key_of
-from moo_web.forms.exits import HINT, Exit, ExitsEntry, exits_in, exits_text
-from moo_web.forms.forms import Field, Form, Me, Names, Typed
+from moo_web.forms.entries import ChangedEntries, Entry, changed_entries, property_key
+from moo_web.forms.exits import HINT, TypedExit, ExitsEntry, typed_exits, exits_text
+from moo_web.forms.forms import Field, Form, Me, ObjectLookup, Typed
 from moo_web.forms.views import NamesOf, typed_now
 from moo_web.pages.lists import part_of
 from moo_web.pages.pages import Visit
@@ -44,11 +44,11 @@ class EntriesForm(Form):
     part: int = 1
     parts: int = 1
 
-    def differing(self, typed: Typed, names: Names, me: Me) -> Differing:
+    def differing(self, typed: Typed, names: ObjectLookup, me: Me) -> ChangedEntries:
         """The calls for what was changed, and the mistakes."""
-        found = differing(self.entries, typed, names, me)
+        found = changed_entries(self.entries, typed, names, me)
         items = [*self.first, *found.items] if found.items else []
-        return Differing(items, found.mistakes)
+        return ChangedEntries(items, found.mistakes)
 
 
 def form_of(form: EntriesForm, *hidden: Field) -> EntriesForm:
@@ -140,8 +140,8 @@ def property_entry(visit: Visit, it: str, one: Property, number: int) -> Entry:
     short = NamesOf(visit.world).short
     is_own = one.source == number
     hint = "" if is_own or one.source is None else f"As {short(one.source)} has it, until you change it."
-    key, section = key_of("p", one.name), "" if one.name.lower() in first_names(visit) else OTHERS
-    exits = exits_in(one.value) if is_exits(visit, one) else None
+    key, section = property_key("p", one.name), "" if one.name.lower() in first_names(visit) else OTHERS
+    exits = typed_exits(one.value) if is_exits(visit, one) else None
     if exits is not None:
         return exits_entry(visit, it, key, one, exits)
     field = Field(key, one.name, "value", hint, section=section)
@@ -151,26 +151,26 @@ def property_entry(visit: Visit, it: str, one: Property, number: int) -> Entry:
     return Entry(field, shown, written(one.value), setting(it, one.name))
 
 
-def exits_entry(visit: Visit, it: str, key: str, one: Property, exits: list[Exit]) -> ExitsEntry:
+def exits_entry(visit: Visit, it: str, key: str, one: Property, exits: list[TypedExit]) -> ExitsEntry:
     """The exits of a room."""
     short = NamesOf(visit.world).short
     field = Field(key, one.name, "exits", HINT)
     known = {exits_text([each], short).strip(): each for each in exits}
     return ExitsEntry(
         field, {key: exits_text(exits, short), f"{key}.back": "on"}, written(one.value), setting(it, one.name), subject=it, known=known,
-        exits_of=lambda to: exits_of(visit, to), short=short,
+        exits_of=lambda to: readable_exits(visit, to), short=short,
     )  # fmt: skip
 
 
-def exits_of(visit: Visit, number: int) -> Union[list[Exit], None]:
+def readable_exits(visit: Visit, number: int) -> Union[list[TypedExit], None]:
     """The exits of a place, as far as the person may read them."""
     (value,) = visit.answers([f"get(#{number}, {written(visit.pages.sight_names.exits)})"])
-    return exits_in(value)
+    return typed_exits(value)
 
 
 def in_order(visit: Visit, entries: list[Entry]) -> tuple[Entry, ...]:
     """The entries in the order of the page: the name, what it looks like, its exits, its place, other properties, marks."""
     sections = ["", OTHERS, MARKED]
     names = visit.pages.sight_names
-    first = {"name": 0, key_of("p", names.description): 1, key_of("p", names.exits): 2, "place": 3}
+    first = {"name": 0, property_key("p", names.description): 1, property_key("p", names.exits): 2, "place": 3}
     return tuple(sorted(entries, key=lambda entry: (sections.index(entry.field.section), first.get(entry.field.key, 4))))

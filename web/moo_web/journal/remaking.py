@@ -16,8 +16,8 @@ def remade(inverses: Inverses, number: int) -> list[str]:
     """The calls that make an object again, as it is before it goes."""
     draft = inverses.draft
     steps = [
-        *made(draft, number), *defined(inverses, number), *inherited(inverses, number), *verbs(inverses, number), *linked(inverses, number),
-        *inverses.quota_steps(draft.mark(number, "owner")),
+        *made(draft, number), *defined(inverses, number), *inherited(inverses, number), *verbs(inverses, number),
+        *rejoined(inverses, number), *inverses.quota_steps(draft.mark(number, "owner")),
     ]  # fmt: skip
     return [call_text(step.name, step.given) for step in steps]
 
@@ -62,7 +62,7 @@ def verbs(inverses: Inverses, number: int) -> list[UndoingCall]:
     return [UndoingCall("add_verb", (Obj(number), inverses.info_of(verb, draft.programmer), list(verb.args or ()))) for verb in whole]
 
 
-def linked(inverses: Inverses, number: int) -> list[UndoingCall]:
+def rejoined(inverses: Inverses, number: int) -> list[UndoingCall]:
     """Its place, its children with the slots that they lost, and its contents."""
     draft, it = inverses.draft, Obj(number)
     place = draft.mark(number, "location")

@@ -25,7 +25,7 @@ from moolib.errors import Failed
 
 from moo_web.journal.segments import SUM_LENGTH, Damaged, Segment, has_line
 from moo_web.journal.tail import LinesGone, Tail
-from moo_web.people.keeping import people_in, state_of
+from moo_web.people.keeping import people_in, state_of_accounts
 from moo_web.status.standbys import Progress
 
 VERSION = 1
@@ -42,7 +42,7 @@ With two it brings the folder COPY up to FOLDER, and ends. Exit status: 0 done, 
 Frame = tuple[dict[str, Any], bytes]
 
 
-class Place(NamedTuple):
+class SentLine(NamedTuple):
     """A line of a journal: the number of its segment, where it begins and ends there, and its sum."""
 
     segment: int
@@ -54,7 +54,7 @@ class Place(NamedTuple):
 class CopyRequest(NamedTuple):
     """What the other side has: its last lines, the newest first, and the SHA-256 of its accounts."""
 
-    have: list[Place]
+    have: list[SentLine]
     people: str
 
     def text(self) -> bytes:
@@ -66,7 +66,7 @@ def read_request(text: bytes) -> CopyRequest:
     """The request that a line is. `Failed`: it isn't one."""
     try:
         said = json.loads(text)
-        places = [Place(int(segment), int(start), int(end), str(sum_)) for segment, start, end, sum_ in said["have"]]
+        places = [SentLine(int(segment), int(start), int(end), str(sum_)) for segment, start, end, sum_ in said["have"]]
         request = CopyRequest(places, str(said["people"]))
     except (ValueError, TypeError, KeyError):
         raise Failed("standard input has no request: this is run by `moo-replay --follow --from`") from None
@@ -110,7 +110,7 @@ class Sender:
                 return
             time.sleep(PAUSE)
 
-    def common(self) -> Place | None:
+    def common(self) -> SentLine | None:
         """The newest line of the other side's that is here too. The tail goes on there; without any it begins with the first segment."""
         segments = self.tail.segments()
         for place in self.request.have:
@@ -120,7 +120,7 @@ class Sender:
                 self.tail.start, self.tail.end, self.tail.sum = place.start, place.end, place.sum
                 with open(segment.path, "rb") as file:
                     file.seek(place.start + SUM_LENGTH + 1)
-                    self.seq = number_in(json.loads(file.read(place.end - file.tell())))
+                    self.seq = world_number_in(json.loads(file.read(place.end - file.tell())))
                 return place
         return None
 
@@ -139,12 +139,12 @@ class Sender:
             kept.append(text)
             size += len(text)
         if segment:
-            self.seq = number_in(line.said())
+            self.seq = world_number_in(line.said())
             yield frame_of(segment, first, b"".join(kept))
 
     def people(self) -> Iterator[Frame]:
         """The accounts, if they have changed."""
-        state = state_of(self.folder)
+        state = state_of_accounts(self.folder)
         if state == self.people_state:
             return
         self.people_state = state
@@ -155,12 +155,12 @@ class Sender:
             yield {"k": "people", "length": len(text)}, text
 
 
-def number_in(said: dict[str, Any]) -> int:
+def world_number_in(said: dict[str, Any]) -> int:
     """The number of the world that a line of a journal has."""
     return int(said[NUMBERS[said["k"]]])
 
 
-def is_there(segment: Segment, place: Place) -> bool:
+def is_there(segment: Segment, place: SentLine) -> bool:
     """Whether a segment has this line at this place."""
     with open(segment.path, "rb") as file:
         return has_line(file, place.start, place.end, place.sum)
@@ -182,7 +182,7 @@ def send(folder: Path) -> None:
             progress.put(sender.seq)
 
 
-def bring_up(folder: Path, target: str) -> None:
+def bring_copy_up(folder: Path, target: str) -> None:
     """Brings a copy up to a folder, once."""
     from moo_web.journal.history import History
     from moo_web.journal.receiving import Copy
@@ -206,7 +206,7 @@ def main() -> None:
         if not said.folder.is_dir():
             raise Failed(f"{said.folder} isn't a folder")
         if said.copy:
-            bring_up(said.folder, said.copy)
+            bring_copy_up(said.folder, said.copy)
         else:
             send(said.folder)
     except LinesGone:

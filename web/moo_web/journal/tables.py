@@ -1,7 +1,7 @@
 """The accepted batches of one segment: where each is, whose it is, which calls it has, and which objects it names.
 
-`Growing` is that of a segment that is read on, in memory; `Kept` is that of a file beside a segment, of which the system has in memory what
-is looked at.
+`Growing` is that of a segment that is read on, in memory; `TableFile` is that of a file beside a segment, of which the system has in memory
+what is looked at.
 """
 
 from __future__ import annotations
@@ -21,7 +21,7 @@ from typing import Any, Iterator, NamedTuple, Sequence
 from moolib.calls import Call, call_name
 
 from moo_web.journal.prefixes import NAMED_LINES, LinePlace, Prefix, PrefixFile, index_path, read_prefix
-from moo_web.journal.segments import Accepted, Segment, accepted_of, sum_if_whole, text_in
+from moo_web.journal.segments import Accepted, Segment, accepted_of, line_json, sum_if_whole
 
 # An object that is named, in a text too.
 OBJECT_NUMBER = re.compile(r"#\s*([-+]?\d{1,10})")
@@ -48,7 +48,7 @@ def sum_of(said: object) -> str:
     return hashlib.sha256(IN_JSON.encode(said).encode()).hexdigest()[:32]
 
 
-def named_in(accepted: Accepted, asked: dict[int, set[int]]) -> set[int]:
+def objects_named(accepted: Accepted, asked: dict[int, set[int]]) -> set[int]:
     """The objects that a batch names, those that it made, and those of the petitions that it granted: `asked` has what petitions name."""
     found: set[int] = set()
     for call, answer in accepted.answered:
@@ -97,7 +97,7 @@ class Growing:
         self.open: dict[int, Open] = {}
 
     @classmethod
-    def of(cls, kept: Kept, asked: dict[int, set[int]]) -> Growing:
+    def of(cls, kept: TableFile, asked: dict[int, set[int]]) -> Growing:
         """The same batches, to be read on."""
         grown, prefix = cls(kept.segment, asked), kept.prefix
         grown.intents, grown.outcomes, grown.sums = (array.array(NUMBERS, each) for each in (kept.intents, kept.outcomes, kept.sums))
@@ -131,7 +131,7 @@ class Growing:
         now = sum_if_whole(self.sum, raw)
         if now is None:
             return False
-        self.take_in(json.loads(text_in(raw).decode()), self.end)
+        self.take_in(json.loads(line_json(raw).decode()), self.end)
         self.last.append(LinePlace(self.end, now))
         self.end, self.lines, self.sum = self.end + len(raw), self.lines + 1, now
         return True
@@ -163,7 +163,7 @@ class Growing:
         self.sums.append(sum_of_calls(accepted.who, sum_of(accepted.calls)))
         self.note_petitions(accepted, place)
         self.of_people.setdefault(accepted.who.lower(), array.array(PLACES)).append(place)
-        for number in named_in(accepted, self.asked):
+        for number in objects_named(accepted, self.asked):
             self.of_objects.setdefault(number, array.array(PLACES)).append(place)
 
     def note_petitions(self, accepted: Accepted, place: int) -> None:
@@ -209,7 +209,7 @@ class Growing:
         return b"".join([*(part.tobytes() for part in parts), words])
 
 
-class Kept:
+class TableFile:
     """The batches of a prefix, of the file beside its segment. `ValueError`, `OSError`: the file isn't right, or isn't there any more."""
 
     SIZES = 6
@@ -283,21 +283,21 @@ def places_with(wanted: int, sums: array.array[int], at: int) -> Iterator[int]:
         at += 1
 
 
-def kept_beside(segments: Sequence[Segment]) -> dict[Path, Kept]:
+def kept_beside(segments: Sequence[Segment]) -> dict[Path, TableFile]:
     """What the files beside these segments say, by the segments' paths: of each that has one which is right.
 
     A first look at a long journal takes the sums of all of them, side by side.
     """
     if len(segments) < 2:
-        return {segment.path: kept for segment in segments if (kept := kept_of(segment))}
+        return {segment.path: kept for segment in segments if (kept := table_file_of(segment))}
     with ThreadPoolExecutor(AT_ONCE) as pool:
-        return {segment.path: kept for segment, kept in zip(segments, pool.map(kept_of, segments)) if kept}
+        return {segment.path: kept for segment, kept in zip(segments, pool.map(table_file_of, segments)) if kept}
 
 
-def kept_of(segment: Segment) -> Kept | None:
+def table_file_of(segment: Segment) -> TableFile | None:
     """What the file beside a segment says. None: there is none, or it isn't right."""
     found = read_prefix(segment)
     try:
-        return Kept(segment, found) if found else None
+        return TableFile(segment, found) if found else None
     except (OSError, ValueError, KeyError, TypeError):
         return None

@@ -21,7 +21,7 @@ from moo_web.paths import url_for
 from moo_web.people.file import Wrong
 from moo_web.people.links import LINK_SECONDS
 from moo_web.people.people import Listed, People
-from moo_web.traffic.hosts import LOCAL, name_in
+from moo_web.traffic.hosts import LOCAL, host_name_in
 from moo_web.world.asking import Moved
 from moo_web.world.door import Unreachable
 
@@ -185,5 +185,5 @@ def link_to(request: Request, secret: str) -> str:
     """A link for a password, with the address by which the browser has asked."""
     origin, host = request.line("origin"), request.line("host")
     if urllib.parse.urlsplit(origin).netloc != host:
-        origin = f"{'http' if name_in(host.lower()) in LOCAL else 'https'}://{host}"
+        origin = f"{'http' if host_name_in(host.lower()) in LOCAL else 'https'}://{host}"
     return origin + url_for("link", key=secret)

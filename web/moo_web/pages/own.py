@@ -9,7 +9,7 @@ from moo_web.pages.sign import CROWDED, SHORTEST_PASSWORD, new_password, sentenc
 from moo_web.paths import url_for
 from moo_web.people import sessions
 from moo_web.people.file import Wrong
-from moo_web.people.people import Crowded, People, TooMany, WrongPassword
+from moo_web.people.people import Crowded, People, TooManyTries, WrongPassword
 from moo_web.people.secret import mark_of
 from moo_web.people.tokens import LONGEST_LABEL, Terms
 
@@ -43,7 +43,7 @@ class OwnPages:
             self.people.set_password(visit.name, new)
         except WrongPassword:
             return self.show(visit, "That isn’t your present password.", 403)
-        except TooMany as wait:
+        except TooManyTries as wait:
             return self.show(visit, told_wait(wait), 429)
         except Crowded:
             return self.show(visit, CROWDED, 503)

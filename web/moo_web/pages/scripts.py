@@ -18,7 +18,7 @@ MOST_READ = 20_000
 TEXT = "text/plain; charset=us-ascii"
 
 
-def page(visit: Visit, number: int) -> Reply:
+def script_page(visit: Visit, number: int) -> Reply:
     """The page of the script of an object."""
     thing = visit.world.things.get(number)
     if thing is None:
@@ -33,7 +33,7 @@ def file(visit: Visit, number: int) -> Reply:
     what = wanted(visit, thing) if thing else ""
     made = exported(visit, thing, what) if thing else None
     if thing is None or made is None:
-        return page(visit, number)
+        return script_page(visit, number)
     name = re.sub(r"[^a-z0-9]+", "-", thing.name.lower()).strip("-")[:40] or f"object-{number}"
     return Reply(200, made.text.encode("ascii", "replace"), TEXT, (("Content-Disposition", f'attachment; filename="{name}.moo"'), *POLICY))
 

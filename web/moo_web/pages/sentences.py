@@ -50,7 +50,7 @@ BUILT_IN = {
 }
 
 
-def linked(link: Link, calls: Sequence[tuple[str, str]]) -> Link:
+def preview_link(link: Link, calls: Sequence[tuple[str, str]]) -> Link:
     """The links of a preview, in which the objects that its calls make aren't there yet. Each call comes with its answer."""
     made = {call.made(answer) for call, answer in ((read_or_none(text), answer) for text, answer in calls) if call}
     new = Markup('<b>the new object</b> <span class="n">#{}</span>')

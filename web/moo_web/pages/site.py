@@ -46,7 +46,7 @@ def make_pages(
     writer.listeners += [holdings.take, index.take]
     pages = Pages(app, people, index, asker, history, rate)
     pages.sight_names = names
-    pages.open("GET", "programs", lambda request: programs.page(pages, request))
+    pages.open("GET", "programs", lambda request: programs.programs_page(pages, request))
     text = About(about, app.tell)
     pages.open("GET", "about", lambda request: text.page(pages, request))
     add_pages_to_sign_in(pages, people)
@@ -88,7 +88,7 @@ def add_pages_of_people(pages: Pages, people: People, previews: Previews, recent
 def add_pages_to_find(pages: Pages, definers: Definers, holdings: Holdings) -> None:
     """The pages of what is found."""
     pages.get("find", lambda visit: search.find(visit, definers, holdings))
-    pages.get("named", lambda visit, number: search.named(visit, holdings, number))
+    pages.get("named", lambda visit, number: search.what_names(visit, holdings, number))
 
 
 def add_pages_to_read(pages: Pages, history: History, names: SightNames) -> None:
@@ -99,7 +99,7 @@ def add_pages_to_read(pages: Pages, history: History, names: SightNames) -> None
     pages.get("roots", lists.roots)
     pages.get("object", lambda visit, number: objects.object_page(visit, history, names, number))
     pages.get("property", lambda visit, number: objects.one_property(visit, history, number))
-    pages.get("script", scripts.page)
+    pages.get("script", scripts.script_page)
     pages.get("download", scripts.file)
     pages.get("tree", lambda visit, what: maps.map_page(visit, names, what))
     pages.get("map", maps.first)

@@ -14,7 +14,7 @@ from moolib.values import written
 
 from moo_web.world.asking import Refusal
 from moo_web.world.dumped import ACCEPTS
-from moo_web.world.literals import Literal, Literals, has_word, key_of
+from moo_web.world.literals import Literal, Literals, has_word, place_key
 
 if TYPE_CHECKING:
     from moo_web.pages.pages import Visit
@@ -25,7 +25,7 @@ MOST_FOUND, MOST_INHERITED = 1000, 200
 MOST_OWNED = 20_000
 
 
-class Place(NamedTuple):
+class ValuePlace(NamedTuple):
     """A property on an object, whose value is its own unless it is inherited. The name `ACCEPTS` is that of what the object accepts."""
 
     number: int
@@ -36,14 +36,14 @@ class Place(NamedTuple):
 class Found(NamedTuple):
     """What was found, in the order of the objects, and whether there may be more."""
 
-    places: list[Place]
+    places: list[ValuePlace]
     is_more: bool
 
 
 class Shown(NamedTuple):
     """A place with the value that moo says it has."""
 
-    place: Place
+    place: ValuePlace
     value: Any
 
 
@@ -63,14 +63,14 @@ def names(value: Any, number: int) -> bool:
     return number in objects_in([value])
 
 
-def shown(visit: Visit, places: Iterable[Place]) -> list[Shown]:
+def shown_places(visit: Visit, places: Iterable[ValuePlace]) -> list[Shown]:
     """Places with their values, without those that the person may not read."""
     some = list(places)
     told = visit.answers([call_of(place) for place in some])
     return [Shown(place, value) for place, value in zip(some, told) if not isinstance(value, Refusal)]
 
 
-def call_of(place: Place) -> str:
+def call_of(place: ValuePlace) -> str:
     """What is asked for the value at a place."""
     return f"accept_list(#{place.number})" if place.name == ACCEPTS else f"get(#{place.number}, {written(place.name)})"
 
@@ -99,7 +99,7 @@ class Finding:
         hidden: dict[int, list[str]] = {}
         open_rows = (row for row in rows if self.may_read(row) or self.note(row, hidden))
         first = list(itertools.islice(open_rows, most + 1))
-        own = [Place(row.number, row.name) for row in first]
+        own = [ValuePlace(row.number, row.name) for row in first]
         places = sorted([*self.confirmed(own), *self.inherited(hidden)])
         return Found(places[:most], len(places) > most)
 
@@ -113,17 +113,17 @@ class Finding:
             hidden.setdefault(row.number, []).append(row.name)
         return False
 
-    def confirmed(self, places: list[Place]) -> list[Place]:
+    def confirmed(self, places: list[ValuePlace]) -> list[ValuePlace]:
         """Those that moo says to the person to be the object's own."""
         told = self.visit.answers([f"is_clear_property(#{place.number}, {written(place.name)})" for place in places if place.name != ACCEPTS])
         answers = iter(told)
         return [place for place in places if place.name == ACCEPTS or next(answers) == 0]
 
-    def inherited(self, hidden: dict[int, list[str]]) -> list[Place]:
+    def inherited(self, hidden: dict[int, list[str]]) -> list[ValuePlace]:
         """Values that the person may read on objects of their own alone, which inherit them."""
         chains = ((one, self.visit.world.chain(one)[1:]) for one in (self.owned if hidden else ()))
         some = (
-            Place(one, name, True) for one, chain in chains for thing in chain for name in hidden.get(thing.number, ())
-            if all(key_of(one, name) != key_of(row.number, row.name) for row in self.literals.of_object(one))
+            ValuePlace(one, name, True) for one, chain in chains for thing in chain for name in hidden.get(thing.number, ())
+            if all(place_key(one, name) != place_key(row.number, row.name) for row in self.literals.of_object(one))
         )  # fmt: skip
-        return [each.place for each in shown(self.visit, itertools.islice(some, MOST_INHERITED)) if self.is_meant(each.value)]
+        return [each.place for each in shown_places(self.visit, itertools.islice(some, MOST_INHERITED)) if self.is_meant(each.value)]

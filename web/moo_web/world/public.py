@@ -35,7 +35,7 @@ def fact_of(world: World, thing: Thing, what: str) -> Any:
     """A fact of an object: a value."""
     if what in ("children", "contents"):
         links = world.children if what == "children" else world.contents
-        return listed(links.get(thing.number, ()))
+        return listed_objects(links.get(thing.number, ()))
     if what in ("parent", "owner", "location"):
         return Obj({"parent": thing.parent, "owner": thing.owner, "location": thing.location}[what])
     if what == "name":
@@ -43,6 +43,6 @@ def fact_of(world: World, thing: Thing, what: str) -> Any:
     return 1 if what == "valid" else int(thing.has("player" if what == "is_player" else what))
 
 
-def listed(numbers: Iterable[int]) -> list[Obj]:
+def listed_objects(numbers: Iterable[int]) -> list[Obj]:
     """These objects as a list."""
     return [Obj(number) for number in numbers]
