@@ -19,10 +19,10 @@ from moolib.naming import Found, numbered
 from moolib.service import MOST_CALLS
 
 from moo_web.app import Reply
-from moo_web.forms.forms import Ambiguous, Field, Form, Me, Mistake, ObjectLookup, number_at
+from moo_web.forms.forms import Ambiguous, Field, Form, Me, Mistake, number_at
 from moo_web.forms.handlers import TROUBLES, FormPages, FormResult, me_of
 from moo_web.forms.input import Mistyped, test_letters
-from moo_web.forms.views import NamesOf
+from moo_web.forms.lookup import ObjectLookup
 from moo_web.pages.pages import Visit
 from moo_web.paths import url_for
 
@@ -145,7 +145,7 @@ class BatchPages(FormPages):
         """The calls of the text; if the plain letters are wanted in place of others, of the text with these."""
         while True:
             try:
-                return items_in(typed.get("text", ""), NamesOf(visit.world), me_of(visit))
+                return items_in(typed.get("text", ""), ObjectLookup(visit.world), me_of(visit))
             except LineWrong as wrong:
                 if visit.form.get("better") != "text" or not wrong.mistake.better:
                     raise

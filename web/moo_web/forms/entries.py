@@ -16,8 +16,9 @@ from typing import NamedTuple
 
 from moolib.batches import Item
 
-from moo_web.forms.forms import Ambiguous, Field, Me, Mistake, ObjectLookup, Typed, flag_value, read_field
+from moo_web.forms.forms import Ambiguous, Field, Me, Mistake, Typed, flag_value, read_field
 from moo_web.forms.input import Mistyped
+from moo_web.forms.lookup import ObjectLookup
 from moo_web.forms.views import by_field, field_keys
 
 # What is beside a field, and isn't a part of what it says.

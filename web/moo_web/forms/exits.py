@@ -16,8 +16,9 @@ from moolib.batches import Item
 from moolib.values import Obj, written
 
 from moo_web.forms.entries import Entry
-from moo_web.forms.forms import Ambiguous, Me, ObjectLookup, Typed, filled_lines, object_value
+from moo_web.forms.forms import Ambiguous, Me, Typed, filled_lines, object_value
 from moo_web.forms.input import Mistyped, clipped, test_letters
+from moo_web.forms.lookup import ObjectLookup
 
 PAIRS = (
     ("north", "south"), ("east", "west"), ("northeast", "southwest"), ("northwest", "southeast"), ("up", "down"), ("in", "out"),

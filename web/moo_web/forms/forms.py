@@ -12,13 +12,14 @@ from __future__ import annotations
 import dataclasses
 import re
 from collections.abc import Callable, Mapping, Sequence
-from typing import Any, Protocol
+from typing import Any
 
 from moolib.batches import Item
 from moolib.naming import Found, names_of_objects, numbered, replaced, shown_as
 from moolib.values import ERRORS
 
 from moo_web.forms.input import LONGEST_NAME, Mistyped, clipped, number_value, test_letters, text_value, written_value
+from moo_web.forms.lookup import ObjectLookup
 from moo_web.forms.patterns import condition, pattern
 
 Typed = Mapping[str, str]
@@ -153,19 +154,6 @@ class Ambiguous(Mistyped):
     def __init__(self, reason: str, choices: Sequence[tuple[int, str]] = (), typed: Sequence[tuple[str, str]] = ()) -> None:
         super().__init__(reason)
         self.choices = (*((f"#{number}", label) for number, label in choices), *typed)
-
-
-class ObjectLookup(Protocol):
-    """What forms ask about the objects of a world."""
-
-    def is_object(self, number: int) -> bool:
-        """Whether there is an object of this number."""
-
-    def named(self, word: str) -> list[tuple[int, str]]:
-        """The objects of just this name, in any case of letters, each with words that tell it from others."""
-
-    def like(self, word: str) -> list[tuple[int, str]]:
-        """The same of those whose name has this word in it."""
 
 
 @dataclasses.dataclass

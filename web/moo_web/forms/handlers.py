@@ -19,12 +19,13 @@ from moo_web.forms import catalogue
 from moo_web.forms.excuses import Excuse, excuse
 from moo_web.forms.forms import Form, Me, Mistake, items_of_form, read_form
 from moo_web.forms.input import Mistyped
+from moo_web.forms.lookup import ObjectLookup
 from moo_web.forms.owners import owners_asked
 from moo_web.forms.petitions import asked_of, petition_item
 from moo_web.forms.previewing import Change, Preview
 from moo_web.forms.previews import Done, Previews
 from moo_web.forms.untouched import is_untouched
-from moo_web.forms.views import NamesOf, Offer, chosen_of, known_values, reads_at_first, typed_at_first, view_of
+from moo_web.forms.views import Offer, chosen_of, known_values, reads_at_first, typed_at_first, view_of
 from moo_web.journal.notes import LONGEST_WORDS, NO_NOTE, Note, Unfit, fit_of, words_in
 from moo_web.journal.recent import Recent, Seen
 from moo_web.journal.segments import Accepted
@@ -34,6 +35,7 @@ from moo_web.pages.pages import Visit
 from moo_web.pages.sentences import is_grave, preview_link, told
 from moo_web.paths import url_for, whole_number
 from moo_web.world.door import TooLong, Unreachable
+from moo_web.world.index import NOT_THERE
 from moo_web.world.things import Thing, World
 
 GROUPS = (
@@ -46,7 +48,6 @@ MOST_OFFERED = 1000
 MAKING = ("create", "new", "class")
 # A page of a form may be kept by the browser of who sent it, for the way back to it.
 KEPT_BY_BROWSER = ("Cache-Control", "private, no-cache")
-NOT_THERE = ("E_INVARG", "E_INVIND")
 SIBLINGS = ("set", "clear", "property-rights", "delete-property", "verb-rights", "verb-args", "delete-verb")
 TROUBLES = {
     "busy": "The world didn’t answer in time, and nothing was sent to it. What you typed is still here: try again in a moment.",
@@ -112,7 +113,7 @@ class FormPages:
             return visit.refused("not found", 404)
         if visit.fields.get("go") == "preview":
             return self.attempt(visit, form, visit.fields)
-        names, me = NamesOf(visit.world), me_of(visit)
+        names, me = ObjectLookup(visit.world), me_of(visit)
         typed = offered_by(visit)
         known = known_values(form, typed, names, me)
         reads = reads_at_first(form, typed, known)
@@ -149,7 +150,7 @@ class FormPages:
         """The same, if moo answers."""
         if go == "edit":
             return self.page(visit, form, typed, {}, FormResult(trouble=TROUBLES["signed in"]))
-        names, me = NamesOf(visit.world), me_of(visit)
+        names, me = ObjectLookup(visit.world), me_of(visit)
         if form.key == "accept":
             choose_own(visit, typed, known_values(form, typed, names, me).get("object", ""))
         if go == "preview" and is_untouched(visit, form, typed, names, me):
@@ -210,7 +211,7 @@ class FormPages:
     def page(self, visit: Visit, form: Form, typed: Mapping[str, str], mistakes: Mapping[str, Mistake], found: FormResult) -> Reply:
         """The page of a form."""
         stay_with(visit)
-        names, me = NamesOf(visit.world), me_of(visit)
+        names, me = ObjectLookup(visit.world), me_of(visit)
         about = self.about(visit, form, typed)
         shown = (*found.preview.changes, *found.preview.inner) if found.preview else ()
         link = preview_link(visit.link, [(change.call, change.answer) for change in shown])
@@ -230,7 +231,7 @@ class FormPages:
 
     def about(self, visit: Visit, form: Form, typed: Mapping[str, str]) -> int:
         """The number of the object that a form is about, as far as it is known, or -1."""
-        return int(known_values(form, typed, NamesOf(visit.world), me_of(visit)).get("object", "#-1")[1:])
+        return int(known_values(form, typed, ObjectLookup(visit.world), me_of(visit)).get("object", "#-1")[1:])
 
     def more(self, form: Form, typed: Mapping[str, str], mistakes: Mapping[str, Mistake], found: FormResult) -> dict[str, object]:
         """What a page has besides."""

@@ -8,6 +8,7 @@ from typing import Any, Callable, Optional
 from markupsafe import Markup
 from moolib.batches import Item
 from moolib.calls import read_or_none
+from moolib.draft import PETITIONS
 from moolib.service import Said
 
 from moo_web.app import Reply
@@ -29,7 +30,6 @@ from moo_web.world.door import TooLong
 
 ON_A_PAGE = 10
 MOST_DECIDED = 10
-PETITIONS = "petitions()"
 
 
 @dataclasses.dataclass(frozen=True)

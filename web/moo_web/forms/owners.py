@@ -13,8 +13,7 @@ from moo_web.forms.petitions import Petition, petitions_told
 from moo_web.pages.batches import readable
 from moo_web.pages.pages import Visit
 from moo_web.pages.waiting import is_about_theirs, mine
-from moo_web.world.asking import READING
-from moo_web.world.door import TooLong
+from moo_web.world.door import QUESTION_SECONDS, TooLong
 from moo_web.world.overseeing import Overseeing
 from moo_web.world.petitioned import about, about_all
 
@@ -36,7 +35,7 @@ def of_others(visit: Visit, overseeing: Overseeing) -> list[Petition]:
     if not numbers:
         return []
     try:
-        facts = overseeing.facts(visit.number, visit.world.seq, time.monotonic() + READING, [PETITIONS])
+        facts = overseeing.facts(visit.number, visit.world.seq, time.monotonic() + QUESTION_SECONDS, [PETITIONS])
         told = facts.value(PETITIONS)
     except TooMuch:
         raise TooLong from None

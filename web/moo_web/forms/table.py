@@ -14,9 +14,9 @@ from moolib.values import NoValue, Obj, Value, read, written
 
 from moo_web.forms.entries import ChangedEntries, Entry, changed_entries, property_key
 from moo_web.forms.exits import typed_exits
-from moo_web.forms.forms import Field, Me, Mistake, ObjectLookup, Typed, object_value, value_of_kind
+from moo_web.forms.forms import Field, Me, Mistake, Typed, object_value, value_of_kind
 from moo_web.forms.input import Mistyped, typed_as
-from moo_web.forms.views import NamesOf
+from moo_web.forms.lookup import ObjectLookup
 from moo_web.forms.whole import EntriesForm, form_of, is_exits, may_write, pairs_on, setting
 from moo_web.pages.lists import part_of
 from moo_web.pages.pages import Visit
@@ -206,7 +206,7 @@ def cell_of(visit: Visit, it: str, key: str, one: Property, label: str, is_own: 
     """A cell with a value of its own, or empty."""
     kind, text = typed_as(one.value)
     if isinstance(one.value, Obj) and one.value.number >= 0:
-        text = NamesOf(visit.world).short(one.value.number)
+        text = ObjectLookup(visit.world).short(one.value.number)
     text = text or EMPTY
     return Cell(
         Field(key, label, "cell"), {key: text if is_own else ""}, written(one.value), setting(it, one.name), kind=kind, is_own=is_own,

@@ -5,11 +5,12 @@ from __future__ import annotations
 from collections.abc import Mapping
 
 from moo_web.forms.forms import Field, Form, Me
-from moo_web.forms.views import NamesOf, known_values, field_keys, reads_at_first, typed_at_first
+from moo_web.forms.lookup import ObjectLookup
+from moo_web.forms.views import known_values, field_keys, reads_at_first, typed_at_first
 from moo_web.pages.pages import Visit
 
 
-def is_untouched(visit: Visit, form: Form, typed: Mapping[str, str], names: NamesOf, me: Me) -> bool:
+def is_untouched(visit: Visit, form: Form, typed: Mapping[str, str], names: ObjectLookup, me: Me) -> bool:
     """Whether all that is typed is what is there now. A form without fields that show what is there does something by itself."""
     shown = [field for field in form.fields if field.now]
     if not shown:

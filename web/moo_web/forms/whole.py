@@ -11,8 +11,9 @@ from moolib.values import Obj, written
 
 from moo_web.forms.entries import ChangedEntries, Entry, changed_entries, property_key
 from moo_web.forms.exits import HINT, TypedExit, ExitsEntry, typed_exits, exits_text
-from moo_web.forms.forms import Field, Form, Me, ObjectLookup, Typed
-from moo_web.forms.views import NamesOf, typed_now
+from moo_web.forms.forms import Field, Form, Me, Typed
+from moo_web.forms.lookup import ObjectLookup
+from moo_web.forms.views import typed_now
 from moo_web.pages.lists import part_of
 from moo_web.pages.pages import Visit
 from moo_web.paths import url_for
@@ -95,12 +96,12 @@ def pairs_on(visit: Visit, number: int) -> list[tuple[int, str]]:
 
 def first_names(visit: Visit) -> tuple[str, ...]:
     """The properties that come first, in small letters, and are asked for even if their names may not be listed: a description and exits."""
-    return tuple(name.lower() for name in visit.pages.sight_names)
+    return tuple(name.lower() for name in visit.sight_names)
 
 
 def is_exits(visit: Visit, one: Property) -> bool:
     """Whether a property is the one that has the exits of a room."""
-    return one.name.lower() == visit.pages.sight_names.exits.lower()
+    return one.name.lower() == visit.sight_names.exits.lower()
 
 
 def may_write(visit: Visit, one: Property, is_new: bool = False) -> bool:
@@ -114,7 +115,7 @@ def own_entries(visit: Visit, thing: Thing, it: str) -> list[Entry]:
     """Name, place and marks of an object, as far as the person may write them."""
     if thing.owner != visit.number and not visit.is_wizard:
         return []
-    short = NamesOf(visit.world).short
+    short = ObjectLookup(visit.world).short
     place = "nowhere" if thing.location < 0 else short(thing.location)
     name, where = Field("name", "Name", "text"), Field("place", "Where", "place", "A place that accepts it, or: nowhere.")
     entries = [Entry(where, {"place": place}, f"#{thing.location}", lambda value: f"move({it}, {value})")]
@@ -137,7 +138,7 @@ def setting(it: str, name: str) -> Callable[[str], str]:
 
 def property_entry(visit: Visit, it: str, one: Property, number: int) -> Entry:
     """A property. Of a new object the number is -1, and the value that of its parent."""
-    short = NamesOf(visit.world).short
+    short = ObjectLookup(visit.world).short
     is_own = one.source == number
     hint = "" if is_own or one.source is None else f"As {short(one.source)} has it, until you change it."
     key, section = property_key("p", one.name), "" if one.name.lower() in first_names(visit) else OTHERS
@@ -153,7 +154,7 @@ def property_entry(visit: Visit, it: str, one: Property, number: int) -> Entry:
 
 def exits_entry(visit: Visit, it: str, key: str, one: Property, exits: list[TypedExit]) -> ExitsEntry:
     """The exits of a room."""
-    short = NamesOf(visit.world).short
+    short = ObjectLookup(visit.world).short
     field = Field(key, one.name, "exits", HINT)
     known = {exits_text([each], short).strip(): each for each in exits}
     return ExitsEntry(
@@ -164,13 +165,13 @@ def exits_entry(visit: Visit, it: str, key: str, one: Property, exits: list[Type
 
 def readable_exits(visit: Visit, number: int) -> Union[list[TypedExit], None]:
     """The exits of a place, as far as the person may read them."""
-    (value,) = visit.answers([f"get(#{number}, {written(visit.pages.sight_names.exits)})"])
+    (value,) = visit.answers([f"get(#{number}, {written(visit.sight_names.exits)})"])
     return typed_exits(value)
 
 
 def in_order(visit: Visit, entries: list[Entry]) -> tuple[Entry, ...]:
     """The entries in the order of the page: the name, what it looks like, its exits, its place, other properties, marks."""
     sections = ["", OTHERS, MARKED]
-    names = visit.pages.sight_names
+    names = visit.sight_names
     first = {"name": 0, property_key("p", names.description): 1, property_key("p", names.exits): 2, "place": 3}
     return tuple(sorted(entries, key=lambda entry: (sections.index(entry.field.section), first.get(entry.field.key, 4))))

@@ -9,7 +9,8 @@ from moolib.calls import call_text
 from moolib.values import Obj, Value
 
 from moo_web.journal.inverses import Inverses, UndoingCall
-from moolib.draft import BITS, NOTHING, Draft
+from moolib.draft import NOTHING, Draft
+from moolib.slots import BITS
 
 
 def remade(inverses: Inverses, number: int) -> list[str]:

@@ -13,7 +13,7 @@ from markupsafe import Markup
 from moo_web.app import Reply, Request
 from moo_web.forms.forms import Ambiguous, Me, Mistake, object_value
 from moo_web.forms.input import Mistyped
-from moo_web.forms.views import NamesOf
+from moo_web.forms.lookup import ObjectLookup
 from moo_web.journal.tables import sum_of
 from moo_web.pages.own import end_one
 from moo_web.pages.pages import Visit
@@ -139,7 +139,7 @@ class AccountPages:
 
 def renumbering(visit: Visit, one: Listed, typed: str) -> Deed:
     """What another object would do. `Mistyped`: what was typed isn't one that a person can act as."""
-    number = int(object_value(typed, NamesOf(visit.world), Me(visit.number, True))[1:])
+    number = int(object_value(typed, ObjectLookup(visit.world), Me(visit.number, True))[1:])
     if number == one.number:
         raise Mistyped("This is the object as which they act now.")
     thing = visit.world.things[number]

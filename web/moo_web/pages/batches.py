@@ -26,8 +26,8 @@ from moo_web.pages.links import link_named, name_shown
 from moo_web.pages.pages import Visit
 from moo_web.pages.sentences import LONGEST_OF_MANY, Link, in_words, told_call
 from moo_web.pages.words import REPLIES
-from moo_web.world.asking import READING, Refusal, batch_asked
-from moo_web.world.door import Answer
+from moo_web.world.asking import Refusal, batch_asked
+from moo_web.world.door import QUESTION_SECONDS, Answer
 
 OF_PROPERTIES = ("set", "clear_property", "set_property_info", "delete_property", "add_property")
 NOBODYS = ("petition",)
@@ -223,7 +223,7 @@ class Telling:
         if not self.is_own:
             return set()
         def ask(calls: list[str]) -> Answer:
-            return batch_asked(self.visit.asker.door, self.visit.number, calls, self.visit.world.seq, time.monotonic() + READING)
+            return batch_asked(self.visit.asker.door, self.visit.number, calls, self.visit.world.seq, time.monotonic() + QUESTION_SECONDS)
 
         lines = readable_lines(undone(self.batch).lines[:MOST_CALLS], self.visit.number, ask)
         found = (aspect_of(call, is_undoing=True) for line in lines if is_of_value(line) and (call := read_or_none(line)))

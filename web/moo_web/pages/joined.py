@@ -14,7 +14,6 @@ from moolib.values import written
 from moo_web.forms.input import clipped
 from moo_web.pages.pages import Visit
 from moo_web.pages.sight import DESTINATION, MOST_EXITS, Exit, exits_in, leading
-from moo_web.world.properties import SightNames
 
 # So many places are drawn.
 MOST_PLACES = 60
@@ -62,12 +61,12 @@ class Picture(NamedTuple):
     height: int
 
 
-def walked(visit: Visit, names: SightNames, start: int) -> tuple[ExitsByPlace, bool]:
+def walked(visit: Visit, start: int) -> tuple[ExitsByPlace, bool]:
     """The places that can be reached from one, each with its exits, the near ones first; and whether there are more."""
     found: ExitsByPlace = {}
     level = [start]
     while level and len(found) < MOST_PLACES:
-        found.update(exits_by_place(visit, names, level))
+        found.update(exits_by_place(visit, level))
         further = dict.fromkeys(exit.to for number in level for exit in found[number])
         level = [number for number in further if number in visit.world.things and number not in found]
         is_more = len(level) > MOST_PLACES - len(found)
@@ -75,9 +74,9 @@ def walked(visit: Visit, names: SightNames, start: int) -> tuple[ExitsByPlace, b
     return found, is_more
 
 
-def exits_by_place(visit: Visit, names: SightNames, numbers: list[int]) -> ExitsByPlace:
+def exits_by_place(visit: Visit, numbers: list[int]) -> ExitsByPlace:
     """The exits of some places, in two requests at most."""
-    values = visit.answers([f"get(#{number}, {written(names.exits)})" for number in numbers])
+    values = visit.answers([f"get(#{number}, {written(visit.sight_names.exits)})" for number in numbers])
     read = [exits_in(value)[:MOST_EXITS] for value in values]
     visit.answers([f'get(#{to}, "{DESTINATION}")' for some in read for words, to in some if not words and to in visit.world.things])
     return {number: leading(visit, some) for number, some in zip(numbers, read)}

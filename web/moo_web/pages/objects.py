@@ -17,7 +17,7 @@ from moo_web.pages.lists import part_of
 from moo_web.pages.pages import Visit
 from moo_web.pages.sight import sight_calls, sight_of
 from moo_web.world.asking import Refusal
-from moo_web.world.properties import MOST, Property, SightNames, grouped, names_calls, names_on, properties_of, property_calls
+from moo_web.world.properties import MOST, Property, grouped, names_calls, names_on, properties_of, property_calls
 from moo_web.world.things import NOTHING
 
 # So many of the objects under one, and in one, are on its page.
@@ -44,7 +44,7 @@ class Verb(NamedTuple):
     rights: str | None
 
 
-def object_page(visit: Visit, history: History, sight_names: SightNames, one: int) -> Reply:
+def object_page(visit: Visit, history: History, one: int) -> Reply:
     """The page of an object."""
     thing = visit.world.things.get(one)
     if thing is None:
@@ -53,22 +53,22 @@ def object_page(visit: Visit, history: History, sight_names: SightNames, one: in
     chain = [above.number for above in world.chain(one)]
     # All that the page asks is asked in two requests: what there is, and then all of that.
     visit.answers([
-        *names_calls(chain), *(f"verbs(#{each})" for each in chain), *accept_calls(chain), *sight_calls(sight_names, one),
-        *room_calls(visit, one, sight_names),
+        *names_calls(chain), *(f"verbs(#{each})" for each in chain), *accept_calls(chain), *sight_calls(visit, one),
+        *room_calls(visit, one),
     ])  # fmt: skip
     names = names_on(visit, one)
     part = part_of(names.pairs, visit.fields.get("page", ""), MOST)
     visit.answers([*property_calls(one, list(part.items), chain), *verb_calls(one, visit.answers([f"verbs(#{one})"])[0])])
     verbs, inherited = verbs_of(visit, chain)
-    sight = sight_of(visit, sight_names, one)
+    sight = sight_of(visit, one)
     accepts, told = accepting(visit, one), properties_of(visit, one, list(part.items))
     return visit.page(
         "pages/object.html", thing=thing, above=folded(chain[1:]), places=[place.number for place in world.places(one)][1:], flags=FLAGS,
-        children=world.children.get(one, ()), some=SOME, part=part, sight=sight, sight_names=sight_names,
+        children=world.children.get(one, ()), some=SOME, part=part, sight=sight,
         groups=grouped([each for each in told if each.is_shown], [], chain), unread=[each.name for each in told if not each.is_shown],
         unlisted=names.hidden, verbs=verbs, inherited=inherited, lately=lately(visit, history, one), accepts=accepts,
         owned=len(world.owned.get(one, ())), line=lambda batch: Telling(visit, history, batch).line(one),
-        buttons=buttons(visit, one, sight_names), more=more(visit, one, sight_names), way=way_to(visit, one, bool(accepts.numbers)),
+        buttons=buttons(visit, one), more=more(visit, one), way=way_to(visit, one, bool(accepts.numbers)),
     )  # fmt: skip
 
 

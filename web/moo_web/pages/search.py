@@ -115,7 +115,7 @@ def what_names(visit: Visit, holdings: Holdings, number: int) -> Reply:
 
 def sorted_out(visit: Visit, shown: list[Shown], number: int) -> Named:
     """What was found, by what it is."""
-    of_exits = {visit.pages.sight_names.exits.lower(), DESTINATION}
+    of_exits = {visit.sight_names.exits.lower(), DESTINATION}
     rows = [FoundRow(each.place, naming(visit, each.value, number)) for each in shown if each.place.name != ACCEPTS]
     exits = [row for row in rows if row.place.name.lower() in of_exits]
     others = [row for row in rows if row.place.name.lower() not in of_exits]

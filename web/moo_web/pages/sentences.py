@@ -8,13 +8,13 @@ from typing import Any, Callable
 
 from markupsafe import Markup, escape
 from moolib.calls import Call, read_or_none
+from moolib.draft import QUOTA
 from moolib.values import Obj, Value, written
 
 from moo_web.forms.input import clipped
 from moo_web.pages.glossary import LETTERS
 
 Link = Callable[[int], Markup]
-QUOTA = "ownership_quota"
 # So many calls of a petition are told one by one.
 FEW = 3
 LONGEST_OF_MANY = 1000

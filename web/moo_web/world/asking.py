@@ -8,9 +8,10 @@ from typing import Any, NamedTuple
 from moolib.errors import Failed
 from moolib.service import MOST_CALLS, Said
 
-from moo_web.world.door import Answer, Door, TooLong, Unreachable, batch_body
+from moo_web.world.door import QUESTION_SECONDS, Answer, Door, TooLong, Unreachable, batch_body
 
-READING = 10.0
+# So often what is of one number of the world is begun anew, if the world moves on meanwhile.
+TRIES = 5
 
 
 class Moved(Exception):
@@ -58,7 +59,7 @@ class Asker:
 
     def said(self, number: int, calls: list[str], seq: int, end: float | None = None) -> list[Said]:
         """The same as moo writes it. It waits until the moment `end` of the monotonic clock, or for ten seconds."""
-        end = time.monotonic() + READING if end is None else end
+        end = time.monotonic() + QUESTION_SECONDS if end is None else end
         found: list[Said] = []
         for first in range(0, len(calls), MOST_CALLS):
             found += self.part(number, calls[first : first + MOST_CALLS], seq, end)

@@ -10,14 +10,13 @@ import threading
 from typing import TYPE_CHECKING, Iterable, NamedTuple
 
 from moo_web.world.asking import Asker
-from moo_web.world.door import Unreachable
+from moo_web.world.door import QUESTION_SECONDS, Unreachable
 from moo_web.world.index import Index
 from moo_web.world.things import World
 
 if TYPE_CHECKING:
     from moo_web.pages.pages import Visit
 
-READING = 10.0
 MOST_FOUND = 100
 # So many of the names that fit are asked for again.
 MOST_ASKED = 1000
@@ -52,7 +51,7 @@ class Definers:
 
     def known(self, visit: Visit) -> dict[int, list[str]]:
         """All names, in the world of this visit."""
-        if not self.turn.acquire(timeout=READING):
+        if not self.turn.acquire(timeout=QUESTION_SECONDS):
             raise Unreachable
         try:
             return self.brought_up(visit)

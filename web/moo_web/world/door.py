@@ -15,6 +15,8 @@ from moolib.service import WAIT, Answer, Service, batch_body, packed
 from moo_web.traffic.turns import Turnstile
 
 __all__ = ["Answer", "Door", "TooLong", "Unreachable", "batch_body", "own_answer", "packed"]
+# How many seconds a page, or a program, waits for what it asks of moo.
+QUESTION_SECONDS = 10.0
 # A longer answer isn't taken, but for a dump.
 LONGEST_ANSWER = 1 << 24
 
