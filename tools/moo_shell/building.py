@@ -304,7 +304,9 @@ COMMANDS = {
         (rf"{THING}{TO}", chown),
     )),
     "verb": Command("@verb #5:look this none none", ((rf"{VERB}(?P<given>\s.*)?", add_verb),)),
-    "rmverb": Command("@rmverb #5:look", ((VERB, lambda found, known: [f"delete_verb({known.thing(found['thing'])}, {verbs_in(found)})"]),)),
+    "rmverb": Command("@rmverb #5:look", (
+        (VERB, lambda found, known: [f"delete_verb({known.thing(found['thing'])}, {verbs_in(found)})"]),
+    )),
     "args": Command("@args #5:look this none none", ((rf"{VERB}(?P<given>\s.+)", args_of_verb),)),
     "list": Command("@list #5:look", ((rf"{VERB}(?:\s.*)?", header),)),
     "verbs": Command("@verbs #5", ((THING, "verbs({thing})"),)),
