@@ -166,7 +166,7 @@ class Lists(unittest.TestCase):
             ((place,), (good,), {}), ((place, how), (good,), {"blame": {"move E_NOT": "place"}}),
             ((place, how), (good,), {"blame": {"set E_PERM": "place"}}), ((place, how), (good,), {"blame": {"move": "plaice"}}),
             ((place, how), (good,), {"each": "plaice"}), ((Field("a", "A", "text", now="get(<b>)"),), (), {}),
-            ((Field("a", "A", "text", section="b=c"),), (), {}),
+            ((Field("a", "A", "text", section="b=c"),), (), {}), ((Field("a", "A", "txet"),), (), {}),
         ):  # fmt: skip
             with self.subTest(fields=fields, steps=steps, more=more), self.assertRaises(ValueError):
                 Form("f", "F", "", fields, steps, **more)

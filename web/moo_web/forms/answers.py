@@ -12,7 +12,7 @@ from moo_web.forms.previews import Done
 from moo_web.journal.notes import Note, Unfit, fit_of, words_in
 from moo_web.journal.recent import Seen
 from moo_web.pages.pages import Visit
-from moo_web.pages.sign import sentence
+from moo_web.pages.words import sentence
 from moo_web.paths import url_for
 from moo_web.world.door import Answer, TooLong
 

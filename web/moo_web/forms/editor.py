@@ -19,11 +19,12 @@ from moolib.naming import Found, numbered
 from moolib.service import MOST_CALLS
 
 from moo_web.app import Reply
-from moo_web.forms.forms import Ambiguous, Field, Form, Me, Mistake, number_at
+from moo_web.forms.forms import Field, Form, Me, Mistake, number_at
 from moo_web.forms.handlers import TROUBLES, FormPages, FormResult, me_of
 from moo_web.forms.input import Mistyped, test_letters
 from moo_web.forms.lookup import ObjectLookup
 from moo_web.pages.pages import Visit
+from moo_web.pages.words import sentence
 from moo_web.paths import url_for
 
 MOST_LISTED = 400
@@ -55,7 +56,7 @@ def line_wrong(lines: list[str], number: int, wrong: Mistyped) -> LineWrong:
     def with_line(line: str) -> str:
         return "\n".join([*lines[: number - 1], line, *lines[number:]])
 
-    choices = wrong.choices if isinstance(wrong, Ambiguous) and sum(map(len, lines)) < LONGEST_WITH_CHOICES else ()
+    choices = wrong.choices if sum(map(len, lines)) < LONGEST_WITH_CHOICES else ()
     offered = tuple((with_line(line), words) for line, words in choices)
     return LineWrong(number, Mistake(wrong.reason, with_line(wrong.better) if wrong.better else "", offered))
 
@@ -71,7 +72,7 @@ def items_in(text: str, names: ObjectLookup, me: Me) -> list[Item]:
         except Mistyped as wrong:
             raise line_wrong(lines, number, wrong) from None
         except Failed as failed:
-            raise LineWrong(number, Mistake(f"{failed.reason[:1].upper()}{failed.reason[1:]}.")) from None
+            raise LineWrong(number, Mistake(sentence(failed.reason))) from None
         if len(items) > MOST_CALLS:
             raise LineWrong(number, Mistake(f"A batch has at most {MOST_CALLS:,} calls, and this is one more."))
     if not items:
@@ -94,7 +95,7 @@ def take_line(typed: str, number: int, items: list[Item], values: dict[str, str]
     except Mistyped as wrong_letter:
         raise Mistyped(wrong_letter.reason, typed.replace(line.text, wrong_letter.better, 1) if wrong_letter.better else "") from None
     if line.kind == "call" and (wrong := hint(line.text).partition("; \\help")[0]):
-        raise Mistyped(f"{wrong[:1].upper()}{wrong[1:]}.")
+        raise Mistyped(sentence(wrong))
     known = {"$me": f"#{me.number}", **values, **{item.name: item.name for item in items if item.name}}
     text = filled(with_numbers(typed, line, names, me), known)
     if line.kind == "value":

@@ -16,7 +16,7 @@ from typing import NamedTuple
 
 from moolib.batches import Item
 
-from moo_web.forms.forms import Ambiguous, Field, Me, Mistake, Typed, flag_value, read_field
+from moo_web.forms.forms import Field, Me, Mistake, Typed, flag_value, read_field
 from moo_web.forms.input import Mistyped
 from moo_web.forms.lookup import ObjectLookup
 from moo_web.forms.views import by_field, field_keys
@@ -82,8 +82,7 @@ def changed_entries(entries: Iterable[Entry], typed: Typed, names: ObjectLookup,
         try:
             found.items.extend(entry.items(mine, names, me) if entry.is_touched(mine) else ())
         except Mistyped as mistyped:
-            choices = mistyped.choices if isinstance(mistyped, Ambiguous) else ()
-            found.mistakes[entry.field.key] = Mistake(mistyped.reason, mistyped.better, choices)
+            found.mistakes[entry.field.key] = Mistake.of(mistyped)
     return found
 
 

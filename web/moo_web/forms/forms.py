@@ -28,15 +28,16 @@ WORDS_FOR_NOTHING = ("nothing", "nowhere", "none", "nobody", "-1", "#-1")
 UNNAMED = "unnamed"
 MOST_CHOICES = 20
 MOST_OBJECTS = 1000
+FIELD_KINDS = frozenset("object place objects text lines name value number flag letters choice verb calls exits cell hidden".split())
 
 
 @dataclasses.dataclass(frozen=True)
 class Field:
     """A field of a form.
 
-    `kind` is object, place (an object or nothing), objects, text, lines, name (of a property or a verb), value, number, flag, letters,
-    choice, verb, or calls. `now` is a reading call whose answer is what the field has at first, and `part` the place in that answer, if it
-    is a list. `options` are those of a choice or of letters, each with its words. `section` begins a part of the form that can be folded.
+    `kind` is one of `FIELD_KINDS`: a place is an object or nothing, a name that of a property or a verb. `now` is a reading call whose
+    answer is what the field has at first, and `part` the place in that answer, if it is a list. `options` are those of a choice or of
+    letters, each with its words. `section` begins a part of the form that can be folded.
     """
 
     key: str
@@ -55,8 +56,8 @@ class Field:
 class Step:
     """A call of a form, with `<KEY>` for what a field was given, `<one>` for each of several, and `<new>` for the object made just before.
 
-    It is made only if the field `given` has something, or has just this (`what=move`), and not if the field `unless` has something. `is_new` is whether
-    it makes that object.
+    It is made only if the field `given` has something, or has just this (`what=move`), and not if the field `unless` has something.
+    `is_new` is whether it makes that object.
     """
 
     call: str
@@ -90,6 +91,7 @@ class Form:
     def __post_init__(self) -> None:
         """Reads what is said in texts, and tells mistakes in it when the catalogue is imported."""
         for field in self.fields:
+            self.require(field.kind in FIELD_KINDS, f"{field.key} is {field.kind}")
             self.require(field.now == "" or pattern(field.now).keys <= self.keys, f"{field.key} is {field.now} now")
             # A section is a condition, or its title.
             self.require("=" not in field.section or self.is_condition(field.section), f"{field.key} is in {field.section}")
@@ -135,6 +137,11 @@ class Mistake:
     better: str = ""
     choices: tuple[tuple[str, str], ...] = ()
     lines: str = ""
+
+    @classmethod
+    def of(cls, mistyped: Mistyped) -> Mistake:
+        """What is wrong with what was typed in a field of one line."""
+        return cls(mistyped.reason, mistyped.better, mistyped.choices)
 
 
 @dataclasses.dataclass(frozen=True)
@@ -352,9 +359,8 @@ def read_form(form: Form, typed: Typed, names: ObjectLookup, me: Me) -> Filled:
         try:
             filled.values[field.key] = read_field(field, typed, names, me)
         except Mistyped as mistyped:
-            choices = mistyped.choices if isinstance(mistyped, Ambiguous) else ()
             lines = mistyped.lines if field.kind == "value" else ""
-            filled.mistakes[field.key] = Mistake(mistyped.reason, mistyped.better, choices, lines)
+            filled.mistakes[field.key] = dataclasses.replace(Mistake.of(mistyped), lines=lines)
     if not filled.mistakes and not items_of_form(form, filled):
         filled.mistakes[form.fields[-1].key] = Mistake("Nothing is changed yet.")
     return filled

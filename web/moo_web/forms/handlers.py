@@ -33,6 +33,7 @@ from moo_web.journal.jobs import Busy, Stopped, TooMuch, Unknown
 from moo_web.pages.accepting import accepting
 from moo_web.pages.pages import Visit
 from moo_web.pages.sentences import is_grave, preview_link, told
+from moo_web.pages.words import sentence
 from moo_web.paths import url_for, whole_number
 from moo_web.world.door import TooLong, Unreachable
 from moo_web.world.index import NOT_THERE
@@ -260,7 +261,7 @@ def note_typed(found: FormResult) -> Note:
     try:
         return Note(words_in(found.words))
     except Unfit as unfit:
-        found.wrong_words, found.status = f"{str(unfit)[:1].upper()}{str(unfit)[1:]}.", 422
+        found.wrong_words, found.status = sentence(str(unfit)), 422
         found.words = fit_of(found.words)
         return NO_NOTE
 

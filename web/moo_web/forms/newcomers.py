@@ -16,7 +16,7 @@ from moolib.calls import read_or_none
 
 from moo_web.app import Reply
 from moo_web.forms.catalogue import FIRST_QUOTA, QUOTA
-from moo_web.forms.forms import Ambiguous, Field, Form, Mistake, Step, object_value, read_form
+from moo_web.forms.forms import Field, Form, Mistake, Step, object_value, read_form
 from moo_web.forms.handlers import FormPages, FormResult, me_of
 from moo_web.forms.input import Mistyped
 from moo_web.forms.lookup import ObjectLookup
@@ -25,7 +25,7 @@ from moo_web.forms.views import typed_at_first
 from moo_web.journal.recent import Recent, Seen
 from moo_web.pages.lists import Part, part_of
 from moo_web.pages.pages import Visit
-from moo_web.pages.sign import sentence
+from moo_web.pages.words import sentence
 from moo_web.paths import url_for
 from moo_web.people.file import Wrong
 from moo_web.people.people import People
@@ -104,8 +104,7 @@ class NewcomerPages(FormPages):
         try:
             number = int(object_value(typed.get("object", ""), ObjectLookup(visit.world), me_of(visit))[1:])
         except Mistyped as mistyped:
-            choices = mistyped.choices if isinstance(mistyped, Ambiguous) else ()
-            return self.wrong(visit, typed, "object", Mistake(mistyped.reason, mistyped.better, choices))
+            return self.wrong(visit, typed, "object", Mistake.of(mistyped))
         if not visit.world.things[number].has("player"):
             return self.wrong(visit, typed, "object", Mistake("It isn’t a player: make it one first, by the form ‘Player and wizard’."))
         if go == "preview":

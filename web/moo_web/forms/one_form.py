@@ -95,14 +95,10 @@ class ObjectPages(EntriesPages):
 
     def edit(self, visit: Visit, number: int) -> Reply:
         """The form of an object."""
-        if number not in visit.world.things:
-            return visit.page("pages/no_object.html", 404, number=number)
         return self.shown(visit, edit_form(visit, number, visit.fields.get("page", "")), {})
 
     def edited(self, visit: Visit, number: int) -> Reply:
         """What is done with it."""
-        if number not in visit.world.things:
-            return visit.page("pages/no_object.html", 404, number=number)
         return self.at_one_number(visit, lambda: edit_form(visit, number, visit.form.get("page", "")))
 
     def new(self, visit: Visit) -> Reply:
@@ -153,14 +149,10 @@ class ClassPages(EntriesPages):
 
     def table(self, visit: Visit, number: int) -> Reply:
         """The table, with the columns that the address names."""
-        if number not in visit.world.things:
-            return visit.page("pages/no_object.html", 404, number=number)
         return self.shown(visit, table_form(visit, number, visit.fields), {})
 
     def changed(self, visit: Visit, number: int) -> Reply:
         """What is done with it. More rows are shown with all that was typed."""
-        if number not in visit.world.things:
-            return visit.page("pages/no_object.html", 404, number=number)
         asked = dict(visit.form)
         if asked.get("go") == "rows":
             asked["rows"] = str(rows_in(asked.get("rows", "")) + NEW_ROWS)

@@ -22,6 +22,7 @@ from moo_web.pages.lists import part_of
 from moo_web.pages.pages import Visit
 from moo_web.paths import url_for, whole_number
 from moo_web.world.properties import Property, properties_of, property_calls
+from moo_web.world.things import cut_name
 
 ROWS, NEW_ROWS, MOST_NEW = 40, 10, 100
 COLUMNS, MOST_COLUMNS, MOST_OFFERED = 5, 8, 60
@@ -115,7 +116,7 @@ class TableForm(EntriesForm):
 
 def table_form(visit: Visit, number: int, asked: Typed) -> TableForm:
     """The table of a class. `asked` has its `columns`, its `page` and its number of empty `rows`, as far as they are said."""
-    offered = columns_on(visit, number)
+    of, offered = visit.world.thing(number), columns_on(visit, number)
     by_name = {one.name: one for one in offered}
     columns = [by_name[name] for name in names_in(asked, list(by_name)) if name in by_name]
     part = part_of(visit.world.children.get(number, ()), asked.get("page", ""), ROWS)
@@ -125,7 +126,7 @@ def table_form(visit: Visit, number: int, asked: Typed) -> TableForm:
     for row in new:
         entries += [Entry(Field(row.name, f"Name of new object {row.made[4:]}", "text"), {row.name: ""}, "", setting(row.made, "name")), *row.cells]
     form = TableForm(
-        "class", f"Children of {visit.short(number)}", ABOUT, (), (), entries=tuple(entries), path=url_for("class", number=number),
+        "class", f"Children of {cut_name(of.name)}", ABOUT, (), (), entries=tuple(entries), path=url_for("class", number=number),
         number=number, part=part.number, parts=part.pages, columns=tuple(one.name for one in columns), offered=tuple(by_name), rows=tuple(rows),
         new=tuple(new),
     )  # fmt: skip

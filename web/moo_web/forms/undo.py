@@ -23,6 +23,7 @@ from moo_web.journal.recent import Recent
 from moo_web.journal.segments import Accepted
 from moo_web.journal.undoing import Undo, undone
 from moo_web.pages.pages import Visit
+from moo_web.pages.words import sentence
 from moo_web.paths import whole_number
 from moo_web.world.asking import TRIES, Moved
 from moo_web.world.door import Unreachable
@@ -67,7 +68,7 @@ class UndoPages(BatchPages):
         try:
             found.preview = possible.preview() if possible.lines else None
         except Failed as failed:
-            possible.left.append(f"{failed.reason[:1].upper()}{failed.reason[1:]}.")
+            possible.left.append(sentence(failed.reason))
         found.lasting = (*undo.lasting, *possible.left)
         if found.preview and not found.preview.changes:
             found.preview = None

@@ -6,7 +6,7 @@ from collections.abc import Mapping
 
 from moo_web.forms.forms import Field, Form, Me
 from moo_web.forms.lookup import ObjectLookup
-from moo_web.forms.views import known_values, field_keys, reads_at_first, typed_at_first
+from moo_web.forms.views import field_keys, known_values, reads_at_first, typed_at_first
 from moo_web.pages.pages import Visit
 
 

@@ -10,7 +10,7 @@ from typing import Any
 
 from moolib.values import ErrorValue, Obj
 
-from moo_web.forms.forms import Ambiguous, Field, Form, Me, Mistake, object_value
+from moo_web.forms.forms import Field, Form, Me, Mistake, object_value
 from moo_web.forms.input import VALUE_KINDS, Mistyped, text_value, typed_as
 from moo_web.forms.lookup import MOST_OFFERED, ObjectLookup
 from moo_web.forms.patterns import pattern
@@ -126,7 +126,7 @@ def known_values(form: Form, typed: Mapping[str, str], names: ObjectLookup, me: 
             elif field.key in ("name", "verb") and not field.now and typed.get(field.key):
                 word = typed[field.key]
                 found[field.key] = word if field.key == "verb" and word.isdigit() else text_value(word)
-        except (Mistyped, Ambiguous):
+        except Mistyped:
             pass
     return found
 

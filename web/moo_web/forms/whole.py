@@ -10,7 +10,7 @@ from moolib.batches import Item
 from moolib.values import Obj, written
 
 from moo_web.forms.entries import ChangedEntries, Entry, changed_entries, property_key
-from moo_web.forms.exits import HINT, TypedExit, ExitsEntry, typed_exits, exits_text
+from moo_web.forms.exits import HINT, ExitsEntry, TypedExit, exits_text, typed_exits
 from moo_web.forms.forms import Field, Form, Me, Typed
 from moo_web.forms.lookup import ObjectLookup
 from moo_web.forms.views import typed_now
@@ -59,7 +59,7 @@ def form_of(form: EntriesForm, *hidden: Field) -> EntriesForm:
 
 def edit_form(visit: Visit, number: int, page: str) -> EntriesForm:
     """The form of an object that is there, with this page of its properties."""
-    thing, it = visit.world.things[number], f"#{number}"
+    thing, it = visit.world.thing(number), f"#{number}"
     part = part_of(pairs_on(visit, number), page, MOST)
     visit.answers(property_calls(number, list(part.items), [above.number for above in visit.world.chain(number)]))
     found = [one for one in properties_of(visit, number, list(part.items)) if may_write(visit, one)]

@@ -18,7 +18,7 @@ from typing import Callable, NamedTuple
 from moo_web.journal.recent import MOST_LETTERS
 from moo_web.journal.segments import Accepted
 from moo_web.journal.since import batches_since, begin_of, petitions_before
-from moo_web.journal.subjects import Subjects, BatchSubjects, Wish, wishes_of
+from moo_web.journal.subjects import BatchSubjects, Subjects, Wish, wishes_of
 from moo_web.journal.jobs import Busy
 from moo_web.journal.writer import Writer
 

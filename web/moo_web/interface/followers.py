@@ -9,7 +9,7 @@ from typing import Any, Callable, ContextManager
 
 from moo_web.app import JSON, Reply, Request, in_json
 from moo_web.interface.bodies import wants
-from moo_web.interface.feed import FeedItem, Feed, Gone, Ahead
+from moo_web.interface.feed import Ahead, Feed, FeedItem, Gone
 from moo_web.journal.jobs import Busy
 from moo_web.paths import whole_number
 from moo_web.people.person import Person

@@ -20,7 +20,7 @@ from moolib.calls import Call, call_name
 from moo_web.journal.ledger import Ledger
 from moo_web.journal.prefixes import is_as_it_was, put_prefix
 from moo_web.journal.segments import LONGEST_LINE, SUM_LENGTH, Accepted, Damaged, Segment, accepted_of, segments_of
-from moo_web.journal.tables import Growing, TableFile, kept_beside, table_file_of, objects_named, numbers_in, sum_of_calls
+from moo_web.journal.tables import Growing, TableFile, kept_beside, numbers_in, objects_named, places_with, sum_of_calls, table_file_of
 
 READING = 10.0
 LOOK_EVERY = 60.0
@@ -196,7 +196,7 @@ class History:
             if not is_read:
                 raise StillRead
             for part in self.of_this_world():
-                for place in part.batches.with_sum(wanted, max(0, after - part.batches.base)):
+                for place in places_with(wanted, part.batches.sums, max(0, after - part.batches.base)):
                     batch = part.read(place)
                     if batch and batch.who == who:
                         return batch

@@ -15,6 +15,8 @@ import sys
 from pathlib import Path
 from typing import Any, Callable, Iterator, NamedTuple
 
+from moolib.service import packed
+
 from moo_web.journal.segments import LONGEST_LINE, JournalLine, Reading, Segment, line_json, sum_after, sum_if_whole
 from moo_web.programs import sync_folder
 
@@ -67,7 +69,7 @@ def head_of(segment: Segment, prefix: Prefix, tables: bytes) -> bytes:
         "k": "index", "version": VERSION, "order": sys.byteorder, "segment": segment.number, "former": segment.former,
         "tables": hashlib.sha256(tables).hexdigest(), **prefix._asdict(),
     }  # fmt: skip
-    text = json.dumps(said, separators=(",", ":")).encode()
+    text = packed(said)
     return hashlib.sha256(text).hexdigest().encode() + b" " + text + b"\n"
 
 

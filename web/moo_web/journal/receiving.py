@@ -12,24 +12,45 @@ import subprocess
 import threading
 import time
 from pathlib import Path
-from typing import IO, Any, Callable
+from typing import IO, Any, Callable, NamedTuple
 
 from moolib.errors import Failed
+from moolib.service import packed
 
 from moo_web.journal.journal import hold, write_whole
 from moo_web.journal.mending import mended
 from moo_web.journal.prefixes import Prefix, unread_lines
 from moo_web.journal.segments import FIRST_SUM, SEGMENT_NAME, SUM_LENGTH, Damaged, Reading, Segment, line_json, sum_if_whole
-from moo_web.journal.sending import CopyRequest, SentLine
 from moo_web.people.keeping import put_people
 from moo_web.programs import PEOPLE_FILE, own_folder, sync_folder
 
+VERSION = 1
 # As many lines as a stop of the other machine may cost, and more.
 OFFERED = 64
 LONGEST_HEAD = 1 << 16
 LONGEST_FRAME = 1 << 29
 SILENT_SECONDS = 30.0
 FIRST_REST, LONGEST_REST = 0.2, 5.0
+
+
+class SentLine(NamedTuple):
+    """A line of a journal: the number of its segment, where it begins and ends there, and its sum."""
+
+    segment: int
+    start: int
+    end: int
+    sum: str
+
+
+class CopyRequest(NamedTuple):
+    """What a copy has already, for the side that sends: its last lines, the newest first, and the SHA-256 of its accounts."""
+
+    have: list[SentLine]
+    people: str
+
+    def text(self) -> bytes:
+        """The line of JSON that says so."""
+        return packed({"version": VERSION, "have": self.have, "people": self.people}) + b"\n"
 
 
 class Copy:

@@ -16,6 +16,7 @@ from pathlib import Path
 from typing import Any, BinaryIO, Iterable, Iterator, NamedTuple
 
 from moolib.calls import call_name
+from moolib.service import packed
 
 from moo_web.journal.notes import NO_NOTE, Note, note_of
 
@@ -102,7 +103,7 @@ def has_line(file: BinaryIO, start: int, end: int, sum_: str) -> bool:
 
 def new_line(former: str, said: dict[str, Any]) -> tuple[str, bytes]:
     """A line's sum, and its bytes."""
-    text = json.dumps(said, separators=(",", ":")).encode()
+    text = packed(said)
     now = sum_after(former, text)
     return now, now.encode() + b" " + text + b"\n"
 
@@ -220,7 +221,7 @@ class Reading:
 
 def kept_answers(answers: list[str]) -> dict[str, Any]:
     """What a line keeps of answers: all, or of over 1 MiB their SHA-256, so that who asks much doesn't fill the disk."""
-    text = json.dumps(answers, separators=(",", ":")).encode()
+    text = packed(answers)
     return {"answers": answers} if len(text) <= LONGEST_KEPT else {"answers_sum": hashlib.sha256(text).hexdigest()}
 
 

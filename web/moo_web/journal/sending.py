@@ -19,16 +19,18 @@ import sqlite3
 import sys
 import time
 from pathlib import Path
-from typing import Any, Iterator, NamedTuple
+from typing import Any, Iterator
 
 from moolib.errors import Failed
+from moolib.service import packed
 
+from moo_web.journal.history import History
+from moo_web.journal.receiving import VERSION, Copy, CopyRequest, SentLine
 from moo_web.journal.segments import SUM_LENGTH, Damaged, Segment, has_line
 from moo_web.journal.tail import LinesGone, Tail
 from moo_web.people.keeping import people_in, state_of_accounts
 from moo_web.status.standbys import Progress
 
-VERSION = 1
 PAUSE = 0.05
 NOW_EVERY = 1.0
 LARGEST_FRAME = 1 << 20
@@ -40,26 +42,6 @@ With two it brings the folder COPY up to FOLDER, and ends. Exit status: 0 done, 
 """
 
 Frame = tuple[dict[str, Any], bytes]
-
-
-class SentLine(NamedTuple):
-    """A line of a journal: the number of its segment, where it begins and ends there, and its sum."""
-
-    segment: int
-    start: int
-    end: int
-    sum: str
-
-
-class CopyRequest(NamedTuple):
-    """What the other side has: its last lines, the newest first, and the SHA-256 of its accounts."""
-
-    have: list[SentLine]
-    people: str
-
-    def text(self) -> bytes:
-        """The line that says so."""
-        return json.dumps({"version": VERSION, "have": self.have, "people": self.people}, separators=(",", ":")).encode() + b"\n"
 
 
 def read_request(text: bytes) -> CopyRequest:
@@ -176,7 +158,7 @@ def send(folder: Path) -> None:
     sender = Sender(folder, read_request(sys.stdin.buffer.readline()))
     progress = Progress(folder)
     for head, text in sender.frames(False):
-        sys.stdout.buffer.write(json.dumps(head, separators=(",", ":")).encode() + b"\n" + text)
+        sys.stdout.buffer.write(packed(head) + b"\n" + text)
         sys.stdout.buffer.flush()
         if head["k"] == "now":
             progress.put(sender.seq)
@@ -184,9 +166,6 @@ def send(folder: Path) -> None:
 
 def bring_copy_up(folder: Path, target: str) -> None:
     """Brings a copy up to a folder, once."""
-    from moo_web.journal.history import History
-    from moo_web.journal.receiving import Copy
-
     copy = Copy(Path(target), lambda text: print(f"moo-send: {text}", file=sys.stderr))
     try:
         for head, text in Sender(folder, copy.request()).frames(True):

@@ -19,6 +19,7 @@ from pathlib import Path
 from typing import Any, Iterator, NamedTuple, Sequence
 
 from moolib.calls import Call, call_name
+from moolib.service import packed
 
 from moo_web.journal.prefixes import NAMED_LINES, LinePlace, Prefix, PrefixFile, index_path, read_prefix
 from moo_web.journal.segments import Accepted, Segment, accepted_of, line_json, sum_if_whole
@@ -120,10 +121,6 @@ class Growing:
         """The batches that name an object."""
         return self.of_objects.get(number, NOTHING)
 
-    def with_sum(self, wanted: int, first: int) -> Iterator[int]:
-        """The batches whose calls have this sum, from a place on."""
-        return places_with(wanted, self.sums, first)
-
     # How it grows
 
     def take(self, raw: bytes) -> bool:
@@ -199,7 +196,7 @@ class Growing:
         # Events of four parts are those that an older program knows.
         events = [event[:4] for event in self.events if not event.says]
         answers = [(event.number, event.place, event.who, event.says) for event in self.events if event.says]
-        words = json.dumps({"people": people, "events": events, "answers": answers}, separators=(",", ":")).encode()
+        words = packed({"people": people, "events": events, "answers": answers})
         sizes = [len(self), len(objects), len(people), sum(map(len, of_objects)), sum(map(len, of_people)), len(words)]
         parts: list[array.array[int]] = [
             array.array(NUMBERS, sizes), self.intents, self.outcomes, self.sums, array.array(NUMBERS, objects),
@@ -261,10 +258,6 @@ class TableFile:
         """The batches that name an object."""
         return places_by_key(self.objects, number, self.object_ends, self.in_objects)
 
-    def with_sum(self, wanted: int, first: int) -> Iterator[int]:
-        """The batches whose calls have this sum, from a place on."""
-        return places_with(wanted, array.array(NUMBERS, self.sums), first)
-
 
 def places_by_key(keys: Sequence[Any], key: Any, ends: Sequence[int], places: memoryview) -> Sequence[int]:
     """The places of a key, of those of all keys, which ascend."""
@@ -272,11 +265,12 @@ def places_by_key(keys: Sequence[Any], key: Any, ends: Sequence[int], places: me
     return places[ends[at] : ends[at + 1]] if at < len(keys) and keys[at] == key else NOTHING
 
 
-def places_with(wanted: int, sums: array.array[int], at: int) -> Iterator[int]:
+def places_with(wanted: int, sums: Sequence[int], at: int) -> Iterator[int]:
     """The places of a number among others, from one place on."""
-    while at < len(sums):
+    numbers = array.array(NUMBERS, sums)
+    while at < len(numbers):
         try:
-            at = sums.index(wanted, at)
+            at = numbers.index(wanted, at)
         except ValueError:
             return
         yield at

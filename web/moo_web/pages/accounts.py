@@ -11,7 +11,7 @@ from typing import NamedTuple
 from markupsafe import Markup
 
 from moo_web.app import Reply, Request
-from moo_web.forms.forms import Ambiguous, Me, Mistake, object_value
+from moo_web.forms.forms import Me, Mistake, object_value
 from moo_web.forms.input import Mistyped
 from moo_web.forms.lookup import ObjectLookup
 from moo_web.journal.tables import sum_of
@@ -77,7 +77,7 @@ class AccountPages:
             try:
                 deed = self.deed(visit, one, key, typed)
             except Mistyped as mistyped:
-                wrong = Mistake(mistyped.reason, "", mistyped.choices if isinstance(mistyped, Ambiguous) else ())
+                wrong = Mistake(mistyped.reason, "", mistyped.choices)
         status = 409 if trouble else 422 if wrong else 200
         return visit.page("pages/deed.html", status, one=one, key=key, title=DEEDS[key], deed=deed, typed=typed, wrong=wrong, trouble=trouble)
 

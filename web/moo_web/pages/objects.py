@@ -46,10 +46,7 @@ class Verb(NamedTuple):
 
 def object_page(visit: Visit, history: History, one: int) -> Reply:
     """The page of an object."""
-    thing = visit.world.things.get(one)
-    if thing is None:
-        return visit.page("pages/no_object.html", 404, number=one)
-    world = visit.world
+    thing, world = visit.world.thing(one), visit.world
     chain = [above.number for above in world.chain(one)]
     # All that the page asks is asked in two requests: what there is, and then all of that.
     visit.answers([
@@ -121,12 +118,10 @@ class Level(NamedTuple):
 
 def one_property(visit: Visit, history: History, one: int) -> Reply:
     """The page of a property: its whole value, and what it is on each object from which it may come."""
-    world, name = visit.world, visit.fields.get("name", "")
-    if one not in world.things:
-        return visit.page("pages/no_object.html", 404, number=one)
+    thing, world, name = visit.world.thing(one), visit.world, visit.fields.get("name", "")
     pair = pair_of(visit, one, name)
     if pair is None:
-        return visit.page("pages/no_property.html", 404, thing=world.things[one], name=name)
+        return visit.page("pages/no_property.html", 404, thing=thing, name=name)
     chain = [above.number for above in world.chain(one)]
     levels = []
     for above in chain[: chain.index(pair[0]) + 1] if pair[0] in chain else chain:
@@ -134,7 +129,7 @@ def one_property(visit: Visit, history: History, one: int) -> Reply:
         levels.append(Level(above, "hidden" if not told.is_shown else "here" if told.source == above else "clear", told))
     is_listed = pair[0] != NOTHING
     return visit.page(
-        "pages/property.html", thing=world.things[one], name=pair[1], levels=levels, told=levels[0].told, is_listed=is_listed,
+        "pages/property.html", thing=thing, name=pair[1], levels=levels, told=levels[0].told, is_listed=is_listed,
         in_time=in_time(visit, history, one, pair[1]) if levels[0].told.is_shown else [],
     )  # fmt: skip
 

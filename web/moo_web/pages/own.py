@@ -5,7 +5,8 @@ from __future__ import annotations
 from moo_web.app import Reply
 from moo_web.pages.moments import zone_names
 from moo_web.pages.pages import Visit, went
-from moo_web.pages.sign import CROWDED, SHORTEST_PASSWORD, new_password, sentence, told_wait
+from moo_web.pages.sign import CROWDED, SHORTEST_PASSWORD, new_password, told_wait
+from moo_web.pages.words import sentence
 from moo_web.paths import url_for
 from moo_web.people import sessions
 from moo_web.people.file import Wrong

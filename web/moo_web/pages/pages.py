@@ -30,7 +30,7 @@ from moo_web.pages.glossary import named, rights, term
 from moo_web.pages.moments import Zone, zone_of
 from moo_web.pages.sentences import in_words
 from moo_web.pages.waiting import Waiting, waiting
-from moo_web.pages.words import ERROR_TEXTS, FOR_WIZARDS, MENU, PASSING, REPLIES, SAID
+from moo_web.pages.words import ERROR_TEXTS, FOR_WIZARDS, MENU, PASSING, REPLIES, SAID, sentence
 from moo_web import paths
 from moo_web.paths import PATHS, form_for, query_of, url_for
 from moo_web.people import sessions
@@ -40,7 +40,7 @@ from moo_web.world.asking import TRIES, Asker, Moved
 from moo_web.world.door import Unreachable
 from moo_web.world.index import Index
 from moo_web.world.properties import SightNames
-from moo_web.world.things import World, cut_name
+from moo_web.world.things import NotThere, World, cut_name
 from moo_web.world.trees import Node
 
 HERE = Path(__file__).parents[1]
@@ -293,6 +293,8 @@ class Pages:
             return handler(visit, *parts)
         except NoObject:
             return visit.refused("no object", 403)
+        except NotThere as nothing:
+            return visit.page("pages/no_object.html", 404, number=nothing.number)
 
     def sent(self, request: Request, handler: PageHandler, parts: tuple[Any, ...], is_kept: bool = False) -> Reply:
         """What a form's handler answers, if the form is one of the person's own."""
@@ -358,7 +360,7 @@ class Pages:
         return self.made(
             "message.html", reply.status, request, *reply.lines,
             visit=visit, token=session.form if session else "", zone=visit.zone if visit else Zone(), title=title,
-            text=f"{why[:1].upper()}{why[1:]}." if why else text.format(**parts),
+            text=sentence(why) if why else text.format(**parts),
             again=self.again(request) if session and word in PASSING else {},
         )  # fmt: skip
 

@@ -17,7 +17,7 @@ from moo_web.paths import url_for
 from moo_web.world import finding
 from moo_web.world.definers import Definers
 from moo_web.world.dumped import ACCEPTS
-from moo_web.world.finding import Found, ValuePlace, Shown
+from moo_web.world.finding import Found, Shown, ValuePlace
 from moo_web.world.holdings import Holdings, NoDump
 from moo_web.world.literals import STRING, spellings
 

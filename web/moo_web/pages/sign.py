@@ -4,6 +4,7 @@ from __future__ import annotations
 
 from moo_web.app import Reply, Request
 from moo_web.pages.pages import LONGEST_KEPT, Pages, Visit, went
+from moo_web.pages.words import sentence
 from moo_web.paths import url_for
 from moo_web.people import sessions
 from moo_web.people.file import Wrong
@@ -88,11 +89,6 @@ def new_password(form: dict[str, str]) -> str:
     if len(new) < SHORTEST_PASSWORD:
         raise Wrong(f"a new password has at least {SHORTEST_PASSWORD} letters")
     return new
-
-
-def sentence(text: str) -> str:
-    """A text that begins in small letters as a sentence."""
-    return f"{text[:1].upper()}{text[1:]}."
 
 
 def told_wait(wait: TooManyTries) -> str:

@@ -12,7 +12,7 @@ from pathlib import Path
 from typing import Callable, NamedTuple
 
 from moo_web.people import passwords
-from moo_web.people.audit import SIGN_IN_FAILED, SIGN_IN_REFUSED, SIGNED_IN
+from moo_web.people.audit import SIGNED_IN, SIGN_IN_FAILED, SIGN_IN_REFUSED
 from moo_web.people.file import PeopleFile, Wrong
 from moo_web.people.limits import BackOff, Rate, network_of
 from moo_web.people.links import SignInLinks

@@ -3,12 +3,13 @@
 from __future__ import annotations
 
 import time
-from typing import Any, NamedTuple
+from typing import Any, NamedTuple, Protocol
 
 from moolib.errors import Failed
 from moolib.service import MOST_CALLS, Said
 
 from moo_web.world.door import QUESTION_SECONDS, Answer, Door, TooLong, Unreachable, batch_body
+from moo_web.world.things import World
 
 # So often what is of one number of the world is begun anew, if the world moves on meanwhile.
 TRIES = 5
@@ -42,6 +43,23 @@ def batch_asked(door: Door, programmer: int, calls: list[str], at: int | None, e
     if answer.error == "stale":
         raise Moved
     return answer
+
+
+class Onlooker(Protocol):
+    """Who looks at the world of one number, as the object `number`: beside its public facts they know what calls answer them."""
+
+    number: int
+
+    @property
+    def world(self) -> World:
+        """The public facts of that world."""
+
+    @property
+    def is_wizard(self) -> bool:
+        """Whether they have the rights of a wizard."""
+
+    def answers(self, calls: list[str]) -> list[Any]:
+        """What each call answers them in that world: a value, or a `Refusal`."""
 
 
 class Asker:

@@ -20,7 +20,7 @@ from moolib.values import written
 from moo_web.journal.segments import Accepted
 from moo_web.world.asking import Asker, Moved, Refusal
 from moo_web.world.door import QUESTION_SECONDS, Door, Unreachable
-from moo_web.world.dumped import ACCEPTS, BrokenDump, Dumped, DumpLines
+from moo_web.world.dumped import ACCEPTS, BrokenDump, DumpLines, Dumped
 from moo_web.world.index import TOLD_WITHIN, Index
 from moo_web.world.literals import Key, Literal, Literals
 from moo_web.world.things import World

@@ -64,6 +64,14 @@ def number_in(text: str) -> int:
     return int(text[1:])
 
 
+class NotThere(Exception):
+    """There is no object of this number."""
+
+    def __init__(self, number: int) -> None:
+        super().__init__()
+        self.number = number
+
+
 class World:
     """All objects at one number of the world. It isn't changed any more, so that threads may read it.
 
@@ -106,6 +114,13 @@ class World:
             if names := self.names.changed(renamed):
                 made.names = names
         return made
+
+    def thing(self, number: int) -> Thing:
+        """An object. `NotThere`: there is none of this number, which the page about it then says."""
+        thing: Optional[Thing] = self.things.get(number)
+        if thing is None:
+            raise NotThere(number)
+        return thing
 
     def with_bit(self, bit: str) -> Sequence[int]:
         """The numbers of the objects with this bit, ascending. It is one of `player`, `wizard` and `f`."""
