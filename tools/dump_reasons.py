@@ -5,10 +5,9 @@ from __future__ import annotations
 import re
 
 from lambdamoo.words import PROPERTY_RIGHTS, VERB_RIGHTS
-from moolib.slots import PREPOSITIONS
+from moolib.slots import BITS, PREPOSITIONS
 
 WORDS = ("object", "property", "slot", "verb", "petition", "end")
-BITS = ("player", "programmer", "wizard", "r", "w", "f")
 STRING = re.compile(r'"(?:[^"\\]|\\.)*"')
 PIECE = re.compile(r"\s*,\s*|[{}]")
 BYTE_ORDER_MARK = "\xef\xbb\xbf"

@@ -1,6 +1,10 @@
-"""That pages name what there is: each path in them is one of the repository, and each name of code is a word of its sources."""
+"""That pages name what there is: each path in them is one of the repository, and each name of code is a word of its sources.
+
+And that a function or a type at the top of a module of web/moo_web/ has no namesake in another one.
+"""
 from __future__ import annotations
 
+import ast
 import os
 import re
 from pathlib import Path
@@ -21,6 +25,8 @@ MARKS = {"CRATE", "FILE", "FUNCTION", "FOLDER", "NAME", "WORD"}
 MADE = {".git", ".mypy_cache", "__pycache__", "must-fail", "out"}
 # Calls and types of the libraries below.
 FOREIGN = {"query_all"}
+# What each program of web/ has for itself.
+OF_PROGRAMS = {"main", "read_words"}
 
 
 def files() -> list[str]:
@@ -61,9 +67,31 @@ def complaint(text: str, paths: list[str], words: set[str]) -> Optional[str]:
     return "; ".join(wrong) or None
 
 
+def names_in(text: str) -> Iterator[str]:
+    """The functions, the classes and the names of types at the top of a module."""
+    for node in ast.parse(text).body:
+        if isinstance(node, (ast.FunctionDef, ast.ClassDef)):
+            yield node.name
+        elif isinstance(node, ast.Assign):
+            yield from (each.id for each in node.targets if isinstance(each, ast.Name) and not each.id.isupper())
+
+
+def namesakes(modules: list[tuple[str, str]]) -> Optional[str]:
+    """The names that two of these modules have, each with its path and its text; or nothing."""
+    first: dict[str, str] = {}
+    wrong = []
+    for path, text in modules:
+        for name in dict.fromkeys(names_in(text)):
+            if name not in OF_PROGRAMS and first.setdefault(name, path) != path:
+                wrong.append(f"{first[name]} and {path} have {name}")
+    return "; ".join(wrong) or None
+
+
 def cases() -> Iterator[tuple[str, Optional[str]]]:
     """The name of each case, and what is wrong with it."""
     paths = files()
     words = words_of([path for path in paths if not path.startswith(("docs/", "mutants/"))])
     for page in PAGES:
         yield page, complaint((TOP / page).read_text(), paths, words)
+    of_web = [path for path in paths if path.startswith("web/moo_web/") and path.endswith(".py")]
+    yield "web/moo_web", namesakes([(path, (TOP / path).read_text()) for path in of_web])

@@ -165,7 +165,7 @@ class Rights(Api_):
 
     def test_so_many_dumps_are_in_files_at_once(self):
         """A dump that isn't read keeps its place until its file is closed."""
-        with mock.patch.object(api, "READING", 0.2):
+        with mock.patch.object(api, "QUESTION_SECONDS", 0.2):
             token = {"HTTP_AUTHORIZATION": f"Bearer {self.tokens['wizard']}", "wsgi.file_wrapper": self.unread.append}
             for _ in range(api.DUMPS_AT_ONCE):
                 self.assertIsNone(self.called.app(self.called.environ("GET", "/api/dump", **token), lambda status, head: None))
@@ -263,23 +263,6 @@ class Answers(Api_):
         self.assertEqual(self.post("ada", "/api/each", {"calls": calls, "at": 2}), (409, {"error": "stale", "seq": 1}))
         self.assertEqual(self.asked("ada", "GET", "/api/seq"), (200, {"seq": 1}))
 
-    def test_each_when_the_world_moves_on(self):
-        """For a moo without `/each`: all answers are of one number."""
-        asked, moved = self.door.asked, []
-
-        def moving(method, path, body, end):
-            if path.startswith("/each"):
-                path = "/nothing"
-            answer = asked(method, path, body, end)
-            if json.loads(body or b"{}").get("calls") == ["create(#6)"] and not moved:
-                moved.append("once")
-                moved.append(self.writer.write("ada", 4, ["create(#6)"]).status)
-            return answer
-
-        self.door.asked = moving
-        status, said = self.post("ada", "/api/each", {"calls": ["create(#6)", "max_object()"]})
-        self.assertEqual((status, said, moved), (200, {"each": [{"answer": "#8"}, {"answer": "#7"}], "seq": 2}, ["once", 200]))
-
     def test_the_journal_names_the_person(self):
         self.post("ada", "/api/batch", {"calls": ["create(#6)"]})
         lines = (self.room / "front/journal-1").read_bytes().splitlines()
@@ -308,8 +291,8 @@ class Waiting(Api_):
         self.writer.patience = 0.2
         from moo_web import api
 
-        self.addCleanup(setattr, api, "READING", api.READING)
-        api.READING = 0.2
+        self.addCleanup(setattr, api, "QUESTION_SECONDS", api.QUESTION_SECONDS)
+        api.QUESTION_SECONDS = 0.2
         began = time.monotonic()
         for words in ("POST /api/batch", "POST /api/ask", "POST /api/each", "GET /api/seq", "GET /api/object/3"):
             self.assertEqual(self.asked("ada", *words.split(), {"calls": ["max_object()"]}), (503, {"error": "busy"}))

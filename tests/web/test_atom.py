@@ -15,7 +15,7 @@ from tests.web.test_asking import NOT_NOW, WHY, AskingTest
 use_web()
 
 from moo_web.journal.history import History  # noqa: E402
-from moo_web.pages.atom import Entry, Feed, mark_of  # noqa: E402
+from moo_web.pages.atom import AtomEntry, AtomFeed, atom_mark  # noqa: E402
 from moo_web.people.tokens import Terms  # noqa: E402
 from moo_web.world.door import batch_body  # noqa: E402
 
@@ -77,18 +77,18 @@ def entries_of(text):
 
 class Bytes(unittest.TestCase):
     def test_a_small_feed(self):
-        entry = Entry("urn:uuid:1225c695-cfb8-4ebb-aaaa-80da344efa6a", "<b>\x01", 1071340202.4, "Ada", "/petitions/1", "one\n]]> two")
-        feed = Feed("Petitions & more", "urn:uuid:60a76c80-d399-11d9-b93c-0003939e0af6", 0.0, "/feed", "/petitions?a=1&b=2", [entry])
+        entry = AtomEntry("urn:uuid:1225c695-cfb8-4ebb-aaaa-80da344efa6a", "<b>\x01", 1071340202.4, "Ada", "/petitions/1", "one\n]]> two")
+        feed = AtomFeed("Petitions & more", "urn:uuid:60a76c80-d399-11d9-b93c-0003939e0af6", 0.0, "/feed", "/petitions?a=1&b=2", [entry])
         self.assertEqual(feed.text, SMALL)
         self.assertEqual([each[1] for each in entries_of(feed.text)], ["<b>\ufffd"])
 
     def test_a_feed_of_nothing_and_one_of_what_no_title_has(self):
-        self.assertEqual(entries_of(Feed("t", mark_of("x"), 0.0, "/feed", "/", []).text), [])
-        entries_of(Feed("t", mark_of("x"), 0.0, "/feed", "/", [Entry(mark_of("y", "\ud800é"), "", 1e30, "", "/", "")]).text)
+        self.assertEqual(entries_of(AtomFeed("t", atom_mark("x"), 0.0, "/feed", "/", []).text), [])
+        entries_of(AtomFeed("t", atom_mark("x"), 0.0, "/feed", "/", [AtomEntry(atom_mark("y", "\ud800é"), "", 1e30, "", "/", "")]).text)
 
     def test_a_mark_is_always_the_same(self):
-        self.assertEqual(mark_of("petition", 7, 1.5, "ada"), mark_of("petition", 7, 1.5, "ada"))
-        self.assertNotEqual(mark_of("petition", 7, 1.5, "ada"), mark_of("petition", 71, 0.5, "ada"))
+        self.assertEqual(atom_mark("petition", 7, 1.5, "ada"), atom_mark("petition", 7, 1.5, "ada"))
+        self.assertNotEqual(atom_mark("petition", 7, 1.5, "ada"), atom_mark("petition", 71, 0.5, "ada"))
 
 
 class FeedsTest(AskingTest):

@@ -140,7 +140,7 @@ class Program(unittest.TestCase):
 
     def test_what_the_system_is_told(self):
         with tempfile.TemporaryDirectory() as room, mock.patch.object(audit.syslog, "syslog") as log:
-            with mock.patch("sys.argv", ["moo-people", room, "add", "ada", "4"]), mock.patch.object(accounts, "new_password", lambda: PASSWORD):
+            with mock.patch("sys.argv", ["moo-people", room, "add", "ada", "4"]), mock.patch.object(accounts, "read_password", lambda: PASSWORD):
                 accounts.main()
         (priority, line), _ = log.call_args
         self.assertEqual(priority, audit.syslog.LOG_NOTICE)

@@ -4,17 +4,17 @@ import unittest
 
 from tests.web.test_one_form import TASTE, OneFormTest
 
-from moo_web.forms.entries import key_of  # noqa: E402
+from moo_web.forms.entries import property_key  # noqa: E402
 
 
 def cell(number, name):
     """The key of a cell of a child."""
-    return key_of(f"c{number}-", name)
+    return property_key(f"c{number}-", name)
 
 
 def new(row, name):
     """The key of a cell of a new row."""
-    return key_of(f"n{row}-", name)
+    return property_key(f"n{row}-", name)
 
 
 class Tables(OneFormTest):

@@ -35,7 +35,7 @@ from tests.web.test_replay import ReplayTest
 use_web()
 
 from moo_web.journal import following  # noqa: E402
-from moo_web.journal.segments import FIRST_SUM, line_of  # noqa: E402
+from moo_web.journal.segments import FIRST_SUM, new_line  # noqa: E402
 from moo_web.journal.tail import LinesGone, Tail  # noqa: E402
 from moo_web.world.door import Door  # noqa: E402
 
@@ -76,7 +76,7 @@ def journal_of(*objects):
     """The lines of a journal, each a `bytes`."""
     former, lines = FIRST_SUM, []
     for said_ in objects:
-        former, text = line_of(former, said_)
+        former, text = new_line(former, said_)
         lines.append(text)
     return lines, former
 
@@ -139,7 +139,7 @@ class Tails(unittest.TestCase):
 
     def test_a_segment_comes_before_the_end_of_the_one_before(self):
         """As a copy may have it that is under way."""
-        _, text = line_of(self.sum, base(1, 2, self.sum, "full"))
+        _, text = new_line(self.sum, base(1, 2, self.sum, "full"))
         (self.folder / "journal-1").write_bytes(text)
         self.path.write_bytes(b"".join(self.kept[:4]))
         tail = Tail(self.folder)
@@ -150,7 +150,7 @@ class Tails(unittest.TestCase):
 
     def test_the_head_of_a_segment_is_torn(self):
         self.path.write_bytes(b"".join(self.kept))
-        _, text = line_of(self.sum, base(1, 2, self.sum, "full"))
+        _, text = new_line(self.sum, base(1, 2, self.sum, "full"))
         tail = Tail(self.folder)
         self.assertEqual(len(self.kinds(tail)), 5)
         for length in range(len(text)):
@@ -232,7 +232,7 @@ class Follows(FollowTest):
         self.write(["create(#1)"])
         path = self.folder / "journal-0"
         text = path.read_bytes()
-        _, line = line_of(text.splitlines()[-1][:64].decode(), intent(1, ["create(#1)"]))
+        _, line = new_line(text.splitlines()[-1][:64].decode(), intent(1, ["create(#1)"]))
         path.write_bytes(text + line)
         standby = self.standby()
         standby.wait_for("seq 1")
@@ -498,9 +498,9 @@ class Copied(FollowTest):
         """An intent that was never sent was lost with the power, with its segment, and another one has its place now."""
         first = [base(0), intent(0), {"k": "done", "seq": 1}]
         lines, former = journal_of(*first)
-        second = line_of(former, base(1, 2, former, "full"))
+        second = new_line(former, base(1, 2, former, "full"))
         (self.folder / "journal-0").write_bytes(b"".join(lines))
-        (self.folder / "journal-1").write_bytes(second[1] + line_of(second[0], intent(1, ["create(#1)"]))[1])
+        (self.folder / "journal-1").write_bytes(second[1] + new_line(second[0], intent(1, ["create(#1)"]))[1])
         self.assertEqual(program("moo-send", self.folder, self.copy), (0, "", ""))
         self.assert_copied()
         (self.folder / "journal-1").unlink()

@@ -8,7 +8,7 @@ from tests.support.web import use_web
 use_web()
 
 from moo_web.forms.catalogue import FORMS, PREPOSITIONS  # noqa: E402
-from moo_web.forms.forms import Field, Filled, Form, Me, Step, items_of, read_form  # noqa: E402
+from moo_web.forms.forms import Field, Filled, Form, Me, Step, items_of_form, read_form  # noqa: E402
 from moo_web.forms.petitions import asked_of  # noqa: E402
 from moo_web.forms.unread import hidden_by_rights, is_of_value  # noqa: E402
 from moo_web.forms.input import Mistyped, number_value, text_value, typed_as, written_value  # noqa: E402
@@ -47,7 +47,7 @@ def calls(form, typed, me=ADA):
     filled = read_form(FORMS[form], typed, WORLD, me)
     if filled.mistakes:
         raise AssertionError(filled.mistakes)
-    return [item.text for item in items_of(FORMS[form], filled)]
+    return [item.text for item in items_of_form(FORMS[form], filled)]
 
 
 def mistakes(form, typed, me=ADA):
@@ -166,7 +166,7 @@ class Lists(unittest.TestCase):
             ((place,), (good,), {}), ((place, how), (good,), {"blame": {"move E_NOT": "place"}}),
             ((place, how), (good,), {"blame": {"set E_PERM": "place"}}), ((place, how), (good,), {"blame": {"move": "plaice"}}),
             ((place, how), (good,), {"each": "plaice"}), ((Field("a", "A", "text", now="get(<b>)"),), (), {}),
-            ((Field("a", "A", "text", section="b=c"),), (), {}),
+            ((Field("a", "A", "text", section="b=c"),), (), {}), ((Field("a", "A", "txet"),), (), {}),
         ):  # fmt: skip
             with self.subTest(fields=fields, steps=steps, more=more), self.assertRaises(ValueError):
                 Form("f", "F", "", fields, steps, **more)
@@ -245,7 +245,7 @@ class Calls(unittest.TestCase):
     def test_making_several_at_once(self):
         filled = read_form(FORMS["create"], {"parent": "#1", "names": "Lamp\r\n\r\n Key \r\n", "place": "#2"}, WORLD, ADA)
         self.assertEqual(
-            [(item.name, item.text) for item in items_of(FORMS["create"], filled)],
+            [(item.name, item.text) for item in items_of_form(FORMS["create"], filled)],
             [("$new1", "create(#1)"), (None, 'set($new1, "name", "Lamp")'), (None, "move($new1, #2)"),
              ("$new2", "create(#1)"), (None, 'set($new2, "name", "Key")'), (None, "move($new2, #2)")],
         )  # fmt: skip

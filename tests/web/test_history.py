@@ -15,7 +15,7 @@ use_web()
 
 from moo_web.journal.history import History, call_about  # noqa: E402
 from moo_web.journal.journal import Journal  # noqa: E402
-from moo_web.journal.segments import line_of  # noqa: E402
+from moo_web.journal.segments import new_line  # noqa: E402
 
 SEED = 7
 
@@ -131,7 +131,7 @@ class Losses(HistoryTest):
     def test_a_line_that_is_half_there(self):
         self.accept("ada", 4, ["move(#5, #1)"], ["0"])
         self.assertEqual(self.seqs(), [1])
-        _, text = line_of(self.journal.sum, intent(1, "ada", 4, ["move(#6, #1)"], ["0"]))
+        _, text = new_line(self.journal.sum, intent(1, "ada", 4, ["move(#6, #1)"], ["0"]))
         path = self.folder / "journal-0"
         whole = path.read_bytes()
         for cut in (1, 64, 65, 70, len(text) - 1):

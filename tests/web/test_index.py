@@ -8,7 +8,7 @@ from tests.support.pages import PagesTest
 
 from moo_web.journal.segments import Accepted  # noqa: E402
 from moo_web.world.door import Unreachable  # noqa: E402
-from moo_web.world.things import BITS  # noqa: E402
+from moolib.slots import BITS  # noqa: E402
 
 SEED = 20261127
 

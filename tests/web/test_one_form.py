@@ -4,7 +4,7 @@ import unittest
 
 from tests.support.forms import FormsTest
 
-from moo_web.forms.entries import key_of  # noqa: E402
+from moo_web.forms.entries import property_key  # noqa: E402
 
 # Ada #4 is a builder, #5 the class of rooms, #6 the Square and #7 Mill Lane, both Ada's, #8 the wizard's Chapel, #9 a class of things and
 # #10 Ada's thing.
@@ -42,8 +42,8 @@ move(#10, #6)
 move(#4, #6)
 end
 """
-EXITS, DESCRIPTION = key_of("p", "exits"), key_of("p", "description")
-WEIGHT, TASTE, MAKER, PARTS = (key_of("p", name) for name in ("weight", "taste", "maker", "parts"))
+EXITS, DESCRIPTION = property_key("p", "exits"), property_key("p", "description")
+WEIGHT, TASTE, MAKER, PARTS = (property_key("p", name) for name in ("weight", "taste", "maker", "parts"))
 # What a browser sends for an ended line.
 END = "\r\n"
 
@@ -151,9 +151,9 @@ class Editing(OneFormTest):
         ada, wizard = self.somebody("ada"), self.somebody("wizard")
         ada.get("/edit/6")
         self.assertIn(DESCRIPTION, ada.typed(), "it is asked for, though the names of the class may not be listed")
-        self.assertNotIn(key_of("p", "rent"), ada.typed())
+        self.assertNotIn(property_key("p", "rent"), ada.typed())
         wizard.get("/edit/6")
-        self.assertIn(key_of("p", "rent"), wizard.typed())
+        self.assertIn(property_key("p", "rent"), wizard.typed())
         ada.get("/edit/4")
         self.assertNotIn("name", ada.typed(), "a player has another name from a wizard alone")
         self.has(ada.get("/edit/8"), "Nothing of it is yours to change.", status=200)
@@ -166,7 +166,7 @@ class Editing(OneFormTest):
         self.assertIn("/edit/10?page=2", ada.page.links)
         ada.get("/edit/10?page=2")
         self.assertNotIn("name", ada.typed())
-        self.is_done([ada.send("Preview", **{key_of("p", "x79"): "-1"}), ada.send("Do it")][1])
+        self.is_done([ada.send("Preview", **{property_key("p", "x79"): "-1"}), ada.send("Do it")][1])
         self.assertEqual(self.answered('get(#10, "x79")'), "-1")
 
     def test_a_session_that_is_over_loses_nothing(self):

@@ -17,7 +17,7 @@ use_web()
 from moo_web.people import passwords, people  # noqa: E402
 from moo_web.people.limits import BackOff, Rate, network_of  # noqa: E402
 from moo_web.people.file import VERSION, Wrong  # noqa: E402
-from moo_web.people.people import People, TooMany, WrongPassword  # noqa: E402
+from moo_web.people.people import People, TooManyTries, WrongPassword  # noqa: E402
 from moo_web.people.person import Person  # noqa: E402
 
 HOME, AWAY = "192.0.2.1", "198.51.100.7"
@@ -64,7 +64,7 @@ class WithPeople(unittest.TestCase):
 
     def wait_of(self, *given, **how):
         """How long a try has to wait."""
-        with self.assertRaises(TooMany) as raised:
+        with self.assertRaises(TooManyTries) as raised:
             self.sign_in(*given, **how)
         return raised.exception.seconds
 
@@ -258,7 +258,7 @@ class Waits(WithPeople):
         for _ in range(50):
             try:
                 self.sign_in("wrong", AWAY)
-            except (TooMany, WrongPassword):
+            except (TooManyTries, WrongPassword):
                 self.clock.now += 1
         self.assertTrue(self.sign_in())
 
@@ -270,7 +270,7 @@ class Waits(WithPeople):
                 self.sign_in("wrong", f"203.0.113.{number}")
             except WrongPassword:
                 tried += 1
-            except TooMany:
+            except TooManyTries:
                 pass
         self.assertEqual(tried, people.STRANGERS_AT_ONCE, "so many passwords could be tried")
         self.assertTrue(self.sign_in(), "the person's own place")
@@ -289,7 +289,7 @@ class Waits(WithPeople):
         for number in range(100):
             try:
                 self.sign_in(address=f"203.0.113.{number}", name="x" * 10_000 + str(number))
-            except (WrongPassword, TooMany):
+            except (WrongPassword, TooManyTries):
                 self.clock.now += 10
         remembered = [*self.people.pair_waits.failures, *self.people.place_waits.failures, *self.people.strangers.left]
         self.assertGreater(len(remembered), 100)

@@ -16,7 +16,7 @@ use_web()
 
 from moo_web.journal import writer as writer_module  # noqa: E402
 from moo_web.journal.journal import Journal  # noqa: E402
-from moo_web.journal.segments import line_of  # noqa: E402
+from moo_web.journal.segments import new_line  # noqa: E402
 from moo_web.journal.writer import Writer  # noqa: E402
 from moo_web.world.door import Door  # noqa: E402
 
@@ -396,7 +396,7 @@ class Mistakes(ReplayTest):
         with open(self.folder / "journal-0", "wb") as file:
             for line in lines:
                 changed = json.loads(line[65:].replace(b'"calls":["create(#1)"]', b'"calls":["valid(#1)"]'))
-                former, text = line_of(former, changed)
+                former, text = new_line(former, changed)
                 file.write(text)
         status, printed, told = self.replay()
         self.assertEqual((status, printed), (1, ""))

@@ -265,8 +265,8 @@ class Failures(SessionsTest):
     def test_moo_that_does_not_answer(self):
         from moo_web.world import index
 
-        self.addCleanup(setattr, index, "READING", index.READING)
-        index.READING = 0.2
+        self.addCleanup(setattr, index, "QUESTION_SECONDS", index.QUESTION_SECONDS)
+        index.QUESTION_SECONDS = 0.2
         reader = self.reader("wizard")
         self.moo.rest = SECONDS_AWAY
         self.moo.kill()

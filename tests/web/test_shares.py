@@ -24,7 +24,7 @@ from moo_web.people.person import Person  # noqa: E402
 from moo_web.traffic.shares import BUCKET_MINUTES, OF_ADDRESS, OF_WIZARD, TIME, WRITING, Share, Shares, Spent, share_of  # noqa: E402
 from moo_web.traffic.turns import NobodyWaits, Queue, Turnstile  # noqa: E402
 from moo_web.traffic.visitors import NOBODY, Visitor, present, visiting  # noqa: E402
-from moo_web.traffic.writing import MOST_ROWS, rows_of  # noqa: E402
+from moo_web.traffic.writing import MOST_ROWS, rows_written  # noqa: E402
 from moo_web.world.door import Door  # noqa: E402
 from moo_web.world.things import World  # noqa: E402
 
@@ -252,8 +252,8 @@ class Buckets(unittest.TestCase):
             (['set(#1, "name", "x")', "nonsense", 'delete_property(#8, "a")'], 3), (['add_property(#3, "a", 0, {#3, ""})'] * 200_000, MOST_ROWS),
         ):  # fmt: skip
             with self.subTest(calls[0]):
-                self.assertEqual(rows_of(calls, world), rows)
-                self.assertEqual(rows_of(calls, None), len(calls))
+                self.assertEqual(rows_written(calls, world), rows)
+                self.assertEqual(rows_written(calls, None), len(calls))
 
 
 class Together(RoomTest):

@@ -26,7 +26,7 @@ from tests.web.test_serving import ServingTest
 use_web()
 
 from moo_web.status import process  # noqa: E402
-from moo_web.status.metrics import Counter, Gauge, Histogram, text_of  # noqa: E402
+from moo_web.status.metrics import Counter, Gauge, Histogram, metrics_text  # noqa: E402
 
 BATCH, REFUSED = {"calls": ["create(#1)"]}, {"calls": ["create(#99)"]}
 # Names that are promised.
@@ -61,7 +61,7 @@ class Text(unittest.TestCase):
         counter = Counter("done_total", "What was done.", "who")
         for who in ("ada", "ben", "ada", 'a"\\\n'):
             counter.add(who)
-        text = text_of([counter, Gauge("free", "Room.", lambda: {"1": 2.5}, "disk"), Gauge("far", "How far.", lambda: float("inf"))])
+        text = metrics_text([counter, Gauge("free", "Room.", lambda: {"1": 2.5}, "disk"), Gauge("far", "How far.", lambda: float("inf"))])
         self.assertEqual(text.splitlines(), [
             "# HELP done_total What was done.", "# TYPE done_total counter", r'done_total{who="a\"\\\n"} 1', 'done_total{who="ada"} 2',
             'done_total{who="ben"} 1', "# HELP free Room.", "# TYPE free gauge", 'free{disk="1"} 2.5',
@@ -72,7 +72,7 @@ class Text(unittest.TestCase):
         took = Histogram("took_seconds", "How long.", "route")
         for seconds in (0.0005, 0.002, 60.0):
             took.take(seconds, "/ask")
-        _, samples = read_metrics(text_of([took]))
+        _, samples = read_metrics(metrics_text([took]))
         self.assertEqual(samples['took_seconds_count{route="/ask"}'], 3)
         self.assertEqual(samples['took_seconds_sum{route="/ask"}'], 60.0025)
         for bound, count in (("0.0005", 1), ("0.001", 1), ("0.0025", 2), ("30", 2), ("+Inf", 3)):
@@ -82,7 +82,7 @@ class Text(unittest.TestCase):
         counter = Counter("done_total", "What was done.", "who")
         for who in range(3000):
             counter.add(str(who))
-        _, samples = read_metrics(text_of([counter]))
+        _, samples = read_metrics(metrics_text([counter]))
         self.assertEqual((len(samples), sum(samples.values())), (1001, 3000))
 
 

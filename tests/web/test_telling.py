@@ -33,7 +33,7 @@ class Telling(unittest.TestCase):
 
     def told(self, call):
         """A call in words, without markup."""
-        link = self.sentences.linked(lambda number: self.links.link(self.world, number), [])
+        link = self.sentences.preview_link(lambda number: self.links.link(self.world, number), [])
         return self.sentences.told(call, link).striptags().replace("\xa0", " ")
 
     def test_in_words(self):

@@ -15,7 +15,7 @@ from tests.support.undoing import WORDS as UNDOING_WORDS, Generator, asked_for
 from moolib.calls import objects_in  # noqa: E402
 from moolib.values import written  # noqa: E402
 from moo_web.world import literals, touching  # noqa: E402
-from moo_web.world.dumped import Dumped, Kept  # noqa: E402
+from moo_web.world.dumped import Dumped, DumpLines  # noqa: E402
 from moo_web.world.holdings import Holdings  # noqa: E402
 
 SEED, WORLDS = int(os.environ.get("SEED", 20261130)), int(os.environ.get("VALUE_WORLDS", 4))
@@ -152,7 +152,7 @@ class Random(ValuesTest):
     def same_as_a_dump(self):
         """What is kept is what a dump of the present world says."""
         holdings = next(take.__self__ for take in self.writer.listeners if isinstance(getattr(take, "__self__", None), Holdings))
-        kept, dump = holdings.literals(self.pages.index.world()), Kept()
+        kept, dump = holdings.literals(self.pages.index.world()), DumpLines()
         holdings.asker.door.__class__.copied(self.door, "/dump", dump)
         rows = [sorted((row.number, row.name.lower(), *row[2:]) for row in some) for some in (kept.rows(), Dumped.of(dump).rows)]
         self.assertEqual(*rows)

@@ -135,11 +135,11 @@ class Matching:
         sure = sorted(self.places.keys() - self.doubts.keys())
         if before == now or not sure:
             return {}
-        readings = Readings(before, now, MORE if self.is_reading() else MORE + 1)
+        readings = Readings(before, now, MORE if self.is_possible() else MORE + 1)
         found = {place: [other for other in readings.of(place) if other != self.places[place]] for place in sure}
         return {place: others for place, others in found.items() if others}
 
-    def is_reading(self) -> bool:
+    def is_possible(self) -> bool:
         """Whether this may have happened: no verb has another place among the others, and those that were there before are the first."""
         found = [self.places[place] for place in sorted(self.places)]
         return found == sorted(found) and sorted(self.places) == list(range(len(found)))

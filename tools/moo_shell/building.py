@@ -192,21 +192,20 @@ def changed(perms: str, given: str) -> str:
     return "".join(each for each in perms if each not in letters) if given.startswith(("-", "!")) else letters
 
 
-def info_of_property(found: re.Match[str], known: Known, perms: str = "", owner: str = "", name: str = "") -> list[str]:
-    """The line that gives a property other perms, another owner or another name; what isn't given stays."""
-    thing, text = known.thing(found["thing"]), written(found["property"])
-    former = known.value(f"property_info({thing}, {text})")
-    kept = changed(str(former[1]), perms) if perms else str(former[1])
-    values = [owner or written(former[0]), written(kept), *([written(name)] if name else [])]
-    return [f"set_property_info({thing}, {text}, {{{', '.join(values)}}})"]
+def verbs_in(found: re.Match[str]) -> str:
+    """The verb that a command names, as calls name it."""
+    return written(found["verbs"] or found["verb"])
 
 
-def info_of_verb(found: re.Match[str], known: Known, perms: str = "", owner: str = "", name: str = "") -> list[str]:
-    """The same of a verb."""
-    thing, text = known.thing(found["thing"]), written(found["verbs"] or found["verb"])
-    former = known.value(f"verb_info({thing}, {text})")
+def info_line(found: re.Match[str], known: Known, perms: str = "", owner: str = "", name: str = "") -> list[str]:
+    """The line that gives a property or a verb other perms, another owner or another name; what isn't given stays."""
+    what, text = ("verb", verbs_in(found)) if "verb" in found.re.groupindex else ("property", written(found["property"]))
+    thing = known.thing(found["thing"])
+    former = known.value(f"{what}_info({thing}, {text})")
     kept = changed(str(former[1]), perms) if perms else str(former[1])
-    return [f"set_verb_info({thing}, {text}, {{{owner or written(former[0])}, {written(kept)}, {written(name or former[2])}}})"]
+    rest: list[Value] = [name] if name else former[2:]
+    values = [owner or written(former[0]), written(kept), *map(written, rest)]
+    return [f"set_{what}_info({thing}, {text}, {{{', '.join(values)}}})"]
 
 
 def flags(found: re.Match[str], known: Known) -> list[str]:
@@ -237,21 +236,21 @@ def add_verb(found: re.Match[str], known: Known) -> list[str]:
     words = (found["given"] or "").split()
     given = [*words[:3], "none", "none", "none"][:3]
     perms, owner = [*words[3:], *["rxd" if given == ["this", "none", "this"] else "rd", "me"][max(len(words) - 3, 0) :]][:2]
-    names = written(found["verbs"] or found["verb"])
+    names = verbs_in(found)
     thing = known.thing(found["thing"])
     return [f"add_verb({thing}, {{{known.thing(owner)}, {written(unquoted(perms))}, {names}}}, {written(given)}) {HEADERS}"]
 
 
 def args_of_verb(found: re.Match[str], known: Known) -> list[str]:
     """The arguments of a verb; those that aren't given stay."""
-    thing, text = known.thing(found["thing"]), written(found["verbs"] or found["verb"])
+    thing, text = known.thing(found["thing"]), verbs_in(found)
     words: list[Value] = [*found["given"].split()]
     return [f"set_verb_args({thing}, {text}, {written([*words, *known.value(f'verb_args({thing}, {text})')[len(words):]][:3])})"]
 
 
 def header(found: re.Match[str], known: Known) -> list[str]:
     """The calls that tell the header of a verb."""
-    thing, text = known.thing(found["thing"]), written(found["verbs"] or found["verb"])
+    thing, text = known.thing(found["thing"]), verbs_in(found)
     return [f"verb_info({thing}, {text})", f"verb_args({thing}, {text}) {HEADERS}"]
 
 
@@ -282,8 +281,8 @@ COMMANDS = {
     "dig": Command('@dig north|south to "Attic"', ((r"(?:(?P<ways>\S+)\s+to\s+)?(?P<text>.+)", dig),)),
     "describe": Command('@describe here as "A dry fountain."', DESCRIBED),
     "rename": Command('@rename #5 to "Inn"', (
-        (rf"{VERB}\s+to\s+(?P<text>.+)", lambda found, known: info_of_verb(found, known, name=text_of(found["text"]))),
-        (rf"{PROPERTY}\s+to\s+(?P<text>.+)", lambda found, known: info_of_property(found, known, name=text_of(found["text"]))),
+        (rf"{VERB}\s+to\s+(?P<text>.+)", lambda found, known: info_line(found, known, name=text_of(found["text"]))),
+        (rf"{PROPERTY}\s+to\s+(?P<text>.+)", lambda found, known: info_line(found, known, name=text_of(found["text"]))),
         (rf"{THING}\s+to\s+(?P<text>.+)", rename),
     )),
     "set": Command("@set #5.light to 3", SET),
@@ -295,17 +294,19 @@ COMMANDS = {
     "rmproperty": Command("@rmproperty #5.light", GONE),
     "clearproperty": Command("@clearproperty #5.light", CLEARED),
     "chmod": Command("@chmod #5.light +r", (
-        (rf"{VERB}{PERMS}", lambda found, known: info_of_verb(found, known, perms=found["perms"])),
-        (rf"{PROPERTY}{PERMS}", lambda found, known: info_of_property(found, known, perms=found["perms"])),
+        (rf"{VERB}{PERMS}", lambda found, known: info_line(found, known, perms=found["perms"])),
+        (rf"{PROPERTY}{PERMS}", lambda found, known: info_line(found, known, perms=found["perms"])),
         (rf"{THING}{PERMS}", flags),
     )),
     "chown": Command("@chown #5 to #3", (
-        (rf"{VERB}{TO}", lambda found, known: info_of_verb(found, known, owner=known.thing(found["other"]))),
-        (rf"{PROPERTY}{TO}", lambda found, known: info_of_property(found, known, owner=known.thing(found["other"]))),
+        (rf"{VERB}{TO}", lambda found, known: info_line(found, known, owner=known.thing(found["other"]))),
+        (rf"{PROPERTY}{TO}", lambda found, known: info_line(found, known, owner=known.thing(found["other"]))),
         (rf"{THING}{TO}", chown),
     )),
     "verb": Command("@verb #5:look this none none", ((rf"{VERB}(?P<given>\s.*)?", add_verb),)),
-    "rmverb": Command("@rmverb #5:look", ((VERB, lambda found, known: [f"delete_verb({known.thing(found['thing'])}, {written(found['verbs'] or found['verb'])})"]),)),
+    "rmverb": Command("@rmverb #5:look", (
+        (VERB, lambda found, known: [f"delete_verb({known.thing(found['thing'])}, {verbs_in(found)})"]),
+    )),
     "args": Command("@args #5:look this none none", ((rf"{VERB}(?P<given>\s.+)", args_of_verb),)),
     "list": Command("@list #5:look", ((rf"{VERB}(?:\s.*)?", header),)),
     "verbs": Command("@verbs #5", ((THING, "verbs({thing})"),)),

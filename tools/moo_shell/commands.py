@@ -15,7 +15,7 @@ from moo_shell import including, looks
 from moo_shell.batches import Refused
 from moo_shell.editing import edit
 from moo_shell.elsewhere import STOPS, of_psql
-from moo_shell.exporting import export
+from moo_shell.exporting import export, new_file, put
 from moo_shell.files import history_file, write_new
 from moo_shell.meant import meant
 from moo_shell.naming import is_value
@@ -26,7 +26,7 @@ from moo_shell.session import Session
 from moo_shell.watching import watch
 from moo_shell.ways import how_to_undo
 from moolib.batches import Item
-from moolib.errors import TROUBLES, Failed
+from moolib.errors import TROUBLES, Failed, failing
 from moolib.lines import Line, counted, did_you_mean, filled, names_in, unquoted
 from moolib.values import written
 
@@ -151,10 +151,8 @@ def output(session: Session, text: str) -> None:
     if text and session.is_copy:
         session.output.note(f"{text} isn't written: this is a copy of the world")
         return
-    try:
+    with failing(text):
         session.output.send_to(text)
-    except OSError as error:
-        raise Failed(f"{text}: {error.strerror}") from None
 
 
 def petitions(session: Session, _: str) -> None:
@@ -240,20 +238,8 @@ def seq(session: Session, _: str) -> None:
 
 def dump(session: Session, text: str) -> None:
     """The dump of the world, to a new file or to the terminal."""
-    path = Path(unquoted(text)).expanduser() if text else None
-    if path and path.exists():
-        raise Failed(f"{path} is there already")
-    told = dump_of(session)
-    if path is None:
-        session.output.show(told.rstrip("\n"))
-        return
-    if session.is_copy:
-        session.output.note(f"{path} isn't written: this is a copy of the world")
-        return
-    try:
-        write_new(path, told)
-    except OSError as error:
-        raise Failed(f"{path}: {error.strerror}") from None
+    path = new_file(text)
+    put(session, path, dump_of(session))
 
 
 def dump_of(session: Session) -> str:

@@ -10,7 +10,7 @@ import subprocess
 import tempfile
 from pathlib import Path
 
-from moolib.errors import Failed
+from moolib.errors import Failed, failing
 from moolib.private import for_owner_alone
 
 # The bytes of a database file that SQLite locks for each reader: where they begin, and how many.
@@ -24,10 +24,8 @@ def history_file() -> Path:
 
 def read_lines(path: Path) -> list[str]:
     """The lines of a file; their ends may be those of Unix, of Windows or of old Macs."""
-    try:
+    with failing(path):
         return lines_of(path.read_bytes(), str(path))
-    except OSError as error:
-        raise Failed(f"{path}: {error.strerror}") from None
 
 
 def lines_of(data: bytes, name: str) -> list[str]:
@@ -67,19 +65,16 @@ def copy_world(world: Path, folder: Path) -> Path:
     """
     copy = folder / world.name
     source = world.resolve()
-    try:
-        with open(source, "rb") as file:
-            try:
-                fcntl.lockf(file, fcntl.LOCK_SH | fcntl.LOCK_NB, SHARED_SIZE, SHARED_FIRST)
-            except OSError:
-                raise Failed(f"{world}: in use by another program") from None
-            with open(copy, "xb") as target:
-                shutil.copyfileobj(file, target)
-            log = source.with_name(source.name + "-wal")
-            if log.exists():
-                shutil.copyfile(log, copy.with_name(copy.name + "-wal"))
-    except OSError as error:
-        raise Failed(f"{world}: {error.strerror}") from None
+    with failing(world), open(source, "rb") as file:
+        try:
+            fcntl.lockf(file, fcntl.LOCK_SH | fcntl.LOCK_NB, SHARED_SIZE, SHARED_FIRST)
+        except OSError:
+            raise Failed(f"{world}: in use by another program") from None
+        with open(copy, "xb") as target:
+            shutil.copyfileobj(file, target)
+        log = source.with_name(source.name + "-wal")
+        if log.exists():
+            shutil.copyfile(log, copy.with_name(copy.name + "-wal"))
     return copy
 
 

@@ -16,10 +16,10 @@ from moo_shell.helping import TOPICS
 from moo_shell.session import Session
 from moo_shell.statements import goes_on, statements, without_front
 from moo_shell.told import BOLD, PLAIN
-from moo_shell.world import BUILT_IN
 from moolib.begun import read_begun
 from moolib.errors import Failed
 from moolib.lines import counted
+from moolib.slots import BUILT_IN
 from moolib.values import written
 
 try:

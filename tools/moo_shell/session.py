@@ -28,7 +28,7 @@ from moo_shell.ways import putting_back, way_on
 from moo_shell.world import World
 from moolib.batches import Item
 from moolib.calls import LONGEST_CALL, call_name, read_or_none
-from moolib.errors import Failed
+from moolib.errors import Failed, failing
 from moolib.lines import Line, filled, hint, names_in, unfinished, unquoted
 from moolib.values import written
 
@@ -384,8 +384,6 @@ class Session:
         """Writes the names to their file, if there is one and they have changed."""
         if self.file_of_names is None or self.names == self.saved_names or self.is_copy:
             return
-        try:
+        with failing(self.file_of_names):
             write_whole(self.file_of_names, text_of_names(self.names))
-        except OSError as error:
-            raise Failed(f"{self.file_of_names}: {error.strerror}") from None
         self.saved_names = dict(self.names)

@@ -7,11 +7,11 @@ import re
 from collections.abc import Callable, Mapping
 from typing import TYPE_CHECKING
 
-from moo_shell.world import BUILT_IN
 from moolib.batches import Item, written_calls
 from moolib.calls import READING, Call, call_name, call_text, read_about, read_named, read_or_none
 from moolib.errors import Failed
 from moolib.lines import did_you_mean
+from moolib.slots import BUILT_IN
 from moolib.values import Obj, Value, written
 
 if TYPE_CHECKING:

@@ -25,7 +25,7 @@ from moo_shell.script import Script, go_on, greatest, run_scripts, would_make
 from moo_shell.service import OwnService, find_program, look_at
 from moo_shell.session import Session
 from moo_shell.told import Output
-from moolib.errors import Failed
+from moolib.errors import Failed, failing
 
 USAGE = """moo-shell [-c CALL | -f SCRIPT].. [OPTION].. FILE
        moo-shell [-c CALL | -f SCRIPT].. [OPTION].. --port PORT
@@ -92,11 +92,9 @@ def read_words(words: list[str]) -> argparse.Namespace:
 
 def token_of(said: argparse.Namespace) -> str:
     """The token for a front: from its file, from MOO_TOKEN, or asked for at the terminal. It is never a word of the command line."""
-    try:
-        if said.token:
+    if said.token:
+        with failing(said.token):
             return str(said.token.read_text()).strip()
-    except OSError as error:
-        raise Failed(f"{said.token}: {error.strerror}") from None
     token = os.environ.get("MOO_TOKEN", "").strip()
     if not token and sys.stdin.isatty():
         token = getpass.getpass("token: ").strip()

@@ -12,6 +12,7 @@ from moo_shell.door import Door
 from moolib.errors import Failed
 from moolib.handles import written_call
 from moolib.service import Answer, Said
+from moolib.slots import BITS
 from moolib.values import written
 
 PIECE = 1000
@@ -21,10 +22,8 @@ MOST_NEAR = 50
 MOST_TOLD = 10
 # The facts of an object that a batch of reading calls asks for, with the field of each.
 FACTS = {"name": 'get({}, "name")', "parent": "parent({})", "location": 'get({}, "location")', "owner": 'get({}, "owner")', "f": 'get({}, "f")'}
-BITS = ("player", "programmer", "wizard", "r", "w", "f")
 # Properties by which an object is known, that are looked for where names may not be listed.
 USUAL = ("description", "exits", "aliases")
-BUILT_IN = ("name", "owner", "location", "contents", "programmer", "wizard", "r", "w", "f")
 
 
 @dataclasses.dataclass(frozen=True)

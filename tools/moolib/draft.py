@@ -17,14 +17,13 @@ from typing import Any, Callable, Optional, Sequence
 from moolib.calls import Call
 from moolib.facts import Facts
 from moolib.slots import (
-    MARKS, PROPERTY_LETTERS, SETTABLE, VERB_LETTERS, Fresh, Slot, State, Verb, is_true, letters_of, matches, number_of, slot_calls,
+    BITS, MARKS, PROPERTY_LETTERS, SETTABLE, VERB_LETTERS, Fresh, Slot, State, Verb, is_true, letters_of, matches, number_of, slot_calls,
 )  # fmt: skip
 from moolib.values import GREATEST_INTEGER, Obj, Value
 
 NOTHING = -1
 QUOTA = "ownership_quota"
 PETITIONS = "petitions()"
-BITS = ("player", "programmer", "wizard", "r", "w", "f")
 
 
 class Draft:

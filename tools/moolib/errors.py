@@ -5,6 +5,8 @@
 
 from __future__ import annotations
 
+import contextlib
+from collections.abc import Iterator
 from typing import Optional
 
 
@@ -192,6 +194,15 @@ class Failed(MooError):
 
     def __str__(self) -> str:
         return f"{self.place[0]}: line {self.place[1]}: {self.reason}" if self.place else self.reason
+
+
+@contextlib.contextmanager
+def failing(what: object) -> Iterator[None]:
+    """In here an error of the system is a `Failed` instead: what it is about, and why."""
+    try:
+        yield
+    except OSError as error:
+        raise Failed(f"{what}: {error.strerror}") from None
 
 
 REFUSALS = {kind.__name__: kind for kind in Refused.__subclasses__() if kind.__name__.startswith("E_")}

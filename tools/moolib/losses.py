@@ -20,7 +20,7 @@ from moolib.values import Obj, Value, written
 
 MOST_LISTED = 1000
 # What `get` reads of an object's own, and calls change.
-BUILT_IN = (*SETTABLE, "location")
+CHANGEABLE = (*SETTABLE, "location")
 
 
 class Loss(NamedTuple):
@@ -123,7 +123,7 @@ class Finding:
     def built_in(self) -> Iterator[Touched]:
         """The marks of objects that get another value."""
         for number, key in sorted(self.draft.marks):
-            if key in BUILT_IN and number not in self.draft.made and number not in self.draft.gone:
+            if key in CHANGEABLE and number not in self.draft.made and number not in self.draft.gone:
                 former = self.facts.value(MARKS[key].format(number))
                 if (former.number if isinstance(former, Obj) else former) != self.draft.mark(number, key):
                     yield Touched(number, key, False)

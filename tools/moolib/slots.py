@@ -14,7 +14,9 @@ PREPOSITIONS = (
     "with/using", "at/to", "in front of", "in/inside/into", "on top of/on/onto/upon", "out of/from inside/from", "over", "through",
     "under/underneath/beneath", "behind", "beside", "for/about", "is", "as", "off/off of",
 )  # fmt: skip
-# The built-in properties that `set` changes.
+# The bits of an object, in the order in which a dump has them; its built-in properties; and those that `set` changes.
+BITS = ("player", "programmer", "wizard", "r", "w", "f")
+BUILT_IN = ("name", "owner", "location", "contents", "programmer", "wizard", "r", "w", "f")
 SETTABLE = ("name", "owner", "programmer", "wizard", "r", "w", "f")
 # What an object has besides slots and verbs, with the call that tells it.
 MARKS = {

@@ -22,18 +22,15 @@ from moo_web.journal.jobs import Busy
 from moo_web.journal.writer import Writer
 from moo_web.paths import Path
 from moo_web.people.audit import TOKEN_REFUSED
-from moo_web.people.limits import Rate, network_of
+from moo_web.people.limits import BURST_SECONDS, Rate, network_of
 from moo_web.people.people import People
 from moo_web.people.person import Person
-from moo_web.world.door import Answer, Door, Unreachable, batch_body, own_answer, packed
+from moo_web.world.asking import TRIES
+from moo_web.world.door import QUESTION_SECONDS, Answer, Door, Unreachable, batch_body, own_answer, packed
 from moo_web.world.losing import answer_with_losses
 from moo_web.world.overseeing import Overseeing
 
 PREFIX = "/api/"
-# How long a question may take.
-READING = 10.0
-BURST_SECONDS = 10.0
-TRIES = 5
 # So many dumps may be in files at once: a file is there until its dump was read.
 DUMPS_AT_ONCE = 2
 NO_TOKEN = in_json(401, ("WWW-Authenticate", "Bearer"), error="unauthorized")
@@ -159,7 +156,7 @@ class Api:
 
     def named(self, sent: Sent, items: list[Item]) -> tuple[list[str], Answer]:
         """The calls of a batch with names, and what they would answer, at one number of the world. No calls if that is a refusal."""
-        end = time.monotonic() + READING
+        end = time.monotonic() + QUESTION_SECONDS
         for _ in range(TRIES):
             at = self.door.asked("GET", "/seq", None, end).said["seq"] if sent.at is None else sent.at
 
@@ -185,15 +182,12 @@ class Api:
         sent = self.asked(request, may_name=False)
         if isinstance(sent, Reply):
             return sent
-        answer = self.question("/each?why", sent.body())
-        if answer.status != 404 or answer.error != "not found":
-            return replied(sent, answer)
-        return self.one_by_one(sent)
+        return replied(sent, self.question("/each?why", sent.body()))
 
     def look(self, request: Request, _: str = "") -> Reply:
         """A question of moo's that is the same for everybody."""
         path = request.path.removeprefix(PREFIX.rstrip("/"))
-        return passed_on(self.door.asked("GET", path, None, time.monotonic() + READING))
+        return passed_on(self.door.asked("GET", path, None, time.monotonic() + QUESTION_SECONDS))
 
     def since(self, request: Request, at: int) -> Reply:
         """What has changed since a number of the world."""
@@ -208,8 +202,8 @@ class Api:
         """The dump, for wizards. It is put into a file first, so that moo doesn't wait for a slow reader."""
         if not self.is_wizard(person_of(request)):
             return FORBIDDEN
-        end = time.monotonic() + READING
-        if not self.dumps.acquire(timeout=READING):
+        end = time.monotonic() + QUESTION_SECONDS
+        if not self.dumps.acquire(timeout=QUESTION_SECONDS):
             raise Busy
         file = DumpFile(self.dumps)
         try:
@@ -226,43 +220,11 @@ class Api:
 
     def is_wizard(self, person: Person) -> bool:
         """Whether the person's object is a wizard now."""
-        return self.door.is_wizard(person.number, READING)
+        return self.door.is_wizard(person.number, QUESTION_SECONDS)
 
     def question(self, path: str, body: bytes) -> Answer:
         """moo's answer to a question. `Unreachable`: there is none in time."""
-        return self.door.asked("POST", path, body, time.monotonic() + READING)
-
-    # For a moo without /each
-
-    def one_by_one(self, sent: Sent) -> Reply:
-        """What `/each` would answer, by a question for each call at one number of the world."""
-        if not sent.is_batch:
-            refusal = self.question("/ask?why", sent.body())
-            return passed_on(refusal) if refusal.status != 200 else BAD_REQUEST
-        end = time.monotonic() + READING
-        for _ in range(TRIES):
-            first = self.door.asked("POST", "/ask?why", batch_body(sent.person.number, [], sent.at), end)
-            if first.status != 200:
-                return passed_on(first)
-            each = self.answers_at(sent.person, sent.calls, first.said["seq"], end)
-            if each is not None:
-                return replied(sent, own_answer(200, each=each, seq=first.said["seq"]))
-            if sent.at is not None:
-                return in_json(409, error="stale", seq=self.door.asked("GET", "/seq", None, end).said["seq"])
-        raise Unreachable
-
-    def answers_at(self, person: Person, calls: list[str], seq: int, end: float) -> list[dict[str, str]] | None:
-        """The answer of each call at this number; None if the world moves on meanwhile."""
-        each = []
-        for call in calls:
-            answer = self.door.asked("POST", "/ask?why", batch_body(person.number, [call], seq), end)
-            if answer.error == "stale":
-                return None
-            if answer.status == 200:
-                each.append({"answer": answer.said["answers"][0]})
-            else:
-                each.append({"error": answer.error} | ({"why": answer.said["why"]} if "why" in answer.said else {}))
-        return each
+        return self.door.asked("POST", path, body, time.monotonic() + QUESTION_SECONDS)
 
 
 def token_of(request: Request) -> str:

@@ -12,7 +12,7 @@ import threading
 import time
 from pathlib import Path
 
-from moolib.errors import Failed
+from moolib.errors import failing
 
 PEOPLE_FILE = "people.db"
 
@@ -43,12 +43,10 @@ def own_folder(text: str) -> Path:
     """The folder of this name, which is made if it isn't there, for its owner alone. `Failed`: it can't be."""
     folder = Path(text).absolute()
     missing = [path for path in (folder, *folder.parents) if not path.exists()]
-    try:
+    with failing(folder):
         folder.mkdir(mode=0o700, parents=True, exist_ok=True)
         for path in missing:
             sync_folder(path.parent)
-    except OSError as error:
-        raise Failed(f"{folder}: {error.strerror}") from error
     return folder
 
 

@@ -210,12 +210,12 @@ class Front:
             *gauges.of_world(self.writer, self.readiness, said.full),
             *self.meters.all(),
             *gauges.of_journal(folders),
-            *standbys.metrics(folders[0], self.writer),
+            *standbys.standby_metrics(folders[0], self.writer),
             *gauges.of_traffic(lambda: open_connections(self.server) if self.server else 0, room, self.places, self.api.followers),
-            *process.metrics(),
+            *process.process_metrics(),
         ]
         status = port.Status(self.readiness, self.activity, metrics, lambda: gauges.watched(said.metrics), tell)
-        own = port.serve(status.app, port.sockets_at(said.status_port))
+        own = port.serve_port(status.app, port.sockets_at(said.status_port))
         tell(f"the status port is http://127.0.0.1:{own}/")
 
     def is_wizard(self, person: Person) -> bool:

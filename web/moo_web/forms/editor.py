@@ -19,11 +19,12 @@ from moolib.naming import Found, numbered
 from moolib.service import MOST_CALLS
 
 from moo_web.app import Reply
-from moo_web.forms.forms import Ambiguous, Field, Form, Me, Mistake, Names, number_at
+from moo_web.forms.forms import Field, Form, Me, Mistake, number_at
 from moo_web.forms.handlers import TROUBLES, FormPages, FormResult, me_of
 from moo_web.forms.input import Mistyped, test_letters
-from moo_web.forms.views import NamesOf
+from moo_web.forms.lookup import ObjectLookup
 from moo_web.pages.pages import Visit
+from moo_web.pages.words import sentence
 from moo_web.paths import url_for
 
 MOST_LISTED = 400
@@ -55,12 +56,12 @@ def line_wrong(lines: list[str], number: int, wrong: Mistyped) -> LineWrong:
     def with_line(line: str) -> str:
         return "\n".join([*lines[: number - 1], line, *lines[number:]])
 
-    choices = wrong.choices if isinstance(wrong, Ambiguous) and sum(map(len, lines)) < LONGEST_WITH_CHOICES else ()
+    choices = wrong.choices if sum(map(len, lines)) < LONGEST_WITH_CHOICES else ()
     offered = tuple((with_line(line), words) for line, words in choices)
     return LineWrong(number, Mistake(wrong.reason, with_line(wrong.better) if wrong.better else "", offered))
 
 
-def items_in(text: str, names: Names, me: Me) -> list[Item]:
+def items_in(text: str, names: ObjectLookup, me: Me) -> list[Item]:
     """The calls of a text, each with its line. `LineWrong`: one can't be taken."""
     lines = all_lines(text)
     items: list[Item] = []
@@ -71,7 +72,7 @@ def items_in(text: str, names: Names, me: Me) -> list[Item]:
         except Mistyped as wrong:
             raise line_wrong(lines, number, wrong) from None
         except Failed as failed:
-            raise LineWrong(number, Mistake(f"{failed.reason[:1].upper()}{failed.reason[1:]}.")) from None
+            raise LineWrong(number, Mistake(sentence(failed.reason))) from None
         if len(items) > MOST_CALLS:
             raise LineWrong(number, Mistake(f"A batch has at most {MOST_CALLS:,} calls, and this is one more."))
     if not items:
@@ -79,7 +80,7 @@ def items_in(text: str, names: Names, me: Me) -> list[Item]:
     return items
 
 
-def take_line(typed: str, number: int, items: list[Item], values: dict[str, str], names: Names, me: Me) -> None:
+def take_line(typed: str, number: int, items: list[Item], values: dict[str, str], names: ObjectLookup, me: Me) -> None:
     """Takes in a line. `Mistyped`, `Failed`: it can't be taken."""
     line = read_line(typed)
     if line.kind in ("command", "include"):
@@ -94,7 +95,7 @@ def take_line(typed: str, number: int, items: list[Item], values: dict[str, str]
     except Mistyped as wrong_letter:
         raise Mistyped(wrong_letter.reason, typed.replace(line.text, wrong_letter.better, 1) if wrong_letter.better else "") from None
     if line.kind == "call" and (wrong := hint(line.text).partition("; \\help")[0]):
-        raise Mistyped(f"{wrong[:1].upper()}{wrong[1:]}.")
+        raise Mistyped(sentence(wrong))
     known = {"$me": f"#{me.number}", **values, **{item.name: item.name for item in items if item.name}}
     text = filled(with_numbers(typed, line, names, me), known)
     if line.kind == "value":
@@ -104,7 +105,7 @@ def take_line(typed: str, number: int, items: list[Item], values: dict[str, str]
     items.append(Item(text, line.name, ("", number)))
 
 
-def with_numbers(typed: str, line: Line, names: Names, me: Me) -> str:
+def with_numbers(typed: str, line: Line, names: ObjectLookup, me: Me) -> str:
     """The call or the value of a line, with numbers in place of names of objects. `Mistyped`, `Ambiguous`: at which letter one isn't known."""
     call = read_begun(line.text) if line.kind == "call" else None
     first, last = (call.begin, call.end) if call else (0, len(line.text))
@@ -145,7 +146,7 @@ class BatchPages(FormPages):
         """The calls of the text; if the plain letters are wanted in place of others, of the text with these."""
         while True:
             try:
-                return items_in(typed.get("text", ""), NamesOf(visit.world), me_of(visit))
+                return items_in(typed.get("text", ""), ObjectLookup(visit.world), me_of(visit))
             except LineWrong as wrong:
                 if visit.form.get("better") != "text" or not wrong.mistake.better:
                     raise

@@ -1,6 +1,6 @@
 """What forms are made of that show what is there and change what differs: each entry is a field and the call that gives it another value.
 
-    differing(entries, typed, names, me).items      the calls for the fields that were changed, in the order of the entries
+    changed_entries(entries, typed, names, me).items      the calls for the fields that were changed, in the order of the entries
 
 Beside each field the page has a sum of what was in it at first, under `KEY.was`. What is as it was isn't sent, whatever others have done
 meanwhile.
@@ -16,22 +16,23 @@ from typing import NamedTuple
 
 from moolib.batches import Item
 
-from moo_web.forms.forms import Ambiguous, Field, Me, Mistake, Names, Typed, flag_value, read_field
+from moo_web.forms.forms import Field, Me, Mistake, Typed, flag_value, read_field
 from moo_web.forms.input import Mistyped
-from moo_web.forms.views import by_field, keys_of
+from moo_web.forms.lookup import ObjectLookup
+from moo_web.forms.views import by_field, field_keys
 
 # What is beside a field, and isn't a part of what it says.
 BESIDE = (".was", ".back", ".choice")
 
 
-def key_of(prefix: str, name: str) -> str:
+def property_key(prefix: str, name: str) -> str:
     """The key of the field for a property, which stays the same when others come and go."""
     return f"{prefix}{hashlib.sha256(name.lower().encode()).hexdigest()[:10]}"
 
 
 def sum_of_typed(field: Field, typed: Mapping[str, str]) -> str:
     """A sum of what is in a field."""
-    said = {key: typed[key].replace("\r\n", "\n") for key in keys_of(field, typed) if not key.endswith(BESIDE)}
+    said = {key: typed[key].replace("\r\n", "\n") for key in field_keys(field, typed) if not key.endswith(BESIDE)}
     return hashlib.sha256(json.dumps(sorted(said.items())).encode()).hexdigest()[:16]
 
 
@@ -60,29 +61,28 @@ class Entry:
         """A call, with the field that it is about."""
         return Item(call, None, (self.field.key, 0))
 
-    def items(self, typed: Typed, names: Names, me: Me) -> list[Item]:
+    def items(self, typed: Typed, names: ObjectLookup, me: Me) -> list[Item]:
         """The calls for what is in the field; none, if that is the value that is there. `Mistyped`, `Ambiguous`: it can't be taken."""
         value = read_field(self.field, typed, names, me)
         return [] if value is None or value == self.now else [self.item(self.call(value))]
 
 
-class Differing(NamedTuple):
+class ChangedEntries(NamedTuple):
     """What differs: the calls, and the mistakes by the keys of their fields."""
 
     items: list[Item]
     mistakes: dict[str, Mistake]
 
 
-def differing(entries: Iterable[Entry], typed: Typed, names: Names, me: Me) -> Differing:
+def changed_entries(entries: Iterable[Entry], typed: Typed, names: ObjectLookup, me: Me) -> ChangedEntries:
     """What was changed in these fields."""
-    found, typed_in = Differing([], {}), by_field(typed)
+    found, typed_in = ChangedEntries([], {}), by_field(typed)
     for entry in entries:
         mine = typed_in.get(entry.field.key, {})
         try:
             found.items.extend(entry.items(mine, names, me) if entry.is_touched(mine) else ())
         except Mistyped as mistyped:
-            choices = mistyped.choices if isinstance(mistyped, Ambiguous) else ()
-            found.mistakes[entry.field.key] = Mistake(mistyped.reason, mistyped.better, choices)
+            found.mistakes[entry.field.key] = Mistake.of(mistyped)
     return found
 
 

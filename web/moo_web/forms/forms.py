@@ -1,7 +1,7 @@
 """Forms as data: the fields of each, what kinds of things are typed into them, and the calls that are made of them.
 
     filled = read_form(FORMS["rename"], {"object": "#4", "name": "Lamp"}, names, Me(17, False))
-    items_of(FORMS["rename"], filled)      [Item('set(#4, "name", "Lamp")')]
+    items_of_form(FORMS["rename"], filled)      [Item('set(#4, "name", "Lamp")')]
 
 The forms themselves are in `catalogue`. What was typed comes as texts under the keys of the fields: of a value also its kind under
 `KEY.kind`, of letters and of several objects one text for each under `KEY.r` or `KEY.5`, of a flag what it was under `KEY.was`.
@@ -12,13 +12,14 @@ from __future__ import annotations
 import dataclasses
 import re
 from collections.abc import Callable, Mapping, Sequence
-from typing import Any, Protocol
+from typing import Any
 
 from moolib.batches import Item
 from moolib.naming import Found, names_of_objects, numbered, replaced, shown_as
 from moolib.values import ERRORS
 
 from moo_web.forms.input import LONGEST_NAME, Mistyped, clipped, number_value, test_letters, text_value, written_value
+from moo_web.forms.lookup import ObjectLookup
 from moo_web.forms.patterns import condition, pattern
 
 Typed = Mapping[str, str]
@@ -27,15 +28,16 @@ WORDS_FOR_NOTHING = ("nothing", "nowhere", "none", "nobody", "-1", "#-1")
 UNNAMED = "unnamed"
 MOST_CHOICES = 20
 MOST_OBJECTS = 1000
+FIELD_KINDS = frozenset("object place objects text lines name value number flag letters choice verb calls exits cell hidden".split())
 
 
 @dataclasses.dataclass(frozen=True)
 class Field:
     """A field of a form.
 
-    `kind` is object, place (an object or nothing), objects, text, lines, name (of a property or a verb), value, number, flag, letters,
-    choice, verb, or calls. `now` is a reading call whose answer is what the field has at first, and `part` the place in that answer, if it
-    is a list. `options` are those of a choice or of letters, each with its words. `section` begins a part of the form that can be folded.
+    `kind` is one of `FIELD_KINDS`: a place is an object or nothing, a name that of a property or a verb. `now` is a reading call whose
+    answer is what the field has at first, and `part` the place in that answer, if it is a list. `options` are those of a choice or of
+    letters, each with its words. `section` begins a part of the form that can be folded.
     """
 
     key: str
@@ -54,8 +56,8 @@ class Field:
 class Step:
     """A call of a form, with `<KEY>` for what a field was given, `<one>` for each of several, and `<new>` for the object made just before.
 
-    It is made only if the field `given` has something, or has just this (`what=move`), and not if the field `unless` has something. `is_new` is whether
-    it makes that object.
+    It is made only if the field `given` has something, or has just this (`what=move`), and not if the field `unless` has something.
+    `is_new` is whether it makes that object.
     """
 
     call: str
@@ -89,6 +91,7 @@ class Form:
     def __post_init__(self) -> None:
         """Reads what is said in texts, and tells mistakes in it when the catalogue is imported."""
         for field in self.fields:
+            self.require(field.kind in FIELD_KINDS, f"{field.key} is {field.kind}")
             self.require(field.now == "" or pattern(field.now).keys <= self.keys, f"{field.key} is {field.now} now")
             # A section is a condition, or its title.
             self.require("=" not in field.section or self.is_condition(field.section), f"{field.key} is in {field.section}")
@@ -135,6 +138,11 @@ class Mistake:
     choices: tuple[tuple[str, str], ...] = ()
     lines: str = ""
 
+    @classmethod
+    def of(cls, mistyped: Mistyped) -> Mistake:
+        """What is wrong with what was typed in a field of one line."""
+        return cls(mistyped.reason, mistyped.better, mistyped.choices)
+
 
 @dataclasses.dataclass(frozen=True)
 class Me:
@@ -155,19 +163,6 @@ class Ambiguous(Mistyped):
         self.choices = (*((f"#{number}", label) for number, label in choices), *typed)
 
 
-class Names(Protocol):
-    """What forms ask about the objects of a world."""
-
-    def is_object(self, number: int) -> bool:
-        """Whether there is an object of this number."""
-
-    def named(self, word: str) -> list[tuple[int, str]]:
-        """The objects of just this name, in any case of letters, each with words that tell it from others."""
-
-    def like(self, word: str) -> list[tuple[int, str]]:
-        """The same of those whose name has this word in it."""
-
-
 @dataclasses.dataclass
 class Filled:
     """What a form was given: the values by the keys of their fields, as moo writes them, and the mistakes."""
@@ -176,7 +171,7 @@ class Filled:
     mistakes: dict[str, Mistake] = dataclasses.field(default_factory=dict)
 
 
-def object_value(typed: str, names: Names, me: Me, may_be_nothing: bool = False) -> str:
+def object_value(typed: str, names: ObjectLookup, me: Me, may_be_nothing: bool = False) -> str:
     """An object that is typed by its number, its name, or both. `Mistyped`, `Ambiguous`: it isn't one, or it could be several."""
     word = typed.strip()
     if may_be_nothing and word.lower() in WORDS_FOR_NOTHING:
@@ -201,14 +196,14 @@ def object_value(typed: str, names: Names, me: Me, may_be_nothing: bool = False)
     raise Mistyped(f"No object is named “{clipped(word)}”. Write its number, such as #5, or its name.")
 
 
-def known_number(number: int, names: Names) -> int:
+def known_number(number: int, names: ObjectLookup) -> int:
     """The number of an object that is there. `Mistyped`: it isn't."""
     if not names.is_object(number):
         raise Mistyped(f"There is no object #{number}. If there was one, it was recycled.")
     return number
 
 
-def shown_number(name: str, number: int, names: Names) -> int:
+def shown_number(name: str, number: int, names: ObjectLookup) -> int:
     """The number of an object that is typed as pages show it. `Mistyped`, `Ambiguous`: it isn't there, or has another name."""
     known_number(number, names)
     is_cut = name.endswith("…")
@@ -219,7 +214,7 @@ def shown_number(name: str, number: int, names: Names) -> int:
     raise Ambiguous(f"#{number} isn’t named “{clipped(name)}”. Choose one:", choices)
 
 
-def several_objects(field: Field, typed: Typed, names: Names, me: Me) -> list[str]:
+def several_objects(field: Field, typed: Typed, names: ObjectLookup, me: Me) -> list[str]:
     """Objects that are ticked, or typed with commas or line ends between them."""
     ticked = [f"#{key.split('.')[1]}" for key in typed if re.fullmatch(re.escape(field.key) + r"\.\d{1,10}", key)]
     words = [word for word in re.split(r"[,\r\n]+", typed.get(field.key, "")) if word.strip()]
@@ -239,12 +234,12 @@ def property_name(typed: str) -> str:
     return text_value(typed, LONGEST_NAME)
 
 
-def any_value(field: Field, typed: Typed, names: Names, me: Me) -> str:
+def any_value(field: Field, typed: Typed, names: ObjectLookup, me: Me) -> str:
     """A value of the kind that was chosen beside it."""
     return value_of_kind(typed.get(f"{field.key}.kind", "text"), typed.get(field.key, ""), names, me)
 
 
-def value_of_kind(kind: str, text: str, names: Names, me: Me) -> str:
+def value_of_kind(kind: str, text: str, names: ObjectLookup, me: Me) -> str:
     """A value that is typed as this kind. `Mistyped`, `Ambiguous`: it can't be taken."""
     if kind == "number":
         return number_value(text)
@@ -253,7 +248,7 @@ def value_of_kind(kind: str, text: str, names: Names, me: Me) -> str:
     return value_with_names(text, names, me) if kind == "written" else text_value(text)
 
 
-def value_with_names(text: str, names: Names, me: Me) -> str:
+def value_with_names(text: str, names: ObjectLookup, me: Me) -> str:
     """A value that is typed as it is written, with names of objects or without. `Mistyped`, `Ambiguous`: at which letter it can't be taken."""
     try:
         return written_value(text)
@@ -269,7 +264,7 @@ def value_with_names(text: str, names: Names, me: Me) -> str:
     return written_value(text)
 
 
-def number_at(text: str, found: Found, names: Names, me: Me) -> str:
+def number_at(text: str, found: Found, names: ObjectLookup, me: Me) -> str:
     """The number of the object whose name is in a text. `Mistyped`, `Ambiguous`: as `object_value`, with the letter at which the name begins."""
     try:
         return object_value(found.word, names, me, may_be_nothing=True)
@@ -327,7 +322,7 @@ def verb_value(typed: str) -> str:
 READERS: dict[str, Callable[[str], str]] = {"text": text_value, "name": property_name, "number": number_value, "verb": verb_value}
 
 
-def read_field(field: Field, typed: Typed, names: Names, me: Me) -> Any:
+def read_field(field: Field, typed: Typed, names: ObjectLookup, me: Me) -> Any:
     """What a field was given, as a value or as several; None if nothing. `Mistyped`: it can't be taken."""
     text, kind = typed.get(field.key, ""), field.kind
     if kind == "objects":
@@ -355,7 +350,7 @@ def is_asked(field: Field, filled: Filled) -> bool:
     return "=" not in field.section or condition(field.section).holds(filled.values)
 
 
-def read_form(form: Form, typed: Typed, names: Names, me: Me) -> Filled:
+def read_form(form: Form, typed: Typed, names: ObjectLookup, me: Me) -> Filled:
     """What a form was given."""
     filled = Filled({"me": f"#{me.number}"})
     for field in form.fields:
@@ -364,15 +359,14 @@ def read_form(form: Form, typed: Typed, names: Names, me: Me) -> Filled:
         try:
             filled.values[field.key] = read_field(field, typed, names, me)
         except Mistyped as mistyped:
-            choices = mistyped.choices if isinstance(mistyped, Ambiguous) else ()
             lines = mistyped.lines if field.kind == "value" else ""
-            filled.mistakes[field.key] = Mistake(mistyped.reason, mistyped.better, choices, lines)
-    if not filled.mistakes and not items_of(form, filled):
+            filled.mistakes[field.key] = dataclasses.replace(Mistake.of(mistyped), lines=lines)
+    if not filled.mistakes and not items_of_form(form, filled):
         filled.mistakes[form.fields[-1].key] = Mistake("Nothing is changed yet.")
     return filled
 
 
-def items_of(form: Form, filled: Filled) -> list[Item]:
+def items_of_form(form: Form, filled: Filled) -> list[Item]:
     """The calls of a form, with names such as $new1 for objects that it makes."""
     several = (filled.values.get(form.each) or [None]) if form.each else [None]
     items = []

@@ -29,14 +29,14 @@ TOP = "max_object()"
 MOST_VERBS, MOST_ABOVE = 8, 8
 
 
-class Outcome(NamedTuple):
+class PetitionOutcome(NamedTuple):
     """What granting a petition would do, and what declining it would; None for who may not."""
 
     grant: Preview | None = None
     decline: Preview | None = None
 
 
-def outcomes_of(asked: Asking, wizard: int, told: Said, petitions: Sequence[Petition], world: World) -> list[Outcome]:
+def outcomes_of(asked: Asking, wizard: int, told: Said, petitions: Sequence[Petition], world: World) -> list[PetitionOutcome]:
     """What granting and declining each of these would do to this world. `asked` asks for facts of it as the wizard.
 
     `told` is what `petitions()` answers. What `asked` raises comes through.
@@ -46,11 +46,11 @@ def outcomes_of(asked: Asking, wizard: int, told: Said, petitions: Sequence[Peti
     return gathering.all([Granting(gathering.said, wizard, one, world).outcome for one in petitions])
 
 
-def ends_of(asked: Asking, petitions: Sequence[Petition], seq: int) -> dict[int, Outcome]:
+def ends_of(asked: Asking, petitions: Sequence[Petition], seq: int) -> dict[int, PetitionOutcome]:
     """What declining each would do, by their numbers."""
     calls = [end_of(one) for one in petitions]
     answers = asked(calls) if calls else []
-    return {one.number: Outcome(None, single(call, said, seq)) for one, call, said in zip(petitions, calls, answers)}
+    return {one.number: PetitionOutcome(None, single(call, said, seq)) for one, call, said in zip(petitions, calls, answers)}
 
 
 def end_of(petition: Petition) -> str:
@@ -72,7 +72,7 @@ class Granting:
         self.asked, self.wizard, self.petition, self.world, self.seq = asked, wizard, petition, world, world.seq
         self.calls = [each for each in map(read_or_none, petition.calls) if each]
 
-    def outcome(self) -> Outcome:
+    def outcome(self) -> PetitionOutcome:
         """The previews of the grant, and of declining it."""
         call, end = f"grant({self.petition.number})", end_of(self.petition)
         befores = befores_of(self.petition.calls)
@@ -80,7 +80,7 @@ class Granting:
         given = dict(zip(wanted, self.asked(wanted)))
         inner = inner_changes(self.petition.calls, befores, given, given[call].is_good)
         losses = self.losses(call, given[call]) if given[call].is_good else Losses()
-        return Outcome(single(call, given[call], self.seq, inner, losses), single(end, given[end], self.seq))
+        return PetitionOutcome(single(call, given[call], self.seq, inner, losses), single(end, given[end], self.seq))
 
     def losses(self, call: str, said: Said) -> Losses:
         """What it would destroy. A wizard may read all of it."""

@@ -17,23 +17,26 @@ from moolib.errors import Failed
 from moo_web.app import Reply
 from moo_web.forms import catalogue
 from moo_web.forms.excuses import Excuse, excuse
-from moo_web.forms.forms import Form, Me, Mistake, items_of, read_form
+from moo_web.forms.forms import Form, Me, Mistake, items_of_form, read_form
 from moo_web.forms.input import Mistyped
+from moo_web.forms.lookup import ObjectLookup
 from moo_web.forms.owners import owners_asked
 from moo_web.forms.petitions import asked_of, petition_item
 from moo_web.forms.previewing import Change, Preview
 from moo_web.forms.previews import Done, Previews
 from moo_web.forms.untouched import is_untouched
-from moo_web.forms.views import NamesOf, Offer, chosen_of, known_values, reads_at_first, typed_at_first, view_of
+from moo_web.forms.views import Offer, chosen_of, known_values, reads_at_first, typed_at_first, view_of
 from moo_web.journal.notes import LONGEST_WORDS, NO_NOTE, Note, Unfit, fit_of, words_in
 from moo_web.journal.recent import Recent, Seen
 from moo_web.journal.segments import Accepted
 from moo_web.journal.jobs import Busy, Stopped, TooMuch, Unknown
 from moo_web.pages.accepting import accepting
 from moo_web.pages.pages import Visit
-from moo_web.pages.sentences import is_grave, linked, told
+from moo_web.pages.sentences import is_grave, preview_link, told
+from moo_web.pages.words import sentence
 from moo_web.paths import url_for, whole_number
 from moo_web.world.door import TooLong, Unreachable
+from moo_web.world.index import NOT_THERE
 from moo_web.world.things import Thing, World
 
 GROUPS = (
@@ -46,7 +49,6 @@ MOST_OFFERED = 1000
 MAKING = ("create", "new", "class")
 # A page of a form may be kept by the browser of who sent it, for the way back to it.
 KEPT_BY_BROWSER = ("Cache-Control", "private, no-cache")
-NOT_THERE = ("E_INVARG", "E_INVIND")
 SIBLINGS = ("set", "clear", "property-rights", "delete-property", "verb-rights", "verb-args", "delete-verb")
 TROUBLES = {
     "busy": "The world didn’t answer in time, and nothing was sent to it. What you typed is still here: try again in a moment.",
@@ -112,7 +114,7 @@ class FormPages:
             return visit.refused("not found", 404)
         if visit.fields.get("go") == "preview":
             return self.attempt(visit, form, visit.fields)
-        names, me = NamesOf(visit.world), me_of(visit)
+        names, me = ObjectLookup(visit.world), me_of(visit)
         typed = offered_by(visit)
         known = known_values(form, typed, names, me)
         reads = reads_at_first(form, typed, known)
@@ -149,7 +151,7 @@ class FormPages:
         """The same, if moo answers."""
         if go == "edit":
             return self.page(visit, form, typed, {}, FormResult(trouble=TROUBLES["signed in"]))
-        names, me = NamesOf(visit.world), me_of(visit)
+        names, me = ObjectLookup(visit.world), me_of(visit)
         if form.key == "accept":
             choose_own(visit, typed, known_values(form, typed, names, me).get("object", ""))
         if go == "preview" and is_untouched(visit, form, typed, names, me):
@@ -159,7 +161,7 @@ class FormPages:
             filled = read_form(form, typed, names, me)
         if filled.mistakes:
             return self.page(visit, form, typed, filled.mistakes, FormResult(status=422))
-        return self.sent(visit, form, typed, items_of(form, filled), go)
+        return self.sent(visit, form, typed, items_of_form(form, filled), go)
 
     def sent(self, visit: Visit, form: Form, typed: dict[str, str], items: list[Item], go: str) -> Reply:
         """Previews or applies calls, or the petition of them."""
@@ -210,10 +212,10 @@ class FormPages:
     def page(self, visit: Visit, form: Form, typed: Mapping[str, str], mistakes: Mapping[str, Mistake], found: FormResult) -> Reply:
         """The page of a form."""
         stay_with(visit)
-        names, me = NamesOf(visit.world), me_of(visit)
+        names, me = ObjectLookup(visit.world), me_of(visit)
         about = self.about(visit, form, typed)
         shown = (*found.preview.changes, *found.preview.inner) if found.preview else ()
-        link = linked(visit.link, [(change.call, change.answer) for change in shown])
+        link = preview_link(visit.link, [(change.call, change.answer) for change in shown])
         offers = self.offers(visit, form, about) if about >= 0 and not found.trouble else {}
         view = view_of(form, typed, mistakes, names, me, offers)
         return visit.page(
@@ -230,7 +232,7 @@ class FormPages:
 
     def about(self, visit: Visit, form: Form, typed: Mapping[str, str]) -> int:
         """The number of the object that a form is about, as far as it is known, or -1."""
-        return int(known_values(form, typed, NamesOf(visit.world), me_of(visit)).get("object", "#-1")[1:])
+        return int(known_values(form, typed, ObjectLookup(visit.world), me_of(visit)).get("object", "#-1")[1:])
 
     def more(self, form: Form, typed: Mapping[str, str], mistakes: Mapping[str, Mistake], found: FormResult) -> dict[str, object]:
         """What a page has besides."""
@@ -259,7 +261,7 @@ def note_typed(found: FormResult) -> Note:
     try:
         return Note(words_in(found.words))
     except Unfit as unfit:
-        found.wrong_words, found.status = f"{str(unfit)[:1].upper()}{str(unfit)[1:]}.", 422
+        found.wrong_words, found.status = sentence(str(unfit)), 422
         found.words = fit_of(found.words)
         return NO_NOTE
 

@@ -8,11 +8,12 @@ from typing import Any, Callable, Optional
 from markupsafe import Markup
 from moolib.batches import Item
 from moolib.calls import read_or_none
+from moolib.draft import PETITIONS
 from moolib.service import Said
 
 from moo_web.app import Reply
 from moo_web.forms.excuses import Excuse
-from moo_web.forms.granting import Outcome, ends_of, outcomes_of
+from moo_web.forms.granting import PetitionOutcome, ends_of, outcomes_of
 from moo_web.forms.handlers import excuse_of, values_before
 from moo_web.forms.owners import Visible, of_others, owners_asked, visible
 from moo_web.forms.petitions import Petition, petitions_in
@@ -23,17 +24,16 @@ from moo_web.journal.notes import LONGEST_WORDS
 from moo_web.journal.talks import Talk, decided_of, talks_of
 from moo_web.pages.batches import readable
 from moo_web.pages.pages import Visit
-from moo_web.pages.sentences import is_grave, linked, told
+from moo_web.pages.sentences import is_grave, preview_link, told
 from moo_web.paths import whole_number
 from moo_web.world.door import TooLong
 
 ON_A_PAGE = 10
 MOST_DECIDED = 10
-PETITIONS = "petitions()"
 
 
 @dataclasses.dataclass(frozen=True)
-class Row:
+class PetitionRow:
     """A petition as a person sees it: its calls, what was said of it, the owners who are asked, and what they can do about it.
 
     `grant` is what granting it would do, for a wizard, in words too (`told`). `decline` is None for who may not end it. `accept` is what its
@@ -93,15 +93,15 @@ class PetitionPages:
         others = [] if visit.is_wizard else of_others(visit, self.previews.overseeing)
         return sorted([*petitions_in(said), *others]), said
 
-    def rows(self, visit: Visit, petitions: list[Petition], said: Optional[Said]) -> list[Row]:
+    def rows(self, visit: Visit, petitions: list[Petition], said: Optional[Said]) -> list[PetitionRow]:
         """These petitions with what can be done about each. Without what `petitions()` answers none can be granted: no preview is made."""
         ask_for_all(visit, petitions)
         talks = talks_of(self.history, [one.number for one in petitions])
         outcomes = self.outcomes(visit, petitions, said)
-        return [row_of(visit, one, talks.get(one.number), outcomes.get(one.number, Outcome())) for one in petitions]
+        return [petition_row(visit, one, talks.get(one.number), outcomes.get(one.number, PetitionOutcome())) for one in petitions]
 
     @staticmethod
-    def outcomes(visit: Visit, petitions: list[Petition], said: Optional[Said]) -> dict[int, Outcome]:
+    def outcomes(visit: Visit, petitions: list[Petition], said: Optional[Said]) -> dict[int, PetitionOutcome]:
         """What the person could do about these petitions, by their numbers."""
         if visit.is_wizard and said is not None:
             found = outcomes_of(visit.said, visit.number, said, petitions, visit.world)
@@ -132,16 +132,16 @@ class PetitionPages:
         calls = list(map(str, talk.calls))
         return visit.page("forms/decided.html", talk=talk, calls=calls, **self.words(visit))
 
-    def page_of(self, visit: Visit, row: Row, status: int = 200, wrong: str = "", typed: str = "") -> Reply:
+    def page_of(self, visit: Visit, row: PetitionRow, status: int = 200, wrong: str = "", typed: str = "") -> Reply:
         """The page of an open petition. `wrong` is what is wrong with the words that were typed."""
         return visit.page("forms/petition.html", status, row=row, wrong=wrong, typed=typed, **self.words(visit))
 
-    def with_acceptance(self, visit: Visit, row: Row) -> Row:
+    def with_acceptance(self, visit: Visit, row: PetitionRow) -> PetitionRow:
         """The same for an owner who is asked, with what its calls would do by their own rights, if they may see all of them."""
         if not row.is_asked or row.seen.hidden or row.is_over:
             return row
-        accept = self.previews.of(visit.session.person, items_of(row.petition))
-        link = linked(visit.link, [(change.call, change.answer) for change in accept.changes])
+        accept = self.previews.of(visit.session.person, items_of_petition(row.petition))
+        link = preview_link(visit.link, [(change.call, change.answer) for change in accept.changes])
         return dataclasses.replace(row, accept=accept, excuse=excuse_of(None, accept), told=lambda call: told(call, link))
 
     @staticmethod
@@ -164,17 +164,18 @@ class PetitionPages:
         return visit.page("forms/quotas.html", rows=rows)
 
 
-def row_of(visit: Visit, petition: Petition, talk: Optional[Talk], outcome: Outcome) -> Row:
+def petition_row(visit: Visit, petition: Petition, talk: Optional[Talk], outcome: PetitionOutcome) -> PetitionRow:
     """A petition with what the person could do about it."""
     seen, grant = visible(visit, petition), outcome.grant
     is_same = talk is not None and (talk.asked.programmer, list(map(str, talk.calls))) == (petition.who, petition.calls)
     # After a world was loaded from a dump a number may be given again. Who may read none of the calls reads no word about them either.
     if not is_same or not seen.calls:
         talk = None
-    row = Row(petition, seen, talk, [] if seen.hidden else owners_asked(visit, petition.calls, petition.who), outcome.decline, grant)
+    owners = [] if seen.hidden else owners_asked(visit, petition.calls, petition.who)
+    row = PetitionRow(petition, seen, talk, owners, outcome.decline, grant)
     if grant is None:
         return row
-    link = linked(visit.link, [(change.call, change.answer) for change in grant.inner])
+    link = preview_link(visit.link, [(change.call, change.answer) for change in grant.inner])
     return dataclasses.replace(row, excuse=excuse_of(None, grant), told=lambda call: told(call, link))
 
 
@@ -184,6 +185,6 @@ def ask_for_all(visit: Visit, petitions: list[Petition]) -> None:
         readable(visit, [read_or_none(text) for one in petitions if one.who != visit.number for text in one.calls])
 
 
-def items_of(petition: Petition) -> list[Item]:
+def items_of_petition(petition: Petition) -> list[Item]:
     """The calls of a petition as a batch."""
     return [Item(call) for call in petition.calls]

@@ -32,7 +32,12 @@ MOST_UNLIKE = 12
 
 
 class Mistyped(Exception):
-    """What was typed can't be taken, for this reason. `better` is a text that could be, and `lines` the same as a list of its lines."""
+    """What was typed can't be taken, for this reason. `better` is a text that could be, and `lines` the same as a list of its lines.
+
+    `choices` are those that are meant perhaps: what is typed for each, and its words.
+    """
+
+    choices: tuple[tuple[str, str], ...] = ()
 
     def __init__(self, reason: str, better: str = "", lines: str = "") -> None:
         super().__init__(reason)

@@ -16,22 +16,23 @@ from moolib.calls import read_or_none
 
 from moo_web.app import Reply
 from moo_web.forms.catalogue import FIRST_QUOTA, QUOTA
-from moo_web.forms.forms import Ambiguous, Field, Form, Mistake, Step, object_value, read_form
+from moo_web.forms.forms import Field, Form, Mistake, Step, object_value, read_form
 from moo_web.forms.handlers import FormPages, FormResult, me_of
 from moo_web.forms.input import Mistyped
+from moo_web.forms.lookup import ObjectLookup
 from moo_web.forms.previews import Done, Previews
-from moo_web.forms.views import NamesOf, typed_at_first
+from moo_web.forms.views import typed_at_first
 from moo_web.journal.recent import Recent, Seen
 from moo_web.pages.lists import Part, part_of
 from moo_web.pages.pages import Visit
-from moo_web.pages.sign import sentence
+from moo_web.pages.words import sentence
 from moo_web.paths import url_for
 from moo_web.people.file import Wrong
 from moo_web.people.people import People
+from moo_web.world.asking import TRIES
 from moo_web.world.door import Unreachable
 from moo_web.world.things import Thing
 
-TRIES = 5
 PAGE = 50
 # So many players without an account are shown.
 MOST_SHOWN = 20
@@ -101,14 +102,13 @@ class NewcomerPages(FormPages):
     def of_object(self, visit: Visit, typed: dict[str, str], go: str) -> Reply:
         """Adds a person who acts as an object that is there, or says who would."""
         try:
-            number = int(object_value(typed.get("object", ""), NamesOf(visit.world), me_of(visit))[1:])
+            number = int(object_value(typed.get("object", ""), ObjectLookup(visit.world), me_of(visit))[1:])
         except Mistyped as mistyped:
-            choices = mistyped.choices if isinstance(mistyped, Ambiguous) else ()
-            return self.wrong(visit, typed, "object", Mistake(mistyped.reason, mistyped.better, choices))
+            return self.wrong(visit, typed, "object", Mistake.of(mistyped))
         if not visit.world.things[number].has("player"):
             return self.wrong(visit, typed, "object", Mistake("It isn’t a player: make it one first, by the form ‘Player and wizard’."))
         if go == "preview":
-            told = f"{typed['account']} would act as {NamesOf(visit.world).short(number)}. Press ‘Add’ to do it."
+            told = f"{typed['account']} would act as {ObjectLookup(visit.world).short(number)}. Press ‘Add’ to do it."
             return self.page(visit, FORM, typed, {}, FormResult(trouble=told))
         return self.entered(visit, typed, number)
 
@@ -131,7 +131,7 @@ class NewcomerPages(FormPages):
     @staticmethod
     def quota_item(visit: Visit, typed: dict[str, str]) -> Item:
         """The call that sets the quota: on the property of the parent, or on a new one, which the person can't shed."""
-        values = read_form(FORM, typed, NamesOf(visit.world), me_of(visit)).values
+        values = read_form(FORM, typed, ObjectLookup(visit.world), me_of(visit)).values
         (kept,) = visit.answers([f"get({values['parent']}, {QUOTA})"])
         if getattr(kept, "error", ""):
             return Item(f'add_property($new1, {QUOTA}, {values["quota"]}, {{#{visit.number}, "r"}})')

@@ -4,21 +4,20 @@ from __future__ import annotations
 
 from collections.abc import Callable, Mapping
 
-from moolib.values import written
-
 from moo_web.app import Reply
-from moo_web.forms.entries import Differing, key_of, sum_of_typed, typed_with
-from moo_web.forms.exits import exits_in, free_direction
+from moo_web.forms.entries import ChangedEntries, property_key, sum_of_typed, typed_with
+from moo_web.forms.exits import free_direction
 from moo_web.forms.forms import Field, Form, Typed, object_value
 from moo_web.forms.handlers import TROUBLES, FormPages, FormResult, me_of
 from moo_web.forms.input import Mistyped
+from moo_web.forms.lookup import ObjectLookup
 from moo_web.forms.table import NEW_ROWS, rows_in, table_form
-from moo_web.forms.views import NamesOf, by_field, chosen_of, default_of
-from moo_web.forms.whole import EntriesForm, edit_form, new_form
+from moo_web.forms.views import by_field, chosen_of, default_of
+from moo_web.forms.whole import EntriesForm, edit_form, new_form, readable_exits
 from moo_web.journal.recent import Seen
-from moo_web.pages.pages import TRIES, Visit
+from moo_web.pages.pages import Visit
 from moo_web.paths import whole_number
-from moo_web.world.asking import Moved
+from moo_web.world.asking import TRIES, Moved
 from moo_web.world.door import Unreachable
 
 MOST_CLASSES = 200
@@ -67,7 +66,7 @@ class EntriesPages(FormPages):
     def acted(self, visit: Visit, form: Form, typed: dict[str, str], go: str) -> Reply:
         """What is done with a form that was sent, if moo answers."""
         assert isinstance(form, EntriesForm)
-        names, me = NamesOf(visit.world), me_of(visit)
+        names, me = ObjectLookup(visit.world), me_of(visit)
         if go == "edit":
             return self.page(visit, form, typed_with(form.entries, typed), {}, FormResult(trouble=TROUBLES["signed in"]))
         found = form.differing(typed, names, me)
@@ -77,7 +76,7 @@ class EntriesPages(FormPages):
             found = form.differing(typed, names, me)
         return self.decided(visit, form, typed, found, go)
 
-    def decided(self, visit: Visit, form: EntriesForm, typed: dict[str, str], found: Differing, go: str) -> Reply:
+    def decided(self, visit: Visit, form: EntriesForm, typed: dict[str, str], found: ChangedEntries, go: str) -> Reply:
         """The page for what was changed: its mistakes, that it is nothing, or its preview. What was sent before may be there by now."""
         typed = typed_with(form.entries, typed)
         if gone := unknown_texts(form, visit.form):
@@ -96,21 +95,17 @@ class ObjectPages(EntriesPages):
 
     def edit(self, visit: Visit, number: int) -> Reply:
         """The form of an object."""
-        if number not in visit.world.things:
-            return visit.page("pages/no_object.html", 404, number=number)
         return self.shown(visit, edit_form(visit, number, visit.fields.get("page", "")), {})
 
     def edited(self, visit: Visit, number: int) -> Reply:
         """What is done with it."""
-        if number not in visit.world.things:
-            return visit.page("pages/no_object.html", 404, number=number)
         return self.at_one_number(visit, lambda: edit_form(visit, number, visit.form.get("page", "")))
 
     def new(self, visit: Visit) -> Reply:
         """The form of a new object, or the classes of which one can be made."""
         typed = visit.fields.get("parent", "")
         try:
-            parent = int(object_value(typed, NamesOf(visit.world), me_of(visit))[1:])
+            parent = int(object_value(typed, ObjectLookup(visit.world), me_of(visit))[1:])
         except Mistyped as mistyped:
             return self.classes(visit, mistyped.reason if typed.strip() else "")
         form = new_form(visit, parent)
@@ -119,7 +114,7 @@ class ObjectPages(EntriesPages):
     def made(self, visit: Visit) -> Reply:
         """What is done with the form of a new object."""
         try:
-            parent = int(object_value(visit.form.get("parent", ""), NamesOf(visit.world), me_of(visit))[1:])
+            parent = int(object_value(visit.form.get("parent", ""), ObjectLookup(visit.world), me_of(visit))[1:])
         except Mistyped as mistyped:
             return self.classes(visit, mistyped.reason)
         return self.at_one_number(visit, lambda: new_form(visit, parent))
@@ -136,7 +131,7 @@ class ObjectPages(EntriesPages):
         """What the address says for the fields of a new object: its name and place, properties by their names, and `from`, to which it leads."""
         keys = {"name": "name", "place": "place"} | {field.label: field.key for field in form.fields if field.key.startswith("p")}
         found = {keys[name]: text for name, text in visit.fields.items() if name in keys}
-        start, exits = whole_number(visit.fields.get("from", "")), key_of("p", visit.pages.sight_names.exits)
+        start, exits = whole_number(visit.fields.get("from", "")), property_key("p", visit.sight_names.exits)
         if start is not None and start in visit.world.things and exits in form.keys:
             found.setdefault(exits, exit_to(visit, start))
         return found
@@ -144,8 +139,7 @@ class ObjectPages(EntriesPages):
 
 def exit_to(visit: Visit, room: int) -> str:
     """The line of an exit to a room, in a direction whose way back is free there."""
-    (value,) = visit.answers([f"get(#{room}, {written(visit.pages.sight_names.exits)})"])
-    return f"{free_direction(exits_in(value) or [])}: {NamesOf(visit.world).short(room)}"
+    return f"{free_direction(readable_exits(visit, room) or [])}: {ObjectLookup(visit.world).short(room)}"
 
 
 class ClassPages(EntriesPages):
@@ -155,14 +149,10 @@ class ClassPages(EntriesPages):
 
     def table(self, visit: Visit, number: int) -> Reply:
         """The table, with the columns that the address names."""
-        if number not in visit.world.things:
-            return visit.page("pages/no_object.html", 404, number=number)
         return self.shown(visit, table_form(visit, number, visit.fields), {})
 
     def changed(self, visit: Visit, number: int) -> Reply:
         """What is done with it. More rows are shown with all that was typed."""
-        if number not in visit.world.things:
-            return visit.page("pages/no_object.html", 404, number=number)
         asked = dict(visit.form)
         if asked.get("go") == "rows":
             asked["rows"] = str(rows_in(asked.get("rows", "")) + NEW_ROWS)

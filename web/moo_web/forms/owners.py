@@ -12,9 +12,8 @@ from moolib.facts import TooMuch
 from moo_web.forms.petitions import Petition, petitions_told
 from moo_web.pages.batches import readable
 from moo_web.pages.pages import Visit
-from moo_web.pages.waiting import is_about, mine
-from moo_web.world.asking import READING
-from moo_web.world.door import TooLong
+from moo_web.pages.waiting import is_about_theirs, mine
+from moo_web.world.door import QUESTION_SECONDS, TooLong
 from moo_web.world.overseeing import Overseeing
 from moo_web.world.petitioned import about, about_all
 
@@ -32,11 +31,11 @@ def of_others(visit: Visit, overseeing: Overseeing) -> list[Petition]:
     moo shows them to wizards and to who made them alone, so they are read as a wizard. `TooLong`: they are too long to be shown together.
     """
     opened = visit.index.opened.all
-    numbers = {number for number, one in opened.items() if one.who != visit.number and is_about(visit.world, visit.number, one)}
+    numbers = {number for number, one in opened.items() if one.who != visit.number and is_about_theirs(visit.world, visit.number, one)}
     if not numbers:
         return []
     try:
-        facts = overseeing.facts(visit.number, visit.world.seq, time.monotonic() + READING, [PETITIONS])
+        facts = overseeing.facts(visit.number, visit.world.seq, time.monotonic() + QUESTION_SECONDS, [PETITIONS])
         told = facts.value(PETITIONS)
     except TooMuch:
         raise TooLong from None

@@ -12,16 +12,17 @@ from urllib.parse import quote
 from moolib.batches import Item
 from moolib.values import NoValue, Obj, Value, read, written
 
-from moo_web.forms.entries import Differing, Entry, differing, key_of
-from moo_web.forms.exits import exits_in
-from moo_web.forms.forms import Field, Me, Mistake, Names, Typed, object_value, value_of_kind
+from moo_web.forms.entries import ChangedEntries, Entry, changed_entries, property_key
+from moo_web.forms.exits import typed_exits
+from moo_web.forms.forms import Field, Me, Mistake, Typed, object_value, value_of_kind
 from moo_web.forms.input import Mistyped, typed_as
-from moo_web.forms.views import NamesOf
+from moo_web.forms.lookup import ObjectLookup
 from moo_web.forms.whole import EntriesForm, form_of, is_exits, may_write, pairs_on, setting
 from moo_web.pages.lists import part_of
 from moo_web.pages.pages import Visit
 from moo_web.paths import url_for, whole_number
 from moo_web.world.properties import Property, properties_of, property_calls
+from moo_web.world.things import cut_name
 
 ROWS, NEW_ROWS, MOST_NEW = 40, 10, 100
 COLUMNS, MOST_COLUMNS, MOST_OFFERED = 5, 8, 60
@@ -42,7 +43,7 @@ class Cell(Entry):
     clear: str = ""
     inherited: str = ""
 
-    def items(self, typed: Typed, names: Names, me: Me) -> list[Item]:
+    def items(self, typed: Typed, names: ObjectLookup, me: Me) -> list[Item]:
         """The call for what is in the cell."""
         text = typed.get(self.field.key, "")
         if not text.strip():
@@ -52,7 +53,7 @@ class Cell(Entry):
         return [] if self.is_own and value == self.now else [self.item(self.call(value))]
 
 
-class Row(NamedTuple):
+class ChildRow(NamedTuple):
     """A child: its number, the key of its name, if the person may write that, and in each column the key of its cell or its value."""
 
     number: int
@@ -67,16 +68,16 @@ class NewRow(NamedTuple):
     name: str
     cells: tuple[Cell, ...]
 
-    def differing(self, create: str, place: str, typed: Typed, names: Names, me: Me) -> Differing:
+    def differing(self, create: str, place: str, typed: Typed, names: ObjectLookup, me: Me) -> ChangedEntries:
         """The calls that make the object; none, if the row is empty. `place` is where it is put, or empty."""
         field = Field(self.name, "Name", "text")
-        found = differing((Entry(field, {self.name: ""}, "", setting(self.made, "name")), *self.cells), typed, names, me)
+        found = changed_entries((Entry(field, {self.name: ""}, "", setting(self.made, "name")), *self.cells), typed, names, me)
         if not found.items or found.mistakes:
             return found
         if not typed.get(self.name, "").strip():
-            return Differing([], {self.name: Mistake("A name is missing.")})
+            return ChangedEntries([], {self.name: Mistake("A name is missing.")})
         end = [Item(f"move({self.made}, {place})", None, ("place", 0))] if place else []
-        return Differing([Item(create, self.made, (self.name, 0)), *found.items, *end], {})
+        return ChangedEntries([Item(create, self.made, (self.name, 0)), *found.items, *end], {})
 
 
 @dataclasses.dataclass(frozen=True)
@@ -85,7 +86,7 @@ class TableForm(EntriesForm):
 
     columns: tuple[str, ...] = ()
     offered: tuple[str, ...] = ()
-    rows: tuple[Row, ...] = ()
+    rows: tuple[ChildRow, ...] = ()
     new: tuple[NewRow, ...] = ()
 
     @property
@@ -97,10 +98,10 @@ class TableForm(EntriesForm):
         """The address of a page of the children, with the same columns."""
         return url_for("class", number=self.number, page=page, **{f"p.{quote(name)}": "on" for name in self.columns})
 
-    def differing(self, typed: Typed, names: Names, me: Me) -> Differing:
+    def differing(self, typed: Typed, names: ObjectLookup, me: Me) -> ChangedEntries:
         """The calls for the rows that were changed and for the new ones, and the mistakes."""
         made = {row.name for row in self.new} | {cell.field.key for row in self.new for cell in row.cells}
-        found = differing([entry for entry in self.entries if entry.field.key not in made], typed, names, me)
+        found = changed_entries([entry for entry in self.entries if entry.field.key not in made], typed, names, me)
         place = ""
         try:
             place = object_value(typed["place"], names, me, may_be_nothing=True) if typed.get("place", "").strip() else ""
@@ -115,17 +116,17 @@ class TableForm(EntriesForm):
 
 def table_form(visit: Visit, number: int, asked: Typed) -> TableForm:
     """The table of a class. `asked` has its `columns`, its `page` and its number of empty `rows`, as far as they are said."""
-    offered = columns_on(visit, number)
+    of, offered = visit.world.thing(number), columns_on(visit, number)
     by_name = {one.name: one for one in offered}
     columns = [by_name[name] for name in names_in(asked, list(by_name)) if name in by_name]
     part = part_of(visit.world.children.get(number, ()), asked.get("page", ""), ROWS)
     count = asked.get("rows", "")
     new = [new_row(place, columns, visit) for place in range(1, rows_in(count) + 1)]
-    rows, entries = rows_of(visit, list(part.items), columns)
+    rows, entries = child_rows(visit, list(part.items), columns)
     for row in new:
         entries += [Entry(Field(row.name, f"Name of new object {row.made[4:]}", "text"), {row.name: ""}, "", setting(row.made, "name")), *row.cells]
     form = TableForm(
-        "class", f"Children of {visit.short(number)}", ABOUT, (), (), entries=tuple(entries), path=url_for("class", number=number),
+        "class", f"Children of {cut_name(of.name)}", ABOUT, (), (), entries=tuple(entries), path=url_for("class", number=number),
         number=number, part=part.number, parts=part.pages, columns=tuple(one.name for one in columns), offered=tuple(by_name), rows=tuple(rows),
         new=tuple(new),
     )  # fmt: skip
@@ -148,7 +149,7 @@ def columns_on(visit: Visit, number: int) -> list[Property]:
     pairs = pairs_on(visit, number)[:MOST_OFFERED]
     visit.answers(property_calls(number, pairs, [above.number for above in visit.world.chain(number)]))
     found = [one for one in properties_of(visit, number, pairs) if may_write(visit, one, is_new=True)]
-    return [one for one in found if not (is_exits(visit, one) and exits_in(one.value) is not None)]
+    return [one for one in found if not (is_exits(visit, one) and typed_exits(one.value) is not None)]
 
 
 def names_in(asked: Typed, all_names: list[str]) -> list[str]:
@@ -162,21 +163,21 @@ def names_in(asked: Typed, all_names: list[str]) -> list[str]:
     return names[:MOST_COLUMNS]
 
 
-def rows_of(visit: Visit, numbers: list[int], columns: list[Property]) -> tuple[list[Row], list[Entry]]:
+def child_rows(visit: Visit, numbers: list[int], columns: list[Property]) -> tuple[list[ChildRow], list[Entry]]:
     """The rows of children, and their entries."""
     pairs = [(one.definer, one.name) for one in columns]
     chains = {number: [above.number for above in visit.world.chain(number)] for number in numbers}
     visit.answers([call for number, chain in chains.items() for call in property_calls(number, pairs, chain)])
-    rows: list[Row] = []
+    rows: list[ChildRow] = []
     entries: list[Entry] = []
     for number in numbers:
-        row, some = row_of(visit, number, properties_of(visit, number, pairs))
+        row, some = child_row(visit, number, properties_of(visit, number, pairs))
         rows.append(row)
         entries += some
     return rows, entries
 
 
-def row_of(visit: Visit, number: int, properties: list[Property]) -> tuple[Row, list[Entry]]:
+def child_row(visit: Visit, number: int, properties: list[Property]) -> tuple[ChildRow, list[Entry]]:
     """The row of a child, and its entries."""
     thing, it = visit.world.things[number], f"#{number}"
     entries: list[Entry] = []
@@ -189,16 +190,16 @@ def row_of(visit: Visit, number: int, properties: list[Property]) -> tuple[Row, 
         if not may_write(visit, one):
             cells.append(("", one.value))
             continue
-        cell = cell_of(visit, it, key_of(f"c{number}-", one.name), one, f"{one.name} of {visit.short(number)}", one.source == number)
+        cell = cell_of(visit, it, property_key(f"c{number}-", one.name), one, f"{one.name} of {visit.short(number)}", one.source == number)
         cells.append((cell.field.key, one.value))
         entries.append(cell)
-    return Row(number, name, cells), entries
+    return ChildRow(number, name, cells), entries
 
 
 def new_row(place: int, columns: list[Property], visit: Visit) -> NewRow:
     """An empty row."""
     made = f"$new{place}"
-    cells = [cell_of(visit, made, key_of(f"n{place}-", one.name), one, f"{one.name} of new object {place}", False) for one in columns]
+    cells = [cell_of(visit, made, property_key(f"n{place}-", one.name), one, f"{one.name} of new object {place}", False) for one in columns]
     return NewRow(made, f"n{place}-name", tuple(cells))
 
 
@@ -206,7 +207,7 @@ def cell_of(visit: Visit, it: str, key: str, one: Property, label: str, is_own: 
     """A cell with a value of its own, or empty."""
     kind, text = typed_as(one.value)
     if isinstance(one.value, Obj) and one.value.number >= 0:
-        text = NamesOf(visit.world).short(one.value.number)
+        text = ObjectLookup(visit.world).short(one.value.number)
     text = text or EMPTY
     return Cell(
         Field(key, label, "cell"), {key: text if is_own else ""}, written(one.value), setting(it, one.name), kind=kind, is_own=is_own,

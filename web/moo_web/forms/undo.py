@@ -23,8 +23,9 @@ from moo_web.journal.recent import Recent
 from moo_web.journal.segments import Accepted
 from moo_web.journal.undoing import Undo, undone
 from moo_web.pages.pages import Visit
+from moo_web.pages.words import sentence
 from moo_web.paths import whole_number
-from moo_web.world.asking import Moved
+from moo_web.world.asking import TRIES, Moved
 from moo_web.world.door import Unreachable
 from moo_web.world.things import shortened
 
@@ -32,7 +33,6 @@ UNDO = Form("undo", "Undo a batch", "A batch is some changes that were done toge
 # So many letters of a line are shown, and so many calls are left out one by one.
 LONGEST_LINE = 200
 MOST_LEFT_OUT = 200
-TRIES = 5
 UNREAD = "{:,} value{} that you may not read can’t be put back by you. A wizard can do it."
 UNKNOWN = "{:,} call{} left out, about an object that an earlier one of these batches makes anew: its number isn’t known here."
 
@@ -68,7 +68,7 @@ class UndoPages(BatchPages):
         try:
             found.preview = possible.preview() if possible.lines else None
         except Failed as failed:
-            possible.left.append(f"{failed.reason[:1].upper()}{failed.reason[1:]}.")
+            possible.left.append(sentence(failed.reason))
         found.lasting = (*undo.lasting, *possible.left)
         if found.preview and not found.preview.changes:
             found.preview = None

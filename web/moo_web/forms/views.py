@@ -10,50 +10,14 @@ from typing import Any
 
 from moolib.values import ErrorValue, Obj
 
-from moo_web.forms.forms import Ambiguous, Field, Form, Me, Mistake, object_value
+from moo_web.forms.forms import Field, Form, Me, Mistake, object_value
 from moo_web.forms.input import VALUE_KINDS, Mistyped, text_value, typed_as
+from moo_web.forms.lookup import MOST_OFFERED, ObjectLookup
 from moo_web.forms.patterns import pattern
-from moo_web.world.things import Thing, World, cut_name
 
-MOST_OFFERED = 100
-LONGEST_LABEL = 50
 MOST_ROWS = 14
-
-
 # What may be typed in a field: each with its words.
 Offer = tuple[tuple[str, str], ...]
-
-
-class NamesOf:
-    """The names of a world's objects, for forms to ask about."""
-
-    def __init__(self, world: World) -> None:
-        self.world = world
-
-    def is_object(self, number: int) -> bool:
-        """Whether there is an object of this number."""
-        return number in self.world.things
-
-    def named(self, word: str) -> list[tuple[int, str]]:
-        """The objects of just this name."""
-        return [(number, self.label(self.world.things[number])) for number in self.world.names.named(word)]
-
-    def like(self, word: str) -> list[tuple[int, str]]:
-        """The objects with this word in their names, those that begin with it first."""
-        return [(number, self.label(self.world.things[number])) for number in self.world.names.like(word, MOST_OFFERED)]
-
-    def short(self, number: int) -> str:
-        """An object by its name and number."""
-        thing = self.world.things.get(number)
-        if thing is None:
-            return "nothing" if number < 0 else f"#{number}"
-        return f"{cut_name(thing.name.strip(), LONGEST_LABEL)} #{number}"
-
-    def label(self, thing: Thing) -> str:
-        """An object in words that tell it from others of its name."""
-        where = f"in {self.short(thing.location)}" if thing.location >= 0 else "nowhere"
-        kind = f", under {self.short(thing.parent)}" if thing.parent >= 0 else ""
-        return f"{self.short(thing.number)}, {where}{kind}"
 
 
 @dataclasses.dataclass
@@ -109,7 +73,7 @@ class View:
 ACCEPTS = "accept_list(<object>)"
 
 
-def keys_of(field: Field, typed: Mapping[str, str]) -> list[str]:
+def field_keys(field: Field, typed: Mapping[str, str]) -> list[str]:
     """The fields of a request that belong to a field of a form."""
     return [key for key in typed if key == field.key or key.startswith(f"{field.key}.")]
 
@@ -152,7 +116,7 @@ def typed_now(field: Field, value: Any) -> dict[str, str]:
     return {field.key: str(value)}
 
 
-def known_values(form: Form, typed: Mapping[str, str], names: NamesOf, me: Me) -> dict[str, str]:
+def known_values(form: Form, typed: Mapping[str, str], names: ObjectLookup, me: Me) -> dict[str, str]:
     """The values of the fields that say which object, property or verb a form is about, as far as they are known."""
     found: dict[str, str] = {}
     for field in form.fields:
@@ -162,7 +126,7 @@ def known_values(form: Form, typed: Mapping[str, str], names: NamesOf, me: Me) -
             elif field.key in ("name", "verb") and not field.now and typed.get(field.key):
                 word = typed[field.key]
                 found[field.key] = word if field.key == "verb" and word.isdigit() else text_value(word)
-        except (Mistyped, Ambiguous):
+        except Mistyped:
             pass
     return found
 
@@ -171,7 +135,7 @@ def reads_at_first(form: Form, typed: Mapping[str, str], known: Mapping[str, str
     """By the key of a field: the reading call that tells what is there now, if nothing is typed in it yet."""
     found = {}
     for field in form.fields:
-        if field.now and pattern(field.now).keys <= known.keys() and not keys_of(field, typed):
+        if field.now and pattern(field.now).keys <= known.keys() and not field_keys(field, typed):
             found[field.key] = pattern(field.now).filled(known)
     return found
 
@@ -194,7 +158,7 @@ def typed_at_first(form: Form, typed: Mapping[str, str], answers: Mapping[str, A
     """What is typed in a form at first: what its address says, what is there now, and what is usual. An answer may be a refusal."""
     found = dict(typed)
     for field in form.fields:
-        if keys_of(field, typed):
+        if field_keys(field, typed):
             if field.kind in ("object", "place") and typed.get(field.key, "").isdigit():
                 found[field.key] = f"#{typed[field.key]}"
             continue
@@ -206,7 +170,7 @@ def typed_at_first(form: Form, typed: Mapping[str, str], answers: Mapping[str, A
     return found
 
 
-def offered_to(field: Field, typed: Mapping[str, str], names: NamesOf) -> Offer:
+def offered_to(field: Field, typed: Mapping[str, str], names: ObjectLookup) -> Offer:
     """The objects that can be ticked."""
     numbers = {int(number) for number in re.findall(r"\d{1,10}", typed.get(f"{field.key}.offered", ""))}
     numbers |= {int(key.split(".")[1]) for key in typed if re.fullmatch(re.escape(field.key) + r"\.\d{1,10}", key)}
@@ -214,7 +178,7 @@ def offered_to(field: Field, typed: Mapping[str, str], names: NamesOf) -> Offer:
     return tuple((str(thing.number), names.label(thing)) for thing in known)
 
 
-def suggested_to(field: Field, names: NamesOf, me: Me) -> Offer:
+def suggested_to(field: Field, names: ObjectLookup, me: Me) -> Offer:
     """Objects that are likely in a field."""
     world = names.world
     own = world.owned.get(me.number, ())[:MOST_OFFERED]
@@ -230,7 +194,7 @@ def suggested_to(field: Field, names: NamesOf, me: Me) -> Offer:
     return tuple((f"#{number}", names.short(number)) for number in list(dict.fromkeys(numbers))[:MOST_OFFERED])
 
 
-def shown_field(field: Field, typed: Mapping[str, str], mistake: Mistake | None, names: NamesOf, me: Me) -> FieldView:
+def shown_field(field: Field, typed: Mapping[str, str], mistake: Mistake | None, names: ObjectLookup, me: Me) -> FieldView:
     """A field as it is shown."""
     begin = len(field.key) + 1
     ticked = frozenset(key[begin:] for key in typed if key.startswith(f"{field.key}."))
@@ -243,18 +207,18 @@ def shown_field(field: Field, typed: Mapping[str, str], mistake: Mistake | None,
         offered_to(field, typed, names) if field.kind == "objects" else (),
         suggested_to(field, names, me) if field.kind in ("object", "place") else (),
         mistake,
-        named_in(typed.get(field.key, ""), names) if field.kind in ("object", "place") else "",
+        object_named(typed.get(field.key, ""), names) if field.kind in ("object", "place") else "",
     )
 
 
-def named_in(text: str, names: NamesOf) -> str:
+def object_named(text: str, names: ObjectLookup) -> str:
     """The object whose number was typed, with its name; empty, if it is another text."""
     found = re.fullmatch(r"\s*#(\d{1,10})\s*", text)
     return names.short(int(found[1])) if found and names.is_object(int(found[1])) else ""
 
 
 def view_of(
-    form: Form, typed: Mapping[str, str], mistakes: Mapping[str, Mistake], names: NamesOf, me: Me, offers: Mapping[str, Offer]
+    form: Form, typed: Mapping[str, str], mistakes: Mapping[str, Mistake], names: ObjectLookup, me: Me, offers: Mapping[str, Offer]
 ) -> View:
     """A form as it is shown, with what is typed in it. `offers` has what may be typed in a field besides."""
     parts: list[tuple[str, list[FieldView]]] = []

@@ -9,10 +9,11 @@ from typing import Union
 from moolib.batches import Item
 from moolib.values import Obj, written
 
-from moo_web.forms.entries import Differing, Entry, differing, key_of
-from moo_web.forms.exits import HINT, Exit, ExitsEntry, exits_in, exits_text
-from moo_web.forms.forms import Field, Form, Me, Names, Typed
-from moo_web.forms.views import NamesOf, typed_now
+from moo_web.forms.entries import ChangedEntries, Entry, changed_entries, property_key
+from moo_web.forms.exits import HINT, ExitsEntry, TypedExit, exits_text, typed_exits
+from moo_web.forms.forms import Field, Form, Me, Typed
+from moo_web.forms.lookup import ObjectLookup
+from moo_web.forms.views import typed_now
 from moo_web.pages.lists import part_of
 from moo_web.pages.pages import Visit
 from moo_web.paths import url_for
@@ -44,11 +45,11 @@ class EntriesForm(Form):
     part: int = 1
     parts: int = 1
 
-    def differing(self, typed: Typed, names: Names, me: Me) -> Differing:
+    def differing(self, typed: Typed, names: ObjectLookup, me: Me) -> ChangedEntries:
         """The calls for what was changed, and the mistakes."""
-        found = differing(self.entries, typed, names, me)
+        found = changed_entries(self.entries, typed, names, me)
         items = [*self.first, *found.items] if found.items else []
-        return Differing(items, found.mistakes)
+        return ChangedEntries(items, found.mistakes)
 
 
 def form_of(form: EntriesForm, *hidden: Field) -> EntriesForm:
@@ -58,7 +59,7 @@ def form_of(form: EntriesForm, *hidden: Field) -> EntriesForm:
 
 def edit_form(visit: Visit, number: int, page: str) -> EntriesForm:
     """The form of an object that is there, with this page of its properties."""
-    thing, it = visit.world.things[number], f"#{number}"
+    thing, it = visit.world.thing(number), f"#{number}"
     part = part_of(pairs_on(visit, number), page, MOST)
     visit.answers(property_calls(number, list(part.items), [above.number for above in visit.world.chain(number)]))
     found = [one for one in properties_of(visit, number, list(part.items)) if may_write(visit, one)]
@@ -95,12 +96,12 @@ def pairs_on(visit: Visit, number: int) -> list[tuple[int, str]]:
 
 def first_names(visit: Visit) -> tuple[str, ...]:
     """The properties that come first, in small letters, and are asked for even if their names may not be listed: a description and exits."""
-    return tuple(name.lower() for name in visit.pages.sight_names)
+    return tuple(name.lower() for name in visit.sight_names)
 
 
 def is_exits(visit: Visit, one: Property) -> bool:
     """Whether a property is the one that has the exits of a room."""
-    return one.name.lower() == visit.pages.sight_names.exits.lower()
+    return one.name.lower() == visit.sight_names.exits.lower()
 
 
 def may_write(visit: Visit, one: Property, is_new: bool = False) -> bool:
@@ -114,7 +115,7 @@ def own_entries(visit: Visit, thing: Thing, it: str) -> list[Entry]:
     """Name, place and marks of an object, as far as the person may write them."""
     if thing.owner != visit.number and not visit.is_wizard:
         return []
-    short = NamesOf(visit.world).short
+    short = ObjectLookup(visit.world).short
     place = "nowhere" if thing.location < 0 else short(thing.location)
     name, where = Field("name", "Name", "text"), Field("place", "Where", "place", "A place that accepts it, or: nowhere.")
     entries = [Entry(where, {"place": place}, f"#{thing.location}", lambda value: f"move({it}, {value})")]
@@ -137,11 +138,11 @@ def setting(it: str, name: str) -> Callable[[str], str]:
 
 def property_entry(visit: Visit, it: str, one: Property, number: int) -> Entry:
     """A property. Of a new object the number is -1, and the value that of its parent."""
-    short = NamesOf(visit.world).short
+    short = ObjectLookup(visit.world).short
     is_own = one.source == number
     hint = "" if is_own or one.source is None else f"As {short(one.source)} has it, until you change it."
-    key, section = key_of("p", one.name), "" if one.name.lower() in first_names(visit) else OTHERS
-    exits = exits_in(one.value) if is_exits(visit, one) else None
+    key, section = property_key("p", one.name), "" if one.name.lower() in first_names(visit) else OTHERS
+    exits = typed_exits(one.value) if is_exits(visit, one) else None
     if exits is not None:
         return exits_entry(visit, it, key, one, exits)
     field = Field(key, one.name, "value", hint, section=section)
@@ -151,26 +152,26 @@ def property_entry(visit: Visit, it: str, one: Property, number: int) -> Entry:
     return Entry(field, shown, written(one.value), setting(it, one.name))
 
 
-def exits_entry(visit: Visit, it: str, key: str, one: Property, exits: list[Exit]) -> ExitsEntry:
+def exits_entry(visit: Visit, it: str, key: str, one: Property, exits: list[TypedExit]) -> ExitsEntry:
     """The exits of a room."""
-    short = NamesOf(visit.world).short
+    short = ObjectLookup(visit.world).short
     field = Field(key, one.name, "exits", HINT)
     known = {exits_text([each], short).strip(): each for each in exits}
     return ExitsEntry(
         field, {key: exits_text(exits, short), f"{key}.back": "on"}, written(one.value), setting(it, one.name), subject=it, known=known,
-        exits_of=lambda to: exits_of(visit, to), short=short,
+        exits_of=lambda to: readable_exits(visit, to), short=short,
     )  # fmt: skip
 
 
-def exits_of(visit: Visit, number: int) -> Union[list[Exit], None]:
+def readable_exits(visit: Visit, number: int) -> Union[list[TypedExit], None]:
     """The exits of a place, as far as the person may read them."""
-    (value,) = visit.answers([f"get(#{number}, {written(visit.pages.sight_names.exits)})"])
-    return exits_in(value)
+    (value,) = visit.answers([f"get(#{number}, {written(visit.sight_names.exits)})"])
+    return typed_exits(value)
 
 
 def in_order(visit: Visit, entries: list[Entry]) -> tuple[Entry, ...]:
     """The entries in the order of the page: the name, what it looks like, its exits, its place, other properties, marks."""
     sections = ["", OTHERS, MARKED]
-    names = visit.pages.sight_names
-    first = {"name": 0, key_of("p", names.description): 1, key_of("p", names.exits): 2, "place": 3}
+    names = visit.sight_names
+    first = {"name": 0, property_key("p", names.description): 1, property_key("p", names.exits): 2, "place": 3}
     return tuple(sorted(entries, key=lambda entry: (sections.index(entry.field.section), first.get(entry.field.key, 4))))

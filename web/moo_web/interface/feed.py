@@ -18,7 +18,7 @@ from typing import Callable, NamedTuple
 from moo_web.journal.recent import MOST_LETTERS
 from moo_web.journal.segments import Accepted
 from moo_web.journal.since import batches_since, begin_of, petitions_before
-from moo_web.journal.subjects import Subjects, BatchSubjects, Wish, wishes_of
+from moo_web.journal.subjects import BatchSubjects, Subjects, Wish, wishes_of
 from moo_web.journal.jobs import Busy
 from moo_web.journal.writer import Writer
 
@@ -38,15 +38,15 @@ class Gone(Exception):
         self.seq = seq
 
 
-class NotYet(Exception):
-    """The world hasn't the number that was asked for; it has `seq`."""
+class Ahead(Exception):
+    """The number that was asked for is ahead of the world, which has `seq`."""
 
     def __init__(self, seq: int) -> None:
         super().__init__()
         self.seq = seq
 
 
-class About(NamedTuple):
+class FeedItem(NamedTuple):
     """An accepted batch, and the objects that it names or made."""
 
     accepted: Accepted
@@ -96,14 +96,14 @@ class Feed:
         with self.changed:
             self.changed.wait_for(lambda: self.present() != at, seconds)
 
-    def since(self, at: int, most: int, top: Top) -> list[About]:
-        """The batches after this number, at most so many. `Gone`, `NotYet`, `Busy`: as they say."""
+    def since(self, at: int, most: int, top: Top) -> list[FeedItem]:
+        """The batches after this number, at most so many. `Gone`, `Ahead`, `Busy`: as they say."""
         with self.changed:
             present = self.present()
             if at == present:
                 return []
             if at > present:
-                raise NotYet(present)
+                raise Ahead(present)
             is_kept = self.is_kept(at)
             if is_kept:
                 first = at - self.kept[0].accepted.at
@@ -111,7 +111,7 @@ class Feed:
         if not is_kept:
             subjects, some, last = self.older(at, most)
         self.count(subjects, some, last, top)
-        return [About(told.accepted, subjects.objects_of(told)) for told in some]
+        return [FeedItem(told.accepted, subjects.objects_of(told)) for told in some]
 
     def older(self, at: int, most: int) -> tuple[Subjects, list[BatchSubjects], int]:
         """The same from the journal, and the number up to which it was read. `Busy`: others read."""

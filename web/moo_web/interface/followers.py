@@ -9,7 +9,7 @@ from typing import Any, Callable, ContextManager
 
 from moo_web.app import JSON, Reply, Request, in_json
 from moo_web.interface.bodies import wants
-from moo_web.interface.feed import About, Feed, Gone, NotYet
+from moo_web.interface.feed import Ahead, Feed, FeedItem, Gone
 from moo_web.journal.jobs import Busy
 from moo_web.paths import whole_number
 from moo_web.people.person import Person
@@ -27,7 +27,7 @@ AWAY = "moo.away"
 MOST_BATCHES, MOST_SHOWN = 1000, 100
 
 
-class Waiting:
+class WaitingFollowers:
     """How many followers wait."""
 
     def __init__(self) -> None:
@@ -78,7 +78,7 @@ class Followers:
 
     def __init__(self, feed: Feed, is_wizard: Callable[[Person], bool], top: Callable[[Person, int], int | None]) -> None:
         self.feed, self.is_wizard, self.top = feed, is_wizard, top
-        self.waiting = Waiting()
+        self.waiting = WaitingFollowers()
 
     def reply(self, request: Request, person: Person, at: int) -> Reply:
         """What has changed since a number."""
@@ -93,7 +93,7 @@ class Followers:
             some = self.since(person, at, has_batches)
         except Gone as gone:
             return in_json(410, error="gone", seq=gone.seq)
-        except NotYet as early:
+        except Ahead as early:
             return in_json(400, error="bad request", why=f"the world has number {early.seq}")
         if some or not seconds:
             return Reply(200, body_of(at, some, has_batches))
@@ -108,7 +108,7 @@ class Followers:
         later = LaterBody(awaited, lambda: self.waiting.end(person.name))
         return Reply(200, b"", JSON, (), later)  # type: ignore[arg-type]
 
-    def since(self, person: Person, at: int, has_batches: bool) -> list[About]:
+    def since(self, person: Person, at: int, has_batches: bool) -> list[FeedItem]:
         """The batches after a number, which a person follows."""
         return self.feed.since(at, MOST_SHOWN if has_batches else MOST_BATCHES, lambda seq: self.top(person, seq))
 
@@ -124,14 +124,14 @@ class Followers:
         return body_of(at, some, has_batches)
 
 
-def body_of(at: int, some: list[About], has_batches: bool) -> bytes:
+def body_of(at: int, some: list[FeedItem], has_batches: bool) -> bytes:
     """The body of an answer: the objects of these batches after a number, and the batches if they are asked for."""
     objects = sorted(set().union(*[one.objects for one in some]))
-    said: dict[str, Any] = {"batches": list(map(shown, some))} if has_batches else {}
+    said: dict[str, Any] = {"batches": list(map(batch_shown, some))} if has_batches else {}
     return packed({**said, "objects": [f"#{number}" for number in objects], "seq": some[-1].accepted.seq if some else at})
 
 
-def shown(one: About) -> dict[str, Any]:
+def batch_shown(one: FeedItem) -> dict[str, Any]:
     """A batch, as wizards see it."""
     accepted = one.accepted
     return {

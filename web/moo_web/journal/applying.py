@@ -11,7 +11,7 @@ from pathlib import Path
 from moolib.calls import call_name
 from moolib.errors import Failed
 
-from moo_web.journal.segments import Accepted, kept_of
+from moo_web.journal.segments import Accepted, kept_answers
 
 # moo takes texts of at most 1 GiB.
 LONGEST_TEXT = 1 << 29
@@ -81,7 +81,7 @@ class WorldFile:
         answers = [self.line() for _ in batch.calls]
         if self.line() != "end":
             raise Failed(f"moo's reply to batch {batch.seq} has another end")
-        if kept_of(answers) != batch.kept:
+        if kept_answers(answers) != batch.kept:
             raise Failed(f"{difference(batch, answers)}: {self.file} isn't the world of this journal, and is of no use now{advice(batch)}")
 
     def line(self) -> str:

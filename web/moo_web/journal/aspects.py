@@ -42,12 +42,12 @@ def aspect_of(call: Call, is_undoing: bool = False) -> Optional[Aspect]:
         return None if is_undoing and call.name == "delete_property" else Aspect(call.name, number, name, name, None)
     if call.name == "set_property_info":
         # A property that gets another name is known by that one.
-        name = name if is_undoing else renamed(name, given[2])
+        name = name if is_undoing else name_given(name, given[2])
         return Aspect(call.name, number, f"owner and rights of {name}", name, written(given[2]))
     what = PLAIN.get(call.name) or VERB_WORDS.get(call.name, "").format(name)
     return Aspect(call.name, number, what, "", written(given[-1])) if what else None
 
 
-def renamed(name: str, info: Value) -> str:
+def name_given(name: str, info: Value) -> str:
     """The name that a property has after its owner and rights were set."""
     return str(info[2]) if isinstance(info, list) and len(info) == 3 else name

@@ -12,7 +12,7 @@ from typing import Iterable, Iterator
 from moolib.copies import Place
 from moolib.errors import Failed
 
-from moo_web.journal.segments import FIRST_SUM, Accepted, Line, Outcomes, Reading, Segment, branch_of, next_branch, segments_of
+from moo_web.journal.segments import FIRST_SUM, Accepted, JournalLine, Outcomes, Reading, Segment, branch_of, next_branch, segments_of
 
 
 class Course:
@@ -30,9 +30,9 @@ class Course:
         # How many branches were left before each one began, and the branches of the lines that were looked for.
         self.former: dict[str, int] = {}
         self.found: dict[str, str] = {}
-        self.telling: Line | None = None
+        self.telling: JournalLine | None = None
 
-    def take(self, line: Line) -> None:
+    def take(self, line: JournalLine) -> None:
         """Learns from the next line."""
         kind = line.kind
         if kind == "base":
@@ -91,7 +91,7 @@ class Course:
         return f"If you know that it was made since, say so by --branch {self.branch}"
 
 
-def lines_until(folder: Path, end: float | None) -> Iterator[Line]:
+def lines_until(folder: Path, end: float | None) -> Iterator[JournalLine]:
     """The lines of a journal up to the first one past a moment. `Damaged`: a sum is wrong."""
     for line in Reading(folder).lines():
         if end is not None and line.kind in ("base", "intent", "gap") and line.said()["t"] > end:

@@ -10,7 +10,7 @@ from moolib.errors import Failed
 from moo_web.journal.applying import WorldFile
 from moo_web.journal.branches import Course
 from moo_web.journal.marks import Mark
-from moo_web.journal.segments import FIRST_SUM, Accepted, Line, Outcomes, Segment, next_branch
+from moo_web.journal.segments import FIRST_SUM, Accepted, JournalLine, Outcomes, Segment, next_branch
 
 
 class Bringing:
@@ -28,7 +28,7 @@ class Bringing:
         if fault:
             raise Failed(fault)
 
-    def take(self, line: Line) -> Accepted | None:
+    def take(self, line: JournalLine) -> Accepted | None:
         """Takes a line, and gives the batch that was run, if one was. `Failed`: FILE can't be brought up by this journal."""
         told = self.outcomes.take(line)
         if isinstance(told, Accepted):

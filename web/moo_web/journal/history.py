@@ -20,7 +20,7 @@ from moolib.calls import Call, call_name
 from moo_web.journal.ledger import Ledger
 from moo_web.journal.prefixes import is_as_it_was, put_prefix
 from moo_web.journal.segments import LONGEST_LINE, SUM_LENGTH, Accepted, Damaged, Segment, accepted_of, segments_of
-from moo_web.journal.tables import Growing, Kept, kept_beside, kept_of, named_in, numbers_in, sum_of_calls
+from moo_web.journal.tables import Growing, TableFile, kept_beside, numbers_in, objects_named, places_with, sum_of_calls, table_file_of
 
 READING = 10.0
 LOOK_EVERY = 60.0
@@ -61,7 +61,7 @@ class Batches(NamedTuple):
         return [batch for _, batch in self.places]
 
 
-class Petition(NamedTuple):
+class MadePetition(NamedTuple):
     """A petition as it was made: by whom, and its calls."""
 
     who: str
@@ -80,7 +80,7 @@ def call_about(accepted: Accepted, number: int | None) -> str:
 class SegmentBatches(NamedTuple):
     """The batches of one segment, and the place of the first one among those of all."""
 
-    batches: Growing | Kept
+    batches: Growing | TableFile
     first: int
 
     @property
@@ -176,15 +176,15 @@ class History:
 
     def named(self, accepted: Accepted) -> set[int]:
         """The objects that a batch names, those that it made, and those of the petitions that it granted."""
-        return named_in(accepted, self.ledger.named)
+        return objects_named(accepted, self.ledger.named)
 
-    def petition(self, number: int) -> Petition | None:
+    def petition(self, number: int) -> MadePetition | None:
         """The petition of this number, as it was made; None if it isn't known."""
         with self.caught_up() as is_read:
             place = self.ledger.made.get(number) if is_read else None
             batch = None if place is None else next((batch for _, batch in self.read([place])), None)
         made = batch.made_petition(number) if batch else ""
-        return Petition(batch.who, tuple(Call.read(made).asked)) if batch and made else None
+        return MadePetition(batch.who, tuple(Call.read(made).asked)) if batch and made else None
 
     def same(self, who: str, calls: str, after: int) -> Accepted | None:
         """A batch of this person whose calls have this sum, accepted after that number of the present world.
@@ -196,7 +196,7 @@ class History:
             if not is_read:
                 raise StillRead
             for part in self.of_this_world():
-                for place in part.batches.with_sum(wanted, max(0, after - part.batches.base)):
+                for place in places_with(wanted, part.batches.sums, max(0, after - part.batches.base)):
                     batch = part.read(place)
                     if batch and batch.who == who:
                         return batch
@@ -246,7 +246,7 @@ class History:
 
     def check_one(self, tell: Callable[[str], None]) -> None:
         """Checks the sums of the next one of the segments that nobody reads any more."""
-        old = [part.batches for part in self.parts if isinstance(part.batches, Kept)]
+        old = [part.batches for part in self.parts if isinstance(part.batches, TableFile)]
         if old:
             one = old[self.next_check % len(old)]
             self.next_check += 1
@@ -267,7 +267,7 @@ class History:
             if segment.path not in known:
                 self.read_on(segment, kept.get(segment.path), segment is segments[-1])
 
-    def read_on(self, segment: Segment, kept: Kept | None, is_last: bool) -> None:
+    def read_on(self, segment: Segment, kept: TableFile | None, is_last: bool) -> None:
         """Reads a segment up to its last whole line: of one that wasn't read yet, what the file beside it doesn't say."""
         if not self.parts or self.parts[-1].path != segment.path:
             self.kept = self.noted = 0
@@ -283,7 +283,7 @@ class History:
         if isinstance(part.batches, Growing):
             self.put(part, part.batches, is_last)
 
-    def begun(self, segment: Segment, kept: Kept | None, is_last: bool) -> Growing | Kept:
+    def begun(self, segment: Segment, kept: TableFile | None, is_last: bool) -> Growing | TableFile:
         """What the file beside a segment says; nothing, if there is none that is right."""
         try:
             is_whole = kept is not None and kept.prefix.end == segment.path.stat().st_size
@@ -303,7 +303,7 @@ class History:
         self.kept = batches.end
         with contextlib.suppress(OSError, ValueError):
             self.put_files(batches)
-            if not is_last and (kept := kept_of(batches.segment)):
+            if not is_last and (kept := table_file_of(batches.segment)):
                 self.parts[-1] = part._replace(batches=kept)
 
     def put_files(self, batches: Growing) -> None:

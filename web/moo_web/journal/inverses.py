@@ -52,7 +52,7 @@ class Inverses:
     def of_create(self, call: Call, answer: str) -> list[UndoingCall]:
         """The new object goes; and a quota that was inherited is so again."""
         number, draft = call.made(answer), self.draft
-        owner = draft.programmer if len(call.values) == 1 else number_in(call.values[1])
+        owner = draft.programmer if len(call.values) == 1 else number_or_nothing(call.values[1])
         made = Obj(draft.next_number() if number is None else number)
         return [UndoingCall("recycle", (made,)), *self.quota_steps(owner)]
 
@@ -65,21 +65,21 @@ class Inverses:
 
     def of_move(self, call: Call, _: str) -> list[UndoingCall]:
         """It goes back."""
-        return [UndoingCall("move", (call.values[0], Obj(self.draft.mark(number_in(call.values[0]), "location"))))]
+        return [UndoingCall("move", (call.values[0], Obj(self.draft.mark(number_or_nothing(call.values[0]), "location"))))]
 
     def of_set_player_flag(self, call: Call, _: str) -> list[UndoingCall]:
         """The mark as it was."""
-        return [UndoingCall("set_player_flag", (call.values[0], self.draft.mark(number_in(call.values[0]), "player")))]
+        return [UndoingCall("set_player_flag", (call.values[0], self.draft.mark(number_or_nothing(call.values[0]), "player")))]
 
     def of_set_accept(self, call: Call, _: str) -> list[UndoingCall]:
         """The list as it was, or none."""
-        return [UndoingCall("set_accept", (call.values[0], self.draft.mark(number_in(call.values[0]), "accept")))]
+        return [UndoingCall("set_accept", (call.values[0], self.draft.mark(number_or_nothing(call.values[0]), "accept")))]
 
     def of_chparent(self, call: Call, _: str) -> list[UndoingCall]:
         """The former parent, and the slots that were lost."""
-        number, draft = number_in(call.values[0]), self.draft
+        number, draft = number_or_nothing(call.values[0]), self.draft
         former = draft.mark(number, "parent")
-        names = draft.left_behind(number, number_in(call.values[1]))
+        names = draft.left_behind(number, number_or_nothing(call.values[1]))
         pairs = [(one, name) for one in draft.subtree(number) for name in names] if names else []
         return [UndoingCall("chparent", (call.values[0], Obj(former))), *self.put_back(pairs, former)]
 
@@ -87,7 +87,7 @@ class Inverses:
 
     def of_set(self, call: Call, _: str) -> Optional[list[UndoingCall]]:
         """The value as it was."""
-        number, name = number_in(call.values[0]), str(call.values[1])
+        number, name = number_or_nothing(call.values[0]), str(call.values[1])
         if name.lower() in SETTABLE:
             value = self.draft.mark(number, name.lower())
             if name.lower() != "owner":
@@ -98,10 +98,10 @@ class Inverses:
 
     def of_clear_property(self, call: Call, _: str) -> Optional[list[UndoingCall]]:
         """The value as it was, if there was one."""
-        slot = self.draft.slot(number_in(call.values[0]), str(call.values[1]))
+        slot = self.draft.slot(number_or_nothing(call.values[0]), str(call.values[1]))
         if slot is None or slot.value is None:
             return None if slot is None else []
-        return [value_step(number_in(call.values[0]), str(call.values[1]), slot)]
+        return [value_step(number_or_nothing(call.values[0]), str(call.values[1]), slot)]
 
     def of_add_property(self, call: Call, _: str) -> list[UndoingCall]:
         """It goes."""
@@ -109,7 +109,7 @@ class Inverses:
 
     def of_delete_property(self, call: Call, _: str) -> Optional[list[UndoingCall]]:
         """The property again, and what it was on all that is under the object."""
-        number, draft = number_in(call.values[0]), self.draft
+        number, draft = number_or_nothing(call.values[0]), self.draft
         name = next((each for each in draft.defined(number) if each.lower() == str(call.values[1]).lower()), None)
         slot = draft.slot(number, name) if name else None
         if name is None or slot is None or slot.value is None:
@@ -120,12 +120,12 @@ class Inverses:
 
     def of_set_property_info(self, call: Call, _: str) -> Optional[list[UndoingCall]]:
         """The owner, the letters and the name as they were."""
-        number, given = number_in(call.values[0]), call.values[2]
+        number, given = number_or_nothing(call.values[0]), call.values[2]
         name = str(call.values[1])
         slot = self.draft.slot(number, name)
         if slot is None or not isinstance(given, list):
             return None
-        info: list[Value] = [Obj(self.living(slot.owner, number_in(given[0]))), slot.perms]
+        info: list[Value] = [Obj(self.living(slot.owner, number_or_nothing(given[0]))), slot.perms]
         if len(given) < 3:
             return [UndoingCall("set_property_info", (Obj(number), name, info))]
         spelled = next((each for each in self.draft.defined(number) if each.lower() == name.lower()), name)
@@ -169,32 +169,32 @@ class Inverses:
 
     def of_add_verb(self, call: Call, _: str) -> list[UndoingCall]:
         """It goes: `added_verb`, once the call was run."""
-        self.draft.directory(number_in(call.values[0]))
+        self.draft.directory(number_or_nothing(call.values[0]))
         return []
 
     def added_verb(self, call: Call) -> UndoingCall:
         """What takes away the verb that a call has just added."""
-        number = number_in(call.values[0])
+        number = number_or_nothing(call.values[0])
         return UndoingCall("delete_verb", (Obj(number), VerbOn(number, self.draft.directory(number)[-1])))
 
     def of_delete_verb(self, call: Call, _: str) -> list[UndoingCall]:
         """The verb again, as the last one."""
-        number = number_in(call.values[0])
+        number = number_or_nothing(call.values[0])
         verb = self.draft.verb(number, call.values[1])
         info = self.info_of(verb, self.draft.mark(number, "owner"))
         return [UndoingCall("add_verb", (Obj(number), info, list(verb.args or ()), VerbOn(number, verb)))]
 
     def of_set_verb_info(self, call: Call, _: str) -> Optional[list[UndoingCall]]:
         """The owner, the letters and the names as they were."""
-        number, given = number_in(call.values[0]), call.values[2]
+        number, given = number_or_nothing(call.values[0]), call.values[2]
         if not isinstance(given, list):
             return None
         verb = self.draft.verb(number, call.values[1])
-        return [UndoingCall("set_verb_info", (Obj(number), VerbOn(number, verb), self.info_of(verb, number_in(given[0]))))]
+        return [UndoingCall("set_verb_info", (Obj(number), VerbOn(number, verb), self.info_of(verb, number_or_nothing(given[0]))))]
 
     def of_set_verb_args(self, call: Call, _: str) -> list[UndoingCall]:
         """The arguments as they were."""
-        number = number_in(call.values[0])
+        number = number_or_nothing(call.values[0])
         verb = self.draft.verb(number, call.values[1])
         return [UndoingCall("set_verb_args", (Obj(number), VerbOn(number, verb), list(verb.args or ())))]
 
@@ -210,7 +210,7 @@ class Inverses:
         return [UndoingCall("decline", (int(answer),))]
 
 
-def number_in(value: Value) -> int:
+def number_or_nothing(value: Value) -> int:
     """The number of an object; -1 of another value."""
     return value.number if isinstance(value, Obj) else NOTHING
 

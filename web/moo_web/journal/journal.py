@@ -14,7 +14,7 @@ from pathlib import Path
 from typing import Any, Callable
 
 from moo_web.journal.mending import Survey, whole_journal
-from moo_web.journal.segments import FIRST_SUM, VERSION, line_of
+from moo_web.journal.segments import FIRST_SUM, VERSION, new_line
 
 SEGMENT_BYTES = 1 << 26
 GAP_ADVICE = (
@@ -155,7 +155,7 @@ class Journal:
             "k": "base", "version": VERSION, "segment": self.number + 1, "seq": seq, "former": self.sum, "t": moment, "why": why,
             "branch": branch,
         }  # fmt: skip
-        now, text = line_of(self.sum, said)
+        now, text = new_line(self.sum, said)
         name = f"journal-{seq}"
         if any((place.folder / name).exists() for place in self.places):
             name += f".{self.number + 1}"
@@ -189,7 +189,7 @@ class Journal:
         """
         if self.is_broken:
             raise Broken("a line of the journal may be half there")
-        now, text = line_of(self.sum, said)
+        now, text = new_line(self.sum, said)
         try:
             for place in self.places:
                 write_whole(place.file, text)

@@ -7,7 +7,7 @@ from typing import NamedTuple
 from moo_web.journal.tables import PetitionEvent
 
 
-class Reply(NamedTuple):
+class PetitionReply(NamedTuple):
     """The place of a batch by which somebody answered a petition, who that was, in small letters, and what they said."""
 
     place: int
@@ -26,13 +26,13 @@ class Ledger:
         # By a petition's number the places of the batch that made it and of the one that ended it, and its answers.
         self.made: dict[int, int] = {}
         self.ended: dict[int, int] = {}
-        self.replies: dict[int, list[Reply]] = {}
+        self.replies: dict[int, list[PetitionReply]] = {}
 
     def take(self, event: PetitionEvent, place: int) -> None:
         """Notes a petition that was made, answered or ended by the batch at a place."""
         number = event.number
         if event.says:
-            self.replies.setdefault(number, []).append(Reply(place, event.who, event.says))
+            self.replies.setdefault(number, []).append(PetitionReply(place, event.who, event.says))
         elif event.who:
             self.named[number] = set(event.named)
             self.of_people.setdefault(event.who, []).append((number, place))
@@ -47,7 +47,7 @@ class Ledger:
         theirs = reversed(self.of_people.get(who.lower(), []))
         return [number for number, place in theirs if number in self.ended and self.made[number] == place][:count]
 
-    def last_replies(self, number: int) -> list[Reply]:
+    def last_replies(self, number: int) -> list[PetitionReply]:
         """The answers to a petition: the last one of each person, the oldest first."""
         last = {reply.who: reply for reply in list(self.replies.get(number, ()))}
         return sorted(last.values())

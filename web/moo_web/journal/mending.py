@@ -12,7 +12,7 @@ from typing import Any, BinaryIO, Callable
 from moolib.private import for_owner_alone
 
 from moo_web.journal.prefixes import Prefix, unread_lines
-from moo_web.journal.segments import Damaged, Line, Reading, Segment, branch_of
+from moo_web.journal.segments import Damaged, JournalLine, Reading, Segment, branch_of
 from moo_web.programs import sync_folder
 
 PIECE = 1 << 20
@@ -33,11 +33,11 @@ class Survey:
         self.seq: int | None = None
         self.moment = 0.0
         self.gap: dict[str, Any] | None = None
-        self.number: Line | None = None
-        self.timed: Line | None = None
-        self.last_gap: Line | None = None
+        self.number: JournalLine | None = None
+        self.timed: JournalLine | None = None
+        self.last_gap: JournalLine | None = None
         self.branch = branch_of(self.reading.segments)
-        self.intents: collections.deque[Line] = collections.deque(maxlen=MOST_OPEN)
+        self.intents: collections.deque[JournalLine] = collections.deque(maxlen=MOST_OPEN)
         for line in unread_lines(self.reading, self.skip):
             self.take(line, line.kind)
         self.read_last()
@@ -51,7 +51,7 @@ class Survey:
             self.gap = prefix.gap
         self.intents.clear()
 
-    def take(self, line: Line, kind: str) -> None:
+    def take(self, line: JournalLine, kind: str) -> None:
         """Learns from one line. It is read whole only if it turns out to be a last one."""
         if kind in ("base", "done"):
             self.number = line

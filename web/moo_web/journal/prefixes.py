@@ -15,7 +15,9 @@ import sys
 from pathlib import Path
 from typing import Any, Callable, Iterator, NamedTuple
 
-from moo_web.journal.segments import LONGEST_LINE, Line, Reading, Segment, sum_after, sum_if_whole, text_in
+from moolib.service import packed
+
+from moo_web.journal.segments import LONGEST_LINE, JournalLine, Reading, Segment, line_json, sum_after, sum_if_whole
 from moo_web.programs import sync_folder
 
 VERSION = 1
@@ -67,7 +69,7 @@ def head_of(segment: Segment, prefix: Prefix, tables: bytes) -> bytes:
         "k": "index", "version": VERSION, "order": sys.byteorder, "segment": segment.number, "former": segment.former,
         "tables": hashlib.sha256(tables).hexdigest(), **prefix._asdict(),
     }  # fmt: skip
-    text = json.dumps(said, separators=(",", ":")).encode()
+    text = packed(said)
     return hashlib.sha256(text).hexdigest().encode() + b" " + text + b"\n"
 
 
@@ -106,7 +108,7 @@ def read_prefix(segment: Segment) -> PrefixFile | None:
     try:
         with open(index_path(segment.path), "rb") as file:
             line = file.readline(LONGEST_HEAD)
-        text = text_in(line)
+        text = line_json(line)
         if line != hashlib.sha256(text).hexdigest().encode() + b" " + text + b"\n":
             return None
         said = json.loads(text)
@@ -129,7 +131,7 @@ def is_of(prefix: Prefix, segment: Segment) -> bool:
     with open(segment.path, "rb") as file:
         file.seek(start)
         raw = file.read(min(prefix.end - start, LONGEST_LINE))
-    return prefix.sum == sum_after(before, text_in(raw)) and raw == prefix.sum.encode() + b" " + text_in(raw) + b"\n"
+    return prefix.sum == sum_after(before, line_json(raw)) and raw == prefix.sum.encode() + b" " + line_json(raw) + b"\n"
 
 
 def is_as_it_was(segment: Segment, prefix: Prefix) -> bool:
@@ -142,7 +144,7 @@ def is_as_it_was(segment: Segment, prefix: Prefix) -> bool:
     return (end, now) == (prefix.end, prefix.sum)
 
 
-def unread_lines(reading: Reading, skip: Callable[[Segment, Prefix], None]) -> Iterator[Line]:
+def unread_lines(reading: Reading, skip: Callable[[Segment, Prefix], None]) -> Iterator[JournalLine]:
     """The lines of a journal but for those of prefixes; `skip` is given each of these, between the lines before and after it."""
     for segment in reading.segments:
         reading.enter(segment)

@@ -12,24 +12,45 @@ import subprocess
 import threading
 import time
 from pathlib import Path
-from typing import IO, Any, Callable
+from typing import IO, Any, Callable, NamedTuple
 
 from moolib.errors import Failed
+from moolib.service import packed
 
 from moo_web.journal.journal import hold, write_whole
 from moo_web.journal.mending import mended
 from moo_web.journal.prefixes import Prefix, unread_lines
-from moo_web.journal.segments import FIRST_SUM, SEGMENT_NAME, SUM_LENGTH, Damaged, Reading, Segment, sum_if_whole, text_in
-from moo_web.journal.sending import CopyRequest, Place
+from moo_web.journal.segments import FIRST_SUM, SEGMENT_NAME, SUM_LENGTH, Damaged, Reading, Segment, line_json, sum_if_whole
 from moo_web.people.keeping import put_people
 from moo_web.programs import PEOPLE_FILE, own_folder, sync_folder
 
+VERSION = 1
 # As many lines as a stop of the other machine may cost, and more.
 OFFERED = 64
 LONGEST_HEAD = 1 << 16
 LONGEST_FRAME = 1 << 29
 SILENT_SECONDS = 30.0
 FIRST_REST, LONGEST_REST = 0.2, 5.0
+
+
+class SentLine(NamedTuple):
+    """A line of a journal: the number of its segment, where it begins and ends there, and its sum."""
+
+    segment: int
+    start: int
+    end: int
+    sum: str
+
+
+class CopyRequest(NamedTuple):
+    """What a copy has already, for the side that sends: its last lines, the newest first, and the SHA-256 of its accounts."""
+
+    have: list[SentLine]
+    people: str
+
+    def text(self) -> bytes:
+        """The line of JSON that says so."""
+        return packed({"version": VERSION, "have": self.have, "people": self.people}) + b"\n"
 
 
 class Copy:
@@ -48,10 +69,10 @@ class Copy:
     def read(self) -> None:
         """Learns what is there."""
         reading = Reading(self.folder)
-        self.lines: collections.deque[Place] = collections.deque(maxlen=OFFERED)
+        self.lines: collections.deque[SentLine] = collections.deque(maxlen=OFFERED)
         for line in unread_lines(reading, self.skip):
             length = SUM_LENGTH + 2 + len(line.text)
-            self.lines.append(Place(line.segment.number, line.end - length, line.end, line.sum))
+            self.lines.append(SentLine(line.segment.number, line.end - length, line.end, line.sum))
         self.paths = {segment.number: segment.path for segment in reading.segments}
         self.sum = reading.sum if reading.segments else FIRST_SUM
         if self.lines:
@@ -62,7 +83,7 @@ class Copy:
     def skip(self, segment: Segment, prefix: Prefix) -> None:
         """Learns where the last lines are of those that were read before."""
         ends = [*(line.start for line in prefix.last[1:]), prefix.end]
-        self.lines.extend(Place(segment.number, line.start, end, line.sum) for line, end in zip(prefix.last, ends))
+        self.lines.extend(SentLine(segment.number, line.start, end, line.sum) for line, end in zip(prefix.last, ends))
 
     def note(self) -> None:
         """Notes up to where all is on the disk."""
@@ -134,16 +155,16 @@ class Copy:
         os.close(self.held)
 
 
-def chained(text: bytes, head: dict[str, Any], former: str | None) -> tuple[list[Place], str]:
+def chained(text: bytes, head: dict[str, Any], former: str | None) -> tuple[list[SentLine], str]:
     """The places of lines that come there, and the last sum. Without a sum before them the first one says it. `Failed`: a sum is wrong."""
     places, at = [], head["at"]
     for raw in text.splitlines(keepends=True):
         if former is None:
-            former = str(json.loads(text_in(raw))["former"])
+            former = str(json.loads(line_json(raw))["former"])
         now = sum_if_whole(former, raw)
         if now is None:
             raise Failed("a line came with a wrong sum")
-        places.append(Place(head["segment"], at, at + len(raw), now))
+        places.append(SentLine(head["segment"], at, at + len(raw), now))
         at, former = at + len(raw), now
     return places, former or FIRST_SUM
 

@@ -9,15 +9,16 @@ from moolib.calls import call_text
 from moolib.values import Obj, Value
 
 from moo_web.journal.inverses import Inverses, UndoingCall
-from moolib.draft import BITS, NOTHING, Draft
+from moolib.draft import NOTHING, Draft
+from moolib.slots import BITS
 
 
 def remade(inverses: Inverses, number: int) -> list[str]:
     """The calls that make an object again, as it is before it goes."""
     draft = inverses.draft
     steps = [
-        *made(draft, number), *defined(inverses, number), *inherited(inverses, number), *verbs(inverses, number), *linked(inverses, number),
-        *inverses.quota_steps(draft.mark(number, "owner")),
+        *made(draft, number), *defined(inverses, number), *inherited(inverses, number), *verbs(inverses, number),
+        *rejoined(inverses, number), *inverses.quota_steps(draft.mark(number, "owner")),
     ]  # fmt: skip
     return [call_text(step.name, step.given) for step in steps]
 
@@ -62,7 +63,7 @@ def verbs(inverses: Inverses, number: int) -> list[UndoingCall]:
     return [UndoingCall("add_verb", (Obj(number), inverses.info_of(verb, draft.programmer), list(verb.args or ()))) for verb in whole]
 
 
-def linked(inverses: Inverses, number: int) -> list[UndoingCall]:
+def rejoined(inverses: Inverses, number: int) -> list[UndoingCall]:
     """Its place, its children with the slots that they lost, and its contents."""
     draft, it = inverses.draft, Obj(number)
     place = draft.mark(number, "location")

@@ -26,7 +26,7 @@ from moo_web.journal.following import Late, follow
 from moo_web.journal.journal import InUse
 from moo_web.journal.marks import Mark, place_beside
 from moo_web.journal.segments import Accepted, Damaged
-from moo_web.journal.undoing import text_of, undone
+from moo_web.journal.undoing import undo_text, undone
 from moo_web.programs import Teller, number_word, object_number
 
 USAGE = """moo-replay FOLDER FILE [--to S] [--at TIME] [--copies COPIES | --branch SUM] [--moo PROGRAM]
@@ -54,7 +54,7 @@ def read_words(words: list[str]) -> argparse.Namespace:
     parser.add_argument("file", metavar="FILE", nargs="?", help="the world")
     parser.add_argument("--to", metavar="S", type=batch_number, help="up to number S of the world")
     told = "up to a moment (ISO 8601, UTC if it has no offset): it ends before the first batch past it"
-    parser.add_argument("--at", metavar="TIME", type=moment, help=told)
+    parser.add_argument("--at", metavar="TIME", type=moment_word, help=told)
     parser.add_argument("--follow", action="store_true", help="go on with what comes to the journal, until SIGTERM comes")
     told = "a command that runs `moo-send` on the other machine: FOLDER is a copy, which this brings up meanwhile"
     parser.add_argument("--from", metavar="COMMAND", dest="source", help=told)
@@ -105,7 +105,7 @@ def branch_sum(text: str) -> str:
     return text
 
 
-def moment(text: str) -> float:
+def moment_word(text: str) -> float:
     """A moment in seconds since 1970."""
     try:
         # Python before 3.11 knows no Z.
@@ -123,7 +123,7 @@ def moment_text(seconds: float) -> str:
 # What is done to the world
 
 
-class Clock:
+class ClockCheck:
     """Tells it if the clock went back between two batches."""
 
     def __init__(self, tell: Callable[[str], None]) -> None:
@@ -156,7 +156,7 @@ def bring_up(said: argparse.Namespace, world: WorldFile, mark: Mark, tell: Calla
     """Runs what the file lacks of what was asked for. `Failed`, `Damaged`: as `replay`."""
     place = Place(said.branch, world.seq, "") if said.branch else place_beside(Path(said.file), world.seq, mark)
     course = course_of(said.folder, said.at, [place.sum] if place and place.sum else [])
-    bringing, clock = Bringing(world, course, place, mark, tell), Clock(tell)
+    bringing, clock = Bringing(world, course, place, mark, tell), ClockCheck(tell)
     bringing.test()
     for line in lines_until(said.folder, said.at):
         if world.seq == said.to:
@@ -183,10 +183,10 @@ def print_undo(folder: Path, seq: int, tell: Callable[[str], None]) -> None:
         raise Failed(f"{folder} has no batch {seq}")
     undo = undone(batch, is_text=True)
     if not undo.lines:
-        raise Failed(" ".join(map(plain, undo.lasting)) or f"batch {seq} changes nothing")
+        raise Failed(" ".join(map(in_ascii, undo.lasting)) or f"batch {seq} changes nothing")
     for sentence in undo.lasting:
-        tell(plain(sentence))
-    print(text_of(batch, undo), end="")
+        tell(in_ascii(sentence))
+    print(undo_text(batch, undo), end="")
 
 
 def print_differences(folder: Path, first: int, last: int, number: Optional[int]) -> None:
@@ -210,7 +210,7 @@ def print_differences(folder: Path, first: int, last: int, number: Optional[int]
         print(one)
 
 
-def plain(sentence: str) -> str:
+def in_ascii(sentence: str) -> str:
     """A sentence for a terminal, which may have no other letters than ASCII."""
     return sentence.replace("’", "'").replace("…", "..")
 

@@ -16,6 +16,7 @@ from pathlib import Path
 from typing import Any, BinaryIO, Iterable, Iterator, NamedTuple
 
 from moolib.calls import call_name
+from moolib.service import packed
 
 from moo_web.journal.notes import NO_NOTE, Note, note_of
 
@@ -50,7 +51,7 @@ class Segment(NamedTuple):
     seq: int = 0
 
 
-class Line(NamedTuple):
+class JournalLine(NamedTuple):
     """A line as it was read: its segment, its number in it from 1 on, its sum, the bytes of its JSON, and the place after it."""
 
     segment: Segment
@@ -80,15 +81,15 @@ def sum_after(former: str, text: bytes) -> str:
     return hashlib.sha256(former.encode() + text).hexdigest()
 
 
-def text_in(raw: bytes) -> bytes:
+def line_json(raw: bytes) -> bytes:
     """The JSON of a line."""
     return raw[SUM_LENGTH + 1 : -1]
 
 
 def sum_if_whole(former: str, raw: bytes) -> str | None:
     """The sum of a line after a line with that sum. None: it isn't whole, or has another sum."""
-    now = sum_after(former, text_in(raw))
-    return now if raw == now.encode() + b" " + text_in(raw) + b"\n" else None
+    now = sum_after(former, line_json(raw))
+    return now if raw == now.encode() + b" " + line_json(raw) + b"\n" else None
 
 
 def has_line(file: BinaryIO, start: int, end: int, sum_: str) -> bool:
@@ -100,9 +101,9 @@ def has_line(file: BinaryIO, start: int, end: int, sum_: str) -> bool:
     return file.read(1) == b"\n"
 
 
-def line_of(former: str, said: dict[str, Any]) -> tuple[str, bytes]:
+def new_line(former: str, said: dict[str, Any]) -> tuple[str, bytes]:
     """A line's sum, and its bytes."""
-    text = json.dumps(said, separators=(",", ":")).encode()
+    text = packed(said)
     now = sum_after(former, text)
     return now, now.encode() + b" " + text + b"\n"
 
@@ -175,13 +176,13 @@ class Reading:
         self.sum = self.segments[0].former if self.segments else FIRST_SUM
         self.torn, self.is_whole_line, self.end, self.number = 0, False, 0, 0
 
-    def lines(self) -> Iterator[Line]:
+    def lines(self) -> Iterator[JournalLine]:
         """Each line."""
         for segment in self.segments:
             self.enter(segment)
             yield from self.rest(segment)
 
-    def only(self, segment: Segment) -> Iterator[Line]:
+    def only(self, segment: Segment) -> Iterator[JournalLine]:
         """Each line of one segment alone."""
         self.end, self.number, self.sum = 0, 0, segment.former
         yield from self.rest(segment)
@@ -196,7 +197,7 @@ class Reading:
         """Goes to a place of the present segment, which is after so many lines, the last of which has this sum."""
         self.end, self.number, self.sum = end, number, sum_
 
-    def rest(self, segment: Segment) -> Iterator[Line]:
+    def rest(self, segment: Segment) -> Iterator[JournalLine]:
         """Each line of the present segment from there on."""
         with open(segment.path, "rb") as file:
             file.seek(self.end)
@@ -207,24 +208,24 @@ class Reading:
                     self.stop_at(segment, self.number, raw, bool(file.read(1)) or segment is not self.segments[-1])
                     return
                 self.sum, self.end = now, self.end + len(raw)
-                yield Line(segment, self.number, now, text_in(raw), self.end)
+                yield JournalLine(segment, self.number, now, line_json(raw), self.end)
 
     def stop_at(self, segment: Segment, number: int, raw: bytes, is_damage: bool) -> None:
         """Takes the last line for a torn one if it may be."""
         if is_damage or number == 1:
             raise Damaged(f"{segment.path}, line {number}: its sum is wrong")
-        text = text_in(raw)
+        text = line_json(raw)
         self.torn = len(raw)
         self.is_whole_line = raw.endswith(b"\n") or raw[:-1] == sum_after(self.sum, text).encode() + b" " + text
 
 
-def kept_of(answers: list[str]) -> dict[str, Any]:
+def kept_answers(answers: list[str]) -> dict[str, Any]:
     """What a line keeps of answers: all, or of over 1 MiB their SHA-256, so that who asks much doesn't fill the disk."""
-    text = json.dumps(answers, separators=(",", ":")).encode()
+    text = packed(answers)
     return {"answers": answers} if len(text) <= LONGEST_KEPT else {"answers_sum": hashlib.sha256(text).hexdigest()}
 
 
-class Kept(NamedTuple):
+class KeptBefore(NamedTuple):
     """What an intent keeps of the world before its batch.
 
     `before` has for each call those that undo it, or None; `names` the names of the objects that the calls name, by their numbers as `#4`.
@@ -238,18 +239,18 @@ class Kept(NamedTuple):
     gone: list[int]
 
 
-def memory_of(intent: dict[str, Any]) -> Kept | None:
+def memory_of(intent: dict[str, Any]) -> KeptBefore | None:
     """What an intent keeps; None if it is of version 1."""
     if "before" not in intent:
         return None
-    return Kept(intent["before"], intent.get("names", {}), intent.get("remakes", []), intent.get("gone", []))
+    return KeptBefore(intent["before"], intent.get("names", {}), intent.get("remakes", []), intent.get("gone", []))
 
 
 class Accepted(NamedTuple):
     """An accepted batch: it was sent to the world of number `at`, at the moment `t` (seconds since 1970), for `who`, as the programmer.
 
-    `kept` is what `kept_of` makes of its answers. `memory` is what was kept to undo it; None of a journal of version 1. `note` has the words
-    that came with it.
+    `kept` is what `kept_answers` makes of its answers. `memory` is what was kept to undo it; None of a journal of version 1. `note` has the
+    words that came with it.
     """
 
     at: int
@@ -258,7 +259,7 @@ class Accepted(NamedTuple):
     programmer: int
     calls: list[str]
     kept: dict[str, Any]
-    memory: Kept | None = None
+    memory: KeptBefore | None = None
     note: Note = NO_NOTE
 
     @property
@@ -301,7 +302,7 @@ class Outcomes:
         self.intents: dict[int, tuple[str, dict[str, Any]]] = {}
         self.sum = ""
 
-    def take(self, line: Line) -> Accepted | dict[str, Any] | None:
+    def take(self, line: JournalLine) -> Accepted | dict[str, Any] | None:
         """The accepted batch whose outcome this line is, or the `base` or `gap` that it is. None: it decides nothing."""
         kind = line.kind
         if kind == "void":

@@ -19,16 +19,18 @@ import sqlite3
 import sys
 import time
 from pathlib import Path
-from typing import Any, Iterator, NamedTuple
+from typing import Any, Iterator
 
 from moolib.errors import Failed
+from moolib.service import packed
 
+from moo_web.journal.history import History
+from moo_web.journal.receiving import VERSION, Copy, CopyRequest, SentLine
 from moo_web.journal.segments import SUM_LENGTH, Damaged, Segment, has_line
 from moo_web.journal.tail import LinesGone, Tail
-from moo_web.people.keeping import people_in, state_of
+from moo_web.people.keeping import people_in, state_of_accounts
 from moo_web.status.standbys import Progress
 
-VERSION = 1
 PAUSE = 0.05
 NOW_EVERY = 1.0
 LARGEST_FRAME = 1 << 20
@@ -42,31 +44,11 @@ With two it brings the folder COPY up to FOLDER, and ends. Exit status: 0 done, 
 Frame = tuple[dict[str, Any], bytes]
 
 
-class Place(NamedTuple):
-    """A line of a journal: the number of its segment, where it begins and ends there, and its sum."""
-
-    segment: int
-    start: int
-    end: int
-    sum: str
-
-
-class CopyRequest(NamedTuple):
-    """What the other side has: its last lines, the newest first, and the SHA-256 of its accounts."""
-
-    have: list[Place]
-    people: str
-
-    def text(self) -> bytes:
-        """The line that says so."""
-        return json.dumps({"version": VERSION, "have": self.have, "people": self.people}, separators=(",", ":")).encode() + b"\n"
-
-
 def read_request(text: bytes) -> CopyRequest:
     """The request that a line is. `Failed`: it isn't one."""
     try:
         said = json.loads(text)
-        places = [Place(int(segment), int(start), int(end), str(sum_)) for segment, start, end, sum_ in said["have"]]
+        places = [SentLine(int(segment), int(start), int(end), str(sum_)) for segment, start, end, sum_ in said["have"]]
         request = CopyRequest(places, str(said["people"]))
     except (ValueError, TypeError, KeyError):
         raise Failed("standard input has no request: this is run by `moo-replay --follow --from`") from None
@@ -110,7 +92,7 @@ class Sender:
                 return
             time.sleep(PAUSE)
 
-    def common(self) -> Place | None:
+    def common(self) -> SentLine | None:
         """The newest line of the other side's that is here too. The tail goes on there; without any it begins with the first segment."""
         segments = self.tail.segments()
         for place in self.request.have:
@@ -120,7 +102,7 @@ class Sender:
                 self.tail.start, self.tail.end, self.tail.sum = place.start, place.end, place.sum
                 with open(segment.path, "rb") as file:
                     file.seek(place.start + SUM_LENGTH + 1)
-                    self.seq = number_in(json.loads(file.read(place.end - file.tell())))
+                    self.seq = world_number_in(json.loads(file.read(place.end - file.tell())))
                 return place
         return None
 
@@ -139,12 +121,12 @@ class Sender:
             kept.append(text)
             size += len(text)
         if segment:
-            self.seq = number_in(line.said())
+            self.seq = world_number_in(line.said())
             yield frame_of(segment, first, b"".join(kept))
 
     def people(self) -> Iterator[Frame]:
         """The accounts, if they have changed."""
-        state = state_of(self.folder)
+        state = state_of_accounts(self.folder)
         if state == self.people_state:
             return
         self.people_state = state
@@ -155,12 +137,12 @@ class Sender:
             yield {"k": "people", "length": len(text)}, text
 
 
-def number_in(said: dict[str, Any]) -> int:
+def world_number_in(said: dict[str, Any]) -> int:
     """The number of the world that a line of a journal has."""
     return int(said[NUMBERS[said["k"]]])
 
 
-def is_there(segment: Segment, place: Place) -> bool:
+def is_there(segment: Segment, place: SentLine) -> bool:
     """Whether a segment has this line at this place."""
     with open(segment.path, "rb") as file:
         return has_line(file, place.start, place.end, place.sum)
@@ -176,17 +158,14 @@ def send(folder: Path) -> None:
     sender = Sender(folder, read_request(sys.stdin.buffer.readline()))
     progress = Progress(folder)
     for head, text in sender.frames(False):
-        sys.stdout.buffer.write(json.dumps(head, separators=(",", ":")).encode() + b"\n" + text)
+        sys.stdout.buffer.write(packed(head) + b"\n" + text)
         sys.stdout.buffer.flush()
         if head["k"] == "now":
             progress.put(sender.seq)
 
 
-def bring_up(folder: Path, target: str) -> None:
+def bring_copy_up(folder: Path, target: str) -> None:
     """Brings a copy up to a folder, once."""
-    from moo_web.journal.history import History
-    from moo_web.journal.receiving import Copy
-
     copy = Copy(Path(target), lambda text: print(f"moo-send: {text}", file=sys.stderr))
     try:
         for head, text in Sender(folder, copy.request()).frames(True):
@@ -206,7 +185,7 @@ def main() -> None:
         if not said.folder.is_dir():
             raise Failed(f"{said.folder} isn't a folder")
         if said.copy:
-            bring_up(said.folder, said.copy)
+            bring_copy_up(said.folder, said.copy)
         else:
             send(said.folder)
     except LinesGone:

@@ -1,7 +1,7 @@
 """The accepted batches of one segment: where each is, whose it is, which calls it has, and which objects it names.
 
-`Growing` is that of a segment that is read on, in memory; `Kept` is that of a file beside a segment, of which the system has in memory what
-is looked at.
+`Growing` is that of a segment that is read on, in memory; `TableFile` is that of a file beside a segment, of which the system has in memory
+what is looked at.
 """
 
 from __future__ import annotations
@@ -19,9 +19,10 @@ from pathlib import Path
 from typing import Any, Iterator, NamedTuple, Sequence
 
 from moolib.calls import Call, call_name
+from moolib.service import packed
 
 from moo_web.journal.prefixes import NAMED_LINES, LinePlace, Prefix, PrefixFile, index_path, read_prefix
-from moo_web.journal.segments import Accepted, Segment, accepted_of, sum_if_whole, text_in
+from moo_web.journal.segments import Accepted, Segment, accepted_of, line_json, sum_if_whole
 
 # An object that is named, in a text too.
 OBJECT_NUMBER = re.compile(r"#\s*([-+]?\d{1,10})")
@@ -48,7 +49,7 @@ def sum_of(said: object) -> str:
     return hashlib.sha256(IN_JSON.encode(said).encode()).hexdigest()[:32]
 
 
-def named_in(accepted: Accepted, asked: dict[int, set[int]]) -> set[int]:
+def objects_named(accepted: Accepted, asked: dict[int, set[int]]) -> set[int]:
     """The objects that a batch names, those that it made, and those of the petitions that it granted: `asked` has what petitions name."""
     found: set[int] = set()
     for call, answer in accepted.answered:
@@ -97,7 +98,7 @@ class Growing:
         self.open: dict[int, Open] = {}
 
     @classmethod
-    def of(cls, kept: Kept, asked: dict[int, set[int]]) -> Growing:
+    def of(cls, kept: TableFile, asked: dict[int, set[int]]) -> Growing:
         """The same batches, to be read on."""
         grown, prefix = cls(kept.segment, asked), kept.prefix
         grown.intents, grown.outcomes, grown.sums = (array.array(NUMBERS, each) for each in (kept.intents, kept.outcomes, kept.sums))
@@ -120,10 +121,6 @@ class Growing:
         """The batches that name an object."""
         return self.of_objects.get(number, NOTHING)
 
-    def with_sum(self, wanted: int, first: int) -> Iterator[int]:
-        """The batches whose calls have this sum, from a place on."""
-        return places_with(wanted, self.sums, first)
-
     # How it grows
 
     def take(self, raw: bytes) -> bool:
@@ -131,7 +128,7 @@ class Growing:
         now = sum_if_whole(self.sum, raw)
         if now is None:
             return False
-        self.take_in(json.loads(text_in(raw).decode()), self.end)
+        self.take_in(json.loads(line_json(raw).decode()), self.end)
         self.last.append(LinePlace(self.end, now))
         self.end, self.lines, self.sum = self.end + len(raw), self.lines + 1, now
         return True
@@ -163,7 +160,7 @@ class Growing:
         self.sums.append(sum_of_calls(accepted.who, sum_of(accepted.calls)))
         self.note_petitions(accepted, place)
         self.of_people.setdefault(accepted.who.lower(), array.array(PLACES)).append(place)
-        for number in named_in(accepted, self.asked):
+        for number in objects_named(accepted, self.asked):
             self.of_objects.setdefault(number, array.array(PLACES)).append(place)
 
     def note_petitions(self, accepted: Accepted, place: int) -> None:
@@ -199,7 +196,7 @@ class Growing:
         # Events of four parts are those that an older program knows.
         events = [event[:4] for event in self.events if not event.says]
         answers = [(event.number, event.place, event.who, event.says) for event in self.events if event.says]
-        words = json.dumps({"people": people, "events": events, "answers": answers}, separators=(",", ":")).encode()
+        words = packed({"people": people, "events": events, "answers": answers})
         sizes = [len(self), len(objects), len(people), sum(map(len, of_objects)), sum(map(len, of_people)), len(words)]
         parts: list[array.array[int]] = [
             array.array(NUMBERS, sizes), self.intents, self.outcomes, self.sums, array.array(NUMBERS, objects),
@@ -209,7 +206,7 @@ class Growing:
         return b"".join([*(part.tobytes() for part in parts), words])
 
 
-class Kept:
+class TableFile:
     """The batches of a prefix, of the file beside its segment. `ValueError`, `OSError`: the file isn't right, or isn't there any more."""
 
     SIZES = 6
@@ -261,10 +258,6 @@ class Kept:
         """The batches that name an object."""
         return places_by_key(self.objects, number, self.object_ends, self.in_objects)
 
-    def with_sum(self, wanted: int, first: int) -> Iterator[int]:
-        """The batches whose calls have this sum, from a place on."""
-        return places_with(wanted, array.array(NUMBERS, self.sums), first)
-
 
 def places_by_key(keys: Sequence[Any], key: Any, ends: Sequence[int], places: memoryview) -> Sequence[int]:
     """The places of a key, of those of all keys, which ascend."""
@@ -272,32 +265,33 @@ def places_by_key(keys: Sequence[Any], key: Any, ends: Sequence[int], places: me
     return places[ends[at] : ends[at + 1]] if at < len(keys) and keys[at] == key else NOTHING
 
 
-def places_with(wanted: int, sums: array.array[int], at: int) -> Iterator[int]:
+def places_with(wanted: int, sums: Sequence[int], at: int) -> Iterator[int]:
     """The places of a number among others, from one place on."""
-    while at < len(sums):
+    numbers = array.array(NUMBERS, sums)
+    while at < len(numbers):
         try:
-            at = sums.index(wanted, at)
+            at = numbers.index(wanted, at)
         except ValueError:
             return
         yield at
         at += 1
 
 
-def kept_beside(segments: Sequence[Segment]) -> dict[Path, Kept]:
+def kept_beside(segments: Sequence[Segment]) -> dict[Path, TableFile]:
     """What the files beside these segments say, by the segments' paths: of each that has one which is right.
 
     A first look at a long journal takes the sums of all of them, side by side.
     """
     if len(segments) < 2:
-        return {segment.path: kept for segment in segments if (kept := kept_of(segment))}
+        return {segment.path: kept for segment in segments if (kept := table_file_of(segment))}
     with ThreadPoolExecutor(AT_ONCE) as pool:
-        return {segment.path: kept for segment, kept in zip(segments, pool.map(kept_of, segments)) if kept}
+        return {segment.path: kept for segment, kept in zip(segments, pool.map(table_file_of, segments)) if kept}
 
 
-def kept_of(segment: Segment) -> Kept | None:
+def table_file_of(segment: Segment) -> TableFile | None:
     """What the file beside a segment says. None: there is none, or it isn't right."""
     found = read_prefix(segment)
     try:
-        return Kept(segment, found) if found else None
+        return TableFile(segment, found) if found else None
     except (OSError, ValueError, KeyError, TypeError):
         return None

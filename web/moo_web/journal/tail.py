@@ -12,7 +12,7 @@ from __future__ import annotations
 from pathlib import Path
 from typing import BinaryIO, Callable, Iterator
 
-from moo_web.journal.segments import LONGEST_LINE, SEGMENT_NAME, Damaged, Line, Segment, has_line, header_of, sum_if_whole, text_in
+from moo_web.journal.segments import LONGEST_LINE, SEGMENT_NAME, Damaged, JournalLine, Segment, has_line, header_of, line_json, sum_if_whole
 
 
 class LinesGone(Exception):
@@ -32,7 +32,7 @@ class Tail:
         self.sum, self.number, self.start, self.end = "", 0, 0, 0
         self.why, self.is_at_limit = "", False
 
-    def lines(self) -> Iterator[Line]:
+    def lines(self) -> Iterator[JournalLine]:
         """Each line that is whole by now and wasn't given before. `LinesGone`: as that says."""
         self.why, self.is_at_limit = "", False
         if self.segment is None and not self.enter_first():
@@ -42,7 +42,7 @@ class Tail:
             if self.why or self.is_at_limit or not self.enter_next():
                 return
 
-    def rest(self) -> Iterator[Line]:
+    def rest(self) -> Iterator[JournalLine]:
         """What is left of the present segment."""
         assert self.segment
         try:
@@ -65,7 +65,7 @@ class Tail:
             return True
         return has_line(file, self.start, self.end, self.sum)
 
-    def whole(self, raw: bytes) -> Line | None:
+    def whole(self, raw: bytes) -> JournalLine | None:
         """The line that these bytes are, and the place after it. None: they aren't one, or not yet."""
         assert self.segment
         now = sum_if_whole(self.sum, raw)
@@ -77,7 +77,7 @@ class Tail:
             self.is_at_limit = True
             return None
         self.start, self.end, self.number, self.sum = self.end, self.end + len(raw), self.number + 1, now
-        return Line(self.segment, self.number, now, text_in(raw), self.end)
+        return JournalLine(self.segment, self.number, now, line_json(raw), self.end)
 
     def enter(self, segment: Segment) -> None:
         """Goes on with the first line of a segment."""

@@ -17,7 +17,7 @@ from moolib.calls import Call, call_text, read_or_none
 from moolib.service import LONGEST_BODY, MOST_CALLS, packed
 from moolib.values import Name, Obj, Value
 
-from moo_web.journal.segments import Accepted, Kept
+from moo_web.journal.segments import Accepted, KeptBefore
 from moo_web.world.things import shortened
 
 # So many letters of a call that stays are shown.
@@ -76,7 +76,7 @@ def undone(batch: Accepted, is_text: bool = False) -> Undo:
 class Undoing:
     """What undoes one batch."""
 
-    def __init__(self, batch: Accepted, kept: Kept, is_text: bool) -> None:
+    def __init__(self, batch: Accepted, kept: KeptBefore, is_text: bool) -> None:
         self.calls = [read_or_none(text) for text in batch.calls]
         self.texts, self.kept = batch.calls, kept
         self.remakes: list[Optional[dict[str, list[str]]]] = [None] * len(self.calls) if is_text or not kept.remakes else kept.remakes
@@ -115,7 +115,7 @@ class Undoing:
             if named & self.gone - self.names.keys():
                 lasting[f"{text}: an object that it names is gone."] += 1
             else:
-                yield renamed(step, self.names)
+                yield with_names(step, self.names)
 
     def is_moot(self, step: Call) -> bool:
         """Whether a step would change what is recycled right after it, since this batch made it."""
@@ -126,9 +126,9 @@ class Undoing:
         lasting[TOLD_AGAIN.format(number)] += 1
         first, *others = map(Call.read, calls)
         name = Name(f"again{number}")
-        yield f"{name} = {renamed(first, self.names)}"
+        yield f"{name} = {with_names(first, self.names)}"
         self.names[number] = name
-        yield from (renamed(call, self.names) for call in others)
+        yield from (with_names(call, self.names) for call in others)
 
 
 def told_lasting(call: Optional[Call], text: str) -> str:
@@ -141,7 +141,7 @@ def told_lasting(call: Optional[Call], text: str) -> str:
     return f"{shown}: what it replaced can’t be put back, or was too much to be kept."
 
 
-def renamed(call: Call, names: dict[int, Name]) -> str:
+def with_names(call: Call, names: dict[int, Name]) -> str:
     """A call with names in place of the numbers of objects that are made again. In values the numbers stay."""
     if not numbers_of(call) & names.keys():
         return str(call)
@@ -177,6 +177,6 @@ def numbers_of(call: Call) -> set[int]:
     return {value.number for value in firsts if isinstance(value, Obj)}
 
 
-def text_of(batch: Accepted, undo: Undo) -> str:
+def undo_text(batch: Accepted, undo: Undo) -> str:
     """The batches that undo a batch, as a text for `moo apply`, by the one who made it."""
     return "".join(f"batch as #{batch.programmer}\n" + "".join(f"{line}\n" for line in part) + "end\n" for part in undo.parts)

@@ -23,7 +23,7 @@ from moo_web.journal.jobs import Barred, Busy, Job, Stopped, TooMuch, Unknown
 from moo_web.journal.journal import Broken, Journal, NoRoom, told_of_gap
 from moo_web.journal.memory import Memory
 from moo_web.journal.notes import NO_NOTE, Note
-from moo_web.journal.segments import Accepted, accepted_of, kept_of
+from moo_web.journal.segments import Accepted, accepted_of, kept_answers
 from moo_web.people.person import Person
 from moo_web.traffic.turns import NobodyWaits
 from moo_web.traffic.visitors import never, present, visiting
@@ -178,7 +178,7 @@ class Writer:
             return
         intent = {
             "k": "intent", "at": self.seq, "t": self.moment(), "who": job.who, "as": job.programmer,
-            "calls": job.calls, **kept_of(asked.said["answers"]), **memory, **job.note.keys,
+            "calls": job.calls, **kept_answers(asked.said["answers"]), **memory, **job.note.keys,
         }  # fmt: skip
         job.would = asked.said["answers"]
         if self.record(job, intent):
@@ -342,8 +342,8 @@ class Writer:
     def accept(self, intent: dict[str, Any], answer: Answer | None, job: Job | None) -> None:
         """Notes that an intent was accepted, and then tells who waits. If the answer was lost it is what `/ask` has said."""
         done: dict[str, Any] = {"k": "done", "seq": intent["at"] + 1}
-        if answer and not kept_of(answer.said["answers"]).items() <= intent.items():
-            done |= kept_of(answer.said["answers"])
+        if answer and not kept_answers(answer.said["answers"]).items() <= intent.items():
+            done |= kept_answers(answer.said["answers"])
         self.note(done)
         # Who sees the new number finds that the listeners know of it.
         self.tell_listeners(accepted_of(intent, done))

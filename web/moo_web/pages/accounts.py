@@ -11,9 +11,9 @@ from typing import NamedTuple
 from markupsafe import Markup
 
 from moo_web.app import Reply, Request
-from moo_web.forms.forms import Ambiguous, Me, Mistake, object_value
+from moo_web.forms.forms import Me, Mistake, object_value
 from moo_web.forms.input import Mistyped
-from moo_web.forms.views import NamesOf
+from moo_web.forms.lookup import ObjectLookup
 from moo_web.journal.tables import sum_of
 from moo_web.pages.own import end_one
 from moo_web.pages.pages import Visit
@@ -21,7 +21,7 @@ from moo_web.paths import url_for
 from moo_web.people.file import Wrong
 from moo_web.people.links import LINK_SECONDS
 from moo_web.people.people import Listed, People
-from moo_web.traffic.hosts import LOCAL, name_in
+from moo_web.traffic.hosts import LOCAL, host_name_in
 from moo_web.world.asking import Moved
 from moo_web.world.door import Unreachable
 
@@ -77,7 +77,7 @@ class AccountPages:
             try:
                 deed = self.deed(visit, one, key, typed)
             except Mistyped as mistyped:
-                wrong = Mistake(mistyped.reason, "", mistyped.choices if isinstance(mistyped, Ambiguous) else ())
+                wrong = Mistake(mistyped.reason, "", mistyped.choices)
         status = 409 if trouble else 422 if wrong else 200
         return visit.page("pages/deed.html", status, one=one, key=key, title=DEEDS[key], deed=deed, typed=typed, wrong=wrong, trouble=trouble)
 
@@ -139,7 +139,7 @@ class AccountPages:
 
 def renumbering(visit: Visit, one: Listed, typed: str) -> Deed:
     """What another object would do. `Mistyped`: what was typed isn't one that a person can act as."""
-    number = int(object_value(typed, NamesOf(visit.world), Me(visit.number, True))[1:])
+    number = int(object_value(typed, ObjectLookup(visit.world), Me(visit.number, True))[1:])
     if number == one.number:
         raise Mistyped("This is the object as which they act now.")
     thing = visit.world.things[number]
@@ -185,5 +185,5 @@ def link_to(request: Request, secret: str) -> str:
     """A link for a password, with the address by which the browser has asked."""
     origin, host = request.line("origin"), request.line("host")
     if urllib.parse.urlsplit(origin).netloc != host:
-        origin = f"{'http' if name_in(host.lower()) in LOCAL else 'https'}://{host}"
+        origin = f"{'http' if host_name_in(host.lower()) in LOCAL else 'https'}://{host}"
     return origin + url_for("link", key=secret)

@@ -8,7 +8,6 @@ from moolib.values import written
 
 from moo_web.pages.pages import Visit
 from moo_web.world.asking import Refusal
-from moo_web.world.properties import SightNames
 from moo_web.paths import form_for, url_for
 
 
@@ -20,27 +19,28 @@ class Action(NamedTuple):
     is_loss: bool = False
 
 
-def buttons(visit: Visit, number: int, names: SightNames) -> list[Action]:
+def buttons(visit: Visit, number: int) -> list[Action]:
     """What is done most. What has no property for a description gets one."""
-    (description,) = visit.answers([f"get(#{number}, {written(names.description)})"])
+    name = visit.sight_names.description
+    (description,) = visit.answers([f"get(#{number}, {written(name)})"])
     key = "add-property" if isinstance(description, Refusal) and description.error == "E_PROPNF" else "set"
     return [
         Action("Edit", url_for("edit", number=number)),
-        Action("Describe", url_for("form", key=key, object=f"#{number}", name=names.description)),
+        Action("Describe", url_for("form", key=key, object=f"#{number}", name=name)),
         Action("Rename", form_for("rename", number)), Action("Move", form_for("move", number)),
         Action("Make something in it", form_for("create", number, "place")),
     ]  # fmt: skip
 
 
-def room_calls(visit: Visit, number: int, names: SightNames) -> list[str]:
+def room_calls(visit: Visit, number: int) -> list[str]:
     """What is asked for whether an object is a room, of which another can be made: it has a list of exits, and so has its parent."""
-    return [f"get(#{one}, {written(names.exits)})" for one in (number, visit.world.things[number].parent) if one >= 0]
+    return [f"get(#{one}, {written(visit.sight_names.exits)})" for one in (number, visit.world.things[number].parent) if one >= 0]
 
 
-def more(visit: Visit, number: int, names: SightNames) -> list[Action]:
+def more(visit: Visit, number: int) -> list[Action]:
     """All else. A room may have no exits yet."""
     parent = visit.world.things[number].parent
-    is_room = parent >= 0 and all(isinstance(exits, list) for exits in visit.answers(room_calls(visit, number, names)))
+    is_room = parent >= 0 and all(isinstance(exits, list) for exits in visit.answers(room_calls(visit, number)))
     leads_here = url_for("new", parent=parent, **{"from": number})
     rooms = [Action("Make a room that leads here", leads_here)] if is_room else []
     for_wizards = [Action("Player and wizard", form_for("powers", number)), Action("Quota", form_for("quota", number))]

@@ -26,8 +26,8 @@ from moo_web.pages.links import link_named, name_shown
 from moo_web.pages.pages import Visit
 from moo_web.pages.sentences import LONGEST_OF_MANY, Link, in_words, told_call
 from moo_web.pages.words import REPLIES
-from moo_web.world.asking import READING, Refusal, batch_asked
-from moo_web.world.door import Answer
+from moo_web.world.asking import Refusal, batch_asked
+from moo_web.world.door import QUESTION_SECONDS, Answer
 
 OF_PROPERTIES = ("set", "clear_property", "set_property_info", "delete_property", "add_property")
 NOBODYS = ("petition",)
@@ -51,7 +51,7 @@ class Difference(NamedTuple):
     new: Markup
 
 
-class Row(NamedTuple):
+class CallRow(NamedTuple):
     """A call as it is shown: in words if it has some, its text, its answer, and what it changed. `asked` are the calls that a grant did."""
 
     call: str
@@ -65,7 +65,7 @@ class Row(NamedTuple):
 class Told(NamedTuple):
     """A batch as it is shown: its rows, how many calls and values the person may not read, and the objects that it made and is about."""
 
-    rows: list[Row]
+    rows: list[CallRow]
     hidden: int
     unread: int
     is_own: bool
@@ -109,7 +109,7 @@ class Telling:
         about = [number for number in dict.fromkeys([*made, *subjects]) if number is not None and number in self.visit.world.things]
         return Told(rows, shown.count(False), self.unread, self.is_own, made, about)
 
-    def row(self, place: int) -> Row:
+    def row(self, place: int) -> CallRow:
         """The call at a place."""
         call, text, answers = self.calls[place], self.batch.calls[place], self.batch.answers or []
         asked, who = self.asked_by(call)
@@ -119,7 +119,7 @@ class Telling:
         differences = self.differences(asked or ([call] if call else []), before or [])
         answer = answers[place] if self.is_own and place < len(answers) else None
         done = [told_call(each, self.link) or escape(str(each)) for each in asked]
-        return Row(text, in_words(text, self.link), answer, differences, done, who)
+        return CallRow(text, in_words(text, self.link), answer, differences, done, who)
 
     def line(self, number: Optional[int]) -> ListedBatch:
         """The batch in a line of a list: its first call about an object, or of no object its first one, among those that may be read."""
@@ -223,7 +223,7 @@ class Telling:
         if not self.is_own:
             return set()
         def ask(calls: list[str]) -> Answer:
-            return batch_asked(self.visit.asker.door, self.visit.number, calls, self.visit.world.seq, time.monotonic() + READING)
+            return batch_asked(self.visit.asker.door, self.visit.number, calls, self.visit.world.seq, time.monotonic() + QUESTION_SECONDS)
 
         lines = readable_lines(undone(self.batch).lines[:MOST_CALLS], self.visit.number, ask)
         found = (aspect_of(call, is_undoing=True) for line in lines if is_of_value(line) and (call := read_or_none(line)))

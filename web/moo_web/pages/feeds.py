@@ -12,12 +12,12 @@ from typing import Any
 from markupsafe import Markup
 
 from moo_web.app import Reply, Request, in_json
-from moo_web.forms.inbox import PetitionPages, Row
+from moo_web.forms.inbox import PetitionPages, PetitionRow
 from moo_web.journal.history import History, StillRead
 from moo_web.journal.segments import Accepted
 from moo_web.journal.tables import sum_of
 from moo_web.journal.talks import Talk, decided_of
-from moo_web.pages.atom import KIND, Entry, Feed, mark_of
+from moo_web.pages.atom import KIND, AtomEntry, AtomFeed, atom_mark
 from moo_web.pages.batches import Telling
 from moo_web.pages.history import seen_by
 from moo_web.pages.pages import PageHandler, Pages, Visit, wanted_of
@@ -89,10 +89,10 @@ class FeedPages:
         return given(visit, title, visit.request.path, page, entries)
 
 
-def given(visit: Visit, title: str, about: str, page: str, entries: list[Entry]) -> Reply:
+def given(visit: Visit, title: str, about: str, page: str, entries: list[AtomEntry]) -> Reply:
     """The answer with a feed, or that it is as it was."""
     entries = sorted(entries, key=lambda entry: -entry.updated)[:MOST_ENTRIES]
-    text = Feed(title, mark_of("feed", about, visit.name.lower()), 0.0, visit.request.path, page, entries).text
+    text = AtomFeed(title, atom_mark("feed", about, visit.name.lower()), 0.0, visit.request.path, page, entries).text
     lines = (*LINES, ("ETag", f'"{hashlib.sha256(text).hexdigest()[:32]}"'))
     return Reply(304, b"", KIND, lines) if visit.request.line("if-none-match") == lines[-1][1] else Reply(200, text, KIND, lines)
 
@@ -108,22 +108,22 @@ def token_in(request: Request) -> str:
         return ""
 
 
-def plain(words: Markup) -> str:
+def without_links(words: Markup) -> str:
     """A sentence without its links."""
     return words.striptags().replace("\xa0", " ")
 
 
-def entry_of_row(visit: Visit, row: Row) -> Entry:
+def entry_of_row(visit: Visit, row: PetitionRow) -> AtomEntry:
     """An open petition."""
     if row.talk is not None:
         return entry_of_talk(visit, row.talk, row.seen.calls, row.seen.hidden)
     sentences = sentences_of(visit, row.seen.calls, row.seen.hidden)
     name, number = visit.short(row.petition.who), row.petition.number
-    mark = mark_of("petition", number, f"#{row.petition.who}")
-    return Entry(mark, titled(name, sentences), 0.0, name, url_for("petition", number=number), "\n".join(sentences))
+    mark = atom_mark("petition", number, f"#{row.petition.who}")
+    return AtomEntry(mark, titled(name, sentences), 0.0, name, url_for("petition", number=number), "\n".join(sentences))
 
 
-def entry_of_talk(visit: Visit, talk: Talk, calls: list[str], hidden: int = 0) -> Entry:
+def entry_of_talk(visit: Visit, talk: Talk, calls: list[str], hidden: int = 0) -> AtomEntry:
     """A petition of the journal, open or ended, of which a person may read these calls."""
     asked, sentences = talk.asked, sentences_of(visit, calls, hidden)
     lines = [asked.note.words] if calls and asked.note.words else []
@@ -134,14 +134,14 @@ def entry_of_talk(visit: Visit, talk: Talk, calls: list[str], hidden: int = 0) -
     if talk.ended:
         ended = "Granted: " if talk.is_granted else "Done: " if talk.done_by else "Ended: "
         lines += [f"{ended}by {talk.ended.who}.", *([talk.word] if talk.word else [])]
-    mark = mark_of("petition", talk.number, asked.t, asked.who.lower())
+    mark = atom_mark("petition", talk.number, asked.t, asked.who.lower())
     title = titled(f"{ended}{asked.who}", sentences)
-    return Entry(mark, title, talk.changed, asked.who, url_for("petition", number=talk.number), "\n".join(lines))
+    return AtomEntry(mark, title, talk.changed, asked.who, url_for("petition", number=talk.number), "\n".join(lines))
 
 
 def sentences_of(visit: Visit, calls: list[str], hidden: int) -> list[str]:
     """Calls in words, or as they are written; and how many more there are."""
-    found = [plain(told(call, visit.link)) or call for call in calls]
+    found = [without_links(told(call, visit.link)) or call for call in calls]
     return found + ([f"And {hidden} more, which you may not read."] if hidden else [])
 
 
@@ -150,12 +150,13 @@ def titled(name: str, sentences: list[str]) -> str:
     return shortened(f"{name}: {sentences[0]}" if sentences else name, LONGEST_TITLE)
 
 
-def entry_of_batch(visit: Visit, history: History, batch: Accepted, number: int | None) -> Entry:
+def entry_of_batch(visit: Visit, history: History, batch: Accepted, number: int | None) -> AtomEntry:
     """A batch that was accepted."""
     telling = Telling(visit, history, batch)
     line = telling.unfolded(number)
-    sentences = [plain(words) for words in line.all] or [plain(line.words)]
+    sentences = [without_links(words) for words in line.all] or [without_links(line.words)]
     more = telling.count - len(sentences)
     lines = [*sentences, *([f"And {more} more."] if more > 0 else [])]
-    mark = mark_of("batch", batch.seq, batch.t, batch.who.lower(), sum_of(batch.calls))
-    return Entry(mark, titled(batch.who, [plain(line.words)]), batch.t, batch.who, url_for("batch", batch=batch.seq), "\n".join(lines))
+    mark = atom_mark("batch", batch.seq, batch.t, batch.who.lower(), sum_of(batch.calls))
+    title, address = titled(batch.who, [without_links(line.words)]), url_for("batch", batch=batch.seq)
+    return AtomEntry(mark, title, batch.t, batch.who, address, "\n".join(lines))

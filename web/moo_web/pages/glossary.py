@@ -14,7 +14,7 @@ from markupsafe import Markup
 from moo_web.paths import url_for
 
 
-class Word(NamedTuple):
+class Term(NamedTuple):
     """A word, what it means, and the manual's word for it, if that is another one."""
 
     word: str
@@ -24,29 +24,29 @@ class Word(NamedTuple):
 
 GLOSSARY = {
     one.word: one for one in (
-        Word("object", "all that there is: a room, a thing, a person. Each has a number, such as #4, and a name", "object"),
-        Word("class", "an object of which others are made: they have what it has. Its name often begins with ‘generic’", "generic object"),
-        Word("generic", "in a name: a model, of which others are made"),
-        Word("parent", "the object from which another one has what it doesn’t have of its own", "parent"),
-        Word("owner", "whose an object is: who may change it", "owner"),
-        Word("property", "something that is known of an object, such as its description: a name, and a value", "property"),
-        Word("verb", "a word that people could type at an object, such as ‘get lamp’. It is kept for other programs: nothing here runs it", "verb"),
-        Word("place", "an object in which others may be", "location"),
-        Word("exit", "a way from one place to another"),
-        Word("player", "an object as which a person acts here", "player"),
-        Word("wizard", "somebody who looks after the world, and may do everything", "wizard"),
-        Word("batch", "some changes that are done together: all of them, or none"),
-        Word("call", "one change, or one question, as it is written: move(#8, #2)"),
-        Word("petition", "what somebody asks for who may not do it: the owners and the wizards read it, and decide"),
-        Word("quota", "how many more objects somebody may make", "ownership_quota"),
-        Word("marks", "what everybody may do with an object: see what it has, change what it has, make others of it", "r, w, f"),
-        Word("readable", "everybody may list what an object has: its properties and verbs", "r"),
-        Word("writable", "everybody may add to what an object has, and take away from it", "w"),
-        Word("fertile", "everybody may make objects of it, which have what it has", "f"),
-        Word("rights", "what others may do with a property: read it (r), write it (w); and with c, who owns a child owns it there", "r, w, c"),
-        Word("World number", "how often the world has changed: it grows by one with each batch"),
-        Word("#-1", "nothing: the number of no object"),
-        Word("error", "why something was refused, in the words of the manual, such as E_PERM: you may not do it"),
+        Term("object", "all that there is: a room, a thing, a person. Each has a number, such as #4, and a name", "object"),
+        Term("class", "an object of which others are made: they have what it has. Its name often begins with ‘generic’", "generic object"),
+        Term("generic", "in a name: a model, of which others are made"),
+        Term("parent", "the object from which another one has what it doesn’t have of its own", "parent"),
+        Term("owner", "whose an object is: who may change it", "owner"),
+        Term("property", "something that is known of an object, such as its description: a name, and a value", "property"),
+        Term("verb", "a word that people could type at an object, such as ‘get lamp’. It is kept for other programs: nothing here runs it", "verb"),
+        Term("place", "an object in which others may be", "location"),
+        Term("exit", "a way from one place to another"),
+        Term("player", "an object as which a person acts here", "player"),
+        Term("wizard", "somebody who looks after the world, and may do everything", "wizard"),
+        Term("batch", "some changes that are done together: all of them, or none"),
+        Term("call", "one change, or one question, as it is written: move(#8, #2)"),
+        Term("petition", "what somebody asks for who may not do it: the owners and the wizards read it, and decide"),
+        Term("quota", "how many more objects somebody may make", "ownership_quota"),
+        Term("marks", "what everybody may do with an object: see what it has, change what it has, make others of it", "r, w, f"),
+        Term("readable", "everybody may list what an object has: its properties and verbs", "r"),
+        Term("writable", "everybody may add to what an object has, and take away from it", "w"),
+        Term("fertile", "everybody may make objects of it, which have what it has", "f"),
+        Term("rights", "what others may do with a property: read it (r), write it (w); and with c, who owns a child owns it there", "r, w, c"),
+        Term("World number", "how often the world has changed: it grows by one with each batch"),
+        Term("#-1", "nothing: the number of no object"),
+        Term("error", "why something was refused, in the words of the manual, such as E_PERM: you may not do it"),
     )
 }  # fmt: skip
 # So many of the words that are shown are kept as they are written in a page.

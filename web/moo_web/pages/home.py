@@ -9,7 +9,6 @@ from moo_web.journal.history import Batches, History
 from moo_web.pages.batches import Telling, without_unreadable
 from moo_web.pages.pages import Visit
 from moo_web.pages.sight import sight_calls, sight_of
-from moo_web.world.properties import SightNames
 from moo_web.world.things import NOTHING, World
 from moo_web.world.trees import Node, tree
 
@@ -19,15 +18,15 @@ MOST_NODES, MOST_ROOTS = 48, 24
 SOON = 0.3
 
 
-def home(visit: Visit, history: History, names: SightNames) -> Reply:
+def home(visit: Visit, history: History) -> Reply:
     """The first page of somebody who is signed in."""
     seen = visit.world
     here = seen.things[visit.number].location
     # All that the page asks for is asked in one request.
-    quota, *_ = visit.answers([f'get(#{visit.number}, "ownership_quota")', *(sight_calls(names, here) if here in seen.things else ())])
+    quota, *_ = visit.answers([f'get(#{visit.number}, "ownership_quota")', *(sight_calls(visit, here) if here in seen.things else ())])
     yours, found = seen.owned.get(visit.number, ()), lately(visit, history)
     return visit.page(
-        "pages/home.html", here=here, sight=sight_of(visit, names, here) if here in seen.things else None,
+        "pages/home.html", here=here, sight=sight_of(visit, here) if here in seen.things else None,
         waiting=visit.waiting, lately=found, others=by_others(visit, found),
         newest=list(itertools.islice(reversed(seen.things), NEWEST)), yours=yours[-YOURS:][::-1], yours_count=len(yours),
         quota=quota if isinstance(quota, int) else None, parents=parents_of(seen), places=places_of(seen),

@@ -14,7 +14,6 @@ from moolib.values import written
 from moo_web.forms.input import clipped
 from moo_web.pages.pages import Visit
 from moo_web.pages.sight import DESTINATION, MOST_EXITS, Exit, exits_in, leading
-from moo_web.world.properties import SightNames
 
 # So many places are drawn.
 MOST_PLACES = 60
@@ -27,8 +26,8 @@ STEPS = {
     "northeast": (1, -1), "ne": (1, -1), "northwest": (-1, -1), "nw": (-1, -1), "southeast": (1, 1), "se": (1, 1),
     "southwest": (-1, 1), "sw": (-1, 1),
 }  # fmt: skip
-Cell = tuple[int, int]
-Places = dict[int, list[Exit]]
+GridCell = tuple[int, int]
+ExitsByPlace = dict[int, list[Exit]]
 
 
 class Box(NamedTuple):
@@ -40,7 +39,7 @@ class Box(NamedTuple):
     y: int
 
 
-class Line(NamedTuple):
+class DrawnLine(NamedTuple):
     """A line between the middles of two boxes: a path of SVG. `words` are at a place of it, unless its direction says them.
 
     Some lead one way alone.
@@ -57,17 +56,17 @@ class Picture(NamedTuple):
     """The boxes and lines of a drawing of this size."""
 
     boxes: list[Box]
-    lines: list[Line]
+    lines: list[DrawnLine]
     width: int
     height: int
 
 
-def walked(visit: Visit, names: SightNames, start: int) -> tuple[Places, bool]:
+def walked(visit: Visit, start: int) -> tuple[ExitsByPlace, bool]:
     """The places that can be reached from one, each with its exits, the near ones first; and whether there are more."""
-    found: Places = {}
+    found: ExitsByPlace = {}
     level = [start]
     while level and len(found) < MOST_PLACES:
-        found.update(exits_of(visit, names, level))
+        found.update(exits_by_place(visit, level))
         further = dict.fromkeys(exit.to for number in level for exit in found[number])
         level = [number for number in further if number in visit.world.things and number not in found]
         is_more = len(level) > MOST_PLACES - len(found)
@@ -75,20 +74,20 @@ def walked(visit: Visit, names: SightNames, start: int) -> tuple[Places, bool]:
     return found, is_more
 
 
-def exits_of(visit: Visit, names: SightNames, numbers: list[int]) -> Places:
+def exits_by_place(visit: Visit, numbers: list[int]) -> ExitsByPlace:
     """The exits of some places, in two requests at most."""
-    values = visit.answers([f"get(#{number}, {written(names.exits)})" for number in numbers])
+    values = visit.answers([f"get(#{number}, {written(visit.sight_names.exits)})" for number in numbers])
     read = [exits_in(value)[:MOST_EXITS] for value in values]
     visit.answers([f'get(#{to}, "{DESTINATION}")' for some in read for words, to in some if not words and to in visit.world.things])
     return {number: leading(visit, some) for number, some in zip(numbers, read)}
 
 
-def step_of(words: str) -> Optional[Cell]:
+def step_of(words: str) -> Optional[GridCell]:
     """The direction that the words of an exit say."""
     return next((STEPS[word] for word in words.lower().replace(",", " ").split() if word in STEPS), None)
 
 
-def laid_out(places: Places) -> dict[int, Cell]:
+def laid_out(places: ExitsByPlace) -> dict[int, GridCell]:
     """The cell of each place. They come in the order in which they are reached."""
     start = next(iter(places))
     cells = {start: (0, 0)}
@@ -101,7 +100,7 @@ def laid_out(places: Places) -> dict[int, Cell]:
     return cells
 
 
-def spread(places: Places, cells: dict[int, Cell], start: int) -> None:
+def spread(places: ExitsByPlace, cells: dict[int, GridCell], start: int) -> None:
     """Finds cells for all that can be reached from a place by exits that say a direction."""
     waiting = collections.deque([start])
     while waiting:
@@ -113,7 +112,7 @@ def spread(places: Places, cells: dict[int, Cell], start: int) -> None:
                 waiting.append(exit.to)
 
 
-def free_near(taken: set[Cell], cell: Cell, step: Cell) -> Cell:
+def free_near(taken: set[GridCell], cell: GridCell, step: GridCell) -> GridCell:
     """The cell in a direction from one if it isn't taken; else one as near to it as can be, which isn't in one line with what is taken."""
     wanted = (cell[0] + step[0], cell[1] + step[1])
     reach = range(-len(taken) - 1, len(taken) + 2)
@@ -122,7 +121,7 @@ def free_near(taken: set[Cell], cell: Cell, step: Cell) -> Cell:
     return wanted if wanted not in taken else min(free, key=lambda one: (abs(one[0] - wanted[0]) + abs(one[1] - wanted[1]), one[::-1]))
 
 
-def pictured(visit: Visit, places: Places) -> Picture:
+def pictured(visit: Visit, places: ExitsByPlace) -> Picture:
     """The drawing of places and their exits."""
     cells = laid_out(places)
     left, top = min(x for x, _ in cells.values()), min(y for _, y in cells.values())
@@ -135,22 +134,22 @@ def pictured(visit: Visit, places: Places) -> Picture:
     return Picture(boxes, lines_of(places, at), width, height)
 
 
-def lines_of(places: Places, at: dict[int, Cell]) -> list[Line]:
+def lines_of(places: ExitsByPlace, at: dict[int, GridCell]) -> list[DrawnLine]:
     """A line for each two places that are joined."""
     ways = {(number, exit.to): exit.words for number, exits in reversed(places.items()) for exit in reversed(exits) if exit.to in places}
     taken = set(at.values())
     return [
-        line_of(at[number], at[to], taken, words, (to, number) not in ways)
+        line_between(at[number], at[to], taken, words, (to, number) not in ways)
         for (number, to), words in reversed(ways.items()) if number != to and ((to, number) not in ways or first_of(places, number, to))
     ]  # fmt: skip
 
 
-def first_of(places: Places, number: int, other: int) -> bool:
+def first_of(places: ExitsByPlace, number: int, other: int) -> bool:
     """Whether a place is reached before another one."""
     return next(one for one in places if one in (number, other)) == number
 
 
-def line_of(start: Cell, end: Cell, taken: set[Cell], words: str, is_one_way: bool) -> Line:
+def line_between(start: GridCell, end: GridCell, taken: set[GridCell], words: str, is_one_way: bool) -> DrawnLine:
     """The line between two cells."""
     (x, y), (to_x, to_y) = middle_of(start), middle_of(end)
     is_bent = any(one in taken for one in between(start, end))
@@ -159,15 +158,15 @@ def line_of(start: Cell, end: Cell, taken: set[Cell], words: str, is_one_way: bo
     path = f"M{x} {y}Q{through_x} {through_y} {to_x} {to_y}"
     step = step_of(words)
     is_said = step is not None and (start[0] + step[0], start[1] + step[1]) == end
-    return Line(path, through_x - bend_x // 2, through_y - bend_y // 2, "" if is_said else clipped(words, LETTERS), is_one_way)
+    return DrawnLine(path, through_x - bend_x // 2, through_y - bend_y // 2, "" if is_said else clipped(words, LETTERS), is_one_way)
 
 
-def middle_of(cell: Cell) -> Cell:
+def middle_of(cell: GridCell) -> GridCell:
     """The middle of a cell in the drawing."""
     return cell[0] * ACROSS + ACROSS // 2, cell[1] * DOWN + DOWN // 2
 
 
-def between(start: Cell, end: Cell) -> list[Cell]:
+def between(start: GridCell, end: GridCell) -> list[GridCell]:
     """The cells between two that are in one line; of others none."""
     (x, y), (to_x, to_y) = start, end
     far = max(abs(to_x - x), abs(to_y - y))

@@ -44,9 +44,7 @@ def list_page(visit: Visit, title: str, told: str, numbers: Sequence[int], of: T
 
 def listed(visit: Visit, number: int, what: str) -> Reply:
     """What is under an object, in it, or its own."""
-    world, of = visit.world, visit.world.things.get(number)
-    if of is None:
-        return visit.page("pages/no_object.html", 404, number=number)
+    world, of = visit.world, visit.world.thing(number)
     if what == "children":
         return list_page(visit, "Children of", "What inherits from it directly.", world.children.get(of.number, ()), of)
     if what == "contents":

@@ -12,7 +12,6 @@ from moo_web.pages.joined import pictured, walked
 from moo_web.pages.lists import part_of
 from moo_web.pages.pages import Visit
 from moo_web.pages.picture import drawn
-from moo_web.world.properties import SightNames
 from moo_web.paths import url_for, whole_number
 from moo_web.world.things import NOTHING
 from moo_web.world.trees import tree
@@ -28,14 +27,14 @@ def first(visit: Visit) -> Reply:
     return visit.go(url_for("tree", tree="exits"))
 
 
-def map_page(visit: Visit, names: SightNames, what: str) -> Reply:
+def map_page(visit: Visit, what: str) -> Reply:
     """A map: of all, or from one object on."""
     asked = whole_number(visit.fields.get("from", ""))
     start = asked if asked in visit.world.things else None
-    return exits_page(visit, names, start) if what == "exits" else tree_page(visit, what, start)
+    return exits_page(visit, start) if what == "exits" else tree_page(visit, what, start)
 
 
-def exits_page(visit: Visit, names: SightNames, start: int | None) -> Reply:
+def exits_page(visit: Visit, start: int | None) -> Reply:
     """The map of how places are joined: what can be reached from one, or from where the person is."""
     world = visit.world
     here = world.things[visit.number].location
@@ -43,7 +42,7 @@ def exits_page(visit: Visit, names: SightNames, start: int | None) -> Reply:
     if start is None:
         choices = list(itertools.islice((number for number in world.contents if number != NOTHING), MOST_CHOICES))
         return visit.page("pages/exits.html", start=None, here=here, choices=choices)
-    places, is_more = walked(visit, names, start)
+    places, is_more = walked(visit, start)
     return visit.page("pages/exits.html", start=start, here=here, places=places, is_more=is_more, picture=pictured(visit, places))
 
 

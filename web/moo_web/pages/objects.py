@@ -17,7 +17,7 @@ from moo_web.pages.lists import part_of
 from moo_web.pages.pages import Visit
 from moo_web.pages.sight import sight_calls, sight_of
 from moo_web.world.asking import Refusal
-from moo_web.world.properties import MOST, Property, SightNames, grouped, names_calls, names_on, properties_of, property_calls
+from moo_web.world.properties import MOST, Property, grouped, names_calls, names_on, properties_of, property_calls
 from moo_web.world.things import NOTHING
 
 # So many of the objects under one, and in one, are on its page.
@@ -44,31 +44,28 @@ class Verb(NamedTuple):
     rights: str | None
 
 
-def object_page(visit: Visit, history: History, sight_names: SightNames, one: int) -> Reply:
+def object_page(visit: Visit, history: History, one: int) -> Reply:
     """The page of an object."""
-    thing = visit.world.things.get(one)
-    if thing is None:
-        return visit.page("pages/no_object.html", 404, number=one)
-    world = visit.world
+    thing, world = visit.world.thing(one), visit.world
     chain = [above.number for above in world.chain(one)]
     # All that the page asks is asked in two requests: what there is, and then all of that.
     visit.answers([
-        *names_calls(chain), *(f"verbs(#{each})" for each in chain), *accept_calls(chain), *sight_calls(sight_names, one),
-        *room_calls(visit, one, sight_names),
+        *names_calls(chain), *(f"verbs(#{each})" for each in chain), *accept_calls(chain), *sight_calls(visit, one),
+        *room_calls(visit, one),
     ])  # fmt: skip
     names = names_on(visit, one)
     part = part_of(names.pairs, visit.fields.get("page", ""), MOST)
     visit.answers([*property_calls(one, list(part.items), chain), *verb_calls(one, visit.answers([f"verbs(#{one})"])[0])])
     verbs, inherited = verbs_of(visit, chain)
-    sight = sight_of(visit, sight_names, one)
+    sight = sight_of(visit, one)
     accepts, told = accepting(visit, one), properties_of(visit, one, list(part.items))
     return visit.page(
         "pages/object.html", thing=thing, above=folded(chain[1:]), places=[place.number for place in world.places(one)][1:], flags=FLAGS,
-        children=world.children.get(one, ()), some=SOME, part=part, sight=sight, sight_names=sight_names,
+        children=world.children.get(one, ()), some=SOME, part=part, sight=sight,
         groups=grouped([each for each in told if each.is_shown], [], chain), unread=[each.name for each in told if not each.is_shown],
         unlisted=names.hidden, verbs=verbs, inherited=inherited, lately=lately(visit, history, one), accepts=accepts,
         owned=len(world.owned.get(one, ())), line=lambda batch: Telling(visit, history, batch).line(one),
-        buttons=buttons(visit, one, sight_names), more=more(visit, one, sight_names), way=way_to(visit, one, bool(accepts.numbers)),
+        buttons=buttons(visit, one), more=more(visit, one), way=way_to(visit, one, bool(accepts.numbers)),
     )  # fmt: skip
 
 
@@ -121,12 +118,10 @@ class Level(NamedTuple):
 
 def one_property(visit: Visit, history: History, one: int) -> Reply:
     """The page of a property: its whole value, and what it is on each object from which it may come."""
-    world, name = visit.world, visit.fields.get("name", "")
-    if one not in world.things:
-        return visit.page("pages/no_object.html", 404, number=one)
+    thing, world, name = visit.world.thing(one), visit.world, visit.fields.get("name", "")
     pair = pair_of(visit, one, name)
     if pair is None:
-        return visit.page("pages/no_property.html", 404, thing=world.things[one], name=name)
+        return visit.page("pages/no_property.html", 404, thing=thing, name=name)
     chain = [above.number for above in world.chain(one)]
     levels = []
     for above in chain[: chain.index(pair[0]) + 1] if pair[0] in chain else chain:
@@ -134,7 +129,7 @@ def one_property(visit: Visit, history: History, one: int) -> Reply:
         levels.append(Level(above, "hidden" if not told.is_shown else "here" if told.source == above else "clear", told))
     is_listed = pair[0] != NOTHING
     return visit.page(
-        "pages/property.html", thing=world.things[one], name=pair[1], levels=levels, told=levels[0].told, is_listed=is_listed,
+        "pages/property.html", thing=thing, name=pair[1], levels=levels, told=levels[0].told, is_listed=is_listed,
         in_time=in_time(visit, history, one, pair[1]) if levels[0].told.is_shown else [],
     )  # fmt: skip
 

@@ -5,11 +5,12 @@ from __future__ import annotations
 from moo_web.app import Reply
 from moo_web.pages.moments import zone_names
 from moo_web.pages.pages import Visit, went
-from moo_web.pages.sign import CROWDED, SHORTEST_PASSWORD, new_password, sentence, told_wait
+from moo_web.pages.sign import CROWDED, SHORTEST_PASSWORD, new_password, told_wait
+from moo_web.pages.words import sentence
 from moo_web.paths import url_for
 from moo_web.people import sessions
 from moo_web.people.file import Wrong
-from moo_web.people.people import Crowded, People, TooMany, WrongPassword
+from moo_web.people.people import Crowded, People, TooManyTries, WrongPassword
 from moo_web.people.secret import mark_of
 from moo_web.people.tokens import LONGEST_LABEL, Terms
 
@@ -43,7 +44,7 @@ class OwnPages:
             self.people.set_password(visit.name, new)
         except WrongPassword:
             return self.show(visit, "That isn’t your present password.", 403)
-        except TooMany as wait:
+        except TooManyTries as wait:
             return self.show(visit, told_wait(wait), 429)
         except Crowded:
             return self.show(visit, CROWDED, 503)

@@ -30,23 +30,21 @@ from moo_web.pages.glossary import named, rights, term
 from moo_web.pages.moments import Zone, zone_of
 from moo_web.pages.sentences import in_words
 from moo_web.pages.waiting import Waiting, waiting
-from moo_web.pages.words import ERROR_TEXTS, FOR_WIZARDS, MENU, PASSING, REPLIES, SAID
+from moo_web.pages.words import ERROR_TEXTS, FOR_WIZARDS, MENU, PASSING, REPLIES, SAID, sentence
 from moo_web import paths
 from moo_web.paths import PATHS, form_for, query_of, url_for
 from moo_web.people import sessions
-from moo_web.people.limits import Rate, network_of
+from moo_web.people.limits import BURST_SECONDS, Rate, network_of
 from moo_web.people.people import People, Session
-from moo_web.world.asking import Asker, Moved
+from moo_web.world.asking import TRIES, Asker, Moved
 from moo_web.world.door import Unreachable
 from moo_web.world.index import Index
 from moo_web.world.properties import SightNames
-from moo_web.world.things import World, cut_name
+from moo_web.world.things import NotThere, World, cut_name
 from moo_web.world.trees import Node
 
 HERE = Path(__file__).parents[1]
 HTML = "text/html; charset=utf-8"
-BURST_SECONDS = 10.0
-TRIES = 5
 # What was typed in a form is kept for who isn't signed in up to so many letters.
 LONGEST_KEPT = 1 << 16
 POLICY = (
@@ -76,7 +74,7 @@ class Visit:
 
     def __init__(self, pages: Pages, request: Request, session: Session, is_first: bool = False) -> None:
         self.pages, self.request, self.session, self.is_first = pages, request, session, is_first
-        self.index, self.asker = pages.index, pages.asker
+        self.index, self.asker, self.sight_names = pages.index, pages.asker, pages.sight_names
         self.name, self.number = session.person
         self.fields = request.fields()
         self.zone = zone_of(sessions.cookies_of(request).get(sessions.ZONE_COOKIE, ""))
@@ -200,15 +198,18 @@ def went(path: str, *lines: sessions.HeaderLine) -> Reply:
 
 
 class Pages:
-    """The pages, put into an application. An address may ask for twice `rate` pages a second."""
+    """The pages, put into an application. An address may ask for twice `rate` pages a second.
 
-    def __init__(self, app: App, people: People, index: Index, asker: Asker, history: History, rate: float) -> None:
-        self.app, self.people, self.index, self.asker, self.history = app, people, index, asker, history
+    `sight_names` are the properties that say what is seen at a place.
+    """
+
+    def __init__(
+        self, app: App, people: People, index: Index, asker: Asker, history: History, rate: float, sight_names: SightNames = SightNames()
+    ) -> None:  # fmt: skip
+        self.app, self.people, self.index, self.asker, self.history, self.sight_names = app, people, index, asker, history, sight_names
         self.rate = Rate(2 * rate, BURST_SECONDS * 2 * rate)
         self.kept_forms: list[tuple[paths.Path, PageHandler]] = []
         self.names: set[str] = set()
-        # The properties that say what is seen at a place.
-        self.sight_names = SightNames()
         loader = jinja2.FileSystemLoader(HERE / "templates")
         self.templates = jinja2.Environment(
             loader=loader, autoescape=True, undefined=jinja2.StrictUndefined, trim_blocks=True, lstrip_blocks=True, auto_reload=False
@@ -292,6 +293,8 @@ class Pages:
             return handler(visit, *parts)
         except NoObject:
             return visit.refused("no object", 403)
+        except NotThere as nothing:
+            return visit.page("pages/no_object.html", 404, number=nothing.number)
 
     def sent(self, request: Request, handler: PageHandler, parts: tuple[Any, ...], is_kept: bool = False) -> Reply:
         """What a form's handler answers, if the form is one of the person's own."""
@@ -357,7 +360,7 @@ class Pages:
         return self.made(
             "message.html", reply.status, request, *reply.lines,
             visit=visit, token=session.form if session else "", zone=visit.zone if visit else Zone(), title=title,
-            text=f"{why[:1].upper()}{why[1:]}." if why else text.format(**parts),
+            text=sentence(why) if why else text.format(**parts),
             again=self.again(request) if session and word in PASSING else {},
         )  # fmt: skip
 

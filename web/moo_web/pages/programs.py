@@ -15,7 +15,7 @@ from moo_web.pages.pages import Pages
 QUOTED = re.compile("`([^`]*)`")
 
 
-def page(pages: Pages, request: Request) -> Reply:
+def programs_page(pages: Pages, request: Request) -> Reply:
     """The routes and the errors."""
     openapi = next(route.path for route in ROUTES if route.is_open)
     refusals = [(code, WORDS[code]) for code in sorted(REFUSALS) if code.startswith("E_") and code in WORDS]

@@ -18,22 +18,19 @@ MOST_READ = 20_000
 TEXT = "text/plain; charset=us-ascii"
 
 
-def page(visit: Visit, number: int) -> Reply:
+def script_page(visit: Visit, number: int) -> Reply:
     """The page of the script of an object."""
-    thing = visit.world.things.get(number)
-    if thing is None:
-        return visit.page("pages/no_object.html", 404, number=number)
+    thing = visit.world.thing(number)
     what = wanted(visit, thing)
     return visit.page("pages/script.html", thing=thing, what=what, ways=WITH, made=exported(visit, thing, what), most=MOST_CALLS)
 
 
 def file(visit: Visit, number: int) -> Reply:
     """The script of an object as a file."""
-    thing = visit.world.things.get(number)
-    what = wanted(visit, thing) if thing else ""
-    made = exported(visit, thing, what) if thing else None
-    if thing is None or made is None:
-        return page(visit, number)
+    thing = visit.world.thing(number)
+    made = exported(visit, thing, wanted(visit, thing))
+    if made is None:
+        return script_page(visit, number)
     name = re.sub(r"[^a-z0-9]+", "-", thing.name.lower()).strip("-")[:40] or f"object-{number}"
     return Reply(200, made.text.encode("ascii", "replace"), TEXT, (("Content-Disposition", f'attachment; filename="{name}.moo"'), *POLICY))
 

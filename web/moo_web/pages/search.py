@@ -17,7 +17,7 @@ from moo_web.paths import url_for
 from moo_web.world import finding
 from moo_web.world.definers import Definers
 from moo_web.world.dumped import ACCEPTS
-from moo_web.world.finding import Found, Place, Shown
+from moo_web.world.finding import Found, Shown, ValuePlace
 from moo_web.world.holdings import Holdings, NoDump
 from moo_web.world.literals import STRING, spellings
 
@@ -31,19 +31,19 @@ BEFORE, AFTER = 60, 120
 ONLY_VALUES = "values"
 
 
-class Row(NamedTuple):
+class FoundRow(NamedTuple):
     """A place that was found, and the part of its value that shows what was found."""
 
-    place: Place
+    place: ValuePlace
     shown: Markup
 
 
-class Values(NamedTuple):
+class FoundValues(NamedTuple):
     """The values that are found: how many, whether there are more, and the part of them that is shown."""
 
     part: Part
     is_more: bool
-    rows: list[Row]
+    rows: list[FoundRow]
 
 
 def find(visit: Visit, definers: Definers, holdings: Holdings) -> Reply:
@@ -65,14 +65,15 @@ def find(visit: Visit, definers: Definers, holdings: Holdings) -> Reply:
     )  # fmt: skip
 
 
-def values(visit: Visit, holdings: Holdings, word: str, size: int) -> Optional[Values]:
+def values(visit: Visit, holdings: Holdings, word: str, size: int) -> Optional[FoundValues]:
     """The values with a word in them, of which so many are on a page; None if they can't be searched."""
     try:
         found = finding.with_word(visit, holdings.literals(visit.world), word, finding.MOST_FOUND if size == VALUES else FIRST_COUNTED)
     except NoDump:
         return None
     part = part_of(found.places, visit.fields.get("page", "") if size == VALUES else "", size)
-    return Values(part, found.is_more, [Row(each.place, around(each.value, word)) for each in finding.shown(visit, part.items)])
+    rows = [FoundRow(each.place, around(each.value, word)) for each in finding.shown_places(visit, part.items)]
+    return FoundValues(part, found.is_more, rows)
 
 
 def around(value: Any, word: str) -> Markup:
@@ -92,12 +93,12 @@ def around(value: Any, word: str) -> Markup:
 class Named(NamedTuple):
     """What names an object: exits that lead to it, other values, and objects that accept it."""
 
-    exits: list[Row]
-    values: list[Row]
+    exits: list[FoundRow]
+    values: list[FoundRow]
     accepting: list[int]
 
 
-def named(visit: Visit, holdings: Holdings, number: int) -> Reply:
+def what_names(visit: Visit, holdings: Holdings, number: int) -> Reply:
     """The page of what names an object, which may be gone."""
     world = visit.world
     try:
@@ -107,15 +108,15 @@ def named(visit: Visit, holdings: Holdings, number: int) -> Reply:
     part = part_of(found.places if found else [], visit.fields.get("page", ""))
     return visit.page(
         "pages/named.html", number=number, thing=world.things.get(number), found=found, part=part,
-        names_it=sorted_out(visit, finding.shown(visit, part.items), number),
+        names_it=sorted_out(visit, finding.shown_places(visit, part.items), number),
         owned=len(world.owned.get(number, ())), children=len(world.children.get(number, ())), contents=len(world.contents.get(number, ())),
     )  # fmt: skip
 
 
 def sorted_out(visit: Visit, shown: list[Shown], number: int) -> Named:
     """What was found, by what it is."""
-    of_exits = {visit.pages.sight_names.exits.lower(), DESTINATION}
-    rows = [Row(each.place, naming(visit, each.value, number)) for each in shown if each.place.name != ACCEPTS]
+    of_exits = {visit.sight_names.exits.lower(), DESTINATION}
+    rows = [FoundRow(each.place, naming(visit, each.value, number)) for each in shown if each.place.name != ACCEPTS]
     exits = [row for row in rows if row.place.name.lower() in of_exits]
     others = [row for row in rows if row.place.name.lower() not in of_exits]
     return Named(exits, others, [each.place.number for each in shown if each.place.name == ACCEPTS])

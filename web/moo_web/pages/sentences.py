@@ -8,13 +8,13 @@ from typing import Any, Callable
 
 from markupsafe import Markup, escape
 from moolib.calls import Call, read_or_none
+from moolib.draft import QUOTA
 from moolib.values import Obj, Value, written
 
 from moo_web.forms.input import clipped
 from moo_web.pages.glossary import LETTERS
 
 Link = Callable[[int], Markup]
-QUOTA = "ownership_quota"
 # So many calls of a petition are told one by one.
 FEW = 3
 LONGEST_OF_MANY = 1000
@@ -50,7 +50,7 @@ BUILT_IN = {
 }
 
 
-def linked(link: Link, calls: Sequence[tuple[str, str]]) -> Link:
+def preview_link(link: Link, calls: Sequence[tuple[str, str]]) -> Link:
     """The links of a preview, in which the objects that its calls make aren't there yet. Each call comes with its answer."""
     made = {call.made(answer) for call, answer in ((read_or_none(text), answer) for text, answer in calls) if call}
     new = Markup('<b>the new object</b> <span class="n">#{}</span>')

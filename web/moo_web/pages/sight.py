@@ -13,7 +13,6 @@ from moolib.values import Obj, written
 
 from moo_web.pages.pages import Visit
 from moo_web.world.asking import Refusal
-from moo_web.world.properties import SightNames
 
 DESTINATION = "dest"
 # So much of a description is shown, and so many exits, people and things.
@@ -40,14 +39,14 @@ class Sight(NamedTuple):
     more_things: int
 
 
-def sight_calls(names: SightNames, number: int) -> list[str]:
+def sight_calls(visit: Visit, number: int) -> list[str]:
     """What is asked for what somebody sees at an object."""
-    return [f"get(#{number}, {written(name)})" for name in names]
+    return [f"get(#{number}, {written(name)})" for name in visit.sight_names]
 
 
-def sight_of(visit: Visit, names: SightNames, number: int) -> Sight:
+def sight_of(visit: Visit, number: int) -> Sight:
     """What somebody sees at an object of the world."""
-    description, exits = visit.answers(sight_calls(names, number))
+    description, exits = visit.answers(sight_calls(visit, number))
     lines, is_cut = described(description)
     here, things_of_world = visit.world.contents.get(number, ()), visit.world.things
     people = [one for one in visit.world.with_bit("player") if things_of_world[one].location == number]

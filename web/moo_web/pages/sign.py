@@ -4,10 +4,11 @@ from __future__ import annotations
 
 from moo_web.app import Reply, Request
 from moo_web.pages.pages import LONGEST_KEPT, Pages, Visit, went
+from moo_web.pages.words import sentence
 from moo_web.paths import url_for
 from moo_web.people import sessions
 from moo_web.people.file import Wrong
-from moo_web.people.people import Crowded, People, TooMany, WrongPassword
+from moo_web.people.people import Crowded, People, TooManyTries, WrongPassword
 
 SHORTEST_PASSWORD = 8
 # A form that was kept comes with up to three letters for each of its own.
@@ -36,7 +37,7 @@ class Sign:
             signed = self.people.sign_in(name, form.get("password", ""), request.address)
         except WrongPassword:
             return self.pages.sign_in(request, 403, to, "That name and that password don’t go together.", name, kept=kept)
-        except TooMany as wait:
+        except TooManyTries as wait:
             return self.pages.sign_in(request, 429, to, told_wait(wait), name, ("Retry-After", str(int(wait.seconds) + 1)), kept=kept)
         except Crowded:
             return self.pages.sign_in(request, 503, to, CROWDED, name, kept=kept)
@@ -90,12 +91,7 @@ def new_password(form: dict[str, str]) -> str:
     return new
 
 
-def sentence(text: str) -> str:
-    """A text that begins in small letters as a sentence."""
-    return f"{text[:1].upper()}{text[1:]}."
-
-
-def told_wait(wait: TooMany) -> str:
+def told_wait(wait: TooManyTries) -> str:
     """How long the next try has to wait."""
     seconds = int(wait.seconds) + 1
     return f"Too many tries. Wait {seconds} second{'s' if seconds > 1 else ''}, and try again."

@@ -44,13 +44,12 @@ def make_pages(
     holdings = Holdings(index, writer.door)
     # What is found is of the world that the index knows, so the values are told first.
     writer.listeners += [holdings.take, index.take]
-    pages = Pages(app, people, index, asker, history, rate)
-    pages.sight_names = names
-    pages.open("GET", "programs", lambda request: programs.page(pages, request))
+    pages = Pages(app, people, index, asker, history, rate, names)
+    pages.open("GET", "programs", lambda request: programs.programs_page(pages, request))
     text = About(about, app.tell)
     pages.open("GET", "about", lambda request: text.page(pages, request))
     add_pages_to_sign_in(pages, people)
-    add_pages_to_read(pages, history, names)
+    add_pages_to_read(pages, history)
     add_pages_to_find(pages, Definers(index, asker), holdings)
     recent = Recent(writer, history)
     previews = Previews(Questions(writer.door), writer, recent)
@@ -88,20 +87,20 @@ def add_pages_of_people(pages: Pages, people: People, previews: Previews, recent
 def add_pages_to_find(pages: Pages, definers: Definers, holdings: Holdings) -> None:
     """The pages of what is found."""
     pages.get("find", lambda visit: search.find(visit, definers, holdings))
-    pages.get("named", lambda visit, number: search.named(visit, holdings, number))
+    pages.get("named", lambda visit, number: search.what_names(visit, holdings, number))
 
 
-def add_pages_to_read(pages: Pages, history: History, names: SightNames) -> None:
+def add_pages_to_read(pages: Pages, history: History) -> None:
     """The pages of what is there, and of what was done."""
-    pages.get("home", lambda visit: home.home(visit, history, names))
+    pages.get("home", lambda visit: home.home(visit, history))
     pages.get("list", lists.listed)
     pages.get("nowhere", lists.nowhere)
     pages.get("roots", lists.roots)
-    pages.get("object", lambda visit, number: objects.object_page(visit, history, names, number))
+    pages.get("object", lambda visit, number: objects.object_page(visit, history, number))
     pages.get("property", lambda visit, number: objects.one_property(visit, history, number))
-    pages.get("script", scripts.page)
+    pages.get("script", scripts.script_page)
     pages.get("download", scripts.file)
-    pages.get("tree", lambda visit, what: maps.map_page(visit, names, what))
+    pages.get("tree", maps.map_page)
     pages.get("map", maps.first)
     pages.get("history", lambda visit: done.batches(visit, history))
     pages.get("batch", lambda visit, number: done.one(visit, history, number))

@@ -66,7 +66,7 @@ def sorted_list(visit: Visit, numbers: Sequence[int], wanted: Wanted) -> Sorted:
         tests = tests_of(visit, wanted, unknown)
         numbers = [number for number in numbers if all(test(world.things[number]) for test in tests)]
     if wanted.order != "number":
-        numbers = sorted(numbers, key=key_of(world, wanted.order))
+        numbers = sorted(numbers, key=sort_key(world, wanted.order))
     return Sorted(numbers[::-1] if wanted.is_down else numbers, unknown)
 
 
@@ -104,7 +104,7 @@ class Kinds:
         return answer
 
 
-def key_of(world: World, order: str) -> Callable[[int], Any]:
+def sort_key(world: World, order: str) -> Callable[[int], Any]:
     """What a list in this order is sorted by: names in any case of letters, the same ones by number."""
     things = world.things
     if order == "name":

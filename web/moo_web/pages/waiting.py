@@ -22,7 +22,7 @@ def mine(world: World, number: int) -> frozenset[int]:
     return frozenset((number, *world.owned.get(number, ())))
 
 
-def is_about(world: World, number: int, one: OpenPetition) -> bool:
+def is_about_theirs(world: World, number: int, one: OpenPetition) -> bool:
     """Whether an open petition is about an object of a person of this number."""
     return any(each == number or each in world.things and world.things[each].owner == number for each in one.about)
 
@@ -49,6 +49,6 @@ def waiting(index: Index, history: History, name: str, number: int, world: Optio
             own += 1
         elif world.is_wizard(number):
             count += not {"done", "no"} & set(answers_to(index, history, petition).values())
-        elif is_about(world, number, one):
+        elif is_about_theirs(world, number, one):
             count += name.lower() not in answers_to(index, history, petition)
     return Waiting(count, own)

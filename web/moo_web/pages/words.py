@@ -61,3 +61,8 @@ ERROR_TEXTS: dict[str, tuple[str, str]] = {
 
 # Errors after which a form can be sent once more as it is.
 PASSING = ("busy", "too many", "unknown", "internal")
+
+
+def sentence(text: str) -> str:
+    """A text that begins in small letters as a sentence."""
+    return f"{text[:1].upper()}{text[1:]}."

@@ -88,7 +88,7 @@ def file_of(said: argparse.Namespace) -> Path:
     return file
 
 
-def new_password() -> str:
+def read_password() -> str:
     """The password that is typed twice at a terminal, or else the first line of standard input. `Failed`: there is none."""
     if not sys.stdin.isatty():
         password = sys.stdin.readline().rstrip("\r\n")
@@ -110,7 +110,7 @@ def add(people: People, said: argparse.Namespace) -> None:
         found = checked(said.name, said.number, Door(said.moo_port))
         if not found.is_good:
             raise Failed(f"{found.text}: give the number of a player, or --any")
-    people.add(said.name, said.number, new_password())
+    people.add(said.name, said.number, read_password())
 
 
 def list_people(people: People, said: argparse.Namespace) -> None:
@@ -123,10 +123,10 @@ def list_people(people: People, said: argparse.Namespace) -> None:
 def list_tokens(people: People, said: argparse.Namespace) -> None:
     """Prints the tokens of a person, a line each. `Wrong`: nobody has the name."""
     for one in people.tokens.of(said.name):
-        print(one.label, *map(moment, (one.made, one.until, one.used)), sep="\t")
+        print(one.label, *map(moment_or_dash, (one.made, one.until, one.used)), sep="\t")
 
 
-def moment(seconds: float | None) -> str:
+def moment_or_dash(seconds: float | None) -> str:
     """A moment in UTC, as `2026-11-29T12:00:00Z`, or `-`."""
     if seconds is None:
         return "-"
@@ -155,7 +155,7 @@ def check_people(people: People, said: argparse.Namespace) -> None:
 # What each command does.
 COMMANDS: dict[str, Callable[[People, argparse.Namespace], object]] = {
     "add": add,
-    "passwd": lambda people, said: people.set_password(said.name, new_password()),
+    "passwd": lambda people, said: people.set_password(said.name, read_password()),
     "disable": lambda people, said: people.disable(said.name),
     "enable": lambda people, said: people.enable(said.name),
     "remove": lambda people, said: people.remove(said.name),

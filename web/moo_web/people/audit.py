@@ -31,11 +31,11 @@ Audit = Callable[..., None]
 
 def audit_line(event: str, **said: object) -> str:
     """The line of something that was done. What is None or empty is left out."""
-    parts = [f"{key}={written(key, value)}" for key, value in said.items() if value not in (None, "")]
+    parts = [f"{key}={detail_text(key, value)}" for key, value in said.items() if value not in (None, "")]
     return f"{event}: {' '.join(parts)}"
 
 
-def written(key: str, value: object) -> str:
+def detail_text(key: str, value: object) -> str:
     """A value in a line: a number, or the address of a peer, as it is; all else as a text of JSON in printing ASCII."""
     text = str(value)
     return text if isinstance(value, int) or (key == "address" and is_address(text)) else json.dumps(text[:LONGEST]).replace("\x7f", "\\u007f")

@@ -7,7 +7,7 @@ from typing import NamedTuple
 
 from moolib.errors import Failed
 
-from moo_web.world.door import Door, Unreachable
+from moo_web.world.door import Door, Unreachable, told_of_answer
 
 WAIT = 10.0
 
@@ -28,7 +28,7 @@ def checked(name: str, number: int, door: Door) -> Checked:
     if answer.status == 404:
         return Checked(f"{name} #{number} isn't there", False)
     if answer.status != 200:
-        raise Failed(f"moo answers {answer.status} {answer.error}")
+        raise Failed(told_of_answer(answer))
     is_player = answer.said.get("player") == 1
     kind = "wizard" if answer.said.get("wizard") == 1 else "player"
     return Checked(f"{name} #{number} {answer.said.get('name')} {kind if is_player else 'is not a player'}", is_player)

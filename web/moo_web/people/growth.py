@@ -17,25 +17,23 @@ import time
 from pathlib import Path
 from typing import Callable
 
-from moolib.calls import READING as READING_CALLS
-from moolib.calls import call_name
+from moolib.calls import READING, call_name
 from moolib.values import Obj, read, written
 
 from moo_web.journal.jobs import TooMuch
 from moo_web.journal.segments import Accepted
-from moo_web.world.door import Door, TooLong, batch_body
+from moo_web.world.door import QUESTION_SECONDS, Door, TooLong, batch_body
 
 DAY = 86_400.0
 DAILY_BYTES = 10_000_000
 FOR_WIZARDS = 10
 MOST_PETITIONS, MOST_PETITION_BYTES = 100, 1 << 18
 MOST_NAMES = 10_000
-READING = 10.0
 # When to try again after a petition that is one too many: when a wizard may have decided some.
 NEXT_PETITION = 3600.0
 
 # What makes a world no larger.
-SHRINKING = READING_CALLS | frozenset("recycle delete_property delete_verb clear_property decline move set_player_flag".split())
+SHRINKING = READING | frozenset("recycle delete_property delete_verb clear_property decline move set_player_flag".split())
 NEXT_LOOK = 60.0
 OF_ALL = "the world is full: nothing can be added until an operator has made room. What is in it can be removed"
 OF_BYTES = "you have added as much as you may in a day; wait for {seconds:.0f} seconds, or ask an operator for more"
@@ -83,7 +81,7 @@ class Growth:
         if asked := [call for call in calls if call_name(call) == "petition"]:
             self.test_petitions(programmer, asked)
         wait = self.of_people.wait(who.lower())
-        if wait and self.door.is_wizard(programmer, READING):
+        if wait and self.door.is_wizard(programmer, QUESTION_SECONDS):
             wait = self.of_wizards.wait(who.lower())
         if wait:
             raise TooMuch(OF_BYTES.format(seconds=wait), wait)
@@ -98,7 +96,7 @@ class Growth:
     def test_petitions(self, programmer: int, asked: list[str]) -> None:
         """`TooMuch`: these petitions are too many, or too long, with those that the programmer has made and that aren't decided."""
         try:
-            answer = self.door.asked("POST", "/ask?why", batch_body(programmer, ["petitions()"]), time.monotonic() + READING)
+            answer = self.door.asked("POST", "/ask?why", batch_body(programmer, ["petitions()"]), time.monotonic() + QUESTION_SECONDS)
             if answer.is_too_much:
                 raise TooLong
         except TooLong:

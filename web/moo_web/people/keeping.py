@@ -28,7 +28,7 @@ def people_in(folder: Path) -> bytes:
             return copy.serialize()
 
 
-def state_of(folder: Path) -> tuple[int, int]:
+def state_of_accounts(folder: Path) -> tuple[int, int]:
     """What changes when the accounts of a folder do."""
     try:
         found = (folder / PEOPLE_FILE).stat()
@@ -66,7 +66,7 @@ class Keeper(threading.Thread):
     def keep(self) -> None:
         """Copies the accounts if they have changed."""
         try:
-            state = state_of(self.folder)
+            state = state_of_accounts(self.folder)
             if state != self.state:
                 put_people(self.second, people_in(self.folder))
                 self.state = state

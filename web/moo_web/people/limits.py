@@ -9,6 +9,8 @@ import time
 from typing import Callable
 
 MOST_NAMES = 10_000
+# A rate may be used up for so many seconds at once, after a rest.
+BURST_SECONDS = 10.0
 Clock = Callable[[], float]
 
 

@@ -10,13 +10,13 @@ from __future__ import annotations
 import secrets
 
 from moo_web.people.file import PeopleFile, Wrong
-from moo_web.people.passwords import kept_of
+from moo_web.people.passwords import new_hash
 from moo_web.people.secret import hash_of
 
 LINK_SECONDS = 3 * 86_400.0
 
 
-class Links:
+class SignInLinks:
     """The links in a file of people, one for each person at most."""
 
     def __init__(self, file: PeopleFile) -> None:
@@ -51,7 +51,7 @@ class Links:
 
         None: it was used, has ended, or isn't one. `Wrong`: it can't be a password, and the link can still be used.
         """
-        kept = kept_of(password) if self.whose(secret) else ""
+        kept = new_hash(password) if self.whose(secret) else ""
         with self.file.change():
             name = self.whose(secret)
             if name is not None:

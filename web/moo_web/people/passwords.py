@@ -16,7 +16,7 @@ MEMORY = 1 << 27
 NONE = f"scrypt:{COST}:{BLOCK}:{LANES}:{bytes(SALT_BYTES).hex()}:"
 
 
-def kept_of(password: str) -> str:
+def new_hash(password: str) -> str:
     """What is kept of a new password. `Wrong`: it is empty or too long."""
     if not 1 <= len(password) <= LONGEST:
         raise Wrong(f"a password has 1 to {LONGEST} letters")

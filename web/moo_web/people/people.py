@@ -12,10 +12,10 @@ from pathlib import Path
 from typing import Callable, NamedTuple
 
 from moo_web.people import passwords
-from moo_web.people.audit import SIGN_IN_FAILED, SIGN_IN_REFUSED, SIGNED_IN
+from moo_web.people.audit import SIGNED_IN, SIGN_IN_FAILED, SIGN_IN_REFUSED
 from moo_web.people.file import PeopleFile, Wrong
 from moo_web.people.limits import BackOff, Rate, network_of
-from moo_web.people.links import Links
+from moo_web.people.links import SignInLinks
 from moo_web.people.person import PERSON_NAME, Person, test_name, test_number
 from moo_web.people.secret import MARK, hash_of
 from moo_web.people.tokens import Tokens
@@ -43,7 +43,7 @@ class WrongPassword(Exception):
     """The name and the password don't go together, or the person is disabled."""
 
 
-class TooMany(Exception):
+class TooManyTries(Exception):
     """Too many tries failed: the next one may be made in so many seconds."""
 
     def __init__(self, seconds: float) -> None:
@@ -99,7 +99,7 @@ class People(PeopleFile):
 
     def __init__(self, path: Path, clock: Callable[[], float] = time.time, steady: Callable[[], float] = time.monotonic) -> None:
         super().__init__(path, clock)
-        self.tokens, self.links = Tokens(self), Links(self)
+        self.tokens, self.links = Tokens(self), SignInLinks(self)
         self.pair_waits, self.place_waits = BackOff(clock=steady), BackOff(free=20, clock=steady)
         self.strangers = Rate(STRANGERS_A_SECOND, STRANGERS_AT_ONCE, steady)
         self.turns = threading.BoundedSemaphore(HASHES_AT_ONCE)
@@ -116,7 +116,7 @@ class People(PeopleFile):
         """A new person. `Wrong`: the name is taken or isn't a name, or the number or the password can't be one."""
         test_name(name)
         test_number(number)
-        kept = passwords.kept_of(password)
+        kept = passwords.new_hash(password)
         with self.change():
             self.insert(name, number, kept)
         self.audit("account made", name=name, number=number)
@@ -141,7 +141,7 @@ class People(PeopleFile):
 
     def set_password(self, name: str, password: str) -> None:
         """A new password, which ends the person's sessions and link. `Wrong`: nobody has the name, or it can't be a password."""
-        kept = passwords.kept_of(password)
+        kept = passwords.new_hash(password)
         with self.change():
             self.must_be(name)
             self.links.set_password(name, kept)
@@ -220,14 +220,14 @@ class People(PeopleFile):
         except WrongPassword:
             self.audit(SIGN_IN_FAILED, address=address, name=name)
             raise
-        except TooMany:
+        except TooManyTries:
             self.audit(SIGN_IN_REFUSED, address=address)
             raise
         self.audit(SIGNED_IN, address=address, name=signed.session.person.name)
         return signed
 
     def tried(self, name: str, password: str, address: str) -> SignedIn:
-        """A new session. `WrongPassword`, `TooMany`, `Crowded`: there is none.
+        """A new session. `WrongPassword`, `TooManyTries`, `Crowded`: there is none.
 
         Who fails waits, by the name and the address together, and by the address. With a name that many strangers try, those wait who come
         from a place at which its person hasn't signed in lately. So nobody can keep a person out of a place that is theirs. What can't be
@@ -238,7 +238,7 @@ class People(PeopleFile):
         self.wait_for(max(self.pair_waits.wait(pair), self.place_waits.wait(place)))
         is_stranger = not self.is_place_of(name, place)
         if is_stranger and not self.strangers.is_open(known):
-            raise TooMany(1 / STRANGERS_A_SECOND)
+            raise TooManyTries(1 / STRANGERS_A_SECOND)
         if not self.turns.acquire(timeout=LONGEST_TURN):
             raise Crowded
         try:
@@ -256,9 +256,9 @@ class People(PeopleFile):
 
     @staticmethod
     def wait_for(seconds: float) -> None:
-        """`TooMany`, if there is something to wait for."""
+        """`TooManyTries`, if there is something to wait for."""
         if seconds > 0:
-            raise TooMany(seconds)
+            raise TooManyTries(seconds)
 
     def is_place_of(self, name: str, place: str) -> bool:
         """Whether the person has signed in from there lately."""

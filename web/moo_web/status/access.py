@@ -6,7 +6,6 @@ anew. What can't be written is left out, and that is told: no request fails beca
 
 from __future__ import annotations
 
-import json
 import os
 import signal
 import threading
@@ -14,7 +13,8 @@ import time
 from pathlib import Path
 from typing import Callable
 
-from moolib.errors import Failed
+from moolib.errors import failing
+from moolib.service import packed
 
 from moo_web.programs import utc
 
@@ -27,10 +27,8 @@ class AccessLog:
         self.lock = threading.Lock()
         # From here to the first line may be long, and systemd reloads no front that starts: the file may be moved meanwhile.
         self.is_old = True
-        try:
+        with failing(path):
             self.file = self.opened()
-        except OSError as error:
-            raise Failed(f"{path}: {error.strerror}") from error
 
     def opened(self) -> int:
         """The file, open."""
@@ -46,7 +44,7 @@ class AccessLog:
             "moment": utc(time.time()), "address": address, "person": person or None, "method": method, "route": route, "status": status,
             "ms": round(1000 * seconds, 1),
         }  # fmt: skip
-        line = json.dumps(said, separators=(",", ":")).encode() + b"\n"
+        line = packed(said) + b"\n"
         try:
             with self.lock:
                 if self.is_old:

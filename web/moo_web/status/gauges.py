@@ -9,7 +9,7 @@ from typing import Callable
 from moo_web.interface.followers import Followers
 from moo_web.journal.segments import SEGMENT_NAME
 from moo_web.journal.writer import Writer
-from moo_web.status.metrics import Gauge, Metric, Values
+from moo_web.status.metrics import Gauge, Metric, MetricValues
 from moo_web.status.readiness import Readiness, free_bytes
 from moo_web.traffic.connections import MOST_CONNECTIONS, Room
 from moo_web.traffic.places import PLACES, Places
@@ -35,7 +35,7 @@ def of_world(writer: Writer, readiness: Readiness, full: Path | None) -> list[Me
 def of_journal(folders: list[Path]) -> list[Metric]:
     """The journal, its disks and its copy. The folders are the first one, and the second if there is one."""
 
-    def free() -> Values:
+    def free() -> MetricValues:
         return {str(place): free_bytes(folder) for place, folder in enumerate(folders, 1)}
 
     copied = "When moo-keep has copied the journal last, in seconds since 1970; 0: never."

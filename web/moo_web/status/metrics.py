@@ -2,7 +2,7 @@
 
     answers = Counter("moo_requests_total", "Requests that were answered.", "route", "status")
     answers.add("/api/seq", "200")
-    text_of([answers])
+    metrics_text([answers])
 """
 
 from __future__ import annotations
@@ -20,7 +20,7 @@ BOUNDS = (0.0005, 0.001, 0.0025, 0.005, 0.01, 0.025, 0.05, 0.1, 0.25, 0.5, 1.0, 
 MOST_SERIES, OTHER = 1000, "other"
 
 Labels = tuple[str, ...]
-Values = Union[float, Mapping[str, float]]
+MetricValues = Union[float, Mapping[str, float]]
 
 
 class Metric:
@@ -76,7 +76,7 @@ class Gauge(Metric):
 
     kind = "gauge"
 
-    def __init__(self, name: str, says: str, read: Callable[[], Values], *labels: str) -> None:
+    def __init__(self, name: str, says: str, read: Callable[[], MetricValues], *labels: str) -> None:
         super().__init__(name, says, *labels)
         self.read = read
 
@@ -136,6 +136,6 @@ def escaped(text: str) -> str:
     return text.replace("\\", "\\\\").replace('"', '\\"').replace("\n", "\\n")
 
 
-def text_of(metrics: Iterable[Metric]) -> str:
+def metrics_text(metrics: Iterable[Metric]) -> str:
     """All these metrics."""
     return "".join(f"{line}\n" for metric in metrics for line in metric.lines())

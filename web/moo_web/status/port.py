@@ -14,7 +14,7 @@ from moolib.errors import Failed
 
 from moo_web.app import App, Reply, Request
 from moo_web.status.activity import Activity
-from moo_web.status.metrics import KIND, Metric, text_of
+from moo_web.status.metrics import KIND, Metric, metrics_text
 from moo_web.status.readiness import Readiness
 from moo_web.traffic.hosts import Hosts
 from moo_web.traffic.ways import given_sockets, own_socket
@@ -36,7 +36,7 @@ class Status:
         self.app.add_guard("", Hosts(self.app, ()).guard)
         self.app.add("GET", "/health", lambda request: Reply(200, b"ok", TEXT))
         self.app.add("GET", "/ready", self.ready)
-        self.app.add("GET", "/metrics", lambda request: Reply(200, (text_of(self.metrics) + self.more()).encode(), KIND))
+        self.app.add("GET", "/metrics", lambda request: Reply(200, (metrics_text(self.metrics) + self.more()).encode(), KIND))
         self.app.add("GET", "/activity", lambda request: Reply(200, packed(self.activity.shown())))
 
     def ready(self, request: Request) -> Reply:
@@ -59,7 +59,7 @@ def sockets_at(port: int) -> list[socket.socket]:
         raise
 
 
-def serve(app: App, sockets: list[socket.socket]) -> int:
+def serve_port(app: App, sockets: list[socket.socket]) -> int:
     """Serves the status port by a thread of its own, and gives its number."""
     import waitress.server
 

@@ -40,7 +40,7 @@ def open_files() -> float:
     return len(os.listdir("/proc/self/fd"))
 
 
-def metrics() -> list[Metric]:
+def process_metrics() -> list[Metric]:
     """All of this, by the names that clients of Prometheus share."""
     return [
         Total("process_cpu_seconds_total", "Seconds of processor time of the front.", time.process_time),

@@ -60,7 +60,7 @@ def standbys(folder: Path) -> list[Standby]:
     return found
 
 
-def metrics(folder: Path, writer: Writer) -> list[Metric]:
+def standby_metrics(folder: Path, writer: Writer) -> list[Metric]:
     """How many standbys there are, and how late the last of them is."""
 
     def lag() -> float:

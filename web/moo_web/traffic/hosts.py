@@ -32,13 +32,13 @@ class Hosts:
     def guard(self, request: Request) -> Reply | None:
         """The refusal of a request that asks by another name. One that names no host is taken: browsers always name one."""
         asked = request.line("host").lower()
-        if not asked or name_in(asked) in self.names.union(LOCAL) or (not self.names and is_by_proxy(request)):
+        if not asked or host_name_in(asked) in self.names.union(LOCAL) or (not self.names and is_by_proxy(request)):
             return None
         self.app.tell(TOLD)
         return self.app.failed(request, 403, error="forbidden")
 
 
-def name_in(asked: str) -> str:
+def host_name_in(asked: str) -> str:
     """The name in a host line, without the port."""
     found = re.fullmatch(r"(\[[^\]]*\]|[^:]*)(:\d*)?", asked)
     return found[1] if found else asked

@@ -102,7 +102,7 @@ class Places:
                 if waiter:
                     del self.waiters[waiter]
                     self.moved_at = time.monotonic()
-                    for key in keys_of(waiter.visitor):
+                    for key in visitor_keys(waiter.visitor):
                         self.taken[key] = self.taken.get(key, 0) + 1
                 if self.waiters:
                     # Others go on waiting, perhaps for too long.
@@ -116,14 +116,14 @@ class Places:
 
     def may_enter(self, address: str, person: str) -> bool:
         """Whether somebody may have one more place."""
-        of_address, of_person = keys_of(Visitor(address, person))
+        of_address, of_person = visitor_keys(Visitor(address, person))
         return self.taken.get(of_address, 0) < OF_ADDRESS and self.taken.get(of_person, 0) < OF_PERSON
 
     def leave(self, visitor: Visitor) -> None:
         """Gives a place back. The thread that had it takes the next request, so none else need know."""
         with self.lock:
             self.moved_at = time.monotonic()
-            for key in keys_of(visitor):
+            for key in visitor_keys(visitor):
                 self.taken[key] -= 1
                 if not self.taken[key]:
                     del self.taken[key]
@@ -156,6 +156,6 @@ def served(channel: Any) -> None:
         logging.getLogger("waitress").exception("a request failed")
 
 
-def keys_of(visitor: Visitor) -> tuple[tuple[str, ...], tuple[str, ...]]:
+def visitor_keys(visitor: Visitor) -> tuple[tuple[str, ...], tuple[str, ...]]:
     """What is counted of a visitor: the address, and the person there."""
     return (visitor.address,), (visitor.address, visitor.person)

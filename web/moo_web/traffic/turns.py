@@ -14,25 +14,25 @@ from moolib.errors import LostAnswer, NoService, TooLong
 
 from moo_web.traffic.visitors import NOBODY, Visitor, present
 
-Thing = TypeVar("Thing")
+T = TypeVar("T")
 
 
 class NobodyWaits(Exception):
     """Nobody waits for the answer any more, so nothing was sent."""
 
 
-class Queue(Generic[Thing]):
+class Queue(Generic[T]):
     """Things that wait for their turn, each for a visitor. Of a person's own the first comes first."""
 
     def __init__(self) -> None:
         # By address and person. Whose turn is over goes to the end, and whose turn is next is at the beginning.
-        self.waiting: dict[str, dict[str, list[Thing]]] = {}
+        self.waiting: dict[str, dict[str, list[T]]] = {}
 
-    def put(self, visitor: Visitor, thing: Thing) -> None:
+    def put(self, visitor: Visitor, thing: T) -> None:
         """Something more that waits."""
         self.waiting.setdefault(visitor.address, {}).setdefault(visitor.person, []).append(thing)
 
-    def take(self, may: Callable[[str, str], bool] = lambda address, person: True) -> Thing | None:
+    def take(self, may: Callable[[str, str], bool] = lambda address, person: True) -> T | None:
         """What is next of those addresses and persons that may have a turn; None if there is nothing."""
         for address, people in self.waiting.items():
             for person in people:
@@ -40,7 +40,7 @@ class Queue(Generic[Thing]):
                     return self.taken(address, person)
         return None
 
-    def taken(self, address: str, person: str) -> Thing:
+    def taken(self, address: str, person: str) -> T:
         """The first of a person's things at an address, who goes to the end."""
         people = self.waiting.pop(address)
         things = people.pop(person)
@@ -51,7 +51,7 @@ class Queue(Generic[Thing]):
             self.waiting[address] = people
         return thing
 
-    def remove(self, visitor: Visitor, thing: Thing) -> None:
+    def remove(self, visitor: Visitor, thing: T) -> None:
         """Takes something away that doesn't wait any more."""
         people = self.waiting[visitor.address]
         people[visitor.person].remove(thing)

@@ -44,10 +44,10 @@ class Counted(Free):
         return self.may_come_in(name)
 
     def was_sent(self, visitor: Visitor, calls: list[str]) -> None:
-        self.shares.spend(visitor, rows=rows_of(calls, self.world()), bytes_=sum(map(len, calls)))
+        self.shares.spend(visitor, rows=rows_written(calls, self.world()), bytes_=sum(map(len, calls)))
 
 
-def rows_of(calls: list[str], world: World | None) -> int:
+def rows_written(calls: list[str], world: World | None) -> int:
     """How many rows a batch may write at the least: one for each call, and one for each object under the one that a wide call names."""
     counts: dict[int, int] = {}
     rows = len(calls)

@@ -3,14 +3,16 @@
 from __future__ import annotations
 
 import time
-from typing import Any, NamedTuple
+from typing import Any, NamedTuple, Protocol
 
 from moolib.errors import Failed
 from moolib.service import MOST_CALLS, Said
 
-from moo_web.world.door import Answer, Door, TooLong, Unreachable, batch_body
+from moo_web.world.door import QUESTION_SECONDS, Answer, Door, TooLong, Unreachable, batch_body
+from moo_web.world.things import World
 
-READING = 10.0
+# So often what is of one number of the world is begun anew, if the world moves on meanwhile.
+TRIES = 5
 
 
 class Moved(Exception):
@@ -43,6 +45,23 @@ def batch_asked(door: Door, programmer: int, calls: list[str], at: int | None, e
     return answer
 
 
+class Onlooker(Protocol):
+    """Who looks at the world of one number, as the object `number`: beside its public facts they know what calls answer them."""
+
+    number: int
+
+    @property
+    def world(self) -> World:
+        """The public facts of that world."""
+
+    @property
+    def is_wizard(self) -> bool:
+        """Whether they have the rights of a wizard."""
+
+    def answers(self, calls: list[str]) -> list[Any]:
+        """What each call answers them in that world: a value, or a `Refusal`."""
+
+
 class Asker:
     """Asks at a door."""
 
@@ -58,7 +77,7 @@ class Asker:
 
     def said(self, number: int, calls: list[str], seq: int, end: float | None = None) -> list[Said]:
         """The same as moo writes it. It waits until the moment `end` of the monotonic clock, or for ten seconds."""
-        end = time.monotonic() + READING if end is None else end
+        end = time.monotonic() + QUESTION_SECONDS if end is None else end
         found: list[Said] = []
         for first in range(0, len(calls), MOST_CALLS):
             found += self.part(number, calls[first : first + MOST_CALLS], seq, end)

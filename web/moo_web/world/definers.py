@@ -7,17 +7,13 @@ by the person who searches, so that nobody learns of a property that moo wouldn'
 from __future__ import annotations
 
 import threading
-from typing import TYPE_CHECKING, Iterable, NamedTuple
+from typing import Iterable, NamedTuple
 
-from moo_web.world.asking import Asker
-from moo_web.world.door import Unreachable
+from moo_web.world.asking import Asker, Onlooker
+from moo_web.world.door import QUESTION_SECONDS, Unreachable
 from moo_web.world.index import Index
 from moo_web.world.things import World
 
-if TYPE_CHECKING:
-    from moo_web.pages.pages import Visit
-
-READING = 10.0
 MOST_FOUND = 100
 # So many of the names that fit are asked for again.
 MOST_ASKED = 1000
@@ -38,30 +34,30 @@ class Definers:
         self.turn = threading.Lock()
         self.names: dict[int, list[str]] | None = None
 
-    def found(self, visit: Visit, query: str) -> list[Defined]:
+    def found(self, onlooker: Onlooker, query: str) -> list[Defined]:
         """The properties that the person may list with this text in their names, in any case: at most a hundred, the same name first."""
         wanted = query.lower()
         hits = sorted(
             (name.lower() != wanted, not name.lower().startswith(wanted), name.lower(), number, name)
-            for number, names in self.known(visit).items() for name in names if wanted in name.lower()
+            for number, names in self.known(onlooker).items() for name in names if wanted in name.lower()
         )[:MOST_ASKED]  # fmt: skip
         numbers = list(dict.fromkeys(hit[3] for hit in hits))
-        may = visit.answers([f"properties(#{number})" for number in numbers])
+        may = onlooker.answers([f"properties(#{number})" for number in numbers])
         listed = {(number, name) for number, names in zip(numbers, may) if isinstance(names, list) for name in names}
         return [Defined(number, name) for *_, number, name in hits if (number, name) in listed][:MOST_FOUND]
 
-    def known(self, visit: Visit) -> dict[int, list[str]]:
-        """All names, in the world of this visit."""
-        if not self.turn.acquire(timeout=READING):
+    def known(self, onlooker: Onlooker) -> dict[int, list[str]]:
+        """All names, in the world of this onlooker."""
+        if not self.turn.acquire(timeout=QUESTION_SECONDS):
             raise Unreachable
         try:
-            return self.brought_up(visit)
+            return self.brought_up(onlooker)
         finally:
             self.turn.release()
 
-    def brought_up(self, visit: Visit) -> dict[int, list[str]]:
+    def brought_up(self, onlooker: Onlooker) -> dict[int, list[str]]:
         """All names, after what may have changed was asked for again."""
-        world, index = visit.world, self.index
+        world, index = onlooker.world, self.index
         wizards = world.with_bit("wizard")
         if not wizards:
             return {}

@@ -15,11 +15,13 @@ from moolib.service import WAIT, Answer, Service, batch_body, packed
 from moo_web.traffic.turns import Turnstile
 
 __all__ = ["Answer", "Door", "TooLong", "Unreachable", "batch_body", "own_answer", "packed"]
+# How many seconds a page, or a program, waits for what it asks of moo.
+QUESTION_SECONDS = 10.0
 # A longer answer isn't taken, but for a dump.
 LONGEST_ANSWER = 1 << 24
 
 # Is given each request that was sent to moo: its target, how many seconds it took, and the answer, if one came.
-Note = Callable[[str, float, "Answer | None"], None]
+NoteTaker = Callable[[str, float, "Answer | None"], None]
 
 
 def no_note(target: str, seconds: float, answer: Answer | None) -> None:
@@ -42,7 +44,7 @@ class Door(Service):
 
     is_bounded = True
 
-    def __init__(self, port: int, wait: float = WAIT, turnstile: Turnstile | None = None, note: Note = no_note) -> None:
+    def __init__(self, port: int, wait: float = WAIT, turnstile: Turnstile | None = None, note: NoteTaker = no_note) -> None:
         super().__init__(port, wait=wait, longest=LONGEST_ANSWER)
         self.turnstile, self.note = turnstile, note
 

@@ -24,11 +24,11 @@ BACKSLASHED = re.compile(r"\\(.)")
 ACCEPTS = ""
 
 
-class Broken(Exception):
+class BrokenDump(Exception):
     """A dump didn't come whole."""
 
 
-class Kept:
+class DumpLines:
     """Takes in a dump, as a file does, and keeps the lines that have something to search."""
 
     def __init__(self) -> None:
@@ -50,11 +50,11 @@ class Dumped(NamedTuple):
     lines: list[bytes]
 
     @classmethod
-    def of(cls, kept: Kept) -> Dumped:
-        """What was kept of a dump. `Broken`: it isn't whole."""
+    def of(cls, kept: DumpLines) -> Dumped:
+        """What was kept of a dump. `BrokenDump`: it isn't whole."""
         lines = [*kept.lines, *KEPT.findall(kept.rest)]
         if len(lines) < 2 or not lines[0].startswith(b"seq ") or lines[-1] != b"end":
-            raise Broken
+            raise BrokenDump
         return cls(int(lines[0].split()[1]), lines[1:-1])
 
     @property

@@ -19,14 +19,13 @@ from moolib.values import written
 
 from moo_web.journal.segments import Accepted
 from moo_web.world.asking import Asker, Moved, Refusal
-from moo_web.world.door import Door, Unreachable
-from moo_web.world.dumped import ACCEPTS, Broken, Dumped, Kept
+from moo_web.world.door import QUESTION_SECONDS, Door, Unreachable
+from moo_web.world.dumped import ACCEPTS, BrokenDump, DumpLines, Dumped
 from moo_web.world.index import TOLD_WITHIN, Index
 from moo_web.world.literals import Key, Literal, Literals
 from moo_web.world.things import World
-from moo_web.world.touching import TooMany, Touching
+from moo_web.world.touching import TooManyTouched, Touching
 
-READING = 10.0
 # Batches that came since the last search are kept up to so many letters. After more of them all values are read again.
 MOST_LETTERS = 1 << 24
 
@@ -102,7 +101,7 @@ class Holdings:
 
     def literals(self, world: World) -> Literals:
         """The values in a world. `Moved`: it isn't the present one. `Unreachable`: moo didn't tell in time. `NoDump`: this moo can't."""
-        if not self.turn.acquire(timeout=READING):
+        if not self.turn.acquire(timeout=QUESTION_SECONDS):
             raise Unreachable
         try:
             self.learned = self.brought_up(world)
@@ -128,7 +127,7 @@ class Holdings:
         try:
             touching.run(batches)
             places = touching.all(learned.literals)
-        except TooMany:
+        except TooManyTouched:
             return self.read_whole(world)
         found = self.read_places(world, places, learned.literals)
         if found is None:
@@ -147,14 +146,14 @@ class Holdings:
             self.record()
         if self.begin > world.seq:
             raise Moved
-        kept = Kept()
-        refusal = self.door.copied("/dump", cast(IO[bytes], kept), time.monotonic() + READING)
+        kept = DumpLines()
+        refusal = self.door.copied("/dump", cast(IO[bytes], kept), time.monotonic() + QUESTION_SECONDS)
         if refusal is not None:
             self.asking = time.monotonic() + PAUSE
             raise NoDump
         try:
             dumped = Dumped.of(kept)
-        except Broken:
+        except BrokenDump:
             raise Unreachable from None
         if dumped.seq < world.seq:
             raise Unreachable

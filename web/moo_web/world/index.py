@@ -18,14 +18,14 @@ from collections.abc import Iterable
 from typing import Any, Callable
 
 from moolib.calls import Call, calls_in, read_or_none
+from moolib.slots import BITS
 from moolib.values import read
 
 from moo_web.journal.segments import Accepted
-from moo_web.world.door import Answer, Door, TooLong, Unreachable, batch_body
+from moo_web.world.door import QUESTION_SECONDS, Answer, Door, TooLong, Unreachable, batch_body
 from moo_web.world.petitioned import OpenPetitions
-from moo_web.world.things import BITS, Thing, World, number_in, thing_of
+from moo_web.world.things import Thing, World, number_in, thing_of
 
-READING = 10.0
 # How long a page waits for the writer to tell of a batch that moo has accepted already.
 TOLD_WITHIN = 2.0
 # So many objects are in one answer.
@@ -134,11 +134,11 @@ class Index:
 
     def is_present(self, world: World) -> bool:
         """Whether this is the world as it is now. `Unreachable`: moo didn't tell in time."""
-        return self.number(time.monotonic() + READING) == world.seq
+        return self.number(time.monotonic() + QUESTION_SECONDS) == world.seq
 
     def world(self) -> World:
         """The world as it is now. `Unreachable`: moo didn't tell in time."""
-        end = time.monotonic() + READING
+        end = time.monotonic() + QUESTION_SECONDS
         return self.at(self.number(end), end)
 
     def last_told(self) -> World | None:
@@ -147,7 +147,7 @@ class Index:
         None: no world was read yet. `Unreachable`: moo didn't tell in time what has changed.
         """
         kept = self.kept
-        return kept and self.at(max(self.told_seq, kept.seq), time.monotonic() + READING)
+        return kept and self.at(max(self.told_seq, kept.seq), time.monotonic() + QUESTION_SECONDS)
 
     def at(self, seq: int, end: float) -> World:
         """The world of this number or of a later one."""

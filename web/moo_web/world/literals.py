@@ -37,7 +37,7 @@ class Literal(NamedTuple):
 Key = tuple[int, str]
 
 
-def key_of(number: int, name: str) -> Key:
+def place_key(number: int, name: str) -> Key:
     """Where a value is."""
     return number, name.lower()
 
@@ -137,7 +137,7 @@ class Literals:
         """What is at these places of the text and hasn't changed."""
         for place in places:
             row = self.text.at(place)
-            if row.number not in self.changed or key_of(row.number, row.name) not in self.changes:
+            if row.number not in self.changed or place_key(row.number, row.name) not in self.changes:
                 yield row
 
 

@@ -5,26 +5,23 @@ from __future__ import annotations
 import time
 from typing import Callable
 
-from moolib.slots import first_calls
 from moolib.calls import read_or_none
 from moolib.facts import Facts, TooMuch
 from moolib.losses import Losses, may_lose
+from moolib.slots import first_calls
 from moolib.values import written
 
 from moo_web.people.person import Person
-from moo_web.world.asking import Moved
-from moo_web.world.door import Answer, Unreachable, own_answer
+from moo_web.world.asking import TRIES, Moved
+from moo_web.world.door import QUESTION_SECONDS, Answer, Unreachable, own_answer
 from moo_web.world.overseeing import Overseeing
-
-READING = 10.0
-TRIES = 5
 
 
 def losses_of(overseeing: Overseeing, person: int, calls: list[str], answers: list[str], at: int) -> Losses:
     """What these calls would destroy or replace, which the world of this number answers so. `Moved`, `Unreachable`: as of `Asker.said`."""
     if not may_lose(calls):
         return Losses()
-    end = time.monotonic() + READING
+    end = time.monotonic() + QUESTION_SECONDS
     read = [call for call in map(read_or_none, calls) if call]
     try:
         facts = overseeing.facts(person, at, end, first_calls(read))

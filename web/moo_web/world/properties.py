@@ -2,15 +2,12 @@
 
 from __future__ import annotations
 
-from typing import TYPE_CHECKING, Any, NamedTuple
+from typing import Any, NamedTuple
 
 from moolib.service import MOST_CALLS
 from moolib.values import written
 
-from moo_web.world.asking import Refusal
-
-if TYPE_CHECKING:
-    from moo_web.pages.pages import Visit
+from moo_web.world.asking import Onlooker, Refusal
 
 # So many properties are on one page.
 MOST = 200
@@ -62,21 +59,21 @@ def names_calls(chain: list[int]) -> list[str]:
     return [f"properties(#{one})" for one in chain]
 
 
-def names_on(visit: Visit, number: int) -> PropertyNames:
+def names_on(onlooker: Onlooker, number: int) -> PropertyNames:
     """The names of the properties on an object, by definers from it up its chain."""
-    chain = [thing.number for thing in visit.world.chain(number)]
-    listed = visit.answers(names_calls(chain))
+    chain = [thing.number for thing in onlooker.world.chain(number)]
+    listed = onlooker.answers(names_calls(chain))
     pairs = [(one, name) for one, names in zip(chain, listed) if isinstance(names, list) for name in names]
     return PropertyNames(pairs, [one for one, names in zip(chain, listed) if not isinstance(names, list)])
 
 
-def properties_of(visit: Visit, number: int, pairs: list[tuple[int, str]]) -> list[Property]:
+def properties_of(onlooker: Onlooker, number: int, pairs: list[tuple[int, str]]) -> list[Property]:
     """These properties on an object, each with its definer and name."""
-    told = visit.answers([f"property_info(#{number}, {written(name)})" for _, name in pairs])
+    told = onlooker.answers([f"property_info(#{number}, {written(name)})" for _, name in pairs])
     shown = [(pair, info) for pair, info in zip(pairs, told) if not isinstance(info, Refusal)]
-    got = visit.answers([f"{call}(#{number}, {written(name)})" for (_, name), _ in shown for call in ("get", "is_clear_property")])
+    got = onlooker.answers([f"{call}(#{number}, {written(name)})" for (_, name), _ in shown for call in ("get", "is_clear_property")])
     is_clear = {pair: got[2 * place + 1] for place, (pair, _) in enumerate(shown)}
-    sources = sources_of(visit, number, [pair for pair, clear in is_clear.items() if clear == 1])
+    sources = sources_of(onlooker, number, [pair for pair, clear in is_clear.items() if clear == 1])
     found = {}
     for place, (pair, info) in enumerate(shown):
         if not isinstance(got[2 * place], Refusal):
@@ -100,12 +97,12 @@ def above_in(chain: list[int], definer: int) -> list[int]:
     return chain[1 : chain.index(definer) + 1] if definer in chain else chain[1:]
 
 
-def sources_of(visit: Visit, number: int, clear: list[tuple[int, str]]) -> dict[tuple[int, str], int]:
+def sources_of(onlooker: Onlooker, number: int, clear: list[tuple[int, str]]) -> dict[tuple[int, str], int]:
     """The objects above an object from which the values of its clear properties are, as far as the person may know them."""
-    chain = [thing.number for thing in visit.world.chain(number)]
+    chain = [thing.number for thing in onlooker.world.chain(number)]
     above = {definer: above_in(chain, definer) for definer, _ in clear}
     asked = [((definer, name), one) for definer, name in clear for one in above[definer]]
-    told = visit.answers([f"is_clear_property(#{one}, {written(name)})" for (_, name), one in asked])
+    told = onlooker.answers([f"is_clear_property(#{one}, {written(name)})" for (_, name), one in asked])
     sources: dict[tuple[int, str], int] = {}
     unknown: set[tuple[int, str]] = set()
     for (pair, one), is_clear in zip(asked, told):

@@ -2,17 +2,16 @@
 
 from __future__ import annotations
 
-from collections.abc import Iterable
 from typing import Any, Optional
 
 from moolib.calls import Call, call_name, read_or_none
 from moolib.service import Said
+from moolib.slots import BUILT_IN
 from moolib.values import Obj, written
 
 from moo_web.world.things import Thing, World
 
 OF_AN_OBJECT = ("parent", "children", "valid", "is_player")
-BUILT_IN = ("name", "owner", "location", "contents", "programmer", "wizard", "r", "w", "f")
 
 
 def public_fact(world: World, text: str) -> Optional[Said]:
@@ -35,14 +34,9 @@ def fact_of(world: World, thing: Thing, what: str) -> Any:
     """A fact of an object: a value."""
     if what in ("children", "contents"):
         links = world.children if what == "children" else world.contents
-        return listed(links.get(thing.number, ()))
+        return [Obj(number) for number in links.get(thing.number, ())]
     if what in ("parent", "owner", "location"):
         return Obj({"parent": thing.parent, "owner": thing.owner, "location": thing.location}[what])
     if what == "name":
         return thing.name
     return 1 if what == "valid" else int(thing.has("player" if what == "is_player" else what))
-
-
-def listed(numbers: Iterable[int]) -> list[Obj]:
-    """These objects as a list."""
-    return [Obj(number) for number in numbers]

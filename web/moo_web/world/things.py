@@ -7,13 +7,13 @@ import sys
 from collections.abc import Iterator, Mapping, Sequence
 from typing import Any, NamedTuple, Optional
 
+from moolib.slots import BITS
+
 from moo_web.world.layers import Layered
 from moo_web.world.linking import Links, Relinking, links_of, relinked
 from moo_web.world.names import Names
 
-# The names of the bits, in the order of their values 1, 2, 4 ..
-BITS = ("player", "programmer", "wizard", "r", "w", "f")
-# The places of the bits whose objects are listed: player, wizard, f.
+# The places in `BITS` of the bits whose objects are listed: player, wizard, f.
 LISTED = (0, 2, 5)
 NOTHING = -1
 # So many letters of a name are shown.
@@ -31,7 +31,10 @@ def shortened(name: str, longest: int = LONGEST_SHOWN) -> str:
 
 
 class Thing(NamedTuple):
-    """An object: its number, its name, the numbers of its owner, parent and location (-1: none), and the sum of its bits."""
+    """An object: its number, its name, the numbers of its owner, parent and location (-1: none), and the sum of its bits.
+
+    The bits of `BITS` have the values 1, 2, 4 ..
+    """
 
     number: int
     name: str
@@ -59,6 +62,14 @@ def thing_of(number: int, said: dict[str, Any]) -> Thing:
 def number_in(text: str) -> int:
     """The number of an object such as `#4`."""
     return int(text[1:])
+
+
+class NotThere(Exception):
+    """There is no object of this number."""
+
+    def __init__(self, number: int) -> None:
+        super().__init__()
+        self.number = number
 
 
 class World:
@@ -96,13 +107,20 @@ class World:
             relinked(self.children, ((number, old and old.parent, new and new.parent) for number, old, new in pairs)),
             relinked(self.contents, ((number, old and old.location, new and new.location) for number, old, new in pairs)),
             relinked(self.owned, ((number, old and old.owner, new and new.owner) for number, old, new in pairs)),
-            relinked(self.marked, (change for pair in pairs for change in remarked(*pair))),
+            relinked(self.marked, (change for pair in pairs for change in bit_changes(*pair))),
         )  # fmt: skip
         if "names" in self.__dict__:
             renamed = {number: new and new.name for number, old, new in pairs if (old and old.name) != (new and new.name)}
             if names := self.names.changed(renamed):
                 made.names = names
         return made
+
+    def thing(self, number: int) -> Thing:
+        """An object. `NotThere`: there is none of this number, which the page about it then says."""
+        thing: Optional[Thing] = self.things.get(number)
+        if thing is None:
+            raise NotThere(number)
+        return thing
 
     def with_bit(self, bit: str) -> Sequence[int]:
         """The numbers of the objects with this bit, ascending. It is one of `player`, `wizard` and `f`."""
@@ -135,7 +153,7 @@ class World:
         return number in self.things and self.things[number].has("wizard")
 
 
-def remarked(number: int, old: Optional[Thing], new: Optional[Thing]) -> Iterator[Relinking]:
+def bit_changes(number: int, old: Optional[Thing], new: Optional[Thing]) -> Iterator[Relinking]:
     """What changes of the bits of an object that are listed."""
     for place in LISTED:
         was, now = old is not None and old.bits >> place & 1, new is not None and new.bits >> place & 1

@@ -15,14 +15,14 @@ from moolib.values import Obj
 
 from moo_web.journal.segments import Accepted
 from moo_web.world.dumped import ACCEPTS
-from moo_web.world.literals import Key, Literals, key_of
+from moo_web.world.literals import Key, Literals, place_key
 from moo_web.world.things import NOTHING, World
 
 # If more values may have changed than so many, all of them are read again.
 MOST_TOUCHED = 3000
 
 
-class TooMany(Exception):
+class TooManyTouched(Exception):
     """It isn't known what has changed, or it is too much to ask for value by value."""
 
 
@@ -40,12 +40,12 @@ class Touching:
         self.makers: set[int] = set()
 
     def run(self, batches: Iterable[Accepted]) -> None:
-        """Takes in batches. `TooMany`: one of their calls may have changed anything."""
+        """Takes in batches. `TooManyTouched`: one of their calls may have changed anything."""
         for batch in batches:
             for text, answer in batch.answered:
                 call = read_or_none(text)
                 if call is None:
-                    raise TooMany
+                    raise TooManyTouched
                 self.take(call, batch.programmer, answer)
 
     def take(self, call: Call, programmer: int, answer: str = "") -> None:
@@ -55,11 +55,11 @@ class Touching:
         elif call.name in ("grant", "decline"):
             asked = self.petitions.pop(-1 if call.petition is None else call.petition, None)
             if call.name == "grant" and asked is None:
-                raise TooMany
+                raise TooManyTouched
             for each in (asked or ()) if call.name == "grant" else ():
                 self.take(each, programmer)
         elif call.makes == "petition":
-            raise TooMany
+            raise TooManyTouched
         elif call.name == "create" or call.subject is not None:
             self.take_change(call, NOTHING if call.subject is None else call.subject, programmer)
 
@@ -85,10 +85,10 @@ class Touching:
 
     def touch(self, number: int, name: str) -> None:
         """A value may have changed."""
-        self.places.setdefault(key_of(number, name), name)
+        self.places.setdefault(place_key(number, name), name)
 
     def all(self, literals: Literals) -> dict[Key, str]:
-        """All values that may have changed, of those that are kept and new ones. `TooMany`: they are."""
+        """All values that may have changed, of those that are kept and new ones. `TooManyTouched`: they are."""
         for number in self.makers:
             if number >= 0:
                 self.touch(number, QUOTA)
@@ -98,12 +98,12 @@ class Touching:
                     if row.name != ACCEPTS and (not name or row.name.lower() == name):
                         self.touch(one, row.name)
                 if len(self.places) > MOST_TOUCHED:
-                    raise TooMany
+                    raise TooManyTouched
         for number, name in list(self.places):
             for after in self.after(name):
                 self.touch(number, after)
         if len(self.places) > MOST_TOUCHED:
-            raise TooMany
+            raise TooManyTouched
         return self.places
 
     def after(self, name: str) -> list[str]:
