@@ -8,3 +8,4 @@ pub mod Chosen
 pub mod AtCheck
 pub mod Nesting
 pub mod Ticking
+pub mod TrueInBatch

@@ -3,3 +3,4 @@ pub mod Outcomes
 pub mod Checks
 pub mod Telling
 pub mod Ticks
+pub mod Seeing

@@ -1,5 +1,5 @@
 -- What a refusal says in a batch: its reason is true of the rows on which the call is made, also of a call that a granted petition holds.
-use Rattle.std.specs.Prelude.{◌≡◌, ⊤, ℕ, zero, suc, ℤ, List, [], ◌∷◌, Some, None, Ok}
+use Rattle.std.specs.Prelude.{◌≡◌, ⊤, ℕ, zero, suc, ◌+◌, ℤ, List, [], ◌∷◌, Some, None, Ok}
 use Rattle.std.specs.FinMap.{remove}
 use Rattle.moo_value.specs.declared.value.ObjNo.{ObjNo}
 use Rattle.moo_value.specs.declared.value.Value.{Value}
@@ -15,13 +15,14 @@ use Rattle.moo_world.specs.declared.name.PetitionCall.TheVariants.{Grant as to_g
 use Rattle.moo_world.specs.Arguments.{no_values}
 use Rattle.moo_world.specs.Names.{petition_call}
 use Rattle.moo_world.specs.Outcomes.{Done}
-use Rattle.moo_world.specs.Requests.{are_on_world, held_call, held_step, in_world, one_integer, one_list, petition_at, state_of}
+use Rattle.moo_world.specs.Requests.{are_on_world, batch_call, held_call, held_step, in_world, one_integer, one_list, petition_at, state_of}
 use Rattle.moo_world.specs.Rows.{world_of}
 use Rattle.moo_calls_shared.specs.About.{About, about_call, about_given, about_nothing, about_unasked}
 use Rattle.moo_calls_shared.specs.Told.{IsTrueOf}
 use Rattle.moo_calls_shared.specs.declared.fault.Fault.{Fault}
 use Rattle.moo_calls_shared.specs.declared.fault.Fault.TheVariants.{Moo, Held as of_held, Full, OutOfMemory}
 use Rattle.moo_calls_shared.specs.declared.reason.Reason.{Reason}
+use Rattle.moo_batch.specs.declared.witness.Refusal.{Refusal}
 
 -- ---- what a call is about
 
@@ -79,3 +80,22 @@ IsTrueFault maps programmer about args (Moo reason) = IsTrueOf maps programmer a
 IsTrueFault maps programmer about args (of_held place reason) = IsTrueOfGrant programmer args place maps reason
 IsTrueFault maps programmer about args Full = ⊤
 IsTrueFault maps programmer about args OutOfMemory = ⊤
+
+-- ---- the calls of a batch
+
+-- why the call fails that a refusal is about
+abbrev pub refusal_fault : Refusal → Fault
+refusal_fault refusal = elim refusal.held [ None ↦ Moo refusal.reason | Some place ↦ of_held place refusal.reason ]
+
+-- the calls are made one after another up to that at this place, and it fails for a reason that is true there
+abbrev pub IsTrueOfCall : ObjNo → List Call → ℕ → Maps → Fault → Type 0
+IsTrueOfCall programmer [] place maps fault = ⊥
+IsTrueOfCall programmer (call ∷ calls) zero maps fault = IsTrueFault maps programmer (about_request programmer call) call.args fault
+IsTrueOfCall programmer (call ∷ calls) (suc place) maps fault =
+    (answer : Value) × (next : Maps) × (batch_call (state_of maps) programmer call ≡ Done answer (state_of next))
+    × IsTrueOfCall programmer calls place next fault
+
+-- the refusal is about the call of its number, from 1, and its reason is true
+abbrev pub IsTrueRefusal : ObjNo → List Call → Maps → Refusal → Type 0
+IsTrueRefusal programmer calls maps refusal =
+    (place : ℕ) × (refusal.call ≡ place + 1) × IsTrueOfCall programmer calls place maps (refusal_fault refusal)

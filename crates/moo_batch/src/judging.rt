@@ -13,6 +13,8 @@ ghost use Rattle.moo_world.specs.Requests.{batch_call};
 ghost use Rattle.moo_batch.specs.Outcomes.{state_in, KeepsGoodRows, Reaches, StaysAtCheck};
 ghost use Rattle.moo_batch.specs.Ticks.{TakesOne, TakesTicks};
 ghost use Rattle.moo_batch.specs.Judge.{ComeTo, HaveKept, IsGoodAt, IsVerdict};
+ghost use Rattle.moo_batch.specs.Seeing.{HasSeen, IsTrueStop};
+ghost use Rattle.moo_batch.specs.Telling.{IsTrueFault, about_request};
 
 use crate::charging::ticks_of;
 use crate::stepping::step;
@@ -63,6 +65,7 @@ fn step_on<R: Rows>(
     ensures check { IfErr result (StaysAtCheck (R.held rows.old) (R.held rows.new)) }
     ensures kept { OnOk result (KeepsGoodRows (CallKeepsNumbers (is_grant call.now.name) programmer call.now.args) (R.held rows.old)
         (R.held rows.new)) }
+    ensures told { IfErr result (IsTrueFault (R.held rows.old).maps programmer (about_request programmer call.now) call.now.args) }
 {
     step(rows, alloc, programmer, call)
 }
@@ -89,6 +92,7 @@ fn run_calls<R: Rows>(
     ensures comes { ComeTo (run_calls (state_in (R.held rows.old)) programmer calls.now) (state_in (R.held rows.new)) result }
     ensures kept { OnOk result (HaveKept programmer calls.now (R.held rows.old) (R.held rows.new)) }
     ensures good { IfErr result (IsGoodAt (R.held rows.new).maps) }
+    ensures told { IfErr result (IsTrueStop programmer calls.now (R.held rows.old).maps) }
 {
     let mut answers = Vec::new(alloc);
     for call in calls {
@@ -164,6 +168,10 @@ fn stopped<B: Rows, R: Rows, W: Witness>(
     ensures full { (call : ℕ) → stop ≡ Stop.Full call → result ≡ Verdict.Full call }
     ensures memory { (call : ℕ) → stop ≡ Stop.OutOfMemory call → result ≡ Verdict.OutOfMemory }
     ensures ticks { W.left witness.new ≡ W.left witness.old }
+    ensures sees { (refusal : Refusal) → stop ≡ Stop.Refused refusal →
+        W.sees (W.kept witness.old) batch.now refusal (W.kept witness.new) }
+    ensures full_still { (call : ℕ) → stop ≡ Stop.Full call → W.kept witness.new ≡ W.kept witness.old }
+    ensures memory_still { (call : ℕ) → stop ≡ Stop.OutOfMemory call → W.kept witness.new ≡ W.kept witness.old }
 {
     match stop {
         Stop::Refused(refusal) => {
@@ -187,7 +195,8 @@ fn stopped<B: Rows, R: Rows, W: Witness>(
 fn leave_ticks<R: Rows, W: Witness>(draft: &Draft<'_, R>, ticks: Option<u64>, witness: &mut W)
     requires left { ticks ≡ W.left witness.old }
     requires some { (n : ℕ) → ticks ≡ Some n → 0 < n }
-    ensures { TakesOne ticks (W.left witness.new) }
+    ensures takes { TakesOne ticks (W.left witness.new) }
+    ensures kept { W.kept witness.new ≡ W.kept witness.old }
 {
     if let Some(ticks) = ticks {
         witness.leave(draft.ticks_left().min(ticks - 1));
@@ -197,7 +206,7 @@ fn leave_ticks<R: Rows, W: Witness>(draft: &Draft<'_, R>, ticks: Option<u64>, wi
 /// The verdict on a batch on these rows, which stay as they are: stale if it names another number than the present
 /// one, else full if [`LAST_SEQ`] batches were accepted, else refused or full at the first call that isn't done, else
 /// accepted. A lack of memory comes only if a call is run; ticks that are spent are one. If it is accepted, what stays keeps its number,
-/// and what is new has one that was never given. The witness sees why it is refused, and how many ticks are left.
+/// and what is new has one that was never given. The witness sees once why it is refused, and how many ticks are left.
 pub fn judge<R: Rows, W: Witness>(
     alloc: Global,
     rows: &R,
@@ -207,6 +216,7 @@ pub fn judge<R: Rows, W: Witness>(
     requires good { IsGood (R.held rows.now).maps }
     ensures verdict { IsVerdict (R.held rows.now).maps batch.now result }
     ensures ticks { TakesTicks (W.left witness.old) (W.left witness.new) result }
+    ensures seen { HasSeen W.sees (R.held rows.now).maps batch.now result (W.kept witness.old) (W.kept witness.new) }
 {
     let head = rows.head();
     if !is_due(batch.at, head.seq) {

@@ -1,6 +1,8 @@
 //! Who sees how a batch is judged.
 
 ghost use Rattle.std.specs.Prelude.{◌≡◌, ℕ, Option, None, option_map};
+ghost use Rattle.moo_batch.specs.declared.witness.Refusal.{Refusal};
+ghost use Rattle.moo_world.specs.declared.call.Batch.{Batch};
 ghost use Rattle.moo_world.specs.Rows.{IsGood};
 
 use moo_calls_shared::Reason;
@@ -16,8 +18,16 @@ pub struct Refusal {
     pub reason: Reason,
 }
 
-/// Who says how many ticks a batch may take, and sees why it is refused, at the check that failed. What it does of that, no contract says.
+/// Who says how many ticks a batch may take, and sees why it is refused, at the check that failed.
 pub trait Witness {
+    /// What it keeps of the refusals that it has seen.
+    ghost Kept: { Type 0 };
+
+    ghost kept: { Self → Kept };
+
+    /// What it keeps before and after it sees the refusal of a batch.
+    ghost sees: { Kept → Batch → Refusal → Kept → Type 0 };
+
     /// How many ticks are left, or `None` if there is no bound.
     ghost left: { Self → Option ℕ };
 
@@ -27,15 +37,18 @@ pub trait Witness {
 
     /// So many are left from now on, if there is a bound.
     fn leave(&mut self, ticks: u64)
-        ensures { left self.new ≡ option_map (λ _. ticks) (left self.old) };
+        ensures left { left self.new ≡ option_map (λ _. ticks) (left self.old) }
+        ensures kept { kept self.new ≡ kept self.old };
 
     /// They were spent at this call of a batch, numbered from 1.
     fn see_spent(&mut self, call: u32)
-        ensures { left self.new ≡ left self.old };
+        ensures left { left self.new ≡ left self.old }
+        ensures kept { kept self.new ≡ kept self.old };
 
     /// A batch is refused that was judged on the rows `base`. The other rows are those on which the check failed. If a granted petition
     /// fails, they have been changed by the calls that it holds before the one that failed.
     fn see<B: Rows, R: Rows>(&mut self, base: &B, rows: &R, batch: &Batch, refusal: Refusal)
         requires { refusal.held ≡ None → IsGood (R.held rows.now).maps }
-        ensures { left self.new ≡ left self.old };
+        ensures left { left self.new ≡ left self.old }
+        ensures sees { sees (kept self.old) batch.now refusal (kept self.new) };
 }

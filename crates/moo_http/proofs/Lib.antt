@@ -6,3 +6,4 @@ pub mod Turns
 pub mod Defined
 pub mod Apart
 pub mod Passing
+pub mod SeenAsked

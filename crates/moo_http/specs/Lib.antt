@@ -9,3 +9,4 @@ pub mod Connections
 pub mod Settling
 pub mod Turns
 pub mod Through
+pub mod Seen

@@ -7,7 +7,9 @@ ghost use Rattle.moo_store.specs.Stand.{Stand, Works};
 ghost use Rattle.sqlite.specs.State.{HasCleanDisk};
 ghost use Rattle.moo_store.specs.World.{store_of, StandsAt, StandsFor};
 ghost use Rattle.moo_http.specs.Answers.{MayAnswer, IsAnswered, Consulted, IsMovedAs};
+ghost use Rattle.moo_http.specs.Seen.{HasSeenAsked};
 ghost use Rattle.moo_http.specs.Settled.{lost_by, came_of};
+ghost use Rattle.moo_reasons.specs.Seen.{seen_by};
 
 use moo_http_request::{Asked, Each, Mode, Question};
 use moo_http_response::{Replies, RequestOutcome, tell};
@@ -50,14 +52,16 @@ fn run_batch<S: Alter + Drop>(
     ensures clean { HasCleanDisk (store_of S.Store world.new) → HasCleanDisk (store_of S.Store world.old) }
     ensures comes { IsAnswered S.Store world.old world.new (Asked.Calls Mode.Run batch.now) result }
     ensures moved { IsMovedAs S.Store world.old world.new (Asked.Calls Mode.Run batch.now) result }
+    ensures seen { HasSeenAsked world.old.rows.maps (Asked.Calls Mode.Run batch.now) result (seen_by whys.old) (seen_by whys.new) }
 {
     world.has_good_rows();
     came(world.run_one(batch, whys))
 }
 
 fn ask_batch<S: Alter + Drop>(world: &World<S>, batch: &Batch, whys: &mut Whys) -> RequestOutcome
-    ensures { (known : Bool) (stand : Stand) → StandsAt S.Store known world.now stand →
+    ensures comes { (known : Bool) (stand : Stand) → StandsAt S.Store known world.now stand →
         MayAnswer stand (Asked.Calls Mode.Ask batch.now) result stand }
+    ensures seen { HasSeenAsked world.now.rows.maps (Asked.Calls Mode.Ask batch.now) result (seen_by whys.old) (seen_by whys.new) }
 {
     came(world.ask(batch, whys))
 }
@@ -79,8 +83,9 @@ fn ask_each_at<S: Alter + Drop>(
     seq: u64,
     whys: &mut Whys,
 ) -> RequestOutcome
-    ensures { (known : Bool) (s : State) → StandsFor S.Store known world.now s → s.seq ≡ seq →
+    ensures comes { (known : Bool) (s : State) → StandsFor S.Store known world.now s → s.seq ≡ seq →
         MayAnswer (Works s) (Asked.Each each.now) result (Works s) }
+    ensures seen { HasSeenAsked world.now.rows.maps (Asked.Each each.now) result (seen_by whys.old) (seen_by whys.new) }
 {
     if !is_due(each.at, seq) {
         return RequestOutcome::Replied(Reply::Stale { seq });
@@ -93,8 +98,9 @@ fn ask_each_at<S: Alter + Drop>(
 
 /// What comes of calls that are asked each alone.
 fn ask_each<S: Alter + Drop>(world: &World<S>, each: &Each, whys: &mut Whys) -> RequestOutcome
-    ensures { (known : Bool) (stand : Stand) → StandsAt S.Store known world.now stand →
+    ensures comes { (known : Bool) (stand : Stand) → StandsAt S.Store known world.now stand →
         MayAnswer stand (Asked.Each each.now) result stand }
+    ensures seen { HasSeenAsked world.now.rows.maps (Asked.Each each.now) result (seen_by whys.old) (seen_by whys.new) }
 {
     match world.seq() {
         Ok(seq) => ask_each_at(world, each, seq, whys),
@@ -138,6 +144,7 @@ fn take_batch<S: Alter + Drop>(
     ensures clean { HasCleanDisk (store_of S.Store world.new) → HasCleanDisk (store_of S.Store world.old) }
     ensures comes { IsAnswered S.Store world.old world.new (Asked.Calls mode batch.now) result }
     ensures moved { IsMovedAs S.Store world.old world.new (Asked.Calls mode batch.now) result }
+    ensures seen { HasSeenAsked world.old.rows.maps (Asked.Calls mode batch.now) result (seen_by whys.old) (seen_by whys.new) }
 {
     match mode {
         Mode::Run => run_batch(world, batch, whys),
@@ -154,6 +161,7 @@ fn answer<S: Alter + Drop>(
     ensures clean { HasCleanDisk (store_of S.Store world.new) → HasCleanDisk (store_of S.Store world.old) }
     ensures comes { IsAnswered S.Store world.old world.new asked.now result }
     ensures moved { IsMovedAs S.Store world.old world.new asked.now result }
+    ensures seen { HasSeenAsked world.old.rows.maps asked.now result (seen_by whys.old) (seen_by whys.new) }
 {
     match asked {
         Asked::Refused(refusal) => RequestOutcome::Refused(*refusal),
@@ -163,7 +171,7 @@ fn answer<S: Alter + Drop>(
     }
 }
 
-/// Does what is asked. Why a batch is refused, or each call that is asked alone, is kept if it is wanted.
+/// Does what is asked. Why a batch is refused, or each call that is asked alone, is kept in their order if it is wanted.
 pub(crate) fn consult<S: Alter + Drop>(
     alloc: Global,
     world: &mut World<S>,
@@ -175,6 +183,7 @@ pub(crate) fn consult<S: Alter + Drop>(
         Consulted S.Store known stand world.new asked.now result }
     // Only a batch that is run changes rows and tables: it keeps the cells of the rows that it leaves as they are, and all numbers.
     ensures moved { IsMovedAs S.Store world.old world.new asked.now result }
+    ensures seen { HasSeenAsked world.old.rows.maps asked.now result (seen_by whys.old) (seen_by whys.new) }
 {
     let outcome = answer(alloc, world, asked, whys);
     world.leaves();

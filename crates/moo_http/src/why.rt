@@ -1,7 +1,9 @@
 //! Why what was asked is refused.
 
-ghost use Rattle.std.specs.Prelude.{◌≡◌, ℕ, List, Option, IfOk};
+ghost use Rattle.std.specs.Prelude.{◌≡◌, ℕ, List, [], ◌∷◌, Option, IfOk};
 ghost use Rattle.moo_http_response.specs.Responses.{response_with, response_text};
+ghost use Rattle.moo_reasons.specs.Told.{AreTold, TellsPlace};
+ghost use Rattle.moo_http.specs.Seen.{IsToldWith, TellsOutcome};
 ghost use Rattle.moo_http.specs.Serves.{IsWhyOf};
 
 use crate::serve::Inquiry;
@@ -21,7 +23,9 @@ fn text_why(alloc: Global, text: &Option<String>) -> Result<Option<String>, Allo
 }
 
 /// A list of one sentence, or of none.
-fn one_of(alloc: Global, why: Option<String>) -> Result<Vec<Option<String>>, AllocError> {
+fn one_of(alloc: Global, why: Option<String>) -> Result<Vec<Option<String>>, AllocError>
+    ensures { IfOk result (λ whys. whys.items ≡ why ∷ []) }
+{
     let mut whys = Vec::new(alloc);
     whys.push(why)?;
     Ok(whys)
@@ -42,7 +46,9 @@ fn alone_why(
     seen: &mut Whys,
     reply: &Option<Reply>,
     text: Option<&Option<String>>,
-) -> Result<Option<String>, AllocError> {
+) -> Result<Option<String>, AllocError>
+    ensures { IfOk result (λ line. TellsPlace seen.old.seen.items reply.now line seen.new.seen.items) }
+{
     match (reply, text) {
         (Some(reply), _) => seen.next(reply),
         (None, Some(text)) => text_why(alloc, text),
@@ -56,10 +62,13 @@ fn each_whys(
     seen: &mut Whys,
     replies: &Replies,
     texts: &[Option<String>],
-) -> Result<Vec<Option<String>>, AllocError> {
+) -> Result<Vec<Option<String>>, AllocError>
+    ensures { IfOk result (λ lines. AreTold seen.old.seen.items replies.now lines.items seen.new.seen.items) }
+{
     let mut each = Vec::new(alloc);
-    for (i, reply) in replies.items().iter().enumerate() {
-        each.push(alone_why(alloc, seen, reply, texts.get(i))?)?;
+    for reply in replies.items() {
+        let text = texts.get(each.len());
+        each.push(alone_why(alloc, seen, reply, text)?)?;
     }
     Ok(each)
 }
@@ -113,7 +122,9 @@ fn find_whys(
     seen: &mut Whys,
     outcome: &RequestOutcome,
     inquiry: &Inquiry,
-) -> Result<Vec<Option<String>>, AllocError> {
+) -> Result<Vec<Option<String>>, AllocError>
+    ensures { IfOk result (λ lines. TellsOutcome seen.old.seen.items outcome.now lines.items seen.new.seen.items) }
+{
     let wrong = inquiry.wrong.as_ref();
     match outcome {
         RequestOutcome::Refused(_) => body_why(alloc, wrong),
@@ -124,7 +135,8 @@ fn find_whys(
     }
 }
 
-/// The bytes of the answer to what was asked, which say why it is refused if that was asked too. Nothing is said of it if memory runs out.
+/// The bytes of the answer to what was asked, which say why it is refused if that was asked too: of each reply that refuses the first line
+/// that is left. Nothing is said of it if memory runs out.
 /// AllocError: memory for the answer was refused.
 pub(crate) fn told_answer(
     alloc: Global,
@@ -133,7 +145,8 @@ pub(crate) fn told_answer(
     outcome: RequestOutcome,
 ) -> Result<Vec<u8>, AllocError>
     ensures { IfOk result (λ bytes. (whys : List (Option (List ℕ))) × IsWhyOf inquiry.now.asks_why whys
-        × (bytes.items ≡ response_text inquiry.now.is_head (response_with inquiry.now.asks_why whys outcome))) }
+        × (bytes.items ≡ response_text inquiry.now.is_head (response_with inquiry.now.asks_why whys outcome))
+        × IsToldWith seen.old.seen.items outcome whys) }
 {
     let is_head = inquiry.is_head;
     let asks_why = inquiry.asks_why;

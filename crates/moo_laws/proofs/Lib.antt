@@ -22,3 +22,4 @@ pub mod QuotaEffects
 pub mod QuotaCalls
 pub mod QuotaBatches
 pub mod QuotaSums
+pub mod Disclosing

@@ -1,11 +1,12 @@
 //! Which call of a petition is refused when it is granted.
 
 use crate::given::{FIRST, Given, given_by, list_at, value_at};
+use crate::sentence::Told;
 use crate::shown::Said;
 use crate::telling::{put_some, tell};
 use moo_batch::held_call;
 use moo_calls_shared::Reason;
-use moo_rows::{PetitionId, Rows};
+use moo_disclosure::Disclosure;
 use moo_value::{Value, ValueList};
 use moo_world::{Batch, CallName};
 use std::alloc::AllocError;
@@ -25,30 +26,30 @@ fn calls_asked<'a>(batch: &'a Batch, next: u32, number: u32) -> Option<&'a Value
     None
 }
 
-/// The calls of the petition that a call of a batch grants. It is among these rows, on which the batch was judged, or the batch makes it.
-fn calls_granted<'a, B: Rows>(
-    base: &'a B,
-    batch: &'a Batch,
-    grant: Given<'_>,
-) -> Option<&'a ValueList> {
+/// The number of the petition that a call grants.
+pub(crate) fn petition_number(grant: Given<'_>) -> Option<u32> {
     let Some(Value::Int(number)) = value_at(grant, FIRST) else {
         return None;
     };
-    let number = u32::try_from(*number).ok()?;
-    match base.petition(PetitionId(number)) {
-        Some(petition) => Some(&petition.calls),
-        None => calls_asked(batch, base.head().next_petition, number),
+    u32::try_from(*number).ok()
+}
+
+/// The calls of the petition that a call of a batch grants. It is disclosed, or the batch makes it.
+fn calls_granted<'a>(batch: &'a Batch, grant: Given<'_>, told: &Told<'a>) -> Option<&'a ValueList> {
+    match told.petition {
+        Some(calls) => Some(calls),
+        None => calls_asked(batch, told.next_petition, petition_number(grant)?),
     }
 }
 
 /// The call at a place of the petition that a call of a batch grants, as the petition holds it.
-pub(crate) fn held_value<'a, B: Rows>(
-    base: &'a B,
+pub(crate) fn held_value<'a>(
     batch: &'a Batch,
     grant: Given<'_>,
+    told: &Told<'a>,
     place: u32,
 ) -> Option<&'a Value> {
-    calls_granted(base, batch, grant)?
+    calls_granted(batch, grant, told)?
         .items()
         .get(place as usize)
 }
@@ -64,13 +65,13 @@ fn put_petition(said: &mut Said, grant: Given<'_>) -> Result<(), AllocError> {
     put_some(said, value_at(grant, FIRST))
 }
 
-/// Says after a comma which of the calls that a petition holds fails, and why, in the world of these rows.
-pub(crate) fn tell_held<R: Rows>(
+/// Says after a comma which of the calls that a petition holds fails, and why.
+pub(crate) fn tell_held(
     said: &mut Said,
-    rows: &R,
     grant: Given<'_>,
     held: Option<&Value>,
     reason: Reason,
+    disclosed: &Disclosure,
 ) -> Result<(), AllocError> {
     let Some((name, values)) = call_of(held) else {
         said.put(b", a call")?;
@@ -85,5 +86,5 @@ pub(crate) fn tell_held<R: Rows>(
         name,
         values,
     };
-    tell(said, b": ", rows, given, reason)
+    tell(said, b": ", given, reason, disclosed)
 }

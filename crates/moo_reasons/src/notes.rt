@@ -159,7 +159,13 @@ impl<'a, C: Eprint> StandardNotes<'a, C> {
 }
 
 impl<'a, C: Eprint> Witness for StandardNotes<'a, C> {
-    ghost use Rattle.std.specs.Prelude.{None};
+    ghost use Rattle.std.specs.Prelude.{None, ⊤};
+
+    ghost Kept = { Unit {0} };
+
+    ghost kept = { λ _. tt };
+
+    ghost sees = { λ _ _ _ _. ⊤ };
 
     ghost left = { λ _. None };
 

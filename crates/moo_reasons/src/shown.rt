@@ -1,5 +1,7 @@
 //! What is said: the text of a reason, and values and bytes as it shows them.
 
+ghost use Rattle.std.specs.Prelude.{◌≡◌, ◌+◌, ◌≤◌, length, string_bytes, OnOk};
+
 use moo_value::{MooStr, ObjNo, Value, print_literal};
 use moo_world::CallName;
 use std::alloc::{AllocError, Global};
@@ -33,7 +35,9 @@ impl Said {
     }
 
     /// The text of what is said. All that is put into it is UTF-8.
-    pub(crate) fn text(self) -> String {
+    pub(crate) fn text(self) -> String
+        ensures { length (string_bytes result) ≤ length self.text.items }
+    {
         match String::from_utf8(self.text) {
             Ok(text) => text,
             Err(_) => String::new(self.alloc),
@@ -41,7 +45,9 @@ impl Said {
     }
 
     /// Leaves, of more than `longest` bytes, so many in front, and two dots.
-    pub(crate) fn shorten(&mut self, longest: usize, front: usize) -> Result<(), AllocError> {
+    pub(crate) fn shorten(&mut self, longest: usize, front: usize) -> Result<(), AllocError>
+        ensures { front + 2 ≤ longest → OnOk result (length self.new.text.items ≤ longest) }
+    {
         if longest < self.text.len() {
             self.text.truncate(front);
             self.put(b"..")?;
@@ -49,7 +55,9 @@ impl Said {
         Ok(())
     }
 
-    pub(crate) fn put(&mut self, words: &[u8]) -> Result<(), AllocError> {
+    pub(crate) fn put(&mut self, words: &[u8]) -> Result<(), AllocError>
+        ensures { OnOk result (length self.new.text.items ≡ length self.old.text.items + length words.now) }
+    {
         self.text.extend_from_slice(words)
     }
 

@@ -7,11 +7,10 @@ use crate::given::{
 use crate::plain::{first_unasked, first_unfit};
 use crate::shown::Said;
 use moo_calls_shared::Reason;
-use moo_calls_shared::rights::may_read_object;
-use moo_rows::{PropId, Rows};
+use moo_disclosure::Disclosure;
 use moo_value::{ObjNo, Value};
 use moo_world::{BuiltIn, CallName};
-use std::alloc::{AllocError, Global};
+use std::alloc::AllocError;
 
 /// What is said of a reason. In its words `@` stands for the programmer, `%` for the first value of the call, `&` for the second, and `$`
 /// for what was checked: this object, if there is one, else a value that the call is given.
@@ -200,37 +199,39 @@ fn put_taken(said: &mut Said, definer: ObjNo, name: Option<&Value>) -> Result<()
     said.put(b" already")
 }
 
-/// The name of a property, if the programmer may list what its definer defines.
-fn name_listed<R: Rows>(
-    alloc: Global,
-    rows: &R,
-    programmer: ObjNo,
+/// Says that an object defines a property of the name that is disclosed, and that a place of the call has one too.
+fn put_shared(
+    said: &mut Said,
     definer: ObjNo,
-    property: PropId,
-) -> Result<Option<Value>, AllocError> {
-    match rows.prop(property) {
-        Some(row) if may_read_object(rows, programmer, definer) => {
-            Ok(Some(Value::Str(row.name.copy(alloc)?)))
-        }
-        _ => Ok(None),
+    given: Given<'_>,
+    disclosed: &Disclosure,
+) -> Result<(), AllocError> {
+    said.put_object(definer)?;
+    said.put(b" defines ")?;
+    match &disclosed.clash {
+        Some(name) => said.put_text(name)?,
+        None => said.put(b"a property")?,
     }
+    said.put(b" already, which ")?;
+    put_some(said, value_at(given, SECOND))?;
+    said.put(b" has too")
 }
 
-/// Says after the lead which check of a call failed, in the world of these rows, or how the call is written.
-pub(crate) fn tell<R: Rows>(
+/// Says after the lead which check of a call failed, or how the call is written.
+pub(crate) fn tell(
     said: &mut Said,
     lead: &[u8],
-    rows: &R,
     given: Given<'_>,
     reason: Reason,
+    disclosed: &Disclosure,
 ) -> Result<(), AllocError> {
     said.put(lead)?;
-    if let Reason::NameShared { definer, property } = reason {
-        let name = name_listed(said.alloc, rows, given.programmer, definer, property)?;
-        put_taken(said, definer, name.as_ref())?;
-        said.put(b", which ")?;
-        put_some(said, value_at(given, SECOND))?;
-        return said.put(b" has too");
+    if let Reason::NameShared {
+        definer,
+        property: _,
+    } = reason
+    {
+        return put_shared(said, definer, given, disclosed);
     }
     if let Reason::NameTaken { definer } = reason {
         return put_taken(said, definer, value_at(given, name_position(given.name)));

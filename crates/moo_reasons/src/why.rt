@@ -1,9 +1,13 @@
 //! Why a batch isn't accepted, in one line of at most 1,000 bytes: tabs and printing ASCII.
 
-ghost use Rattle.std.specs.Prelude.{◌≡◌};
+ghost use Rattle.std.specs.Prelude.{◌≡◌, [], false, IfOk};
+ghost use Rattle.moo_reasons.specs.Lines.{IsShort};
+ghost use Rattle.moo_reasons.specs.Seen.{Seen, SeesRefusal, seen_by};
+ghost use Rattle.moo_reasons.specs.Told.{IsFirstLine, TellsReply};
 
 use crate::calls::put_call_reason;
 use crate::finding::refusal_text;
+use crate::line::{Why, line_of};
 use crate::shown::Said;
 use moo_batch::{Refusal, Witness};
 use moo_rows::Rows;
@@ -11,18 +15,6 @@ use moo_text::Reply;
 use moo_world::Batch;
 use std::alloc::{AllocError, Global};
 use std::collections::VecDeque;
-use std::marker::Model;
-
-const LONGEST: usize = 1000;
-
-/// The bytes in front of `..` in a line that would be too long.
-const FRONT: usize = 998;
-
-/// The text, or the front of a long one and two dots.
-fn line_of(mut said: Said) -> Result<String, AllocError> {
-    said.shorten(LONGEST, FRONT)?;
-    Ok(said.text())
-}
 
 /// What there is no room for, by the number of the call that makes it; 0 is the batch itself.
 pub(crate) fn room_reason(call: u32) -> &'static str {
@@ -34,7 +26,9 @@ pub(crate) fn room_reason(call: u32) -> &'static str {
 }
 
 /// Why a text isn't a call. AllocError: memory ran out.
-pub fn call_why(alloc: Global, text: &str) -> Result<String, AllocError> {
+pub fn call_why(alloc: Global, text: &str) -> Result<String, AllocError>
+    ensures { IfOk result IsShort }
+{
     let mut said = Said::new(alloc);
     put_call_reason(&mut said, text.as_bytes())?;
     line_of(said)
@@ -45,7 +39,7 @@ pub fn call_why(alloc: Global, text: &str) -> Result<String, AllocError> {
 pub struct Whys {
     alloc: Global,
     is_wanted: bool,
-    seen: VecDeque<String>,
+    seen: VecDeque<Why>,
     /// Memory ran out for one of them.
     is_lost: bool,
     /// How many ticks the request has, and how many are left.
@@ -57,21 +51,12 @@ pub struct Whys {
     spent_at: Option<u32>,
 }
 
-impl Model for Whys {
-    ghost use Rattle.std.specs.Prelude.{ℕ};
-    ghost use Rattle.std.specs.Coded.{coded_ℕ};
-
-    ghost Value = { ℕ };
-
-    ghost coded = { coded_ℕ };
-
-    ghost view = { λ w. w.left };
-}
-
 impl Whys {
     /// None is refused yet, and none of so many ticks is spent.
     pub fn new(alloc: Global, is_wanted: bool, ticks: u32) -> Whys
-        ensures { result ≡ ticks }
+        ensures wanted { result.is_wanted ≡ is_wanted }
+        ensures none { result.seen.items ≡ [] }
+        ensures kept { result.is_lost ≡ false }
     {
         Whys {
             alloc,
@@ -101,14 +86,26 @@ impl Whys {
         Ok(Some(format!(in self.alloc; "call {call}: over {ticks} ticks (moo serve --ticks)")?))
     }
 
+    /// The first line that wasn't taken yet.
+    fn next_line(&mut self) -> Option<String>
+        ensures { IsFirstLine self.old.seen.items result self.new.seen.items }
+    {
+        match self.seen.pop_front() {
+            Some(why) => Some(why.into_text()),
+            None => None,
+        }
+    }
+
     /// Why the next batch got this reply: the call that failed, its error and the check, what there is no room for, or which call spent the
     /// ticks. None if it is nothing of these. AllocError: memory ran out.
-    pub fn next(&mut self, reply: &Reply) -> Result<Option<String>, AllocError> {
+    pub fn next(&mut self, reply: &Reply) -> Result<Option<String>, AllocError>
+        ensures { IfOk result (λ line. TellsReply self.old.seen.items reply.now line self.new.seen.items) }
+    {
         if self.is_lost {
             return Err(AllocError);
         }
         match reply {
-            Reply::Refused { call: _, code: _ } => Ok(self.seen.pop_front()),
+            Reply::Refused { call: _, code: _ } => Ok(self.next_line()),
             Reply::Full { call } => Ok(Some(String::from_str(self.alloc, room_reason(*call))?)),
             Reply::NoMemory => self.spent_why(None),
             _ => Ok(None),
@@ -119,7 +116,13 @@ impl Whys {
 impl Witness for Whys {
     ghost use Rattle.std.specs.Prelude.{Some};
 
-    ghost left = { λ w. Some w };
+    ghost Kept = { Seen };
+
+    ghost kept = { seen_by };
+
+    ghost sees = { SeesRefusal };
+
+    ghost left = { λ w. Some w.left };
 
     fn ticks(&self) -> Option<u64> {
         Some(self.left)
@@ -138,12 +141,12 @@ impl Witness for Whys {
         if !self.is_wanted {
             return;
         }
-        let said = match refusal_text(self.alloc, base, rows, batch, refusal) {
-            Ok(said) => line_of(said),
+        let why = match refusal_text(self.alloc, base, rows, batch, refusal) {
+            Ok(said) => Why::new(refusal, said),
             Err(fault) => Err(fault),
         };
-        let is_kept = match said {
-            Ok(line) => self.seen.push_back(line).is_ok(),
+        let is_kept = match why {
+            Ok(why) => self.seen.push_back(why).is_ok(),
             Err(_) => false,
         };
         self.is_lost = self.is_lost || !is_kept;

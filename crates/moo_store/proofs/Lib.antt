@@ -23,3 +23,4 @@ pub mod CheckLemmas
 pub mod Commits
 pub mod Adapters
 pub mod Alone
+pub mod SeenEach

@@ -14,3 +14,4 @@ pub mod Opening
 pub mod Loading
 pub mod Reopened
 pub mod Runs
+pub mod Seeing

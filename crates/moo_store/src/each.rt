@@ -4,6 +4,7 @@ ghost use Rattle.std.specs.Prelude.{◌≡◌, ◌≢◌, false, Bool, IfOk, IfE
 ghost use Rattle.moo_batch.specs.Ticks.{NoneComeBack};
 ghost use Rattle.moo_world.specs.Judge.{judge};
 ghost use Rattle.moo_store.specs.Answered.{answer_of, answers_alone};
+ghost use Rattle.moo_store.specs.Seeing.{HasSeenEach, HasSeenPlace, HasSeenReply};
 ghost use Rattle.moo_store.specs.World.{StandsFor};
 
 use crate::world::World;
@@ -33,6 +34,8 @@ fn ask_kept<S: Alter + Drop, N: Witness>(
     ensures reply { (known : Bool) (s : _) → StandsFor S.Store known world.now s →
         IfOk result (λ reply. reply ≡ answer_of s (judge s batch.now)) }
     ensures ticks { NoneComeBack (N.left witness.old) (N.left witness.new) }
+    ensures seen { IfOk result (λ reply.
+        HasSeenReply N.sees world.now.rows.maps batch.now reply (N.kept witness.old) (N.kept witness.new)) }
 {
     match world.ask(batch, witness) {
         Ok(reply) => kept(reply),
@@ -50,6 +53,8 @@ fn ask_alone<S: Alter + Drop, N: Witness>(
     ensures reply { (known : Bool) (s : _) → StandsFor S.Store known world.now s →
         IfOk result (λ reply. reply ≡ option_map (λ batch. answer_of s (judge s batch)) batch.now) }
     ensures ticks { NoneComeBack (N.left witness.old) (N.left witness.new) }
+    ensures seen { IfOk result (λ reply.
+        HasSeenPlace N.sees world.now.rows.maps batch.now reply (N.kept witness.old) (N.kept witness.new)) }
 {
     match batch {
         Some(batch) => Ok(Some(ask_kept(world, batch, witness)?)),
@@ -66,6 +71,8 @@ fn ask_all<S: Alter + Drop, N: Witness>(
     ensures replies { (known : Bool) (s : _) → StandsFor S.Store known world.now s →
         IfOk result (λ replies. replies.items ≡ answers_alone s batches.now) }
     ensures ticks { NoneComeBack (N.left witness.old) (N.left witness.new) }
+    ensures seen { IfOk result (λ replies.
+        HasSeenEach N.sees world.now.rows.maps batches.now replies.items (N.kept witness.old) (N.kept witness.new)) }
 {
     let mut replies = Vec::new(world.alloc);
     for batch in batches {
@@ -76,7 +83,8 @@ fn ask_all<S: Alter + Drop, N: Witness>(
 
 impl<S: Alter + Drop> World<S> {
     /// What each of these batches would come to at present, as if it alone were asked: none sees another. If there is none in a place,
-    /// there is no reply in it. Nothing changes. The witness sees why each is refused that would be. They share its ticks.
+    /// there is no reply in it. Nothing changes. The witness sees once why each is refused that would be, in their order. They share its
+    /// ticks.
     ///
     /// OutOfMemory if memory or ticks run out. Closed if the World had failed.
     #[tactic(auto, using(moo_batch::proofs::Ticking::as_before))]
@@ -90,6 +98,8 @@ impl<S: Alter + Drop> World<S> {
         ensures fault { self.now.failed ≡ false → IfErr result (λ fault. fault ≡ StoreFault.OutOfMemory) }
         ensures closed { IsTrue self.now.failed → IsErrOf result StoreFault.Closed }
         ensures ticks { NoneComeBack (N.left witness.old) (N.left witness.new) }
+        ensures seen { IfOk result (λ replies.
+            HasSeenEach N.sees self.now.rows.maps batches.now replies.items (N.kept witness.old) (N.kept witness.new)) }
     {
         if self.failed {
             return Err(StoreFault::Closed);

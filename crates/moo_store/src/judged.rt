@@ -7,6 +7,7 @@ ghost use Rattle.moo_batch.specs.declared.judging.Verdict.TheVariants.{Accepted}
 ghost use Rattle.moo_world.specs.Judge.{judge as verdict, state_of};
 ghost use Rattle.moo_world.specs.Rows.{IsGood};
 ghost use Rattle.moo_store.specs.Answered.{IsRun, acknowledged, answer_of};
+ghost use Rattle.moo_store.specs.Seeing.{HasSeenReply};
 ghost use Rattle.moo_store.specs.Stand.{Works, RunsBatch};
 
 use moo_batch::{Verdict, Witness, judge};
@@ -15,7 +16,8 @@ use moo_text::{Answer, Reply};
 use moo_world::{Answers, Batch};
 use std::alloc::Global;
 
-/// The answers and the changes of a batch that is accepted, or the reply to one that isn't. If it is refused, the witness sees why.
+/// The answers and the changes of a batch that is accepted, or the reply to one that isn't. If it is refused, the witness sees why,
+/// once.
 pub(crate) fn judged<N: Witness>(
     alloc: Global,
     rows: &Flat,
@@ -30,6 +32,8 @@ pub(crate) fn judged<N: Witness>(
     ensures asked { IfErr result (λ reply. ((reply ≡ Reply.NoMemory) × IsRun (state_of rows.now.maps) batch.now)
         ⊎ (reply ≡ answer_of (state_of rows.now.maps) (verdict (state_of rows.now.maps) batch.now))) }
     ensures ticks { NoneComeBack (N.left witness.old) (N.left witness.new) }
+    ensures seen { IfErr result (λ reply. HasSeenReply N.sees rows.now.maps batch.now reply (N.kept witness.old) (N.kept witness.new)) }
+    ensures unseen { IfOk result (λ _. N.kept witness.new ≡ N.kept witness.old) }
 {
     match judge(alloc, rows, batch, witness) {
         Verdict::Accepted { answers, changes } => Ok((answers, changes)),

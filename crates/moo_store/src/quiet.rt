@@ -10,7 +10,13 @@ use moo_world::Batch;
 pub struct NoNotes;
 
 impl Witness for NoNotes {
-    ghost use Rattle.std.specs.Prelude.{None};
+    ghost use Rattle.std.specs.Prelude.{None, ⊤};
+
+    ghost Kept = { Unit {0} };
+
+    ghost kept = { λ _. tt };
+
+    ghost sees = { λ _ _ _ _. ⊤ };
 
     ghost left = { λ _. None };
 

@@ -56,6 +56,7 @@ impl<S: Alter + Drop> World<S> {
     ghost use Rattle.moo_batch.specs.Ticks.{NoneComeBack};
     ghost use Rattle.moo_store.specs.Answered.{answer_of, IsRun};
     ghost use Rattle.moo_store_rows.specs.Stopped.{KeepsFaults};
+    ghost use Rattle.moo_store.specs.Seeing.{HasSeenReply};
     ghost use Rattle.moo_store.specs.Stand.{Stand};
     ghost use Rattle.moo_store.specs.Stopping.{says_accepted};
     ghost use Rattle.moo_store.specs.Text.{answer_to};
@@ -93,6 +94,7 @@ impl<S: Alter + Drop> World<S> {
             MovesBy S.Store self.old self.new (λ from to. CommitsTo answers changes rows from result to) }
         ensures fault { IfErr result (FailsRun S.Store self.old self.new) }
         ensures kept { KeepsFaults (store_of S.Store self.old) (store_of S.Store self.new) }
+        ensures accepted { IfOk result (λ reply. reply ≡ Reply.Accepted changes.head.seq answers) }
     {
         if let Err(error) = commit_cells(&mut self.connection, cells) {
             self.failed = true;
@@ -105,7 +107,7 @@ impl<S: Alter + Drop> World<S> {
         Ok(Reply::Accepted { seq, answers })
     }
 
-    /// Runs one batch, and commits it if it is accepted. If it is refused, the witness sees why. The faults: Store if the store failed;
+    /// Runs one batch, and commits it if it is accepted. If it is refused, the witness sees why, once. The faults: Store if the store failed;
     /// Closed if the World had failed.
     pub fn run_one<N: Witness>(
         &mut self,
@@ -118,6 +120,9 @@ impl<S: Alter + Drop> World<S> {
         ensures still { IfOk result (λ reply. says_accepted (answer.Replied reply) ≡ false → self.new ≡ self.old) }
         ensures fault { IfErr result (FailsRun S.Store self.old self.new) }
         ensures kept { KeepsFaults (store_of S.Store self.old) (store_of S.Store self.new) }
+        ensures seen { IfOk result (λ reply.
+            HasSeenReply N.sees self.old.rows.maps batch.now reply (N.kept witness.old) (N.kept witness.new)) }
+        ensures unseen { IfErr result (λ _. N.kept witness.new ≡ N.kept witness.old) }
     {
         if self.failed {
             return Err(StoreFault::Closed);
@@ -131,7 +136,7 @@ impl<S: Alter + Drop> World<S> {
         }
     }
 
-    /// What a batch would come to at present, with the present number. Nothing changes. If it would be refused, the witness sees why. The
+    /// What a batch would come to at present, with the present number. Nothing changes. If it would be refused, the witness sees why, once. The
     /// only fault is Closed.
     #[tactic(auto, using(moo_batch::proofs::Ticking::as_before))]
     pub fn ask<N: Witness>(&self, batch: &Batch, witness: &mut N) -> Result<Reply, StoreFault>
@@ -141,6 +146,8 @@ impl<S: Alter + Drop> World<S> {
             IfOk result (λ reply. reply ≡ Reply.NoMemory → IsRun s batch.now) }
         ensures ticks { NoneComeBack (N.left witness.old) (N.left witness.new) }
         ensures closed { IsTrue self.now.failed → IsErrOf result StoreFault.Closed }
+        ensures seen { IfOk result (λ reply.
+            HasSeenReply N.sees self.now.rows.maps batch.now reply (N.kept witness.old) (N.kept witness.new)) }
     {
         if self.failed {
             return Err(StoreFault::Closed);

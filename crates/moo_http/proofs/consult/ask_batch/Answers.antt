@@ -1,7 +1,11 @@
-use Rattle.moo_http.{proofs.Words.{sym, subst, Calls, Ask, MayAnswer}, proofs.Consulting.{asked}}
+use Rattle.moo_http.{proofs.Words.{sym, subst, Calls, Ask, MayAnswer}, proofs.Consulting.{asked}, proofs.SeenAsked.{seen_one}}
+use Rattle.moo_reasons.specs.Seen.{seen_by}
 use Rattle.moo_http.proofs.consult.ask_batch.Goals as goal
 
-pub returns : goal.returns
-returns g c known stand at =
+pub returns-clause-comes : goal.returns-clause-comes
+returns-clause-comes g c known stand at =
     subst (λ o. MayAnswer stand (Calls Ask c.args.batch.now) o stand) (sym c.came.ensures)
     (asked g.S.Store known c.args.world.now c.args.batch.now c.ask.result c.ask.ensures.verdict c.ask.ensures.memory c.ask.ensures.closed stand at)
+
+pub returns-clause-seen : goal.returns-clause-seen
+returns-clause-seen g c = seen_one c.args.world.now.rows.maps (seen_by c.args.whys.now) (seen_by c.ask.new.witness) Ask c.args.batch.now c.ask.result c.came.result c.came.ensures c.ask.ensures.seen

@@ -1,19 +1,32 @@
-use Rattle.moo_http.{proofs.Words.{◌≡◌, ap, sym, subst, rules, true, false, ◌∙◌, Works, MayAnswer}, proofs.Apart.{each_stale, each_due, each_lost}}
+use Rattle.moo_http.{proofs.Words.{◌≡◌, ap, sym, subst, rules, true, false, ◌∙◌, Works, MayAnswer}, proofs.Apart.{each_stale, each_due, each_lost}, proofs.SeenAsked.{seen_lost}}
+use Rattle.moo_store.specs.Seeing.{HasSeenEach}
+use Rattle.moo_reasons.specs.Seen.{SeesRefusal, seen_by}
 use Rattle.moo_world.specs.Judge.{is_due}
 use Rattle.moo_store.specs.Answered.{answers_alone}
 use Rattle.moo_http_request.specs.declared.asked.Asked.TheVariants.{Each}
 use Rattle.moo_http.proofs.consult.ask_each_at.Goals as goal
 
-pub returns-then-not-is_due : goal.returns-then-not-is_due
-returns-then-not-is_due g c known s at same =
+pub returns-then-not-is_due-clause-comes : goal.returns-then-not-is_due-clause-comes
+returns-then-not-is_due-clause-comes g c known s at same =
     let other : is_due c.args.each.now.at c.args.seq ≡ false = search rules in
     each_stale c.args.each.now s c.args.seq other same
 
-pub returns-in-Ok : goal.returns-in-Ok
-returns-in-Ok g c known s at same =
+pub returns-in-Ok-clause-comes : goal.returns-in-Ok-clause-comes
+returns-in-Ok-clause-comes g c known s at same =
     let due : is_due c.args.each.now.at c.args.seq ≡ true = search rules in
     each_due c.args.each.now s c.args.seq c.from_vec.result due same (c.from_vec.ensures ∙ c.in-Ok.ensures.replies known s at ∙ ap (answers_alone s) c.items.ensures)
 
-pub returns-in-Err : goal.returns-in-Err
-returns-in-Err g c known s at same =
+pub returns-in-Err-clause-comes : goal.returns-in-Err-clause-comes
+returns-in-Err-clause-comes g c known s at same =
     subst (λ o. MayAnswer (Works s) (Each c.args.each.now) o (Works s)) (sym c.lost.ensures) (each_lost c.args.each.now s c.in-Err.fault (c.in-Err.ensures.fault at.works))
+
+pub returns-in-Ok-clause-seen : goal.returns-in-Ok-clause-seen
+returns-in-Ok-clause-seen g c =
+    let maps = c.args.world.now.rows.maps in
+    let old = seen_by c.args.whys.now in
+    let new = seen_by c.ask_each.new.witness in
+    subst (λ replies. HasSeenEach SeesRefusal maps c.args.each.now.batches replies old new) (sym c.from_vec.ensures)
+    (subst (λ batches. HasSeenEach SeesRefusal maps batches c.in-Ok.replies.items old new) c.items.ensures c.in-Ok.ensures.seen)
+
+pub returns-in-Err-clause-seen : goal.returns-in-Err-clause-seen
+returns-in-Err-clause-seen g c = seen_lost c.args.world.now.rows.maps (seen_by c.args.whys.now) (seen_by c.ask_each.new.witness) c.args.each.now c.in-Err.fault c.lost.result c.lost.ensures

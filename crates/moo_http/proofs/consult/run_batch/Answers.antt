@@ -1,4 +1,5 @@
-use Rattle.moo_http.{proofs.Words.{World}, proofs.Consulting.{ran_one, moved_one}}
+use Rattle.moo_http.{proofs.Words.{Run, World}, proofs.Consulting.{ran_one, moved_one}, proofs.SeenAsked.{seen_one}}
+use Rattle.moo_reasons.specs.Seen.{seen_by}
 use Rattle.moo_http.proofs.consult.run_batch.Goals as goal
 use Rattle.moo_store.proofs.Adapters.{fails_at_store, stands_behind, writes_one}
 
@@ -26,3 +27,6 @@ returns-clause-moved g c =
     let moves = c.run_one.ensures.moves in
     let fails = fails_at_store g.S.Store settled was new batch c.run_one.result good moves c.run_one.ensures.fault in
     moved_one g.S.Store was new batch c.run_one.result c.came.result c.came.ensures (settled was) fails (writes_one g.S.Store settled was new batch c.run_one.result good moves fails)
+
+pub returns-clause-seen : goal.returns-clause-seen
+returns-clause-seen g c = seen_one c.args.world.now.rows.maps (seen_by c.args.whys.now) (seen_by c.run_one.new.witness) Run c.args.batch.now c.run_one.result c.came.result c.came.ensures c.run_one.ensures.seen

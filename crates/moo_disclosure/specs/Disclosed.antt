@@ -1,0 +1,75 @@
+-- What a refusal tells of the world besides its reason and what the call was given.
+use Rattle.std.specs.Prelude.{Bool, true, false, ◌||◌, List, [], ◌∷◌, Option, Some, None, is_some, if◌then◌else◌, take}
+use Rattle.std.specs.List.{flat_map}
+use Rattle.std.specs.Option.{option_and_then}
+use Rattle.std.specs.FinMap.{get}
+use Rattle.moo_value.specs.declared.value.ObjNo.{ObjNo}
+use Rattle.moo_value.specs.declared.value.Value.{Value}
+use Rattle.moo_value.specs.declared.value.Value.TheVariants.{Obj, Str}
+use Rattle.moo_value.specs.Values.{Values}
+use Rattle.moo_rows.specs.Maps.{Maps}
+use Rattle.moo_rows.specs.declared.row.PetitionId.{PetitionId}
+use Rattle.moo_world.specs.declared.name.CallName.{CallName}
+use Rattle.moo_world.specs.declared.name.CallName.TheVariants.{Get, Set, PropertyInfo, ClearProperty, IsClearProperty}
+use Rattle.moo_world.specs.declared.name.CallName.TheVariants.{DeleteProperty, SetPropertyInfo}
+use Rattle.moo_world.specs.Objects.{Name, folded, same_object}
+use Rattle.moo_world.specs.Rights.{is_wizard, may_read_object}
+use Rattle.moo_world.specs.Rows.{look_ups, name_on, world_of}
+use Rattle.moo_world.specs.World.{World, chain, property_names_of, slot_of}
+use Rattle.moo_calls_shared.specs.declared.reason.Reason.{Reason}
+use Rattle.moo_calls_shared.specs.declared.reason.Reason.TheVariants.{NoProperty, NotDefined, NotRenamed, NameShared}
+
+-- ---- names that the call may have meant
+
+-- the names of properties that the programmer may list on an object: those that `properties` answers
+abbrev pub names_listed : World → ObjNo → ObjNo → List Name
+names_listed world programmer object = if may_read_object world programmer object then property_names_of world object else []
+
+-- where the property of a call may be defined, on the object and its ancestors: on all of them, or on the object alone
+abbrev pub objects_searched : CallName → List ObjNo → List ObjNo
+objects_searched call chain = elim call [
+  | Get ↦ chain
+  | Set ↦ chain
+  | PropertyInfo ↦ chain
+  | ClearProperty ↦ chain
+  | IsClearProperty ↦ chain
+  | DeleteProperty ↦ take 1 chain
+  | SetPropertyInfo ↦ take 1 chain
+  | _ ↦ []
+]
+
+-- the object and the name that a call begins with
+abbrev pub property_given : List Value → Option (ObjNo × Name)
+property_given (Obj object ∷ Str name ∷ rest) = Some (object, name)
+property_given args = None
+
+-- the object hasn't, or doesn't define, a property of the name
+abbrev pub lacks_property : Reason → Bool
+lacks_property reason = elim reason [ NoProperty object ↦ true | NotDefined object ↦ true | NotRenamed object ↦ true | _ ↦ false ]
+
+-- the first 200 names that the programmer may list there, if the object has no property of the name
+abbrev pub names_near : World → ObjNo → CallName → ObjNo × Name → List Name
+names_near world programmer call (object, name) = if is_some (slot_of world object (folded name)) then []
+    else take 200 (flat_map (names_listed world programmer) (objects_searched call (chain world object)))
+
+-- the names among which the call may have meant one
+abbrev pub names_meant : World → ObjNo → CallName → List Value → Reason → List Name
+names_meant world programmer call args reason =
+    if lacks_property reason then elim (property_given args) [ None ↦ [] | Some given ↦ names_near world programmer call given ] else []
+
+-- ---- the name that clashes
+
+-- the name of a property that this object defines, if the programmer may list what it defines
+abbrev pub clash_name : Maps → ObjNo → Reason → Option Name
+clash_name maps programmer reason = elim reason [
+  | NameShared definer property ↦
+      if may_read_object (world_of maps) programmer definer then name_on (look_ups maps) definer property.0 else None
+  | _ ↦ None
+]
+
+-- ---- the petition that is granted
+
+-- what the petition of a number asks for, if there is one and the programmer may see it
+abbrev pub calls_seen : Maps → ObjNo → PetitionId → Option Values
+calls_seen maps programmer id = option_and_then (λ row.
+    if is_wizard (world_of maps) programmer || same_object row.who programmer then Some row.calls else None) (get maps.petitions id)

@@ -1,0 +1,12 @@
+-- Names that somebody may list.
+use Rattle.std.specs.Prelude.{◌≡◌, true}
+use Rattle.std.specs.List.{Contains}
+use Rattle.moo_value.specs.declared.value.ObjNo.{ObjNo}
+use Rattle.moo_world.specs.Objects.{Name}
+use Rattle.moo_world.specs.Rights.{may_read_object}
+use Rattle.moo_world.specs.World.{World, property_names_of}
+
+-- `properties` of some object answers the programmer with the name, among others
+abbrev pub IsListed : World → ObjNo → Name → Type 0
+IsListed world programmer name =
+    (object : ObjNo) × (may_read_object world programmer object ≡ true) × Contains (property_names_of world object) name
