@@ -22,7 +22,6 @@ module _ {K : Type 0} {cmp : K → K → Ordering} (total : IsTotalOrder cmp) (e
 -- ---- forgetting
 
 module _ {K : Type 0} {cmp : K × PropId → K × PropId → Ordering} (old : FinMap cmp ⊤) (key : PropId) (stays : Option K) where
-
   module _ (total : IsTotalOrder cmp) (exact : CmpEqualImpliesEq cmp) where
     -- an entry stays if another is removed
     still-removed : (k q : K × PropId) → q ≢ k → is_some (get old q) ≡ true → is_some (get (remove old k) q) ≡ true
