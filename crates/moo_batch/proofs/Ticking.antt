@@ -1,5 +1,5 @@
 -- How many ticks are left after a batch.
-use Rattle.std.proofs.Common.{◌≡◌, ◌≤◌, ◌<◌, ℕ, Option, None, Some, refl, sym, subst, ◌∙◌, arith}
+use Rattle.std.proofs.Common.{◌≤◌, ℕ, Option, None, Some, refl, subst, arith}
 use Rattle.moo_batch.{specs.Ticks.{NoneComeBack, TakesOne, TakesTicks, HasMadeCall}, specs.declared.judging.Verdict.{Verdict}}
 
 below_itself : (n : ℕ) → n ≤ n

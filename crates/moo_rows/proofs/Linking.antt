@@ -1,5 +1,5 @@
 -- Which objects may have a link, after more are added and some are forgotten.
-use Rattle.moo_rows.{proofs.Words.{◌≡◌, ◌≢◌, Bool, true, false, cond, ◌||◌, [], ◌∷◌, Option, None, Some, Ordering, Less, Equal, Greater, is_some, refl, sym, ap, ◌∙◌, tied_itself, eq_by_cmp, is_eq, int_eq, FinMap, get, insert, remove, option_map, ⊤, true≢false, Decides-int_eq, ObjNo, ObjRow, PropId, PropRow, object_exact, prop_exact, slot_exact, tie_exact, Maps, object_cmp, prop_cmp, slot_cmp, LinkSets, tie_cmp, is_kept, is_to_nothing, is_candidate, may_have, has_link, ties_of, ties_have, row_has, row_defined, is_linked, is_definer, linked_left, defined_left, IsFirst, AreCovered, AreOfDefiners}, specs.declared.row.Ties.{Ties}, specs.declared.row.Link.{Link}, specs.declared.row.Link.TheVariants.{ChildOf, Within, Player}, proofs.Orders.{object_total, prop_total, slot_total, tie_total}, proofs.Firsts.{lacked-insert, lacked-remove, has-insert, first-end, first-step}}
+use Rattle.moo_rows.{proofs.Words.{◌≡◌, ◌≢◌, Bool, true, false, cond, ◌||◌, [], ◌∷◌, Option, None, Some, Ordering, Less, Equal, Greater, is_some, refl, sym, ap, ◌∙◌, tied_itself, eq_by_cmp, is_eq, int_eq, FinMap, get, insert, remove, option_map, ⊤, true≢false, Decides-int_eq, ObjNo, ObjRow, PropId, PropRow, object_exact, prop_exact, tie_exact, Maps, object_cmp, prop_cmp, slot_cmp, LinkSets, tie_cmp, is_kept, is_to_nothing, is_candidate, may_have, has_link, ties_of, ties_have, row_has, row_defined, is_linked, is_definer, linked_left, defined_left, IsFirst, AreCovered, AreOfDefiners}, specs.declared.row.Ties.{Ties}, specs.declared.row.Link.{Link}, specs.declared.row.Link.TheVariants.{ChildOf, Within, Player}, proofs.Orders.{object_total, prop_total, slot_total, tie_total}, proofs.Firsts.{lacked-insert, lacked-remove, has-insert, first-end, first-step}}
 use Rattle.std.proofs.lemmas.Option.{none-some, same_Some}
 
 module _ (s : LinkSets) where

@@ -1,5 +1,5 @@
 -- What the accepted batches of a run leave of the tables, one after another.
-use Rattle.moo_store.{proofs.Words.{◌≡◌, subst₂, ◌⊎◌, inl, inr, ℕ, zero, suc, ◌<◌, ◌≤◌, Bool, List, [], ◌∷◌, ◌++◌, append_assoc, take, drop, length, get_or, Result, Ok, Err, IsTrue, true, false, refl, sym, ap, subst, ◌∙◌, arith, append-nil, ⊤, Ghosts, Maps, Tables, Rests, Batch, Reply, IsGood, State, Accepted, acknowledged, added, ShowsRows, store_of, ShowsItsRows, IsAt, StandsFor, MatchStore, KeepsRows, BatchesLead, LeavesLed, World, LeavesWritten, unread_of, Writes, StandsOver, HasWritten, WritesOne, IsKnown, taken_of, lost_of, IsMovedBy, StoreFault}, proofs.Crashes.{rows_at_rest, unread_at_rest}, proofs.Numbered.{led-append, led_good, writes_led}, proofs.Running.{Progress, FailsAtStore, by_fault}}
+use Rattle.moo_store.{proofs.Words.{◌≡◌, subst₂, ◌⊎◌, inl, inr, ℕ, zero, suc, ◌<◌, ◌≤◌, Bool, List, [], ◌∷◌, ◌++◌, append_assoc, take, drop, length, get_or, Result, Ok, Err, IsTrue, true, false, refl, sym, ap, subst, ◌∙◌, arith, append-nil, ⊤, Ghosts, Maps, Tables, Rests, Batch, Reply, IsGood, State, acknowledged, added, ShowsRows, store_of, ShowsItsRows, IsAt, StandsFor, MatchStore, KeepsRows, BatchesLead, LeavesLed, World, LeavesWritten, unread_of, Writes, StandsOver, HasWritten, WritesOne, IsKnown, taken_of, lost_of, IsMovedBy, StoreFault}, proofs.Crashes.{rows_at_rest, unread_at_rest}, proofs.Numbered.{led-append, led_good, writes_led}, proofs.Running.{Progress, FailsAtStore, by_fault}}
 use Rattle.moo_store_rows.proofs.Committed.{IsSettled, shown_by, current_by}
 use Rattle.std.proofs.Math.Seq.{drop-append_seam}
 use Rattle.sqlite.specs.State.{State as Database, HasCleanDisk}

@@ -1,5 +1,5 @@
 -- Why one of several readings failed, one after another.
-use Rattle.moo_tables.{proofs.Words.{⊤, ◌≡◌, ◌≤◌, inl, inr, ap, sym, subst, arith, true≢false, ◌∙◌, Result, Ok, Err, IfErr, IsTrue, IsSome, Error, Schema, State, Database, HasCleanDisk, HasCause, Survives, IsUnchanged, HasTables, ReadsTables, FailsToRead, StopsChange, store_error}, specs.ReadCause.{StopsQuery, HasCauseOfReading}}
+use Rattle.moo_tables.{proofs.Words.{◌≡◌, ◌≤◌, inl, inr, ap, sym, subst, arith, true≢false, ◌∙◌, Result, Ok, Err, IfErr, IsTrue, IsSome, Error, Schema, State, Database, HasCleanDisk, HasCause, Survives, IsUnchanged, HasTables, ReadsTables, FailsToRead, store_error}, specs.ReadCause.{StopsQuery, HasCauseOfReading}}
 use Rattle.std.specs.Result.{IsErrAnd}
 use Rattle.sqlite.specs.declared.error.Error.TheVariants.{SqliteFailure}
 use Rattle.sqlite.specs.declared.error.ErrorCode.TheVariants as code

@@ -1,7 +1,6 @@
 -- What the queries of the tables answer.
 use Rattle.moo_tables.{proofs.Words.{ArePairs, slot_pairs, verb_pairs, ◌≡◌, ◌⊎◌, ℕ, ℤ, List, [], ◌∷◌, map, drop, option_map, true, false, Vec, inl, inr, Result, Ok, Err, IfOk, OnOk, OnErr, IsTrue, refl, sym, ap, subst, ◌∙◌, is_eq, ordering_then, IsPermutation, Global, Contains-permutation, IsPermutation-sym, Null, Error, Row, column, value_cmp, Term, eval_all, Query, Output, output, output_cmp, overlay, Schema, Trees, Program, Database, understood, State, HasCleanDisk, Shown, ShowsRows, Survives, CommitsShowing, IsUnchanged, IsRolledBack, timed, IsPlain, reads_as, never_commits, survives_weaker, survives_then, IsAscending, is_int, then-Equal, output_cmp_total, plain, IsSound, Has, all_from, has_contained, contains_had, ascending-map, ascending_from_map, ascending_weaker, all_map, Version, First, Second, Tables, schema_of, slot_tree, head_table, object_table, prop_table, petition_table, petition_head_table, slot2_table, verb_table, has_pair, cells_at, found_in, numbered_in, paired_in, head_places, object_places, prop_places, slot_places, verb_places, petition_places, petition_head_places, select_text, AreKeyed, Holds, Rests, HasTables, ReadsTables, FailsToRead, ListsNumbers, ListsPairs, IsRowBelow, has_key_pair, has_petitions, petition_rows, if◌then◌else◌, find-map, find_alike, plain_query, in_order, number_order, pair_order, clean_before, chosen, Selects, selects, shows_in_order, shown_rows}, proofs.SelectLemmas.{IsSelect, number_columns, pair_columns, slots_table, select_head, select_object, select_prop, select_slot, select_verb, select_petition, select_counter}, proofs.StreamLemmas.{unchanged_then, failed_then}, proofs.SortLemmas.{rises-sort_by}, proofs.ListingLemmas.{lists_numbers, no_ties}}
 use Rattle.std.{proofs.Common.{Ordering, Less, Equal}, specs.Cmp.{on_total}}
-use Rattle.sqlite_schema.specs.declared.schema.Kind.TheVariants.{Integer}
 use Rattle.sqlite_keyed.{specs.Lists.{sort_by}, proofs.SortLemmas.{sorted_is-sort_by, IsPermutation-sort_by, sort_by-map}}
 
 pub unchanged_as : (sql : List ℕ) (params : Row) (old new : State) (rows : List Row) → IsPlain (understood old.now.schema sql) → Shown sql params old new rows → IsUnchanged old new

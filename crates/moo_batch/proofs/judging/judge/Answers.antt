@@ -2,7 +2,7 @@ use Rattle.std.{proofs.Common.{◌≡◌, ◌+◌, ◌<◌, [], true, false, ref
 use Rattle.moo_rows.{specs.Maps.{Base, Held}, specs.declared.row.Head.{Head}}
 use Rattle.moo_world.{specs.Between.{CallsLead}, specs.Judge.{is_due, last_seq, verdict_of, run_calls, Accepted}, specs.Judge.{state_of}}
 use Rattle.moo_memory.specs.Changes.{AreChanges}
-use Rattle.moo_batch.{specs.Seeing.{IsTrueStop}, proofs.TrueInBatch.{stopped-seen}, specs.Judge.{IsVerdict}, specs.declared.judging.Verdict.TheVariants.{OutOfMemory}, proofs.Ticking.{none_taken, one_taken}, proofs.Verdicts.{judge-stale, judge-full, judge-run, with_seq, good-with_seq, world_of-with_seq, stopped-so}}
+use Rattle.moo_batch.{specs.Seeing.{IsTrueStop}, proofs.TrueInBatch.{stopped-seen}, specs.Judge.{IsVerdict}, specs.declared.judging.Verdict.TheVariants.{OutOfMemory}, proofs.Ticking.{none_taken}, proofs.Verdicts.{judge-stale, judge-full, judge-run, with_seq, good-with_seq, world_of-with_seq, stopped-so}}
 use Rattle.moo_batch.proofs.judging.judge.Goals as goal
 
 pub returns-then-not-is_due-clause-verdict : goal.returns-then-not-is_due-clause-verdict
