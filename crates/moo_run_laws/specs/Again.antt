@@ -44,8 +44,8 @@ abbrev pub LeadTo : Maps → Maps → List Batch → List Batch → Type 0
 LeadTo rows end batches others = (more : ℕ) × (more ≤ 1) × BatchesLead (batches ++ take more others) rows end
 
 module _ {T D : Type 0} {g : Ghosts D} where
-  -- The words name a task, and if it takes up its file, which held this image, it runs from s. Or it fails for a cause, and no damage is
-  -- told. Or the words have a mistake.
+  -- If words name a task that takes up its file, which held this image, on a clean disk it runs from s, or fails for a cause and tells no
+  -- damage. Or they have a mistake.
   abbrev pub TakesUp : List (List ℕ) → Image → State → Ends T D g → Run → Type 0
   TakesUp words image s ends run =
       ((task : Task) × NamesTask words task × (begins_anew task ≡ false → MatchFile ends
@@ -53,7 +53,7 @@ module _ {T D : Type 0} {g : Ghosts D} where
       (λ remains. IsCleanRemains remains → FailsFor task.file.now image remains run)))
       ⊎ ((1 < length words) × EndsUsage words run.before run.after run.status × HasNoFile ends)
 
-  -- As `TakesUp`: the words name a task, and if it takes up its file and runs, it runs from these rows. Or they have a mistake.
+  -- As `TakesUp`: a task that takes up its file, on a clean disk, runs from these rows if it runs. Or the words have no file.
   abbrev pub TakesRows : List (List ℕ) → Maps → Ends T D g → Run → Type 0
   TakesRows words rows ends run =
       ((task : Task) × NamesTask words task × (begins_anew task ≡ false → MatchFile ends
@@ -83,8 +83,8 @@ module _ {T D : Type 0} {g : Ghosts D} where
   abbrev pub IsFoundOf : Image → Remains T D g → Image → Type 0
   IsFoundOf image rest next = BytesLeave image rest next ⊎ IsLeftAfter image rest next
 
-  -- The image is what the files hold once their connection is closed, or any bytes that the disk leaves of them then. If closing failed, it
-  -- is any bytes that the disk leaves of the store that came back, as long as the trees of that are numbered.
+  -- The image is what the files hold once their connection is closed, or any bytes that the disk leaves of them then. If closing failed,
+  -- it is what `LeftStoreLeaves` allows of the store that came back.
   abbrev pub IsFoundIn : Remains T D g → Image → Type 0
   IsFoundIn (remains.Leftover (left.Files now)) next = (next ≡ image_of g now) ⊎ outcomes g now.log now.db next
   IsFoundIn (remains.Leftover (left.Store now)) next = LeftStoreLeaves now next

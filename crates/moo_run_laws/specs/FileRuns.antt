@@ -51,9 +51,9 @@ module _ {S T D : Type 0} {g : Runs.Ghosts S T D} {disk : Ghosts D} where
   abbrev pub IsFileRun : FileRun g disk → Type 0
   IsFileRun r = RunsOver r.words r.image r.ends (run_of r)
 
-  -- What may be found after it: what a crash leaves, or any bytes that the disk leaves, if the run is stopped before the file is closed; or
-  -- what the closed file holds, or any bytes that the disk leaves of it. If no task ran over the file: any bytes that the disk leaves of it,
-  -- or what a crash leaves, before it is closed or after that.
+  -- What may be found after it. Before the file is closed: any files of a database that a crash leaves, or any bytes that the disk leaves.
+  -- After that: what the closed file holds, or any bytes that the disk leaves. If no task ran over the file: any bytes that the disk
+  -- leaves of it, or what a crash leaves, before or after.
   abbrev pub IsFoundAfter : FileRun g disk → Image → Type 0
   IsFoundAfter r next = IfRan r.ends
       (λ conn. IsLeftBy (file_state conn) next ⊎ (DiskLeaves conn next ⊎ IsFoundIn r.closed next))
@@ -70,16 +70,16 @@ module _ {S T D : Type 0} {g : Runs.Ghosts S T D} {disk : Ghosts D} where
   abbrev pub IsFoundOnCleanDisk : FileRun g disk → Image → Type 0
   IsFoundOnCleanDisk r next = IsLeftByCrash r next ⊎ (IsClosedEnd r.ends r.closed × IsCleanRemains r.closed × IsFoundAfter r next)
 
-  -- It leads its file to a state of which this is true. If a task ran over the file, from the state that the file held or from a new world
-  -- to an end: to one that this end may leave. If none did: to the state that the file held.
+  -- It leads its file to a state of which this is true: if a task ran over the file, from each state that this held, or from a new world,
+  -- to one that its end may leave; if none did, to each that the file held.
   abbrev pub GoesTo : FileRun g disk → (State → Type 0) → Type 0
   GoesTo r Then = IfRan r.ends
       (λ conn. (task : Task) × NamesTask r.words task × Started task r.image (run_of r).given (λ s.
       (ran : RanFrom task s conn (run_of r)) × (t : State) × MayLeave ran.end t × Then t))
       (λ rest. (s : State) → HoldsState r.image s → Then s)
 
-  -- The same of rows: it leads to rows to which its batches lead from those that it started from, or these and one in which the store
-  -- failed. What stays keeps its number, and none is given again.
+  -- The same of rows: it leads to rows to which its acknowledged batches lead from its first rows, or these and one in which the store
+  -- failed. What stays keeps its number; none is given again.
   abbrev pub GoesToRows : FileRun g disk → (Maps → Type 0) → Type 0
   GoesToRows r Then = IfRan r.ends
       (λ conn. (task : Task) × NamesTask r.words task × StartedRows task r.image (run_of r).given (λ rows.
@@ -95,12 +95,12 @@ module _ {S T D : Type 0} {g : Runs.Ghosts S T D} {disk : Ghosts D} where
       (end : Stand) × ServedTo (run_of r).given.ports service.port s end × (t : State) × MayLeave end t × Then t))
       (λ rest. (s : State) → HoldsState r.image s → Then s)
 
-  -- It goes on from this state: its files hold it; and if its words name a task that takes up its file, that runs from the state, or fails
-  -- for a cause, and no damage is told.
+  -- It goes on from this state: its files hold it; and a task that takes up its file, on a clean disk, runs from it, or fails for a cause,
+  -- and no damage is told.
   abbrev pub GoesOnFrom : FileRun g disk → State → Type 0
   GoesOnFrom r s = HoldsState r.image s × TakesUp r.words r.image s r.ends (run_of r)
 
-  -- The same of rows: its files hold them; and if its words name a task that takes up its file and runs, it runs from them.
+  -- The same of rows: its files hold them; and a task that takes up its file and runs, on a clean disk, runs from them.
   abbrev pub GoesOnFromRows : FileRun g disk → Maps → Type 0
   GoesOnFromRows r rows = HoldsRows r.image rows × TakesRows r.words rows r.ends (run_of r)
 

@@ -18,13 +18,13 @@ use Rattle.moo_run.specs.declared.ends.Ends.{Ends}
 use Rattle.moo_run.specs.declared.session.Runs as Runs
 
 module _ {D : Type 0} {g : Ghosts D} where
-  -- closing shut the store of this connection: it couldn't sync the database file, or turn its log over
+  -- closing shut the store: it stopped at the sync of the database file, or as it turned its log over
   abbrev pub IsShutByClosing : Held (FileStore D g) → FileStore D g → Type 0
   IsShutByClosing conn now = IsTrue (view conn.store).is_open × ((view now).is_open ≡ false)
 
 module _ {T D : Type 0} {g : Ghosts D} where
-  -- What the disk may leave of the two files of this connection once it is closed, whether or not closing failed: any bytes. If closing
-  -- shut the store, they hold a database that it may leave.
+  -- The bytes that the disk may leave of the two files of this connection once it is closed, or closing failed: any; if closing shut
+  -- the store, only those that hold a database it may leave.
   abbrev pub ClosedLeaves : Image → Held (FileStore D g) → Remains T D g → Image → Type 0
   ClosedLeaves image conn (remains.Leftover (left.Store now)) next =
       ((¬ IsShutByClosing conn now) × StoreLeaves now next) ⊎ HoldsSuch (recovers now) next
@@ -36,7 +36,7 @@ module _ {T D : Type 0} {g : Ghosts D} where
 
 module _ {S T D N U E : Type 0} (g : Runs.Ghosts S T D) {disk : Ghosts D} (h : Runs.Ghosts N U E) {other : Ghosts E} where
   -- A run from such a session came to a stop, and then the next one ran; each ended so, and its file was closed. If the disk of the first
-  -- returned what was written, and the files of the second held any bytes of the two files that it then leaves, the first hands them over.
+  -- returned what was written, and the files of the second held bytes that `EndLeaves` allows, the first hands them over.
   abbrev pub HaltsBefore : (S → Type 0) → (S → Ends T D disk → FileRun g disk) → (Ends U E other → FileRun h other) → Type 0
   HaltsBefore Began run_by next_by = (began : S) × Began began × (ends : Ends T D disk) × (next_ends : Ends U E other)
       × (let first = run_by began ends in let next = next_by next_ends in

@@ -1,4 +1,4 @@
--- What stops after so many calls, by what it is made of.
+-- A source that stops, by what it is made of.
 use Rattle.std.specs.Prelude.{◌≡◌, ◌⊎◌, Option, Some, None}
 use Rattle.moo_run_laws.specs.declared.connections.HaltingConnections.{HaltingConnections}
 

@@ -17,8 +17,8 @@ use Rattle.moo_run.specs.declared.ends.Ends.TheVariants as variant
 use Rattle.moo_run.specs.declared.session.Runs as Runs
 
 module _ {T D : Type 0} {disk : Ghosts D} where
-  -- What the words wrote and the status tell how they ended. If no world was opened or made, they tell of a failure. If no file was opened,
-  -- the words name a task on `:memory:`, or have a mistake.
+  -- If no world of the words' file was opened or made, a failure is told, with its status. If they have no file, they name a task on
+  -- `:memory:`, or a mistake is told, or that memory ran out.
   abbrev pub TellsEnd : List (List ℕ) → Ends T D disk → Run → Type 0
   TellsEnd words (variant.Ran conn) run = ⊤
   TellsEnd words (variant.Refused rest) run = (failure : Failure) × Reports failure run.before run.after run.status
@@ -32,16 +32,16 @@ module _ {S T D : Type 0} {g : Runs.Ghosts S T D} {disk : Ghosts D} where
   EndsClosed r = TellsEnd r.words r.ends (run_of r) × IsClosedEnd r.ends r.closed
 
 module _ {S T D N U E : Type 0} (g : Runs.Ghosts S T D) {disk : Ghosts D} (h : Runs.Ghosts N U E) {other : Ghosts E} where
-  -- Each of the two runs ended so, and then its file was closed. If the disk of the first returned what was written, and the files of the
-  -- second held what is found after the first, then this hands them over to it.
+  -- Each of the two runs ended so, and then its file was closed. If the disk of the first returned what was written until then, and the
+  -- files of the second held what may be found after it, it hands them over.
   abbrev pub RunsTwice : (Ends T D disk → FileRun g disk) → (Ends U E other → FileRun h other) → Type 0
   RunsTwice run_by next_by = (ends : Ends T D disk) × (next_ends : Ends U E other)
       × (let first = run_by ends in let next = next_by next_ends in
       EndsClosed first × EndsClosed next
       × (IsCleanRemains first.closed → IsFoundAfter first next.image → HandsOver first next))
 
-  -- The same if the process stopped before the first file was closed: if the files of the second run held what may be found on a disk that
-  -- returned what was written until a crash, or that would have until the file was closed, however that was done.
+  -- The same if the process stopped before the first file was closed. Its disk returned what was written until then, if the files of the
+  -- second held what a crash left; else it would have until the file was closed, in some way.
   abbrev pub StopsAndRuns : (Remains T D disk → FileRun g disk) → (Ends U E other → FileRun h other) → Type 0
   StopsAndRuns run_by next_by = (next_ends : Ends U E other)
       × (let next = next_by next_ends in

@@ -17,8 +17,8 @@ use sqlite_disk::Fuse;
 /// Runs words as the program does, by `run_to_end`, until the run comes to a stop. Then other words run over what the disk leaves.
 ///
 /// A process that is stopped has made so many calls of its log and of its database file, written so many bytes of its output, and taken
-/// so many connections. This run with these numbers does the same, and is then refused everything. So the disk leaves the same bytes of the
-/// two files, and the output has the same acknowledgements. A write or a cut in progress counts as made, and a sync as not made.
+/// so many connections. This run with these numbers does the same, and then gets no more of these. So (no clause says it) the disk leaves
+/// the same bytes, and the run acknowledges no less. A write or a cut in progress counts as made, and a sync as not made.
 pub fn run_halted<'s, 'n, S: Streams, N: Streams>(
     session: Session<'s, S>,
     halt: Halt,
@@ -39,7 +39,7 @@ pub fn run_halted<'s, 'n, S: Streams, N: Streams>(
         N.Host.may_open next.old.host task.file.now }
     requires next_read { (task : Task) (path : List ℕ) → NamesTask (map (λ word. word.now) next_words.now) task →
         ReadsFile task path → N.Host.may_read next.old.host path }
-    // Whatever bytes the disk then leaves, the next run starts from a state after the acknowledged batches, or after one more.
+    // From bytes of `EndLeaves` the next run starts after the acknowledged batches (of a service, all that ran), or one more.
     ensures halted { HaltsBefore ⟦<Session<'s, HaltingStreams<S>> as Runs>⟧ ⟦<Session<'n, N> as Runs>⟧
         (λ began. (began.host ≡ record { inner = session.entry.host; halt = halt }) × (began.input ≡ session.entry.input)
         × (began.output ≡ record { inner = session.entry.output; bytes_left = halt.bytes }))

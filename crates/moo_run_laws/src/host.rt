@@ -13,15 +13,15 @@ use sqlite_std_file::OpenError;
 use std::fs::Metadata;
 use std::io::Result as IoResult;
 
-/// When a run comes to a stop.
+/// All that a run is granted.
 #[derive(Clone, Copy, Drop)]
 pub struct Halt {
-    /// After so many calls of its log, and so many of its database file.
+    /// So many calls of its log, and so many of its database file.
     pub log_calls: u64,
     pub db_calls: u64,
-    /// After so many bytes of its output.
+    /// So many bytes of its output.
     pub bytes: usize,
-    /// After so many connections.
+    /// So many connections.
     pub connections: u32,
 }
 

@@ -4,7 +4,7 @@ ghost use Rattle.moo_run_laws.specs.FileRuns.{FileRun, Follows, HandsOver};
 
 use moo_run::Runs;
 
-/// The program runs over a file, on a disk that is honest, and is stopped before the file is closed, or closes it. It runs again over what
+/// The program runs over a file, on a disk that is honest, to the end of its words, and closes it or is stopped. It runs again over what
 /// is then found: it goes on from a state that the first run may leave.
 ///
 /// A run is what the clause `over` of `run_words` says of it: any words, with any input, over any host. `run_to_end`, the call that the

@@ -1,6 +1,6 @@
 //! The laws of the program: what a run leaves of its file, and what the next run finds.
 //!
-//! No program calls them. A run here is any call of `run_to_end` of `moo_run`, which is the call that the program makes.
+//! No program calls them. A run here is a call of `run_words` of `moo_run`, or of `run_to_end`, which the program calls.
 #![tactic(auto)]
 
 mod again;
