@@ -5,13 +5,10 @@ use Rattle.moo_world.specs.Codes.{E_QUOTA}
 use Rattle.moo_world.specs.Outcomes.{given}
 use Rattle.moo_world.specs.Requests.{petitions}
 use Rattle.moo_world.specs.Arguments.{beside_object, desc_of, one_object, object_and_text, object_and_desc}
-use Rattle.moo_world.specs.BuiltIns.{built_in}
 use Rattle.moo_world.specs.PropertyCalls.{by_field}
 use Rattle.moo_world.specs.declared.built_in.BuiltIn.{BuiltIn}
-use Rattle.moo_world.specs.declared.descriptor.Desc.{Desc}
 use Rattle.moo_world.specs.declared.name.CallName.TheVariants.{Valid, Parent, Children, IsPlayer, Players, MaxObject, Get, Properties, PropertyInfo, IsClearProperty, Verbs, VerbInfo, VerbArgs, AcceptList}
 use Rattle.moo_world.specs.declared.name.PetitionCall.{PetitionCall}
-use Rattle.moo_world.specs.declared.name.PetitionCall.TheVariants.{Petitions as to_list}
 use Rattle.moo_world.specs.Judge.{Ran, Through, FailedAt, FullAt, Verdict, Accepted, Refused, NoRoom, Stale, after_one, run_calls, is_due, last_seq, verdict_of, judge}
 use Rattle.moo_laws.specs.Reading.{is_question}
 use Rattle.moo_laws.specs.Agreeing.{lists_petitions, only_asks}

@@ -1,5 +1,5 @@
 -- Where rows show a state, rows with the same properties show each that is alike.
-use Rattle.moo_world.{proofs.Lemmas.{◌≡◌, ℕ, Bool, true, false, cond, T, ◌&&◌, List, [], ◌∷◌, map, refl, sym, ap, subst, ◌∙◌, Option, Some, None, is_some, unwrap_or, if◌then◌else◌, option_map, option_and_then, none-some, same_Some, slice_get, FinMap, entries, entries_sorted, get, get-entries, is_sorted, Ordering, ObjNo, ObjRow, PropId, PropRow, SlotState, Name, same_text, same_text-Decides, folded, State, World, WorldObject, Slot, SameButSlots, slot_of, with_slots, without_slots, same_world, key-Decides}}
+use Rattle.moo_world.{proofs.Lemmas.{◌≡◌, ℕ, Bool, true, false, cond, T, ◌&&◌, List, [], ◌∷◌, map, refl, sym, ap, subst, ◌∙◌, Option, Some, None, unwrap_or, if◌then◌else◌, option_map, option_and_then, none-some, same_Some, slice_get, FinMap, entries, entries_sorted, get, get-entries, is_sorted, Ordering, ObjNo, ObjRow, PropId, PropRow, Name, same_text, same_text-Decides, folded, State, World, WorldObject, Slot, SameButSlots, slot_of, with_slots, without_slots, same_world, key-Decides}}
 use Rattle.std.specs.FinMap.{from_sorted, get-from_sorted}
 use Rattle.std.specs.FinMap.Entries.{below_all, find}
 use Rattle.std.specs.List.{cons_option, filter_map}

@@ -1,5 +1,5 @@
 -- What the refusal of a batch says is true of rows of each state that looks the same to the programmer.
-use Rattle.moo_world.{proofs.Lemmas.{◌≡◌, ℕ, zero, suc, Bool, true, false, ◌||◌, List, [], ◌∷◌, refl, sym, ap, subst, ◌∙◌, Option, Some, None, list_all, and_parts, ObjNo, Value, State, IsFormed, is_wizard, Outcome, Done, Failed, Full, batch_call, arguments_fit}, proofs.Form.Petitions.{requests_keep_form}, specs.declared.call.Call.{Call}}
+use Rattle.moo_world.{proofs.Lemmas.{◌≡◌, ℕ, zero, suc, true, false, ◌||◌, List, [], ◌∷◌, refl, sym, ap, subst, ◌∙◌, Some, None, list_all, and_parts, ObjNo, State, IsFormed, is_wizard, Outcome, Done, Failed, Full, batch_call, arguments_fit}, proofs.Form.Petitions.{requests_keep_form}, specs.declared.call.Call.{Call}}
 use Rattle.std.specs.Prelude.{◌≢◌}
 use Rattle.moo_rows.specs.Maps.{Maps}
 use Rattle.moo_world.specs.Codes.{E_QUOTA}

@@ -1,6 +1,6 @@
 //! Laws of the model: what holds of any batches, one after another, whoever sends them; and what calls tell.
 //!
-//! No crate uses these laws, so a new one costs the check of this crate alone.
+//! Of the crates above only `moo_run_laws` is proved anew after a new law.
 #![tactic(auto)]
 
 mod batches;
