@@ -42,6 +42,15 @@ module _ (p : ObjNo) (maps other : Maps) (rest : SameButSlots (world_of maps) (w
       by (Some t) f h = (t, f, same_Some (emptied_slot t) (emptied_slot slot) h)
       by None f h = absurd (none-some (emptied_slot slot) h)
 
+  shared_true : other.props ≡ maps.props → (definer : ObjNo) (property : PropId) → StaysTrue (NameShared definer property)
+  shared_true props definer property h = if_about about.object _ _ (λ x k. if_about about.place _ _ (λ q e. (
+    (λ i. is_among x (chains p _ _ rest definer i)) ∙ e.0,
+    e.1,
+    ap (λ held. get held property) props ∙ e.2,
+    e.3,
+    has_same p _ _ rest slots q (folded e.1.name) ∙ e.4,
+  )) k) h
+
   pub stays_true : (reason : Reason) → ((owner : ObjNo) → reason ≡ NoQuota owner → may_afford (world_of maps) owner ≡ false → may_afford (world_of other) owner ≡ false)
       → ((definer : ObjNo) (property : PropId) → StaysTrue (NameShared definer property)) → StaysTrue NoPetition → StaysTrue NotAsker → StaysTrue reason
   stays_true NoProgrammer quota shared none asker h = objects p _ _ rest p ∙ h
@@ -88,15 +97,6 @@ module _ (p : ObjNo) (maps other : Maps) (alike : AlikeFor p (state_of maps) (st
   afforded : (owner : ObjNo) → may_afford (world_of other) owner ≡ may_afford (world_of maps) owner
   afforded owner = λ i. same_object nothing owner || unwrap_or (option_map (λ quota. int_lt (pos 0) quota) (quota_same p (world_of maps) (world_of other) alike.worlds owner i)) true
 
-  shared : (definer : ObjNo) (property : PropId) → Stays (NameShared definer property)
-  shared definer property h = if_about about.object _ _ (λ x k. if_about about.place _ _ (λ q e. (
-    (λ i. is_among x (chains p _ _ rest definer i)) ∙ e.0,
-    e.1,
-    ap (λ held. get held property) props ∙ e.2,
-    e.3,
-    has_same p _ _ rest alike.worlds.slots q (folded e.1.name) ∙ e.4,
-  )) k) h
-
   abbrev numbered : PetitionId → Option PetitionRow → Option (PetitionId × PetitionRow)
   numbered id o = option_map (λ row. (id, row)) o
 
@@ -131,7 +131,20 @@ module _ (p : ObjNo) (maps other : Maps) (alike : AlikeFor p (state_of maps) (st
       by (negsuc n) (found, here, h) = absurd (none-some found here)
 
   pub alike_true : (reason : Reason) → Stays reason
-  alike_true reason = stays_true p maps other rest alike.worlds.slots about reason (λ owner e h. afforded owner ∙ h) shared no_petition not_asker
+  alike_true reason = stays_true p maps other rest alike.worlds.slots about reason (λ owner e h. afforded owner ∙ h) (shared_true p maps other rest alike.worlds.slots about props) no_petition not_asker
+
+-- ---- states that agree
+
+not_about : {A : Type 0} (o : Option A) (P : A → Type 0) → o ≡ None → IfAbout o P → ⊥
+not_about None P e holds = holds
+not_about (Some a) P e holds = none-some a (sym e)
+
+module _ (p : ObjNo) (maps other : Maps) (agree : AgreeFor p (state_of maps) (state_of other)) (about : About) (bare : about.number ≡ None) (reason : Reason) (apart : error_of reason ≢ E_QUOTA) where
+  agree_by : ((definer : ObjNo) (property : PropId) → StaysTrue p maps other agree.worlds.rest agree.worlds.slots about (NameShared definer property)) → IsTrueOf maps p about reason → IsTrueOf other p about reason
+  agree_by shared = stays_true p maps other agree.worlds.rest agree.worlds.slots about reason (λ owner e h. absurd (apart (ap error_of e))) shared (λ h. absurd (not_about about.number _ bare h)) (λ h. absurd (not_about about.number _ bare h))
+
+  pub agree_true : other.props ≡ maps.props → IsTrueOf maps p about reason → IsTrueOf other p about reason
+  agree_true props = agree_by (shared_true p maps other agree.worlds.rest agree.worlds.slots about props)
 
 -- ---- calls that only read
 
@@ -171,19 +184,12 @@ request_reading p call h = by (is_question call.name) refl
     by true e = subst (λ o. IsReading (AboutBy o)) (sym (of_world call.name e)) (about_reading p call.name call.args e)
     by false e = subst (λ o. IsReading (AboutBy o)) (sym (to_the_list call.name (either _ _ h e))) (given_reading (no_values call.args) _ (λ _. record { place = refl; number = refl }))
 
-not_about : {A : Type 0} (o : Option A) (P : A → Type 0) → o ≡ None → IfAbout o P → ⊥
-not_about None P e holds = holds
-not_about (Some a) P e holds = none-some a (sym e)
-
 no_about : {A : Type 0} (o : Option A) (P : A → Type 0) → ((a : A) → P a → ⊥) → IfAbout o P → ⊥
 no_about None P h holds = holds
 no_about (Some a) P h holds = h a holds
 
-pub agree_true : (p : ObjNo) (maps other : Maps) → AgreeFor p (state_of maps) (state_of other) → (call : Call) → (is_question call.name || lists_petitions call.name) ≡ true → (reason : Reason) → error_of reason ≢ E_QUOTA
+pub reading_true : (p : ObjNo) (maps other : Maps) → AgreeFor p (state_of maps) (state_of other) → (call : Call) → (is_question call.name || lists_petitions call.name) ≡ true → (reason : Reason) → error_of reason ≢ E_QUOTA
     → IsTrueOf maps p (about_request p call) reason → IsTrueOf other p (about_request p call) reason
-agree_true p maps other agree call reads reason apart =
+reading_true p maps other agree call reads reason apart =
     let about = request_reading p call reads in
-    stays_true p maps other agree.worlds.rest agree.worlds.slots (about_request p call) reason (λ owner e h. absurd (apart (ap error_of e)))
-    (λ definer property h. absurd (no_about (about_request p call).object _ (λ x k. not_about (about_request p call).place _ about.place k) h))
-    (λ h. absurd (not_about (about_request p call).number _ about.number h))
-    (λ h. absurd (not_about (about_request p call).number _ about.number h))
+    agree_by p maps other agree (about_request p call) about.number reason apart (λ definer property h. absurd (no_about (about_request p call).object _ (λ x k. not_about (about_request p call).place _ about.place k) h))

@@ -15,7 +15,7 @@ use Rattle.moo_laws.proofs.GuardedChecks.{Both}
 use Rattle.moo_laws.proofs.Ranks.{none_after}
 use Rattle.moo_laws.proofs.ReadingBatches.{SameStep, step as reading_step}
 use Rattle.moo_laws.proofs.RowsShown.{rows_alike}
-use Rattle.moo_laws.proofs.TrueReasons.{agree_true, alike_true}
+use Rattle.moo_laws.proofs.TrueReasons.{alike_true, reading_true}
 
 -- a refusal that isn't of a call that a granted petition holds
 refused_by : (refusal : Refusal) → refusal.held ≡ None → refusal_fault refusal ≡ Moo refusal.reason
@@ -53,7 +53,7 @@ module _ (p : ObjNo) (reason : Reason) (apart : error_of reason ≢ E_QUOTA) whe
   call_reads : (calls : List Call) (place : ℕ) (maps other : Maps) → AgreeFor p (state_of maps) (state_of other) → list_all (λ call. is_question call.name || lists_petitions call.name) calls ≡ true
       → IsTrueOfCall p calls place maps (Moo reason) → IsTrueOfCall p calls place other (Moo reason)
   call_reads [] place maps other agree reads h = absurd h
-  call_reads (call ∷ calls) zero maps other agree reads h = agree_true p maps other agree call (and_parts (is_question call.name || lists_petitions call.name) _ reads).0 reason apart h
+  call_reads (call ∷ calls) zero maps other agree reads h = reading_true p maps other agree call (and_parts (is_question call.name || lists_petitions call.name) _ reads).0 reason apart h
   call_reads (call ∷ calls) (suc place) maps other agree reads (answer, next, done, more) =
       by (batch_call (state_of other) p call) refl (subst (λ o. SameStep p (state_of maps) (state_of other) o (batch_call (state_of other) p call)) done (reading_step p (state_of maps) (state_of other) agree call parts.0))
       (λ agree. call_reads calls place next other agree parts.1 more)
