@@ -14,14 +14,14 @@ use Rattle.moo_disclosure.specs.Disclosed.{clash_name, lacks_property, names_lis
 -- ---- the same on rows that differ in values alone
 
 module _ (p : ObjNo) (w v : World) (rest : SameButSlots w v) where
-  may_list : (x : ObjNo) → may_read_object v p x ≡ may_read_object w p x
+  pub may_list : (x : ObjNo) → may_read_object v p x ≡ may_read_object w p x
   may_list x = ap (λ (r : ObjNo → Option ObjRow). (unwrap_or (option_map (λ row. same_object p row.owner) (r x)) false || unwrap_or (option_map (λ row. row.wizard) (r p)) false) || unwrap_or (option_map (λ row. row.r) (r x)) false) (same_rows w v rest)
 
   listed_same : (x : ObjNo) → names_listed v p x ≡ names_listed w p x
   listed_same x = λ i. if may_list x i then (sym (names_same w v rest) i x) else []
 
   module _ (slots : (x : ObjNo) (n : Name) → option_map emptied_slot (slot_of v x n) ≡ option_map emptied_slot (slot_of w x n)) where
-    has_same : (x : ObjNo) (n : Name) → is_some (slot_of v x n) ≡ is_some (slot_of w x n)
+    pub has_same : (x : ObjNo) (n : Name) → is_some (slot_of v x n) ≡ is_some (slot_of w x n)
     has_same x n = sym (emptied (slot_of v x n)) ∙ ap is_some (slots x n) ∙ emptied (slot_of w x n)
       where
         emptied : (o : Option Slot) → is_some (option_map emptied_slot o) ≡ is_some o

@@ -22,9 +22,9 @@ module _ (p : ObjNo) where
   in_both s t alike Full (Done b y) same = absurd same
   in_both s t alike Full (Failed d) same = absurd same
 
-  step : (s t : State) → IsFormed s → is_wizard s.world p ≡ false → AlikeFor p s t → (call : Call) → Both (AlikeFor p) (batch_call s p call) (batch_call t p call)
+  pub step : (s t : State) → IsFormed s → is_wizard s.world p ≡ false → AlikeFor p s t → (call : Call) → Both (AlikeFor p) (batch_call s p call) (batch_call t p call)
   unfolding batch_call
-  step s t formed none alike call = on_checks (AlikeFor p) (is_object s.world p) (is_object t.world p) _ _ _ (objects p s.world t.world alike.worlds p) (λ _. by (petition_call call.name))
+  step s t formed none alike call = on_checks (AlikeFor p) (is_object s.world p) (is_object t.world p) _ _ _ (objects p s.world t.world alike.worlds.rest p) (λ _. by (petition_call call.name))
     where
       by : (o : Option PetitionCall) → Both (AlikeFor p) (elim o [ None ↦ in_world s (named_call s.world p call.name call.args) | Some c ↦ petition_call_by s p c call.args ]) (elim o [ None ↦ in_world t (named_call t.world p call.name call.args) | Some c ↦ petition_call_by t p c call.args ])
       by None = in_both s t alike _ _ (tells p s.world t.world formed.world none alike.worlds call.name call.args)

@@ -21,33 +21,33 @@ module _ (p : ObjNo) (w v : World) (wf : IsWellFormed w) (none : is_wizard w p �
   Rel x y = SameButGuarded p x y
 
   object_there : (x : ObjNo) (code : Code) (r s : Outcome World) → (is_object w x ≡ true → Both Rel r s) → Both Rel (check (is_object w x) (Failed code) r) (check (is_object v x) (Failed code) s)
-  object_there x code r s h = on_checks Rel (is_object w x) (is_object v x) code r s (objects p w v alike x) h
+  object_there x code r s h = on_checks Rel (is_object w x) (is_object v x) code r s (objects p w v alike.rest x) h
 
   -- ---- objects
 
   creates : (q owner : ObjNo) → Both Rel (create w p q owner) (create v p q owner)
   creates q owner =
-      on_checks Rel _ _ _ _ _ (parents_allowed p w v alike q) λ _.
-      on_checks Rel _ _ _ _ _ (owners_allowed p w v alike owner) λ _.
-      on_checks Rel _ _ _ _ _ (known p w v alike owner) λ _.
+      on_checks Rel _ _ _ _ _ (parents_allowed p w v alike.rest q) λ _.
+      on_checks Rel _ _ _ _ _ (owners_allowed p w v alike.rest owner) λ _.
+      on_checks Rel _ _ _ _ _ (known p w v alike.rest owner) λ _.
       on_checks Rel _ _ _ _ _ (λ i. same_object nothing owner || unwrap_or (option_map (λ quota. int_lt (pos 0) quota) (quota_same p w v alike owner i)) true) λ _.
-      on_nexts Rel _ _ _ _ (numbered p w v alike) λ x.
+      on_nexts Rel _ _ _ _ (numbered p w v alike.rest) λ x.
       (refl, charged_alike p (created w x q (owner_or_self x owner)) (created v x q (owner_or_self x owner)) (alike_rebuilt p w v alike _ _ q (both_added p w v alike x (plain_object q (owner_or_self x owner)))) owner)
 
   changes_parent : (x q : ObjNo) → Both Rel (chparent w p x q) (chparent v p x q)
   changes_parent x q =
       object_there x _ _ _ λ _.
-      on_checks Rel _ _ _ _ _ (known p w v alike q) λ _.
-      on_checks Rel _ _ _ _ _ (controlled p w v alike x) λ _.
-      on_checks Rel _ _ _ _ _ (parents_allowed p w v alike q) λ _.
-      on_checks Rel _ _ _ _ _ (λ i. not (is_among x (chains p w v alike q i))) λ _.
-      on_checks Rel _ _ _ _ _ (λ i. not (names_shared p w v alike x q i)) λ _.
+      on_checks Rel _ _ _ _ _ (known p w v alike.rest q) λ _.
+      on_checks Rel _ _ _ _ _ (controlled p w v alike.rest x) λ _.
+      on_checks Rel _ _ _ _ _ (parents_allowed p w v alike.rest q) λ _.
+      on_checks Rel _ _ _ _ _ (λ i. not (is_among x (chains p w v alike.rest q i))) λ _.
+      on_checks Rel _ _ _ _ _ (λ i. not (names_shared p w v alike.rest x q i)) λ _.
       (refl, alike_rebuilt p w v alike _ _ q (both_changed w v x (λ entry. record entry { row = record entry.row { parent = q } }) alike.rest (λ r. refl)))
 
   recycles : (x : ObjNo) → Both Rel (recycle w p x) (recycle v p x)
   recycles x =
       object_there x _ _ _ λ _.
-      on_checks Rel _ _ _ _ _ (controlled p w v alike x) λ _. (
+      on_checks Rel _ _ _ _ _ (controlled p w v alike.rest x) λ _. (
         refl,
         subst (λ (owner : ObjNo → ObjNo). Rel (quota_returned (recycled w x) (owner_of w x)) (quota_returned (recycled v x) (owner x))) (owners_same w v alike.rest)
             (returned_alike p (recycled w x) (recycled v x) (alike_rebuilt p w v alike _ _ nothing (both_removed p w v alike x)) (owner_of w x)),
@@ -56,22 +56,22 @@ module _ (p : ObjNo) (w v : World) (wf : IsWellFormed w) (none : is_wizard w p �
   moves : (x q : ObjNo) → Both Rel (move w p x q) (move v p x q)
   moves x q =
       object_there x _ _ _ λ _.
-      on_checks Rel _ _ _ _ _ (known p w v alike q) λ _.
-      on_checks Rel _ _ _ _ _ (controlled p w v alike x) λ _.
-      on_checks Rel _ _ _ _ _ (λ i. wizards p w v alike i || accepting p w v alike q x i) λ _.
-      on_checks Rel _ _ _ _ _ (λ i. not (within p w v alike q x i)) λ _.
+      on_checks Rel _ _ _ _ _ (known p w v alike.rest q) λ _.
+      on_checks Rel _ _ _ _ _ (controlled p w v alike.rest x) λ _.
+      on_checks Rel _ _ _ _ _ (λ i. wizards p w v alike.rest i || accepting p w v alike.rest q x i) λ _.
+      on_checks Rel _ _ _ _ _ (λ i. not (within p w v alike.rest q x i)) λ _.
       (refl, alike_rows p w v alike x _)
 
   flags : (x : ObjNo) (value : Value) → Both Rel (set_player_flag w p x value) (set_player_flag v p x value)
   flags x value =
       object_there x _ _ _ λ _.
-      on_checks Rel _ _ _ _ _ (wizards p w v alike) λ _.
+      on_checks Rel _ _ _ _ _ (wizards p w v alike.rest) λ _.
       (refl, alike_rows p w v alike x _)
 
   sets_list : (x : ObjNo) (list : Option (List ObjNo)) → Both Rel (set_accept w p x list) (set_accept v p x list)
   sets_list x list =
       object_there x _ _ _ λ _.
-      on_checks Rel _ _ _ _ _ (controlled p w v alike x) λ _.
+      on_checks Rel _ _ _ _ _ (controlled p w v alike.rest x) λ _.
       on_checks Rel _ _ _ _ _ (λ i. nat_le (length (unwrap_or list [])) 1000) λ _.
       (refl, alike_rows p w v alike x _)
 
@@ -82,11 +82,11 @@ module _ (p : ObjNo) (w v : World) (wf : IsWellFormed w) (none : is_wizard w p �
       object_there x _ _ _ λ _.
       on_fields Rel (built_in n) _ _ _ _
       (λ f. on_givens Rel (change_of f value) _ _ λ c.
-      on_checks Rel _ _ _ _ _ (settable p w v alike x f) λ _.
-      on_checks Rel _ _ _ _ _ (owner_there p w v alike c) λ _.
+      on_checks Rel _ _ _ _ _ (settable p w v alike.rest x f) λ _.
+      on_checks Rel _ _ _ _ _ (owner_there p w v alike.rest c) λ _.
       (refl, alike_rows p w v alike x _))
       (on_slots p w v alike Rel x (folded n) _ _ _ λ a b e same.
-      on_checks Rel _ _ _ _ _ (slots_writable p w v alike a b same) λ _.
+      on_checks Rel _ _ _ _ _ (slots_writable p w v alike.rest a b same) λ _.
       (refl, alike_changed p w v alike x n (λ s. record s { state = Set value }) (λ s. refl) (λ s t e. e) (λ s e shut. shut)))
 
   adds : (x : ObjNo) (n : Name) (value : Value) (info : Info) → Both Rel (add_property w p x n value info) (add_property v p x n value info)
@@ -94,9 +94,9 @@ module _ (p : ObjNo) (w v : World) (wf : IsWellFormed w) (none : is_wizard w p �
       object_there x _ _ _ λ xo.
       object_there info.0 _ _ _ λ _.
       on_founds Rel _ _ _ _ _ refl λ bits.
-      on_checks Rel _ _ _ _ _ (writable p w v alike x) λ _.
-      on_checks Rel _ _ _ _ _ (owners_allowed p w v alike info.0) λ _.
-      on_checks Rel _ _ _ _ _ (definable p w v alike x n) λ may.
+      on_checks Rel _ _ _ _ _ (writable p w v alike.rest x) λ _.
+      on_checks Rel _ _ _ _ _ (owners_allowed p w v alike.rest info.0) λ _.
+      on_checks Rel _ _ _ _ _ (definable p w v alike.rest x n) λ may.
       on_rooms Rel _ _ _ _ (ap (λ (k : World). nat_lt k.next_prop 4294967295) (sym alike.rest))
       (refl, alike_added p w v alike wf x n (record { definer = x; owner = info.0; bits = bits; state = Set value }) xo (free x n may) refl)
     where
@@ -106,15 +106,15 @@ module _ (p : ObjNo) (w v : World) (wf : IsWellFormed w) (none : is_wizard w p �
   deletes : (x : ObjNo) (n : Name) → Both Rel (delete_property w p x n) (delete_property v p x n)
   deletes x n =
       object_there x _ _ _ λ _.
-      on_checks Rel _ _ _ _ _ (writable p w v alike x) λ _.
-      on_checks Rel _ _ _ _ _ (defining p w v alike x n) λ _.
+      on_checks Rel _ _ _ _ _ (writable p w v alike.rest x) λ _.
+      on_checks Rel _ _ _ _ _ (defining p w v alike.rest x n) λ _.
       (refl, alike_rebuilt p w v alike _ _ nothing (both_changed w v x (λ entry. record entry { defines = filter (λ defined_name. not (same_text (folded defined_name) (folded n))) entry.defines }) alike.rest (λ r. refl)))
 
   clears : (x : ObjNo) (n : Name) → Both Rel (clear_property w p x n) (clear_property v p x n)
   clears x n =
       object_there x _ _ _ λ _.
       on_slots p w v alike Rel x (folded n) _ _ _ λ a b e same.
-      on_checks Rel _ _ _ _ _ (slots_writable p w v alike a b same) λ _.
+      on_checks Rel _ _ _ _ _ (slots_writable p w v alike.rest a b same) λ _.
       on_checks Rel _ _ _ _ _ (λ i. not (same_object (same i).definer x)) λ _.
       (refl, alike_changed p w v alike x n (λ s. record s { state = Clear }) (λ s. refl) (λ s t e. e) (λ s e shut. shut))
 
@@ -127,15 +127,15 @@ module _ (p : ObjNo) (w v : World) (wf : IsWellFormed w) (none : is_wizard w p �
       on_founds Rel _ _ _ _ _ refl λ bits.
       on_checks Rel _ _ _ _ _ (λ i. has_word names) λ _.
       on_founds Rel _ _ _ _ _ refl λ given_args.
-      on_checks Rel _ _ _ _ _ (writable p w v alike x) λ _.
-      on_checks Rel _ _ _ _ _ (owners_allowed p w v alike info.0) λ _.
+      on_checks Rel _ _ _ _ _ (writable p w v alike.rest x) λ _.
+      on_checks Rel _ _ _ _ _ (owners_allowed p w v alike.rest info.0) λ _.
       on_rooms Rel _ _ _ _ (ap (λ (k : World). nat_lt k.next_verb 4294967295) (sym alike.rest))
       (refl, next_verb_alike p _ _ (alike_verbs p w v alike x (λ verbs. verbs ++ record { names = names; owner = info.0; bits = bits; args = given_args } ∷ [])))
 
   deletes_verb : (x : ObjNo) (d : Desc) → Both Rel (delete_verb w p x d) (delete_verb v p x d)
   deletes_verb x d =
       object_there x _ _ _ λ _.
-      on_checks Rel _ _ _ _ _ (writable p w v alike x) λ _.
+      on_checks Rel _ _ _ _ _ (writable p w v alike.rest x) λ _.
       on_founds Rel _ _ _ _ _ (same_verb w v alike.rest x d) λ found.
       (refl, alike_verbs p w v alike x _)
 
@@ -146,8 +146,8 @@ module _ (p : ObjNo) (w v : World) (wf : IsWellFormed w) (none : is_wizard w p �
       object_there info.0 _ _ _ λ _.
       on_founds Rel _ _ _ _ _ refl λ bits.
       on_checks Rel _ _ _ _ _ (λ i. has_word names) λ _.
-      on_checks Rel _ _ _ _ _ (verbs_writable p w v alike found.1) λ _.
-      on_checks Rel _ _ _ _ _ (owners_allowed p w v alike info.0) λ _.
+      on_checks Rel _ _ _ _ _ (verbs_writable p w v alike.rest found.1) λ _.
+      on_checks Rel _ _ _ _ _ (owners_allowed p w v alike.rest info.0) λ _.
       (refl, alike_verbs p w v alike x _)
 
   sets_verb_args : (x : ObjNo) (d : Desc) (args : Name × Name × Name) → Both Rel (set_verb_args w p x d args) (set_verb_args v p x d args)
@@ -155,7 +155,7 @@ module _ (p : ObjNo) (w v : World) (wf : IsWellFormed w) (none : is_wizard w p �
       object_there x _ _ _ λ _.
       on_founds Rel _ _ _ _ _ (same_verb w v alike.rest x d) λ found.
       on_founds Rel _ _ _ _ _ refl λ given_args.
-      on_checks Rel _ _ _ _ _ (verbs_writable p w v alike found.1) λ _.
+      on_checks Rel _ _ _ _ _ (verbs_writable p w v alike.rest found.1) λ _.
       (refl, alike_verbs p w v alike x _)
 
   -- ---- bits and names of properties
@@ -166,10 +166,10 @@ module _ (p : ObjNo) (w v : World) (wf : IsWellFormed w) (none : is_wizard w p �
       on_slots p w v alike Rel x (folded n) _ _ _ λ a b e same.
       object_there info.0 _ _ _ λ there.
       on_founds Rel _ _ _ _ _ refl λ bits.
-      on_checks Rel _ _ _ _ _ (slots_writable p w v alike a b same) λ may.
-      on_checks Rel _ _ _ _ _ (λ i. same_object info.0 (same i).owner || wizards p w v alike i) λ _.
-      on_checks Rel _ _ _ _ _ (renamable p w v alike x n new) λ good.
-      (refl, renamed_alike p w v wf none alike x n a e (written_is_shown p w v alike none (folded n) a may) info.0 bits there new good)
+      on_checks Rel _ _ _ _ _ (slots_writable p w v alike.rest a b same) λ may.
+      on_checks Rel _ _ _ _ _ (λ i. same_object info.0 (same i).owner || wizards p w v alike.rest i) λ _.
+      on_checks Rel _ _ _ _ _ (renamable p w v alike.rest x n new) λ good.
+      (refl, renamed_alike p w v wf none alike x n a e (written_is_shown p w v alike.rest none (folded n) a may) info.0 bits there new good)
 
   -- ---- each call by its name
 

@@ -3,6 +3,7 @@ use Rattle.moo_world.{proofs.Lemmas.{◌≡◌, Bool, true, false, ◌&&◌, ◌
 use Rattle.std.specs.Prelude.{Err}
 use Rattle.moo_world.specs.Outcomes.{given, with_next}
 use Rattle.moo_world.specs.PropertyCalls.{by_field}
+use Rattle.moo_world.specs.Rights.{may_read_slot, may_read_verb}
 use Rattle.moo_world.specs.Objects.{object_at}
 use Rattle.moo_world.specs.Rows.{numbers_below}
 use Rattle.moo_world.specs.declared.built_in.BuiltIn.{BuiltIn}
@@ -60,10 +61,7 @@ on_fields Q None f g r s h k = k
 locations_bare : (o : Option WorldObject) → option_map (λ (r : WorldObject). r.row.location) o ≡ option_map (λ (r : ObjRow). r.location) (option_map (λ (r : WorldObject). r.row) o)
 locations_bare o = grind arith
 
-module _ (p : ObjNo) (w v : World) (alike : SameButGuarded p w v) where
-  abbrev rest : SameButSlots w v
-  rest = alike.rest
-
+module _ (p : ObjNo) (w v : World) (rest : SameButSlots w v) where
   rows_same : row_of v ≡ row_of w
   rows_same = same_rows w v rest
 
@@ -90,6 +88,9 @@ module _ (p : ObjNo) (w v : World) (alike : SameButGuarded p w v) where
 
   pub writable : (x : ObjNo) → may_write_object v p x ≡ may_write_object w p x
   writable x = λ i. controlled x i || passing (λ row. row.w) x i
+
+  pub verbs_readable : (verb : VerbRow) → may_read_verb v p verb ≡ may_read_verb w p verb
+  verbs_readable verb = λ i. wizards i || (same_object p verb.owner || verb.bits.r)
 
   pub verbs_writable : (verb : VerbRow) → may_write_verb v p verb ≡ may_write_verb w p verb
   verbs_writable verb = λ i. wizards i || (same_object p verb.owner || verb.bits.w)
@@ -161,6 +162,9 @@ module _ (p : ObjNo) (w v : World) (alike : SameButGuarded p w v) where
 
   -- ---- slots
 
+  pub slots_readable : (a b : Slot) → emptied_slot b ≡ emptied_slot a → may_read_slot v p b ≡ may_read_slot w p a
+  slots_readable a b same = λ i. wizards i || (same_object p (same i).owner || (same i).bits.r)
+
   pub slots_writable : (a b : Slot) → emptied_slot b ≡ emptied_slot a → may_write_slot v p b ≡ may_write_slot w p a
   slots_writable a b same = λ i. wizards i || (same_object p (same i).owner || (same i).bits.w)
 
@@ -168,6 +172,7 @@ module _ (p : ObjNo) (w v : World) (alike : SameButGuarded p w v) where
   pub written_is_shown : is_wizard w p ≡ false → (n : Name) (a : Slot) → may_write_slot w p a ≡ true → is_shut p n a ≡ false
   written_is_shown none n a may = grind arith
 
+module _ (p : ObjNo) (w v : World) (alike : SameButGuarded p w v) where
   pub on_slots : (Q : World → World → Type 0) (x : ObjNo) (n : Name) (code : Code) (f g : Slot → Outcome World) → ((a b : Slot) → slot_of w x n ≡ Some a → emptied_slot b ≡ emptied_slot a → Both Q (f a) (g b)) → Both Q (found_or (slot_of w x n) code f) (found_or (slot_of v x n) code g)
   on_slots Q x n code f g h = by (slot_of w x n) refl (slot_of v x n) (alike.slots x n)
     where

@@ -9,12 +9,22 @@ use Rattle.moo_laws.proofs.PetitionsSeen.{same_list}
 use Rattle.moo_laws.proofs.Unseen.{seen_own}
 use Rattle.moo_laws.proofs.GuardedChecks.{Both, on_checks, on_rooms, on_givens, wizards}
 
+-- a petition is the programmer's own in both states or in neither
+pub owned_alike : (p : ObjNo) (a b : PetitionRow) → ◌≡◌ {A = Option PetitionRow} (if same_object b.who p then Some b else None) (if same_object a.who p then Some a else None) → same_object b.who p ≡ same_object a.who p
+owned_alike p a b e = by (same_object a.who p) (same_object b.who p) e
+  where
+    by : (x y : Bool) → ◌≡◌ {A = Option PetitionRow} (if y then Some b else None) (if x then Some a else None) → y ≡ x
+    by true true e = refl
+    by false false e = refl
+    by true false e = absurd (none-some a e)
+    by false true e = absurd (none-some b (sym e))
+
 module _ (p : ObjNo) (s t : State) (alike : AlikeFor p s t) (none : is_wizard s.world p ≡ false) where
   abbrev Rel : State → State → Type 0
   Rel x y = AlikeFor p x y
 
   none_too : is_wizard t.world p ≡ false
-  none_too = wizards p s.world t.world alike.worlds ∙ none
+  none_too = wizards p s.world t.world alike.worlds.rest ∙ none
 
   abbrev own_now : Option PetitionRow → Option PetitionRow
   own_now o = option_and_then (λ row. if same_object row.who p then Some row else None) o
@@ -59,7 +69,7 @@ module _ (p : ObjNo) (s t : State) (alike : AlikeFor p s t) (none : is_wizard s.
   lists = (ap (λ es. list_of (map listed es)) (same_list s t p (λ id. seen_own p t id none_too ∙ alike.own id ∙ sym (seen_own p s id none))), alike)
 
   grants : (number : ℤ) → Both Rel (grant s p number) (grant t p number)
-  grants number = on_checks Rel _ _ _ _ _ (wizards p s.world t.world alike.worlds) (λ may. absurd (both_ways (is_wizard s.world p) none may))
+  grants number = on_checks Rel _ _ _ _ _ (wizards p s.world t.world alike.worlds.rest) (λ may. absurd (both_ways (is_wizard s.world p) none may))
 
   one_less : (id : PetitionId) → AlikeFor p (without id s) (without id t)
   one_less id = record {
@@ -78,16 +88,6 @@ module _ (p : ObjNo) (s t : State) (alike : AlikeFor p s t) (none : is_wizard s.
       by_own true o q e = refl
       by_own false o q e = e
 
-  -- a petition is the programmer's own in both states or in neither
-  owned_alike : (a b : PetitionRow) → ◌≡◌ {A = Option PetitionRow} (if same_object b.who p then Some b else None) (if same_object a.who p then Some a else None) → same_object b.who p ≡ same_object a.who p
-  owned_alike a b e = by (same_object a.who p) (same_object b.who p) e
-    where
-      by : (x y : Bool) → ◌≡◌ {A = Option PetitionRow} (if y then Some b else None) (if x then Some a else None) → y ≡ x
-      by true true e = refl
-      by false false e = refl
-      by true false e = absurd (none-some a e)
-      by false true e = absurd (none-some b (sym e))
-
   abbrev taken_away : State → Option (PetitionId × PetitionRow) → Outcome State
   taken_away u o = found_or o InvalidArgument (λ found. check (same_object found.1.who p || is_wizard u.world p) (Failed Permission) (Done zero (without found.0 u)))
 
@@ -95,7 +95,7 @@ module _ (p : ObjNo) (s t : State) (alike : AlikeFor p s t) (none : is_wizard s.
   declines_one id None None e same = refl
   declines_one id None (Some b) e same = absurd (false≢true (sym e))
   declines_one id (Some a) None e same = absurd (false≢true e)
-  declines_one id (Some a) (Some b) e same = on_checks Rel _ _ _ _ _ (λ i. owned_alike a b same i || wizards p s.world t.world alike.worlds i) λ _. (refl, one_less id)
+  declines_one id (Some a) (Some b) e same = on_checks Rel _ _ _ _ _ (λ i. owned_alike p a b same i || wizards p s.world t.world alike.worlds.rest i) λ _. (refl, one_less id)
 
   declines : (number : ℤ) → Both Rel (decline s p number) (decline t p number)
   declines (pos n) = declines_one (petition_id n) (get s.petitions (petition_id n)) (get t.petitions (petition_id n)) (alike.numbers (petition_id n)) (alike.own (petition_id n))

@@ -23,3 +23,8 @@ pub mod QuotaCalls
 pub mod QuotaBatches
 pub mod QuotaSums
 pub mod Disclosing
+pub mod RowsShown
+pub mod TrueReasons
+pub mod ReadingErrors
+pub mod TrueRefusals
+pub mod OneReason

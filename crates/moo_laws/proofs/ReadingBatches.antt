@@ -52,20 +52,20 @@ stays w p Petitions values h = absurd (false≢true h)
 stays w p Grant values h = absurd (false≢true h)
 stays w p Decline values h = absurd (false≢true h)
 
-of_world : (name : CallName) → is_question name ≡ true → petition_call name ≡ None
+pub of_world : (name : CallName) → is_question name ≡ true → petition_call name ≡ None
 of_world name h = grind arith
 
-to_the_list : (name : CallName) → lists_petitions name ≡ true → petition_call name ≡ Some to_list
+pub to_the_list : (name : CallName) → lists_petitions name ≡ true → petition_call name ≡ Some to_list
 to_the_list name h = grind arith
 
-either : (a b : Bool) → (a || b) ≡ true → (a ≡ false → b ≡ true)
+pub either : (a b : Bool) → (a || b) ≡ true → (a ≡ false → b ≡ true)
 either a b h = grind arith
 
 -- ---- one call from two states
 
 module _ (p : ObjNo) (s t : State) where
   -- one answer or one error, and each state stays
-  abbrev SameStep : Outcome State → Outcome State → Type 0
+  abbrev pub SameStep : Outcome State → Outcome State → Type 0
   SameStep (Done a x) (Done b y) = (b ≡ a) × ((x ≡ s) × (y ≡ t))
   SameStep (Failed c) (Failed d) = d ≡ c
   SameStep Full Full = Unit {0}
@@ -114,7 +114,7 @@ module _ (p : ObjNo) (s t : State) where
     listed_step : (values : List Value) → SameStep (petition_call_by s p to_list values) (petition_call_by t p to_list values)
     listed_step values = step_given (no_values values) _ _ (λ _. (ap (λ es. list_of (map listed es)) (same_list s t p agree.petitions), (refl, refl)))
 
-    step : (call : Call) → (is_question call.name || lists_petitions call.name) ≡ true → SameStep (batch_call s p call) (batch_call t p call)
+    pub step : (call : Call) → (is_question call.name || lists_petitions call.name) ≡ true → SameStep (batch_call s p call) (batch_call t p call)
     unfolding batch_call
     step call h = step_checked (is_object s.world p) (is_object t.world p) _ _ _ (ap (λ f. f p) (there p s.world t.world agree.worlds)) (by (is_question call.name) refl)
       where

@@ -1,6 +1,6 @@
 //! Laws of the model: what holds of any batches, one after another, whoever sends them; and what calls tell.
 //!
-//! No crate uses these laws, so a new one costs the check of this crate alone.
+//! Of the crates above only `moo_run_laws` is proved anew after a new law.
 #![tactic(auto)]
 
 mod batches;
@@ -8,6 +8,7 @@ mod guarded;
 mod numbers;
 mod questions;
 mod quotas;
+mod reasons;
 mod refusals;
 mod rights;
 
@@ -16,5 +17,6 @@ pub use guarded::batches_tell_no_more;
 pub use numbers::object_numbers_stay;
 pub use questions::questions_tell_no_more;
 pub use quotas::kept_quotas_move;
+pub use reasons::{reasons_tell_no_more, wrong_values_have_one_reason};
 pub use refusals::refusals_tell_no_more;
 pub use rights::nobody_rises;
