@@ -9,6 +9,7 @@ ghost use Rattle.sqlite.specs.Held.{state};
 ghost use Rattle.sqlite.specs.State.{HasCleanDisk};
 ghost use Rattle.moo_tables_rows.specs.Tables.{Tables, schema_of};
 ghost use Rattle.moo_tables_rows.specs.Inside.{Rests, ReadsTables, FailsToRead};
+ghost use Rattle.moo_tables.specs.ReadCause.{HasCauseOfReading};
 ghost use Rattle.moo_cells.specs.Each.{ShowEach};
 ghost use Rattle.moo_cells.specs.Shows.{ShowsRows};
 ghost use Rattle.moo_cells.specs.Taken.{TakesObjects, TakesProps, TakesSlots, TakesVerbs, TakesTables};
@@ -47,6 +48,7 @@ fn show_objects<S: Alter>(
     ensures shown { IfOk result (λ show. show ≡ true →
         TakesObjects version (state S.Store conn.old) (state S.Store conn.new) rows.now.maps rows.now.maps) }
     ensures failed { OnErr result (FailsToRead (schema_of version) (state S.Store conn.old) (state S.Store conn.new)) }
+    ensures cause { HasCauseOfReading (schema_of version) (state S.Store conn.old) (state S.Store conn.new) result }
 {
     let cells = object_cells_of(alloc, conn, version)?;
     Ok(are_shown::<ObjRow>(alloc, version, &cells, rows))
@@ -64,6 +66,7 @@ fn show_props<S: Alter>(
     ensures shown { IfOk result (λ show. show ≡ true →
         TakesProps version (state S.Store conn.old) (state S.Store conn.new) rows.now.maps rows.now.maps) }
     ensures failed { OnErr result (FailsToRead (schema_of version) (state S.Store conn.old) (state S.Store conn.new)) }
+    ensures cause { HasCauseOfReading (schema_of version) (state S.Store conn.old) (state S.Store conn.new) result }
 {
     let cells = prop_cells_of(alloc, conn, version)?;
     Ok(are_shown::<PropRow>(alloc, version, &cells, rows))
@@ -81,6 +84,7 @@ fn show_slots<S: Alter>(
     ensures shown { IfOk result (λ show. show ≡ true →
         TakesSlots version (state S.Store conn.old) (state S.Store conn.new) rows.now.maps rows.now.maps) }
     ensures failed { OnErr result (FailsToRead (schema_of version) (state S.Store conn.old) (state S.Store conn.new)) }
+    ensures cause { HasCauseOfReading (schema_of version) (state S.Store conn.old) (state S.Store conn.new) result }
 {
     let cells = slot_cells_of(alloc, conn, version)?;
     Ok(are_shown::<SlotRow>(alloc, version, &cells, rows))
@@ -98,6 +102,7 @@ fn show_verbs<S: Alter>(
     ensures shown { IfOk result (λ show. show ≡ true →
         TakesVerbs version (state S.Store conn.old) (state S.Store conn.new) rows.now.maps rows.now.maps) }
     ensures failed { OnErr result (FailsToRead (schema_of version) (state S.Store conn.old) (state S.Store conn.new)) }
+    ensures cause { HasCauseOfReading (schema_of version) (state S.Store conn.old) (state S.Store conn.new) result }
 {
     let cells = verb_cells_of(alloc, conn, version)?;
     Ok(are_shown::<VerbRow>(alloc, version, &cells, rows))
@@ -115,6 +120,7 @@ fn show_tables<S: Alter>(
     ensures shown { IfOk result (λ show. show ≡ true →
         TakesTables version (state S.Store conn.old) (state S.Store conn.new) rows.now.maps rows.now.maps) }
     ensures failed { OnErr result (FailsToRead (schema_of version) (state S.Store conn.old) (state S.Store conn.new)) }
+    ensures cause { HasCauseOfReading (schema_of version) (state S.Store conn.old) (state S.Store conn.new) result }
 {
     let objects = show_objects(alloc, conn, version, rows)?;
     if !objects {
@@ -146,6 +152,7 @@ pub fn show_in_turn<S: Alter>(
     ensures shown { HasCleanDisk (state S.Store conn.new) → IfOk result (λ show. show ≡ true → (tables : Tables) →
         Rests (state S.Store conn.old) tables → tables.version ≡ version → ShowsRows tables rows.now.maps) }
     ensures failed { OnErr result (FailsToRead (schema_of version) (state S.Store conn.old) (state S.Store conn.new)) }
+    ensures cause { HasCauseOfReading (schema_of version) (state S.Store conn.old) (state S.Store conn.new) result }
 {
     let (head, petition, petition_head) = small_cells_of(alloc, conn, version)?;
     if !are_each_numbered(&head, &petition, &petition_head) {

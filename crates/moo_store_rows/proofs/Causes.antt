@@ -1,5 +1,6 @@
 -- Why the world of tables isn't opened.
-use Rattle.moo_store_rows.{proofs.Words.{inl, inr, ◌≡◌, ◌≢◌, ◌∙◌, sym, ap, subst, Version, Tables, schema_of, Rests, HasTables, ReadsTables, StoreFault, Store, OutOfMemory, HasCleanDisk}, specs.Opening.{StopsBy}}
+use Rattle.moo_store_rows.{proofs.Words.{inl, inr, ◌≡◌, ◌≢◌, ◌∙◌, sym, ap, subst, Version, Tables, schema_of, Rests, HasTables, ReadsTables, StoreFault, Store, OutOfMemory, HasCleanDisk, IsGood, Maps, ShowsRows, SaysOr, StopsBy, IsOfStore}, specs.declared.fault.StoreFault.TheVariants.{Damaged, NewerVersion, Closed}}
+use Rattle.moo_cells.proofs.CellsLemmas.{none_met, not_newer}
 use Rattle.moo_tables.{specs.declared.reading.CellLists.{CellLists}, specs.Listing.{ListsTables, AreListed}, specs.ReadCause.{StopsQuery}, proofs.ReadCauseLemmas.{query_stops_since}}
 use Rattle.moo_tables_rows.specs.Cause.{StopsChange}
 use Rattle.sqlite.{specs.State.{State as Database, store_error}, specs.declared.error.Error.{Error}, specs.declared.error.Error.TheVariants.{SqliteFailure}, specs.declared.error.ErrorCode.TheVariants.{NotADatabase}}
@@ -28,6 +29,54 @@ ran_out P fault is = subst (StopsBy P) (sym is) tt
 pub stops_more : (P Q : Error → Type 0) (fault : StoreFault) → ((error : Error) → P error → Q error) → StopsBy P fault → StopsBy Q fault
 stops_more P Q (Store error) more it = more error it
 stops_more P Q fault more it = it
+
+-- ---- what a fault says of tables
+
+pub says_more : (P Q : Type 0) (tables : Tables) (fault : StoreFault) → (P → Q) → SaysOr P tables fault → SaysOr Q tables fault
+says_more P Q tables (Store error) more it = more it
+says_more P Q tables (Damaged kind key) more it = it
+says_more P Q tables NewerVersion more it = it
+says_more P Q tables OutOfMemory more it = more it
+says_more P Q tables Closed more it = it
+
+-- a fault with a cause of the store, or want of memory, says nothing of them
+pub says_cause : (P : Error → Type 0) (Q : Type 0) (tables : Tables) (fault : StoreFault) → (StopsBy P fault → Q) → StopsBy P fault → SaysOr Q tables fault
+says_cause P Q tables (Store error) more it = more it
+says_cause P Q tables (Damaged kind key) more it = absurd it
+says_cause P Q tables NewerVersion more it = absurd it
+says_cause P Q tables OutOfMemory more it = more it
+says_cause P Q tables Closed more it = absurd it
+
+pub says_of_store : (Q : Type 0) (tables : Tables) (fault : StoreFault) → IsOfStore fault → Q → SaysOr Q tables fault
+says_of_store Q tables (Store error) of it = it
+says_of_store Q tables (Damaged kind key) of it = absurd of
+says_of_store Q tables NewerVersion of it = absurd of
+says_of_store Q tables OutOfMemory of it = it
+says_of_store Q tables Closed of it = absurd of
+
+pub cause_of_store : (P : Error → Type 0) (fault : StoreFault) → StopsBy P fault → IsOfStore fault
+cause_of_store P (Store error) it = tt
+cause_of_store P (Damaged kind key) it = absurd it
+cause_of_store P NewerVersion it = absurd it
+cause_of_store P OutOfMemory it = tt
+cause_of_store P Closed it = absurd it
+
+-- nothing is wrong with tables that show good rows
+pub says_nothing : (Q : Type 0) (tables : Tables) (rows : Maps) (fault : StoreFault) → ShowsRows tables rows → IsGood rows → SaysOr Q tables fault → Q
+says_nothing Q tables rows (Store error) shows good it = it
+says_nothing Q tables rows (Damaged kind key) shows good it = absurd (none_met tables rows shows good kind key it.1.1.0)
+says_nothing Q tables rows NewerVersion shows good it = absurd (not_newer tables rows shows good it)
+says_nothing Q tables rows OutOfMemory shows good it = it
+says_nothing Q tables rows Closed shows good it = absurd it
+
+pub of_store : (Q : Type 0) (tables : Tables) (rows : Maps) (fault : StoreFault) → ShowsRows tables rows → IsGood rows → SaysOr Q tables fault → IsOfStore fault
+of_store Q tables rows (Store error) shows good it = tt
+of_store Q tables rows (Damaged kind key) shows good it = absurd (none_met tables rows shows good kind key it.1.1.0)
+of_store Q tables rows NewerVersion shows good it = absurd (not_newer tables rows shows good it)
+of_store Q tables rows OutOfMemory shows good it = tt
+of_store Q tables rows Closed shows good it = absurd it
+
+-- ---- after other calls
 
 pub has_tables : (store : Database) (version : Version) (tables : Tables) → Rests store tables → tables.version ≡ version → HasTables (schema_of version) store
 has_tables store version tables rests is = rests.holds.schema ∙ ap schema_of is

@@ -1,7 +1,8 @@
 -- From what was read of a connection to what is opened.
-use Rattle.moo_store_rows.{proofs.Words.{◌≡◌, ◌⊎◌, inl, inr, IsTrue, false, sym, ap, subst, ◌∙◌, Trees, Ghosts, Held, state, Maps, IsGood, state_of, Version, Tables, schema_of, Rests, RestsAt, HasTables, ReadsTables, FailsToRead, stays, clean_before, ShowsRows, Says, IsOfStore, Adopts, TakesOver, StoreFault, Store, OutOfMemory, IsEarlier}, proofs.Versions.{version_is}}
+use Rattle.moo_store_rows.{proofs.Words.{◌≡◌, ◌⊎◌, inl, inr, IsTrue, false, sym, ap, subst, ◌∙◌, Trees, Ghosts, Held, state, Maps, IsGood, state_of, Version, Tables, schema_of, Rests, RestsAt, HasTables, ReadsTables, FailsToRead, stays, clean_before, ShowsRows, Adopts, IsOfStore, TakesOver, StoreFault, IsEarlier}, specs.Opening.{StopsOpening, IsUnadopted}, specs.States.{ShowsState}, proofs.Causes.{says_nothing, of_store}, proofs.Versions.{version_is}}
 use Rattle.sqlite.{specs.Effect.{Database as Content}, proofs.StateLemmas.{survives_then}, specs.State.{State as Database, HasCleanDisk, IsUnchanged, IsRolledBack, Survives}}
 use Rattle.moo_tables.proofs.ReadLemmas.{rests_on}
+use Rattle.moo_world.specs.Judge.{State}
 
 -- a refusal leaves the database as it was
 pub at_rest : (old new : Database) → (IsTrue old.is_open → old.now ≡ old.committed) → new.in_transaction ≡ false → IsUnchanged old new ⊎ IsRolledBack old new → IsTrue new.is_open → RestsAt new old.now
@@ -89,8 +90,10 @@ module _ {S : Type 0} (g : Ghosts S) (old mid : Held S) (version : Version) (row
         let shown = (read.same early has).0 in
         subst (RestsAt (state g new)) (shown.committed_is ∙ sym (settled shown.was_open)) (undone clean opened)
 
--- a fault of the store says nothing of any tables
-pub says_of_store : (tables : Tables) (fault : StoreFault) → IsOfStore fault → Says tables fault
-says_of_store tables (Store error) it = tt
-says_of_store tables OutOfMemory it = tt
-says_of_store tables fault it = absurd it
+-- tables that show a state were refused: nothing is wrong with them
+module _ {S : Type 0} (g : Ghosts S) (conn last : Held S) (fault : StoreFault) (it : IsUnadopted g conn fault last) (s : State) (shows : ShowsState (state g conn) s) (clean : HasCleanDisk (state g last)) where
+  pub stops_on_state : StopsOpening shows.tables (state g conn) (state g last) fault
+  stops_on_state = says_nothing (StopsOpening shows.tables (state g conn) (state g last) fault) shows.tables shows.rows fault shows.shows shows.good (it.cause shows.tables shows.rests clean)
+
+  pub refused_of_store : IsOfStore fault
+  refused_of_store = of_store (StopsOpening shows.tables (state g conn) (state g last) fault) shows.tables shows.rows fault shows.shows shows.good (it.cause shows.tables shows.rests clean)

@@ -23,13 +23,14 @@ use Rattle.moo_store_rows.specs.Current.{RestsCurrent}
 use Rattle.moo_store_rows.specs.declared.fault.StoreFault.{StoreFault}
 use Rattle.moo_store_rows.specs.declared.fault.StoreFault.TheVariants.{Store, Damaged, NewerVersion, OutOfMemory, Closed}
 
--- what a fault of opening says of the tables: Store and OutOfMemory nothing, and Closed never comes
-abbrev pub Says : Tables → StoreFault → Type 0
-Says tables (Store error) = ⊤
-Says tables (Damaged kind key) = Damage tables kind key
-Says tables NewerVersion = IsNewer tables
-Says tables OutOfMemory = ⊤
-Says tables Closed = ⊥
+-- What a fault says of these tables: a damage that it tells is their first, or they are of a later version. Any other fault has this cause,
+-- and Closed never comes.
+abbrev pub SaysOr : Type 0 → Tables → StoreFault → Type 0
+SaysOr Cause tables (Store error) = Cause
+SaysOr Cause tables (Damaged kind key) = Damage tables kind key
+SaysOr Cause tables NewerVersion = IsNewer tables
+SaysOr Cause tables OutOfMemory = Cause
+SaysOr Cause tables Closed = ⊥
 
 -- a fault that says nothing of the tables
 abbrev pub IsOfStore : StoreFault → Type 0
@@ -47,14 +48,14 @@ StopsBy Cause NewerVersion = ⊥
 StopsBy Cause OutOfMemory = ⊤
 StopsBy Cause Closed = ⊥
 
--- the tables are of an earlier version
-abbrev pub HasEarlier : Database → Type 0
-HasEarlier conn = (version : Version) × IsEarlier version × HasTables (schema_of version) conn
+-- they are of an earlier version and show good rows: such tables are migrated
+abbrev pub AreMigrated : Tables → Type 0
+AreMigrated tables = IsEarlier tables.version × ((rows : Maps) × IsGood rows × ShowsRows tables rows)
 
--- Why tables that show a state aren't opened: memory ran out, or a query of them stopped; or, if they are of an earlier version, their
--- migration stopped.
-abbrev pub StopsOpening : Database → Database → StoreFault → Type 0
-StopsOpening conn last = StopsBy (λ error. StopsQuery conn last error ⊎ (HasEarlier conn × StopsChange conn last error))
+-- Why these tables aren't opened, though nothing is wrong with them: memory ran out, or a query of them stopped; or their migration did.
+abbrev pub StopsOpening : Tables → Database → Database → StoreFault → Type 0
+StopsOpening tables conn last =
+    StopsBy (λ error. StopsQuery conn last error ⊎ (AreMigrated tables × StopsChange conn last error))
 
 -- the fault that says that the tables are not ours
 abbrev pub not_ours : StoreFault
@@ -77,17 +78,14 @@ abbrev pub HasOthers : Database → Type 0
 HasOthers conn = (version : Version) → conn.now.schema ≢ schema_of version
 
 module _ {S : Type 0} (g : Ghosts S) where
-  -- None was opened, and the connection comes back outside a transaction. A fault of a state is one of the store and has a cause, and a
-  -- damage that is told is that of the tables; other tables are a fault of the store, and ours are never called others. The database is as
-  -- it was.
+  -- None was opened, and the connection comes back outside a transaction. A damage that is told is the first of the tables, any other fault of
+  -- them has a cause, and they are never called others. Other tables are a fault of the store. The database is as it was.
   pub record IsUnadopted (conn : Held S) (fault : StoreFault) (last : Held S) : Type 0 where
     pub outside : (state g last).in_transaction ≡ false
     pub other : HasOthers (state g conn) → IsOfStore fault × (last ≡ conn)
     pub own : (version : Version) → HasTables (schema_of version) (state g conn) → fault ≢ not_ours
-    pub whole : (s : State) → ShowsState (state g conn) s → HasCleanDisk (state g last) → IsOfStore fault
-    pub cause : (s : State) → ShowsState (state g conn) s → HasCleanDisk (state g last) →
-        StopsOpening (state g conn) (state g last) fault
-    pub says : (tables : Tables) → Rests (state g conn) tables → HasCleanDisk (state g last) → Says tables fault
+    pub cause : (tables : Tables) → Rests (state g conn) tables → HasCleanDisk (state g last) →
+        SaysOr (StopsOpening tables (state g conn) (state g last) fault) tables fault
     pub undone : (last ≡ conn) ⊎ (HasCleanDisk (state g last) → IsTrue (state g last).is_open → RestsAt (state g last) (state g conn).now)
     pub crash : Survives (state g conn) (state g last) (Adopts (state g conn))
 

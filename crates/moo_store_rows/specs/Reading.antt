@@ -10,7 +10,7 @@ use Rattle.moo_tables_rows.specs.Inside.{Rests, HasTables, ReadsTables, FailsToR
 use Rattle.moo_tables.specs.ReadCause.{StopsQuery}
 use Rattle.moo_tables_rows.specs.declared.version.Version.{Version}
 use Rattle.moo_cells.specs.Shows.{ShowsRows}
-use Rattle.moo_store_rows.specs.Opening.{Says, IsOfStore, StopsBy, HasOthers, not_ours}
+use Rattle.moo_store_rows.specs.Opening.{SaysOr, IsOfStore, StopsBy, HasOthers, not_ours}
 use Rattle.moo_store_rows.specs.declared.fault.StoreFault.{StoreFault}
 
 -- Rows were found in tables, of which this is known. They are good, the tables show them, and they show no other good rows.
@@ -20,15 +20,9 @@ pub record AreFound (Known : Tables → Type 0) (rows : Maps) : Type 0 where
   pub shown : (tables : Tables) → Known tables → ShowsRows tables rows
   pub one : (tables : Tables) (m : Maps) → Known tables → ShowsRows tables m → IsGood m → rows ≡ m
 
--- None were found. What the fault says of the tables is so; if they show good rows, it says nothing of them.
-pub record NoneFound (Known : Tables → Type 0) (fault : StoreFault) : Type 0 where
-  pub says : (tables : Tables) → Known tables → Says tables fault
-  pub whole : (tables : Tables) (m : Maps) → Known tables → ShowsRows tables m → IsGood m → IsOfStore fault
-
--- Good rows that the tables show aren't found: memory ran out, or a query stopped.
-abbrev pub StopsFinding : (Tables → Type 0) → Database → Database → StoreFault → Type 0
-StopsFinding Known old new fault =
-    (tables : Tables) (m : Maps) → Known tables → ShowsRows tables m → IsGood m → StopsBy (StopsQuery old new) fault
+-- None were found in tables of which this is known: the fault says what is wrong with them, or memory ran out, or a query stopped.
+abbrev pub NoneFound : (Tables → Type 0) → Database → Database → StoreFault → Type 0
+NoneFound Known old new fault = (tables : Tables) → Known tables → SaysOr (StopsBy (StopsQuery old new) fault) tables fault
 
 -- these tables rested in the store that was read, and its disk returns what was written
 abbrev pub Rested : Database → Database → Tables → Type 0
@@ -47,8 +41,7 @@ pub record IsReadAs (version : Version) (old new : Database) (rows : Maps) : Typ
 pub record IsUnreadAs (version : Version) (old new : Database) (fault : StoreFault) : Type 0 where
   pub failed : FailsToRead (schema_of version) old new
   pub own : fault ≢ not_ours
-  pub none : NoneFound (RestedAs version old new) fault
-  pub cause : StopsFinding (RestedAs version old new) old new fault
+  pub none : NoneFound (RestedAs version old new) old new fault
 
 abbrev pub ReadsRowsAs : Version → Database → Database → Result Rows StoreFault → Type 0
 ReadsRowsAs version old new (Ok rows) = IsReadAs version old new rows.maps
@@ -67,8 +60,7 @@ module _ {S : Type 0} (g : Ghosts S) where
         × FailsToRead (schema_of version) (state g conn) (state g last))
     pub other : HasOthers (state g conn) → IsOfStore fault × (last ≡ conn)
     pub own : (version : Version) → HasTables (schema_of version) (state g conn) → fault ≢ not_ours
-    pub none : NoneFound (Rested (state g conn) (state g last)) fault
-    pub cause : StopsFinding (Rested (state g conn) (state g last)) (state g conn) (state g last) fault
+    pub none : NoneFound (Rested (state g conn) (state g last)) (state g conn) (state g last) fault
 
   abbrev pub ReadsRows : Held S → Held S → Result (Version × Rows) StoreFault → Type 0
   ReadsRows conn last (Ok read) = HasRead conn last read.0 read.1.maps

@@ -4,7 +4,7 @@ ghost use Rattle.std.specs.Prelude.{◌≡◌, ◌≢◌, IfOk, IfErr, OnOk, fal
 ghost use Rattle.sqlite.specs.Held.{state};
 ghost use Rattle.moo_world.specs.ObjectLists.{objects_of};
 ghost use Rattle.moo_world.specs.Rows.{IsGood, world_of};
-ghost use Rattle.moo_tables.specs.Listing.{tables_of};
+ghost use Rattle.moo_tables.specs.Listing.{AreListed, tables_of};
 ghost use Rattle.moo_cells.specs.Shows.{ShowsRows};
 ghost use Rattle.moo_store_rows.specs.Opening.{IsOfStore};
 ghost use Rattle.moo_store_rows.specs.Checked.{SaysInCheck, KeepsTables, Checks};
@@ -36,7 +36,8 @@ fn compare_lists(alloc: Global, lists: CellLists, own: &Flat) -> Result<u64, Sto
     requires good { IsGood own.now.maps }
     ensures shown { OnOk result (ShowsRows (tables_of lists) own.now.maps) }
     ensures count { IfOk result (λ count. count ≡ length (objects_of (world_of own.now.maps))) }
-    ensures fault { IfErr result (SaysInCheck own.now.maps (tables_of lists)) }
+    ensures fault { AreListed lists →
+        IfErr result (λ fault. SaysInCheck (fault ≡ StoreFault.OutOfMemory) own.now.maps (tables_of lists) fault) }
     ensures whole { ShowsRows (tables_of lists) own.now.maps → IfErr result IsOfStore }
     ensures worked { IfErr result (λ fault. fault ≢ StoreFault.Closed) }
 {

@@ -1,17 +1,17 @@
 //! The rows that the tables of a connection show.
 
-ghost use Rattle.std.specs.Prelude.{◌≡◌, ◌≢◌, ◌<◌, ◌^◌, IfOk, IfErr, IsTrue, OnOk, OnErr, false};
+ghost use Rattle.std.specs.Prelude.{◌≡◌, ◌≢◌, ◌⊎◌, ◌<◌, ◌^◌, IfOk, IfErr, IsTrue, OnOk, OnErr, false};
 ghost use Rattle.sqlite.specs.State.{HasCleanDisk};
 ghost use Rattle.sqlite.specs.Held.{state};
 ghost use Rattle.moo_rows.specs.Maps.{Maps};
 ghost use Rattle.moo_world.specs.Rows.{IsGood};
 ghost use Rattle.moo_tables_rows.specs.Tables.{Tables, present_schema, schema_of};
-ghost use Rattle.moo_tables_rows.specs.Inside.{Rests, HasTables, ReadsTables, FailsToRead};
+ghost use Rattle.moo_tables_rows.specs.Inside.{Rests, IsCurrent, HasTables, ReadsTables, FailsToRead};
 ghost use Rattle.moo_tables.specs.ReadCause.{StopsQuery};
 ghost use Rattle.moo_tables.specs.Listing.{AreListed, tables_of};
 ghost use Rattle.moo_tables_rows.specs.declared.version.Version.{Version};
 ghost use Rattle.moo_cells.specs.Shows.{ShowsRows};
-ghost use Rattle.moo_store_rows.specs.Opening.{Says, IsOfStore, StopsBy, not_ours};
+ghost use Rattle.moo_store_rows.specs.Opening.{SaysOr, IsOfStore, StopsBy, not_ours};
 ghost use Rattle.moo_store_rows.specs.Reading.{ReadsRowsAs, ReadsRows};
 
 use crate::fault::StoreFault;
@@ -27,10 +27,7 @@ fn rows_of(alloc: Global, lists: CellLists) -> Result<Flat, StoreFault>
     ensures good { IfOk result (λ rows. IsGood rows.maps) }
     ensures limit { IfOk result (λ rows. rows.maps.head.seq < 2 ^ 63) }
     ensures one { (m : Maps) → ShowsRows (tables_of lists) m → IsGood m → IfOk result (λ rows. rows.maps ≡ m) }
-    ensures fault { IfErr result (Says (tables_of lists)) }
-    ensures whole { (m : Maps) → ShowsRows (tables_of lists) m → IsGood m → IfErr result IsOfStore }
-    ensures read { AreListed lists → (m : Maps) → ShowsRows (tables_of lists) m → IsGood m →
-        IfErr result (λ fault. fault ≡ StoreFault.OutOfMemory) }
+    ensures fault { AreListed lists → IfErr result (λ fault. SaysOr (fault ≡ StoreFault.OutOfMemory) (tables_of lists) fault) }
     ensures own { IfErr result (λ fault. fault ≢ not_ours) }
 {
     if !are_listed(&lists) {
@@ -108,6 +105,8 @@ pub(crate) fn test_tables<S: Alter>(
 pub(crate) fn test_current<S: Alter>(alloc: Global, conn: &Connection<S>) -> Result<(), StoreFault>
     ensures ours { OnOk result (HasTables present_schema (state S.Store conn.now)) }
     ensures fault { IfErr result IsOfStore }
+    ensures own { IfErr result (λ fault. (tables : Tables) → Rests (state S.Store conn.now) tables →
+        (fault ≡ StoreFault.OutOfMemory) ⊎ ((¬ IsCurrent tables) × (fault ≡ not_ours))) }
 {
     match test_tables(alloc, conn) {
         Ok(version) if version.is_present() => Ok(()),

@@ -76,7 +76,7 @@ module _ (before : Schema) (text : List ℕ) (table : Table) (defined : table_de
 
 -- ---- the tables that the first version lacks
 
-abbrev unnumbered : Table → Table
+abbrev pub unnumbered : Table → Table
 unnumbered table = record table { tree = 0 }
 
 slot2_passes : IsPassed first_schema (create_text slot2_table) (unnumbered slot2_table)
@@ -100,12 +100,12 @@ pub record IsAt (schema : Schema) (s : State) : Type 0 where
   pub has : HasTables schema s
 
 module _ (before after : Schema) (table : Table) (is : IsMaking before after table) (plain : lacks_sequence after ≡ false) (passes : IsPassed before (create_text table) (unnumbered table)) (old new : State) where
-  made_at : (count : ℕ) → RanStatement (create_text table) [] old new (Ok count) → HasCleanDisk new → HasTables before old → IsAt after new
+  pub made_at : (count : ℕ) → RanStatement (create_text table) [] old new (Ok count) → HasCleanDisk new → HasTables before old → IsAt after new
   made_at count ran clean has =
       let it = runs_making before after table is plain old new count has (ran clean).1 in
       record { is_open = it.is_open; inside = (ran clean).0; has = it.made.schema_is }
 
-  making_stops : (e : Error) → Ran (create_text table) [] old new (Err e) → HasCleanDisk new → IsTrue old.in_transaction → HasTables before old → StopsChange old new e
+  pub making_stops : (e : Error) → Ran (create_text table) [] old new (Err e) → HasCleanDisk new → IsTrue old.in_transaction → HasTables before old → StopsChange old new e
   making_stops e ran clean inside has =
       stops_unrefused (create_text table) [] old new before has CreateTable is.command is.plain is.one refl refl e
       (λ text told does. makes_it before (create_text table) (unnumbered table) is.defined passes after is.made plain old.step_limit (mode_of old) old.now e has

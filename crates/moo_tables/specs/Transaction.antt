@@ -53,8 +53,14 @@ pub record HasMade (changes : CellChanges) (old new : State) : Type 0 where
   pub made : HasCleanDisk new → HasNoTables old.now → Rests new (tables_with changes no_tables)
   pub crash : (HasCleanDisk old → HasNoTables old.now) → Survives old new (λ trees. Leaves trees (tables_with changes no_tables))
 
--- They weren't: the database is as it was, unless the connection is shut. A crash leaves the same as if they had been made.
-pub record HasNotMade (changes : CellChanges) (old new : State) : Type 0 where
+-- a call that fails in a transaction on a database without tables has one of the causes of any change
+abbrev pub HasCauseOfMaking : {A : Type 0} → State → State → Result A Error → Type 0
+HasCauseOfMaking old new r = HasCleanDisk new → IsTrue old.in_transaction → HasNoTables old.now → IfErr r (StopsChange old new)
+
+-- They weren't, for this error: what stops the making is what stops any change. The database is as it was, unless the connection is shut. A
+-- crash leaves the same as if they had been made.
+pub record HasNotMade (changes : CellChanges) (error : Error) (old new : State) : Type 0 where
   pub outside : new.in_transaction ≡ false
+  pub cause : HasCleanDisk new → HasNoTables old.now → StopsChange old new error
   pub undone : HasCleanDisk new → HasNoTables old.now → IsTrue new.is_open → RestsAt new old.committed
   pub crash : (HasCleanDisk old → HasNoTables old.now) → Survives old new (λ trees. Leaves trees (tables_with changes no_tables))

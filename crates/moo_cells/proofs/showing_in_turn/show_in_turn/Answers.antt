@@ -1,5 +1,5 @@
 use Rattle.moo_cells.{proofs.Words.{List, refl, subst, entries, petition_total, petition_exact, Row, Head, ShowEach, by_rowid, HoldsHead, ReadsCounter, ReadsPetition}, proofs.Beside.{each_held}, proofs.Keys.{petitions_bear}, proofs.TakenLemmas.{taken_shown}}
-use Rattle.moo_tables.proofs.ReadLemmas.{reads_then, fails_then}
+use Rattle.moo_tables.proofs.{ReadLemmas.{reads_then, fails_then}, ReadCauseLemmas.{cause_of_first, cause_of_later}}
 use Rattle.moo_tables_rows.proofs.InsideLemmas.{always}
 use Rattle.moo_cells.proofs.showing_in_turn.show_in_turn.Goals as goal
 
@@ -8,6 +8,12 @@ returns-in_err-head-clause-failed g c = always c.from_residual.result c.in_err-h
 
 pub returns-in_err-all-clause-failed : goal.returns-in_err-all-clause-failed
 returns-in_err-all-clause-failed g c = always c.from_residual-in_err-all.result (fails_then c.in_ok-head.ensures.read c.in_err-all.ensures.failed)
+
+pub returns-in_err-head-clause-cause : goal.returns-in_err-head-clause-cause
+returns-in_err-head-clause-cause g c = cause_of_first c.from_residual.result _ c.in_err-head.ensures.failed c.from_residual.ensures.1 c.in_err-head.ensures.cause
+
+pub returns-in_err-all-clause-cause : goal.returns-in_err-all-clause-cause
+returns-in_err-all-clause-cause g c = cause_of_later c.from_residual-in_err-all.result _ c.in_ok-head.ensures.read c.in_err-all.ensures.failed c.from_residual-in_err-all.ensures.1 c.in_err-all.ensures.cause
 
 pub returns-clause-read : goal.returns-clause-read
 returns-clause-read g c = reads_then c.in_ok-head.ensures.read c.in_ok-all.ensures.read

@@ -1,6 +1,7 @@
 use Rattle.moo_tables.proofs.ReadLemmas.{reads_then, fails_then}
 use Rattle.moo_tables_rows.proofs.InsideLemmas.{always}
 use Rattle.moo_cells.proofs.TakenLemmas.{takes_all}
+use Rattle.moo_tables.proofs.ReadCauseLemmas.{cause_of_first, cause_of_later}
 use Rattle.moo_cells.proofs.showing_in_turn.show_tables.Goals as goal
 
 -- a transaction is open only if it was before
@@ -46,3 +47,21 @@ returns-in_err-slots-clause-failed g c = always c.from_residual-in_err-slots.res
 
 pub returns-in_err-verbs-clause-failed : goal.returns-in_err-verbs-clause-failed
 returns-in_err-verbs-clause-failed g c = always c.from_residual-in_err-verbs.result (fails_then (reads_then (reads_then c.in_ok-objects.ensures.read c.in_ok-props.ensures.read) c.in_ok-slots.ensures.read) c.in_err-verbs.ensures.failed)
+
+-- why it fails
+
+pub returns-in_err-objects-clause-cause : goal.returns-in_err-objects-clause-cause
+returns-in_err-objects-clause-cause g c = cause_of_first c.from_residual.result _ c.in_err-objects.ensures.failed c.from_residual.ensures.1 c.in_err-objects.ensures.cause
+
+pub returns-in_err-props-clause-cause : goal.returns-in_err-props-clause-cause
+returns-in_err-props-clause-cause g c =
+    cause_of_later c.from_residual-in_err-props.result _ c.in_ok-objects.ensures.read c.in_err-props.ensures.failed c.from_residual-in_err-props.ensures.1 c.in_err-props.ensures.cause
+
+pub returns-in_err-slots-clause-cause : goal.returns-in_err-slots-clause-cause
+returns-in_err-slots-clause-cause g c =
+    cause_of_later c.from_residual-in_err-slots.result _ (reads_then c.in_ok-objects.ensures.read c.in_ok-props.ensures.read) c.in_err-slots.ensures.failed c.from_residual-in_err-slots.ensures.1 c.in_err-slots.ensures.cause
+
+pub returns-in_err-verbs-clause-cause : goal.returns-in_err-verbs-clause-cause
+returns-in_err-verbs-clause-cause g c =
+    cause_of_later c.from_residual-in_err-verbs.result _ (reads_then (reads_then c.in_ok-objects.ensures.read c.in_ok-props.ensures.read) c.in_ok-slots.ensures.read) c.in_err-verbs.ensures.failed c.from_residual-in_err-verbs.ensures.1
+    c.in_err-verbs.ensures.cause

@@ -1,7 +1,8 @@
-use Rattle.moo_store_rows.{proofs.Words.{◌≡◌, ◌∙◌, IsTrue, false, sym, subst, state, present, schema_of, Tables, Rests, HasTables, Store, stays}, specs.Checked.{IsUnchecked}, proofs.OpenLemmas.{at_rest, rests_still}, proofs.CompareLemmas.{checked_by, unchecked}, proofs.Versions.{version_is}}
+use Rattle.moo_store_rows.{proofs.Words.{◌≡◌, ◌∙◌, IsTrue, false, sym, subst, state, present, schema_of, Maps, Tables, Rests, HasTables, StoreFault, Store, StopsBy, stays}, specs.Checked.{StopsCheck, IsUnchecked}, proofs.OpenLemmas.{at_rest, has_still, rests_still}, proofs.CompareLemmas.{checked_by, unchecked, unasked, cut_off}, proofs.Causes.{told_so, stopped_after}, proofs.Versions.{version_is}}
 use Rattle.moo_store_rows.proofs.comparing.check_rows.Goals as goal
 use Rattle.sqlite.specs.State.{State, HasCleanDisk}
-use Rattle.moo_tables.{specs.Listing.{tables_of}, proofs.ReadLemmas.{reads_then, fails_then, rests_read}}
+use Rattle.moo_tables.{specs.Listing.{tables_of}, specs.ReadCause.{StopsQuery}, proofs.ReadLemmas.{reads_then, fails_then, rests_read}, proofs.ReadCauseLemmas.{not_a_database}}
+use Rattle.sqlite.specs.declared.error.Error.{Error}
 use Rattle.moo_tables_rows.specs.Inside.{FailsToRead, Holds}
 
 -- a reading that failed leaves the tables, unless it shut the connection
@@ -10,10 +11,17 @@ still old new has fails outside clean opened tables rests =
     let at = at_rest old new (λ _. rests.committed) outside (fails.kept clean has) opened in
     record { is_open = opened; outside = at.outside; committed = at.now_is ∙ sym at.committed_is; holds = subst (λ db. Holds db tables) (sym at.now_is) rests.holds }
 
+failed : (own : Maps) (old new : State) (fault : StoreFault) → (error : Error) × (fault ≡ Store error) → (HasCleanDisk new → StopsBy (StopsQuery old new) fault) → IsUnchecked own old new fault
+failed own old new fault it stops =
+    let none = λ (clean : HasCleanDisk new) (t : Tables) (here : Rests old t). cut_off old new t fault (stops clean) in
+    subst (λ f. (HasCleanDisk new → (t : Tables) → Rests old t → StopsCheck t old new f) → IsUnchecked own old new f) (sym it.1) (λ stops. unchecked own old new (Store it.0) tt stops (λ is. absurd cc)) none
+
 -- nothing was asked of the tables
 
 pub returns-in-Err-clause-checks : goal.returns-in-Err-clause-checks
-returns-in-Err-clause-checks g c = unchecked c.args.own.now.maps (state g.S.Store c.args.conn.now) (state g.S.Store c.args.conn.now) c.in-Err.fault c.in-Err.ensures.fault (λ _ clean tables rests. rests)
+returns-in-Err-clause-checks g c =
+    unchecked c.args.own.now.maps (state g.S.Store c.args.conn.now) (state g.S.Store c.args.conn.now) c.in-Err.fault c.in-Err.ensures.fault
+    (λ clean tables rests. unasked (state g.S.Store c.args.conn.now) tables c.in-Err.fault (c.in-Err.ensures.own tables rests)) (λ _ clean tables rests. rests)
 
 pub returns-in-Err-clause-keeps : goal.returns-in-Err-clause-keeps
 returns-in-Err-clause-keeps g c = record { clean = λ clean. clean; kept = λ clean opened tables rests. rests; crash = (stays (state g.S.Store c.args.conn.now)).survives }
@@ -39,7 +47,11 @@ returns-then-shown-clause-keeps g c = record {
 pub returns-in-Ok-read_lists-clause-checks : goal.returns-in-Ok-read_lists-clause-checks
 returns-in-Ok-read_lists-clause-checks g c =
     let is = c.compare_lists.ensures in
-    checked_by c.args.own.now.maps (tables_of c.in-Ok-read_lists.lists) (state g.S.Store c.args.conn.now) (state g.S.Store c.read_lists.new.conn) c.compare_lists.result is.shown is.count is.fault is.whole
+    checked_by c.args.own.now.maps (tables_of c.in-Ok-read_lists.lists) (state g.S.Store c.args.conn.now) (state g.S.Store c.read_lists.new.conn) c.compare_lists.result is.shown is.count
+    (λ clean tables rests.
+    let is = version_is (state g.S.Store c.args.conn.now) present tables c.in-Ok.ensures.ours rests in
+    c.compare_lists.ensures.fault (c.in-Ok-read_lists.ensures.rise clean tables is (rests_read tables c.in-Ok-show_in_turn.ensures.read (c.in-Ok-read_lists.ensures.read.clean clean) is rests)))
+    is.whole
     (λ clean tables rests.
     let is = version_is (state g.S.Store c.args.conn.now) present tables c.in-Ok.ensures.ours rests in
     c.in-Ok-read_lists.ensures.listed clean tables is (rests_read tables c.in-Ok-show_in_turn.ensures.read (c.in-Ok-read_lists.ensures.read.clean clean) is rests))
@@ -60,15 +72,20 @@ pub returns-in-Err-show_in_turn-clause-checks : goal.returns-in-Err-show_in_turn
 returns-in-Err-show_in_turn-clause-checks g c =
     let old = state g.S.Store c.args.conn.now in
     let new = state g.S.Store c.show_in_turn.new.conn in
-    let it = c.failure_of.ensures.store in
-    subst (IsUnchecked c.args.own.now.maps old new) (sym it.1) (unchecked c.args.own.now.maps old new (Store it.0) tt (λ is. absurd cc))
+    let stops = λ (clean : HasCleanDisk new). told_so (StopsQuery old new) c.in-Err-show_in_turn.error c.failure_of.result (not_a_database old new) c.failure_of.ensures.same (c.in-Err-show_in_turn.ensures.cause clean c.in-Ok.ensures.ours) in
+    failed c.args.own.now.maps old new c.failure_of.result c.failure_of.ensures.store stops
 
 pub returns-in-Err-read_lists-clause-checks : goal.returns-in-Err-read_lists-clause-checks
 returns-in-Err-read_lists-clause-checks g c =
     let old = state g.S.Store c.args.conn.now in
     let new = state g.S.Store c.read_lists.new.conn in
-    let it = c.in-Err-read_lists.ensures.fault in
-    subst (IsUnchecked c.args.own.now.maps old new) (sym it.1) (unchecked c.args.own.now.maps old new (Store it.0) tt (λ is. absurd cc))
+    let mid = state g.S.Store c.show_in_turn.new.conn in
+    let fault = c.in-Err-read_lists.fault in
+    let stops = λ (clean : HasCleanDisk new).
+    let early = c.in-Err-read_lists.ensures.failed.clean clean in
+    let there = has_still g.S.Store c.args.conn.now c.show_in_turn.new.conn present c.args.own.now.maps c.in-Ok.ensures.ours c.in-Ok-show_in_turn.ensures.read early in
+    stopped_after present old mid new fault c.in-Ok-show_in_turn.ensures.read c.in-Ok.ensures.ours early (c.in-Err-read_lists.ensures.cause clean there) in
+    failed c.args.own.now.maps old new fault c.in-Err-read_lists.ensures.fault stops
 
 pub returns-in-Err-show_in_turn-clause-keeps : goal.returns-in-Err-show_in_turn-clause-keeps
 returns-in-Err-show_in_turn-clause-keeps g c =

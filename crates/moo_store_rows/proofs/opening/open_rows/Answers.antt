@@ -1,5 +1,5 @@
 use Rattle.sqlite.specs.Effect.{Database as Content}
-use Rattle.moo_store_rows.{proofs.Words.{◌⊎◌, inl, inr, subst, state, clean_before}, specs.Current.{RestsCurrent}, specs.Opening.{HasEarlier}, proofs.Causes.{stops_more}, proofs.OpenLemmas.{undone, refused_survives, has_still, rests_still, version_of_old, crash, undone_late, says_of_store}}
+use Rattle.moo_store_rows.{proofs.Words.{◌⊎◌, inl, inr, sym, subst, state, clean_before, IsEarlier, StopsBy}, specs.Current.{RestsCurrent}, specs.Opening.{AreMigrated, StopsOpening}, proofs.Causes.{stops_more, says_more, says_cause}, proofs.OpenLemmas.{undone, refused_survives, has_still, rests_still, version_of_old, crash, undone_late}}
 use Rattle.moo_tables.specs.ReadCause.{StopsQuery}
 use Rattle.moo_tables_rows.{specs.Cause.{StopsChange}, proofs.CauseLemmas.{stops_since}}
 use Rattle.moo_store_rows.proofs.opening.open_rows.Goals as goal
@@ -12,12 +12,13 @@ returns-in-Err-clause-brings g c =
       outside = c.read_rows.ensures.outside;
       other = no.other;
       own = no.own;
-      whole = λ s it clean. no.none.whole it.tables it.rows (clean, it.rests) it.shows it.good;
-      cause = λ s it clean.
+      cause = λ tables rests clean.
           let old = state g.S.Store c.args.conn.now in
           let new = state g.S.Store c.read_rows.new.conn in
-          stops_more (StopsQuery old new) (λ error. StopsQuery old new error ⊎ (HasEarlier old × StopsChange old new error)) c.in-Err.fault (λ error h. inl h) (no.cause it.tables it.rows (clean, it.rests) it.shows it.good);
-      says = λ tables rests clean. no.none.says tables (clean, rests);
+          let fault = c.in-Err.fault in
+          says_more (StopsBy (StopsQuery old new) fault) (StopsOpening tables old new fault) tables fault
+          (stops_more (StopsQuery old new) (λ error. StopsQuery old new error ⊎ (AreMigrated tables × StopsChange old new error)) fault (λ error h. inl h))
+          (no.none tables (clean, rests));
       undone = undone g.S.Store c.args.conn.now c.read_rows.new.conn no.failed c.read_rows.ensures.settled c.read_rows.ensures.outside;
       crash = refused_survives g.S.Store c.args.conn.now c.read_rows.new.conn no.failed;
     }
@@ -57,18 +58,19 @@ returns-in-Err-make_current-clause-brings g c =
       outside = c.make_current.ensures.outside;
       other = λ none. absurd (none version read.has);
       own = λ version has. c.in-Err-make_current.ensures.own;
-      whole = λ s it clean. c.in-Err-make_current.ensures.fault;
-      cause = λ s it clean.
+      cause = λ tables rests clean.
           let first = state g.S.Store old in
           let then = state g.S.Store mid in
           let last = state g.S.Store c.make_current.new.conn in
           let early = clean_before then last _ took clean in
           let same = read.read.same early read.has in
           let was = read.read.crash (λ _. read.has) in
-          stops_more (StopsChange then last) (λ error. StopsQuery first last error ⊎ (HasEarlier first × StopsChange first last error)) c.in-Err-make_current.fault
-          (λ error h. inr ((version, c.in-Err-make_current.ensures.earlier, read.has), stops_since first then last error was.counts was.limit same.0.is_open h))
-          (c.in-Err-make_current.ensures.cause clean it.tables (rests_still g.S.Store old mid version rows read.has read.read early it.tables it.rests) (version_of_old g.S.Store old mid version rows read.has read.read it.tables it.rests));
-      says = λ tables rests clean. says_of_store tables c.in-Err-make_current.fault c.in-Err-make_current.ensures.fault;
+          let is = version_of_old g.S.Store old mid version rows read.has read.read tables rests in
+          let migrated : AreMigrated tables = (subst IsEarlier (sym is) c.in-Err-make_current.ensures.earlier, (rows, read.found.good, read.found.shown tables (early, rests))) in
+          says_cause (StopsChange then last) _ tables c.in-Err-make_current.fault
+          (stops_more (StopsChange then last) (λ error. StopsQuery first last error ⊎ (AreMigrated tables × StopsChange first last error)) c.in-Err-make_current.fault
+          (λ error h. inr (migrated, stops_since first then last error was.counts was.limit same.0.is_open h)))
+          (c.in-Err-make_current.ensures.cause clean tables (rests_still g.S.Store old mid version rows read.has read.read early tables rests) is);
       undone = inr (undone_late g.S.Store old mid version rows read.has read.read c.make_current.new.conn c.read_rows.ensures.settled took c.make_current.ensures.outside c.in-Err-make_current.ensures.undone);
       crash = crash g.S.Store old mid version rows read.has read.read c.make_current.new.conn took read.found.good (λ clean tables rests. read.found.shown tables (clean, rests)) (λ clean tables m rests. read.found.one tables m (clean, rests));
     }

@@ -1,5 +1,5 @@
 use Rattle.moo_tables.{proofs.ReadLemmas.{reads_then, fails_then, rests_read}, specs.ReadCause.{StopsQuery}, proofs.ReadCauseLemmas.{not_a_database}}
-use Rattle.moo_store_rows.{proofs.Words.{state}, proofs.Causes.{has_tables, told_so, stopped_after}, proofs.Found.{found_as, none_as, none_of_store}, specs.Reading.{RestedAs}}
+use Rattle.moo_store_rows.{proofs.Words.{StopsBy, state}, proofs.Causes.{has_tables, told_so, stopped_after, says_more, says_cause}, proofs.Found.{found_as}, specs.Reading.{RestedAs}}
 use Rattle.moo_store_rows.proofs.reading.read_each.Goals as goal
 
 pub returns-in-Ok-Some-clause-reads : goal.returns-in-Ok-Some-clause-reads
@@ -33,22 +33,22 @@ returns-in-Err-read_whole-clause-reads g c =
     record {
       failed = fails_then c.in-Ok-None.ensures.read whole.failed;
       own = whole.own;
-      none = none_as (RestedAs c.args.version mid new) (RestedAs c.args.version old new) c.in-Err-read_whole.fault (λ tables it. ((it.0.0, rests_read tables c.in-Ok-None.ensures.read (whole.failed.clean it.0.0) it.1 it.0.1), it.1)) whole.none;
-      cause = λ tables m it shows good.
+      none = λ tables it.
           let clean = whole.failed.clean it.0.0 in
-          stopped_after c.args.version old mid new c.in-Err-read_whole.fault c.in-Ok-None.ensures.read (has_tables old c.args.version tables it.0.1 it.1) clean
-          (whole.cause tables m ((it.0.0, rests_read tables c.in-Ok-None.ensures.read clean it.1 it.0.1), it.1) shows good);
+          let fault = c.in-Err-read_whole.fault in
+          says_more (StopsBy (StopsQuery mid new) fault) (StopsBy (StopsQuery old new) fault) tables fault
+          (stopped_after c.args.version old mid new fault c.in-Ok-None.ensures.read (has_tables old c.args.version tables it.0.1 it.1) clean)
+          (whole.none tables ((it.0.0, rests_read tables c.in-Ok-None.ensures.read clean it.1 it.0.1), it.1));
     }
 
 pub returns-in-Err-clause-reads : goal.returns-in-Err-clause-reads
 returns-in-Err-clause-reads g c =
-    let told = c.failure_of.ensures.store in
+    let old = state g.S.Store c.args.conn.now in
+    let new = state g.S.Store c.read_in_turn.new.conn in
     record {
       failed = c.in-Err.ensures.failed;
       own = c.failure_of.ensures.own;
-      none = none_of_store (RestedAs c.args.version (state g.S.Store c.args.conn.now) (state g.S.Store c.read_in_turn.new.conn)) c.failure_of.result told.0 told.1;
-      cause = λ tables m it shows good.
-          let old = state g.S.Store c.args.conn.now in
-          let new = state g.S.Store c.read_in_turn.new.conn in
-          told_so (StopsQuery old new) c.in-Err.error c.failure_of.result (not_a_database old new) c.failure_of.ensures.same (c.in-Err.ensures.cause it.0.0 (has_tables old c.args.version tables it.0.1 it.1));
+      none = λ tables it.
+          says_cause (StopsQuery old new) _ tables c.failure_of.result (λ stops. stops)
+          (told_so (StopsQuery old new) c.in-Err.error c.failure_of.result (not_a_database old new) c.failure_of.ensures.same (c.in-Err.ensures.cause it.0.0 (has_tables old c.args.version tables it.0.1 it.1)));
     }

@@ -1,4 +1,4 @@
-use Rattle.moo_store_rows.{proofs.Words.{◌≡◌, ◌∙◌, inl, inr, refl, sym, state, OutOfMemory}, specs.Opening.{not_ours}, proofs.OpenLemmas.{says_of_store}, proofs.Causes.{ran_out}, proofs.Found.{found_as, none_as}, proofs.Versions.{version_is}, specs.Reading.{Rested, RestedAs}}
+use Rattle.moo_store_rows.{proofs.Words.{◌≡◌, ◌∙◌, inl, inr, refl, sym, state, OutOfMemory}, specs.Opening.{not_ours}, proofs.Causes.{ran_out, says_of_store}, proofs.Found.{found_as}, proofs.Versions.{version_is}, specs.Reading.{Rested, RestedAs}}
 use Rattle.moo_tables.specs.ReadCause.{StopsQuery}
 use Rattle.moo_store_rows.proofs.reading.read_rows.Goals as goal
 
@@ -8,8 +8,7 @@ returns-in-Err-clause-reads g c = record {
   failed = inl refl;
   other = λ none. (c.in-Err.ensures.fault, refl);
   own = λ version has told. let both : OutOfMemory ≡ not_ours = sym (c.in-Err.ensures.own version has) ∙ told in cc;
-  none = record { says = λ tables it. says_of_store tables c.in-Err.fault c.in-Err.ensures.fault; whole = λ tables m it shows good. c.in-Err.ensures.fault };
-  cause = λ tables m it shows good. ran_out (StopsQuery (state g.S.Store c.args.conn.now) (state g.S.Store c.args.conn.now)) c.in-Err.fault (c.in-Err.ensures.own tables.version it.1.holds.schema);
+  none = λ tables it. says_of_store _ tables c.in-Err.fault c.in-Err.ensures.fault (ran_out (StopsQuery (state g.S.Store c.args.conn.now) (state g.S.Store c.args.conn.now)) c.in-Err.fault (c.in-Err.ensures.own tables.version it.1.holds.schema));
 }
 
 pub returns-in-Ok-read_each-clause-reads : goal.returns-in-Ok-read_each-clause-reads
@@ -25,6 +24,5 @@ returns-in-Err-read_each-clause-reads g c = record {
   failed = inr (c.in-Ok.version, c.in-Ok.ensures.ours, c.in-Err-read_each.ensures.reads.failed);
   other = λ none. absurd (none c.in-Ok.version c.in-Ok.ensures.ours);
   own = λ version has. c.in-Err-read_each.ensures.reads.own;
-  none = none_as (RestedAs c.in-Ok.version (state g.S.Store c.args.conn.now) (state g.S.Store c.read_each.new.conn)) (Rested (state g.S.Store c.args.conn.now) (state g.S.Store c.read_each.new.conn)) c.in-Err-read_each.fault (λ tables it. (it, version_is (state g.S.Store c.args.conn.now) c.in-Ok.version tables c.in-Ok.ensures.ours it.1)) c.in-Err-read_each.ensures.reads.none;
-  cause = λ tables m it. c.in-Err-read_each.ensures.reads.cause tables m (it, version_is (state g.S.Store c.args.conn.now) c.in-Ok.version tables c.in-Ok.ensures.ours it.1);
+  none = λ tables it. c.in-Err-read_each.ensures.reads.none tables (it, version_is (state g.S.Store c.args.conn.now) c.in-Ok.version tables c.in-Ok.ensures.ours it.1);
 }

@@ -1,4 +1,4 @@
-use Rattle.moo_tables.{proofs.Words.{rules, ◌≡◌, Result, Ok, Err, Error, OnOk, OnErr, IfErr, IsTrue, false, state, State, HasCleanDisk, KeepsCommit, Survives, survives_then, Rests, Sees, Leaves, HasNoTables, no_tables, tables_with, RestsAt, always, no_ok, stays_begun, on_ok, clean_before, commits, leaves, restores, restored, CellChanges}, specs.Transaction.{HasMade, HasNotMade}, proofs.creating.create_all.Given.{Over}}
+use Rattle.moo_tables.{proofs.Words.{rules, ◌≡◌, ◌≤◌, ◌∙◌, inl, inr, refl, sym, subst, true, StopsChange, fails_so, stops_since, stops_to, Result, Ok, Err, Error, OnOk, OnErr, IfErr, IsTrue, false, state, State, HasCleanDisk, KeepsCommit, Survives, survives_then, Rests, Sees, Leaves, HasNoTables, no_tables, Tables, tables_with, RestsAt, no_ok, stays_begun, on_ok, clean_before, commits, leaves, restores, restored, CellChanges}, proofs.ReadCauseLemmas.{handed_on}, specs.Transaction.{HasMade, HasNotMade}, proofs.creating.create_all.Given.{Over}}
 use Rattle.moo_tables.proofs.creating.create_all.Goals as goal
 use Rattle.sqlite.specs.Steps.{FailsToCommit}
 
@@ -36,13 +36,20 @@ has_made : (changes : CellChanges) (old end : State) (r : Result (Unit {0}) Erro
 has_made changes old end (Ok _) outside made crash = record { outside = outside; made = made; crash = crash }
 has_made changes old end (Err e) outside made crash = tt
 
-has_not_made : (changes : CellChanges) (old end : State) (r : Result (Unit {0}) Error) → end.in_transaction ≡ false → (HasCleanDisk end → OnErr r (HasNoTables old.now → IsTrue end.is_open → RestsAt end old.committed)) → Crashes changes old end → OnErr r (HasNotMade changes old end)
-has_not_made changes old end (Ok _) outside undone crash = tt
-has_not_made changes old end (Err e) outside undone crash = record { outside = outside; undone = undone; crash = crash }
+has_not_made : (changes : CellChanges) (old end : State) (r : Result (Unit {0}) Error) → end.in_transaction ≡ false → (HasCleanDisk end → HasNoTables old.now → IfErr r (StopsChange old end))
+    → (HasCleanDisk end → OnErr r (HasNoTables old.now → IsTrue end.is_open → RestsAt end old.committed)) → Crashes changes old end → IfErr r (λ error. HasNotMade changes error old end)
+has_not_made changes old end (Ok _) outside cause undone crash = tt
+has_not_made changes old end (Err e) outside cause undone crash = record { outside = outside; cause = cause; undone = undone; crash = crash }
 
 undone : (old last end : State) (r : Result (Unit {0}) Error) → KeepsCommit old last → IfErr r (FailsToCommit last end) → (HasNoTables old.now → IsTrue last.in_transaction) → OnErr r (HasNoTables old.now → IsTrue end.is_open → RestsAt end old.committed)
 undone old last end (Ok _) kept err inside = tt
 undone old last end (Err e) kept err inside = λ none. restored old last end (Err e) kept err (inside none)
+
+-- why the commit failed
+stops : (old last end : State) (tables : Tables) (r : Result (Unit {0}) Error) → old.faults ≤ last.faults → last.step_limit ≡ old.step_limit → IfErr r (FailsToCommit last end) → (HasNoTables old.now → Sees last tables) → HasNoTables old.now → IfErr r (StopsChange old end)
+stops old last end tables (Ok _) up steps err seen none = tt
+stops old last end tables (Err e) up steps (inl failed) seen none = stops_since old last end e up steps (seen none).is_open (fails_so last end ⊥ e failed)
+stops old last end tables (Err e) up steps (inr late) seen none = absurd (let both : true ≡ false = sym (seen none).inside ∙ late.1 in cc)
 
 crashes : (g : Over) (c : goal.After-conn-2-1 g) → Crashes c.args.changes.now (old g c) (end g c)
 crashes g c held =
@@ -57,7 +64,8 @@ returns-clause-made g c =
 pub returns-clause-refused : goal.returns-clause-refused
 returns-clause-refused g c =
     let first = stays_begun g.S.Store {h = c.args.conn.now} c.transaction-tx.ensures.begun c.create_and_write.ensures.inside in
-    rw (committed g c) (has_not_made c.args.changes.now (old g c) (end g c) c.commit.result c.commit.ensures.ended (λ clean. undone (old g c) (last g c) (end g c) c.commit.result (first.1 (early g c clean)) (c.commit.ensures.err clean) (λ none. (made g c (early g c clean) none).inside)) (crashes g c))
+    rw (committed g c) (has_not_made c.args.changes.now (old g c) (end g c) c.commit.result c.commit.ensures.ended (λ clean. stops (old g c) (last g c) (end g c) (tables_with c.args.changes.now no_tables) c.commit.result first.0.counts first.0.limit (c.commit.ensures.err clean) (made g c (early g c clean)))
+    (λ clean. undone (old g c) (last g c) (end g c) c.commit.result (first.1 (early g c clean)) (c.commit.ensures.err clean) (λ none. (made g c (early g c clean) none).inside)) (crashes g c))
 
 -- of a transaction that is undone, since a statement failed
 
@@ -71,8 +79,13 @@ returns-in_err-create_and_write-clause-refused g c =
     let end = state g.S.Store c.drop-tx.new.self.0 in
     let survives = c.drop-tx.ensures.survives in
     let first = stays_begun g.S.Store {h = c.args.conn.now} c.transaction-tx.ensures.begun c.create_and_write.ensures.inside in
-    rw (dropped g c) (always c.from_residual.result (record {
+    let e = c.in_err-create_and_write.field-0.0 in
+    let cause = λ (clean : HasCleanDisk end) (none : HasNoTables old.now).
+    let inside = c.in_err-create_and_write.ensures.cause (clean_before last end _ survives clean) (rw c.transaction-tx.ensures.begun refl) (rw c.transaction-tx.ensures.begun none) in
+    stops_to old last end e _ survives (subst (λ h. StopsChange (state g.S.Store h) last e) c.transaction-tx.ensures.begun inside) in
+    rw (dropped g c) (handed_on (λ error. HasNotMade c.args.changes.now error old end) c.from_residual.result e c.from_residual.ensures.1 (record {
       outside = c.drop-tx.ensures.ended;
+      cause = cause;
       undone = λ clean none. restores old last end (first.1 (clean_before last end _ survives clean)) (c.drop-tx.ensures.undone clean);
       crash = λ held. survives_then old last end _ _ _ (λ _ db none. absurd none) (λ _ db none. absurd none) first.0 survives;
     }))

@@ -1,4 +1,4 @@
-use Rattle.moo_tables.{proofs.Words.{clean_before, on_ok, stays_then}, proofs.CreateLemmas.{makes_head, makes_object, makes_prop, makes_slot, makes_verb}}
+use Rattle.moo_tables.{proofs.Words.{clean_before, on_ok, stays_then}, proofs.CreateLemmas.{makes_head, makes_object, makes_prop, makes_slot, makes_verb}, proofs.FirstLemmas.{head_fails, object_fails, prop_fails, slot_fails, verb_fails, begins_head, begins_object, begins_prop, begins_slot}}
 use Rattle.moo_tables.proofs.creating.create_first_tables.Goals as goal
 
 pub returns-in_err-run-2-clause-inside : goal.returns-in_err-run-2-clause-inside
@@ -23,3 +23,34 @@ returns-clause-made g c =
     let head = makes_head _ _ c.in_ok-run.field-0 c.in_ok-run.ensures.ran (clean_before _ _ _ c.run-2.ensures.inside.survives clean2) none in
     let prop = makes_prop _ _ c.in_ok-run-3.field-0 c.in_ok-run-3.ensures.ran clean3 (makes_object _ _ c.in_ok-run-2.field-0 c.in_ok-run-2.ensures.ran clean2 head) in
     last clean (makes_slot _ _ c.in_ok-run-4.field-0 c.in_ok-run-4.ensures.ran clean4 prop))
+
+-- why one fails
+
+pub returns-in_err-run-clause-cause : goal.returns-in_err-run-clause-cause
+returns-in_err-run-clause-cause g c = head_fails (g.T.Run.state c.args.tx.now) (g.T.Run.state c.run.new.self) c.from_residual.result _ c.from_residual.ensures.1 c.in_err-run.ensures.executes
+
+pub returns-in_err-run-2-clause-cause : goal.returns-in_err-run-2-clause-cause
+returns-in_err-run-2-clause-cause g c =
+    let one = begins_head c.in_ok-run.field-0 c.run.ensures.inside c.in_ok-run.ensures.ran in
+    object_fails one c.run-2.ensures.inside c.from_residual-in_err-run-2.result _ c.from_residual-in_err-run-2.ensures.1 c.in_err-run-2.ensures.executes
+
+pub returns-in_err-run-3-clause-cause : goal.returns-in_err-run-3-clause-cause
+returns-in_err-run-3-clause-cause g c =
+    let one = begins_head c.in_ok-run.field-0 c.run.ensures.inside c.in_ok-run.ensures.ran in
+    let two = begins_object one c.run-2.ensures.inside c.in_ok-run-2.field-0 c.in_ok-run-2.ensures.ran in
+    prop_fails two c.run-3.ensures.inside c.from_residual-in_err-run-3.result _ c.from_residual-in_err-run-3.ensures.1 c.in_err-run-3.ensures.executes
+
+pub returns-in_err-run-4-clause-cause : goal.returns-in_err-run-4-clause-cause
+returns-in_err-run-4-clause-cause g c =
+    let one = begins_head c.in_ok-run.field-0 c.run.ensures.inside c.in_ok-run.ensures.ran in
+    let two = begins_object one c.run-2.ensures.inside c.in_ok-run-2.field-0 c.in_ok-run-2.ensures.ran in
+    let three = begins_prop two c.run-3.ensures.inside c.in_ok-run-3.field-0 c.in_ok-run-3.ensures.ran in
+    slot_fails three c.run-4.ensures.inside c.from_residual-in_err-run-4.result _ c.from_residual-in_err-run-4.ensures.1 c.in_err-run-4.ensures.executes
+
+pub returns-clause-cause : goal.returns-clause-cause
+returns-clause-cause g c =
+    let one = begins_head c.in_ok-run.field-0 c.run.ensures.inside c.in_ok-run.ensures.ran in
+    let two = begins_object one c.run-2.ensures.inside c.in_ok-run-2.field-0 c.in_ok-run-2.ensures.ran in
+    let three = begins_prop two c.run-3.ensures.inside c.in_ok-run-3.field-0 c.in_ok-run-3.ensures.ran in
+    let four = begins_slot three c.run-4.ensures.inside c.in_ok-run-4.field-0 c.in_ok-run-4.ensures.ran in
+    verb_fails four c.run-5.ensures.inside c.run-5.result c.run-5.ensures.executes
