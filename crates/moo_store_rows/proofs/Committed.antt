@@ -79,28 +79,32 @@ module _ (cells : CellChanges) (old new : Database) (clean : HasCleanDisk new �
         ];
   }
 
-  causes : (e : Error) → ((t : Tables) → Rests old t → IsCurrent t → StopsChange old new e) → HasCleanDisk new → IsSome m.cells → StopsChange old new e
-  causes e cause c some =
+-- ---- what it says of the disk, and why the store failed
+
+module _ (cells : CellChanges) (old new : Database) where
+  pub clean_of : {A : Type 0} (r : Result A Error) → CommitsTables cells old new r → HasCleanDisk new → HasCleanDisk old
+  clean_of r did = clean_at_commit old new (λ tables trees. Leaves trees (tables_with cells tables)) did.crash
+
+  pub cause_of : {A : Type 0} (e : Error) → CommitsTables {A = A} cells old new (Err e) → (m : Moment) → IsAtPlace old (Works m) → HasCleanDisk new → IsSome m.cells → StopsChange old new e
+  cause_of {A} e did m at c some =
+      let r : Result A Error = Err e in
       let d = some_cells m.cells some in
-      let here = cells_at_rest old m d.0 d.1 (at.rests (clean c) tt) in
-      cause d.0.tables here.0 here.1
+      let here = cells_at_rest old m d.0 d.1 (at.rests (clean_of r did c) tt) in
+      did.cause c d.0.tables here.0 here.1
 
 pub commits_cells : (cells : CellChanges) (old new : Database) (r : Result (Unit {0}) Error) → IsSettled old → IsSettled new → CommitsTables cells old new r
     → (HasCleanDisk new → (t : Tables) → Rests old t → IsCurrent t → SparesUnread old new) → CommitsCells cells old new r
 commits_cells cells old new r settled settled_new did spared = record {
-  clean = clean;
-  kept = record { faults = did.counts; steps = did.steps };
+  tables = did;
+  spared = spared;
   goes = λ m changes rows printed exact at. (next cells old new clean spared m changes rows printed exact at, refl, keeps_at cells old new clean spared m changes rows printed exact at m.cells, by r did m changes rows printed exact at);
 }
   where
     clean : HasCleanDisk new → HasCleanDisk old
-    clean = clean_at_commit old new (λ tables trees. Leaves trees (tables_with cells tables)) did.crash
+    clean = clean_of cells old new r did
 
     by : (r : Result (Unit {0}) Error) → CommitsTables cells old new r → (m : Moment) (changes : Changes) (rows : Maps) (printed : Prints (Some m.rows.head.next_petition) m.rows cells changes) (exact : AreChanges m.rows rows changes) (at : IsAtPlace old (Works m))
         → MatchResult r (λ done. IsAtPlace new (Works (next cells old new clean spared m changes rows printed exact at)))
-        (λ error. IsAtPlace new (Between m (next cells old new clean spared m changes rows printed exact at)) × (HasCleanDisk new → IsSome m.cells → StopsChange old new error))
+        (λ error. IsAtPlace new (Between m (next cells old new clean spared m changes rows printed exact at)))
     by (Ok x) did m changes rows printed exact at = at_next cells old new clean spared m changes rows printed exact at settled_new did.written
-    by (Err e) did m changes rows printed exact at = (
-      at_between cells old new clean spared m changes rows printed exact at settled (λ c opened. did.undone c opened) did.crash,
-      λ c some. causes cells old new clean spared m changes rows printed exact at e (did.cause c) c some,
-    )
+    by (Err e) did m changes rows printed exact at = at_between cells old new clean spared m changes rows printed exact at settled (λ c opened. did.undone c opened) did.crash
