@@ -254,10 +254,19 @@ module _ {S : Type 0} (g : Ghosts S) (settled : (world : World S) → IsSettled 
       by true failed = let it = stays_closed failed in subst (FailsAtStore g old new) (sym it.0) (failed, it.1)
       by false works = works_on r fault works (moves.goes (Works (rows_alone old.rows.maps)) (stands_alone g old works (good works)))
 
+  -- a reply that acknowledges nothing
+  unaccepted : (given : Reply) → acknowledged (batch ∷ []) (given ∷ []) ≡ [] → says_accepted (answer.Replied given) ≡ false
+  unaccepted (reply.Accepted seq answers) none = let no : batch ∷ [] ≡ [] = none in absurd cc
+  unaccepted (reply.Refused call code) none = refl
+  unaccepted (reply.Full call) none = refl
+  unaccepted (reply.Stale seq) none = refl
+  unaccepted reply.NoMemory none = refl
+
   -- what it writes, and what a crash leaves of it
-  replied_writes : (given : Reply) → old.failed ≡ false → MovesBy g old new (λ from to. RunsAt from batch (answer.Replied given) to) → WritesOne g old new batch (Ok given)
-  replied_writes given works moves = record {
+  replied_writes : (given : Reply) → old.failed ≡ false → (says_accepted (answer.Replied given) ≡ false → new ≡ old) → MovesBy g old new (λ from to. RunsAt from batch (answer.Replied given) to) → WritesOne g old new batch (Ok given)
+  replied_writes given works still moves = record {
     clean = moves.clean;
+    still = λ none fewer. still (unaccepted given none);
     written = λ c known tables over.
         let it = from tables over in
         wrote_over g old new works (good works) (settled old) tables over it.0 (taken_of batch (Ok given)) it.1 (it.2.rests c) it.2.rows;
@@ -286,6 +295,7 @@ module _ {S : Type 0} (g : Ghosts S) (settled : (world : World S) → IsSettled 
   stopped_writes : (error : Error) → old.failed ≡ false → MovesBy g old new (λ from to. RunsAt from batch answer.Fault to) → WritesOne g old new batch (Err (Store error))
   stopped_writes error works moves = record {
     clean = moves.clean;
+    still = λ none fewer. let no : batch ∷ [] ≡ [] = fewer in absurd cc;
     written = λ c opened tables over.
         let it = from tables over in
         wrote_over g old new works (good works) (settled old) tables over (moment_over g old tables) [] refl (it.2.rests c opened) it.2.rows;
@@ -315,26 +325,19 @@ module _ {S : Type 0} (g : Ghosts S) (settled : (world : World S) → IsSettled 
       one_more tables over next led end (inl was) = (0, omega arith, was)
       one_more tables over next led end (inr on) = (1, omega arith, (next, led, on))
 
-  pub writes_one : FailsAtStore g old new r → WritesOne g old new batch r
-  writes_one fails = by r fails moves
+  pub writes_one : FailsAtStore g old new r → IfOk r (λ given. says_accepted (answer.Replied given) ≡ false → new ≡ old) → WritesOne g old new batch r
+  writes_one fails still = by r fails still moves
     where
-      by : (r : Result Reply StoreFault) → FailsAtStore g old new r → MovesBy g old new (λ from to. RunsAt from batch (answer_to r) to) → WritesOne g old new batch r
-      by (Ok given) works moves = replied_writes given works moves
-      by (Err (Store error)) fails moves = stopped_writes error fails.0 moves
-      by (Err Closed) fails moves = subst (λ w. WritesOne g old w batch (Err Closed)) (sym fails.1) (nothing_written g old batch (Err Closed) (settled old) good refl)
-      by (Err fault) fails moves = absurd fails
+      by : (r : Result Reply StoreFault) → FailsAtStore g old new r → IfOk r (λ given. says_accepted (answer.Replied given) ≡ false → new ≡ old) → MovesBy g old new (λ from to. RunsAt from batch (answer_to r) to) → WritesOne g old new batch r
+      by (Ok given) works still moves = replied_writes given works still moves
+      by (Err (Store error)) fails still moves = stopped_writes error fails.0 moves
+      by (Err Closed) fails still moves = subst (λ w. WritesOne g old w batch (Err Closed)) (sym fails.1) (nothing_written g old batch (Err Closed) (settled old) good refl)
+      by (Err fault) fails still moves = absurd fails
 
   -- a batch that isn't acknowledged changes nothing, unless the store failed
   pub takes_none : FailsAtStore g old new r → IfOk r (λ given. says_accepted (answer.Replied given) ≡ false → new ≡ old) → taken_of batch r ≡ [] → MatchStore r (new ≡ old) ⊤
   takes_none fails still none = by r fails still none
     where
-      unaccepted : (given : Reply) → acknowledged (batch ∷ []) (given ∷ []) ≡ [] → says_accepted (answer.Replied given) ≡ false
-      unaccepted (reply.Accepted seq answers) none = let no : batch ∷ [] ≡ [] = none in absurd cc
-      unaccepted (reply.Refused call code) none = refl
-      unaccepted (reply.Full call) none = refl
-      unaccepted (reply.Stale seq) none = refl
-      unaccepted reply.NoMemory none = refl
-
       by : (r : Result Reply StoreFault) → FailsAtStore g old new r → IfOk r (λ given. says_accepted (answer.Replied given) ≡ false → new ≡ old) → taken_of batch r ≡ [] → MatchStore r (new ≡ old) ⊤
       by (Ok given) fails still none = still (unaccepted given none)
       by (Err (Store error)) fails still none = tt

@@ -1,10 +1,9 @@
 -- What committing an accepted batch makes of its World.
-use Rattle.moo_store.{proofs.Words.{◌≡◌, ◌∙◌, inl, inr, Bool, true, false, Some, List, Result, Ok, Err, IfOk, MatchResult, refl, sym, ap, subst, Ghosts, HasCleanDisk, IsGood, Head, state_of, Batch, judge, left_by, Accepted, Maps, AreChanges, Value, Reply, reply_of, World, store_of, StoreFault, Store, answer_to, Prints, says_accepted}, specs.Committing.{CommitsTo}, specs.Moves.{Stands, MovesBy, VerdictLeads, StopsStore, RunsAt, FailsRun}, proofs.Moving.{moves_as, moves_from, works_at, stands_alone}}
-use Rattle.moo_store_rows.{specs.Moment.{Moment, state_of_moment, rows_alone, KeepsCellsAt, LeadsBy}, specs.Place.{Place, Works, Failed, Between, IsAtPlace}, specs.Committing.{CommitsCells}}
-use Rattle.std.specs.Prelude.{IsSome}
+use Rattle.moo_store.{proofs.Words.{◌≡◌, ◌∙◌, inl, inr, Bool, true, false, Some, List, Result, Ok, Err, IfOk, MatchResult, refl, sym, ap, subst, Ghosts, IsGood, Head, state_of, Batch, judge, left_by, Accepted, Maps, AreChanges, Value, Reply, reply_of, World, store_of, StoreFault, Store, answer_to, Prints, says_accepted}, specs.Committing.{CommitsTo}, specs.Moves.{Stands, MovesBy, VerdictLeads, StopsStore, RunsAt, FailsRun}, proofs.Moving.{moves_as, moves_from, works_at, stands_alone}}
+use Rattle.moo_store_rows.{specs.Moment.{Moment, state_of_moment, rows_alone, KeepsCellsAt, LeadsBy}, specs.Place.{Place, Works, Failed, Between, IsAtPlace}, specs.Committing.{CommitsCells}, proofs.Committed.{clean_of, cause_of}}
 use Rattle.sqlite.specs.declared.error.Error.{Error}
 use Rattle.moo_memory.specs.declared.changes.Changes.{Changes}
-use Rattle.moo_tables_rows.{specs.declared.cells.CellChanges.{CellChanges}, specs.Cause.{StopsChange}}
+use Rattle.moo_tables_rows.specs.declared.cells.CellChanges.{CellChanges}
 use Rattle.moo_text.specs.declared.reply.Answer.TheVariants as answer
 use Rattle.moo_text.specs.declared.reply.Reply.TheVariants as reply
 use Rattle.moo_world.specs.Between.{BatchLeads}
@@ -18,8 +17,7 @@ module _ {S : Type 0} (g : Ghosts S) (old new : World S) (answers : List Value) 
     (rows : Maps) (exact : AreChanges old.rows.maps rows changes) where
   -- what the changes come to from a moment
   abbrev Goes : Result (Unit {0}) Error → Moment → Type 0
-  Goes r m = (next : Moment) × (next.rows ≡ rows) × KeepsCellsAt m.rows next.rows m.cells next.cells × MatchResult r (λ done. IsAtPlace (store_of g new) (Works next))
-      (λ error. IsAtPlace (store_of g new) (Between m next) × (HasCleanDisk (store_of g new) → IsSome m.cells → StopsChange (store_of g old) (store_of g new) error))
+  Goes r m = (next : Moment) × (next.rows ≡ rows) × KeepsCellsAt m.rows next.rows m.cells next.cells × MatchResult r (λ done. IsAtPlace (store_of g new) (Works next)) (λ error. IsAtPlace (store_of g new) (Between m next))
 
   went : (r : Result (Unit {0}) Error) → CommitsCells cells (store_of g old) (store_of g new) r → (m : Moment) → Stands g old (Works m) → Goes r m
   went r did m at =
@@ -28,7 +26,7 @@ module _ {S : Type 0} (g : Ghosts S) (old new : World S) (answers : List Value) 
 
   -- they were committed, and the rows are those that they give unless memory ran out
   pub moves_on : (done : Unit {0}) → IsGood rows → CommitsCells cells (store_of g old) (store_of g new) (Ok done) → (new.failed ≡ false → new.rows.maps ≡ rows) → MovesBy g old new (λ from to. CommitsTo answers changes rows from (Ok (reply.Accepted changes.head.seq answers)) to)
-  moves_on done good did applied = moves_from g old new _ works did.clean (λ m at. (let it = went (Ok done) did m at in by m it.0 it.1 it.2 it.3 new.failed refl))
+  moves_on done good did applied = moves_from g old new _ works (clean_of cells (store_of g old) (store_of g new) (Ok done) did.tables) (λ m at. (let it = went (Ok done) did m at in by m it.0 it.1 it.2 it.3 new.failed refl))
     where
       by : (m next : Moment) → next.rows ≡ rows → KeepsCellsAt m.rows next.rows m.cells next.cells → IsAtPlace (store_of g new) (Works next) → (failed : Bool) → new.failed ≡ failed
           → (to : Place) × Stands g new to × CommitsTo answers changes rows (Works m) (Ok (reply.Accepted changes.head.seq answers)) to
@@ -45,21 +43,21 @@ module _ {S : Type 0} (g : Ghosts S) (old new : World S) (answers : List Value) 
 
   -- the store failed
   pub moves_off : (error : Error) → IsGood rows → CommitsCells {A = Unit {0}} cells (store_of g old) (store_of g new) (Err error) → new.failed ≡ true → MovesBy g old new (λ from to. CommitsTo answers changes rows from (Err (Store error)) to)
-  moves_off error good did failed = moves_from g old new _ works did.clean (λ m at.
+  moves_off error good did failed = moves_from g old new _ works (let r : Result (Unit {0}) Error = Err error in clean_of cells (store_of g old) (store_of g new) r did.tables) (λ m at.
       let it = went (Err error) did m at in (
         Between m it.0,
         record {
           failed = failed;
           good = λ t left. elim left [ inl was ↦ at.good t was | inr on ↦ good_next rows it.0 it.1 good t on ];
           rows = λ e. (let no : true ≡ false = sym failed ∙ e in absurd cc);
-          rests = it.3.0.rests;
-          crash = it.3.0.crash;
+          rests = it.3.rests;
+          crash = it.3.crash;
         },
         (it.0, it.1, it.2, refl),
       ))
 
   pub fails_by : (error : Error) → CommitsCells {A = Unit {0}} cells (store_of g old) (store_of g new) (Err error) → FailsRun g old new (Store error)
-  fails_by error did = inr (error, refl, λ m at some clean. (went (Err error) did m at).3.1 clean some)
+  fails_by error did = inr (error, refl, λ m at some clean. cause_of cells (store_of g old) (store_of g new) error did.tables m (record { rests = at.rests; crash = at.crash }) clean some)
 
 -- ---- what `run_one` says of it
 

@@ -47,6 +47,10 @@ acknowledged-push (b ∷ bs) (reply.Full k ∷ rs) batch r low is = acknowledged
 acknowledged-push (b ∷ bs) (reply.Stale seq ∷ rs) batch r low is = acknowledged-push bs rs batch r (omega (arith, low)) is
 acknowledged-push (b ∷ bs) (reply.NoMemory ∷ rs) batch r low is = acknowledged-push bs rs batch r (omega (arith, low)) is
 
+none_in : (first second : List Batch) → first ++ second ≡ [] → (first ≡ []) × (second ≡ [])
+none_in [] second none = (refl, none)
+none_in (b ∷ bs) second none = let no : b ∷ (bs ++ second) ≡ [] = none in absurd cc
+
 -- nothing is written for no batch
 pub none_written : {S : Type 0} (g : Ghosts S) (old : World S) (tables : Tables) → StandsOver g old tables → HasWritten g old old tables []
 none_written g old tables over = record { end = old.rows.maps; after = tables; rests = over.rests; current = over.current; writes = (refl, refl); rows = λ works. refl; unread = refl }
@@ -101,6 +105,7 @@ left_then g old now next tables first second others works shown was on trees lie
 pub nothing_written : {S : Type 0} (g : Ghosts S) (old : World S) (batch : Batch) (r : Result Reply StoreFault) → IsSettled (store_of g old) → (old.failed ≡ false → IsGood old.rows.maps) → taken_of batch r ≡ [] → WritesOne g old old batch r
 nothing_written g old batch r settled good none = record {
   clean = λ c. c;
+  still = λ _ _. refl;
   written = λ c known tables over. subst (HasWritten g old old tables) (sym none) (none_written g old tables over);
   led = λ clean shown works trees lies. (0, omega arith, old.rows.maps, good works, subst (λ done. BatchesLead (done ++ []) old.rows.maps old.rows.maps) (sym none) refl, rows_at_rest (store_of g old) old.rows.maps settled (shown clean) trees lies);
   left = λ c tables over. left_at_rest g old tables (taken_of batch r) (lost_of batch r) settled none over;
@@ -154,7 +159,8 @@ written_none g old settled = record {
   clean = λ c. c;
   works = λ works. works;
   none = λ works. refl;
-  closed = λ failed. (refl, refl, refl);
+  closed = λ failed. (refl, refl);
+  still = λ _ _. refl;
   written = λ c known tables over. none_written g old tables over;
   led = λ c shown good. led_at_rest g old old [] [] settled c shown good (none_written g old);
   left = λ c tables over. left_at_rest g old tables [] [] settled refl over;
@@ -174,6 +180,7 @@ written_on g old now next batches lost batch (Ok reply) was works one =
       works = λ _. was.works works;
       none = λ on. append-nil lost ∙ was.none works;
       closed = λ failed. let no : true ≡ false = sym failed ∙ was.works works in absurd cc;
+      still = λ none fewer. (let took = none_in batches (taken_of batch (Ok reply)) none in one.still took.1 refl ∙ was.still took.0 (none_in lost [] fewer).0);
       written = λ c known tables over. written_then g old now next tables batches (taken_of batch (Ok reply)) works (over.shows (was.works works)) (was.written (one.clean c) (inl works) tables over) (one.written c tt);
       led = λ c shown good. subst (LeavesLed (store_of g next) old.rows.maps (batches ++ taken_of batch (Ok reply))) (sym (append-nil lost ∙ was.none works))
           (led_then g old now next batches (taken_of batch (Ok reply)) [] works (was.clean (one.clean c)) shown (was.written (one.clean c) (inl works)) (λ shows. one.led c shows works));
@@ -187,6 +194,7 @@ written_on g old now next batches lost batch (Err fault) was fails one =
       works = λ _. was.works works;
       none = λ on. let no : true ≡ false = sym failed ∙ on in absurd cc;
       closed = λ shut. let no : true ≡ false = sym shut ∙ was.works works in absurd cc;
+      still = λ none fewer. let no : batch ∷ [] ≡ [] = (none_in lost (batch ∷ []) fewer).1 in absurd cc;
       written = λ c known tables over. elim known [
         | inl on ↦ (let no : true ≡ false = sym failed ∙ on in absurd cc)
         | inr opened ↦ written_then g old now next tables batches [] works (over.shows (was.works works)) (was.written (one.clean c) (inl works) tables over) (one.written c opened)
@@ -214,13 +222,14 @@ pub moved_then : {S : Type 0} (g : Ghosts S) (old mid new : World S) (first gone
 moved_then g old mid new first gone second lost was on = elim (fails_or_works mid.failed) [
   | inl failed ↦
       let stays = on.closed failed in
-      subst₂ (λ bs ls. IsMovedBy g old new (first ++ bs) (gone ++ ls)) (sym stays.1) (sym stays.2) (written_same g old mid new first gone stays.0 was)
+      subst₂ (λ bs ls. IsMovedBy g old new (first ++ bs) (gone ++ ls)) (sym stays.0) (sym stays.1) (written_same g old mid new first gone (on.still stays.0 stays.1) was)
   | inr works ↦
       record {
         clean = λ c. was.clean (on.clean c);
         works = λ _. was.works works;
         none = λ still. subst (λ bs. bs ++ lost ≡ []) (sym (was.none works)) (on.none still);
         closed = λ failed. let no : true ≡ false = sym failed ∙ was.works works in absurd cc;
+        still = λ none fewer. (let took = none_in first second none in let lacks = none_in gone lost fewer in on.still took.1 lacks.1 ∙ was.still took.0 lacks.0);
         written = λ c known tables over. written_then g old mid new tables first second works (over.shows (was.works works)) (was.written (on.clean c) (inl works) tables over) (on.written c known);
         led = λ c shown good. subst (λ bs. LeavesLed (store_of g new) old.rows.maps (first ++ second) (bs ++ lost)) (sym (was.none works))
             (led_then g old mid new first second lost works (was.clean (on.clean c)) shown (was.written (on.clean c) (inl works)) (λ shows. on.led c shows (good_when_moved g old mid first gone was works (on.clean c) shown good)));
@@ -237,10 +246,6 @@ pub record Wrote {S : Type 0} (g : Ghosts S) (old now : World S) (all : List Bat
   pub works : now.failed ≡ false → old.failed ≡ false
   pub written : HasCleanDisk (store_of g now) → (tables : Tables) → StandsOver g old tables → HasWritten g old now tables (acknowledged all replies)
   pub same : acknowledged all replies ≡ [] → now ≡ old
-
-none_in : (first second : List Batch) → first ++ second ≡ [] → (first ≡ []) × (second ≡ [])
-none_in [] second none = (refl, none)
-none_in (b ∷ bs) second none = let no : b ∷ (bs ++ second) ≡ [] = none in absurd cc
 
 -- nothing is written for no reply
 pub wrote_none : {S : Type 0} (g : Ghosts S) (old : World S) (all : List Batch) → Wrote g old old all []

@@ -1,10 +1,13 @@
 -- What committing an accepted batch makes of a World.
 use Rattle.std.specs.Prelude.{◌≡◌, ◌⊎◌, List, Result, Ok, Err}
+use Rattle.sqlite.specs.State.{State as Database}
 use Rattle.moo_rows.specs.Maps.{Maps}
 use Rattle.moo_memory.specs.declared.changes.Changes.{Changes}
 use Rattle.moo_value.specs.declared.value.Value.{Value}
 use Rattle.moo_text.specs.declared.reply.Reply.{Reply}
 use Rattle.moo_text.specs.declared.reply.Reply.TheVariants.{Accepted}
+use Rattle.moo_tables_rows.specs.declared.cells.CellChanges.{CellChanges}
+use Rattle.moo_store_rows.specs.Committing.{CommitsCells}
 use Rattle.moo_store_rows.specs.Moment.{Moment, KeepsCellsAt}
 use Rattle.moo_store_rows.specs.Place.{Place, Works, Failed, Between, moment_of}
 use Rattle.moo_store_rows.specs.declared.fault.StoreFault.{StoreFault}
@@ -21,3 +24,9 @@ abbrev pub CommitsTo : List Value → Changes → Maps → Place → Result Repl
 CommitsTo answers changes rows from r to =
     (next : Moment) × (next.rows ≡ rows) × KeepsCellsAt (moment_of from).rows next.rows (moment_of from).cells next.cells
     × CommitsAs answers changes (moment_of from) next r to
+
+-- The cells of the changes were committed to the store of the World, if there is a reply; or they weren't, for the error of the fault.
+abbrev pub CommitsInto : CellChanges → Database → Database → Result Reply StoreFault → Type 0
+CommitsInto cells old new (Ok reply) = CommitsCells {A = Unit {0}} cells old new (Ok tt)
+CommitsInto cells old new (Err (Store error)) = CommitsCells {A = Unit {0}} cells old new (Err error)
+CommitsInto cells old new (Err fault) = ⊥

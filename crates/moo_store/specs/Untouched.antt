@@ -71,6 +71,8 @@ IsKnown store r = MatchStore r ⊤ (IsTrue store.is_open)
 -- What one batch writes, if the disk returns what was written; it returned that before too. If the store fails, it writes nothing.
 pub record WritesOne {S : Type 0} (g : Ghosts S) (old new : World S) (batch : Batch) (r : Result Reply StoreFault) : Type 0 where
   pub clean : HasCleanDisk (store_of g new) → HasCleanDisk (store_of g old)
+  -- a batch that isn't acknowledged, and in which the store didn't fail, leaves the very World
+  pub still : taken_of batch r ≡ [] → lost_of batch r ≡ [] → new ≡ old
   pub written : HasCleanDisk (store_of g new) → IsKnown (store_of g new) r → (tables : Tables) → StandsOver g old tables →
       HasWritten g old new tables (taken_of batch r)
   -- a crash leaves the rows that an accepted batch led to; if the store failed, those before the batch or those that it leads to
@@ -81,12 +83,13 @@ pub record WritesOne {S : Type 0} (g : Ghosts S) (old new : World S) (batch : Ba
       LeavesWritten (store_of g new) old.rows.maps tables (unread_of (store_of g old).now.trees) (taken_of batch r) (lost_of batch r)
 
 -- Accepted batches, one after another, made this World of that one: these were acknowledged, and the store failed in the others, of which
--- there are none while the World works. One that had failed is as it was.
+-- there are none while the World works. If it had failed there are none of either; and without any it is the very World.
 pub record IsMovedBy {S : Type 0} (g : Ghosts S) (old now : World S) (batches lost : List Batch) : Type 0 where
   pub clean : HasCleanDisk (store_of g now) → HasCleanDisk (store_of g old)
   pub works : now.failed ≡ false → old.failed ≡ false
   pub none : now.failed ≡ false → lost ≡ []
-  pub closed : old.failed ≡ true → (now ≡ old) × (batches ≡ []) × (lost ≡ [])
+  pub closed : old.failed ≡ true → (batches ≡ []) × (lost ≡ [])
+  pub still : batches ≡ [] → lost ≡ [] → now ≡ old
   -- in the tables, each batch that was acknowledged keeps the cells of the rows that it leaves as they are
   pub written : HasCleanDisk (store_of g now) → (now.failed ≡ false) ⊎ IsTrue (store_of g now).is_open → (tables : Tables) →
       StandsOver g old tables → HasWritten g old now tables batches

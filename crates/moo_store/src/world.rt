@@ -49,7 +49,7 @@ impl<S: Alter + Drop> World<S> {
     ghost use Rattle.moo_world.specs.ObjectLists.{objects_of};
     ghost use Rattle.moo_memory.specs.Changes.{AreChanges};
     ghost use Rattle.moo_store_rows.specs.Printed.{Prints};
-    ghost use Rattle.moo_store.specs.Committing.{CommitsTo};
+    ghost use Rattle.moo_store.specs.Committing.{CommitsTo, CommitsInto};
     ghost use Rattle.moo_store.specs.Moves.{Stands, MovesBy, RunsAt, FailsRun};
     ghost use Rattle.moo_store_rows.specs.Moment.{Moment, HasAtRest};
     ghost use Rattle.moo_store_rows.specs.Place as place;
@@ -92,6 +92,7 @@ impl<S: Alter + Drop> World<S> {
         requires changes { (next : Maps) × AreChanges self.old.rows.maps next changes × IsGood next }
         ensures moves { (rows : Maps) → AreChanges self.old.rows.maps rows changes → IsGood rows →
             MovesBy S.Store self.old self.new (λ from to. CommitsTo answers changes rows from result to) }
+        ensures commits { CommitsInto cells.now (store_of S.Store self.old) (store_of S.Store self.new) result }
         ensures fault { IfErr result (FailsRun S.Store self.old self.new) }
         ensures kept { KeepsFaults (store_of S.Store self.old) (store_of S.Store self.new) }
         ensures accepted { IfOk result (λ reply. reply ≡ Reply.Accepted changes.head.seq answers) }

@@ -26,7 +26,7 @@ returns-clause-moved g c =
     let good = c.has_good_rows.ensures in
     let moves = c.run_one.ensures.moves in
     let fails = fails_at_store g.S.Store settled was new batch c.run_one.result good moves c.run_one.ensures.fault in
-    moved_one g.S.Store was new batch c.run_one.result c.came.result c.came.ensures (settled was) fails (writes_one g.S.Store settled was new batch c.run_one.result good moves fails)
+    moved_one g.S.Store was new batch c.run_one.result c.came.result c.came.ensures (settled was) fails (writes_one g.S.Store settled was new batch c.run_one.result good moves fails c.run_one.ensures.still)
 
 pub returns-clause-seen : goal.returns-clause-seen
 returns-clause-seen g c = seen_one c.args.world.now.rows.maps (seen_by c.args.whys.now) (seen_by c.run_one.new.witness) Run c.args.batch.now c.run_one.result c.came.result c.came.ensures c.run_one.ensures.seen

@@ -15,7 +15,7 @@ returns g c =
       stands = subst (λ a. StandsBehind g.S.Store old batch a new) (sym c.answered_by.ensures) (stands_behind g.S.Store settled old new batch r good moves);
       result = r;
       answer = c.answered_by.ensures;
-      cells = writes_one g.S.Store settled old new batch r good moves fails;
+      cells = writes_one g.S.Store settled old new batch r good moves fails c.run_one.ensures.still;
       closed = stays_closed g.S.Store settled old new batch r good moves;
       fails = fails_stopped g.S.Store old new r fails;
     }

@@ -91,7 +91,7 @@ loop-batch-preserved g c =
           c.loop-batch-test.true c.batch-item.is c.loop-batch.invariant.progress longer (runs_one g.S.Store mid new batch (Ok reply) fails stands) stands;
       cells = wrote_on g.S.Store old mid new c.args.batches.now c.loop-batch.batch-index c.args.replies.now.items c.loop-batch.replies.items c.push.new.self.items batch reply
           c.loop-batch-test.true c.batch-item.is c.loop-batch.invariant.progress longer c.loop-batch.invariant.cells fails
-          (writes_one g.S.Store settled mid new batch (Ok reply) good moves fails) (takes_none g.S.Store settled mid new batch (Ok reply) good moves fails c.in-Ok.ensures.still);
+          (writes_one g.S.Store settled mid new batch (Ok reply) good moves fails c.in-Ok.ensures.still) (takes_none g.S.Store settled mid new batch (Ok reply) good moves fails c.in-Ok.ensures.still);
       good = stays_good g.S.Store settled mid new batch (Ok reply) good moves;
       kept = faults_then (store_of g.S.Store old) (store_of g.S.Store mid) (store_of g.S.Store new) c.loop-batch.invariant.kept c.in-Ok.ensures.kept;
       room = let longer : vec_len c.push.new.self ≡ vec_len c.loop-batch.replies + 1 = rw c.unwrap.ensures at c.push.ensures.len in omega (arith, longer, c.loop-batch.invariant.room, c.push.ensures.capacity, c.loop-batch-test.true);
@@ -117,7 +117,7 @@ returns-in-Err g c =
     let moves = c.in-Err.ensures.moves in
     let fails = fails_at_store g.S.Store settled mid new batch (Err fault) good moves c.in-Err.ensures.fault in
     let stands = stands_behind g.S.Store settled mid new batch (Err fault) good moves in
-    let writes = writes_one g.S.Store settled mid new batch (Err fault) good moves fails in
+    let writes = writes_one g.S.Store settled mid new batch (Err fault) good moves fails tt in
     let runs = runs_one g.S.Store mid new batch (Err fault) fails stands in
     let works : old.failed ≡ false = subst (λ (w : World _). w.failed ≡ false) c.self.view_is c.if-self.false in
     let stopped = stops (Unit {0}) g.S.Store old mid new all count before behind batch fault low c.batch-item.is p fails runs in
