@@ -1,11 +1,10 @@
 -- From what the files hold to what a connection to them keeps.
-use Rattle.moo_files.{proofs.Words.{◌≡◌, ◌≢◌, ◌⊎◌, inl, inr, ℕ, ◌≤◌, [], ap, arith, sym, subst, subst₂, ◌∙◌, ∥∥₁_elim, ∥∥₁_map, Trees-set, Trees, HasCleanDisk, Survives, Opens, IsLive, Held, IsEmpty, IsNothing, file_state, empty_is_sound, Ghosts, FileStore, State, Tables, schema_of, no_schema, ShowsState, LeavesState, Left, Adopts, IsBlank, HoldsTrees, HoldsTables, HoldsState, HasOtherTables, HasAnyTable, HoldsEarlier, IsMigrated, IsKept, ReadsAs, ReadsAsOurs, HoldsNoTable}, specs.Connected.{IsNewOrFound, OnlyLeaves}, proofs.BlankLemmas.{holds_none}, proofs.RemainsLemmas.{found_empty, begun_empty}}
+use Rattle.moo_files.{proofs.Words.{◌≡◌, ◌≢◌, ◌⊎◌, inl, inr, ℕ, ◌≤◌, [], ap, arith, sym, subst, subst₂, ◌∙◌, ∥∥₁_elim, ∥∥₁_map, Trees-set, Trees, HasCleanDisk, Survives, Opens, IsLive, Held, IsEmpty, IsNothing, file_state, empty_is_sound, Ghosts, FileStore, State, Tables, schema_of, no_schema, ShowsState, LeavesState, Left, Adopts, IsBlank, HoldsTrees, HoldsTables, HoldsState, HasOtherTables, HasAnyTable, IsMigrated, IsKept, ReadsAs, ReadsAsOurs, HoldsNoTable}, specs.Connected.{IsNewOrFound, OnlyLeaves}, proofs.BlankLemmas.{holds_none}, proofs.RemainsLemmas.{found_empty, begun_empty}}
 use Rattle.sqlite.{specs.Recovery.{Image}, specs.Schema.{Schema}, specs.State.{State as Database}, specs.Start.{FindsIn}, specs.Effect.{Database as Content, IsDatabase}}
 use Rattle.sqlite_trees.specs.Objects.{catalog_tree}
 use Rattle.sqlite_catalog.specs.Listing.{IsSound}
 use Rattle.moo_tables.{proofs.SchemaLemmas.{some_tables, one_schema}, proofs.ReopenLemmas.{opened}}
 use Rattle.moo_tables_rows.{specs.declared.version.Version.{Version}, specs.Inside.{Rests, Leaves}}
-use Rattle.moo_store_rows.specs.Opening.{HasEarlier}
 
 pub none_below : (n m : ℕ) → n ≤ m → m ≡ 0 → n ≡ 0
 none_below n m le e = omega (arith, le, e)
@@ -100,10 +99,6 @@ own_tables image store trees opens live found holds ours others = ours (λ versi
 
 pub any_table : (image : Image) (store : Database) (trees : Trees) → Opens store → IsLive store → FindsIn image store → HoldsTrees image trees → HasAnyTable trees → store.now.schema ≢ no_schema
 any_table image store trees opens live found holds any is = any (is_database image store trees no_schema opens live found holds is)
-
--- tables of an earlier version that it has are those that the files hold
-pub earlier_held : (image : Image) (store : Database) (trees : Trees) → Opens store → IsLive store → FindsIn image store → HoldsTrees image trees → HasEarlier store → HoldsEarlier image
-earlier_held image store trees opens live found holds it = record { trees = trees; holds = holds; such = (it.0, it.1, is_database image store trees (schema_of it.0) opens live found holds it.2) }
 
 -- ---- what the files of a connection read as
 

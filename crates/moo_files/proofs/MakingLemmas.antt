@@ -1,9 +1,10 @@
 -- What follows of what making a world does, whatever that is; and how it is made and refused.
-use Rattle.moo_files.{proofs.Words.{◌≡◌, ◌≢◌, ◌⊎◌, inl, inr, List, [], ◌∷◌, Result, Ok, Err, IfOk, IfErr, refl, sym, ap, subst, ◌∙◌, Trees, HasCleanDisk, Survives, Opens, IsLive, Held, IsEmpty, over_files, file_state, Ghosts, FileStore, Files, Image, outcomes, image_of, Leftover, Maps, State, LeavesState, store_of, no_schema, Error, IsOfStore, StoreFault, SparesFiles, HoldsTrees, HoldsState, HasAnyTable, IsCleanRemains, IsUnopened, KeepsSuch, Remains}, specs.Connected.{IsNewOrFound, OnlyLeaves}, specs.Making.{Site, Empty, HalfMade, Filled, IsSite, TakesWorld, KeepsSite, IsMadeIn, IsUnmadeIn, Makes}, specs.Remains.{StillHolds}, proofs.RemainsLemmas.{keeps_more, blank_more, spared_keeps, spared_blank, spared_begun, unopened_keeps, unopened_blank}, proofs.ContentsLemmas.{finds_held, any_table, left_only, left_new, left_begun, or_committed}}
+use Rattle.moo_files.{proofs.Words.{◌≡◌, ◌≢◌, ◌⊎◌, inl, inr, List, [], ◌∷◌, Result, Ok, Err, IfOk, IfErr, refl, sym, ap, subst, ◌∙◌, Trees, HasCleanDisk, Survives, Opens, IsLive, Held, IsEmpty, empty_is_sound, over_files, file_state, Ghosts, FileStore, Files, Image, outcomes, image_of, Leftover, Maps, State, LeavesState, store_of, no_schema, Error, IsOfStore, StoreFault, SparesFiles, HoldsTrees, HoldsState, HasAnyTable, IsCleanRemains, IsUnopened, KeepsSuch, Remains}, specs.Connected.{IsNewOrFound, OnlyLeaves}, specs.Making.{Site, Empty, HalfMade, Filled, IsSite, TakesWorld, KeepsSite, IsMadeIn, IsUnmadeIn, Makes}, specs.Remains.{StillHolds}, proofs.RemainsLemmas.{begun_empty, keeps_more, blank_more, spared_keeps, spared_blank, spared_begun, unopened_keeps, unopened_blank}, proofs.ContentsLemmas.{finds_held, shows_trees, none_found, any_table, left_only, left_new, left_begun, or_committed}}
 use Rattle.std.proofs.lemmas.Result.{IfOk-weaker, IfErr-weaker}
 use Rattle.sqlite.specs.Schema.{Schema}
 use Rattle.moo_world.specs.Judge.{state_of}
-use Rattle.moo_tables.proofs.SchemaLemmas.{some_tables, one_schema}
+use Rattle.moo_tables.proofs.SchemaLemmas.{some_tables, one_schema, no_other}
+use Rattle.sqlite.specs.Effect.{IsDatabase}
 use Rattle.moo_store.specs.Kept.{World}
 use Rattle.moo_store_rows.specs.declared.fault.StoreFault.TheVariants.{Store, OutOfMemory}
 use Rattle.moo_files.specs.declared.remains.Remains.TheVariants as remains
@@ -46,9 +47,9 @@ spared_site T image files same only rest spares (Filled trees) holds = same_site
 -- ---- what is left of files in which one was
 
 -- what a new world can't be made for says nothing of tables
-pub of_loading : {fault : StoreFault} {P : Type 0} → ((fault ≡ OutOfMemory) × P) ⊎ ((error : Error) × (fault ≡ Store error)) → IsOfStore fault
+pub of_loading : {fault : StoreFault} {P : Type 0} {Q : Error → Type 0} → ((fault ≡ OutOfMemory) × P) ⊎ ((error : Error) × (fault ≡ Store error) × Q error) → IsOfStore fault
 of_loading (inl (is, kept)) = subst IsOfStore (sym is) tt
-of_loading (inr (error, is)) = subst IsOfStore (sym is) tt
+of_loading (inr (error, is, cause)) = subst IsOfStore (sym is) tt
 
 list_cases : {A : Type 0} (xs : List A) → (xs ≡ []) ⊎ (xs ≢ [])
 list_cases [] = inl refl
@@ -72,6 +73,34 @@ module _ {D : Type 0} {g : Ghosts D} (image : Image) (old : Held (FileStore D g)
   takes_world empty Empty nothing = tt
   takes_world empty HalfMade begun = tt
   takes_world empty (Filled trees) holds = λ any. empty (any_table image (file_state old) trees opens live (finds_held image (file_state old) trees found holds) holds any)
+
+  shown : (file_state old).now.trees ≡ (file_state old).committed.trees
+  shown = ap (λ db. db.trees) opens.clean
+
+  without_tables : IsEmpty (file_state old).committed.trees → (file_state old).now.schema ≡ no_schema
+  without_tables empty =
+      let trees = (file_state old).now.trees in
+      no_other trees (file_state old).now.schema (empty_is_sound trees (subst IsEmpty (sym shown) empty).1) (live opens.is_open).0
+
+  no_table_there : (site : Site) → IsSite image site → TakesWorld site → ¬ ((file_state old).now.schema ≢ no_schema)
+  no_table_there Empty nothing room some = elim found [
+    | inl made ↦ some (without_tables made.1)
+    | inr finds ↦ some (without_tables (none_found image (file_state old) finds nothing))
+  ]
+  no_table_there HalfMade begun room some = elim found [
+    | inl made ↦ some (without_tables made.1)
+    | inr finds ↦ some (without_tables (begun_empty image (file_state old).committed.trees begun finds.reads))
+  ]
+  no_table_there (Filled trees) holds room some = room (λ none.
+      let same = shows_trees image (file_state old) trees opens (finds_held image (file_state old) trees found holds) holds in
+      some (no_other (file_state old).now.trees (file_state old).now.schema (subst (λ db. IsDatabase (record { schema = no_schema; trees = db })) (sym same) none) (live opens.is_open).0))
+
+  -- files that have room for a world have no table as they are opened
+  pub has_room : (site : Site) → IsSite image site → TakesWorld site → (file_state old).now.schema ≡ no_schema
+  has_room site is room = elim (schema_cases (file_state old).now.schema) [
+    | inl none ↦ none
+    | inr some ↦ absurd (no_table_there site is room some)
+  ]
 
   module _ (Made : Trees → Type 0) (new : Held (FileStore D g)) (only : OnlyLeaves (file_state old)) (taken : (file_state old).now.schema ≢ no_schema → new ≡ old) (crash : (new ≡ old) ⊎ Survives (file_state old) (file_state new) Made) (clean : HasCleanDisk (file_state new)) where
     filled_site : (trees : Trees) → HoldsTrees image trees → (left : Trees) → (file_state new).may_leave left → (left ≡ trees) ⊎ ((¬ HasAnyTable trees) × Made left)

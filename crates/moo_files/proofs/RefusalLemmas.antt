@@ -1,10 +1,10 @@
 -- What the fault of an open that failed says of the files.
-use Rattle.moo_files.{proofs.Words.{◌≡◌, ◌≢◌, ◌⊎◌, inl, inr, ◌<◌, IsTrue, refl, ap, Held, FileStore, file_state, sym, subst, ◌∙◌, ∥∥₁_elim, Ghosts, Files, Image, tally_of_files, Trees, store_error, FailsToOpenFiles, HoldsDatabase, faults_left, image_of, tally_left, Error, Leftover, not_ours, IsOfStore, StoreFault, HoldsTrees, ExcusesMalformed, IsUnopened, TakesForOurs, cannot_open, malformed, Remains, IsKept}, specs.Causes.{HasCauseOr, IsRefusedByDisk, StopsOver}, specs.Opened.{Contents, Nothing, Database, Unfit, Refuses}, specs.Connected.{Unconnects}, proofs.RemainsLemmas.{keeps_more}, proofs.CauseLemmas.{some_faults}}
+use Rattle.moo_files.{proofs.Words.{◌≡◌, ◌≢◌, ◌⊎◌, inl, inr, ◌<◌, IsTrue, refl, ap, Held, FileStore, file_state, sym, subst, ◌∙◌, ∥∥₁_elim, Ghosts, Files, Image, tally_of_files, Trees, Tables, store_error, FailsToOpenFiles, HoldsDatabase, faults_left, image_of, tally_left, Error, Leftover, not_ours, IsOfStore, StoreFault, HoldsTrees, ExcusesMalformed, IsUnopened, TakesForOurs, cannot_open, malformed, Remains, IsKept}, specs.Causes.{HasCauseOr, IsRefusedByDisk, StopsOver}, specs.Opened.{Contents, Nothing, Database, Unfit, Refuses}, specs.Connected.{Unconnects}, proofs.RemainsLemmas.{keeps_more}, proofs.CauseLemmas.{some_faults}}
 use Rattle.moo_files.specs.declared.remains.Remains.TheVariants as remains
-use Rattle.moo_store_rows.{specs.Opening.{HasEarlier, StopsOpening}, proofs.OpenLemmas.{says_of_store}}
+use Rattle.moo_store_rows.specs.Opening.{AreMigrated, StopsOpening}
 use Rattle.moo_tables.specs.ReadCause.{StopsQuery}
 use Rattle.moo_tables_rows.specs.Cause.{StopsChange}
-use Rattle.std.{specs.Prelude.{None, IsSome}, proofs.lemmas.Bool.{true≢false}}
+use Rattle.std.{specs.Prelude.{None, IsSome, ⊤}, proofs.lemmas.Bool.{true≢false}}
 use Rattle.sqlite.{specs.State.{State, HasCause as StoreCause}, specs.declared.error.Error.TheVariants.{SqliteFailure}, specs.declared.error.ErrorCode.{ErrorCode}}
 use Rattle.sqlite_trees.specs.declared.error.StoreError.{StoreError}
 use Rattle.sqlite_trees.specs.declared.error.StoreError.TheVariants as kinds
@@ -79,7 +79,6 @@ module _ {T D : Type 0} {g : Ghosts D} where
   pub refuses_unconnected : (image : Image) (fault : StoreFault) (r : Remains T D g) → IsOfStore fault → (held : Contents) → Unconnects held image fault r → Refuses held image fault r
   refuses_unconnected image fault r store Nothing it = (store, it)
   refuses_unconnected image fault r store (Database trees) it = record {
-    tables = λ tables leaves. says_of_store tables fault store;
     state = λ s leaves. store;
     other = λ others. store;
     ours = λ ours. takes_for_ours fault r it.own;
@@ -99,42 +98,49 @@ pub unconnected_cause : {T D : Type 0} {g : Ghosts D} (Over : Held (FileStore D 
 unconnected_cause Over Denied fault (remains.Connection conn) cause = absurd cause
 unconnected_cause Over Denied fault r cause = cause
 
--- ---- what stops the reading of tables over files
+-- ---- what stops the reading of tables over files, and their making
 
-module _ {D : Type 0} {g : Ghosts D} (old : State) (last : Held (FileStore D g)) (is_open : IsTrue old.is_open) (unlimited : old.step_limit ≡ None) (Earlier : Type 0) where
-  abbrev Stops : StoreFault → Type 0
-  Stops fault = StopsOver Earlier fault last
+module _ {D : Type 0} {g : Ghosts D} (old : State) (last : Held (FileStore D g)) (is_open : IsTrue old.is_open) (unlimited : old.step_limit ≡ None) where
+  module _ (Migrated : Type 0) where
+    abbrev Stops : StoreFault → Type 0
+    Stops fault = StopsOver Migrated fault last
 
-  store_stops : (e : Error) (kind : StoreError) → e ≡ store_error kind → StoreCause old (file_state last) ⊥ kind → Stops (faults.Store e)
-  store_stops e kinds.OutOfMemory is h = inl (inr (ap faults.Store is))
-  store_stops e kinds.Io is h = inr (inl (some_faults _ _ h))
-  store_stops e kinds.Corrupt is h = inr (inl (some_faults _ _ h))
-  store_stops e kinds.Full is h = inr (inl (some_faults _ _ h))
-  store_stops e kinds.Broken is h = absurd (true≢false (sym is_open ∙ h))
-  store_stops e kinds.Unstorable is h = absurd h
+    store_stops : (e : Error) (kind : StoreError) → e ≡ store_error kind → StoreCause old (file_state last) ⊥ kind → Stops (faults.Store e)
+    store_stops e kinds.OutOfMemory is h = inl (inr (ap faults.Store is))
+    store_stops e kinds.Io is h = inr (inl (some_faults _ _ h))
+    store_stops e kinds.Corrupt is h = inr (inl (some_faults _ _ h))
+    store_stops e kinds.Full is h = inr (inl (some_faults _ _ h))
+    store_stops e kinds.Broken is h = absurd (true≢false (sym is_open ∙ h))
+    store_stops e kinds.Unstorable is h = absurd h
 
-  no_limit : IsSome old.step_limit → ⊥
-  no_limit some = true≢false (sym (subst IsSome unlimited some))
+    no_limit : IsSome old.step_limit → ⊥
+    no_limit some = true≢false (sym (subst IsSome unlimited some))
 
-  query_stops : (e : Error) → StopsQuery old (file_state last) e → Stops (faults.Store e)
-  query_stops e (inl h) = store_stops e h.0 h.1 h.2
-  query_stops e (inr h) = absurd (no_limit h.1)
+    query_stops : (e : Error) → StopsQuery old (file_state last) e → Stops (faults.Store e)
+    query_stops e (inl h) = store_stops e h.0 h.1 h.2
+    query_stops e (inr h) = absurd (no_limit h.1)
 
-  change_stops : (e : Error) → Earlier → StopsChange old (file_state last) e → Stops (faults.Store e)
-  change_stops e earlier (inl (kinds.OutOfMemory, is, h)) = inl (inr (ap faults.Store is))
-  change_stops e earlier (inl (kinds.Io, is, h)) = inr (inl (some_faults _ _ h))
-  change_stops e earlier (inl (kinds.Corrupt, is, h)) = inr (inl (some_faults _ _ h))
-  change_stops e earlier (inl (kinds.Full, is, h)) = inr (inl (some_faults _ _ h))
-  change_stops e earlier (inl (kinds.Broken, is, h)) = absurd (true≢false (sym is_open ∙ h))
-  change_stops e earlier (inl (kinds.Unstorable, is, h)) = inr (inr (earlier, inl (ap faults.Store is)))
-  change_stops e earlier (inr (inl h)) = absurd (no_limit h.1)
-  change_stops e earlier (inr (inr h)) = inr (inr (earlier, inr (ap faults.Store h)))
+    pub change_stops : (e : Error) → Migrated → StopsChange old (file_state last) e → Stops (faults.Store e)
+    change_stops e migrated (inl (kinds.OutOfMemory, is, h)) = inl (inr (ap faults.Store is))
+    change_stops e migrated (inl (kinds.Io, is, h)) = inr (inl (some_faults _ _ h))
+    change_stops e migrated (inl (kinds.Corrupt, is, h)) = inr (inl (some_faults _ _ h))
+    change_stops e migrated (inl (kinds.Full, is, h)) = inr (inl (some_faults _ _ h))
+    change_stops e migrated (inl (kinds.Broken, is, h)) = absurd (true≢false (sym is_open ∙ h))
+    change_stops e migrated (inl (kinds.Unstorable, is, h)) = inr (inr (migrated, inl (ap faults.Store is)))
+    change_stops e migrated (inr (inl h)) = absurd (no_limit h.1)
+    change_stops e migrated (inr (inr h)) = inr (inr (migrated, inr (ap faults.Store h)))
 
-  opening_stops : (e : Error) → (HasEarlier old → Earlier) → StopsQuery old (file_state last) e ⊎ (HasEarlier old × StopsChange old (file_state last) e) → Stops (faults.Store e)
-  opening_stops e earlier (inl h) = query_stops e h
-  opening_stops e earlier (inr h) = change_stops e (earlier h.0) h.1
+  opening_stops : (tables : Tables) (e : Error) → StopsQuery old (file_state last) e ⊎ (AreMigrated tables × StopsChange old (file_state last) e) → StopsOver (AreMigrated tables) (faults.Store e) last
+  opening_stops tables e (inl h) = query_stops (AreMigrated tables) e h
+  opening_stops tables e (inr h) = change_stops (AreMigrated tables) e h.0 h.1
 
-  pub stops_over : (fault : StoreFault) → (HasEarlier old → Earlier) → StopsOpening old (file_state last) fault → Stops fault
-  stops_over (faults.Store e) earlier it = opening_stops e earlier it
-  stops_over faults.OutOfMemory earlier it = inl (inl refl)
-  stops_over fault earlier it = absurd it
+  pub stops_over : (tables : Tables) (fault : StoreFault) → StopsOpening tables old (file_state last) fault → StopsOver (AreMigrated tables) fault last
+  stops_over tables (faults.Store e) it = opening_stops tables e it
+  stops_over tables faults.OutOfMemory it = inl (inl refl)
+  stops_over tables fault it = absurd it
+
+  -- a world is made over a connection that was open without tables
+  pub making_stops : {Kept Clean Empty : Type 0} (fault : StoreFault) → Clean → Empty → ((fault ≡ faults.OutOfMemory) × Kept) ⊎ ((error : Error) × (fault ≡ faults.Store error) × (Clean → Empty → StopsChange old (file_state last) error))
+      → StopsOver ⊤ fault last
+  making_stops fault clean empty (inl (is, kept)) = inl (inl is)
+  making_stops fault clean empty (inr (error, is, cause)) = subst (λ f. StopsOver ⊤ f last) (sym is) (change_stops ⊤ error tt (cause clean empty))

@@ -16,7 +16,6 @@ use Rattle.sqlite.specs.declared.error.ErrorCode.TheVariants as code
 use Rattle.sqlite.specs.declared.file.Leftover.{Leftover}
 use Rattle.moo_store_rows.specs.declared.fault.StoreFault.{StoreFault}
 use Rattle.moo_store_rows.specs.declared.fault.StoreFault.TheVariants.{Store, OutOfMemory}
-use Rattle.moo_files.specs.Contents.{HoldsEarlier}
 use Rattle.moo_files.specs.declared.remains.Remains.{Remains}
 use Rattle.moo_files.specs.declared.remains.Remains.TheVariants as remains
 
@@ -60,16 +59,16 @@ abbrev pub StopsMigration : StoreFault → Type 0
 StopsMigration fault = (fault ≡ Store (SqliteFailure code.TooBig)) ⊎ (fault ≡ Store (SqliteFailure code.NoRowid))
 
 module _ {D : Type 0} {g : Ghosts D} where
-  -- Why the tables of an open connection that show a state give no world: memory ran out, as this program or the store tells it, or a call
-  -- of the disk failed. Those of an earlier version are migrated, which may stop too.
+  -- Why the tables of an open connection, with which nothing is wrong, give no world: memory ran out, as this program or the store tells
+  -- it, or a call of the disk failed. If they are migrated, that may stop too.
   abbrev pub StopsOver : Type 0 → StoreFault → Held (FileStore D g) → Type 0
-  StopsOver Earlier fault conn =
-      ((fault ≡ OutOfMemory) ⊎ (fault ≡ Store (SqliteFailure code.OutOfMemory))) ⊎ ((0 < (file_state conn).faults) ⊎ (Earlier × StopsMigration fault))
+  StopsOver Migrated fault conn = ((fault ≡ OutOfMemory) ⊎ (fault ≡ Store (SqliteFailure code.OutOfMemory)))
+      ⊎ ((0 < (file_state conn).faults) ⊎ (Migrated × StopsMigration fault))
 
 module _ {T D : Type 0} {g : Ghosts D} where
-  -- why a state that files hold is refused, be a connection open or not
-  abbrev pub HasCauseOfState : Image → Type 0 → StoreFault → Remains T D g → Type 0
-  HasCauseOfState image Denied fault = HasCauseOr (StopsOver (HoldsEarlier image) fault) Denied fault
+  -- why such tables in files are refused, be a connection open or not
+  abbrev pub HasCauseOver : Type 0 → Type 0 → StoreFault → Remains T D g → Type 0
+  HasCauseOver Migrated Denied fault = HasCauseOr (StopsOver Migrated fault) Denied fault
 
 -- the name isn't a path, or it is denied
 abbrev pub IsDenied : (List ℕ → Type 0) → List ℕ → Type 0

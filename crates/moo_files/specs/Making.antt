@@ -4,9 +4,10 @@ use Rattle.sqlite_disk.specs.declared.Disk.{Ghosts}
 use Rattle.sqlite_store.specs.declared.store.FileStore.{FileStore}
 use Rattle.sqlite_wal.specs.Recovery.{Image}
 use Rattle.sqlite.specs.State.{HasCleanDisk}
+use Rattle.sqlite.specs.Held.{Held}
 use Rattle.sqlite.specs.Files.{over_files, IsNothing}
 use Rattle.sqlite.specs.Tree.{Trees}
-use Rattle.moo_rows.specs.Maps.{Maps, Held}
+use Rattle.moo_rows.specs.Maps.{Maps, Held as Rows}
 use Rattle.moo_rows.specs.Opening.{opening_maps}
 use Rattle.moo_world.specs.Judge.{state_of}
 use Rattle.moo_store.specs.Kept.{World}
@@ -15,13 +16,14 @@ use Rattle.moo_store_rows.specs.States.{LeavesState}
 use Rattle.moo_store.specs.World.{store_of, StandsFor, Left}
 use Rattle.moo_store_rows.specs.declared.fault.StoreFault.{StoreFault}
 use Rattle.moo_files.specs.Blank.{IsBlank}
+use Rattle.moo_files.specs.Causes.{StopsOver}
 use Rattle.moo_files.specs.Contents.{HoldsTrees, HasAnyTable, HoldsNoTable}
 use Rattle.moo_files.specs.Opened.{Attempt}
 use Rattle.moo_files.specs.Remains.{IsCleanRemains, MayStopAs, KeepsNothingBut, KeepsSuch, Spares}
 use Rattle.moo_files.specs.declared.remains.Remains.{Remains}
 
 -- these rows, or without any those of the opening world
-abbrev pub rows_made : Option Held → Maps
+abbrev pub rows_made : Option Rows → Maps
 rows_made None = opening_maps
 rows_made (Some rows) = rows.maps
 
@@ -43,6 +45,11 @@ TakesWorld HalfMade = ⊤
 TakesWorld (Filled trees) = ¬ HasAnyTable trees
 
 module _ {D : Type 0} {g : Ghosts D} where
+  -- Why no world is made over an open connection, if the files had room for one: memory ran out, a call of the disk failed, or a row is too
+  -- big or has no number left.
+  abbrev pub StopsMaking : Image → StoreFault → Held (FileStore D g) → Type 0
+  StopsMaking image fault conn = (site : Site) → IsSite image site → TakesWorld site → StopsOver ⊤ fault conn
+
   -- A world of these rows was made in files that had room for it: it has the very rows, and a crash leaves it.
   pub record IsMadeIn (rows : Maps) (image : Image) (world : World (FileStore D g)) : Type 0 where
     pub stands : StandsFor over_files true world (state_of rows)

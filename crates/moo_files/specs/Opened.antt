@@ -12,7 +12,7 @@ use Rattle.moo_tables_rows.specs.Tables.{Tables}
 use Rattle.moo_tables_rows.specs.Inside.{Leaves}
 use Rattle.moo_cells.specs.Shows.{ShowsRows}
 use Rattle.moo_store.specs.Kept.{World}
-use Rattle.moo_store_rows.specs.Opening.{IsOfStore, Says}
+use Rattle.moo_store_rows.specs.Opening.{IsOfStore}
 use Rattle.moo_store_rows.specs.States.{LeavesState}
 use Rattle.moo_store_rows.specs.Current.{RestsCurrent}
 use Rattle.moo_store.specs.World.{store_of, StandsFor, Left}
@@ -64,10 +64,9 @@ module _ {T D : Type 0} {g : Ghosts D} where
     pub stopped : MayStopAs fault rest
     pub spared : ¬ IsNothing image → IsCleanRemains rest → Spares image rest
 
-  -- This database is refused. A damage that is told is that of its tables, none is told of a state or of tables that aren't ours, and
-  -- ours are never called others. The files hold it still, or what it was migrated to.
+  -- This database is refused. No damage is told of a state or of tables that aren't ours, and ours are never called others. The files hold it
+  -- still, or what it was migrated to.
   pub record RefusesOver (trees : Trees) (image : Image) (fault : StoreFault) (rest : Remains T D g) : Type 0 where
-    pub tables : (tables : Tables) → Leaves trees tables → Says tables fault
     pub state : (s : State) → LeavesState trees s → IsOfStore fault
     pub other : HasOtherTables trees → IsOfStore fault
     pub ours : (¬ HasOtherTables trees) → TakesForOurs fault rest

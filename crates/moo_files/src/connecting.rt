@@ -6,7 +6,7 @@ ghost use Rattle.sqlite.specs.Tree.{Trees};
 ghost use Rattle.sqlite.specs.WalFiles.{image_at};
 ghost use Rattle.sqlite_std_file.specs.declared.pair.OpenError.{OpenError as Refusal};
 ghost use Rattle.moo_store_rows.specs.Opening.{IsOfStore, not_ours};
-ghost use Rattle.moo_files.specs.Causes.{HasCause, HasCauseOr, IsDenied, IsOpenable};
+ghost use Rattle.moo_files.specs.Causes.{HasCauseOr, IsDenied, IsOpenable};
 ghost use Rattle.moo_files.specs.Connected.{IsConnected, IsNewOrFound, Unconnects};
 ghost use Rattle.moo_files.specs.Contents.{HoldsTrees};
 ghost use Rattle.moo_files.specs.Making.{IsUnmadeIn};
@@ -93,7 +93,7 @@ pub(crate) fn open_new<T: Start, H: WorldFiles<T>>(
     // Otherwise the store failed, and no world was begun.
     ensures unmade { IfErr result (λ e. IsUnmadeIn (λ _. ⊥) (image_at T.Start) e.0 e.1) }
     ensures cause { IsOpenable (image_at T.Start) →
-        IfErr result (λ e. IsCleanRemains e.1 → HasCause (IsDenied (H.denies host.now) path.now) e.0 e.1) }
+        IfErr result (λ e. IsCleanRemains e.1 → HasCauseOr (λ _. ⊥) (IsDenied (H.denies host.now) path.now) e.0 e.1) }
     ensures refusing { IfErr result (λ e. IfNotOpened e.1 ((error : Refusal) × H.refuses host.now path.now error)) }
 {
     let (files, options) = match open_pair(host, path, start) {

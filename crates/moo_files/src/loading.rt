@@ -4,8 +4,8 @@ ghost use Rattle.std.specs.Prelude.{◌<◌, ◌^◌, IfErr};
 ghost use Rattle.sqlite.specs.WalFiles.{image_at};
 ghost use Rattle.sqlite_std_file.specs.declared.pair.OpenError.{OpenError as Refusal};
 ghost use Rattle.moo_world.specs.Rows.{IsGood};
-ghost use Rattle.moo_files.specs.Causes.{HasCause, IsDenied, IsOpenable};
-ghost use Rattle.moo_files.specs.Making.{Makes};
+ghost use Rattle.moo_files.specs.Causes.{HasCauseOr, IsDenied, IsOpenable};
+ghost use Rattle.moo_files.specs.Making.{Makes, StopsMaking};
 ghost use Rattle.moo_files.specs.Remains.{IfNotOpened, IsCleanRemains};
 
 use crate::making::make_from;
@@ -38,9 +38,11 @@ pub fn load_from<T: Start, H: WorldFiles<T>>(
     ensures makes { Makes rows.maps (image_at T.Start) result }
     // If they couldn't be opened, the host said so.
     ensures refusing { IfErr result (λ e. IfNotOpened e.1 ((error : Refusal) × H.refuses host.now path.now error)) }
-    // Before a connection is open, files that hold nothing or a database are refused only if the host, the disk or memory did.
+    // Files that hold nothing or a database are refused only if the host, the disk or memory did; and once a connection is open, if they have
+    // room for a world, only if the disk failed, memory ran out, or a row is too big or has no number left.
     ensures cause { IsOpenable (image_at T.Start) →
-        IfErr result (λ e. IsCleanRemains e.1 → HasCause (IsDenied (H.denies host.now) path.now) e.0 e.1) }
+        IfErr result (λ e. IsCleanRemains e.1 →
+        HasCauseOr (StopsMaking (image_at T.Start) e.0) (IsDenied (H.denies host.now) path.now) e.0 e.1) }
 {
     make_from(alloc, host, path, start, Some(rows))
 }

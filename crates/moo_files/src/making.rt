@@ -11,8 +11,8 @@ ghost use Rattle.moo_world.specs.Judge.{state_of};
 ghost use Rattle.moo_world.specs.Rows.{IsGood};
 ghost use Rattle.moo_store.specs.Loading.{Loads};
 ghost use Rattle.moo_store.specs.World.{store_of, Left};
-ghost use Rattle.moo_files.specs.Causes.{HasCause, IsDenied, IsOpenable};
-ghost use Rattle.moo_files.specs.Making.{rows_made, Makes};
+ghost use Rattle.moo_files.specs.Causes.{HasCauseOr, IsDenied, IsOpenable};
+ghost use Rattle.moo_files.specs.Making.{rows_made, Makes, StopsMaking};
 ghost use Rattle.moo_files.specs.Remains.{IfNotOpened, IsCleanRemains};
 
 use crate::connecting::open_new;
@@ -93,7 +93,8 @@ pub(crate) fn make_from<T: Start, H: WorldFiles<T>>(
     ensures makes { Makes (rows_made rows) (image_at T.Start) result }
     ensures refusing { IfErr result (λ e. IfNotOpened e.1 ((error : Refusal) × H.refuses host.now path.now error)) }
     ensures cause { IsOpenable (image_at T.Start) →
-        IfErr result (λ e. IsCleanRemains e.1 → HasCause (IsDenied (H.denies host.now) path.now) e.0 e.1) }
+        IfErr result (λ e. IsCleanRemains e.1 →
+        HasCauseOr (StopsMaking (image_at T.Start) e.0) (IsDenied (H.denies host.now) path.now) e.0 e.1) }
 {
     let conn = match open_new(alloc, host, path, start) {
         Ok(conn) => conn,
@@ -123,9 +124,11 @@ pub fn create_from<T: Start, H: WorldFiles<T>>(
     ensures makes { Makes opening_maps (image_at T.Start) result }
     // If they couldn't be opened, the host said so.
     ensures refusing { IfErr result (λ e. IfNotOpened e.1 ((error : Refusal) × H.refuses host.now path.now error)) }
-    // Before a connection is open, files that hold nothing or a database are refused only if the host, the disk or memory did.
+    // Files that hold nothing or a database are refused only if the host, the disk or memory did; and once a connection is open, if they have
+    // room for a world, only if the disk failed, memory ran out, or a row is too big or has no number left.
     ensures cause { IsOpenable (image_at T.Start) →
-        IfErr result (λ e. IsCleanRemains e.1 → HasCause (IsDenied (H.denies host.now) path.now) e.0 e.1) }
+        IfErr result (λ e. IsCleanRemains e.1 →
+        HasCauseOr (StopsMaking (image_at T.Start) e.0) (IsDenied (H.denies host.now) path.now) e.0 e.1) }
 {
     make_from(alloc, host, path, start, None)
 }

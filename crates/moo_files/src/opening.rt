@@ -7,12 +7,12 @@ ghost use Rattle.sqlite.specs.Files.{over_files};
 ghost use Rattle.sqlite.specs.Tree.{Trees};
 ghost use Rattle.sqlite.specs.WalFiles.{image_at};
 ghost use Rattle.sqlite_std_file.specs.declared.pair.OpenError.{OpenError as Refusal};
-ghost use Rattle.moo_world.specs.Judge.{State};
+ghost use Rattle.moo_tables_rows.specs.Tables.{Tables};
 ghost use Rattle.moo_store.specs.Opening.{Adopting};
-ghost use Rattle.moo_store_rows.specs.Opening.{not_ours};
+ghost use Rattle.moo_store_rows.specs.Opening.{SaysOr, AreMigrated, not_ours};
 ghost use Rattle.moo_store.specs.World.{store_of};
-ghost use Rattle.moo_files.specs.Causes.{HasCause, HasCauseOfState, IsDenied, IsUnfit};
-ghost use Rattle.moo_files.specs.Contents.{HoldsTrees, HoldsState};
+ghost use Rattle.moo_files.specs.Causes.{HasCause, HasCauseOver, IsDenied, IsUnfit};
+ghost use Rattle.moo_files.specs.Contents.{HoldsTrees, HoldsTables};
 ghost use Rattle.moo_files.specs.Opened.{Contents, Hold, IsOpenedOver, Opens, IsRefusedFrom, Refuses};
 ghost use Rattle.moo_files.specs.Remains.{cannot_open, IfNotOpened, IsCleanRemains};
 
@@ -81,17 +81,17 @@ pub fn open_from<T: Start, H: WorldFiles<T>>(
         IfOk result (λ world. HasCleanDisk (store_of over_files world) → Opens held world) }
     // Files that are refused are spared. If they weren't opened it is for one of few reasons, and that they couldn't be the host said.
     ensures refused { IfErr result (λ e. IsRefusedFrom (image_at T.Start) e.0 e.1) }
-    // A damage that is told is that of their tables, and they hold what they held, or what that was migrated to.
+    // No damage is told of a state or of other tables, and they hold what they held, or what that was migrated to.
     ensures refuses { (held : Contents) → Hold (image_at T.Start) held →
         IfErr result (λ e. IsCleanRemains e.1 → Refuses held (image_at T.Start) e.0 e.1) }
     ensures refusing { IfErr result (λ e. IfNotOpened e.1 ((error : Refusal) × H.refuses host.now path.now error)) }
     // Before a connection is open a database is refused only if the host denied it, the disk refused, or memory ran out.
     ensures cause { (trees : Trees) → HoldsTrees (image_at T.Start) trees →
         IfErr result (λ e. IsCleanRemains e.1 → HasCause (IsDenied (H.denies host.now) path.now) e.0 e.1) }
-    // A state is refused for no other cause, and for these alone once a connection is open: the disk failed, or memory ran out. Only one
-    // of an earlier version may be refused because it can't be migrated.
-    ensures stopped { (s : State) → HoldsState (image_at T.Start) s → IfErr result (λ e. IsCleanRemains e.1 →
-        HasCauseOfState (image_at T.Start) (IsDenied (H.denies host.now) path.now) e.0 e.1) }
+    // Tables are refused for what is wrong with them: the first damage, or a later version. Else for no other cause than these, and once a
+    // connection is open only if the disk failed or memory ran out. Those that are migrated may be refused because that can't be done.
+    ensures stopped { (tables : Tables) → HoldsTables (image_at T.Start) tables → IfErr result (λ e. IsCleanRemains e.1 →
+        SaysOr (HasCauseOver (AreMigrated tables) (IsDenied (H.denies host.now) path.now) e.0 e.1) tables e.0) }
 {
     if let Some(fault) = unfit(host.metadata(path)) {
         return Err((fault, Remains::Untouched(start)));

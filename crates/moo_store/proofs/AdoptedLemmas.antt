@@ -1,5 +1,6 @@
 -- What follows of what opening the world of a connection answers, whatever it answers.
 use Rattle.moo_store.{proofs.Words.{Result, Ok, Err, IfOk, IfErr, Ghosts, Held, state, State, ShowsState, Adopts, StoreFault, HasCleanDisk, Survives, World, store_of, Left}, specs.Opening.{Adopting, OpensState, RefusesState, OpensShown}, proofs.AdoptLemmas.{left_still}}
+use Rattle.moo_store_rows.proofs.OpenLemmas.{refused_of_store}
 
 module _ {S : Type 0} (g : Ghosts S) (conn : Held S) where
   pub adopts_state : (r : Result (World S) (StoreFault × Held S)) → Adopting g conn r → OpensState g (state g conn) r
@@ -8,7 +9,7 @@ module _ {S : Type 0} (g : Ghosts S) (conn : Held S) where
 
   pub refuses_state : (r : Result (World S) (StoreFault × Held S)) → Adopting g conn r → RefusesState g (state g conn) r
   refuses_state (Ok world) it = λ s shows. tt
-  refuses_state (Err e) it = it.whole
+  refuses_state (Err e) it = λ s shows clean. refused_of_store g conn e.1 e.0 it s shows clean
 
   pub adopts_shown : (r : Result (World S) (StoreFault × Held S)) → Adopting g conn r → OpensShown g (state g conn) r
   adopts_shown (Ok world) it = λ clean tables rests. (it.shown tables rests clean, it.good)

@@ -1,6 +1,8 @@
 -- From what a check found to the World that it leaves.
-use Rattle.moo_store.{proofs.Words.{◌≡◌, ◌≢◌, ℕ, Bool, true, false, Result, Ok, Err, refl, sym, ◌∙◌, IfErr, MatchResult, HasCleanDisk, Ghosts, Held, state, Maps, State, Tables, Rests, ShowsRows, KeepsRows, World, store_of, StandsFor, IsOfStore, StoreFault, OutOfMemory, Closed}, specs.World.{FailsWorld}}
-use Rattle.moo_store_rows.specs.Checked.{Checks}
+use Rattle.moo_store.{proofs.Words.{◌≡◌, ◌≢◌, inl, inr, ℕ, Bool, true, false, Result, Ok, Err, refl, sym, ◌∙◌, IfErr, MatchResult, HasCleanDisk, Ghosts, Held, state, Maps, State, Tables, Rests, ShowsRows, KeepsRows, World, store_of, StandsFor, IsOfStore, StoreFault, Store, OutOfMemory, Closed}, specs.World.{FailsWorld}}
+use Rattle.moo_store_rows.{specs.Checked.{Checks, SaysInCheck, StopsCheck}, specs.Opening.{StopsBy}}
+use Rattle.moo_tables.specs.ReadCause.{StopsQuery}
+use Rattle.moo_tables_rows.specs.Inside.{IsCurrent}
 use Rattle.sqlite.specs.State.{State as Database}
 
 pub rests_checked : (own : Maps) (old new : Database) (r : Result ℕ StoreFault) → Checks own old new r → HasCleanDisk new
@@ -8,9 +10,16 @@ pub rests_checked : (own : Maps) (old new : Database) (r : Result ℕ StoreFault
 rests_checked own old new (Ok count) it clean = it.rests clean
 rests_checked own old new (Err fault) it clean = it.rests clean
 
-pub whole_checked : (own : Maps) (old new : Database) (r : Result ℕ StoreFault) → Checks own old new r → IfErr r (λ fault. fault ≢ Closed) → HasCleanDisk new → (t : Tables) → Rests old t → ShowsRows t own → IfErr r IsOfStore
-whole_checked own old new (Ok count) it worked clean t rests shows = tt
-whole_checked own old new (Err fault) it worked clean t rests shows = it.whole worked clean t rests shows
+-- of tables of the present version that show the World's own rows
+stops_checked : (own : Maps) (old new : Database) (t : Tables) (fault : StoreFault) → IsCurrent t → IsOfStore fault → SaysInCheck (StopsCheck t old new fault) own t fault → StopsBy (StopsQuery old new) fault
+stops_checked own old new t (Store error) current of (inl stops) = stops
+stops_checked own old new t (Store error) current of (inr other) = absurd (other.0 current)
+stops_checked own old new t OutOfMemory current of it = tt
+stops_checked own old new t fault current of it = absurd of
+
+pub whole_checked : (own : Maps) (old new : Database) (r : Result ℕ StoreFault) → Checks own old new r → IfErr r (λ fault. fault ≢ Closed) → HasCleanDisk new → (t : Tables) → Rests old t → IsCurrent t → ShowsRows t own → IfErr r (StopsBy (StopsQuery old new))
+whole_checked own old new (Ok count) it worked clean t rests current shows = tt
+whole_checked own old new (Err fault) it worked clean t rests current shows = stops_checked own old new t fault current (it.whole worked clean t rests shows) (it.fault worked clean t rests)
 
 -- a World that works on was answered Ok, or OutOfMemory
 pub works_on : (r : Result ℕ StoreFault) (failed : Bool) (P : Type 0) → FailsWorld r failed → failed ≡ false → MatchResult r (λ _. P) (λ fault. fault ≡ OutOfMemory → P) → P

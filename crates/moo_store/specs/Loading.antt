@@ -10,6 +10,7 @@ use Rattle.moo_rows.specs.Maps.{Maps}
 use Rattle.moo_world.specs.Judge.{state_of}
 use Rattle.moo_tables_rows.specs.Tables.{no_schema}
 use Rattle.moo_tables_rows.specs.Inside.{RestsAt}
+use Rattle.moo_tables_rows.specs.Cause.{StopsChange}
 use Rattle.moo_store.specs.Kept.{World}
 use Rattle.moo_store.specs.Opening.{Adoption}
 use Rattle.moo_store_rows.specs.States.{LeavesState}
@@ -34,10 +35,11 @@ module _ {S : Type 0} (g : Ghosts S) where
     pub crash : SurvivesOr rows (state g conn) (store_of g world)
 
   -- They weren't made. A database that has tables is refused, and comes back as it is; so it does if memory runs out. Otherwise the
-  -- store failed: its tables are those before, and a crash may leave those of the rows.
+  -- store failed, for a cause of any change: its tables are those before, and a crash may leave those of the rows.
   pub record IsUnloaded (rows : Maps) (conn : Held S) (fault : StoreFault) (last : Held S) : Type 0 where
     pub taken : (state g conn).now.schema ≢ no_schema → (fault ≡ name_taken) × (last ≡ conn)
-    pub kind : ((fault ≡ OutOfMemory) × (last ≡ conn)) ⊎ ((error : Error) × (fault ≡ Store error))
+    pub kind : ((fault ≡ OutOfMemory) × (last ≡ conn)) ⊎ ((error : Error) × (fault ≡ Store error)
+        × (HasCleanDisk (state g last) → (state g conn).now.schema ≡ no_schema → StopsChange (state g conn) (state g last) error))
     pub outside : (state g last).in_transaction ≡ false
     pub undone : (last ≡ conn)
         ⊎ (HasCleanDisk (state g last) → IsTrue (state g last).is_open → RestsAt (state g last) (state g conn).committed)

@@ -2,7 +2,8 @@
 
 ghost use Rattle.std.specs.Prelude.{◌≡◌, ◌≢◌, IfErr, IsErrOf, IsTrue, false, Bool};
 ghost use Rattle.sqlite.specs.State.{HasCleanDisk};
-ghost use Rattle.moo_store_rows.specs.Opening.{IsOfStore};
+ghost use Rattle.moo_tables.specs.ReadCause.{StopsQuery};
+ghost use Rattle.moo_store_rows.specs.Opening.{StopsBy};
 ghost use Rattle.moo_store_rows.specs.Checked.{KeepsTables, Checks};
 ghost use Rattle.moo_store.specs.World.{store_of, StandsFor, FailsWorld};
 
@@ -28,15 +29,17 @@ impl<S: Alter + Drop> World<S> {
     /// World. OutOfMemory: memory ran out, and the World works on. Closed: the World had failed.
     pub fn check(&mut self) -> Result<u64, StoreFault>
         // Ok only if the tables show the World's own rows. A damage is told only if the tables have it, or if they show other rows than
-        // these.
+        // these. A fault of the store has a cause.
         ensures checks { Checks self.old.rows.maps (store_of S.Store self.old) (store_of S.Store self.new) result }
         // Every fault but out of memory fails the World, and none is Closed.
         ensures fails { self.old.failed ≡ false → FailsWorld result self.new.failed × IfErr result (λ fault. fault ≢ StoreFault.Closed) }
         // A failed World changes no more.
         ensures closed { IsTrue self.old.failed → IsErrOf result StoreFault.Closed × (self.new ≡ self.old) }
-        // A World that stands for a state is checked with no damage, and stands for it as long as it works.
+        // A World that stands for a state is checked with no damage, but for want of memory or a query that stopped, and stands for it as
+        // long as it works.
         ensures whole { (known : Bool) (s : _) → StandsFor S.Store known self.old s → IsTrue known →
-            HasCleanDisk (store_of S.Store self.new) → IfErr result IsOfStore }
+            HasCleanDisk (store_of S.Store self.new) →
+            IfErr result (StopsBy (StopsQuery (store_of S.Store self.old) (store_of S.Store self.new))) }
         ensures stands { (known : Bool) (s : _) → StandsFor S.Store known self.old s → self.new.failed ≡ false →
             HasCleanDisk (store_of S.Store self.new) → StandsFor S.Store known self.new s }
         // The rows, the tables and what a crash leaves stay as they are.

@@ -1,4 +1,4 @@
-use Rattle.moo_files.{proofs.Words.{over_files, file_state, image_at, store_of, LeavesState}, specs.Making.{rows_made}, proofs.ContentsLemmas.{was_clean, clean_either, no_table, found_something}, proofs.MakingLemmas.{of_loading, takes_world, keeps_site, unmade_more}}
+use Rattle.moo_files.{proofs.Words.{over_files, file_state, image_at, store_of, LeavesState}, specs.Making.{rows_made}, proofs.ContentsLemmas.{was_clean, clean_either, no_table, found_something}, proofs.MakingLemmas.{of_loading, takes_world, has_room, keeps_site, unmade_more}, proofs.RefusalLemmas.{unconnected_cause, making_stops}}
 use Rattle.moo_files.proofs.making.make_from.Goals as goal
 use Rattle.moo_world.specs.Judge.{state_of}
 
@@ -43,7 +43,14 @@ returns-in-Err-clause-makes g c =
     unmade_more (λ _. ⊥) (λ found. LeavesState found (state_of (rows_made c.args.rows))) (λ found never. absurd never) (image_at g.T.Start) c.in-Err.fault c.in-Err.remains c.in-Err.ensures.unmade
 
 pub returns-in-Err-clause-cause : goal.returns-in-Err-clause-cause
-returns-in-Err-clause-cause g c = c.in-Err.ensures.cause
+returns-in-Err-clause-cause g c openable clean = unconnected_cause _ _ c.in-Err.fault c.in-Err.remains (c.in-Err.ensures.cause openable clean)
 
 pub returns-in-Err-make_files-clause-cause : goal.returns-in-Err-make_files-clause-cause
-returns-in-Err-make_files-clause-cause g c openable clean = tt
+returns-in-Err-make_files-clause-cause g c openable clean site is room =
+    let conn = c.in-Ok.conn in
+    let last = c.in-Err-make_files.conn in
+    let unmade = c.in-Err-make_files.ensures.loads in
+    let early = clean_either conn last (λ trees. LeavesState trees (state_of (rows_made c.args.rows))) unmade.crash clean in
+    let opened = c.in-Ok.ensures.connects.opened early in
+    let empty = has_room (image_at g.T.Start) conn opened.0 opened.1 (c.in-Ok.ensures.connects.found early) site is room in
+    making_stops (file_state conn) last opened.0.is_open c.in-Ok.ensures.connects.unlimited c.in-Err-make_files.fault clean empty unmade.kind

@@ -1,6 +1,6 @@
-use Rattle.moo_files.{proofs.Words.{inl, inr, refl, subst, over_files, file_state, image_at, Adopts, store_of}, specs.Contents.{HoldsState, HoldsEarlier}, specs.Opened.{Nothing, Database, Unfit}, proofs.ContentsLemmas.{was_clean, earlier_held, rests_held, shows_held, shows_trees, left_held, left_none, empty_other, foreign_other, unsound_other, reads_ours, reads_something, own_tables, kept_or_migrated}, proofs.RefusalLemmas.{unfit_sound, unfit_of_store, refuses_unconnected, unconnected_cause, stops_over}}
+use Rattle.moo_files.{specs.Causes.{StopsOver}, proofs.Words.{inl, inr, refl, subst, over_files, file_state, image_at, Adopts, store_of}, specs.Contents.{HoldsState}, specs.Opened.{Nothing, Database, Unfit}, proofs.ContentsLemmas.{was_clean, rests_held, shows_held, shows_trees, left_held, left_none, empty_other, foreign_other, unsound_other, reads_ours, reads_something, own_tables, kept_or_migrated}, proofs.RefusalLemmas.{unfit_sound, unfit_of_store, refuses_unconnected, unconnected_cause, stops_over}}
 use Rattle.moo_store.proofs.AdoptLemmas.{left_still}
-use Rattle.moo_store_rows.{specs.Current.{RestsCurrent}, proofs.OpenLemmas.{says_of_store}}
+use Rattle.moo_store_rows.{specs.Current.{RestsCurrent}, specs.Opening.{AreMigrated, StopsOpening}, proofs.Causes.{says_more, says_of_store}, proofs.OpenLemmas.{refused_of_store}}
 use Rattle.moo_files.proofs.opening.open_from.Goals as goal
 
 -- ---- a World was opened
@@ -72,8 +72,7 @@ returns-in-Err-adopt_files-clause-refuses g c (Database trees) holds clean =
     let opened = c.in-Ok.ensures.connects.opened early in
     let found = c.in-Ok.ensures.connects.found early in
     record {
-      tables = λ tables leaves. c.in-Err-adopt_files.ensures.adopts.says tables (rests_held image (file_state conn) tables opened.0 opened.1 found (record { trees = trees; holds = holds; such = leaves })) clean;
-      state = λ s leaves. c.in-Err-adopt_files.ensures.adopts.whole s (shows_held image (file_state conn) s opened.0 opened.1 found (record { trees = trees; holds = holds; such = leaves })) clean;
+      state = λ s leaves. refused_of_store over_files conn last c.in-Err-adopt_files.fault c.in-Err-adopt_files.ensures.adopts s (shows_held image (file_state conn) s opened.0 opened.1 found (record { trees = trees; holds = holds; such = leaves })) clean;
       other = λ others. (c.in-Err-adopt_files.ensures.adopts.other (foreign_other image (file_state conn) trees opened.0 opened.1 found holds others)).0;
       ours = λ ours other. own_tables image (file_state conn) trees opened.0 opened.1 found holds ours (λ version is. c.in-Err-adopt_files.ensures.adopts.own version is other);
       malformed = tt;
@@ -98,7 +97,6 @@ returns-in-Some-clause-refused g c = record { stopped = c.in-Some.ensures.fault;
 pub returns-in-Some-clause-refuses : goal.returns-in-Some-clause-refuses
 returns-in-Some-clause-refuses g c Nothing nothing clean = (unfit_of_store c.in-Some.fault c.in-Some.ensures.fault, inl nothing)
 returns-in-Some-clause-refuses g c (Database trees) holds clean = record {
-  tables = λ tables leaves. says_of_store tables c.in-Some.fault (unfit_of_store c.in-Some.fault c.in-Some.ensures.fault);
   state = λ s leaves. unfit_of_store c.in-Some.fault c.in-Some.ensures.fault;
   other = λ others. unfit_of_store c.in-Some.fault c.in-Some.ensures.fault;
   ours = λ ours. tt;
@@ -118,21 +116,25 @@ returns-in-Err-clause-cause g c trees holds clean = unconnected_cause _ _ c.in-E
 pub returns-in-Err-adopt_files-clause-cause : goal.returns-in-Err-adopt_files-clause-cause
 returns-in-Err-adopt_files-clause-cause g c trees holds clean = tt
 
--- ---- what refused a state
+-- ---- what refused tables
 
 pub returns-in-Some-clause-stopped : goal.returns-in-Some-clause-stopped
-returns-in-Some-clause-stopped g c s holds clean = inr (c.metadata.ensures.denied (c.in-Some.ensures.unfit refl))
+returns-in-Some-clause-stopped g c tables holds clean =
+    says_of_store _ tables c.in-Some.fault (unfit_of_store c.in-Some.fault c.in-Some.ensures.fault) (inr (c.metadata.ensures.denied (c.in-Some.ensures.unfit refl)))
 
 pub returns-in-Err-clause-stopped : goal.returns-in-Err-clause-stopped
-returns-in-Err-clause-stopped g c s holds clean = unconnected_cause _ _ c.in-Err.fault c.in-Err.remains (c.in-Err.ensures.cause holds.trees holds.holds clean)
+returns-in-Err-clause-stopped g c tables holds clean =
+    says_of_store _ tables c.in-Err.fault c.in-Err.ensures.fault (unconnected_cause _ _ c.in-Err.fault c.in-Err.remains (c.in-Err.ensures.cause holds.trees holds.holds clean))
 
 pub returns-in-Err-adopt_files-clause-stopped : goal.returns-in-Err-adopt_files-clause-stopped
-returns-in-Err-adopt_files-clause-stopped g c s holds clean =
+returns-in-Err-adopt_files-clause-stopped g c tables holds clean =
     let conn = c.in-Ok.conn in
     let last = c.in-Err-adopt_files.conn in
+    let fault = c.in-Err-adopt_files.fault in
     let image = image_at g.T.Start in
     let early = was_clean (file_state conn) (file_state last) (Adopts (file_state conn)) c.in-Err-adopt_files.ensures.adopts.crash clean in
     let opened = c.in-Ok.ensures.connects.opened early in
     let found = c.in-Ok.ensures.connects.found early in
-    stops_over (file_state conn) last opened.0.is_open c.in-Ok.ensures.connects.unlimited (HoldsEarlier image) c.in-Err-adopt_files.fault (earlier_held image (file_state conn) holds.trees opened.0 opened.1 found holds.holds)
-    (c.in-Err-adopt_files.ensures.adopts.cause s (shows_held image (file_state conn) s opened.0 opened.1 found holds) clean)
+    says_more (StopsOpening tables (file_state conn) (file_state last) fault) (StopsOver (AreMigrated tables) fault last) tables fault
+    (stops_over (file_state conn) last opened.0.is_open c.in-Ok.ensures.connects.unlimited tables fault)
+    (c.in-Err-adopt_files.ensures.adopts.cause tables (rests_held image (file_state conn) tables opened.0 opened.1 found holds) clean)

@@ -1,4 +1,6 @@
-use Rattle.moo_store.{proofs.Words.{IsTrue, true, inl, inr, rules, refl, sym, ap, subst, HasCleanDisk, Survives, state, state_of, KeepsRows, LeavesState, World, ShowsItsRows}, proofs.Adapters.{stands_for_rows}}
+use Rattle.moo_store.{specs.Loading.{name_taken}, proofs.Words.{◌≡◌, ◌∙◌, IsTrue, true, inl, inr, rules, refl, sym, ap, subst, HasCleanDisk, Survives, state, state_of, KeepsRows, LeavesState, World, ShowsItsRows}, proofs.Adapters.{stands_for_rows}}
+use Rattle.std.proofs.lemmas.Bool.{true≢false}
+use Rattle.sqlite.{specs.declared.error.Error.TheVariants.{SqliteFailure}, specs.declared.error.ErrorCode.TheVariants.{NameTaken}}
 use Rattle.moo_store_rows.proofs.Opened.{has_no_tables, keeps_all, survives_all}
 use Rattle.moo_store.proofs.loading.load_in.Goals as goal
 
@@ -37,7 +39,7 @@ returns-in-Err g c =
     record {
       loads = record {
         taken = λ taken. absurd (taken (c.is_new.ensures.0 new));
-        kind = inr (c.in-Err.error, refl);
+        kind = inr (c.in-Err.error, refl, λ clean empty. c.in-Err.ensures.refused.cause clean none);
         outside = c.in-Err.ensures.refused.outside;
         undone = inr (λ clean opened. c.in-Err.ensures.refused.undone clean none opened);
         crash = inr (survives_all (state g.S.Store c.args.conn) (state g.S.Store c.in-Err.conn) c.in-Ok.cells c.args.rows.maps c.in-Ok.ensures c.requires.good crash);
@@ -47,7 +49,17 @@ returns-in-Err g c =
 -- what is refused at once comes back as it is
 
 pub returns-then-not-is_new : goal.returns-then-not-is_new
-returns-then-not-is_new g c = record { loads = record { taken = λ taken. (search rules, refl); kind = search rules; outside = c.requires.outside; undone = inl refl; crash = inl refl } }
+returns-then-not-is_new g c =
+    let told : _ ≡ name_taken = search rules in
+    record {
+      loads = record {
+        taken = λ taken. (told, refl);
+        kind = inr (SqliteFailure NameTaken, told, λ clean empty. absurd (true≢false (sym (c.is_new.ensures.1 empty) ∙ c.if-not-is_new.true)));
+        outside = c.requires.outside;
+        undone = inl refl;
+        crash = inl refl;
+      };
+    }
 
 pub returns-in_default : goal.returns-in_default
 returns-in_default g c = record {

@@ -1,5 +1,6 @@
-use Rattle.moo_store.{proofs.Words.{sym, subst, state, stays, refl, World, store_of, StandsFor}, proofs.CheckLemmas.{works_on, stands_on, rests_checked, whole_checked}}
-use Rattle.moo_store_rows.specs.Checked.{Checks, KeepsTables}
+use Rattle.moo_store.{proofs.Words.{IfErr, sym, subst, state, stays, refl, World, store_of, StandsFor}, proofs.CheckLemmas.{works_on, stands_on, rests_checked, whole_checked}}
+use Rattle.moo_store_rows.{specs.Checked.{Checks, KeepsTables}, specs.Opening.{StopsBy}}
+use Rattle.moo_tables.specs.ReadCause.{StopsQuery}
 use Rattle.moo_store.proofs.world.World.check.Goals as goal
 
 pub returns-clause-checks : goal.returns-clause-checks
@@ -14,7 +15,8 @@ pub returns-clause-whole : goal.returns-clause-whole
 returns-clause-whole g c known s at sure late =
     let it = subst (λ w. StandsFor g.S.Store known w s) (sym c.self.view_is) at in
     let keeps = it.is_at.shown sure it.works (c.check_rows-checked.ensures.keeps.clean late) in
-    whole_checked c.self.inside.rows.maps (state g.S.Store c.self.inside.connection) (state g.S.Store c.check_rows-checked.new.conn) c.check_rows-checked.result c.check_rows-checked.ensures.checks c.check_rows-checked.ensures.worked late keeps.tables keeps.rests keeps.shows
+    subst (λ (w : World _). IfErr c.check_rows-checked.result (StopsBy (StopsQuery (store_of g.S.Store w) (state g.S.Store c.check_rows-checked.new.conn)))) c.self.view_is
+    (whole_checked c.self.inside.rows.maps (state g.S.Store c.self.inside.connection) (state g.S.Store c.check_rows-checked.new.conn) c.check_rows-checked.result c.check_rows-checked.ensures.checks c.check_rows-checked.ensures.worked late keeps.tables keeps.rests keeps.current keeps.shows)
 
 pub returns-clause-stands : goal.returns-clause-stands
 returns-clause-stands g c known s it works late =
@@ -28,7 +30,7 @@ returns-clause-fails g c works = (c.has_failed-self-inside.ensures, c.check_rows
 -- a failed World looks at nothing
 
 pub returns-then-self-clause-checks : goal.returns-then-self-clause-checks
-returns-then-self-clause-checks g c = record { fault = λ clean tables rests. tt; whole = λ worked. absurd (worked refl); rests = λ clean is. absurd cc }
+returns-then-self-clause-checks g c = record { fault = λ worked. absurd (worked refl); whole = λ worked. absurd (worked refl); rests = λ clean is. absurd cc }
 
 pub returns-then-self-clause-keeps : goal.returns-then-self-clause-keeps
 returns-then-self-clause-keeps g c = record { clean = λ clean. clean; kept = λ clean opened tables rests. rests; crash = (stays (store_of g.S.Store c.args.self.now)).survives }
