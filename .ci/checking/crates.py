@@ -41,7 +41,7 @@ def below(crate: str, uses: dict[str, list[str]]) -> list[str]:
 
 
 def library(crate: str) -> Path:
-    """Where a crate is built, as a library for those above it."""
+    """The folder of a crate that is built as a library for those above it."""
     return CRATES / crate / "out/rlib" / f"{crate}.rlib"
 
 
