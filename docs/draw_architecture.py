@@ -25,7 +25,8 @@ LINE, TITLE, ROWS, BETWEEN = 15, 26, 30, 30
 LETTER = 6.3  # how wide a letter is reckoned, in pixels
 STYLE = """text { font: 12px sans-serif; fill: #333 } .crate { font: bold 11.5px monospace; fill: #123a5e }
 .part { font: bold 14px sans-serif; fill: #111 } .band { fill: #eef3f8 } .tower { fill: #e0eaf3 } .box { fill: #fff; stroke: #8aa5bf }
-.arrow { stroke: #7d90a5; stroke-width: 1.2; fill: none } .head { fill: #7d90a5 } .bold { stroke: #3d5a78; stroke-width: 4 } .tip { fill: #3d5a78 }"""
+.arrow { stroke: #7d90a5; stroke-width: 1.2; fill: none } .head { fill: #7d90a5 }
+.bold { stroke: #3d5a78; stroke-width: 4 } .tip { fill: #3d5a78 }"""
 
 
 class Wrong(Exception):
@@ -111,7 +112,8 @@ def read_uses(text: str) -> dict[str, set[str]]:
 
 def check_uses(parts: list[Part], uses: Dict[str, Set[str]]) -> None:
     """`Wrong`: a crate is in no box or in two, or uses one that the picture doesn't let it use."""
-    places = [(crate, at, row) for at, part in enumerate(parts) for row, boxes in enumerate(part.rows) for box in boxes for crate in box.crates]
+    rows = [(at, row, boxes) for at, part in enumerate(parts) for row, boxes in enumerate(part.rows)]
+    places = [(crate, at, row) for at, row, boxes in rows for box in boxes for crate in box.crates]
     if sorted(crate for crate, _, _ in places) != sorted(uses):
         raise Wrong(f"not once in a box: {', '.join(sorted({crate for crate, _, _ in places} ^ set(uses))) or 'some crate'}")
     place_of = {crate: (at, row) for crate, at, row in places}
@@ -139,7 +141,8 @@ def arrows_within(part: Part, uses: Dict[str, Set[str]]) -> list[tuple[Box, Box]
     boxes = part.boxes()
     box_of = {crate: number for number, box in enumerate(boxes) for crate in box.crates}
     direct = {
-        number: {box_of[used] for crate in box.crates for used in uses[crate] if used in box_of} - {number} for number, box in enumerate(boxes)
+        number: {box_of[used] for crate in box.crates for used in uses[crate] if used in box_of} - {number}
+        for number, box in enumerate(boxes)
     }
     arrows = []
     for number, used in direct.items():
@@ -270,7 +273,8 @@ def draw_bold_arrow(source: Part, target: Part) -> list[str]:
     top, bottom = max(source.top, target.top), min(source.bottom, target.bottom)
     if left < right and abs(target.top - source.bottom - BETWEEN) < 1:
         x, y = (left + right) / 2, source.bottom
-        return [f'<path class="bold" d="M{x:g} {y:g}v{BETWEEN - 10}"/>', f'<path class="tip" d="M{x - 9:g} {y + BETWEEN - 11:g}h18l-9 11z"/>']
+        tip = f'<path class="tip" d="M{x - 9:g} {y + BETWEEN - 11:g}h18l-9 11z"/>'
+        return [f'<path class="bold" d="M{x:g} {y:g}v{BETWEEN - 10}"/>', tip]
     if top < bottom and abs(left - right - BETWEEN) < 1:
         side = 1 if source.left < target.left else -1
         x, y = source.right if side > 0 else source.left, (top + bottom) / 2

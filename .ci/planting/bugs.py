@@ -12,7 +12,9 @@ SWAPPED = {
     "==": "!=", "!=": "==", "<": "<=", "<=": "<", ">": ">=", ">=": ">", "&&": "||", "||": "&&", "+": "-", "-": "+", "+=": "-=", "-=": "+=",
     "true": "false", "false": "true",
 }
-METHODS = {"min": "max", "max": "min", "first": "last", "last": "first", "is_some": "is_none", "is_none": "is_some", "any": "all", "all": "any"}
+METHODS = {
+    "min": "max", "max": "min", "first": "last", "last": "first", "is_some": "is_none", "is_none": "is_some", "any": "all", "all": "any",
+}
 # What a statement that may be left out doesn't begin with.
 KEPT = ("let", "return", "for", "if", "while", "match", "loop", "break", "continue", "unreachable", "prove", "ghost", "else")
 NUMBER = re.compile(r"\d[\d_]*")

@@ -7,7 +7,7 @@ from planting.functions import Token, closing, next_of, tokens_of
 
 
 class Declared(NamedTuple):
-    """The other fields of the type that a field has in the same struct; and the other forms of an enum with the same values, by enum and form."""
+    """For a field the others of its struct with the same type; for an enum and a form of it the other forms with the same values."""
 
     fields: dict[str, list[str]]
     forms: dict[tuple[str, str], list[str]]

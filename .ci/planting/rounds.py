@@ -18,7 +18,7 @@ from planting.functions import Function, functions_of
 from planting.register import Survivor
 
 STAYS, REFUSED, BY_A_NAME, NO_SOURCE, NOT_JUDGED, WAITS, NEW = "stays", "refused", "by a name", "no source", "not judged", "waits", "new"
-# What the checker says of a function that isn't proved since one that it calls isn't.
+# What the checker says of a function that isn't proved since one that it calls isn't: 'no proof: it calls `f`, which is not proved'.
 WAITS_FOR = re.compile(r"it calls|it passes|a call of|rests on")
 # An error that is only in a proof, of a name that is gone.
 GONE = re.compile(r"proofs/.*(has no field|is not in scope|has no `|was not admitted)")
@@ -60,7 +60,9 @@ class Verdict:
             return STAYS
         if any("could not tell" in words for words, _ in lacking):
             return NOT_JUDGED
-        if all(WAITS_FOR.search(words) for words, _ in lacking):
+        # One with a goal of its own that isn't proved is refused, whatever it calls.
+        reasons = [part for words, _ in lacking for part in words.partition(": ")[2].split("; ")]
+        if all(WAITS_FOR.search(part) for part in reasons):
             return WAITS
         told = [line for _, some in lacking for line in some]
         return BY_A_NAME if told and all(GONE.search(line) for line in told) else REFUSED

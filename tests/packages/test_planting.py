@@ -56,9 +56,9 @@ struct Unit;
 """
 DECLARED = declared_in([TYPES])
 SAID = """note: src/house/lamp.rt:20:9: ensures left (`left`)
-fn house::house::lamp::Lamp::burn: not proved
+fn house::house::lamp::Lamp::burn: no proof: `search` did not prove `left`; it calls `house::house::lamp::Lamp::lower`, which is not proved
 fn house::house::lamp::LampDisplay::fmt: proved
-fn house::house::lamp::Light::is_dark: not proved; it calls `burn`, which isn't proved
+fn house::house::lamp::Light::is_dark: no proof: it calls `house::house::lamp::Lamp::burn`, which is not proved
 ./proofs/x/Answers.antt:1:1: error: `x` is not in scope
 fn house::house::lamp::inner::plain: not proved
 logic=not-proved"""
@@ -78,7 +78,8 @@ class Functions(unittest.TestCase):
         self.assertEqual("".join(token.text for token in PLAIN.body), "{other();}")
 
     def test_modules_of_files(self) -> None:
-        self.assertEqual([each.block.modules for file in ("src/lib.rt", "src/a/b.rt") for each in functions_of(file, "fn f() {}")], [(), ("a", "b")])
+        found = [each for file in ("src/lib.rt", "src/a/b.rt") for each in functions_of(file, "fn f() {}")]
+        self.assertEqual([each.block.modules for each in found], [(), ("a", "b")])
 
     def test_names_of_the_checker(self) -> None:
         self.assertTrue(BURN.fits("house::house::lamp::Lamp::burn"))
@@ -139,7 +140,8 @@ class Rounds(unittest.TestCase):
 
     def test_a_plant_says_what_it_changes(self) -> None:
         made = rounds.plant(PLAIN, SOURCE, SOURCE.replace("other(); } }\n\n#", " } }\n\n#"))
-        self.assertEqual(made.survivor, register.Survivor("src/house/lamp.rt plain", "mod inner { pub fn plain() { other(); } }", "mod inner { pub fn plain() { } }"))
+        old, new = "mod inner { pub fn plain() { other(); } }", "mod inner { pub fn plain() { } }"
+        self.assertEqual(made.survivor, register.Survivor("src/house/lamp.rt plain", old, new))
         self.assertEqual(list(made.lines), [line for _, line in made.change.lines])
 
 
