@@ -1,7 +1,10 @@
 """That the mutants still fit: each text that one replaces is in its file once; and mutants/gate names mutants that there are.
 
 A mutant that does something only if a list has a certain length, as `ALL.len() == 33`, does nothing once the list has another one. That is
-looked for too. The gate finds any such mutant among those that it tries, since the checker proves it.
+looked for too. What a body compares with a value of its run, as `path.len() > 8`, no text decides: that such a mutant is never taken shows
+only when it is tried, since the checker then proves it.
+
+Whether they compile `.ci/mutants --compile` looks at.
 """
 from __future__ import annotations
 

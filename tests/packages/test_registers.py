@@ -152,6 +152,17 @@ class Refused(Register):
         self.assertEqual((self.top / "docs/REFUSED.md").read_text(), COUNTED)
         self.assertEqual(self.said("refused", "--check"), (0, "", ""))
 
+    def test_counts_of_planted_bugs(self) -> None:
+        head = "| crate | planted on | functions judged | bugs refused | bugs that stay proved |\n|---|---|---|---|---|\n"
+        self.put("docs/REFUSED.md", f"{PAGE}\n{head}| old | | | | |\n\nThe end.\n")
+        self.put("crates.txt", "moo_lamps: std\nmoo_rooms: moo_lamps\ntest_rooms: moo_rooms\n")
+        self.put("plants/moo_lamps", "# Bugs\n# 2026-11-30: 5 functions judged, 7 refused, 2 stay proved\n\nsrc/a.rt f\n")
+        self.assertEqual(self.said("refused", "--count"), (0, "", ""))
+        rows = "| `moo_lamps` | 2026-11-30 | 5 | 7 | 2 |\n| the other 1 | not yet | | | |\n"
+        self.assertEqual((self.top / "docs/REFUSED.md").read_text(), f"{COUNTED}\n{head}{rows}\nThe end.\n")
+        self.put("plants/moo_lamps", "# Bugs\n")
+        self.assertEqual(self.said("refused", "--check"), (1, "", ".ci/refused: plants/moo_lamps doesn't tell what was tried\n"))
+
     def test_an_order_that_does_not_fit(self) -> None:
         order = (self.top / "mutants/order").read_text()
         self.put("mutants/order", f"{order}moo_lamps/smokes\n")
