@@ -35,8 +35,8 @@ impl<S: Alter + Drop> World<S> {
         ensures fails { self.old.failed ≡ false → FailsWorld result self.new.failed × IfErr result (λ fault. fault ≢ StoreFault.Closed) }
         // A failed World changes no more.
         ensures closed { IsTrue self.old.failed → IsErrOf result StoreFault.Closed × (self.new ≡ self.old) }
-        // A World that stands for a state is checked with no damage, but for want of memory or a query that stopped, and stands for it as
-        // long as it works.
+        // A World that stands for a state is checked with no damage, unless memory runs out or a query stops, and stands for it as long as
+        // it works.
         ensures whole { (known : Bool) (s : _) → StandsFor S.Store known self.old s → IsTrue known →
             HasCleanDisk (store_of S.Store self.new) →
             IfErr result (StopsBy (StopsQuery (store_of S.Store self.old) (store_of S.Store self.new))) }

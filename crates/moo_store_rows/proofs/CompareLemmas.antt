@@ -14,18 +14,19 @@ says_more P Q own tables OutOfMemory more it = more it
 says_more P Q own tables Closed more it = more it
 
 -- what the cells that were read say, and what is known of the tables that they are, decides a check
-pub checked_by : (own : Maps) (cells : Tables) (old new : Database) (r : Result ℕ StoreFault) → OnOk r (ShowsRows cells own) → IfOk r (λ count. count ≡ length (objects_of (world_of own)))
-    → (HasCleanDisk new → (t : Tables) → Rests old t → IfErr r (λ fault. SaysInCheck (fault ≡ OutOfMemory) own cells fault)) → (ShowsRows cells own → IfErr r IsOfStore) → (HasCleanDisk new → (t : Tables) → Rests old t → cells ≡ t)
+pub checked_by : (Listed : Type 0) (own : Maps) (cells : Tables) (old new : Database) (r : Result ℕ StoreFault) → OnOk r (ShowsRows cells own) → IfOk r (λ count. count ≡ length (objects_of (world_of own)))
+    → IfErr r (λ fault. SaysInCheck (Listed → fault ≡ OutOfMemory) own cells fault) → (HasCleanDisk new → (t : Tables) → Rests old t → Listed) → (ShowsRows cells own → IfErr r IsOfStore) → (HasCleanDisk new → (t : Tables) → Rests old t → cells ≡ t)
     → (HasCleanDisk new → (t : Tables) → Rests old t → Rests new t) → Checks own old new r
-checked_by own cells old new (Ok count) shown is says whole are rests = record {
+checked_by Listed own cells old new (Ok count) shown is says listed whole are rests = record {
   shown = λ clean t here. subst (λ t. ShowsRows t own) (are clean t here) shown;
   count = is;
   rests = rests;
 }
-checked_by own cells old new (Err fault) shown is says whole are rests = record {
+checked_by Listed own cells old new (Err fault) shown is says listed whole are rests = record {
   fault = λ worked clean t here.
-      says_more (fault ≡ OutOfMemory) (StopsCheck t old new fault) own t fault (ran_out (λ error. StopsQuery old new error ⊎ ((¬ IsCurrent t) × (Store error ≡ not_ours))) fault)
-      (subst (λ t. SaysInCheck (fault ≡ OutOfMemory) own t fault) (are clean t here) (says clean t here));
+      says_more (Listed → fault ≡ OutOfMemory) (StopsCheck t old new fault) own t fault
+      (λ out. ran_out (λ error. StopsQuery old new error ⊎ ((¬ IsCurrent t) × (Store error ≡ not_ours))) fault (out (listed clean t here)))
+      (subst (λ t. SaysInCheck (Listed → fault ≡ OutOfMemory) own t fault) (are clean t here) says);
   whole = λ worked clean t here shows. whole (subst (λ t. ShowsRows t own) (sym (are clean t here)) shows);
   rests = λ clean _. rests clean;
 }

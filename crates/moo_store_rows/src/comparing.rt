@@ -36,8 +36,8 @@ fn compare_lists(alloc: Global, lists: CellLists, own: &Flat) -> Result<u64, Sto
     requires good { IsGood own.now.maps }
     ensures shown { OnOk result (ShowsRows (tables_of lists) own.now.maps) }
     ensures count { IfOk result (λ count. count ≡ length (objects_of (world_of own.now.maps))) }
-    ensures fault { AreListed lists →
-        IfErr result (λ fault. SaysInCheck (fault ≡ StoreFault.OutOfMemory) own.now.maps (tables_of lists) fault) }
+    ensures fault { IfErr result (λ fault.
+        SaysInCheck (AreListed lists → fault ≡ StoreFault.OutOfMemory) own.now.maps (tables_of lists) fault) }
     ensures whole { ShowsRows (tables_of lists) own.now.maps → IfErr result IsOfStore }
     ensures worked { IfErr result (λ fault. fault ≢ StoreFault.Closed) }
 {

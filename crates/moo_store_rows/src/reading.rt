@@ -27,7 +27,7 @@ fn rows_of(alloc: Global, lists: CellLists) -> Result<Flat, StoreFault>
     ensures good { IfOk result (λ rows. IsGood rows.maps) }
     ensures limit { IfOk result (λ rows. rows.maps.head.seq < 2 ^ 63) }
     ensures one { (m : Maps) → ShowsRows (tables_of lists) m → IsGood m → IfOk result (λ rows. rows.maps ≡ m) }
-    ensures fault { AreListed lists → IfErr result (λ fault. SaysOr (fault ≡ StoreFault.OutOfMemory) (tables_of lists) fault) }
+    ensures fault { IfErr result (λ fault. SaysOr (AreListed lists → fault ≡ StoreFault.OutOfMemory) (tables_of lists) fault) }
     ensures own { IfErr result (λ fault. fault ≢ not_ours) }
 {
     if !are_listed(&lists) {

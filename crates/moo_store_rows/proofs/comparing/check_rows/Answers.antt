@@ -1,7 +1,7 @@
 use Rattle.moo_store_rows.{proofs.Words.{◌≡◌, ◌∙◌, IsTrue, false, sym, subst, state, present, schema_of, Maps, Tables, Rests, HasTables, StoreFault, Store, StopsBy, stays}, specs.Checked.{StopsCheck, IsUnchecked}, proofs.OpenLemmas.{at_rest, has_still, rests_still}, proofs.CompareLemmas.{checked_by, unchecked, unasked, cut_off}, proofs.Causes.{told_so, stopped_after}, proofs.Versions.{version_is}}
 use Rattle.moo_store_rows.proofs.comparing.check_rows.Goals as goal
 use Rattle.sqlite.specs.State.{State, HasCleanDisk}
-use Rattle.moo_tables.{specs.Listing.{tables_of}, specs.ReadCause.{StopsQuery}, proofs.ReadLemmas.{reads_then, fails_then, rests_read}, proofs.ReadCauseLemmas.{not_a_database}}
+use Rattle.moo_tables.{specs.Listing.{AreListed, tables_of}, specs.ReadCause.{StopsQuery}, proofs.ReadLemmas.{reads_then, fails_then, rests_read}, proofs.ReadCauseLemmas.{not_a_database}}
 use Rattle.sqlite.specs.declared.error.Error.{Error}
 use Rattle.moo_tables_rows.specs.Inside.{FailsToRead, Holds}
 
@@ -47,10 +47,10 @@ returns-then-shown-clause-keeps g c = record {
 pub returns-in-Ok-read_lists-clause-checks : goal.returns-in-Ok-read_lists-clause-checks
 returns-in-Ok-read_lists-clause-checks g c =
     let is = c.compare_lists.ensures in
-    checked_by c.args.own.now.maps (tables_of c.in-Ok-read_lists.lists) (state g.S.Store c.args.conn.now) (state g.S.Store c.read_lists.new.conn) c.compare_lists.result is.shown is.count
+    checked_by (AreListed c.in-Ok-read_lists.lists) c.args.own.now.maps (tables_of c.in-Ok-read_lists.lists) (state g.S.Store c.args.conn.now) (state g.S.Store c.read_lists.new.conn) c.compare_lists.result is.shown is.count is.fault
     (λ clean tables rests.
     let is = version_is (state g.S.Store c.args.conn.now) present tables c.in-Ok.ensures.ours rests in
-    c.compare_lists.ensures.fault (c.in-Ok-read_lists.ensures.rise clean tables is (rests_read tables c.in-Ok-show_in_turn.ensures.read (c.in-Ok-read_lists.ensures.read.clean clean) is rests)))
+    c.in-Ok-read_lists.ensures.rise clean tables is (rests_read tables c.in-Ok-show_in_turn.ensures.read (c.in-Ok-read_lists.ensures.read.clean clean) is rests))
     is.whole
     (λ clean tables rests.
     let is = version_is (state g.S.Store c.args.conn.now) present tables c.in-Ok.ensures.ours rests in

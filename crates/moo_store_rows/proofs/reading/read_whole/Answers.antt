@@ -1,5 +1,5 @@
 use Rattle.moo_store_rows.{proofs.Words.{◌≡◌, sym, subst, inl, state, ShowsRows, SaysOr, StopsBy, OutOfMemory}, proofs.Causes.{has_tables, ran_out, says_more, says_cause}}
-use Rattle.moo_tables.specs.ReadCause.{StopsQuery}
+use Rattle.moo_tables.{specs.ReadCause.{StopsQuery}, specs.Listing.{AreListed}}
 use Rattle.moo_store_rows.proofs.reading.read_whole.Goals as goal
 
 pub returns-in-Ok-rows_of-clause-reads : goal.returns-in-Ok-rows_of-clause-reads
@@ -21,8 +21,9 @@ returns-in-Err-rows_of-clause-reads g c = record {
       let old = state g.S.Store c.args.conn.now in
       let new = state g.S.Store c.read_lists.new.conn in
       let fault = c.in-Err-rows_of.fault in
-      let says = subst (λ t. SaysOr (fault ≡ OutOfMemory) t fault) (c.in-Ok.ensures.listed it.0.0 tables it.1 it.0.1) (c.in-Err-rows_of.ensures.fault (c.in-Ok.ensures.rise it.0.0 tables it.1 it.0.1)) in
-      says_more (fault ≡ OutOfMemory) (StopsBy (StopsQuery old new) fault) tables fault (ran_out (StopsQuery old new) fault) says;
+      let Out = AreListed c.in-Ok.lists → fault ≡ OutOfMemory in
+      let says = subst (λ t. SaysOr Out t fault) (c.in-Ok.ensures.listed it.0.0 tables it.1 it.0.1) c.in-Err-rows_of.ensures.fault in
+      says_more Out (StopsBy (StopsQuery old new) fault) tables fault (λ out. ran_out (StopsQuery old new) fault (out (c.in-Ok.ensures.rise it.0.0 tables it.1 it.0.1))) says;
 }
 
 pub returns-in-Err-clause-reads : goal.returns-in-Err-clause-reads
