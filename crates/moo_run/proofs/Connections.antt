@@ -6,9 +6,9 @@ use Rattle.moo_store_rows.{specs.declared.fault.StoreFault.{StoreFault}, specs.O
 use Rattle.moo_store_rows.specs.declared.fault.StoreFault.TheVariants as store_fault
 
 -- why a new world can't be made, and why the opening of a world fails
-pub of_making : {A : Type 0} (fault : StoreFault) (failure : Failure) → failure ≡ store_failure fault → ((fault ≡ store_fault.OutOfMemory) × A) ⊎ ((error : Error) × (fault ≡ store_fault.Store error)) → IsOpening failure
+pub of_making : {A : Type 0} {Q : Error → Type 0} (fault : StoreFault) (failure : Failure) → failure ≡ store_failure fault → ((fault ≡ store_fault.OutOfMemory) × A) ⊎ ((error : Error) × (fault ≡ store_fault.Store error) × Q error) → IsOpening failure
 of_making fault failure of (inl (is, _)) = subst IsOpening (sym (of ∙ ap store_failure is)) tt
-of_making fault failure of (inr (error, is)) = subst IsOpening (sym (of ∙ ap store_failure is)) tt
+of_making fault failure of (inr (error, is, cause)) = subst IsOpening (sym (of ∙ ap store_failure is)) tt
 
 of_store : (fault : StoreFault) → IsOfStore fault → IsOpening (store_failure fault)
 of_store (store_fault.Store error) it = tt

@@ -29,7 +29,6 @@ pub refused_onto : {T D : Type 0} {g : Ghosts D} (image : Image) (fault : StoreF
 refused_onto image fault rest run Nothing it reports = (fails_at_once fault run it.0 reports, it.1)
 refused_onto image fault rest run (Database trees) it reports = record {
   state = λ s leaves. fails_at_once fault run (it.state s leaves) reports;
-  tables = λ tables leaves. (fault, it.tables tables leaves, reports);
   other = λ others. fails_at_once fault run (it.other others) reports;
   kept = it.kept;
 }

@@ -13,7 +13,7 @@ use Rattle.moo_world.specs.Rows.{IsGood}
 use Rattle.moo_world.specs.Judge.{State, state_of}
 use Rattle.moo_tables_rows.specs.Tables.{Tables}
 use Rattle.moo_cells.specs.Shows.{ShowsRows}
-use Rattle.moo_store_rows.specs.Opening.{Says, IsOfStore}
+use Rattle.moo_store_rows.specs.Opening.{SaysOr, AreMigrated, IsOfStore}
 use Rattle.moo_store_rows.specs.States.{LeavesRows, LeavesState}
 use Rattle.moo_tables_rows.specs.Inside.{Leaves}
 use Rattle.moo_files.specs.Opened.{Contents, Nothing, Database, Unfit, Hold}
@@ -22,10 +22,10 @@ use Rattle.moo_store.specs.Led.{LeavesLed}
 use Rattle.moo_store.specs.Untouched.{LeavesWritten}
 use Rattle.moo_store.specs.World.{CrashLeaves}
 use Rattle.moo_store_rows.specs.declared.fault.StoreFault.{StoreFault}
-use Rattle.moo_files.specs.Contents.{HoldsSuch, HoldsTrees, HoldsState, HoldsNoTable, HasOtherTables, HasAnyTable, IsKept, ReadsAsOurs}
+use Rattle.moo_files.specs.Contents.{HoldsSuch, HoldsTrees, HoldsTables, HoldsState, HoldsEarlier, HoldsNoTable, HasOtherTables, HasAnyTable, IsKept, ReadsAsOurs}
 use Rattle.moo_files.specs.Remains.{IsCleanRemains, MayStopAs, Spares, KeepsSuch, KeepsNothingBut, StillHolds, StillHoldsTrees}
 use Rattle.moo_files.specs.Blank.{IsBlank}
-use Rattle.moo_files.specs.Causes.{HasCauseOfState, IsDenied}
+use Rattle.moo_files.specs.Causes.{HasCauseOver, IsDenied}
 use Rattle.moo_files.specs.Closing.{IsClosedFrom}
 use Rattle.moo_files.specs.declared.remains.Remains.{Remains}
 use Rattle.moo_files.specs.declared.remains.Remains.TheVariants as remains
@@ -113,19 +113,23 @@ module _ {T D : Type 0} {g : Ghosts D} where
   -- it fails at once, for a cause, over the file of this path, which held this image
   abbrev pub FailsFor : List ℕ → Image → Remains T D g → Run → Type 0
   FailsFor path image rest run =
-      (fault : StoreFault) × IsOfStore fault × HasCauseOfState image (IsDenied run.given.denies path) fault rest
+      (fault : StoreFault) × IsOfStore fault × HasCauseOver (HoldsEarlier image) (IsDenied run.given.denies path) fault rest
+      × Reports (store_failure fault) run.before run.after run.status
+
+  -- It fails at once over the file of this path, which held these tables. The line tells what is wrong with them, or it has a cause.
+  abbrev pub RefusesTables : List ℕ → Tables → Remains T D g → Run → Type 0
+  RefusesTables path tables rest run = (fault : StoreFault)
+      × SaysOr (HasCauseOver (AreMigrated tables) (IsDenied run.given.denies path) fault rest) tables fault
       × Reports (store_failure fault) run.before run.after run.status
 
   -- files that were never opened: the start is unspent
   abbrev pub IsUntouched : Remains T D g → Type 0
   IsUntouched left = (start : T) × (left ≡ remains.Untouched start)
 
-  -- This database is refused: a damage that the line tells is that of its tables, and none is told of a state or of other tables. It is
-  -- kept, damaged or of other tables as it is, or migrated.
+  -- This database is refused, and no damage is told of a state or of other tables. It is kept, damaged or of other tables as it is, or
+  -- migrated.
   pub record RefusedOn (trees : Trees) (image : Image) (rest : Remains T D g) (run : Run) : Type 0 where
     pub state : (s : State) → LeavesState trees s → FailsAtOnce run
-    pub tables : (tables : Tables) → Leaves trees tables →
-        (fault : StoreFault) × Says tables fault × Reports (store_failure fault) run.before run.after run.status
     pub other : HasOtherTables trees → FailsAtOnce run
     pub kept : StillHoldsTrees image rest trees
 
@@ -160,9 +164,10 @@ module _ {T D : Type 0} {g : Ghosts D} where
     pub told : ((fault : StoreFault) × MayStopAs fault rest × Reports (store_failure fault) run.before run.after run.status)
         ⊎ (IsTrue (is_load task.action) × IsUntouched rest × (failure : Failure)
         × RefusesTask run.given task.action failure × Reports failure run.before run.after run.status)
-    -- A state is refused only if the host denied the file, its disk failed or refused, or memory ran out. Only one of an earlier version may
-    -- be refused because it can't be migrated.
-    pub cause : begins_anew task ≡ false → (s : State) → HoldsState image s → IsCleanRemains rest → FailsFor task.file.now image rest run
+    -- Tables are refused for what is wrong with them. Else the host denied the file, its disk failed or refused, or memory ran out; and only
+    -- those of an earlier version that show a world may be refused because they can't be migrated.
+    pub cause : begins_anew task ≡ false → (tables : Tables) → HoldsTables image tables → IsCleanRemains rest →
+        RefusesTables task.file.now tables rest run
 
   -- a task over the file that held this image
   abbrev pub RunsFile : Task → Image → Ends T D g → Run → Type 0

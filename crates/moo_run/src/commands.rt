@@ -48,6 +48,7 @@ fn put_text<W: Write>(line: &str, output: &mut W) -> Result<u8, Failure>
 }
 
 /// Tests the tables, and writes what they hold.
+#[tactic(auto, using(moo_store_rows::proofs::Causes::cause_of_store))]
 fn check<W: Write, B: Alter + Drop>(
     alloc: Global,
     world: &mut World<B>,

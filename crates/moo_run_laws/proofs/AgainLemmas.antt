@@ -9,7 +9,10 @@ use Rattle.moo_tables.proofs.SchemaLemmas.{one_schema}
 use Rattle.moo_tables_rows.{specs.declared.version.Version.{Version}, specs.declared.version.Version.TheVariants.{First, Second}, specs.Tables.{Tables, schema_of, no_schema}, specs.Inside.{Leaves}}
 use Rattle.moo_cells.{proofs.CellsLemmas.{one_good}, proofs.GoodRows.{good_within}}
 use Rattle.moo_files.{specs.Contents.{HoldsSuch, HoldsState, HasAnyTable, IsKept, IsLeftBy}, specs.Remains.{IsCleanRemains, KeepsSuch, StillHolds}, specs.Closing.{IsLeftOf, IsClosedFrom}, specs.declared.remains.Remains.{Remains}, specs.Stop.{AreNumbered}, proofs.RemainsLemmas.{keeps_more}, proofs.StopLemmas.{left_by_store, such_by_bytes}, specs.Opened.{Database as a_database}}
+use Rattle.moo_files.{specs.Causes.{HasCauseOver, IsDenied}, specs.Contents.{HoldsEarlier}, proofs.OpenedLemmas.{over_more}}
 use Rattle.moo_files.specs.declared.remains.Remains.TheVariants as remains
+use Rattle.moo_run.specs.Ends.{RefusesTables, FailsFor}
+use Rattle.moo_store_rows.{specs.Opening.{AreMigrated}, proofs.Causes.{of_store, says_nothing}}
 
 later_false : (a b : Bool) → (a || b) ≡ false → b ≡ false
 later_false true b either = absurd (true≢false either)
@@ -84,6 +87,21 @@ module _ {D : Type 0} {g : Ghosts D} where
       → HasCleanDisk (file_state conn) → RanOver task image conn run → ((rows : Maps) → RunsRows task rows conn run → After rows) → StartedRows task image run.given After
   rows_from task image conn run After clean it after = ((λ other rows holds. after rows ((it.over other (a_database holds.1.trees) holds.1.holds clean).rows rows holds.0 holds.1.such)), (λ anew. let begun = it.anew anew in (begun.0, begun.1, after begun.0 begun.2)))
 
+-- a state that is refused was refused for a cause
+pub fails_for : {T D : Type 0} {g : Ghosts D} (path : List ℕ) (image : Image) (rest : Remains T D g) (run : Run) (s : State) (holds : HoldsState image s) → RefusesTables path holds.such.leaves.tables rest run → FailsFor path image rest run
+fails_for path image rest run s holds (fault, says, reports) =
+    let rows = holds.such.rows in
+    let shown = holds.such.leaves in
+    let tables = shown.tables in
+    let Denied = IsDenied run.given.denies path in
+    let Cause = HasCauseOver (AreMigrated tables) Denied fault rest in
+    let earlier : AreMigrated tables → HoldsEarlier image = λ migrated. record { trees = holds.trees; holds = holds.holds; such = (tables.version, migrated.0, shown.leaves.sound) } in (
+      fault,
+      of_store Cause tables rows fault shown.shows holds.such.good says,
+      over_more (AreMigrated tables) (HoldsEarlier image) Denied fault rest earlier (says_nothing Cause tables rows fault shown.shows holds.such.good says),
+      reports,
+    )
+
 module _ {T D : Type 0} {g : Ghosts D} where
   -- a task that ran over a file is on a file, and this is its run
   pub ran_file : (task : Task) (image : Image) (conn : Held (FileStore D g)) (run : Run)
@@ -106,7 +124,7 @@ module _ {T D : Type 0} {g : Ghosts D} where
   pub takes_up : (words : List (List ℕ)) (image : Image) (ends : Ends T D g) (run : Run)
       → RunsOver words image ends run → (s : State) → HoldsState image s → TakesUp words image s ends run
   takes_up words image (variant.Ran conn) run (inl (task, named, alone, runs, it)) s holds = inl (task, named, λ other clean. ((ran_file task image conn run it).over other (a_database holds.trees) holds.holds clean).state s holds.such)
-  takes_up words image (variant.Refused rest) run (inl (task, named, alone, runs, it)) s holds = inl (task, named, λ other clean. (refused_file task image rest run it).cause other s holds clean)
+  takes_up words image (variant.Refused rest) run (inl (task, named, alone, runs, it)) s holds = inl (task, named, λ other clean. fails_for task.file.now image rest run s holds ((refused_file task image rest run it).cause other holds.such.leaves.tables (record { trees = holds.trees; holds = holds.holds; such = holds.such.leaves.leaves }) clean))
   takes_up words image (variant.NoFile start) run (inl (task, named, alone, runs, it)) s holds = inl (task, named, λ other. absurd (it.file (on_file task other)))
   takes_up words image ends run (inr (some, rests, usage, none)) s holds = inr (some, usage, none)
 

@@ -1,6 +1,5 @@
 use Rattle.moo_run.{proofs.Words.{inl, true, false, image_at, state_of, Run, given_to}, proofs.Held.{ran_onto}, proofs.Connections.{surely, unseen}, proofs.Refusals.{refuses_file, tells_fault, refused_onto, still_held, never_anew}}
 use Rattle.moo_run.proofs.files.run_found.Goals as goal
-use Rattle.moo_files.specs.Opened.{Database}
 
 pub returns-in-Ok-clause-runs : goal.returns-in-Ok-clause-runs
 returns-in-Ok-clause-runs g c =
@@ -40,6 +39,5 @@ returns-in-Err-clause-runs g c =
       begun = λ anew. never_anew c.args.task c.requires.other anew;
       rests = c.fail_to_open.ensures.host;
       told = inl (fault, c.in-Err.ensures.refused.stopped, reports);
-      cause = λ other s holds clean.
-          (fault, (c.in-Err.ensures.refuses (Database holds.trees) holds.holds clean).state s holds.such, c.in-Err.ensures.stopped s holds clean, reports);
+      cause = λ other tables holds clean. (fault, c.in-Err.ensures.stopped tables holds clean, reports);
     }
