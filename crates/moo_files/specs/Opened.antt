@@ -64,8 +64,8 @@ module _ {T D : Type 0} {g : Ghosts D} where
     pub stopped : MayStopAs fault rest
     pub spared : ¬ IsNothing image → IsCleanRemains rest → Spares image rest
 
-  -- This database is refused. No damage is told of a state or of tables that aren't ours, and ours are never called others. The files hold it
-  -- still, or what it was migrated to.
+  -- This database is refused. No damage is told of a state or of tables that aren't ours, and ours are never called others. The files hold
+  -- it still, or what it was migrated to.
   pub record RefusesOver (trees : Trees) (image : Image) (fault : StoreFault) (rest : Remains T D g) : Type 0 where
     pub state : (s : State) → LeavesState trees s → IsOfStore fault
     pub other : HasOtherTables trees → IsOfStore fault

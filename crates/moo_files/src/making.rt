@@ -124,8 +124,8 @@ pub fn create_from<T: Start, H: WorldFiles<T>>(
     ensures makes { Makes opening_maps (image_at T.Start) result }
     // If they couldn't be opened, the host said so.
     ensures refusing { IfErr result (λ e. IfNotOpened e.1 ((error : Refusal) × H.refuses host.now path.now error)) }
-    // Files that hold nothing or a database are refused only if the host, the disk or memory did; and once a connection is open, if they have
-    // room for a world, only if the disk failed, memory ran out, or a row is too big or has no number left.
+    // Files that hold nothing or a database are refused only if the host, the disk or memory did; and once a connection is open, if they
+    // have room for a world, only if the disk failed, memory ran out, or a row is too big or has no number left.
     ensures cause { IsOpenable (image_at T.Start) →
         IfErr result (λ e. IsCleanRemains e.1 →
         HasCauseOr (StopsMaking (image_at T.Start) e.0) (IsDenied (H.denies host.now) path.now) e.0 e.1) }

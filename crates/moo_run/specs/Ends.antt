@@ -22,7 +22,8 @@ use Rattle.moo_store.specs.Led.{LeavesLed}
 use Rattle.moo_store.specs.Untouched.{LeavesWritten}
 use Rattle.moo_store.specs.World.{CrashLeaves}
 use Rattle.moo_store_rows.specs.declared.fault.StoreFault.{StoreFault}
-use Rattle.moo_files.specs.Contents.{HoldsSuch, HoldsTrees, HoldsTables, HoldsState, HoldsEarlier, HoldsNoTable, HasOtherTables, HasAnyTable, IsKept, ReadsAsOurs}
+use Rattle.moo_files.specs.Contents.{HoldsSuch, HoldsTrees, HoldsTables, HoldsState, HoldsEarlier, HoldsNoTable}
+use Rattle.moo_files.specs.Contents.{HasOtherTables, HasAnyTable, IsKept, ReadsAsOurs}
 use Rattle.moo_files.specs.Remains.{IsCleanRemains, MayStopAs, Spares, KeepsSuch, KeepsNothingBut, StillHolds, StillHoldsTrees}
 use Rattle.moo_files.specs.Blank.{IsBlank}
 use Rattle.moo_files.specs.Causes.{HasCauseOver, IsDenied}
@@ -164,8 +165,8 @@ module _ {T D : Type 0} {g : Ghosts D} where
     pub told : ((fault : StoreFault) × MayStopAs fault rest × Reports (store_failure fault) run.before run.after run.status)
         ⊎ (IsTrue (is_load task.action) × IsUntouched rest × (failure : Failure)
         × RefusesTask run.given task.action failure × Reports failure run.before run.after run.status)
-    -- Tables are refused for what is wrong with them. Else the host denied the file, its disk failed or refused, or memory ran out; and only
-    -- those of an earlier version that show a world may be refused because they can't be migrated.
+    -- Tables are refused for what is wrong with them. Else the host denied the file, its disk failed or refused, or memory ran out; only
+    -- those of an earlier version that show a world may also be refused because they can't be migrated.
     pub cause : begins_anew task ≡ false → (tables : Tables) → HoldsTables image tables → IsCleanRemains rest →
         RefusesTables task.file.now tables rest run
 
