@@ -78,8 +78,8 @@ abbrev pub HasOthers : Database → Type 0
 HasOthers conn = (version : Version) → conn.now.schema ≢ schema_of version
 
 module _ {S : Type 0} (g : Ghosts S) where
-  -- None was opened, and the connection comes back outside a transaction. A damage that is told is the first of the tables, any other fault of
-  -- them has a cause, and they are never called others. Other tables are a fault of the store. The database is as it was.
+  -- None was opened, and the connection comes back outside a transaction. A damage that is told is the first of the tables, any other fault
+  -- of them has a cause, and they are never called others. Other tables are a fault of the store. The database is as it was.
   pub record IsUnadopted (conn : Held S) (fault : StoreFault) (last : Held S) : Type 0 where
     pub outside : (state g last).in_transaction ≡ false
     pub other : HasOthers (state g conn) → IsOfStore fault × (last ≡ conn)
