@@ -1,6 +1,10 @@
 //! The law of the program, of any two runs.
 
-ghost use Rattle.moo_run_laws.specs.FileRuns.{FileRun, Follows, HandsOver};
+ghost use Rattle.sqlite_wal.specs.Recovery.{Image};
+ghost use Rattle.moo_files.specs.Remains.{IsCleanRemains};
+ghost use Rattle.moo_run.specs.Ends.{IsClosedEnd};
+ghost use Rattle.moo_run_laws.specs.FileRuns.{FileRun, Follows, HandsOver, IsFoundAfter};
+ghost use Rattle.moo_run_laws.specs.Halted.{EndLeaves};
 
 use moo_run::Runs;
 
@@ -13,4 +17,11 @@ use moo_run::Runs;
 pub fn runs_lead_on<S: Runs, N: Runs>()
     ensures follows { (first : FileRun S.Runs S.Disk.Disk) (next : FileRun N.Runs N.Disk.Disk) → Follows first next →
         HandsOver first next }
+{}
+
+/// What the disk leaves of the files of a run that is stopped, once these are closed, may be found after it: `run_to_end` says that they are
+/// closed so, and `runs_lead_on` from what any run over these bytes then goes on.
+pub fn ends_are_found<S: Runs>()
+    ensures found { (run : FileRun S.Runs S.Disk.Disk) (next : Image) → IsClosedEnd run.ends run.closed → IsCleanRemains run.closed →
+        EndLeaves run.image run.ends run.closed next → IsFoundAfter run next }
 {}
