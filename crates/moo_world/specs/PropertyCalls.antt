@@ -4,8 +4,9 @@
 -- Properties', and 'Operations on Properties' in the part on built-in functions. The manual doesn't give the order of the checks: it is
 -- that of the lines here. Three things are this server's own: that `get` and `set` are calls, for the expression `object.name` and the
 -- assignment to it; that a new owner has to be an object; and that the present name in another case isn't a new name.
-use Rattle.std.specs.Prelude.{Bool, true, false, not, ◌&&◌, ◌||◌, nat_lt, [], ◌∷◌, Option, Some, None, Result, Ok, Err, unwrap_or}
-use Rattle.std.specs.List.{list_any}
+use Rattle.std.specs.Prelude.{Bool, true, false, not, ◌&&◌, ◌||◌, nat_lt, [], ◌∷◌, ◌++◌, Option, Some, None, Result, Ok, Err, unwrap_or}
+use Rattle.std.specs.Prelude.{if◌then◌else◌}
+use Rattle.std.specs.List.{list_any, find}
 use Rattle.moo_value.specs.declared.value.ObjNo.{ObjNo}
 use Rattle.moo_value.specs.declared.value.Value.{Value}
 use Rattle.moo_value.specs.declared.value.Value.TheVariants.{Obj, Str}
@@ -17,8 +18,9 @@ use Rattle.moo_world.specs.declared.built_in.BuiltIn.{BuiltIn}
 use Rattle.moo_world.specs.declared.built_in.BuiltIn.TheVariants.{Name as NameField, Owner, Location, Contents, Programmer, Wizard, R, W, F}
 use Rattle.moo_world.specs.declared.change.Change.{Change}
 use Rattle.moo_world.specs.declared.change.Change.TheVariants as to
-use Rattle.moo_world.specs.Objects.{Name, same_object, same_text, folded, number_limit}
-use Rattle.moo_world.specs.World.{World, is_object, property_names_of, slot_of, read_of, is_property_name}
+use Rattle.moo_world.specs.Objects.{Name, nothing, same_object, same_text, folded, number_limit}
+use Rattle.moo_world.specs.World.{World, is_object, row_passes, chain, property_names_of, slot_of, read_of, is_property_name}
+use Rattle.moo_world.specs.ObjectLists.{walk_down}
 use Rattle.moo_world.specs.Outcomes.{Outcome, Done, require_room, require◌else◌, ◌>>◌, given, ◌or_else◌, ◌>>=◌}
 use Rattle.moo_world.specs.Arguments.{Info}
 use Rattle.moo_world.specs.Answers.{zero, flag, list_of, text_list}
@@ -124,6 +126,11 @@ set world programmer object name value = do
 -- the object itself defines a property of the name
 abbrev pub defines_name : World → ObjNo → Name → Bool
 defines_name world object name = list_any (λ defined_name. same_text (folded defined_name) (folded name)) (property_names_of world object)
+
+-- the first of the object, its ancestors and its descendants that defines a property of the name, or #-1
+abbrev pub first_to_define : World → ObjNo → Name → ObjNo
+first_to_define world object name =
+    unwrap_or (find (λ other. defines_name world other name) (chain world object ++ walk_down world object)) nothing
 
 -- the name may be given to a new property of the object
 abbrev pub may_define : World → ObjNo → Name → Bool
