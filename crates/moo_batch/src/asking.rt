@@ -1,8 +1,7 @@
 //! `petition`.
 
-ghost use Rattle.std.specs.Prelude.{◌≡◌, true, List, OnOk, IfErr};
+ghost use Rattle.std.specs.Prelude.{◌≡◌, true, OnOk, IfErr};
 ghost use Rattle.std.specs.List.{list_all};
-ghost use Rattle.moo_rows.specs.Maps.{Maps};
 ghost use Rattle.moo_value.specs.Value.{spread};
 ghost use Rattle.moo_value.specs.declared.value.ObjNo.{ObjNo};
 ghost use Rattle.moo_value.specs.declared.value.Value.{Value};
@@ -15,12 +14,9 @@ ghost use Rattle.moo_world.specs.Requests.{State, are_on_world, petition_filed, 
 ghost use Rattle.moo_world.specs.Rows.{IsGood};
 ghost use Rattle.moo_world.specs.World.{is_object};
 ghost use Rattle.moo_calls_shared.specs.Outcomes.{world_in};
-ghost use Rattle.moo_calls_shared.specs.Reasons.{error_of};
+ghost use Rattle.moo_world.specs.Reasons.{error_of};
 ghost use Rattle.moo_batch.specs.Checks.{taking_calls};
 ghost use Rattle.moo_batch.specs.Outcomes.{state_in, KeepsGoodRows, Reaches, Stays};
-ghost use Rattle.moo_batch.specs.Telling.{IsTrueFault, about_calls};
-ghost use Rattle.moo_calls_shared.specs.About.{About, about_given};
-ghost use Rattle.moo_calls_shared.specs.Told.{IsTrueOf};
 
 use crate::args::one_list;
 use crate::held::are_calls;
@@ -37,7 +33,6 @@ fn may_be_asked(calls: &ValueList) -> Result<(), Reason>
     ensures on_world { OnOk result (are_on_world calls.now ≡ true) }
     ensures shallow { OnOk result (are_shallow calls.now ≡ true) }
     ensures err { IfErr result (λ reason. (then : Outcome State) → taking_calls calls.now then ≡ Failed (error_of reason)) }
-    ensures told { IfErr result (λ reason. (maps : Maps) (programmer : ObjNo) → IsTrueOf maps programmer (about_calls calls.now) reason) }
 {
     if !are_named(calls.items()) {
         return Err(Reason::Unnamed);
@@ -61,7 +56,6 @@ fn ask<R: Rows>(rows: &mut R, programmer: ObjNo, calls: ValueList) -> Result<Val
     ensures reaches { Reaches (petition_filed (state_in (R.held rows.old)) programmer calls) (R.held rows.new) result }
     ensures stays { Stays (R.held rows.old) (R.held rows.new) result }
     ensures kept { OnOk result (KeepsGoodRows KeepsNumbers (R.held rows.old) (R.held rows.new)) }
-    ensures told { (about : About) (args : List Value) → IfErr result (IsTrueFault (R.held rows.old).maps programmer about args) }
 {
     let mut head = rows.head();
     let number = head.next_petition;
@@ -94,7 +88,6 @@ pub(crate) fn petition<R: Rows>(
     ensures reaches { Reaches (given (one_list args.now) (petition (state_in (R.held rows.old)) programmer)) (R.held rows.new) result }
     ensures stays { Stays (R.held rows.old) (R.held rows.new) result }
     ensures kept { OnOk result (KeepsGoodRows KeepsNumbers (R.held rows.old) (R.held rows.new)) }
-    ensures told { IfErr result (IsTrueFault (R.held rows.old).maps programmer (about_given (one_list args.now) about_calls) args.now) }
 {
     let calls = one_list(args)?;
     may_be_asked(calls)?;

@@ -2,9 +2,7 @@
 
 ghost use Rattle.std.specs.Prelude.{◌≡◌, true, false, Some, OnOk, IfSome, IfNone};
 ghost use Rattle.moo_value.specs.declared.value.ObjNo.{ObjNo};
-ghost use Rattle.moo_rows.specs.Maps.{Maps};
 ghost use Rattle.moo_world.specs.Arguments.{fits};
-ghost use Rattle.moo_world.specs.BuiltIns.{built_in};
 ghost use Rattle.moo_world.specs.Codes.{E_PERM};
 ghost use Rattle.moo_world.specs.Keeps.{Keeps};
 ghost use Rattle.moo_world.specs.Objects.{Name};
@@ -12,10 +10,8 @@ ghost use Rattle.moo_world.specs.PropertyCalls.{change_of, may_set, owner_is_obj
 ghost use Rattle.moo_world.specs.Rights.{may_set_name};
 ghost use Rattle.moo_world.specs.Rows.{IsGood};
 ghost use Rattle.moo_world.specs.World.{is_object};
-ghost use Rattle.moo_calls_shared.specs.Reasons.{error_of};
+ghost use Rattle.moo_world.specs.Reasons.{error_of};
 ghost use Rattle.moo_calls_shared.specs.Outcomes.{world_in, ComesTo, GivenOrNot};
-ghost use Rattle.moo_calls_shared.specs.About.{About, about_property};
-ghost use Rattle.moo_calls_shared.specs.Told.{IsTold, IsTrueOf};
 
 use moo_calls_shared::{Fault, Reason, change_row, rights};
 use moo_rows::Rows;
@@ -29,8 +25,6 @@ use std::alloc::Global;
 /// OutOfMemory means out of memory and nothing else.
 fn change_of(alloc: Global, field: BuiltIn, value: &Value) -> Result<Change, Fault>
     ensures given { GivenOrNot (change_of field value.now) result }
-    ensures told { (maps : Maps) (programmer x : ObjNo) (name : Name) → built_in name ≡ Some field →
-        IsTold maps programmer (about_property x name) result }
 {
     match (field, value) {
         (BuiltIn::Location | BuiltIn::Contents, _) => Err(Fault::Moo(Reason::NeverSet)),
@@ -60,8 +54,6 @@ fn may_set<R: Rows>(rows: &R, programmer: ObjNo, x: ObjNo, field: BuiltIn) -> bo
 /// Why the programmer may not name the object.
 fn namer_fault<R: Rows>(rows: &R, x: ObjNo) -> Reason
     ensures error { error_of result ≡ E_PERM }
-    ensures told { (programmer : ObjNo) (about : About) → may_set_name (world_in (R.held rows.now)) programmer x ≡ false →
-        IsTrueOf (R.held rows.now).maps programmer about result }
 {
     match rows.object(x) {
         Some(row) if row.player => Reason::NamesPlayer(x),
@@ -72,8 +64,6 @@ fn namer_fault<R: Rows>(rows: &R, x: ObjNo) -> Reason
 /// Why the programmer may not set a built-in property of the object.
 fn setter_fault<R: Rows>(rows: &R, x: ObjNo, field: BuiltIn) -> Reason
     ensures error { error_of result ≡ E_PERM }
-    ensures told { (programmer : ObjNo) (about : About) → may_set (world_in (R.held rows.now)) programmer x field ≡ false →
-        IsTrueOf (R.held rows.now).maps programmer about result }
 {
     match field {
         BuiltIn::Name => namer_fault(rows, x),
@@ -113,7 +103,6 @@ pub fn set_built_in<R: Rows>(
     ensures comes { ComesTo (set_built_in (world_in (R.held rows.old)) programmer x field value.now)
         (R.held rows.old) (R.held rows.new) result }
     ensures kept { OnOk result (Keeps (R.held rows.old) (R.held rows.new)) }
-    ensures told { (name : Name) → built_in name ≡ Some field → IsTold (R.held rows.old).maps programmer (about_property x name) result }
 {
     let change = change_of(alloc, field, value)?;
     if !may_set(rows, programmer, x, field) {

@@ -5,19 +5,19 @@ use Rattle.moo_value.specs.declared.value.Value.{Value}
 use Rattle.moo_rows.specs.Maps.{Held}
 use Rattle.moo_world.specs.World.{World}
 use Rattle.moo_world.specs.Rows.{world_of}
-use Rattle.moo_world.specs.Outcomes.{Outcome, Done, Failed, Full}
-use Rattle.moo_calls_shared.specs.Reasons.{error_of}
+use Rattle.moo_world.specs.declared.reason.Reason.TheVariants.{Given}
+use Rattle.moo_world.specs.Outcomes.{Outcome, Done, Full, fails}
 use Rattle.moo_calls_shared.specs.declared.fault.Fault.{Fault}
 use Rattle.moo_calls_shared.specs.declared.fault.Fault.TheVariants.{Moo, Held as of_held, Full as NoneLeft, OutOfMemory}
 
 abbrev pub world_in : Held → World
 world_in held = world_of held.maps
 
--- what a call answers if this is its outcome: the answer, with the rows of the next world, or the error, with the rows
--- as they were. Out of memory may leave anything
+-- what a call answers if this is its outcome: the answer, with the rows of the next world, or the reason for which it fails, with the
+-- rows as they were. Out of memory may leave anything
 abbrev pub ComesTo : Outcome World → Held → Held → Result Value Fault → Type 0
 ComesTo outcome old new (Ok v) = outcome ≡ Done v (world_in new)
-ComesTo outcome old new (Err (Moo reason)) = (outcome ≡ Failed (error_of reason)) × (new ≡ old)
+ComesTo outcome old new (Err (Moo reason)) = (outcome ≡ fails reason) × (new ≡ old)
 ComesTo outcome old new (Err (of_held place reason)) = ⊥
 ComesTo outcome old new (Err NoneLeft) = (outcome ≡ Full) × (new ≡ old)
 ComesTo outcome old new (Err OutOfMemory) = ⊤
@@ -29,7 +29,8 @@ Answers outcome rows result = ComesTo outcome rows rows result
 -- what is read from what a call is given, or its error; or out of memory
 abbrev pub GivenOrNot : {A : Type 0} → Result A Code → Result A Fault → Type 0
 GivenOrNot read (Ok a) = read ≡ Ok a
-GivenOrNot read (Err (Moo reason)) = read ≡ Err (error_of reason)
+GivenOrNot read (Err (Moo (Given code))) = read ≡ Err code
+GivenOrNot read (Err (Moo reason)) = ⊥
 GivenOrNot read (Err (of_held place reason)) = ⊥
 GivenOrNot read (Err NoneLeft) = ⊥
 GivenOrNot read (Err OutOfMemory) = ⊤

@@ -19,7 +19,3 @@ returns-clause-kept g c =
       base = charged.kept.base ∙ made.base;
       numbers = then_slots (g.R.Rows.held c.args.rows.now).maps (g.R.Rows.held c.make.new.rows).maps (g.R.Rows.held c.charge.new.rows).maps made.numbers charged.rest;
     }
-
-pub returns-then-not-may_be_parent-clause-told : goal.returns-then-not-may_be_parent-clause-told
-returns-then-not-may_be_parent-clause-told g c =
-    c.parent_fault.ensures.told c.args.programmer (about_object c.args.parent) (sym c.may_be_parent.ensures ∙ c.if-not-may_be_parent.true)
