@@ -226,14 +226,10 @@ pub(crate) fn tell(
     disclosed: &Disclosure,
 ) -> Result<(), AllocError> {
     said.put(lead)?;
-    if let Reason::NameShared {
-        definer,
-        property: _,
-    } = reason
-    {
+    if let Reason::NameShared(definer) = reason {
         return put_shared(said, definer, given, disclosed);
     }
-    if let Reason::NameTaken { definer } = reason {
+    if let Reason::NameTaken(definer) = reason {
         return put_taken(said, definer, value_at(given, name_position(given.name)));
     }
     match sentence(given, reason) {
