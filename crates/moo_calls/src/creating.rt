@@ -7,9 +7,8 @@ ghost use Rattle.moo_world.specs.Rows.{IsGood};
 ghost use Rattle.moo_world.specs.Creation.{next_object, owner_or_self};
 ghost use Rattle.moo_world.specs.Quota.{may_afford, charged};
 ghost use Rattle.moo_world.specs.Codes.{E_PERM};
-ghost use Rattle.moo_world.specs.Calls.{create, named_call};
+ghost use Rattle.moo_world.specs.Calls.{create, named_call, unfit_parent};
 ghost use Rattle.moo_world.specs.declared.name.CallName.TheVariants.{Create};
-ghost use Rattle.moo_world.specs.Reasons.{error_of};
 ghost use Rattle.moo_calls_shared.specs.Outcomes.{world_in, ComesTo};
 ghost use Rattle.moo_world.specs.Keeps.{Keeps};
 ghost use Rattle.moo_world.specs.Numbers.{IsSameButSlots};
@@ -81,7 +80,7 @@ fn charge<R: Rows>(rows: &mut R, owner: ObjNo, quota: Option<i64>) -> Result<(),
 
 /// Why an object may not be made under a parent.
 fn parent_fault<R: Rows>(rows: &R, parent: ObjNo) -> Reason
-    ensures error { error_of result ≡ E_PERM }
+    ensures { result ≡ unfit_parent (world_in (R.held rows.now)) parent }
 {
     if valid(rows, parent) {
         Reason::NotFertile(parent)

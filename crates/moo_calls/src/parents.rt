@@ -47,8 +47,8 @@ pub fn chparent<R: Rows>(
     if is_under(rows, new, x) {
         return Err(Fault::Moo(Reason::ParentBelow(new)));
     }
-    if let Some((definer, property)) = shares_property_name(alloc, rows, x, new)? {
-        return Err(Fault::Moo(Reason::NameShared { definer, property }));
+    if let Some(definer) = shares_property_name(alloc, rows, x, new)? {
+        return Err(Fault::Moo(Reason::NameShared(definer)));
     }
     reparent(alloc, rows, x, new)?;
     Ok(ZERO)

@@ -7,16 +7,14 @@ ghost use Rattle.moo_rows.specs.declared.row.SlotState.TheVariants.{Set};
 ghost use Rattle.moo_value.specs.declared.value.Value.{Value};
 ghost use Rattle.moo_world.specs.Arguments.{fits};
 ghost use Rattle.moo_world.specs.Keeps.{Keeps};
-ghost use Rattle.moo_world.specs.PropertyCalls.{add_property, defines_name, may_define};
+ghost use Rattle.moo_world.specs.PropertyCalls.{add_property, defines_name, may_define, undefined_reason};
 ghost use Rattle.moo_world.specs.Rows.{IsGood};
 ghost use Rattle.moo_world.specs.Objects.{folded};
 ghost use Rattle.moo_world.specs.Answers.{zero};
-ghost use Rattle.moo_world.specs.Codes.{E_INVARG};
 ghost use Rattle.moo_world.specs.Outcomes.{Outcome, Done, fails};
 ghost use Rattle.moo_world.specs.Changes.{property_added};
 ghost use Rattle.moo_world.specs.World.{World, is_object, is_property_name};
 ghost use Rattle.moo_props.specs.Names.{defines as defines_property, name_of};
-ghost use Rattle.moo_world.specs.Reasons.{error_of};
 ghost use Rattle.moo_calls_shared.specs.Outcomes.{world_in, ComesTo, Answers};
 ghost use Rattle.moo_calls_properties.specs.Checks.{taking_property_info};
 ghost use Rattle.moo_calls_shared.specs.Shown.{info_shown};
@@ -46,13 +44,13 @@ pub(crate) fn may_define<R: Rows>(rows: &R, x: ObjNo, name: &MooStr) -> Result<(
     requires { IsGood (R.held rows.now).maps }
     ensures ok { OnOk result (may_define (world_in (R.held rows.now)) x name.now ≡ true) }
     ensures err { OnErr result (may_define (world_in (R.held rows.now)) x name.now ≡ false) }
-    ensures code { IfErr result (λ reason. error_of reason ≡ E_INVARG) }
+    ensures why { IfErr result (λ reason. reason ≡ undefined_reason (world_in (R.held rows.now)) x name.now) }
 {
     if !is_property_name(name) {
         return Err(Reason::NoPropertyName);
     }
     match clashes(rows, x, name) {
-        Some(definer) => Err(Reason::NameTaken { definer }),
+        Some(definer) => Err(Reason::NameTaken(definer)),
         None => Ok(()),
     }
 }

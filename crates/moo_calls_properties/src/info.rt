@@ -3,17 +3,15 @@
 ghost use Rattle.std.specs.Prelude.{◌≡◌, ◌||◌, true, is_some, option_map, Err, IfOk, IfErr, OnOk, OnErr, false};
 ghost use Rattle.std.specs.FinMap.{get};
 ghost use Rattle.moo_world.specs.Answers.{zero};
-ghost use Rattle.moo_world.specs.Codes.{E_INVARG};
 ghost use Rattle.moo_world.specs.Changes.{info_set};
 ghost use Rattle.moo_world.specs.Keeps.{Keeps};
 ghost use Rattle.moo_value.specs.declared.value.ObjNo.{ObjNo};
 ghost use Rattle.moo_world.specs.Objects.{folded, same_object};
 ghost use Rattle.moo_world.specs.Outcomes.{Done};
-ghost use Rattle.moo_world.specs.PropertyCalls.{may_rename, renamed_to, set_property_info};
+ghost use Rattle.moo_world.specs.PropertyCalls.{may_rename, renamed_to, set_property_info, unrenamed_reason};
 ghost use Rattle.moo_world.specs.Rights.{is_wizard};
 ghost use Rattle.moo_world.specs.Rows.{world_of, IsGood};
 ghost use Rattle.moo_props.specs.Names.{name_of, spelling_of};
-ghost use Rattle.moo_world.specs.Reasons.{error_of};
 ghost use Rattle.moo_calls_shared.specs.Outcomes.{world_in, ComesTo, Answers};
 ghost use Rattle.moo_calls_shared.specs.Shown.{info_shown};
 
@@ -45,7 +43,8 @@ fn may_rename<R: Rows>(
     requires { IsGood (R.held rows.now).maps }
     ensures ok { OnOk result (may_rename (world_in (R.held rows.now)) x name.now (option_map (λ n. n.now) new.entry) ≡ true) }
     ensures err { OnErr result (may_rename (world_in (R.held rows.now)) x name.now (option_map (λ n. n.now) new.entry) ≡ false) }
-    ensures code { IfErr result (λ reason. error_of reason ≡ E_INVARG) }
+    ensures why { IfErr result (λ reason.
+        reason ≡ unrenamed_reason (world_in (R.held rows.now)) x name.now (option_map (λ n. n.now) new.entry)) }
 {
     let Some(new) = new else {
         return Ok(());

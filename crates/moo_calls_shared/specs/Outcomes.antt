@@ -5,6 +5,7 @@ use Rattle.moo_value.specs.declared.value.Value.{Value}
 use Rattle.moo_rows.specs.Maps.{Held}
 use Rattle.moo_world.specs.World.{World}
 use Rattle.moo_world.specs.Rows.{world_of}
+use Rattle.moo_world.specs.declared.reason.Reason.{Reason}
 use Rattle.moo_world.specs.declared.reason.Reason.TheVariants.{Given}
 use Rattle.moo_world.specs.Outcomes.{Outcome, Done, Full, fails}
 use Rattle.moo_calls_shared.specs.declared.fault.Fault.{Fault}
@@ -25,6 +26,14 @@ ComesTo outcome old new (Err OutOfMemory) = ⊤
 -- the same of a call that only reads
 abbrev pub Answers : Outcome World → Held → Result Value Fault → Type 0
 Answers outcome rows result = ComesTo outcome rows rows result
+
+-- what a value is taken for, or why it isn't taken; or out of memory
+abbrev pub TakenOrNot : {A : Type 0} → Result A Reason → Result A Fault → Type 0
+TakenOrNot taken (Ok a) = taken ≡ Ok a
+TakenOrNot taken (Err (Moo reason)) = taken ≡ Err reason
+TakenOrNot taken (Err (of_held place reason)) = ⊥
+TakenOrNot taken (Err NoneLeft) = ⊥
+TakenOrNot taken (Err OutOfMemory) = ⊤
 
 -- what is read from what a call is given, or its error; or out of memory
 abbrev pub GivenOrNot : {A : Type 0} → Result A Code → Result A Fault → Type 0

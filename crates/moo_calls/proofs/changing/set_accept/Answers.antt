@@ -1,5 +1,4 @@
 use Rattle.std.{proofs.Common.{sym, ◌∙◌}, specs.Prelude.{◌&&◌}}
-use Rattle.moo_calls.proofs.Checked.{too_long}
 use Rattle.moo_calls.proofs.changing.set_accept.Goals as goal
 
 pub change_row-requires-clause-allowed : goal.change_row-requires-clause-allowed

@@ -1,6 +1,5 @@
 use Rattle.moo_world.proofs.Form.Arguments.{accept_list_numbered}
 use Rattle.std.proofs.Common.{rules}
-use Rattle.moo_calls_shared.specs.About.{about_accept}
 use Rattle.moo_calls.proofs.changing.set_accept_given.Goals as goal
 
 pub set_accept-requires-clause-numbers : goal.set_accept-requires-clause-numbers

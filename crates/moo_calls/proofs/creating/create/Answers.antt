@@ -2,7 +2,6 @@ use Rattle.std.proofs.Common.{sym, ◌∙◌}
 use Rattle.moo_world.proofs.Shown.NumbersKept.{then_slots}
 use Rattle.moo_calls_shared.specs.Outcomes.{world_in}
 use Rattle.moo_calls.proofs.Created.{quota_still}
-use Rattle.moo_calls_shared.specs.About.{about_object}
 use Rattle.moo_calls.proofs.creating.create.Goals as goal
 
 pub charge-requires-clause-quota : goal.charge-requires-clause-quota

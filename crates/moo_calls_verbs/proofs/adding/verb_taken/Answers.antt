@@ -1,7 +1,6 @@
 use Rattle.std.proofs.Common.{rules, ◌≡◌, sym, ◌∙◌}
 use Rattle.moo_world.{specs.Outcomes.{fails}, specs.World.{is_object}, specs.VerbCalls.{add_verb}}
 use Rattle.moo_calls_shared.{specs.Outcomes.{world_in}, proofs.Passed.{check_passed}}
-use Rattle.moo_calls_shared.specs.About.{about_new_verb}
 use Rattle.moo_calls_verbs.proofs.adding.verb_taken.Goals as goal
 
 pub returns-in_err-bits-clause-err : goal.returns-in_err-bits-clause-err

@@ -2,7 +2,6 @@ use Rattle.std.proofs.Common.{rules, ◌≡◌, refl, ap, sym, ◌∙◌}
 use Rattle.moo_world.{specs.Outcomes.{Done, fails}, specs.Answers.{zero}, specs.Directories.{verb_info_set}, specs.VerbCalls.{set_verb_info}}
 use Rattle.moo_verbs.specs.Places.{verb_place}
 use Rattle.moo_calls_shared.{specs.Outcomes.{world_in}, proofs.{Passed.{check_passed, found_passed}, Refused.{check_failed, found_failed}}}
-use Rattle.moo_calls_shared.specs.About.{about_verb_info}
 use Rattle.moo_calls_verbs.proofs.changing.set_verb_info.Goals as goal
 
 pub returns-then-not-valid-clause-comes : goal.returns-then-not-valid-clause-comes
