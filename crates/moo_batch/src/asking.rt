@@ -9,12 +9,11 @@ ghost use Rattle.moo_value.specs.declared.value.Value.TheVariants.{List as a_lis
 ghost use Rattle.moo_world.specs.Arguments.{fits};
 ghost use Rattle.moo_world.specs.Numbers.{KeepsNumbers};
 ghost use Rattle.moo_world.specs.Petitions.{is_named, are_few, are_shallow, petition_fits};
-ghost use Rattle.moo_world.specs.Outcomes.{Outcome, Failed, given};
+ghost use Rattle.moo_world.specs.Outcomes.{Outcome, fails, given};
 ghost use Rattle.moo_world.specs.Requests.{State, are_on_world, petition_filed, one_list, petition};
 ghost use Rattle.moo_world.specs.Rows.{IsGood};
 ghost use Rattle.moo_world.specs.World.{is_object};
 ghost use Rattle.moo_calls_shared.specs.Outcomes.{world_in};
-ghost use Rattle.moo_world.specs.Reasons.{error_of};
 ghost use Rattle.moo_batch.specs.Checks.{taking_calls};
 ghost use Rattle.moo_batch.specs.Outcomes.{state_in, KeepsGoodRows, Reaches, Stays};
 
@@ -32,7 +31,7 @@ fn may_be_asked(calls: &ValueList) -> Result<(), Reason>
     ensures few { OnOk result (are_few calls.now ≡ true) }
     ensures on_world { OnOk result (are_on_world calls.now ≡ true) }
     ensures shallow { OnOk result (are_shallow calls.now ≡ true) }
-    ensures err { IfErr result (λ reason. (then : Outcome State) → taking_calls calls.now then ≡ Failed (error_of reason)) }
+    ensures err { IfErr result (λ reason. (then : Outcome State) → taking_calls calls.now then ≡ fails reason) }
 {
     if !are_named(calls.items()) {
         return Err(Reason::Unnamed);

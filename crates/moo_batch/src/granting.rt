@@ -62,7 +62,7 @@ fn held_steps<R: Rows>(
     requires good { IsGood (R.held rows.old).maps }
     requires fit { list_all fits helds.now ≡ true }
     requires few { length helds.now ≤ 64 }
-    ensures comes { ComesInTurn (held_steps (world_in (R.held rows.old)) wizard helds.now) (R.held rows.new) result }
+    ensures comes { ComesInTurn (held_steps 0 (world_in (R.held rows.old)) wizard helds.now) (R.held rows.new) result }
     ensures kept { OnOk result (KeepInTurn wizard helds.now (R.held rows.old) (R.held rows.new)) }
 {
     let mut place: u32 = 0;
