@@ -1,5 +1,5 @@
 -- Clashes of names, by what each object defines itself.
-use Rattle.moo_props.{proofs.Words.{arith, ◌||◌, ◌≡◌, Bool, true, false, None, Option, Some, List, [], ◌∷◌, ◌++◌, map, refl, sym, ap, ◌∙◌, is_some, unwrap_or, if◌then◌else◌, option_map, option_or, int_eq, filter, find, list_any, entries, is_object, look_ups, IsGood, PropId, PropRow, Slot, ObjNo, defined_left, Maps, clashes, subtree_of, Name, Property, nothing, same_object, same_text, folded, defines_name, first_to_define, first_to_meet, walk_down, World, IsWellFormed, chain, Chain-chain, chain_of_none, no_slot, property_names_of, defined_by, defined_by_any, definer_of_name, definer_of_slot, property_named, slot_of, shares_property_name, IsSound, world_of, prop_id, any-append, any_map, meets_on}, proofs.Shared.{has_owed}, proofs.DefinedNames.{names_listed}, proofs.Descending.{any_walked}, proofs.Walked.{found_any}, proofs.WholeWalks.{props_all}}
+use Rattle.moo_props.{proofs.Words.{◌||◌, ◌≡◌, Bool, true, false, None, Option, Some, List, [], ◌∷◌, ◌++◌, map, refl, sym, ap, ◌∙◌, is_some, unwrap_or, if◌then◌else◌, option_map, option_or, int_eq, filter, find, list_any, entries, is_object, IsGood, PropId, PropRow, Slot, ObjNo, defined_left, Maps, clashes, subtree_of, Name, Property, nothing, same_object, same_text, folded, defines_name, first_to_define, first_to_meet, walk_down, World, IsWellFormed, chain, Chain-chain, chain_of_none, no_slot, property_names_of, defined_by, defined_by_any, definer_of_name, definer_of_slot, property_named, slot_of, shares_property_name, IsSound, world_of, prop_id, any-append, any_map, meets_on}, proofs.Shared.{has_owed}, proofs.DefinedNames.{names_listed}, proofs.Descending.{any_walked}, proofs.Walked.{found_any}, proofs.WholeWalks.{props_all}}
 use Rattle.std.proofs.lemmas.List.Folds.{find-append}
 
 -- ---- the first that passes
