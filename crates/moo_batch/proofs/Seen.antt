@@ -1,5 +1,5 @@
 -- What a witness has seen of a batch.
-use Rattle.std.proofs.Common.{◌≡◌, ℕ, Err, sym, ap, refl, subst, ◌∙◌}
+use Rattle.std.proofs.Common.{◌≡◌, ℕ, Err, sym, refl, subst, ◌∙◌}
 use Rattle.moo_rows.specs.Maps.{Maps}
 use Rattle.moo_world.{specs.declared.call.Batch.{Batch}, specs.Judge.{State, run_calls, state_of}, specs.Reasons.{error_of}}
 use Rattle.moo_batch.{specs.declared.witness.Refusal.{Refusal}, specs.declared.judging.Stop.{Stop}, specs.declared.judging.Stop.TheVariants.{Refused as refused_at, Full as full_at, OutOfMemory as no_memory}, specs.declared.judging.Verdict.{Verdict}, specs.declared.judging.Verdict.TheVariants.{Refused, Full, OutOfMemory}, specs.Judge.{ComeTo}, specs.Seeing.{HasSeen}}

@@ -6,9 +6,9 @@ ghost use Rattle.moo_world.specs.Arguments.{objects_among, object_and_accept};
 ghost use Rattle.moo_calls_shared.specs.Outcomes.{GivenOrNot};
 
 use crate::fault::Fault;
-use moo_world::Reason;
 use moo_rows::ObjList;
 use moo_value::{Code, ObjNo, Value};
+use moo_world::Reason;
 use std::alloc::{AllocError, Global};
 
 /// The objects of a list that has only objects. The only error is out of memory.

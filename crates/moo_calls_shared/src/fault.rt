@@ -1,7 +1,7 @@
 //! Why a call fails.
 
-use moo_world::Reason;
 use moo_value::Code;
+use moo_world::Reason;
 use std::alloc::AllocError;
 
 /// Why a call fails.

@@ -12,9 +12,8 @@ ghost use Rattle.moo_calls_shared.specs.Shown.{verb_info_shown, args_shown};
 
 use crate::fault::Fault;
 use crate::infos::Info;
-use moo_world::Reason;
 use moo_value::{Code, MooStr, ObjNo, Value};
-use moo_world::Desc;
+use moo_world::{Desc, Reason};
 use std::alloc::{AllocError, Global};
 
 /// The descriptor that a value is: a number or a word. None for any other value. The only error is out of memory.

@@ -2,7 +2,7 @@
 use Rattle.std.specs.Prelude.{ℕ, zero, suc, ◌-◌, Bool, List, [], ◌∷◌, map, length, is_some, unwrap_or, if◌then◌else◌}
 use Rattle.std.specs.List.{list_any, filter, find, flat_map}
 use Rattle.moo_value.specs.declared.value.ObjNo.{ObjNo}
-use Rattle.moo_world.specs.Objects.{Name, Property, nothing, object_at, same_object, folded, is_among}
+use Rattle.moo_world.specs.Objects.{Property, nothing, object_at, same_object, folded, is_among}
 use Rattle.moo_world.specs.World.{World, is_object, row_passes, chain, defined_by_any, property_named, property_names_of, numbers_to}
 use Rattle.moo_world.specs.Rows.{numbers_below}
 

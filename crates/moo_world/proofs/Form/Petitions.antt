@@ -1,5 +1,5 @@
 -- Every call of a batch leaves a well formed world, and petitions as they may stand.
-use Rattle.moo_world.{proofs.Lemmas.{◌≡◌, ℕ, ◌+◌, ◌<◌, ◌≤◌, true, List, [], ◌∷◌, Option, Some, None, refl, subst, arith, is_some, if◌then◌else◌, option_and_then, list_all, FinMap, insert, remove, and_parts, le-leb, leb-true, ltb-true, none-some, ObjNo, Value, Int, Obj, Str, Error, nesting, spread, Values, levels, int, object, string, error, list, PetitionId, PetitionRow, petition_exact, petition_cmp, petition_total, Call, CallName, all_within_limits, fits, arguments_fit, RequestsKeepForm, call_name_of, petition_call, Failure, Outcome, Done, Failed, Full, fails, in_petition, PetitionsStand, petition_fits, is_named, are_few, are_shallow, State, IsFormed, petition_id, call_in, held_call, held_step, held_steps, number_limit, batch_call, world_call, World, IsWellFormed, is_object, Led, of_done, request_leaves, put_or_old, none_or_old}, proofs.Form.Calls.{calls_keep_form}}
+use Rattle.moo_world.{proofs.Lemmas.{◌≡◌, ℕ, ◌+◌, ◌<◌, ◌≤◌, true, List, [], ◌∷◌, Option, Some, None, refl, subst, arith, is_some, if◌then◌else◌, option_and_then, list_all, FinMap, insert, remove, and_parts, le-leb, leb-true, ltb-true, none-some, ObjNo, Value, Int, Obj, Str, Error, nesting, spread, Values, levels, int, object, string, error, list, PetitionId, PetitionRow, petition_exact, petition_cmp, petition_total, Call, CallName, all_within_limits, fits, arguments_fit, RequestsKeepForm, call_name_of, petition_call, Outcome, Done, Failed, Full, fails, in_petition, PetitionsStand, petition_fits, is_named, are_few, are_shallow, State, IsFormed, petition_id, call_in, held_call, held_step, held_steps, number_limit, batch_call, world_call, World, IsWellFormed, is_object, Led, of_done, request_leaves, put_or_old, none_or_old}, proofs.Form.Calls.{calls_keep_form}}
 use Rattle.moo_value.{specs.declared.value.Value.TheVariants.{List as a_list}, specs.Values.{no_values}}
 use Rattle.moo_world.specs.declared.reason.Reason.TheVariants.{Unasked}
 

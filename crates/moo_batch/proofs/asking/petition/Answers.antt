@@ -1,6 +1,6 @@
-use Rattle.std.{proofs.Common.{◌≡◌, true, sym, ap, ◌∙◌, subst, rules, Ok}, specs.List.{list_all}}
+use Rattle.std.{proofs.Common.{◌≡◌, true, sym, ap, ◌∙◌, subst, rules}, specs.List.{list_all}}
 use Rattle.moo_value.specs.Value.{spread}
-use Rattle.moo_world.{specs.Outcomes.{given as given_to}, specs.Petitions.{is_named, are_few, are_shallow}, specs.Requests.{are_on_world, petition_filed, petition, one_list}}
+use Rattle.moo_world.{specs.Outcomes.{given as given_to}, specs.Petitions.{is_named, are_few, are_shallow}, specs.Requests.{are_on_world, petition_filed, petition}}
 use Rattle.moo_calls_shared.proofs.Passed.{check_passed}
 use Rattle.moo_batch.specs.Outcomes.{state_in, Reaches}
 use Rattle.moo_batch.proofs.asking.petition.Goals as goal

@@ -1,8 +1,7 @@
-use Rattle.std.{proofs.Common.{◌≡◌, true, Ok, None, Some, sym, ap, ◌∙◌, rules, false, subst}, specs.Prelude.{◌||◌}}
+use Rattle.std.{proofs.Common.{◌≡◌, true, Ok, None, Some, sym, ap, ◌∙◌, rules}, specs.Prelude.{◌||◌}}
 use Rattle.moo_world.specs.declared.reason.Reason.TheVariants.{NoPetition, NotAsker}
 use Rattle.moo_world.{specs.Answers.{zero}, specs.Objects.{same_object}, specs.Outcomes.{Done, fails, check, found_or, given as given_to}, specs.Requests.{decline, one_integer, petition_at, without}, specs.Rights.{is_wizard}}
 use Rattle.moo_batch.{specs.Outcomes.{state_in}, proofs.Beside.{removed-keeps, removed-state}}
-use Rattle.moo_rows.{specs.declared.row.PetitionId.{PetitionId}, specs.declared.row.PetitionRow.{PetitionRow}}
 use Rattle.moo_batch.proofs.declining.decline.Goals as goal
 
 pub returns-in_default-clause-reaches : goal.returns-in_default-clause-reaches

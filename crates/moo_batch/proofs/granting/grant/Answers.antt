@@ -1,4 +1,4 @@
-use Rattle.std.{proofs.Common.{◌≡◌, true, Ok, Some, List, sym, ap, ◌∙◌, subst, rules, ◌≤◌, length, None}, specs.List.{list_all}, specs.Prelude.{nat_le, nat_lt}, proofs.lemmas.Bool.{and_parts, leb-true}, proofs.lemmas.Result.{on_ok_weaker}}
+use Rattle.std.{proofs.Common.{◌≡◌, true, Ok, Some, List, sym, ap, ◌∙◌, subst, rules, ◌≤◌, length}, specs.List.{list_all}, specs.Prelude.{nat_le, nat_lt}, proofs.lemmas.Bool.{and_parts, leb-true}, proofs.lemmas.Result.{on_ok_weaker}}
 use Rattle.moo_value.{specs.declared.value.Value.{Value}, specs.Value.{spread}}
 use Rattle.moo_rows.{specs.declared.row.PetitionId.{PetitionId}, specs.declared.row.PetitionRow.{PetitionRow}}
 use Rattle.moo_world.{specs.Arguments.{fits, is_number}, specs.declared.reason.Reason.TheVariants.{NoWizard, NoPetition}, specs.Outcomes.{check, fails, found_or, given as given_to}, specs.Requests.{State, grant, held_steps, in_world, one_integer, petition_at, without}, specs.Rights.{is_wizard}, specs.World.{World}, proofs.Batches.Requested.{found_there}, proofs.Form.Petitions.{held_fit}, specs.Petitions.{is_named, are_few}}

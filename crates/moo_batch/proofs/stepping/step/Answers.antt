@@ -1,7 +1,6 @@
 use Rattle.std.{proofs.Common.{◌≡◌, None, rules}, proofs.lemmas.Result.{on_ok_weaker}}
 use Rattle.moo_world.{specs.Names.{petition_call}}
 use Rattle.moo_batch.{proofs.InTurn.{stepped-keeps, stepped-reaches}, proofs.AtCheck.{comes-stays}}
-use Rattle.moo_calls_shared.specs.Outcomes.{world_in}
 use Rattle.moo_batch.proofs.stepping.step.Goals as goal
 
 pub returns-in_default-clause-check : goal.returns-in_default-clause-check

@@ -1,5 +1,4 @@
 use Rattle.moo_world.proofs.Form.Arguments.{accept_list_numbered}
-use Rattle.std.proofs.Common.{rules}
 use Rattle.moo_calls.proofs.changing.set_accept_given.Goals as goal
 
 pub set_accept-requires-clause-numbers : goal.set_accept-requires-clause-numbers

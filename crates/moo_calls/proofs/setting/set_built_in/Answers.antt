@@ -1,7 +1,5 @@
 use Rattle.moo_calls_shared.specs.Outcomes.{world_in}
 use Rattle.moo_world.proofs.Form.Arguments.{change_allowed}
-use Rattle.std.proofs.Common.{sym, ◌∙◌}
-use Rattle.std.proofs.Common.{rules}
 use Rattle.moo_calls.proofs.setting.set_built_in.Goals as goal
 
 pub change_row-requires-clause-allowed : goal.change_row-requires-clause-allowed

@@ -1,9 +1,9 @@
-use Rattle.std.proofs.Common.{rules, ◌≡◌, ap, sym, ◌∙◌}
+use Rattle.std.proofs.Common.{rules, ◌≡◌, sym, ◌∙◌}
 use Rattle.moo_rows.specs.declared.row.SlotState.TheVariants.{Clear}
 use Rattle.moo_world.{specs.Changes.{cleared}, specs.Objects.{folded, same_object}, specs.Rows.{slot_seen, world_shown}, specs.Outcomes.{fails}, specs.PropertyCalls.{clear_property}, specs.World.{is_object}}
 use Rattle.moo_calls_shared.{specs.Outcomes.{world_in}, proofs.Passed.{check_passed}}
 use Rattle.moo_props.{specs.Names.{spelling_of}, proofs.FoundSlots.{definer_found}, proofs.Quotas.{folded_spelling}}
-use Rattle.moo_calls_properties.proofs.{OwnProperty.{owns_slot, owns_by_slot}, PropertyNames.{slot_named}}
+use Rattle.moo_calls_properties.proofs.PropertyNames.{slot_named}
 use Rattle.moo_calls_properties.proofs.clearing.clear_property.Goals as goal
 
 pub clear-requires-clause-inherited : goal.clear-requires-clause-inherited
