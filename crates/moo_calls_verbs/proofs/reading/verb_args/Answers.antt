@@ -13,5 +13,8 @@ returns-in_err-verb g c =
 pub returns : goal.returns
 returns g c =
     let w = world_in (g.R.Rows.held c.args.rows.now) in
-    c.in_ok-verb.ensures.ok (λ verb. Done (list_of (Str (object_spec_text verb.args.dobj) ∷ Str (prep_text verb.args.prep) ∷ Str (object_spec_text verb.args.iobj) ∷ [])) w)
-    ∙ ap (λ args. Done args w) (sym c.in_ok-answer.ensures)
+    record {
+      comes =
+          c.in_ok-verb.ensures.ok (λ verb. Done (list_of (Str (object_spec_text verb.args.dobj) ∷ Str (prep_text verb.args.prep) ∷ Str (object_spec_text verb.args.iobj) ∷ [])) w)
+          ∙ ap (λ args. Done args w) (sym c.in_ok-answer.ensures);
+    }

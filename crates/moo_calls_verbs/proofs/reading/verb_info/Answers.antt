@@ -14,5 +14,8 @@ returns-in_err-verb g c =
 pub returns : goal.returns
 returns g c =
     let w = world_in (g.R.Rows.held c.args.rows.now) in
-    c.in_ok-verb.ensures.ok (λ verb. Done (list_of (Obj verb.owner ∷ Str (verb_letters_of verb.bits) ∷ Str verb.names ∷ [])) w)
-    ∙ ap (λ info. Done info w) (sym c.in_ok-answer.ensures)
+    record {
+      comes =
+          c.in_ok-verb.ensures.ok (λ verb. Done (list_of (Obj verb.owner ∷ Str (verb_letters_of verb.bits) ∷ Str verb.names ∷ [])) w)
+          ∙ ap (λ info. Done info w) (sym c.in_ok-answer.ensures);
+    }
