@@ -1,14 +1,14 @@
 -- The calls of a petition, one after another.
-use Rattle.std.{proofs.Common.{◌≡◌, ℕ, ℤ, Bool, true, false, OnOk, Some, None, List, [], ◌∷◌, Result, Ok, Err, refl, sym, ap, ◌∙◌, subst}, specs.List.{list_all}, proofs.lemmas.Bool.{and_parts, true≢false}}
+use Rattle.std.{proofs.Common.{◌≡◌, ℕ, ◌+◌, ℤ, Bool, true, false, OnOk, Some, None, List, [], ◌∷◌, Result, Ok, Err, refl, sym, ap, ◌∙◌, subst}, specs.List.{list_all}, proofs.lemmas.Bool.{and_parts, true≢false}}
 use Rattle.moo_value.{specs.declared.value.ObjNo.{ObjNo}, specs.declared.value.Value.{Value}, specs.Value.{spread}}
 use Rattle.moo_rows.{specs.declared.row.PetitionId.{PetitionId}, specs.declared.row.PetitionRow.{PetitionRow}, specs.Maps.{Maps, Held, without_petition}}
-use Rattle.moo_world.{specs.declared.call.Call.{Call}, specs.Answers.{zero}, specs.Arguments.{fits}, specs.Between.{HeldCallsLead, GrantLeads, CallKeepsNumbers}, specs.Keeps.{Keeps, beside_world}, specs.Names.{grants, is_grant, petition_call}, specs.Numbers.{KeepsNumbers}, specs.Outcomes.{Outcome, Done, Failed, Full}, specs.Requests.{State, in_world, held_step, held_steps, one_integer, petition_at, batch_call}, specs.Rows.{IsGood}, specs.World.{World}, specs.Calls.{world_call}, proofs.Batches.Requested.{request_steps}}
-use Rattle.moo_calls_shared.{specs.declared.fault.Fault.{Fault}, specs.declared.fault.Fault.TheVariants.{Moo, Held as of_held, Full as none_left, OutOfMemory}, specs.Reasons.{error_of}, specs.Outcomes.{world_in, ComesTo}}
+use Rattle.moo_world.{specs.declared.call.Call.{Call}, specs.Answers.{zero}, specs.Arguments.{fits}, specs.Between.{HeldCallsLead, GrantLeads, CallKeepsNumbers}, specs.Keeps.{Keeps, beside_world}, specs.Names.{grants, is_grant, petition_call}, specs.Numbers.{KeepsNumbers}, specs.Outcomes.{Outcome, Done, Failed, Full, fails, in_petition}, specs.Requests.{State, in_world, held_step, held_steps, one_integer, petition_at, batch_call}, specs.Rows.{IsGood}, specs.World.{World}, specs.Calls.{world_call}, proofs.Batches.Requested.{request_steps}}
+use Rattle.moo_calls_shared.{specs.declared.fault.Fault.{Fault}, specs.declared.fault.Fault.TheVariants.{Moo, Held as of_held, Full as none_left, OutOfMemory}, specs.Outcomes.{world_in, ComesTo}}
 use Rattle.moo_batch.specs.Outcomes.{state_in, ComesInTurn, KeepInTurn, KeepsGoodRows, Reaches, held_at}
 
--- all calls come to what those that are left come to
-pub record HaveStepped (before : Held) (p : ObjNo) (all : List Value) (now : Held) (left : List Value) : Type 0 where
-  pub steps : held_steps (world_in before) p all ≡ held_steps (world_in now) p left
+-- all calls come to what those come to that are left, the first of which has this place
+pub record HaveStepped (before : Held) (p : ObjNo) (all : List Value) (place : ℕ) (now : Held) (left : List Value) : Type 0 where
+  pub steps : held_steps 0 (world_in before) p all ≡ held_steps place (world_in now) p left
   pub good : IsGood now.maps
   pub beside : beside_world now.maps ≡ beside_world before.maps
   pub base : now.base ≡ before.base
@@ -20,19 +20,19 @@ pub with_world : (mid new : Held) → beside_world new.maps ≡ beside_world mid
 with_world mid new same = ap (λ b. record { world = world_in new; petitions = b.1.1; next_petition = b.1.0; seq = b.0 }) (sym same)
 
 -- what the first of some calls makes of them
-first_of : ObjNo → List Value → Outcome World → Outcome World
-first_of p left o = elim o [ Done v next ↦ held_steps next p left | Failed code ↦ Failed code | Full ↦ Full ]
+first_of : ℕ → ObjNo → List Value → Outcome World → Outcome World
+first_of place p left o = elim o [ Done v next ↦ held_steps (place + 1) next p left | Failed failure ↦ Failed (in_petition place failure) | Full ↦ Full ]
 
-first_is : (w : World) (p : ObjNo) (held : Value) (left : List Value) (o : Outcome World) → held_step w p held ≡ o → held_steps w p (held ∷ left) ≡ first_of p left o
+first_is : (place : ℕ) (w : World) (p : ObjNo) (held : Value) (left : List Value) (o : Outcome World) → held_step w p held ≡ o → held_steps place w p (held ∷ left) ≡ first_of place p left o
 unfolding first_of
-first_is w p held left o e = ap (first_of p left) e
+first_is place w p held left o e = ap (first_of place p left) e
 
-module _ {before : Held} {p : ObjNo} {all : List Value} {now : Held} {rest : List Value} where
-  pub stepped-one : (held : Value) (left : List Value) (v : Value) (next : Held) → rest ≡ held ∷ left → HaveStepped before p all now rest
-      → held_step (world_in now) p held ≡ Done v (world_in next) → Keeps now next → HaveStepped before p all next left
+module _ {before : Held} {p : ObjNo} {all : List Value} {place : ℕ} {now : Held} {rest : List Value} where
+  pub stepped-one : (held : Value) (left : List Value) (v : Value) (next : Held) → rest ≡ held ∷ left → HaveStepped before p all place now rest
+      → held_step (world_in now) p held ≡ Done v (world_in next) → Keeps now next → HaveStepped before p all (place + 1) next left
   unfolding first_of
-  stepped-one held left v next is was done kept = let h = subst (HaveStepped before p all now) is was in record {
-    steps = h.steps ∙ first_is (world_in now) p held left (Done v (world_in next)) done;
+  stepped-one held left v next is was done kept = let h = subst (HaveStepped before p all place now) is was in record {
+    steps = h.steps ∙ first_is place (world_in now) p held left (Done v (world_in next)) done;
     good = kept.good;
     beside = kept.beside ∙ h.beside;
     base = kept.base ∙ h.base;
@@ -40,23 +40,23 @@ module _ {before : Held} {p : ObjNo} {all : List Value} {now : Held} {rest : Lis
     fit = (and_parts (fits held) (list_all fits left) h.fit).1;
   }
 
-  pub stepped-fits : (held : Value) (left : List Value) → rest ≡ held ∷ left → HaveStepped before p all now rest → fits held ≡ true
-  stepped-fits held left is h = (and_parts (fits held) (list_all fits left) (subst (HaveStepped before p all now) is h).fit).0
+  pub stepped-fits : (held : Value) (left : List Value) → rest ≡ held ∷ left → HaveStepped before p all place now rest → fits held ≡ true
+  stepped-fits held left is h = (and_parts (fits held) (list_all fits left) (subst (HaveStepped before p all place now) is h).fit).0
 
-  pub stepped-all : rest ≡ [] → HaveStepped before p all now rest → held_steps (world_in before) p all ≡ Done zero (world_in now)
-  stepped-all is h = (subst (HaveStepped before p all now) is h).steps
+  pub stepped-all : rest ≡ [] → HaveStepped before p all place now rest → held_steps 0 (world_in before) p all ≡ Done zero (world_in now)
+  stepped-all is h = (subst (HaveStepped before p all place now) is h).steps
 
-  pub stepped-kept : rest ≡ [] → HaveStepped before p all now rest → KeepInTurn p all before now
-  stepped-kept is was = let h = subst (HaveStepped before p all now) is was in record { good = h.good; beside = h.beside; base = h.base; numbers = h.numbers now.maps refl }
+  pub stepped-kept : rest ≡ [] → HaveStepped before p all place now rest → KeepInTurn p all before now
+  stepped-kept is was = let h = subst (HaveStepped before p all place now) is was in record { good = h.good; beside = h.beside; base = h.base; numbers = h.numbers now.maps refl }
 
   -- the first that isn't done stops them
-  pub stepped-stopped : (held : Value) (left : List Value) (place : ℕ) (fault : Fault) (new : Held) → rest ≡ held ∷ left → HaveStepped before p all now rest
-      → ComesTo (held_step (world_in now) p held) now new (Err fault) → ComesInTurn (held_steps (world_in before) p all) new (Err (held_at place fault))
+  pub stepped-stopped : (held : Value) (left : List Value) (fault : Fault) (new : Held) → rest ≡ held ∷ left → HaveStepped before p all place now rest
+      → ComesTo (held_step (world_in now) p held) now new (Err fault) → ComesInTurn (held_steps 0 (world_in before) p all) new (Err (held_at place fault))
   unfolding first_of
-  stepped-stopped held left place (Moo reason) new is h comes = (subst (HaveStepped before p all now) is h).steps ∙ first_is (world_in now) p held left (Failed (error_of reason)) comes.0
-  stepped-stopped held left place (of_held other reason) new is h comes = absurd comes
-  stepped-stopped held left place none_left new is h comes = (subst (HaveStepped before p all now) is h).steps ∙ first_is (world_in now) p held left Full comes.0
-  stepped-stopped held left place OutOfMemory new is h comes = tt
+  stepped-stopped held left (Moo reason) new is h comes = (subst (HaveStepped before p all place now) is h).steps ∙ first_is place (world_in now) p held left (fails reason) comes.0
+  stepped-stopped held left (of_held other reason) new is h comes = absurd comes
+  stepped-stopped held left none_left new is h comes = (subst (HaveStepped before p all place now) is h).steps ∙ first_is place (world_in now) p held left Full comes.0
+  stepped-stopped held left OutOfMemory new is h comes = tt
 
 -- ---- a petition that is granted
 

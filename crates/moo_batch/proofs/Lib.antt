@@ -3,9 +3,8 @@ pub mod Verdicts
 pub mod Beside
 pub mod HeldCalls
 pub mod InTurn
-pub mod TrueInTurn
 pub mod Chosen
 pub mod AtCheck
 pub mod Nesting
 pub mod Ticking
-pub mod TrueInBatch
+pub mod Seen

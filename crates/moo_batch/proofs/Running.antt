@@ -1,8 +1,8 @@
 -- The calls of a batch, one after another.
 use Rattle.std.proofs.Common.{ℕ, subst, ◌≡◌, ◌+◌, List, [], ◌∷◌, ◌++◌, length, refl, sym, ap, ◌∙◌, arith}
-use Rattle.moo_value.{specs.declared.value.ObjNo.{ObjNo}, specs.declared.value.Value.{Value}, specs.declared.code.Code.{Code}}
+use Rattle.moo_value.{specs.declared.value.ObjNo.{ObjNo}, specs.declared.value.Value.{Value}}
 use Rattle.moo_rows.specs.Maps.{Maps, Held}
-use Rattle.moo_world.{specs.declared.call.Call.{Call}, specs.Between.{CallsLead, CallKeepsNumbers}, specs.Rows.{IsGood}, specs.Outcomes.{Outcome, Done, Failed, Full}, specs.Requests.{State, batch_call}, specs.Judge.{Ran, Through, FailedAt, FullAt, after_one, run_calls}, specs.Names.{is_grant}}
+use Rattle.moo_world.{specs.declared.call.Call.{Call}, specs.Between.{CallsLead, CallKeepsNumbers}, specs.Rows.{IsGood}, specs.Outcomes.{Failure, Outcome, Done, Failed, Full}, specs.Requests.{State, batch_call}, specs.Judge.{Ran, Through, FailedAt, FullAt, after_one, run_calls}, specs.Names.{is_grant}}
 use Rattle.moo_batch.{specs.Outcomes.{state_in, KeepsGoodRows}, specs.Judge.{HaveKept}}
 
 -- answers, and then what the later calls come to
@@ -30,7 +30,7 @@ after_all-through : (vs : List Value) (s : State) → after_all vs (Through [] s
 after_all-through [] s = refl
 after_all-through (v ∷ vs) s = ap (after_one v) (after_all-through vs s)
 
-after_all-failed : (vs : List Value) (e : Code) → after_all vs (FailedAt 1 e) ≡ FailedAt (length vs + 1) e
+after_all-failed : (vs : List Value) (e : Failure) → after_all vs (FailedAt 1 e) ≡ FailedAt (length vs + 1) e
 after_all-failed [] e = refl
 after_all-failed (v ∷ vs) e = ap (after_one v) (after_all-failed vs e) ∙ ap (λ n. FailedAt n e) (omega arith)
 
@@ -71,7 +71,7 @@ module _ {before : Held} {p : ObjNo} {all : List Call} {answers : List Value} {n
   pub run-ended : rest ≡ [] → HaveRunSoFar before p all answers now rest → run_calls (state_in before) p all ≡ Through answers (state_in now)
   run-ended is h = (subst (HaveRunSoFar before p all answers now) is h).run ∙ after_all-through answers (state_in now)
 
-  pub run-failed : (call : Call) (left : List Call) (e : Code) (done : ℕ) → done ≡ length answers → rest ≡ call ∷ left → HaveRunSoFar before p all answers now rest
+  pub run-failed : (call : Call) (left : List Call) (e : Failure) (done : ℕ) → done ≡ length answers → rest ≡ call ∷ left → HaveRunSoFar before p all answers now rest
       → batch_call (state_in now) p call ≡ Failed e → run_calls (state_in before) p all ≡ FailedAt (done + 1) e
   unfolding first_of
   run-failed call left e done many is h failed =

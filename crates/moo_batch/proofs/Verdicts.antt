@@ -1,8 +1,7 @@
 -- Verdicts by their cases, and rows whose number of batches is raised.
 use Rattle.std.{proofs.Common.{◌≡◌, ℕ, Err, ◌<◌, ◌≤◌, true, false, refl, sym, ap, ◌∙◌, subst}, specs.Prelude.{if◌then◌else◌, nat_lt}, proofs.lemmas.Bool.{lt-ltb, le-ltb}}
 use Rattle.moo_rows.specs.Maps.{Maps}
-use Rattle.moo_world.{specs.declared.call.Batch.{Batch}, specs.World.{IsWellFormed}, specs.Rows.{world_of, world_shown, IsGood}, specs.Judge.{State, Ran, NoRoom, Stale, is_due, last_seq, run_calls, state_of, verdict_of, judge}}
-use Rattle.moo_calls_shared.specs.Reasons.{error_of}
+use Rattle.moo_world.{specs.declared.call.Batch.{Batch}, specs.World.{IsWellFormed}, specs.Rows.{world_of, world_shown, IsGood}, specs.Reasons.{error_of}, specs.Judge.{State, Ran, NoRoom, Stale, is_due, last_seq, run_calls, state_of, verdict_of, judge}}
 use Rattle.moo_batch.{specs.declared.witness.Refusal.{Refusal}, specs.declared.judging.Stop.{Stop}, specs.declared.judging.Stop.TheVariants.{Refused as refused_at, Full as full_at, OutOfMemory as no_memory}, specs.declared.judging.Verdict.{Verdict}, specs.declared.judging.Verdict.TheVariants.{Refused, Full, OutOfMemory}, specs.Judge.{ComeTo, IsVerdict}}
 
 pub judge-stale : (s : State) (b : Batch) → is_due b.at s.seq ≡ false → judge s b ≡ Stale s.seq

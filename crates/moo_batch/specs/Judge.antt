@@ -9,17 +9,23 @@ use Rattle.moo_world.specs.Between.{CallsLead, BatchLeads}
 use Rattle.moo_world.specs.Rows.{IsGood}
 use Rattle.moo_world.specs.Judge as model
 use Rattle.moo_world.specs.Judge.{State, state_of}
-use Rattle.moo_calls_shared.specs.Reasons.{error_of}
+use Rattle.moo_world.specs.Outcomes.{Failure}
+use Rattle.moo_batch.specs.declared.witness.Refusal.{Refusal}
 use Rattle.moo_batch.specs.declared.judging.Stop.{Stop}
 use Rattle.moo_batch.specs.declared.judging.Stop.TheVariants.{Refused as refused_at, Full as full_at, OutOfMemory as no_memory}
 use Rattle.moo_batch.specs.declared.judging.Verdict.{Verdict}
 use Rattle.moo_batch.specs.declared.judging.Verdict.TheVariants.{Accepted, Refused, Full, Stale, OutOfMemory}
 use Rattle.moo_memory.specs.Changes.{AreChanges}
 
--- what is answered if calls come to this: their answers, with the state that they leave, or the first call that isn't done
+-- why the call fails that a refusal is about
+abbrev pub failure_of : Refusal → Failure
+failure_of refusal = record { held = refusal.held; reason = refusal.reason }
+
+-- what is answered if calls come to this: their answers, with the state that they leave, or the first call that isn't
+-- done, and why it fails
 abbrev pub ComeTo : model.Ran → State → Result (List Value) Stop → Type 0
 ComeTo ran after (Ok answers) = ran ≡ model.Through answers after
-ComeTo ran after (Err (refused_at refusal)) = ran ≡ model.FailedAt refusal.call (error_of refusal.reason)
+ComeTo ran after (Err (refused_at refusal)) = ran ≡ model.FailedAt refusal.call (failure_of refusal)
 ComeTo ran after (Err (full_at call)) = ran ≡ model.FullAt call
 ComeTo ran after (Err (no_memory call)) = ⊤
 

@@ -5,24 +5,23 @@ use Rattle.moo_value.specs.declared.value.Value.{Value}
 use Rattle.moo_rows.specs.Maps.{Maps, Held}
 use Rattle.moo_world.specs.Between.{HeldCallsLead}
 use Rattle.moo_world.specs.Keeps.{beside_world}
-use Rattle.moo_world.specs.Outcomes.{Outcome, Done, Failed, Full as none_left}
+use Rattle.moo_world.specs.Outcomes.{Outcome, Done, Failed, Full as none_left, fails, in_petition, of_itself}
 use Rattle.moo_world.specs.Requests.{State, state_of}
 use Rattle.moo_world.specs.Rows.{IsGood}
 use Rattle.moo_world.specs.World.{World}
 use Rattle.moo_calls_shared.specs.Outcomes.{world_in}
-use Rattle.moo_calls_shared.specs.Reasons.{error_of}
 use Rattle.moo_calls_shared.specs.declared.fault.Fault.{Fault}
 use Rattle.moo_calls_shared.specs.declared.fault.Fault.TheVariants.{Moo, Held as of_held, Full, OutOfMemory}
 
 abbrev pub state_in : Held → State
 state_in held = state_of held.maps
 
--- what a call answers if this is its outcome: the answer, with the rows of the next state, or the error. Out of memory may leave
+-- what a call answers if this is its outcome: the answer, with the rows of the next state, or why it fails. Out of memory may leave
 -- anything
 abbrev pub Reaches : Outcome State → Held → Result Value Fault → Type 0
 Reaches outcome new (Ok v) = outcome ≡ Done v (state_in new)
-Reaches outcome new (Err (Moo reason)) = outcome ≡ Failed (error_of reason)
-Reaches outcome new (Err (of_held place reason)) = outcome ≡ Failed (error_of reason)
+Reaches outcome new (Err (Moo reason)) = outcome ≡ fails reason
+Reaches outcome new (Err (of_held place reason)) = outcome ≡ Failed (in_petition place (of_itself reason))
 Reaches outcome new (Err Full) = outcome ≡ none_left
 Reaches outcome new (Err OutOfMemory) = ⊤
 
@@ -45,7 +44,7 @@ StaysAtCheck old new OutOfMemory = ⊤
 abbrev pub ComesInTurn : Outcome World → Held → Result Value Fault → Type 0
 ComesInTurn outcome new (Ok v) = outcome ≡ Done v (world_in new)
 ComesInTurn outcome new (Err (Moo reason)) = ⊥
-ComesInTurn outcome new (Err (of_held place reason)) = outcome ≡ Failed (error_of reason)
+ComesInTurn outcome new (Err (of_held place reason)) = outcome ≡ Failed (in_petition place (of_itself reason))
 ComesInTurn outcome new (Err Full) = outcome ≡ none_left
 ComesInTurn outcome new (Err OutOfMemory) = ⊤
 

@@ -1,29 +1,24 @@
 -- What a witness keeps of a batch that is judged.
-use Rattle.std.specs.Prelude.{◌≡◌, ℕ, List, ⊤}
+use Rattle.std.specs.Prelude.{◌≡◌, ℕ}
 use Rattle.moo_rows.specs.Maps.{Maps}
 use Rattle.moo_value.specs.declared.code.Code.{Code}
-use Rattle.moo_value.specs.declared.value.ObjNo.{ObjNo}
 use Rattle.moo_world.specs.declared.call.Batch.{Batch}
-use Rattle.moo_world.specs.declared.call.Call.{Call}
-use Rattle.moo_calls_shared.specs.Reasons.{error_of}
-use Rattle.moo_batch.specs.declared.judging.Stop.{Stop}
-use Rattle.moo_batch.specs.declared.judging.Stop.TheVariants.{Refused as refused_at, Full as full_at, OutOfMemory as no_memory}
+use Rattle.moo_world.specs.Judge.{FailedAt, run_calls, state_of}
+use Rattle.moo_world.specs.Reasons.{error_of}
 use Rattle.moo_batch.specs.declared.judging.Verdict.{Verdict}
 use Rattle.moo_batch.specs.declared.judging.Verdict.TheVariants.{Accepted, Refused, Full, Stale, OutOfMemory}
 use Rattle.moo_batch.specs.declared.witness.Refusal.{Refusal}
-use Rattle.moo_batch.specs.Telling.{IsTrueRefusal}
+use Rattle.moo_batch.specs.Judge.{failure_of}
 
--- if calls stop at a refusal, its reason is true
-abbrev pub IsTrueStop : ObjNo → List Call → Maps → Stop → Type 0
-IsTrueStop programmer calls maps (refused_at refusal) = IsTrueRefusal programmer calls maps refusal
-IsTrueStop programmer calls maps (full_at call) = ⊤
-IsTrueStop programmer calls maps (no_memory call) = ⊤
+-- it is the refusal of the batch: its first call that fails on these rows, and why
+abbrev pub IsRefusalOf : Maps → Batch → Refusal → Type 0
+IsRefusalOf maps batch refusal = run_calls (state_of maps) batch.programmer batch.calls ≡ FailedAt refusal.call (failure_of refusal)
 
--- One refusal is seen: of this call and with this error, and its reason is true. `kept` and `next` are what the witness keeps before and
+-- One refusal is seen, the refusal of the batch: of this call and with this error. `kept` and `next` are what the witness keeps before and
 -- after.
 abbrev pub HasSeenRefusal : {Kept : Type 0} → (Kept → Batch → Refusal → Kept → Type 0) → Maps → Batch → ℕ → Code → Kept → Kept → Type 0
 HasSeenRefusal sees maps batch call code kept next = (refusal : Refusal) × (refusal.call ≡ call) × (error_of refusal.reason ≡ code)
-    × IsTrueRefusal batch.programmer batch.calls maps refusal × sees kept batch refusal next
+    × IsRefusalOf maps batch refusal × sees kept batch refusal next
 
 -- Of a batch that is refused its one refusal is seen, and of another none.
 abbrev pub HasSeen : {Kept : Type 0} → (Kept → Batch → Refusal → Kept → Type 0) → Maps → Batch → Verdict → Kept → Kept → Type 0

@@ -1,8 +1,7 @@
 //! `petition`.
 
-ghost use Rattle.std.specs.Prelude.{◌≡◌, true, List, OnOk, IfErr};
+ghost use Rattle.std.specs.Prelude.{◌≡◌, true, OnOk, IfErr};
 ghost use Rattle.std.specs.List.{list_all};
-ghost use Rattle.moo_rows.specs.Maps.{Maps};
 ghost use Rattle.moo_value.specs.Value.{spread};
 ghost use Rattle.moo_value.specs.declared.value.ObjNo.{ObjNo};
 ghost use Rattle.moo_value.specs.declared.value.Value.{Value};
@@ -10,17 +9,13 @@ ghost use Rattle.moo_value.specs.declared.value.Value.TheVariants.{List as a_lis
 ghost use Rattle.moo_world.specs.Arguments.{fits};
 ghost use Rattle.moo_world.specs.Numbers.{KeepsNumbers};
 ghost use Rattle.moo_world.specs.Petitions.{is_named, are_few, are_shallow, petition_fits};
-ghost use Rattle.moo_world.specs.Outcomes.{Outcome, Failed, given};
+ghost use Rattle.moo_world.specs.Outcomes.{Outcome, fails, given};
 ghost use Rattle.moo_world.specs.Requests.{State, are_on_world, petition_filed, one_list, petition};
 ghost use Rattle.moo_world.specs.Rows.{IsGood};
 ghost use Rattle.moo_world.specs.World.{is_object};
 ghost use Rattle.moo_calls_shared.specs.Outcomes.{world_in};
-ghost use Rattle.moo_calls_shared.specs.Reasons.{error_of};
 ghost use Rattle.moo_batch.specs.Checks.{taking_calls};
 ghost use Rattle.moo_batch.specs.Outcomes.{state_in, KeepsGoodRows, Reaches, Stays};
-ghost use Rattle.moo_batch.specs.Telling.{IsTrueFault, about_calls};
-ghost use Rattle.moo_calls_shared.specs.About.{About, about_given};
-ghost use Rattle.moo_calls_shared.specs.Told.{IsTrueOf};
 
 use crate::args::one_list;
 use crate::held::are_calls;
@@ -36,8 +31,7 @@ fn may_be_asked(calls: &ValueList) -> Result<(), Reason>
     ensures few { OnOk result (are_few calls.now ≡ true) }
     ensures on_world { OnOk result (are_on_world calls.now ≡ true) }
     ensures shallow { OnOk result (are_shallow calls.now ≡ true) }
-    ensures err { IfErr result (λ reason. (then : Outcome State) → taking_calls calls.now then ≡ Failed (error_of reason)) }
-    ensures told { IfErr result (λ reason. (maps : Maps) (programmer : ObjNo) → IsTrueOf maps programmer (about_calls calls.now) reason) }
+    ensures err { IfErr result (λ reason. (then : Outcome State) → taking_calls calls.now then ≡ fails reason) }
 {
     if !are_named(calls.items()) {
         return Err(Reason::Unnamed);
@@ -61,7 +55,6 @@ fn ask<R: Rows>(rows: &mut R, programmer: ObjNo, calls: ValueList) -> Result<Val
     ensures reaches { Reaches (petition_filed (state_in (R.held rows.old)) programmer calls) (R.held rows.new) result }
     ensures stays { Stays (R.held rows.old) (R.held rows.new) result }
     ensures kept { OnOk result (KeepsGoodRows KeepsNumbers (R.held rows.old) (R.held rows.new)) }
-    ensures told { (about : About) (args : List Value) → IfErr result (IsTrueFault (R.held rows.old).maps programmer about args) }
 {
     let mut head = rows.head();
     let number = head.next_petition;
@@ -94,7 +87,6 @@ pub(crate) fn petition<R: Rows>(
     ensures reaches { Reaches (given (one_list args.now) (petition (state_in (R.held rows.old)) programmer)) (R.held rows.new) result }
     ensures stays { Stays (R.held rows.old) (R.held rows.new) result }
     ensures kept { OnOk result (KeepsGoodRows KeepsNumbers (R.held rows.old) (R.held rows.new)) }
-    ensures told { IfErr result (IsTrueFault (R.held rows.old).maps programmer (about_given (one_list args.now) about_calls) args.now) }
 {
     let calls = one_list(args)?;
     may_be_asked(calls)?;

@@ -1,6 +1,6 @@
 //! `decline`.
 
-ghost use Rattle.std.specs.Prelude.{◌≡◌, ◌||◌, OnOk, IfErr};
+ghost use Rattle.std.specs.Prelude.{◌≡◌, ◌||◌, OnOk};
 ghost use Rattle.moo_world.specs.Numbers.{KeepsNumbers};
 ghost use Rattle.moo_world.specs.Objects.{same_object};
 ghost use Rattle.moo_world.specs.Outcomes.{given};
@@ -9,8 +9,6 @@ ghost use Rattle.moo_world.specs.Rights.{is_wizard};
 ghost use Rattle.moo_world.specs.Rows.{IsGood};
 ghost use Rattle.moo_calls_shared.specs.Outcomes.{world_in};
 ghost use Rattle.moo_batch.specs.Outcomes.{state_in, KeepsGoodRows, Reaches, Stays};
-ghost use Rattle.moo_batch.specs.Telling.{IsTrueFault, about_number};
-ghost use Rattle.moo_calls_shared.specs.About.{about_given};
 
 use crate::args::one_integer;
 use crate::looking::petition_at;
@@ -38,7 +36,6 @@ pub(crate) fn decline<R: Rows>(
     ensures reaches { Reaches (given (one_integer args.now) (decline (state_in (R.held rows.old)) programmer)) (R.held rows.new) result }
     ensures stays { Stays (R.held rows.old) (R.held rows.new) result }
     ensures kept { OnOk result (KeepsGoodRows KeepsNumbers (R.held rows.old) (R.held rows.new)) }
-    ensures told { IfErr result (IsTrueFault (R.held rows.old).maps programmer (about_given (one_integer args.now) about_number) args.now) }
 {
     let number = one_integer(args)?;
     let Some((id, row)) = petition_at(rows, number) else {

@@ -10,9 +10,6 @@ ghost use Rattle.moo_world.specs.Requests.{grant, held_step, held_steps, one_int
 ghost use Rattle.moo_world.specs.Rows.{IsGood};
 ghost use Rattle.moo_calls_shared.specs.Outcomes.{world_in, ComesTo};
 ghost use Rattle.moo_batch.specs.Outcomes.{state_in, ComesInTurn, KeepInTurn, KeepsGoodRows, Reaches, StaysAtCheck, held_at};
-ghost use Rattle.moo_batch.specs.Telling.{IsFaultInTurn, IsTrueFault, about_held, about_number};
-ghost use Rattle.moo_calls_shared.specs.About.{about_given};
-ghost use Rattle.moo_calls_shared.specs.Told.{IsTold};
 
 use crate::args::one_integer;
 use crate::held::held_call;
@@ -37,7 +34,6 @@ fn held_step<R: Rows>(
     requires leave { (R.held rows.old).base.is_spent ≡ false }
     ensures comes { ComesTo (held_step (world_in (R.held rows.old)) wizard held.now) (R.held rows.old) (R.held rows.new) result }
     ensures kept { OnOk result (Keeps (R.held rows.old) (R.held rows.new)) }
-    ensures told { IsTold (R.held rows.old).maps wizard (about_held wizard held.now) result }
 {
     match held_call(held) {
         Some((name, args)) => step_named(rows, alloc, wizard, name, args),
@@ -66,9 +62,8 @@ fn held_steps<R: Rows>(
     requires good { IsGood (R.held rows.old).maps }
     requires fit { list_all fits helds.now ≡ true }
     requires few { length helds.now ≤ 64 }
-    ensures comes { ComesInTurn (held_steps (world_in (R.held rows.old)) wizard helds.now) (R.held rows.new) result }
+    ensures comes { ComesInTurn (held_steps 0 (world_in (R.held rows.old)) wizard helds.now) (R.held rows.new) result }
     ensures kept { OnOk result (KeepInTurn wizard helds.now (R.held rows.old) (R.held rows.new)) }
-    ensures told { IfErr result (IsFaultInTurn wizard helds.now (R.held rows.old).maps) }
 {
     let mut place: u32 = 0;
     for held in helds {
@@ -99,7 +94,6 @@ pub(crate) fn grant<R: Rows>(
     ensures reaches { Reaches (given (one_integer args.now) (grant (state_in (R.held rows.old)) programmer)) (R.held rows.new) result }
     ensures check { IfErr result (StaysAtCheck (R.held rows.old) (R.held rows.new)) }
     ensures kept { OnOk result (KeepsGoodRows (GrantLeads programmer args.now) (R.held rows.old) (R.held rows.new)) }
-    ensures told { IfErr result (IsTrueFault (R.held rows.old).maps programmer (about_given (one_integer args.now) about_number) args.now) }
 {
     let number = one_integer(args)?;
     if !is_wizard(rows, programmer) {

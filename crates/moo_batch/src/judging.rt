@@ -2,7 +2,7 @@
 
 ghost use Rattle.std.specs.Prelude.{◌≡◌, ◌+◌, ◌<◌, ◌≤◌, ℕ, Some, true, false, length, OnOk, IfErr};
 ghost use Rattle.moo_batch.specs.declared.witness.Refusal.{Refusal};
-ghost use Rattle.moo_calls_shared.specs.Reasons.{error_of};
+ghost use Rattle.moo_world.specs.Reasons.{error_of};
 ghost use Rattle.moo_rows.specs.Maps.{Maps};
 ghost use Rattle.moo_memory.specs.Changes.{AreChanges};
 ghost use Rattle.moo_world.specs.Rows.{IsGood};
@@ -13,8 +13,7 @@ ghost use Rattle.moo_world.specs.Requests.{batch_call};
 ghost use Rattle.moo_batch.specs.Outcomes.{state_in, KeepsGoodRows, Reaches, StaysAtCheck};
 ghost use Rattle.moo_batch.specs.Ticks.{TakesOne, TakesTicks};
 ghost use Rattle.moo_batch.specs.Judge.{ComeTo, HaveKept, IsGoodAt, IsVerdict};
-ghost use Rattle.moo_batch.specs.Seeing.{HasSeen, IsTrueStop};
-ghost use Rattle.moo_batch.specs.Telling.{IsTrueFault, about_request};
+ghost use Rattle.moo_batch.specs.Seeing.{HasSeen};
 
 use crate::charging::ticks_of;
 use crate::stepping::step;
@@ -65,7 +64,6 @@ fn step_on<R: Rows>(
     ensures check { IfErr result (StaysAtCheck (R.held rows.old) (R.held rows.new)) }
     ensures kept { OnOk result (KeepsGoodRows (CallKeepsNumbers (is_grant call.now.name) programmer call.now.args) (R.held rows.old)
         (R.held rows.new)) }
-    ensures told { IfErr result (IsTrueFault (R.held rows.old).maps programmer (about_request programmer call.now) call.now.args) }
 {
     step(rows, alloc, programmer, call)
 }
@@ -92,7 +90,6 @@ fn run_calls<R: Rows>(
     ensures comes { ComeTo (run_calls (state_in (R.held rows.old)) programmer calls.now) (state_in (R.held rows.new)) result }
     ensures kept { OnOk result (HaveKept programmer calls.now (R.held rows.old) (R.held rows.new)) }
     ensures good { IfErr result (IsGoodAt (R.held rows.new).maps) }
-    ensures told { IfErr result (IsTrueStop programmer calls.now (R.held rows.old).maps) }
 {
     let mut answers = Vec::new(alloc);
     for call in calls {

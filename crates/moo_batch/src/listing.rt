@@ -1,6 +1,6 @@
 //! `petitions`.
 
-ghost use Rattle.std.specs.Prelude.{◌≡◌, map, ◌||◌, IfOk, OnOk, IfErr};
+ghost use Rattle.std.specs.Prelude.{◌≡◌, map, ◌||◌, IfOk, OnOk};
 ghost use Rattle.std.specs.List.{filter};
 ghost use Rattle.std.specs.FinMap.{entries};
 ghost use Rattle.moo_world.specs.Arguments.{no_values};
@@ -11,8 +11,6 @@ ghost use Rattle.moo_world.specs.Requests.{listed, petitions};
 ghost use Rattle.moo_world.specs.Rights.{is_wizard};
 ghost use Rattle.moo_world.specs.Rows.{IsGood};
 ghost use Rattle.moo_batch.specs.Outcomes.{state_in, KeepsGoodRows, Reaches};
-ghost use Rattle.moo_batch.specs.Telling.{IsTrueFault};
-ghost use Rattle.moo_calls_shared.specs.About.{about_given, about_nothing};
 
 use moo_calls_shared::rights::is_wizard;
 use moo_calls_shared::{Fault, no_values};
@@ -68,8 +66,6 @@ pub(crate) fn petitions<R: Rows>(
     ensures reaches { Reaches (given (no_values args.now) (λ _. petitions (state_in (R.held rows.now)) programmer))
         (R.held rows.now) result }
     ensures kept { OnOk result (KeepsGoodRows KeepsNumbers (R.held rows.now) (R.held rows.now)) }
-    ensures told { IfErr result (IsTrueFault (R.held rows.now).maps programmer (about_given (no_values args.now)
-        (λ _. about_nothing)) args.now) }
 {
     no_values(args)?;
     let found = all_listed(rows, alloc, is_wizard(rows, programmer), programmer)?;

@@ -10,7 +10,6 @@ ghost use Rattle.moo_world.specs.Rows.{IsGood};
 ghost use Rattle.moo_world.specs.World.{is_object};
 ghost use Rattle.moo_calls_shared.specs.Outcomes.{world_in};
 ghost use Rattle.moo_batch.specs.Outcomes.{state_in, KeepsGoodRows, Reaches, Stays, StaysAtCheck};
-ghost use Rattle.moo_batch.specs.Telling.{IsTrueFault, about_petitions, about_request};
 
 use crate::asking::petition;
 use crate::declining::decline;
@@ -38,7 +37,6 @@ fn petition_call<R: Rows>(
     ensures stays { grants call ≡ false → Stays (R.held rows.old) (R.held rows.new) result }
     ensures check { IfErr result (StaysAtCheck (R.held rows.old) (R.held rows.new)) }
     ensures kept { OnOk result (KeepsGoodRows (CallKeepsNumbers (grants call) programmer args.now) (R.held rows.old) (R.held rows.new)) }
-    ensures told { IfErr result (IsTrueFault (R.held rows.old).maps programmer (about_petitions call args.now) args.now) }
 {
     match call {
         PetitionCall::Petition => petition(rows, programmer, args),
@@ -64,7 +62,6 @@ pub fn step<R: Rows>(
     ensures check { IfErr result (StaysAtCheck (R.held rows.old) (R.held rows.new)) }
     ensures kept { OnOk result (KeepsGoodRows (CallKeepsNumbers (is_grant call.now.name) programmer call.now.args) (R.held rows.old)
         (R.held rows.new)) }
-    ensures told { IfErr result (IsTrueFault (R.held rows.old).maps programmer (about_request programmer call.now) call.now.args) }
 {
     let Some(of_petitions) = call.name.petition_call() else {
         return moo_calls::step(rows, alloc, programmer, call);

@@ -1,2 +1,1 @@
 mod Created
-mod Checked

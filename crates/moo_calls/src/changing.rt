@@ -8,8 +8,6 @@ ghost use Rattle.moo_world.specs.declared.name.CallName.TheVariants.{SetPlayerFl
 ghost use Rattle.moo_world.specs.Keeps.{Keeps};
 ghost use Rattle.moo_world.specs.Rows.{IsGood};
 ghost use Rattle.moo_calls_shared.specs.Outcomes.{world_in, ComesTo};
-ghost use Rattle.moo_calls_shared.specs.About.{about_accept, about_call, about_object};
-ghost use Rattle.moo_calls_shared.specs.Told.{IsTold};
 
 use moo_calls_shared::{Fault, Reason, change_row, object_and_accept, object_and_value, rights};
 use moo_rows::{ObjList, Rows};
@@ -33,7 +31,6 @@ pub fn set_player_flag<R: Rows>(
     ensures comes { ComesTo (set_player_flag (world_in (R.held rows.old)) programmer x value.now)
         (R.held rows.old) (R.held rows.new) result }
     ensures kept { OnOk result (Keeps (R.held rows.old) (R.held rows.new)) }
-    ensures told { IsTold (R.held rows.old).maps programmer (about_object x) result }
 {
     if !valid(rows, x) {
         return Err(Fault::Moo(Reason::NoObject(x)));
@@ -71,7 +68,6 @@ pub fn set_accept<R: Rows>(
     requires numbers { list_all is_number (unwrap_or list []) ≡ true }
     ensures comes { ComesTo (set_accept (world_in (R.held rows.old)) programmer x list) (R.held rows.old) (R.held rows.new) result }
     ensures kept { OnOk result (Keeps (R.held rows.old) (R.held rows.new)) }
-    ensures told { IsTold (R.held rows.old).maps programmer (about_accept x list) result }
 {
     if !valid(rows, x) {
         return Err(Fault::Moo(Reason::NoObject(x)));
@@ -97,7 +93,6 @@ pub(crate) fn set_player_flag_given<R: Rows>(
     ensures comes { ComesTo (named_call (world_in (R.held rows.old)) programmer SetPlayerFlag args.now)
         (R.held rows.old) (R.held rows.new) result }
     ensures kept { OnOk result (Keeps (R.held rows.old) (R.held rows.new)) }
-    ensures told { IsTold (R.held rows.old).maps programmer (about_call programmer SetPlayerFlag args.now) result }
 {
     let (x, value) = object_and_value(args)?;
     set_player_flag(rows, alloc, programmer, x, value)
@@ -115,7 +110,6 @@ pub(crate) fn set_accept_given<R: Rows>(
     ensures comes { ComesTo (named_call (world_in (R.held rows.old)) programmer SetAccept args.now)
         (R.held rows.old) (R.held rows.new) result }
     ensures kept { OnOk result (Keeps (R.held rows.old) (R.held rows.new)) }
-    ensures told { IsTold (R.held rows.old).maps programmer (about_call programmer SetAccept args.now) result }
 {
     let (x, list) = object_and_accept(alloc, args)?;
     set_accept(rows, alloc, programmer, x, list)

@@ -1,21 +1,18 @@
 //! Making objects.
 
-ghost use Rattle.std.specs.Prelude.{◌≡◌, true, false, OnOk};
+ghost use Rattle.std.specs.Prelude.{◌≡◌, true, OnOk};
 ghost use Rattle.moo_value.specs.declared.value.ObjNo.{ObjNo};
 ghost use Rattle.moo_world.specs.Rights.{may_be_parent};
 ghost use Rattle.moo_world.specs.Rows.{IsGood};
 ghost use Rattle.moo_world.specs.Creation.{next_object, owner_or_self};
 ghost use Rattle.moo_world.specs.Quota.{may_afford, charged};
 ghost use Rattle.moo_world.specs.Codes.{E_PERM};
-ghost use Rattle.moo_world.specs.Calls.{create, named_call};
+ghost use Rattle.moo_world.specs.Calls.{create, named_call, unfit_parent};
 ghost use Rattle.moo_world.specs.declared.name.CallName.TheVariants.{Create};
-ghost use Rattle.moo_calls_shared.specs.Reasons.{error_of};
 ghost use Rattle.moo_calls_shared.specs.Outcomes.{world_in, ComesTo};
 ghost use Rattle.moo_world.specs.Keeps.{Keeps};
 ghost use Rattle.moo_world.specs.Numbers.{IsSameButSlots};
 ghost use Rattle.moo_calls.specs.Quotas.{has_one_left, quota_given};
-ghost use Rattle.moo_calls_shared.specs.About.{About, about_call, about_object};
-ghost use Rattle.moo_calls_shared.specs.Told.{IsTold, IsTrueOf};
 
 use moo_calls_shared::{Fault, Reason, parent_and_owner, rights};
 use moo_props::{make, quota_of, take_quota};
@@ -83,9 +80,7 @@ fn charge<R: Rows>(rows: &mut R, owner: ObjNo, quota: Option<i64>) -> Result<(),
 
 /// Why an object may not be made under a parent.
 fn parent_fault<R: Rows>(rows: &R, parent: ObjNo) -> Reason
-    ensures error { error_of result ≡ E_PERM }
-    ensures told { (programmer : ObjNo) (about : About) → may_be_parent (world_in (R.held rows.now)) programmer parent ≡ false →
-        IsTrueOf (R.held rows.now).maps programmer about result }
+    ensures { result ≡ unfit_parent (world_in (R.held rows.now)) parent }
 {
     if valid(rows, parent) {
         Reason::NotFertile(parent)
@@ -109,7 +104,6 @@ pub fn create<R: Rows>(
     requires { IsGood (R.held rows.old).maps }
     ensures comes { ComesTo (create (world_in (R.held rows.old)) programmer parent owner) (R.held rows.old) (R.held rows.new) result }
     ensures kept { OnOk result (Keeps (R.held rows.old) (R.held rows.new)) }
-    ensures told { IsTold (R.held rows.old).maps programmer (about_object parent) result }
 {
     if !rights::may_be_parent(rows, programmer, parent) {
         return Err(Fault::Moo(parent_fault(rows, parent)));
@@ -144,7 +138,6 @@ pub(crate) fn create_given<R: Rows>(
     ensures comes { ComesTo (named_call (world_in (R.held rows.old)) programmer Create args.now)
         (R.held rows.old) (R.held rows.new) result }
     ensures kept { OnOk result (Keeps (R.held rows.old) (R.held rows.new)) }
-    ensures told { IsTold (R.held rows.old).maps programmer (about_call programmer Create args.now) result }
 {
     let (parent, owner) = parent_and_owner(args, programmer)?;
     create(rows, alloc, programmer, parent, owner)

@@ -6,8 +6,6 @@ ghost use Rattle.moo_world.specs.declared.name.CallName.TheVariants.{Move};
 ghost use Rattle.moo_world.specs.Keeps.{Keeps};
 ghost use Rattle.moo_world.specs.Rows.{IsGood};
 ghost use Rattle.moo_calls_shared.specs.Outcomes.{world_in, ComesTo};
-ghost use Rattle.moo_calls_shared.specs.About.{about_call, about_place};
-ghost use Rattle.moo_calls_shared.specs.Told.{IsTold};
 
 use moo_calls_shared::{Fault, Reason, accepts, change_row, rights, two_objects};
 use moo_rows::Rows;
@@ -32,7 +30,6 @@ pub fn move_into<R: Rows>(
     requires { IsGood (R.held rows.old).maps }
     ensures comes { ComesTo (move (world_in (R.held rows.old)) programmer x destination) (R.held rows.old) (R.held rows.new) result }
     ensures kept { OnOk result (Keeps (R.held rows.old) (R.held rows.new)) }
-    ensures told { IsTold (R.held rows.old).maps programmer (about_place x destination) result }
 {
     if !valid(rows, x) {
         return Err(Fault::Moo(Reason::NoObject(x)));
@@ -63,7 +60,6 @@ pub(crate) fn move_given<R: Rows>(
     requires { IsGood (R.held rows.old).maps }
     ensures comes { ComesTo (named_call (world_in (R.held rows.old)) programmer Move args.now) (R.held rows.old) (R.held rows.new) result }
     ensures kept { OnOk result (Keeps (R.held rows.old) (R.held rows.new)) }
-    ensures told { IsTold (R.held rows.old).maps programmer (about_call programmer Move args.now) result }
 {
     let (x, destination) = two_objects(args)?;
     move_into(rows, alloc, programmer, x, destination)

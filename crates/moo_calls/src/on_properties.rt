@@ -10,8 +10,6 @@ ghost use Rattle.moo_world.specs.Rows.{IsGood};
 ghost use Rattle.moo_world.specs.Calls.{named_call};
 ghost use Rattle.moo_world.specs.declared.name.CallName.TheVariants.{Get, Properties, PropertyInfo, IsClearProperty, Set};
 ghost use Rattle.moo_world.specs.declared.name.CallName.TheVariants.{AddProperty, DeleteProperty, SetPropertyInfo, ClearProperty};
-ghost use Rattle.moo_calls_shared.specs.About.{about_call};
-ghost use Rattle.moo_calls_shared.specs.Told.{IsTold};
 
 use crate::values;
 use moo_calls_shared::{
@@ -30,7 +28,6 @@ pub(crate) fn get<R: Rows>(
 ) -> Result<Value, Fault>
     requires { IsGood (R.held rows.now).maps }
     ensures comes { Answers (named_call (world_in (R.held rows.now)) programmer Get args.now) (R.held rows.now) result }
-    ensures told { IsTold (R.held rows.now).maps programmer (about_call programmer Get args.now) result }
 {
     let (x, property) = object_and_text(args)?;
     values::get(rows, alloc, programmer, x, property)
@@ -45,7 +42,6 @@ pub(crate) fn properties<R: Rows>(
 ) -> Result<Value, Fault>
     requires { IsGood (R.held rows.now).maps }
     ensures comes { Answers (named_call (world_in (R.held rows.now)) programmer Properties args.now) (R.held rows.now) result }
-    ensures told { IsTold (R.held rows.now).maps programmer (about_call programmer Properties args.now) result }
 {
     moo_calls_properties::properties(rows, alloc, programmer, one_object(args)?)
 }
@@ -59,7 +55,6 @@ pub(crate) fn property_info<R: Rows>(
 ) -> Result<Value, Fault>
     requires { IsGood (R.held rows.now).maps }
     ensures comes { Answers (named_call (world_in (R.held rows.now)) programmer PropertyInfo args.now) (R.held rows.now) result }
-    ensures told { IsTold (R.held rows.now).maps programmer (about_call programmer PropertyInfo args.now) result }
 {
     let (x, property) = object_and_text(args)?;
     moo_calls_properties::property_info(rows, alloc, programmer, x, property)
@@ -73,7 +68,6 @@ pub(crate) fn is_clear_property<R: Rows>(
 ) -> Result<Value, Fault>
     requires { IsGood (R.held rows.now).maps }
     ensures comes { Answers (named_call (world_in (R.held rows.now)) programmer IsClearProperty args.now) (R.held rows.now) result }
-    ensures told { IsTold (R.held rows.now).maps programmer (about_call programmer IsClearProperty args.now) result }
 {
     let (x, property) = object_and_text(args)?;
     moo_calls_properties::is_clear_property(rows, programmer, x, property)
@@ -90,7 +84,6 @@ pub(crate) fn set<R: Rows>(
     requires fit { list_all fits args.now ≡ true }
     ensures comes { ComesTo (named_call (world_in (R.held rows.old)) programmer Set args.now) (R.held rows.old) (R.held rows.new) result }
     ensures kept { OnOk result (Keeps (R.held rows.old) (R.held rows.new)) }
-    ensures told { IsTold (R.held rows.old).maps programmer (about_call programmer Set args.now) result }
 {
     let (x, property, value) = object_text_and_value(args)?;
     values::set(rows, alloc, programmer, x, property, value)
@@ -108,7 +101,6 @@ pub(crate) fn add_property<R: Rows>(
     ensures comes { ComesTo (named_call (world_in (R.held rows.old)) programmer AddProperty args.now)
         (R.held rows.old) (R.held rows.new) result }
     ensures kept { OnOk result (Keeps (R.held rows.old) (R.held rows.new)) }
-    ensures told { IsTold (R.held rows.old).maps programmer (about_call programmer AddProperty args.now) result }
 {
     let new = new_property(args)?;
     moo_calls_properties::add_property(
@@ -127,7 +119,6 @@ pub(crate) fn delete_property<R: Rows>(
     ensures comes { ComesTo (named_call (world_in (R.held rows.old)) programmer DeleteProperty args.now)
         (R.held rows.old) (R.held rows.new) result }
     ensures kept { OnOk result (Keeps (R.held rows.old) (R.held rows.new)) }
-    ensures told { IsTold (R.held rows.old).maps programmer (about_call programmer DeleteProperty args.now) result }
 {
     let (x, property) = object_and_text(args)?;
     moo_calls_properties::delete_property(rows, alloc, programmer, x, property)
@@ -144,7 +135,6 @@ pub(crate) fn set_property_info<R: Rows>(
     ensures comes { ComesTo (named_call (world_in (R.held rows.old)) programmer SetPropertyInfo args.now)
         (R.held rows.old) (R.held rows.new) result }
     ensures kept { OnOk result (Keeps (R.held rows.old) (R.held rows.new)) }
-    ensures told { IsTold (R.held rows.old).maps programmer (about_call programmer SetPropertyInfo args.now) result }
 {
     let new = new_property_info(args)?;
     moo_calls_properties::set_property_info(
@@ -168,7 +158,6 @@ pub(crate) fn clear_property<R: Rows>(
     ensures comes { ComesTo (named_call (world_in (R.held rows.old)) programmer ClearProperty args.now)
         (R.held rows.old) (R.held rows.new) result }
     ensures kept { OnOk result (Keeps (R.held rows.old) (R.held rows.new)) }
-    ensures told { IsTold (R.held rows.old).maps programmer (about_call programmer ClearProperty args.now) result }
 {
     let (x, property) = object_and_text(args)?;
     moo_calls_properties::clear_property(rows, programmer, x, property)

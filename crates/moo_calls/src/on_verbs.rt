@@ -8,8 +8,6 @@ ghost use Rattle.moo_world.specs.Rows.{IsGood};
 ghost use Rattle.moo_world.specs.Calls.{named_call};
 ghost use Rattle.moo_world.specs.declared.name.CallName.TheVariants.{Verbs, VerbInfo, VerbArgs, AddVerb};
 ghost use Rattle.moo_world.specs.declared.name.CallName.TheVariants.{DeleteVerb, SetVerbInfo, SetVerbArgs};
-ghost use Rattle.moo_calls_shared.specs.About.{about_call};
-ghost use Rattle.moo_calls_shared.specs.Told.{IsTold};
 
 use moo_calls_shared::{
     Fault, new_verb, new_verb_args, new_verb_info, object_and_desc, one_object,
@@ -27,7 +25,6 @@ pub(crate) fn verbs<R: Rows>(
 ) -> Result<Value, Fault>
     requires { IsGood (R.held rows.now).maps }
     ensures comes { Answers (named_call (world_in (R.held rows.now)) programmer Verbs args.now) (R.held rows.now) result }
-    ensures told { IsTold (R.held rows.now).maps programmer (about_call programmer Verbs args.now) result }
 {
     moo_calls_verbs::verbs(rows, alloc, programmer, one_object(args)?)
 }
@@ -41,7 +38,6 @@ pub(crate) fn verb_info<R: Rows>(
 ) -> Result<Value, Fault>
     requires { IsGood (R.held rows.now).maps }
     ensures comes { Answers (named_call (world_in (R.held rows.now)) programmer VerbInfo args.now) (R.held rows.now) result }
-    ensures told { IsTold (R.held rows.now).maps programmer (about_call programmer VerbInfo args.now) result }
 {
     let (x, desc) = object_and_desc(alloc, args)?;
     moo_calls_verbs::verb_info(rows, alloc, programmer, x, &desc)
@@ -56,7 +52,6 @@ pub(crate) fn verb_args<R: Rows>(
 ) -> Result<Value, Fault>
     requires { IsGood (R.held rows.now).maps }
     ensures comes { Answers (named_call (world_in (R.held rows.now)) programmer VerbArgs args.now) (R.held rows.now) result }
-    ensures told { IsTold (R.held rows.now).maps programmer (about_call programmer VerbArgs args.now) result }
 {
     let (x, desc) = object_and_desc(alloc, args)?;
     moo_calls_verbs::verb_args(rows, alloc, programmer, x, &desc)
@@ -73,7 +68,6 @@ pub(crate) fn add_verb<R: Rows>(
     ensures comes { ComesTo (named_call (world_in (R.held rows.old)) programmer AddVerb args.now)
         (R.held rows.old) (R.held rows.new) result }
     ensures kept { OnOk result (Keeps (R.held rows.old) (R.held rows.new)) }
-    ensures told { IsTold (R.held rows.old).maps programmer (about_call programmer AddVerb args.now) result }
 {
     let new = new_verb(args)?;
     moo_calls_verbs::add_verb(rows, alloc, programmer, new.object, new.verb, new.args)
@@ -90,7 +84,6 @@ pub(crate) fn delete_verb<R: Rows>(
     ensures comes { ComesTo (named_call (world_in (R.held rows.old)) programmer DeleteVerb args.now)
         (R.held rows.old) (R.held rows.new) result }
     ensures kept { OnOk result (Keeps (R.held rows.old) (R.held rows.new)) }
-    ensures told { IsTold (R.held rows.old).maps programmer (about_call programmer DeleteVerb args.now) result }
 {
     let (x, desc) = object_and_desc(alloc, args)?;
     moo_calls_verbs::delete_verb(rows, programmer, x, &desc)
@@ -107,7 +100,6 @@ pub(crate) fn set_verb_info<R: Rows>(
     ensures comes { ComesTo (named_call (world_in (R.held rows.old)) programmer SetVerbInfo args.now)
         (R.held rows.old) (R.held rows.new) result }
     ensures kept { OnOk result (Keeps (R.held rows.old) (R.held rows.new)) }
-    ensures told { IsTold (R.held rows.old).maps programmer (about_call programmer SetVerbInfo args.now) result }
 {
     let new = new_verb_info(alloc, args)?;
     moo_calls_verbs::set_verb_info(rows, alloc, programmer, new.object, &new.desc, new.verb)
@@ -124,7 +116,6 @@ pub(crate) fn set_verb_args<R: Rows>(
     ensures comes { ComesTo (named_call (world_in (R.held rows.old)) programmer SetVerbArgs args.now)
         (R.held rows.old) (R.held rows.new) result }
     ensures kept { OnOk result (Keeps (R.held rows.old) (R.held rows.new)) }
-    ensures told { IsTold (R.held rows.old).maps programmer (about_call programmer SetVerbArgs args.now) result }
 {
     let new = new_verb_args(alloc, args)?;
     moo_calls_verbs::set_verb_args(rows, alloc, programmer, new.object, &new.desc, new.args)

@@ -6,8 +6,6 @@ ghost use Rattle.moo_world.specs.declared.name.CallName.TheVariants.{Chparent};
 ghost use Rattle.moo_world.specs.Keeps.{Keeps};
 ghost use Rattle.moo_world.specs.Rows.{IsGood};
 ghost use Rattle.moo_calls_shared.specs.Outcomes.{world_in, ComesTo};
-ghost use Rattle.moo_calls_shared.specs.About.{about_call, about_place};
-ghost use Rattle.moo_calls_shared.specs.Told.{IsTold};
 
 use moo_calls_shared::{Fault, Reason, rights, two_objects};
 use moo_props::{reparent, shares_property_name};
@@ -33,7 +31,6 @@ pub fn chparent<R: Rows>(
     requires { IsGood (R.held rows.old).maps }
     ensures comes { ComesTo (chparent (world_in (R.held rows.old)) programmer x new) (R.held rows.old) (R.held rows.new) result }
     ensures kept { OnOk result (Keeps (R.held rows.old) (R.held rows.new)) }
-    ensures told { IsTold (R.held rows.old).maps programmer (about_place x new) result }
 {
     if !valid(rows, x) {
         return Err(Fault::Moo(Reason::NoObject(x)));
@@ -50,8 +47,8 @@ pub fn chparent<R: Rows>(
     if is_under(rows, new, x) {
         return Err(Fault::Moo(Reason::ParentBelow(new)));
     }
-    if let Some((definer, property)) = shares_property_name(alloc, rows, x, new)? {
-        return Err(Fault::Moo(Reason::NameShared { definer, property }));
+    if let Some(definer) = shares_property_name(alloc, rows, x, new)? {
+        return Err(Fault::Moo(Reason::NameShared(definer)));
     }
     reparent(alloc, rows, x, new)?;
     Ok(ZERO)
@@ -68,7 +65,6 @@ pub(crate) fn chparent_given<R: Rows>(
     ensures comes { ComesTo (named_call (world_in (R.held rows.old)) programmer Chparent args.now)
         (R.held rows.old) (R.held rows.new) result }
     ensures kept { OnOk result (Keeps (R.held rows.old) (R.held rows.new)) }
-    ensures told { IsTold (R.held rows.old).maps programmer (about_call programmer Chparent args.now) result }
 {
     let (x, new) = two_objects(args)?;
     chparent(rows, alloc, programmer, x, new)

@@ -3,7 +3,7 @@
 
 ghost use Rattle.moo_value.specs.declared.value.ObjNo.{ObjNo};
 ghost use Rattle.std.specs.Prelude.{◌≡◌, false, Some, IfOk, IfErr};
-ghost use Rattle.moo_calls_shared.specs.declared.reason.Reason.TheVariants.{NoObject};
+ghost use Rattle.moo_world.specs.declared.reason.Reason.TheVariants.{NoObject};
 ghost use Rattle.moo_calls_shared.specs.declared.fault.Fault.TheVariants.{Moo};
 ghost use Rattle.moo_world.specs.Calls.{valid, parent, children, is_player, players, max_object, accept_list};
 ghost use Rattle.moo_world.specs.Rows.{IsGood};
@@ -11,8 +11,6 @@ ghost use Rattle.moo_world.specs.World.{is_object, row_of};
 ghost use Rattle.moo_world.specs.Arguments.{no_values, one_object};
 ghost use Rattle.moo_world.specs.Outcomes.{given};
 ghost use Rattle.moo_calls_shared.specs.Outcomes.{world_in, Answers};
-ghost use Rattle.moo_calls_shared.specs.About.{About, about_given, about_nothing, about_object};
-ghost use Rattle.moo_calls_shared.specs.Told.{IsTold};
 
 use moo_calls_shared::{Fault, Reason, no_values, one_object};
 use moo_rows::{ObjRow, Rows};
@@ -25,7 +23,6 @@ fn object<R: Rows>(rows: &R, x: ObjNo) -> Result<&ObjRow, Fault>
     ensures there { IfOk result (λ row. row_of (world_in (R.held rows.now)) x ≡ Some row.now) }
     ensures error { IfErr result (λ fault. fault ≡ Moo (NoObject x)) }
     ensures missing { IfErr result (λ fault. is_object (world_in (R.held rows.now)) x ≡ false) }
-    ensures told { (programmer : ObjNo) (about : About) → IsTold (R.held rows.now).maps programmer about result }
 {
     match rows.object(x) {
         Some(row) => Ok(row),
@@ -37,7 +34,6 @@ fn object<R: Rows>(rows: &R, x: ObjNo) -> Result<&ObjRow, Fault>
 /// LambdaMOO Programmer's Manual, 'Fundamental Operations on Objects'.
 pub(crate) fn valid<R: Rows>(rows: &R, args: &[Value]) -> Result<Value, Fault>
     ensures comes { Answers (given (one_object args.now) (valid (world_in (R.held rows.now)))) (R.held rows.now) result }
-    ensures told { (programmer : ObjNo) → IsTold (R.held rows.now).maps programmer (about_given (one_object args.now) about_object) result }
 {
     let x = one_object(args)?;
     Ok(flag(moo_tree::valid(rows, x)))
@@ -47,7 +43,6 @@ pub(crate) fn valid<R: Rows>(rows: &R, args: &[Value]) -> Result<Value, Fault>
 /// LambdaMOO Programmer's Manual, 'Fundamental Operations on Objects'.
 pub(crate) fn parent<R: Rows>(rows: &R, args: &[Value]) -> Result<Value, Fault>
     ensures comes { Answers (given (one_object args.now) (parent (world_in (R.held rows.now)))) (R.held rows.now) result }
-    ensures told { (programmer : ObjNo) → IsTold (R.held rows.now).maps programmer (about_given (one_object args.now) about_object) result }
 {
     Ok(Value::Obj(object(rows, one_object(args)?)?.parent))
 }
@@ -57,7 +52,6 @@ pub(crate) fn parent<R: Rows>(rows: &R, args: &[Value]) -> Result<Value, Fault>
 pub(crate) fn children<R: Rows>(rows: &R, alloc: Global, args: &[Value]) -> Result<Value, Fault>
     requires { IsGood (R.held rows.now).maps }
     ensures comes { Answers (given (one_object args.now) (children (world_in (R.held rows.now)))) (R.held rows.now) result }
-    ensures told { (programmer : ObjNo) → IsTold (R.held rows.now).maps programmer (about_given (one_object args.now) about_object) result }
 {
     let x = one_object(args)?;
     if !moo_tree::valid(rows, x) {
@@ -71,7 +65,6 @@ pub(crate) fn children<R: Rows>(rows: &R, alloc: Global, args: &[Value]) -> Resu
 /// LambdaMOO Programmer's Manual, 'Operations on Player Objects'.
 pub(crate) fn is_player<R: Rows>(rows: &R, args: &[Value]) -> Result<Value, Fault>
     ensures comes { Answers (given (one_object args.now) (is_player (world_in (R.held rows.now)))) (R.held rows.now) result }
-    ensures told { (programmer : ObjNo) → IsTold (R.held rows.now).maps programmer (about_given (one_object args.now) about_object) result }
 {
     Ok(flag(object(rows, one_object(args)?)?.player))
 }
@@ -81,8 +74,6 @@ pub(crate) fn is_player<R: Rows>(rows: &R, args: &[Value]) -> Result<Value, Faul
 pub(crate) fn players<R: Rows>(rows: &R, alloc: Global, args: &[Value]) -> Result<Value, Fault>
     requires { IsGood (R.held rows.now).maps }
     ensures comes { Answers (given (no_values args.now) (λ _. players (world_in (R.held rows.now)))) (R.held rows.now) result }
-    ensures told { (programmer : ObjNo) → IsTold (R.held rows.now).maps programmer
-        (about_given (no_values args.now) (λ _. about_nothing)) result }
 {
     no_values(args)?;
     let found = moo_tree::players(alloc, rows)?;
@@ -94,8 +85,6 @@ pub(crate) fn players<R: Rows>(rows: &R, alloc: Global, args: &[Value]) -> Resul
 /// LambdaMOO Programmer's Manual, 'Fundamental Operations on Objects'.
 pub(crate) fn max_object<R: Rows>(rows: &R, args: &[Value]) -> Result<Value, Fault>
     ensures comes { Answers (given (no_values args.now) (λ _. max_object (world_in (R.held rows.now)))) (R.held rows.now) result }
-    ensures told { (programmer : ObjNo) → IsTold (R.held rows.now).maps programmer
-        (about_given (no_values args.now) (λ _. about_nothing)) result }
 {
     no_values(args)?;
     Ok(Value::Obj(ObjNo(rows.head().top)))
@@ -105,7 +94,6 @@ pub(crate) fn max_object<R: Rows>(rows: &R, args: &[Value]) -> Result<Value, Fau
 /// none. E_INVARG if there is no such object. This server's own.
 pub(crate) fn accept_list<R: Rows>(rows: &R, alloc: Global, args: &[Value]) -> Result<Value, Fault>
     ensures comes { Answers (given (one_object args.now) (accept_list (world_in (R.held rows.now)))) (R.held rows.now) result }
-    ensures told { (programmer : ObjNo) → IsTold (R.held rows.now).maps programmer (about_given (one_object args.now) about_object) result }
 {
     let x = one_object(args)?;
     let row = object(rows, x)?;

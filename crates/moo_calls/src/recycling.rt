@@ -6,8 +6,6 @@ ghost use Rattle.moo_world.specs.declared.name.CallName.TheVariants.{Recycle};
 ghost use Rattle.moo_world.specs.Keeps.{Keeps};
 ghost use Rattle.moo_world.specs.Rows.{IsGood};
 ghost use Rattle.moo_calls_shared.specs.Outcomes.{world_in, ComesTo};
-ghost use Rattle.moo_calls_shared.specs.About.{about_call, about_object};
-ghost use Rattle.moo_calls_shared.specs.Told.{IsTold};
 
 use moo_calls_shared::{Fault, Reason, one_object, rights};
 use moo_props::{drop_object, return_quota};
@@ -30,7 +28,6 @@ pub fn recycle<R: Rows>(
     requires { IsGood (R.held rows.old).maps }
     ensures comes { ComesTo (recycle (world_in (R.held rows.old)) programmer x) (R.held rows.old) (R.held rows.new) result }
     ensures kept { OnOk result (Keeps (R.held rows.old) (R.held rows.new)) }
-    ensures told { IsTold (R.held rows.old).maps programmer (about_object x) result }
 {
     let owner = match rows.object(x) {
         None => return Err(Fault::Moo(Reason::NoObject(x))),
@@ -55,7 +52,6 @@ pub(crate) fn recycle_given<R: Rows>(
     ensures comes { ComesTo (named_call (world_in (R.held rows.old)) programmer Recycle args.now)
         (R.held rows.old) (R.held rows.new) result }
     ensures kept { OnOk result (Keeps (R.held rows.old) (R.held rows.new)) }
-    ensures told { IsTold (R.held rows.old).maps programmer (about_call programmer Recycle args.now) result }
 {
     recycle(rows, alloc, programmer, one_object(args)?)
 }

@@ -1,21 +1,16 @@
 //! Setting built-in properties.
 
-ghost use Rattle.std.specs.Prelude.{◌≡◌, true, false, Some, OnOk, IfSome, IfNone};
+ghost use Rattle.std.specs.Prelude.{◌≡◌, true, None, Some, OnOk, if◌then◌else◌};
 ghost use Rattle.moo_value.specs.declared.value.ObjNo.{ObjNo};
-ghost use Rattle.moo_rows.specs.Maps.{Maps};
 ghost use Rattle.moo_world.specs.Arguments.{fits};
-ghost use Rattle.moo_world.specs.BuiltIns.{built_in};
 ghost use Rattle.moo_world.specs.Codes.{E_PERM};
 ghost use Rattle.moo_world.specs.Keeps.{Keeps};
 ghost use Rattle.moo_world.specs.Objects.{Name};
-ghost use Rattle.moo_world.specs.PropertyCalls.{change_of, may_set, owner_is_object, set_built_in};
+ghost use Rattle.moo_world.specs.PropertyCalls.{change_of, may_set, owner_given, owner_is_object, set_built_in, unset_reason};
 ghost use Rattle.moo_world.specs.Rights.{may_set_name};
 ghost use Rattle.moo_world.specs.Rows.{IsGood};
 ghost use Rattle.moo_world.specs.World.{is_object};
-ghost use Rattle.moo_calls_shared.specs.Reasons.{error_of};
-ghost use Rattle.moo_calls_shared.specs.Outcomes.{world_in, ComesTo, GivenOrNot};
-ghost use Rattle.moo_calls_shared.specs.About.{About, about_property};
-ghost use Rattle.moo_calls_shared.specs.Told.{IsTold, IsTrueOf};
+ghost use Rattle.moo_calls_shared.specs.Outcomes.{world_in, ComesTo, TakenOrNot};
 
 use moo_calls_shared::{Fault, Reason, change_row, rights};
 use moo_rows::Rows;
@@ -28,9 +23,7 @@ use std::alloc::Global;
 /// E_TYPE for a `name` that isn't a string and for an `owner` that isn't an object. Any value is one for the others, by its truth.
 /// OutOfMemory means out of memory and nothing else.
 fn change_of(alloc: Global, field: BuiltIn, value: &Value) -> Result<Change, Fault>
-    ensures given { GivenOrNot (change_of field value.now) result }
-    ensures told { (maps : Maps) (programmer x : ObjNo) (name : Name) → built_in name ≡ Some field →
-        IsTold maps programmer (about_property x name) result }
+    ensures taken { TakenOrNot (change_of field value.now) result }
 {
     match (field, value) {
         (BuiltIn::Location | BuiltIn::Contents, _) => Err(Fault::Moo(Reason::NeverSet)),
@@ -59,9 +52,7 @@ fn may_set<R: Rows>(rows: &R, programmer: ObjNo, x: ObjNo, field: BuiltIn) -> bo
 
 /// Why the programmer may not name the object.
 fn namer_fault<R: Rows>(rows: &R, x: ObjNo) -> Reason
-    ensures error { error_of result ≡ E_PERM }
-    ensures told { (programmer : ObjNo) (about : About) → may_set_name (world_in (R.held rows.now)) programmer x ≡ false →
-        IsTrueOf (R.held rows.now).maps programmer about result }
+    ensures { result ≡ unset_reason (world_in (R.held rows.now)) x BuiltIn.Name }
 {
     match rows.object(x) {
         Some(row) if row.player => Reason::NamesPlayer(x),
@@ -71,9 +62,7 @@ fn namer_fault<R: Rows>(rows: &R, x: ObjNo) -> Reason
 
 /// Why the programmer may not set a built-in property of the object.
 fn setter_fault<R: Rows>(rows: &R, x: ObjNo, field: BuiltIn) -> Reason
-    ensures error { error_of result ≡ E_PERM }
-    ensures told { (programmer : ObjNo) (about : About) → may_set (world_in (R.held rows.now)) programmer x field ≡ false →
-        IsTrueOf (R.held rows.now).maps programmer about result }
+    ensures { result ≡ unset_reason (world_in (R.held rows.now)) x field }
 {
     match field {
         BuiltIn::Name => namer_fault(rows, x),
@@ -84,9 +73,7 @@ fn setter_fault<R: Rows>(rows: &R, x: ObjNo, field: BuiltIn) -> Reason
 
 /// The owner that the change gives, if it gives one that isn't an object.
 fn missing_owner<R: Rows>(rows: &R, change: &Change) -> Option<ObjNo>
-    ensures some { IfSome result (λ _. owner_is_object (world_in (R.held rows.now)) change.now ≡ false) }
-    ensures none { IfNone result (owner_is_object (world_in (R.held rows.now)) change.now ≡ true) }
-    ensures missing { IfSome result (λ owner. is_object (world_in (R.held rows.now)) owner ≡ false) }
+    ensures { result ≡ (if owner_is_object (world_in (R.held rows.now)) change.now then None else Some (owner_given change.now)) }
 {
     match change {
         Change::Owner(owner) if !valid(rows, *owner) => Some(*owner),
@@ -113,7 +100,6 @@ pub fn set_built_in<R: Rows>(
     ensures comes { ComesTo (set_built_in (world_in (R.held rows.old)) programmer x field value.now)
         (R.held rows.old) (R.held rows.new) result }
     ensures kept { OnOk result (Keeps (R.held rows.old) (R.held rows.new)) }
-    ensures told { (name : Name) → built_in name ≡ Some field → IsTold (R.held rows.old).maps programmer (about_property x name) result }
 {
     let change = change_of(alloc, field, value)?;
     if !may_set(rows, programmer, x, field) {

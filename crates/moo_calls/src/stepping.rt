@@ -7,8 +7,6 @@ ghost use Rattle.moo_world.specs.Arguments.{fits};
 ghost use Rattle.moo_world.specs.Keeps.{Keeps};
 ghost use Rattle.moo_world.specs.Rows.{IsGood};
 ghost use Rattle.moo_world.specs.Calls.{world_call, named_call};
-ghost use Rattle.moo_calls_shared.specs.About.{about_call};
-ghost use Rattle.moo_calls_shared.specs.Told.{IsTold};
 
 use crate::{changing, creating, moving, on_properties, on_verbs, parents, reading, recycling};
 use moo_calls_shared::{Fault, Reason};
@@ -30,7 +28,6 @@ fn named_call<R: Rows>(
     requires fit { list_all fits args.now ≡ true }
     ensures comes { ComesTo (named_call (world_in (R.held rows.old)) programmer name args.now) (R.held rows.old) (R.held rows.new) result }
     ensures kept { OnOk result (Keeps (R.held rows.old) (R.held rows.new)) }
-    ensures told { IsTold (R.held rows.old).maps programmer (about_call programmer name args.now) result }
 {
     match name {
         CallName::Valid => reading::valid(rows, args),
@@ -83,7 +80,6 @@ pub fn step<R: Rows>(
     requires good { IsGood (R.held rows.old).maps }
     ensures comes { ComesTo (world_call (world_in (R.held rows.old)) programmer call.now) (R.held rows.old) (R.held rows.new) result }
     ensures kept { OnOk result (Keeps (R.held rows.old) (R.held rows.new)) }
-    ensures told { IsTold (R.held rows.old).maps programmer (about_call programmer call.now.name call.now.args) result }
 {
     step_named(rows, alloc, programmer, call.name, call.args.items())
 }
@@ -102,7 +98,6 @@ pub fn step_named<R: Rows>(
     ensures comes { ComesTo (world_call (world_in (R.held rows.old)) programmer (record { name = name; args = args.now }))
         (R.held rows.old) (R.held rows.new) result }
     ensures kept { OnOk result (Keeps (R.held rows.old) (R.held rows.new)) }
-    ensures told { IsTold (R.held rows.old).maps programmer (about_call programmer name args.now) result }
 {
     if !valid(rows, programmer) {
         return Err(Fault::Moo(Reason::NoProgrammer));

@@ -6,8 +6,6 @@ ghost use Rattle.moo_world.specs.Arguments.{fits};
 ghost use Rattle.moo_world.specs.Keeps.{Keeps};
 ghost use Rattle.moo_world.specs.PropertyCalls.{get, set};
 ghost use Rattle.moo_world.specs.Rows.{IsGood};
-ghost use Rattle.moo_calls_shared.specs.About.{about_property};
-ghost use Rattle.moo_calls_shared.specs.Told.{IsTold};
 
 use crate::fields::field_of;
 use crate::setting::set_built_in;
@@ -31,7 +29,6 @@ pub fn get<R: Rows>(
 ) -> Result<Value, Fault>
     requires { IsGood (R.held rows.now).maps }
     ensures comes { Answers (get (world_in (R.held rows.now)) programmer x name.now) (R.held rows.now) result }
-    ensures told { IsTold (R.held rows.now).maps programmer (about_property x name.now) result }
 {
     if !valid(rows, x) {
         return Err(Fault::Moo(Reason::NoTarget(x)));
@@ -57,7 +54,6 @@ pub fn set<R: Rows>(
     requires fit { fits value.now ≡ true }
     ensures comes { ComesTo (set (world_in (R.held rows.old)) programmer x name.now value.now) (R.held rows.old) (R.held rows.new) result }
     ensures kept { OnOk result (Keeps (R.held rows.old) (R.held rows.new)) }
-    ensures told { IsTold (R.held rows.old).maps programmer (about_property x name.now) result }
 {
     if !valid(rows, x) {
         return Err(Fault::Moo(Reason::NoTarget(x)));

@@ -5,8 +5,6 @@ ghost use Rattle.moo_world.specs.Keeps.{Keeps};
 ghost use Rattle.moo_world.specs.PropertyCalls.{clear_property, is_clear, is_clear_property};
 ghost use Rattle.moo_world.specs.Rows.{IsGood};
 ghost use Rattle.moo_calls_shared.specs.Outcomes.{world_in, Answers, ComesTo};
-ghost use Rattle.moo_calls_shared.specs.About.{about_property};
-ghost use Rattle.moo_calls_shared.specs.Told.{IsTold};
 
 use crate::slots::{readable_slot, writable_slot};
 use moo_calls_shared::{Fault, Reason};
@@ -38,7 +36,6 @@ pub fn is_clear_property<R: Rows>(
 ) -> Result<Value, Fault>
     requires { IsGood (R.held rows.now).maps }
     ensures comes { Answers (is_clear_property (world_in (R.held rows.now)) programmer x name.now) (R.held rows.now) result }
-    ensures told { IsTold (R.held rows.now).maps programmer (about_property x name.now) result }
 {
     if !valid(rows, x) {
         return Err(Fault::Moo(Reason::NoObject(x)));
@@ -60,7 +57,6 @@ pub fn clear_property<R: Rows>(
     requires { IsGood (R.held rows.old).maps }
     ensures comes { ComesTo (clear_property (world_in (R.held rows.old)) programmer x name.now) (R.held rows.old) (R.held rows.new) result }
     ensures kept { OnOk result (Keeps (R.held rows.old) (R.held rows.new)) }
-    ensures told { IsTold (R.held rows.old).maps programmer (about_property x name.now) result }
 {
     if !valid(rows, x) {
         return Err(Fault::Moo(Reason::NoObject(x)));

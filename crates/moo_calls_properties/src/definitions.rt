@@ -7,20 +7,16 @@ ghost use Rattle.moo_rows.specs.declared.row.SlotState.TheVariants.{Set};
 ghost use Rattle.moo_value.specs.declared.value.Value.{Value};
 ghost use Rattle.moo_world.specs.Arguments.{fits};
 ghost use Rattle.moo_world.specs.Keeps.{Keeps};
-ghost use Rattle.moo_world.specs.PropertyCalls.{add_property, defines_name, may_define};
+ghost use Rattle.moo_world.specs.PropertyCalls.{add_property, defines_name, may_define, undefined_reason};
 ghost use Rattle.moo_world.specs.Rows.{IsGood};
 ghost use Rattle.moo_world.specs.Objects.{folded};
 ghost use Rattle.moo_world.specs.Answers.{zero};
-ghost use Rattle.moo_world.specs.Codes.{E_INVARG};
-ghost use Rattle.moo_world.specs.Outcomes.{Outcome, Done, Failed};
+ghost use Rattle.moo_world.specs.Outcomes.{Outcome, Done, fails};
 ghost use Rattle.moo_world.specs.Changes.{property_added};
 ghost use Rattle.moo_world.specs.World.{World, is_object, is_property_name};
 ghost use Rattle.moo_props.specs.Names.{defines as defines_property, name_of};
-ghost use Rattle.moo_calls_shared.specs.Reasons.{error_of};
 ghost use Rattle.moo_calls_shared.specs.Outcomes.{world_in, ComesTo, Answers};
-ghost use Rattle.moo_calls_properties.specs.Checks.{IsTrueOfLetters, IsTrueOfName, taking_property_info};
-ghost use Rattle.moo_calls_shared.specs.About.{about_new_property};
-ghost use Rattle.moo_calls_shared.specs.Told.{IsTold};
+ghost use Rattle.moo_calls_properties.specs.Checks.{taking_property_info};
 ghost use Rattle.moo_calls_shared.specs.Shown.{info_shown};
 
 use moo_calls_shared::{Fault, Info, Reason, rights};
@@ -48,14 +44,13 @@ pub(crate) fn may_define<R: Rows>(rows: &R, x: ObjNo, name: &MooStr) -> Result<(
     requires { IsGood (R.held rows.now).maps }
     ensures ok { OnOk result (may_define (world_in (R.held rows.now)) x name.now ≡ true) }
     ensures err { OnErr result (may_define (world_in (R.held rows.now)) x name.now ≡ false) }
-    ensures code { IfErr result (λ reason. error_of reason ≡ E_INVARG) }
-    ensures told { IfErr result (IsTrueOfName (R.held rows.now).maps x name.now) }
+    ensures why { IfErr result (λ reason. reason ≡ undefined_reason (world_in (R.held rows.now)) x name.now) }
 {
     if !is_property_name(name) {
         return Err(Reason::NoPropertyName);
     }
     match clashes(rows, x, name) {
-        Some(definer) => Err(Reason::NameTaken { definer }),
+        Some(definer) => Err(Reason::NameTaken(definer)),
         None => Ok(()),
     }
 }
@@ -91,8 +86,7 @@ pub(crate) fn bits_taken<R: Rows>(rows: &R, info: Info<'_>) -> Result<Bits, Reas
     ensures owner { OnOk result (is_object (world_in (R.held rows.now)) info.entry.owner ≡ true) }
     ensures bits { IfOk result (λ bits. bits_of info.entry.perms.now ≡ Some bits) }
     ensures err { IfErr result (λ reason. (then : Bits → Outcome World) →
-        taking_property_info (world_in (R.held rows.now)) (info_shown info.entry) then ≡ Failed (error_of reason)) }
-    ensures told { IfErr result (IsTrueOfLetters (R.held rows.now).maps info.entry.perms.now) }
+        taking_property_info (world_in (R.held rows.now)) (info_shown info.entry) then ≡ fails reason) }
 {
     if !valid(rows, info.owner) {
         return Err(Reason::NoObject(info.owner));
@@ -129,7 +123,6 @@ fn bits_to_define<R: Rows>(
     ensures there { OnOk result (is_object (world_in (R.held rows.now)) x ≡ true) }
     ensures free { OnOk result (may_define (world_in (R.held rows.now)) x name.now ≡ true) }
     ensures left { OnOk result (nat_lt (world_in (R.held rows.now)).next_prop 4294967295 ≡ true) }
-    ensures told { IsTold (R.held rows.now).maps programmer (about_new_property x name.now info.entry.perms.now) result }
 {
     if !valid(rows, x) {
         return Err(Fault::Moo(Reason::NoObject(x)));
@@ -168,7 +161,6 @@ pub fn add_property<R: Rows>(
     ensures comes { ComesTo (add_property (world_in (R.held rows.old)) programmer x name.now value.now
         (info_shown info.entry)) (R.held rows.old) (R.held rows.new) result }
     ensures kept { OnOk result (Keeps (R.held rows.old) (R.held rows.new)) }
-    ensures told { IsTold (R.held rows.old).maps programmer (about_new_property x name.now info.entry.perms.now) result }
 {
     let bits = bits_to_define(rows, programmer, x, name, info)?;
     let name = name.copy(alloc)?;

@@ -5,8 +5,6 @@ ghost use Rattle.moo_world.specs.Keeps.{Keeps};
 ghost use Rattle.moo_world.specs.PropertyCalls.{delete_property};
 ghost use Rattle.moo_world.specs.Rows.{IsGood};
 ghost use Rattle.moo_calls_shared.specs.Outcomes.{world_in, ComesTo};
-ghost use Rattle.moo_calls_shared.specs.About.{about_property};
-ghost use Rattle.moo_calls_shared.specs.Told.{IsTold};
 
 use crate::definitions::own_property;
 use moo_calls_shared::{Fault, Reason, rights};
@@ -32,7 +30,6 @@ pub fn delete_property<R: Rows>(
     ensures comes { ComesTo (delete_property (world_in (R.held rows.old)) programmer x name.now) (R.held rows.old)
         (R.held rows.new) result }
     ensures kept { OnOk result (Keeps (R.held rows.old) (R.held rows.new)) }
-    ensures told { IsTold (R.held rows.old).maps programmer (about_property x name.now) result }
 {
     if !valid(rows, x) {
         return Err(Fault::Moo(Reason::NoObject(x)));

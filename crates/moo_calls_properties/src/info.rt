@@ -3,20 +3,16 @@
 ghost use Rattle.std.specs.Prelude.{◌≡◌, ◌||◌, true, is_some, option_map, Err, IfOk, IfErr, OnOk, OnErr, false};
 ghost use Rattle.std.specs.FinMap.{get};
 ghost use Rattle.moo_world.specs.Answers.{zero};
-ghost use Rattle.moo_world.specs.Codes.{E_INVARG};
 ghost use Rattle.moo_world.specs.Changes.{info_set};
 ghost use Rattle.moo_world.specs.Keeps.{Keeps};
 ghost use Rattle.moo_value.specs.declared.value.ObjNo.{ObjNo};
-ghost use Rattle.moo_world.specs.Objects.{Name, folded, same_object};
+ghost use Rattle.moo_world.specs.Objects.{folded, same_object};
 ghost use Rattle.moo_world.specs.Outcomes.{Done};
-ghost use Rattle.moo_world.specs.PropertyCalls.{may_rename, renamed_to, set_property_info};
+ghost use Rattle.moo_world.specs.PropertyCalls.{may_rename, renamed_to, set_property_info, unrenamed_reason};
 ghost use Rattle.moo_world.specs.Rights.{is_wizard};
 ghost use Rattle.moo_world.specs.Rows.{world_of, IsGood};
 ghost use Rattle.moo_props.specs.Names.{name_of, spelling_of};
-ghost use Rattle.moo_calls_shared.specs.Reasons.{error_of};
 ghost use Rattle.moo_calls_shared.specs.Outcomes.{world_in, ComesTo, Answers};
-ghost use Rattle.moo_calls_shared.specs.About.{about_info};
-ghost use Rattle.moo_calls_shared.specs.Told.{IsTold, IsTrueOf};
 ghost use Rattle.moo_calls_shared.specs.Shown.{info_shown};
 
 use crate::definitions::{bits_taken, defines, may_define};
@@ -47,9 +43,8 @@ fn may_rename<R: Rows>(
     requires { IsGood (R.held rows.now).maps }
     ensures ok { OnOk result (may_rename (world_in (R.held rows.now)) x name.now (option_map (λ n. n.now) new.entry) ≡ true) }
     ensures err { OnErr result (may_rename (world_in (R.held rows.now)) x name.now (option_map (λ n. n.now) new.entry) ≡ false) }
-    ensures code { IfErr result (λ reason. error_of reason ≡ E_INVARG) }
-    ensures told { IfErr result (λ reason. (programmer : ObjNo) (letters : Name) →
-        IsTrueOf (R.held rows.now).maps programmer (about_info x name.now letters (option_map (λ n. n.now) new.entry)) reason) }
+    ensures why { IfErr result (λ reason.
+        reason ≡ unrenamed_reason (world_in (R.held rows.now)) x name.now (option_map (λ n. n.now) new.entry)) }
 {
     let Some(new) = new else {
         return Ok(());
@@ -114,8 +109,6 @@ fn property_to_change<R: Rows>(
     ensures held { IfOk result (λ found. is_some (get (R.held rows.now).maps.slots (x, found.0)) ≡ true) }
     ensures named { IfOk result (λ found. name_of (R.held rows.now).maps found.0 ≡ folded name.now) }
     ensures may { OnOk result (may_rename (world_in (R.held rows.now)) x name.now (option_map (λ n. n.now) new_name.entry) ≡ true) }
-    ensures told { let new = option_map (λ n. n.now) new_name.entry in
-        IsTold (R.held rows.now).maps programmer (about_info x name.now info.entry.perms.now new) result }
 {
     if !valid(rows, x) {
         return Err(Fault::Moo(Reason::NoObject(x)));
@@ -155,8 +148,6 @@ pub fn set_property_info<R: Rows>(
     ensures comes { ComesTo (set_property_info (world_in (R.held rows.old)) programmer x name.now (info_shown info.entry)
         (option_map (λ n. n.now) new_name.entry)) (R.held rows.old) (R.held rows.new) result }
     ensures kept { OnOk result (Keeps (R.held rows.old) (R.held rows.new)) }
-    ensures told { let new = option_map (λ n. n.now) new_name.entry in
-        IsTold (R.held rows.old).maps programmer (about_info x name.now info.entry.perms.now new) result }
 {
     let (id, bits) = property_to_change(rows, programmer, x, name, info, new_name)?;
     let new = copy_of(alloc, new_name)?;

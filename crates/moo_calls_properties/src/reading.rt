@@ -8,8 +8,6 @@ ghost use Rattle.moo_world.specs.PropertyCalls.{get_property, properties, proper
 ghost use Rattle.moo_world.specs.Rows.{IsGood};
 ghost use Rattle.moo_world.specs.World.{property_names_of};
 ghost use Rattle.moo_calls_shared.specs.Outcomes.{world_in, Answers};
-ghost use Rattle.moo_calls_shared.specs.About.{about_object, about_property};
-ghost use Rattle.moo_calls_shared.specs.Told.{IsTold};
 
 use crate::slots::readable_slot;
 use moo_calls_shared::{Fault, Reason, rights};
@@ -32,7 +30,6 @@ pub fn get_property<R: Rows>(
 ) -> Result<Value, Fault>
     requires { IsGood (R.held rows.now).maps }
     ensures comes { Answers (get_property (world_in (R.held rows.now)) programmer x name.now) (R.held rows.now) result }
-    ensures told { IsTold (R.held rows.now).maps programmer (about_property x name.now) result }
 {
     let found = readable_slot(rows, programmer, x, name)?;
     Ok(value_of(rows, x, found.id).copy(alloc)?)
@@ -61,7 +58,6 @@ pub fn properties<R: Rows>(
 ) -> Result<Value, Fault>
     requires { IsGood (R.held rows.now).maps }
     ensures comes { Answers (properties (world_in (R.held rows.now)) programmer x) (R.held rows.now) result }
-    ensures told { IsTold (R.held rows.now).maps programmer (about_object x) result }
 {
     if !valid(rows, x) {
         return Err(Fault::Moo(Reason::NoObject(x)));
@@ -102,7 +98,6 @@ pub fn property_info<R: Rows>(
 ) -> Result<Value, Fault>
     requires { IsGood (R.held rows.now).maps }
     ensures comes { Answers (property_info (world_in (R.held rows.now)) programmer x name.now) (R.held rows.now) result }
-    ensures told { IsTold (R.held rows.now).maps programmer (about_property x name.now) result }
 {
     if !valid(rows, x) {
         return Err(Fault::Moo(Reason::NoObject(x)));

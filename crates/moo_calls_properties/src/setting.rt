@@ -6,8 +6,6 @@ ghost use Rattle.moo_world.specs.Keeps.{Keeps};
 ghost use Rattle.moo_world.specs.PropertyCalls.{set_property};
 ghost use Rattle.moo_world.specs.Rows.{IsGood};
 ghost use Rattle.moo_calls_shared.specs.Outcomes.{world_in, ComesTo};
-ghost use Rattle.moo_calls_shared.specs.About.{about_property};
-ghost use Rattle.moo_calls_shared.specs.Told.{IsTold};
 
 use crate::slots::writable_slot;
 use moo_calls_shared::Fault;
@@ -34,7 +32,6 @@ pub fn set_property<R: Rows>(
     ensures comes { ComesTo (set_property (world_in (R.held rows.old)) programmer x name.now value.now) (R.held rows.old)
         (R.held rows.new) result }
     ensures kept { OnOk result (Keeps (R.held rows.old) (R.held rows.new)) }
-    ensures told { IsTold (R.held rows.old).maps programmer (about_property x name.now) result }
 {
     let found = writable_slot(rows, programmer, x, name)?;
     let id = found.id;

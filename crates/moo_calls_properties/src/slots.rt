@@ -3,16 +3,13 @@
 ghost use Rattle.std.specs.Prelude.{◌≡◌, true, is_some, Some, IfOk, IfErr};
 ghost use Rattle.std.specs.FinMap.{get};
 ghost use Rattle.moo_world.specs.Objects.{folded};
-ghost use Rattle.moo_world.specs.Outcomes.{Outcome, Failed};
+ghost use Rattle.moo_world.specs.Outcomes.{Outcome, fails};
 ghost use Rattle.moo_world.specs.Rights.{may_read_slot, may_write_slot};
 ghost use Rattle.moo_world.specs.Rows.{slot_seen, IsGood};
 ghost use Rattle.moo_world.specs.World.{World, Slot, slot_of};
 ghost use Rattle.moo_props.specs.Names.{name_of};
-ghost use Rattle.moo_calls_shared.specs.Reasons.{error_of};
 ghost use Rattle.moo_calls_shared.specs.Outcomes.{world_in};
 ghost use Rattle.moo_calls_properties.specs.Checks.{reading_slot, writing_slot};
-ghost use Rattle.moo_calls_shared.specs.About.{about_property};
-ghost use Rattle.moo_calls_shared.specs.Told.{IsTrueOf};
 
 use moo_calls_shared::{Reason, rights};
 use moo_props::{FoundSlot, slot_of};
@@ -45,10 +42,9 @@ pub(crate) fn readable_slot<'a, R: Rows>(
     ensures ok { IfOk result (λ found. (then : Slot → Outcome World) →
         reading_slot (world_in (R.held rows.now)) programmer x name.now then ≡ then (slot_seen found.definer found.slot.now)) }
     ensures err { IfErr result (λ reason. (then : Slot → Outcome World) →
-        reading_slot (world_in (R.held rows.now)) programmer x name.now then ≡ Failed (error_of reason)) }
+        reading_slot (world_in (R.held rows.now)) programmer x name.now then ≡ fails reason) }
     ensures held { IfOk result (λ found. is_some (get (R.held rows.now).maps.slots (x, found.id)) ≡ true) }
     ensures named { IfOk result (λ found. name_of (R.held rows.now).maps found.id ≡ folded name.now) }
-    ensures told { IfErr result (IsTrueOf (R.held rows.now).maps programmer (about_property x name.now)) }
 {
     let Some(found) = slot_of(rows, x, name) else {
         return Err(Reason::NoProperty(x));
@@ -73,10 +69,9 @@ pub(crate) fn writable_slot<'a, R: Rows>(
     ensures may { IfOk result (λ found.
         may_write_slot (world_in (R.held rows.now)) programmer (slot_seen found.definer found.slot.now) ≡ true) }
     ensures err { IfErr result (λ reason. (then : Slot → Outcome World) →
-        writing_slot (world_in (R.held rows.now)) programmer x name.now then ≡ Failed (error_of reason)) }
+        writing_slot (world_in (R.held rows.now)) programmer x name.now then ≡ fails reason) }
     ensures held { IfOk result (λ found. is_some (get (R.held rows.now).maps.slots (x, found.id)) ≡ true) }
     ensures named { IfOk result (λ found. name_of (R.held rows.now).maps found.id ≡ folded name.now) }
-    ensures told { IfErr result (IsTrueOf (R.held rows.now).maps programmer (about_property x name.now)) }
 {
     let Some(found) = slot_of(rows, x, name) else {
         return Err(Reason::NoProperty(x));

@@ -5,19 +5,20 @@ use Rattle.moo_value.specs.declared.value.Value.{Value}
 use Rattle.moo_rows.specs.Maps.{Held}
 use Rattle.moo_world.specs.World.{World}
 use Rattle.moo_world.specs.Rows.{world_of}
-use Rattle.moo_world.specs.Outcomes.{Outcome, Done, Failed, Full}
-use Rattle.moo_calls_shared.specs.Reasons.{error_of}
+use Rattle.moo_world.specs.declared.reason.Reason.{Reason}
+use Rattle.moo_world.specs.declared.reason.Reason.TheVariants.{Given}
+use Rattle.moo_world.specs.Outcomes.{Outcome, Done, Full, fails}
 use Rattle.moo_calls_shared.specs.declared.fault.Fault.{Fault}
 use Rattle.moo_calls_shared.specs.declared.fault.Fault.TheVariants.{Moo, Held as of_held, Full as NoneLeft, OutOfMemory}
 
 abbrev pub world_in : Held → World
 world_in held = world_of held.maps
 
--- what a call answers if this is its outcome: the answer, with the rows of the next world, or the error, with the rows
--- as they were. Out of memory may leave anything
+-- what a call answers if this is its outcome: the answer, with the rows of the next world, or the reason for which it fails, with the
+-- rows as they were. Out of memory may leave anything
 abbrev pub ComesTo : Outcome World → Held → Held → Result Value Fault → Type 0
 ComesTo outcome old new (Ok v) = outcome ≡ Done v (world_in new)
-ComesTo outcome old new (Err (Moo reason)) = (outcome ≡ Failed (error_of reason)) × (new ≡ old)
+ComesTo outcome old new (Err (Moo reason)) = (outcome ≡ fails reason) × (new ≡ old)
 ComesTo outcome old new (Err (of_held place reason)) = ⊥
 ComesTo outcome old new (Err NoneLeft) = (outcome ≡ Full) × (new ≡ old)
 ComesTo outcome old new (Err OutOfMemory) = ⊤
@@ -26,10 +27,19 @@ ComesTo outcome old new (Err OutOfMemory) = ⊤
 abbrev pub Answers : Outcome World → Held → Result Value Fault → Type 0
 Answers outcome rows result = ComesTo outcome rows rows result
 
+-- what a value is taken for, or why it isn't taken; or out of memory
+abbrev pub TakenOrNot : {A : Type 0} → Result A Reason → Result A Fault → Type 0
+TakenOrNot taken (Ok a) = taken ≡ Ok a
+TakenOrNot taken (Err (Moo reason)) = taken ≡ Err reason
+TakenOrNot taken (Err (of_held place reason)) = ⊥
+TakenOrNot taken (Err NoneLeft) = ⊥
+TakenOrNot taken (Err OutOfMemory) = ⊤
+
 -- what is read from what a call is given, or its error; or out of memory
 abbrev pub GivenOrNot : {A : Type 0} → Result A Code → Result A Fault → Type 0
 GivenOrNot read (Ok a) = read ≡ Ok a
-GivenOrNot read (Err (Moo reason)) = read ≡ Err (error_of reason)
+GivenOrNot read (Err (Moo (Given code))) = read ≡ Err code
+GivenOrNot read (Err (Moo reason)) = ⊥
 GivenOrNot read (Err (of_held place reason)) = ⊥
 GivenOrNot read (Err NoneLeft) = ⊥
 GivenOrNot read (Err OutOfMemory) = ⊤

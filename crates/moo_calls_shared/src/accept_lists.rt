@@ -2,16 +2,13 @@
 
 ghost use Rattle.std.specs.Prelude.{◌≡◌, IfOk, List, Option};
 ghost use Rattle.moo_value.specs.declared.value.ObjNo.{ObjNo};
-ghost use Rattle.moo_rows.specs.Maps.{Maps};
 ghost use Rattle.moo_world.specs.Arguments.{objects_among, object_and_accept};
 ghost use Rattle.moo_calls_shared.specs.Outcomes.{GivenOrNot};
-ghost use Rattle.moo_calls_shared.specs.About.{About, about_given};
-ghost use Rattle.moo_calls_shared.specs.Told.{IsTold};
 
 use crate::fault::Fault;
-use crate::reason::Reason;
 use moo_rows::ObjList;
 use moo_value::{Code, ObjNo, Value};
+use moo_world::Reason;
 use std::alloc::{AllocError, Global};
 
 /// The objects of a list that has only objects. The only error is out of memory.
@@ -32,8 +29,6 @@ fn objects_among(alloc: Global, values: &[Value]) -> Result<Option<ObjList>, All
 /// then E_TYPE for anything else. OutOfMemory means out of memory and nothing else.
 pub fn object_and_accept(alloc: Global, args: &[Value]) -> Result<(ObjNo, Option<ObjList>), Fault>
     ensures given { GivenOrNot (object_and_accept args.now) result }
-    ensures told { (maps : Maps) (programmer : ObjNo) (about : ObjNo × Option (List ObjNo) → About) →
-        IsTold maps programmer (about_given (object_and_accept args.now) about) result }
 {
     match args {
         [Value::Obj(x), Value::List(list)] => match objects_among(alloc, list.items())? {

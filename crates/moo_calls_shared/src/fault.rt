@@ -1,7 +1,7 @@
 //! Why a call fails.
 
-use crate::reason::Reason;
 use moo_value::Code;
+use moo_world::Reason;
 use std::alloc::AllocError;
 
 /// Why a call fails.
@@ -20,7 +20,7 @@ pub enum Fault {
 impl From<Code> for Fault {
     ghost use Rattle.std.specs.Prelude.{◌≡◌};
     ghost use Rattle.moo_calls_shared.specs.declared.fault.Fault.TheVariants.{Moo};
-    ghost use Rattle.moo_calls_shared.specs.declared.reason.Reason.TheVariants.{Given};
+    ghost use Rattle.moo_world.specs.declared.reason.Reason.TheVariants.{Given};
 
     ghost from_gives = { λ code fault. fault ≡ Moo (Given code) };
 

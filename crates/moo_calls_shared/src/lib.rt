@@ -7,7 +7,6 @@ mod args;
 mod changing;
 mod fault;
 mod infos;
-mod reason;
 pub mod rights;
 mod verb_args;
 
@@ -20,7 +19,7 @@ pub use args::{
 pub use changing::change_row;
 pub use fault::Fault;
 pub use infos::{Info, NewProperty, NewPropertyInfo, new_property, new_property_info};
-pub use reason::Reason;
+pub use moo_world::Reason;
 pub use verb_args::{
     ArgTexts, NewVerb, NewVerbArgs, NewVerbInfo, VerbInfo, new_verb, new_verb_args, new_verb_info,
     object_and_desc,

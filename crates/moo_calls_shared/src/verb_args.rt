@@ -4,20 +4,16 @@
 ghost use Rattle.std.specs.Prelude.{◌≡◌, IfOk, IfErr, Ok, Err, option_map};
 ghost use Rattle.std.specs.Result.{result_map_both};
 ghost use Rattle.moo_value.specs.declared.value.ObjNo.{ObjNo};
-ghost use Rattle.moo_rows.specs.Maps.{Maps};
 ghost use Rattle.moo_world.specs.Objects.{Name};
 ghost use Rattle.moo_world.specs.declared.descriptor.Desc.{Desc};
 ghost use Rattle.moo_world.specs.Arguments.{desc_of, verb_info_in, texts_in, object_and_desc, new_verb, new_verb_info, new_verb_args};
 ghost use Rattle.moo_calls_shared.specs.Outcomes.{GivenOrNot};
-ghost use Rattle.moo_calls_shared.specs.About.{About, about_given};
 ghost use Rattle.moo_calls_shared.specs.Shown.{verb_info_shown, args_shown};
-ghost use Rattle.moo_calls_shared.specs.Told.{IsTold};
 
 use crate::fault::Fault;
 use crate::infos::Info;
-use crate::reason::Reason;
 use moo_value::{Code, MooStr, ObjNo, Value};
-use moo_world::Desc;
+use moo_world::{Desc, Reason};
 use std::alloc::{AllocError, Global};
 
 /// The descriptor that a value is: a number or a word. None for any other value. The only error is out of memory.
@@ -34,8 +30,6 @@ fn desc_of(alloc: Global, value: &Value) -> Result<Option<Desc>, AllocError>
 /// What `verb_info`, `verb_args` and `delete_verb` take: an object and a descriptor.
 pub fn object_and_desc(alloc: Global, args: &[Value]) -> Result<(ObjNo, Desc), Fault>
     ensures given { GivenOrNot (object_and_desc args.now) result }
-    ensures told { (maps : Maps) (programmer : ObjNo) (about : ObjNo × Desc → About) →
-        IsTold maps programmer (about_given (object_and_desc args.now) about) result }
 {
     match args {
         [Value::Obj(x), desc] => match desc_of(alloc, desc)? {
@@ -134,8 +128,6 @@ pub struct NewVerbInfo<'a> {
 pub fn new_verb_info(alloc: Global, args: &[Value]) -> Result<NewVerbInfo<'_>, Fault>
     ensures given { GivenOrNot (new_verb_info args.now)
         (result_map_both (λ p. (p.object, (p.desc, verb_info_shown p.verb))) (λ fault. fault) result) }
-    ensures told { (maps : Maps) (programmer : ObjNo) (about : ObjNo × (Desc × ((ObjNo × Name) × Name)) → About) →
-        IsTold maps programmer (about_given (new_verb_info args.now) about) result }
 {
     match args {
         [Value::Obj(object), desc, Value::List(info)] => {
@@ -169,8 +161,6 @@ pub struct NewVerbArgs<'a> {
 pub fn new_verb_args(alloc: Global, args: &[Value]) -> Result<NewVerbArgs<'_>, Fault>
     ensures given { GivenOrNot (new_verb_args args.now)
         (result_map_both (λ p. (p.object, (p.desc, args_shown p.args))) (λ fault. fault) result) }
-    ensures told { (maps : Maps) (programmer : ObjNo) (about : ObjNo × (Desc × (Name × Name × Name)) → About) →
-        IsTold maps programmer (about_given (new_verb_args args.now) about) result }
 {
     match args {
         [Value::Obj(object), desc, Value::List(texts)] => {

@@ -7,16 +7,13 @@ ghost use Rattle.moo_world.specs.Rows.{IsGood};
 ghost use Rattle.moo_world.specs.World.{World, is_object, has_word};
 ghost use Rattle.moo_world.specs.Answers.{zero};
 ghost use Rattle.moo_world.specs.Directories.{verb_added};
-ghost use Rattle.moo_world.specs.Outcomes.{Outcome, Done, Failed};
+ghost use Rattle.moo_world.specs.Outcomes.{Outcome, Done, fails};
 ghost use Rattle.moo_world.specs.VerbReading.{args_of};
 ghost use Rattle.moo_world.specs.VerbCalls.{add_verb};
 ghost use Rattle.moo_world.specs.Keeps.{Keeps};
 ghost use Rattle.moo_calls_shared.specs.Outcomes.{world_in, ComesTo, Answers};
-ghost use Rattle.moo_calls_shared.specs.Reasons.{error_of};
-ghost use Rattle.moo_calls_verbs.specs.Checks.{IsTrueOfVerbInfo, taking_verb_info};
-ghost use Rattle.moo_calls_shared.specs.About.{about_new_verb};
+ghost use Rattle.moo_calls_verbs.specs.Checks.{taking_verb_info};
 ghost use Rattle.moo_calls_shared.specs.Shown.{info_shown, args_shown};
-ghost use Rattle.moo_calls_shared.specs.Told.{IsTold};
 
 use moo_calls_shared::{ArgTexts, Fault, Reason, VerbInfo, rights};
 use moo_rows::{ArgSpec, Rows, VerbBits, VerbRow};
@@ -41,8 +38,7 @@ pub(crate) fn bits_taken<R: Rows>(rows: &R, verb: VerbInfo<'_>) -> Result<VerbBi
     ensures names { OnOk result (has_word verb.entry.names.now ≡ true) }
     ensures err { IfErr result (λ reason. (then : VerbBits → Outcome World) →
         taking_verb_info (world_in (R.held rows.now))
-        (info_shown verb.entry.info) verb.entry.names.now then ≡ Failed (error_of reason)) }
-    ensures told { IfErr result (IsTrueOfVerbInfo (R.held rows.now).maps verb.entry.info.perms.now verb.entry.names.now) }
+        (info_shown verb.entry.info) verb.entry.names.now then ≡ fails reason) }
 {
     if !valid(rows, verb.info.owner) {
         return Err(Reason::NoObject(verb.info.owner));
@@ -85,8 +81,6 @@ fn verb_taken<R: Rows>(
     ensures there { OnOk result (is_object (world_in (R.held rows.now)) x ≡ true) }
     ensures names { OnOk result (has_word verb.entry.names.now ≡ true) }
     ensures left { OnOk result (nat_lt (world_in (R.held rows.now)).next_verb 4294967295 ≡ true) }
-    ensures told { IsTold (R.held rows.now).maps programmer
-        (about_new_verb x verb.entry.info.perms.now verb.entry.names.now (args_shown args.entry)) result }
 {
     if !valid(rows, x) {
         return Err(Fault::Moo(Reason::NoObject(x)));
@@ -125,8 +119,6 @@ pub fn add_verb<R: Rows>(
         (add_verb (world_in (R.held rows.old)) programmer x (info_shown verb.entry.info) verb.entry.names.now (args_shown args.entry))
         (R.held rows.old) (R.held rows.new) result }
     ensures kept { OnOk result (Keeps (R.held rows.old) (R.held rows.new)) }
-    ensures told { IsTold (R.held rows.old).maps programmer
-        (about_new_verb x verb.entry.info.perms.now verb.entry.names.now (args_shown args.entry)) result }
 {
     let (bits, args) = verb_taken(rows, programmer, x, verb, args)?;
     let row = VerbRow {

@@ -9,9 +9,7 @@ ghost use Rattle.moo_world.specs.VerbCalls.{delete_verb, set_verb_info, set_verb
 ghost use Rattle.moo_world.specs.Keeps.{Keeps};
 ghost use Rattle.moo_calls_shared.specs.Outcomes.{world_in, ComesTo};
 ghost use Rattle.moo_verbs.specs.Places.{verb_place};
-ghost use Rattle.moo_calls_shared.specs.About.{about_verb, about_verb_args, about_verb_info};
 ghost use Rattle.moo_calls_shared.specs.Shown.{info_shown, args_shown};
-ghost use Rattle.moo_calls_shared.specs.Told.{IsTold};
 
 use crate::adding::{args_of, bits_taken};
 use moo_calls_shared::{ArgTexts, Fault, Reason, VerbInfo, rights};
@@ -39,7 +37,6 @@ pub fn delete_verb<R: Rows>(
         ((id : VerbId)
         × (option_map (λ f. f.0) (found_verb (world_in (R.held rows.old)) x desc.now) ≡ Some (verb_place (R.held rows.old).maps x id))
         × ((R.held rows.new).maps.verbs ≡ remove (R.held rows.old).maps.verbs (x, id))) }
-    ensures told { IsTold (R.held rows.old).maps programmer (about_verb x desc.now) result }
 {
     if !valid(rows, x) {
         return Err(Fault::Moo(Reason::NoObject(x)));
@@ -73,8 +70,6 @@ pub fn set_verb_info<R: Rows>(
         (set_verb_info (world_in (R.held rows.old)) programmer x desc.now (info_shown verb.entry.info) verb.entry.names.now)
         (R.held rows.old) (R.held rows.new) result }
     ensures kept { OnOk result (Keeps (R.held rows.old) (R.held rows.new)) }
-    ensures told { IsTold (R.held rows.old).maps programmer
-        (about_verb_info x desc.now verb.entry.info.perms.now verb.entry.names.now) result }
 {
     if !valid(rows, x) {
         return Err(Fault::Moo(Reason::NoObject(x)));
@@ -112,7 +107,6 @@ pub fn set_verb_args<R: Rows>(
         (set_verb_args (world_in (R.held rows.old)) programmer x desc.now (args_shown args.entry))
         (R.held rows.old) (R.held rows.new) result }
     ensures kept { OnOk result (Keeps (R.held rows.old) (R.held rows.new)) }
-    ensures told { IsTold (R.held rows.old).maps programmer (about_verb_args x desc.now (args_shown args.entry)) result }
 {
     if !valid(rows, x) {
         return Err(Fault::Moo(Reason::NoObject(x)));

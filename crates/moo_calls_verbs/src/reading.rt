@@ -7,15 +7,12 @@ ghost use Rattle.moo_rows.specs.Bits.{verb_letters_of};
 ghost use Rattle.moo_rows.specs.declared.row.VerbRow.{VerbRow};
 ghost use Rattle.moo_world.specs.Rows.{IsGood};
 ghost use Rattle.moo_world.specs.Answers.{list_of};
-ghost use Rattle.moo_world.specs.Outcomes.{Outcome, Failed};
+ghost use Rattle.moo_world.specs.Outcomes.{Outcome, fails};
 ghost use Rattle.moo_world.specs.World.{World};
 ghost use Rattle.moo_world.specs.Prepositions.{prep_text, object_spec_text};
 ghost use Rattle.moo_world.specs.VerbCalls.{verbs, verb_info, verb_args};
 ghost use Rattle.moo_calls_shared.specs.Outcomes.{world_in, Answers};
-ghost use Rattle.moo_calls_shared.specs.Reasons.{error_of};
 ghost use Rattle.moo_calls_verbs.specs.Checks.{reading_verb};
-ghost use Rattle.moo_calls_shared.specs.About.{about_object, about_verb};
-ghost use Rattle.moo_calls_shared.specs.Told.{IsTold, IsTrueOf};
 
 use moo_calls_shared::{Fault, Reason, rights};
 use moo_rows::{ArgSpec, Rows, VerbRow};
@@ -31,7 +28,6 @@ use std::alloc::{AllocError, Global};
 pub fn verbs<R: Rows>(rows: &R, alloc: Global, programmer: ObjNo, x: ObjNo) -> Result<Value, Fault>
     requires { IsGood (R.held rows.now).maps }
     ensures comes { Answers (verbs (world_in (R.held rows.now)) programmer x) (R.held rows.now) result }
-    ensures told { IsTold (R.held rows.now).maps programmer (about_object x) result }
 {
     if !valid(rows, x) {
         return Err(Fault::Moo(Reason::NoObject(x)));
@@ -65,8 +61,7 @@ fn readable_verb<'a, R: Rows>(
     ensures ok { IfOk result (λ verb. (then : VerbRow → Outcome World) →
         reading_verb (world_in (R.held rows.now)) programmer x desc.now then ≡ then verb.now) }
     ensures err { IfErr result (λ reason. (then : VerbRow → Outcome World) →
-        reading_verb (world_in (R.held rows.now)) programmer x desc.now then ≡ Failed (error_of reason)) }
-    ensures told { IfErr result (IsTrueOf (R.held rows.now).maps programmer (about_verb x desc.now)) }
+        reading_verb (world_in (R.held rows.now)) programmer x desc.now then ≡ fails reason) }
 {
     if !valid(rows, x) {
         return Err(Reason::NoObject(x));
@@ -107,7 +102,6 @@ pub fn verb_info<R: Rows>(
 ) -> Result<Value, Fault>
     requires { IsGood (R.held rows.now).maps }
     ensures comes { Answers (verb_info (world_in (R.held rows.now)) programmer x desc.now) (R.held rows.now) result }
-    ensures told { IsTold (R.held rows.now).maps programmer (about_verb x desc.now) result }
 {
     let verb = readable_verb(rows, programmer, x, desc)?;
     let answer = info_of(alloc, verb)?;
@@ -138,7 +132,6 @@ pub fn verb_args<R: Rows>(
 ) -> Result<Value, Fault>
     requires { IsGood (R.held rows.now).maps }
     ensures comes { Answers (verb_args (world_in (R.held rows.now)) programmer x desc.now) (R.held rows.now) result }
-    ensures told { IsTold (R.held rows.now).maps programmer (about_verb x desc.now) result }
 {
     let verb = readable_verb(rows, programmer, x, desc)?;
     let answer = args_of(alloc, verb.args)?;

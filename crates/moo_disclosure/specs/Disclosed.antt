@@ -1,6 +1,6 @@
 -- What a refusal tells of the world besides its reason and what the call was given.
 use Rattle.std.specs.Prelude.{Bool, true, false, ◌||◌, List, [], ◌∷◌, Option, Some, None, is_some, if◌then◌else◌, take}
-use Rattle.std.specs.List.{flat_map}
+use Rattle.std.specs.List.{find, flat_map}
 use Rattle.std.specs.Option.{option_and_then}
 use Rattle.std.specs.FinMap.{get}
 use Rattle.moo_value.specs.declared.value.ObjNo.{ObjNo}
@@ -14,10 +14,10 @@ use Rattle.moo_world.specs.declared.name.CallName.TheVariants.{Get, Set, Propert
 use Rattle.moo_world.specs.declared.name.CallName.TheVariants.{DeleteProperty, SetPropertyInfo}
 use Rattle.moo_world.specs.Objects.{Name, folded, same_object}
 use Rattle.moo_world.specs.Rights.{is_wizard, may_read_object}
-use Rattle.moo_world.specs.Rows.{look_ups, name_on, world_of}
+use Rattle.moo_world.specs.Rows.{world_of}
 use Rattle.moo_world.specs.World.{World, chain, property_names_of, slot_of}
-use Rattle.moo_calls_shared.specs.declared.reason.Reason.{Reason}
-use Rattle.moo_calls_shared.specs.declared.reason.Reason.TheVariants.{NoProperty, NotDefined, NotRenamed, NameShared}
+use Rattle.moo_world.specs.declared.reason.Reason.{Reason}
+use Rattle.moo_world.specs.declared.reason.Reason.TheVariants.{NoProperty, NotDefined, NotRenamed, NameShared}
 
 -- ---- names that the call may have meant
 
@@ -59,11 +59,21 @@ names_meant world programmer call args reason =
 
 -- ---- the name that clashes
 
--- the name of a property that this object defines, if the programmer may list what it defines
-abbrev pub clash_name : Maps → ObjNo → Reason → Option Name
-clash_name maps programmer reason = elim reason [
-  | NameShared definer property ↦
-      if may_read_object (world_of maps) programmer definer then name_on (look_ups maps) definer property.0 else None
+-- the first name of a property that the definer defines and the new parent has, of its first 200 names
+abbrev pub name_shared : World → ObjNo → ObjNo → Option Name
+name_shared world definer new_parent =
+    find (λ name. is_some (slot_of world new_parent (folded name))) (take 200 (property_names_of world definer))
+
+-- the new parent that a call of `chparent` gives
+abbrev pub new_parent_given : List Value → Option ObjNo
+new_parent_given (object ∷ Obj new_parent ∷ rest) = Some new_parent
+new_parent_given args = None
+
+-- the name of a property that keeps the object from its new parent, if the programmer may list what its definer defines
+abbrev pub clash_name : World → ObjNo → List Value → Reason → Option Name
+clash_name world programmer args reason = elim reason [
+  | NameShared definer ↦ if may_read_object world programmer definer
+      then option_and_then (name_shared world definer) (new_parent_given args) else None
   | _ ↦ None
 ]
 

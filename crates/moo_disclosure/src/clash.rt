@@ -1,23 +1,41 @@
 //! The name of a property that clashes.
 
 ghost use Rattle.std.specs.Prelude.{◌≡◌, IfOk, option_map};
-ghost use Rattle.moo_rows.specs.Maps.{Maps};
-ghost use Rattle.moo_world.specs.Rights.{may_read_object};
-ghost use Rattle.moo_world.specs.Rows.{look_ups, name_on, world_of};
-ghost use Rattle.moo_disclosure.specs.Disclosed.{clash_name};
+ghost use Rattle.moo_world.specs.Rows.{IsGood, world_of};
+ghost use Rattle.moo_disclosure.specs.Disclosed.{clash_name, name_shared, new_parent_given};
 
-use moo_calls_shared::Reason;
+use crate::meant::MOST_LOOKED_AT;
 use moo_calls_shared::rights::may_read_object;
-use moo_rows::{PropId, Rows};
-use moo_value::{MooStr, ObjNo};
+use moo_props::find;
+use moo_rows::{PropId, Rows, each_defined};
+use moo_value::{MooStr, ObjNo, Value};
+use moo_world::Reason;
 use std::alloc::{AllocError, Global};
 
-/// The name of a property, if this object defines it.
-fn name_on<R: Rows>(rows: &R, definer: ObjNo, property: PropId) -> Option<&MooStr>
-    ensures { option_map (λ name. name.now) result ≡ name_on (look_ups (R.held rows.now).maps) definer property.0 }
+/// The first name of a property that an object defines and the new parent has, as long as not too many names were looked at.
+fn name_shared<R: Rows>(rows: &R, definer: ObjNo, new: ObjNo) -> Option<&MooStr>
+    requires { IsGood (R.held rows.now).maps }
+    ensures { option_map (λ name. name.now) result ≡ name_shared (world_of (R.held rows.now).maps) definer new }
 {
-    match rows.prop(property) {
-        Some(row) if row.definer == definer => Some(&row.name),
+    let mut room = MOST_LOOKED_AT;
+    for (_id, row) in each_defined(rows, definer, PropId(0)) {
+        if room == 0 {
+            return None;
+        }
+        if find(rows, new, &row.name).is_some() {
+            return Some(&row.name);
+        }
+        room -= 1;
+    }
+    None
+}
+
+/// The new parent that a call of `chparent` gives.
+fn new_parent_given(args: &[Value]) -> Option<ObjNo>
+    ensures { result ≡ new_parent_given args.now }
+{
+    match args {
+        [_, Value::Obj(new), ..] => Some(*new),
         _ => None,
     }
 }
@@ -28,17 +46,22 @@ pub(crate) fn clash_name<R: Rows>(
     alloc: Global,
     rows: &R,
     programmer: ObjNo,
+    args: &[Value],
     reason: Reason,
 ) -> Result<Option<MooStr>, AllocError>
-    ensures { IfOk result (λ name. name ≡ clash_name (R.held rows.now).maps programmer reason) }
+    requires { IsGood (R.held rows.now).maps }
+    ensures { IfOk result (λ name. name ≡ clash_name (world_of (R.held rows.now).maps) programmer args.now reason) }
 {
-    let Reason::NameShared { definer, property } = reason else {
+    let Reason::NameShared(definer) = reason else {
         return Ok(None);
     };
     if !may_read_object(rows, programmer, definer) {
         return Ok(None);
     }
-    match name_on(rows, definer, property) {
+    let Some(new) = new_parent_given(args) else {
+        return Ok(None);
+    };
+    match name_shared(rows, definer, new) {
         Some(name) => Ok(Some(name.copy(alloc)?)),
         None => Ok(None),
     }

@@ -1,15 +1,14 @@
 //! What a refusal tells besides its reason and what the call was given.
 
-ghost use Rattle.std.specs.Prelude.{◌≡◌, true, false, [], IfOk};
+ghost use Rattle.std.specs.Prelude.{◌≡◌, true, false, [], None, IfOk};
 ghost use Rattle.moo_world.specs.Rows.{IsGood, world_of};
 ghost use Rattle.moo_disclosure.specs.Disclosed.{clash_name, names_meant};
 
 use crate::clash::clash_name;
 use crate::meant::names_meant;
-use moo_calls_shared::Reason;
 use moo_rows::Rows;
 use moo_value::{MooStr, ObjNo, Value};
-use moo_world::CallName;
+use moo_world::{CallName, Reason};
 use std::alloc::{AllocError, Global};
 
 /// What a refusal tells besides its reason and what the call was given: names that its programmer may list.
@@ -22,7 +21,7 @@ pub struct Disclosure {
 }
 
 /// What the refusal of a call tells in the world of these rows. Of a call that a granted petition holds these may be half changed, and no
-/// name that it may have meant is told. An `Err` is a lack of memory.
+/// name is told. An `Err` is a lack of memory.
 pub fn disclosure_of<R: Rows>(
     alloc: Global,
     rows: &R,
@@ -35,14 +34,17 @@ pub fn disclosure_of<R: Rows>(
     requires { is_held ≡ false → IsGood (R.held rows.now).maps }
     ensures meant { IfOk result (λ told. is_held ≡ false →
         told.meant.items ≡ names_meant (world_of (R.held rows.now).maps) programmer call args.now reason) }
-    ensures held { IfOk result (λ told. is_held ≡ true → told.meant.items ≡ []) }
-    ensures clash { IfOk result (λ told. told.clash ≡ clash_name (R.held rows.now).maps programmer reason) }
+    ensures clash { IfOk result (λ told. is_held ≡ false →
+        told.clash ≡ clash_name (world_of (R.held rows.now).maps) programmer args.now reason) }
+    ensures held { IfOk result (λ told. is_held ≡ true → (told.meant.items ≡ []) × (told.clash ≡ None)) }
 {
-    let clash = clash_name(alloc, rows, programmer, reason)?;
-    let meant = if is_held {
-        Vec::new(alloc)
-    } else {
-        names_meant(alloc, rows, programmer, call, args, reason)?
-    };
+    if is_held {
+        return Ok(Disclosure {
+            meant: Vec::new(alloc),
+            clash: None,
+        });
+    }
+    let clash = clash_name(alloc, rows, programmer, args, reason)?;
+    let meant = names_meant(alloc, rows, programmer, call, args, reason)?;
     Ok(Disclosure { meant, clash })
 }

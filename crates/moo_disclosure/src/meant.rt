@@ -6,17 +6,16 @@ ghost use Rattle.moo_world.specs.Rows.{IsGood, world_of};
 ghost use Rattle.moo_world.specs.World.{chain, property_names_of};
 ghost use Rattle.moo_disclosure.specs.Disclosed.{lacks_property, names_listed, names_meant, objects_searched, property_given};
 
-use moo_calls_shared::Reason;
 use moo_calls_shared::rights::may_read_object;
 use moo_props::find;
 use moo_rows::{PropId, Rows, each_defined};
 use moo_tree::chain;
 use moo_value::{MooStr, ObjNo, Value};
-use moo_world::CallName;
+use moo_world::{CallName, Reason};
 use std::alloc::{AllocError, Global};
 
 /// So many names are looked at, from the object up its ancestors: a refusal is told in the same time however many properties there are.
-const MOST_LOOKED_AT: usize = 200;
+pub(crate) const MOST_LOOKED_AT: usize = 200;
 
 /// Adds the names of the properties that an object defines, as long as there is room for them. An `Err` is a lack of memory.
 fn add_names<R: Rows>(

@@ -1,8 +1,8 @@
 -- The walk down from an object meets what is under it, and nothing else.
-use Rattle.moo_props.{proofs.Words.{◌||◌, ◌≡◌, ℕ, zero, suc, ◌+◌, ◌≤◌, Bool, true, false, cond, None, Some, List, [], ◌∷◌, ◌++◌, map, length, drop, refl, sym, ap, ◌∙◌, subst, inl, inr, arith, append_assoc, append-nil, is_some, list_any, get, true≢false, or_left, or_right, or_cases, ObjNo, ObjRow, ChildOf, IsFirst, is_linked, Maps, object_cmp, nothing, same_object, is_among, same_object-Decides, same_object-eq, subtree_of, look_ups, world_of, World, IsTree, Chain, is_object, parent_of, chain, numbers_to, Chain-chain, no_parent, is_among-append, decided_alike, chain_of_row, is_object_seen, after_below, walk_after, from_here, false_from_ne_true, some_of}, proofs.Cases.{passing}, proofs.Gains.{object_of_chain}, specs.Descent.{children_past, below, levels_below, descendants, branches, after_branch}}
+use Rattle.moo_props.{proofs.Words.{◌||◌, ◌≡◌, ℕ, zero, suc, ◌+◌, ◌≤◌, Bool, true, false, cond, None, Some, List, [], ◌∷◌, ◌++◌, map, length, drop, refl, sym, ap, ◌∙◌, subst, inl, inr, arith, append_assoc, append-nil, is_some, list_any, get, true≢false, or_left, or_right, or_cases, ObjNo, ObjRow, ChildOf, IsFirst, is_linked, Maps, object_cmp, nothing, same_object, is_among, same_object-Decides, same_object-eq, subtree_of, look_ups, world_of, World, IsTree, Chain, is_object, parent_of, chain, numbers_to, Chain-chain, no_parent, is_among-append, decided_alike, chain_of_row, is_object_seen, after_below, walk_after, from_here, false_from_ne_true, some_of, if◌then◌else◌, walk_down}, proofs.Cases.{passing}, proofs.Gains.{object_of_chain}, specs.Descent.{children_past, descendants, branches, after_branch}}
 use Rattle.std.specs.List.{flat_map}
 use Rattle.moo_rows.{specs.Links.{has_link, ties_of}, proofs.Linking.{linked-end, linked-step}}
-use Rattle.moo_world.{specs.ObjectLists.{objects_of}, proofs.Ancestry.Ancestors.{same_object-self}, proofs.Ancestry.Chains.{Climbs-bound, Climbs-once}, proofs.Ancestry.Subtrees.{among_filter, object_listed}, proofs.Ancestry.Trees.{parents_below}, proofs.Ancestry.Upward.{filter_passes}}
+use Rattle.moo_world.{specs.ObjectLists.{children_of, objects_of, below, levels_below}, proofs.Ancestry.Ancestors.{same_object-self}, proofs.Ancestry.Chains.{Climbs-bound, Climbs-once}, proofs.Ancestry.Subtrees.{among_filter, object_listed}, proofs.Ancestry.Trees.{parents_below}, proofs.Ancestry.Upward.{filter_passes}}
 use Rattle.moo_tree.{proofs.Listing.{children_listed}, proofs.Searching.{child_listed, listed_child, is_there}}
 
 -- ---- lists
@@ -66,60 +66,60 @@ module _ (t : Maps) (tree : IsTree (world_of t)) where
   deep : (z : ObjNo) → is_object w z ≡ true → depth z ≤ numbers_to w.top
   deep z o = Climbs-bound (parent_of w) (numbers_to w.top) (no_parent w tree) (parents_below w tree) (chain w z) z (Chain-chain w tree z o)
 
-  -- a child, by the list of the children
-  child_of : (y c : ObjNo) → is_among c (children_past t y nothing) ≡ true → (r : ObjRow) × (get t.objects c ≡ Some r) × (r.parent ≡ y)
-  child_of y c h = listed_child t tree c y (ap (is_among c) (sym (children_listed t tree y)) ∙ h)
+  deeper : (y c : ObjNo) → is_among c (children_of w y) ≡ true → depth c ≡ suc (depth y)
+  deeper y c h = let k = listed_child t tree c y h in ap length (chain_up c y k.0 k.1 k.2)
 
-  deeper : (y c : ObjNo) → is_among c (children_past t y nothing) ≡ true → depth c ≡ suc (depth y)
-  deeper y c h = let k = child_of y c h in ap length (chain_up c y k.0 k.1 k.2)
-
-  levels : (y c : ObjNo) → is_among c (children_past t y nothing) ≡ true → levels_below t y ≡ suc (levels_below t c)
-  levels y c h = let k = child_of y c h in omega (arith, deeper y c h, deep c (there c k.0 k.1))
+  levels : (y c : ObjNo) → is_among c (children_of w y) ≡ true → levels_below w y ≡ suc (levels_below w c)
+  levels y c h = let k = listed_child t tree c y h in omega (arith, deeper y c h, deep c (there c k.0 k.1))
 
   -- what is below y is its children, each with what is below it
-  descend : (y : ObjNo) → descendants t y ≡ branches t (children_past t y nothing)
-  descend y = by (levels_below t y) refl
+  descend : (y : ObjNo) → descendants w y ≡ branches w (children_of w y)
+  descend y = by (levels_below w y) refl
     where
-      none : (l : List ObjNo) → ((c : ObjNo) → is_among c l ≡ true → ⊥) → [] ≡ branches t l
+      none : (l : List ObjNo) → ((c : ObjNo) → is_among c l ≡ true → ⊥) → [] ≡ branches w l
       none [] h = refl
       none (c ∷ l) h = absurd (h c (first_among c l))
 
-      alike : (n : ℕ) (l : List ObjNo) → ((c : ObjNo) → is_among c l ≡ true → levels_below t c ≡ n) → flat_map (λ c. c ∷ below n t c) l ≡ branches t l
+      alike : (n : ℕ) (l : List ObjNo) → ((c : ObjNo) → is_among c l ≡ true → levels_below w c ≡ n) → flat_map (λ c. c ∷ below n w c) l ≡ branches w l
       alike n [] h = refl
       alike n (c ∷ l) h =
           let rest = alike n l (λ d k. h d (or_right (same_object d c) (is_among d l) k)) in
           let same = sym (h c (first_among c l)) in
-          λ i. (c ∷ below (same i) t c) ++ rest i
+          λ i. (c ∷ below (same i) w c) ++ rest i
 
-      by : (n : ℕ) → levels_below t y ≡ n → below n t y ≡ branches t (children_past t y nothing)
-      by zero e = none (children_past t y nothing) (λ c h. absurd (omega (arith, e, levels y c h)))
-      by (suc n) e = alike n (children_past t y nothing) (λ c h. omega (arith, e, levels y c h))
+      by : (n : ℕ) → levels_below w y ≡ n → below n w y ≡ branches w (children_of w y)
+      by zero e = none (children_of w y) (λ c h. absurd (omega (arith, e, levels y c h)))
+      by (suc n) e = alike n (children_of w y) (λ c h. omega (arith, e, levels y c h))
+
+  -- and its children are those that are past nothing
+  all_below : (y : ObjNo) → branches w (children_past t y nothing) ≡ descendants w y
+  all_below y = ap (branches w) (children_listed t tree y) ∙ sym (descend y)
 
   -- ---- what is met
 
   module _ (x : ObjNo) where
-    met_under : (n : ℕ) (y z : ObjNo) → is_among x (chain w y) ≡ true → is_among z (below n t y) ≡ true → is_among x (chain w z) ≡ true
+    met_under : (n : ℕ) (y z : ObjNo) → is_among x (chain w y) ≡ true → is_among z (below n w y) ≡ true → is_among x (chain w z) ≡ true
     met_under zero y z u h = absurd (true≢false (sym h))
     met_under (suc n) y z u h =
-        let b = in_branch (below n t) z (children_past t y nothing) h in
-        let k = child_of y b.0 b.1 in
+        let b = in_branch (below n w) z (children_of w y) h in
+        let k = listed_child t tree b.0 y b.1 in
         let here : is_among x (chain w b.0) ≡ true = ap (is_among x) (chain_up b.0 y k.0 k.1 k.2) ∙ or_right (same_object x b.0) (is_among x (chain w y)) u in
-        elim (or_cases (same_object z b.0) (is_among z (below n t b.0)) b.2) [
+        elim (or_cases (same_object z b.0) (is_among z (below n w b.0)) b.2) [
           | inl e ↦ ap (λ q. is_among x (chain w q)) ((same_object-Decides z b.0).0 e) ∙ here
           | inr g ↦ met_under n b.0 z here g
         ]
 
     -- a child of what is met is met, if there are levels left
-    closed : (n : ℕ) (y p z : ObjNo) (r : ObjRow) → get t.objects z ≡ Some r → r.parent ≡ p → is_among p (y ∷ below n t y) ≡ true → depth z ≤ n + depth y → is_among z (below n t y) ≡ true
+    closed : (n : ℕ) (y p z : ObjNo) (r : ObjRow) → get t.objects z ≡ Some r → r.parent ≡ p → is_among p (y ∷ below n w y) ≡ true → depth z ≤ n + depth y → is_among z (below n w y) ≡ true
     closed zero y p z r e q h d = elim (or_cases (same_object p y) false h) [
       | inl k ↦ absurd (omega (arith, d, ap length (chain_up z p r e q), ap depth ((same_object-Decides p y).0 k)))
       | inr k ↦ absurd (true≢false (sym k))
     ]
-    closed (suc n) y p z r e q h d = elim (or_cases (same_object p y) (is_among p (below (suc n) t y)) h) [
-      | inl k ↦ branch_in (below n t) z (children_past t y nothing) z (ap (is_among z) (children_listed t tree y) ∙ child_listed t tree z y r e (q ∙ (same_object-Decides p y).0 k)) (first_among z (below n t z))
+    closed (suc n) y p z r e q h d = elim (or_cases (same_object p y) (is_among p (below (suc n) w y)) h) [
+      | inl k ↦ branch_in (below n w) z (children_of w y) z (child_listed t tree z y r e (q ∙ (same_object-Decides p y).0 k)) (first_among z (below n w z))
       | inr k ↦
-          let b = in_branch (below n t) p (children_past t y nothing) k in
-          branch_in (below n t) z (children_past t y nothing) b.0 b.1 (or_right (same_object z b.0) (is_among z (below n t b.0)) (closed n b.0 p z r e q b.2 (omega (arith, d, deeper y b.0 b.1))))
+          let b = in_branch (below n w) p (children_of w y) k in
+          branch_in (below n w) z (children_of w y) b.0 b.1 (or_right (same_object z b.0) (is_among z (below n w b.0)) (closed n b.0 p z r e q b.2 (omega (arith, d, deeper y b.0 b.1))))
     ]
 
     -- what holds of x, and of each child of what it holds of, holds of all under x
@@ -135,9 +135,9 @@ module _ (t : Maps) (tree : IsTree (world_of t)) where
         ]
 
     -- all under x is met from x on
-    met : is_object w x ≡ true → (z : ObjNo) → is_among x (chain w z) ≡ true → is_among z (x ∷ descendants t x) ≡ true
-    met o z h = along (λ y. is_among y (x ∷ descendants t x) ≡ true) (λ _. first_among x (descendants t x))
-        (λ y p r e q k. or_right (same_object y x) (is_among y (descendants t x)) (closed (levels_below t x) x p y r e q k (omega (arith, deep y (there y r e)))))
+    met : is_object w x ≡ true → (z : ObjNo) → is_among x (chain w z) ≡ true → is_among z (x ∷ descendants w x) ≡ true
+    met o z h = along (λ y. is_among y (x ∷ descendants w x) ≡ true) (λ _. first_among x (descendants w x))
+        (λ y p r e q k. or_right (same_object y x) (is_among y (descendants w x)) (closed (levels_below w x) x p y r e q k (omega (arith, deep y (there y r e)))))
         (chain w z) z refl h
 
     pub own_among : is_object w x ≡ true → is_among x (chain w x) ≡ true
@@ -146,25 +146,33 @@ module _ (t : Maps) (tree : IsTree (world_of t)) where
         ap (is_among x) (chain_up x r.0.parent r.0 r.1 refl) ∙ first_among x (chain w r.0.parent)
 
     -- what is met from x on is x's subtree
-    pub any_met : (test : ObjNo → Bool) → is_object w x ≡ true → list_any test (x ∷ descendants t x) ≡ list_any test (subtree_of w x)
-    any_met test o = any_alike test (x ∷ descendants t x) (subtree_of w x)
+    any_met : (test : ObjNo → Bool) → is_object w x ≡ true → list_any test (x ∷ descendants w x) ≡ list_any test (subtree_of w x)
+    any_met test o = any_alike test (x ∷ descendants w x) (subtree_of w x)
         (λ z h. listed z (under z h))
         (λ z h. met o z (filter_passes (λ y. is_among x (chain w y)) (objects_of w) z h))
       where
-        under : (z : ObjNo) → is_among z (x ∷ descendants t x) ≡ true → is_among x (chain w z) ≡ true
-        under z h = elim (or_cases (same_object z x) (is_among z (descendants t x)) h) [
+        under : (z : ObjNo) → is_among z (x ∷ descendants w x) ≡ true → is_among x (chain w z) ≡ true
+        under z h = elim (or_cases (same_object z x) (is_among z (descendants w x)) h) [
           | inl e ↦ ap (λ q. is_among x (chain w q)) ((same_object-Decides z x).0 e) ∙ own_among o
-          | inr g ↦ met_under (levels_below t x) x z (own_among o) g
+          | inr g ↦ met_under (levels_below w x) x z (own_among o) g
         ]
 
         listed : (z : ObjNo) → is_among x (chain w z) ≡ true → is_among z (subtree_of w x) ≡ true
         listed z h = among_filter (λ y. is_among x (chain w y)) (objects_of w) z (object_listed w tree z (is_there t tree x z h)) h
 
     -- and if it isn't an object nothing is
-    pub none_met : (test : ObjNo → Bool) → is_object w x ≡ false → list_any test (subtree_of w x) ≡ false
+    none_met : (test : ObjNo → Bool) → is_object w x ≡ false → list_any test (subtree_of w x) ≡ false
     none_met test lacking = any_alike test (subtree_of w x) []
         (λ z h. absurd (true≢false (sym (along (λ y. is_object w x ≡ true) (λ o. o) (λ y p r e q k. k) (chain w z) z refl (filter_passes (λ y. is_among x (chain w y)) (objects_of w) z h)) ∙ lacking)))
         (λ z h. absurd (true≢false (sym h)))
+
+    -- so the walk down meets x's subtree
+    pub any_walked : (test : ObjNo → Bool) → list_any test (walk_down w x) ≡ list_any test (subtree_of w x)
+    any_walked test = by (is_object w x) refl
+      where
+        by : (b : Bool) → is_object w x ≡ b → list_any test (if b then x ∷ descendants w x else []) ≡ list_any test (subtree_of w x)
+        by true o = any_met test o
+        by false o = sym (none_met test o)
 
     -- ---- what comes next
 
@@ -183,41 +191,43 @@ module _ (t : Maps) (tree : IsTree (world_of t)) where
     parent_under c y r e p other h = sym (ap (is_among x) (chain_up c y r e p) ∙ ap (λ b. b || is_among x (chain w y)) other) ∙ h
 
     -- after c and all below it come its later siblings, and what comes after their parent
-    beside : (c y : ObjNo) (r : ObjRow) → get t.objects c ≡ Some r → r.parent ≡ y → is_among x (chain w y) ≡ true → after_below t x c ≡ branches t (children_past t y c) ++ after_below t x y
+    beside : (c y : ObjNo) (r : ObjRow) → get t.objects c ≡ Some r → r.parent ≡ y → is_among x (chain w y) ≡ true → after_below t x c ≡ branches w (children_past t y c) ++ after_below t x y
     beside c y r e p h =
         let row = has_row x y h in
         let up : chain w y ≡ y ∷ drop 1 (chain w y) = let k = chain_up y row.0.parent row.0 row.1 refl in k ∙ ap (λ l. y ∷ drop 1 l) (sym k) in
         ap (after_branch t x c) (ap (drop 1) (chain_up c y r e p) ∙ up)
-        ∙ ap (λ b. cond b [] (branches t (children_past t y c) ++ after_below t x y)) (apart c y r e p h)
+        ∙ ap (λ b. cond b [] (branches w (children_past t y c) ++ after_below t x y)) (apart c y r e p h)
 
     pub at_top : after_below t x x ≡ []
     at_top = by (drop 1 (chain w x))
       where
         by : (l : List ObjNo) → after_branch t x x l ≡ []
         by [] = refl
-        by (p ∷ l) = ap (λ b. cond b [] (branches t (children_past t p x) ++ after_branch t x p l)) (same_object-self x)
+        by (p ∷ l) = ap (λ b. cond b [] (branches w (children_past t p x) ++ after_branch t x p l)) (same_object-self x)
 
     -- the walk from x on
-    pub top_any : (test : ObjNo → Bool) → is_object w x ≡ true → list_any test (from_here t x (Some x)) ≡ list_any test (subtree_of w x)
-    top_any test o = ap (λ l. list_any test (x ∷ (descendants t x ++ l))) at_top ∙ ap (λ l. list_any test (x ∷ l)) (append-nil (descendants t x)) ∙ any_met test o
+    pub top_walk : is_object w x ≡ true → from_here t x (Some x) ≡ walk_down w x
+    top_walk o =
+        ap (λ l. x ∷ (descendants w x ++ l)) at_top ∙ ap (λ l. x ∷ l) (append-nil (descendants w x))
+        ∙ sym (ap (λ b. if b then x ∷ descendants w x else []) o)
 
     -- no sibling is left
     pub upward : (c y : ObjNo) (r : ObjRow) → get t.objects c ≡ Some r → r.parent ≡ y → is_among x (chain w y) ≡ true → IsFirst object_cmp (is_linked t (ChildOf y)) c None → after_below t x y ≡ after_below t x c
-    upward c y r e p h first = sym (beside c y r e p h ∙ ap (λ l. branches t l ++ after_below t x y) (children_over y c first))
+    upward c y r e p h first = sym (beside c y r e p h ∙ ap (λ l. branches w l ++ after_below t x y) (children_over y c first))
 
     -- the next child of y, and what comes after it
-    pub onward : (y from c : ObjNo) → is_among x (chain w y) ≡ true → IsFirst object_cmp (is_linked t (ChildOf y)) from (Some c) → from_here t x (Some c) ≡ branches t (children_past t y from) ++ after_below t x y
+    pub onward : (y from c : ObjNo) → is_among x (chain w y) ≡ true → IsFirst object_cmp (is_linked t (ChildOf y)) from (Some c) → from_here t x (Some c) ≡ branches w (children_past t y from) ++ after_below t x y
     onward y from c h first =
         let k = linked_child y from c first in
-        ap (λ l. c ∷ (descendants t c ++ l)) (beside c y k.0 k.1 k.2 h)
-        ∙ sym (append_assoc (c ∷ descendants t c) (branches t (children_past t y c)) (after_below t x y))
-        ∙ ap (λ l. branches t l ++ after_below t x y) (sym (ap (map (λ e. e.0)) (linked-step t (ChildOf y) from c k.0 first k.1)))
+        ap (λ l. c ∷ (descendants w c ++ l)) (beside c y k.0 k.1 k.2 h)
+        ∙ sym (append_assoc (c ∷ descendants w c) (branches w (children_past t y c)) (after_below t x y))
+        ∙ ap (λ l. branches w l ++ after_below t x y) (sym (ap (map (λ e. e.0)) (linked-step t (ChildOf y) from c k.0 first k.1)))
 
     pub sideward : (c y next : ObjNo) (r : ObjRow) → get t.objects c ≡ Some r → r.parent ≡ y → is_among x (chain w y) ≡ true → IsFirst object_cmp (is_linked t (ChildOf y)) c (Some next) → from_here t x (Some next) ≡ after_below t x c
     sideward c y next r e p h first = onward y c next h first ∙ sym (beside c y r e p h)
 
     pub downward : (y c : ObjNo) → is_among x (chain w y) ≡ true → IsFirst object_cmp (is_linked t (ChildOf y)) nothing (Some c) → from_here t x (Some c) ≡ walk_after t x y
-    downward y c h first = onward y nothing c h first ∙ ap (λ l. l ++ after_below t x y) (sym (descend y))
+    downward y c h first = onward y nothing c h first ∙ ap (λ l. l ++ after_below t x y) (all_below y)
 
     pub leaf : (y : ObjNo) → IsFirst object_cmp (is_linked t (ChildOf y)) nothing None → after_below t x y ≡ walk_after t x y
-    leaf y first = ap (λ l. l ++ after_below t x y) (sym (descend y ∙ ap (branches t) (children_over y nothing first)))
+    leaf y first = ap (λ l. l ++ after_below t x y) (sym (ap (branches w) (children_over y nothing first)) ∙ all_below y)

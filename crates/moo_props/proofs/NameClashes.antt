@@ -1,6 +1,24 @@
 -- Clashes of names, by what each object defines itself.
-use Rattle.moo_props.{proofs.Words.{◌||◌, ◌≡◌, Bool, true, Some, List, [], ◌∷◌, refl, sym, ap, ◌∙◌, is_some, int_eq, filter, list_any, AllByRecursion, get, entries, or_left, Decides-int_eq, prop_cmp, prop_exact, prop_total, is_past, is_object_seen, look_ups, IsGood, PropId, PropRow, is_among, Slot, is_object, ObjNo, defined_left, Maps, clashes, subtree_of, Name, Property, same_object, same_text, folded, defines_name, World, IsWellFormed, chain, property_names_of, defined_by, defined_by_any, property_named, slot_of, IsSound, world_of, prop_id, any-append, any_map, meets_on}, specs.Clashes.{IsTaken}, proofs.Shared.{has_owed}, proofs.DefinedNames.{names_listed}, proofs.Owing.{definer_in, definer_defines}, proofs.Walked.{found_any, all_filter, all_held, all_pass}, proofs.WholeWalks.{props_all}}
-use Rattle.moo_world.{specs.ObjectLists.{shares_property_name}, proofs.Shown.EntriesInOrder.{all_weaker}}
+use Rattle.moo_props.{proofs.Words.{◌||◌, ◌≡◌, Bool, true, false, None, Option, Some, List, [], ◌∷◌, ◌++◌, map, refl, sym, ap, ◌∙◌, is_some, unwrap_or, if◌then◌else◌, option_map, option_or, int_eq, filter, find, list_any, entries, is_object, IsGood, PropId, PropRow, Slot, ObjNo, defined_left, Maps, clashes, subtree_of, Name, Property, nothing, same_object, same_text, folded, defines_name, first_to_define, first_to_meet, walk_down, World, IsWellFormed, chain, Chain-chain, chain_of_none, no_slot, property_names_of, defined_by, defined_by_any, definer_of_name, definer_of_slot, property_named, slot_of, shares_property_name, IsSound, world_of, prop_id, any-append, any_map, meets_on}, proofs.Shared.{has_owed}, proofs.DefinedNames.{names_listed}, proofs.Descending.{any_walked}, proofs.Walked.{found_any}, proofs.WholeWalks.{props_all}}
+use Rattle.std.proofs.lemmas.List.Folds.{find-append}
+
+-- ---- the first that passes
+
+-- what is found, by whether any is
+first_if_any : {A : Type 0} (found : Option A) (any : Bool) (other : A) → is_some found ≡ any → found ≡ (if any then Some (unwrap_or found other) else None)
+first_if_any None any other e = ap (λ b. if b then Some other else None) e
+first_if_any (Some v) any other e = ap (λ b. if b then Some v else None) e
+
+map_or : {A B : Type 0} (f : A → B) (a b : Option A) → option_map f (option_or a b) ≡ option_or (option_map f a) (option_map f b)
+map_or f None b = refl
+map_or f (Some v) b = refl
+
+first_or : {A : Type 0} (test : A → Bool) (a : A) (l : List A) → option_or (if test a then Some a else None) (find test l) ≡ find test (a ∷ l)
+first_or {A = A} test a l = by (test a) (find test l)
+  where
+    by : (b : Bool) (rest : Option A) → option_or (if b then Some a else None) rest ≡ (if b then Some a else rest)
+    by true rest = refl
+    by false rest = refl
 
 -- ---- what the objects of a list define
 
@@ -9,6 +27,26 @@ module _ (w : World) where
   pub any_owed_by : (test : Property → Bool) (l : List ObjNo) → list_any test (defined_by_any w l) ≡ list_any (λ y. list_any (λ n. test (y, n)) (property_names_of w y)) l
   any_owed_by test [] = refl
   any_owed_by test (y ∷ l) = any-append test (defined_by w y) (defined_by_any w l) ∙ (λ i. any_map test (λ n. (y, n)) (property_names_of w y) i || any_owed_by test l i)
+
+  -- y defines the name
+  own_definer : (y : ObjNo) (n : Name) (names : List Name) → option_map (λ (p : Property). p.0) (find (λ p. same_text (folded p.1) n) (map (λ m. (y, m)) names)) ≡ (if list_any (λ m. same_text (folded m) n) names then Some y else None)
+  own_definer y n [] = refl
+  own_definer y n (m ∷ names) = by (same_text (folded m) n) (own_definer y n names)
+    where
+      by : (b : Bool) → option_map (λ (p : Property). p.0) (find (λ p. same_text (folded p.1) n) (map (λ m. (y, m)) names)) ≡ (if list_any (λ m. same_text (folded m) n) names then Some y else None)
+          → option_map (λ (p : Property). p.0) (if b then Some (y, m) else find (λ p. same_text (folded p.1) n) (map (λ m. (y, m)) names)) ≡ (if b || list_any (λ m. same_text (folded m) n) names then Some y else None)
+      by true e = refl
+      by false e = e
+
+  -- the first of them that defines the name
+  first_defines : (l : List ObjNo) (n : Name) → find (λ y. defines_name w y n) l ≡ definer_of_name (defined_by_any w l) (folded n)
+  first_defines [] n = refl
+  first_defines (y ∷ l) n =
+      let named : Property → Bool = λ p. same_text (folded p.1) (folded n) in
+      sym (first_or (λ y. defines_name w y n) y l)
+      ∙ (λ i. option_or (sym (own_definer y (folded n) (property_names_of w y)) i) (first_defines l n i))
+      ∙ sym (map_or (λ (p : Property). p.0) (find named (defined_by w y)) (find named (defined_by_any w l)))
+      ∙ sym (ap (option_map (λ (p : Property). p.0)) (find-append named (defined_by w y) (defined_by_any w l)))
 
   -- one of them defines the name
   pub any_defines : (l : List ObjNo) (n : Name) → list_any (λ y. defines_name w y n) l ≡ is_some (property_named (defined_by_any w l) (folded n))
@@ -19,9 +57,13 @@ module _ (w : World) where
   any_meets x new = sym (any_owed_by (λ p. is_some (property_named (defined_by_any w (chain w new)) (folded p.1))) (subtree_of w x))
 
   module _ (wf : IsWellFormed w) where
-    -- x has the name by a slot, or one under x defines it
-    pub slot_or_under : (x : ObjNo) (n : Name) → (is_some (slot_of w x (folded n)) || is_some (property_named (defined_by_any w (subtree_of w x)) (folded n))) ≡ clashes w x n
-    slot_or_under x n = ap (λ b. b || is_some (property_named (defined_by_any w (subtree_of w x)) (folded n))) (has_owed w wf x (folded n))
+    -- the first above x that defines the name is the definer of x's slot
+    first_above : (x : ObjNo) (n : Name) → find (λ y. defines_name w y n) (chain w x) ≡ definer_of_slot w x (folded n)
+    first_above x n = by (is_object w x) refl
+      where
+        by : (b : Bool) → is_object w x ≡ b → find (λ y. defines_name w y n) (chain w x) ≡ definer_of_slot w x (folded n)
+        by true o = first_defines (chain w x) n ∙ sym (wf.slots x (chain w x) (folded n) o (Chain-chain w wf.tree x o))
+        by false o = ap (find (λ y. defines_name w y n)) (chain_of_none w x o) ∙ sym (ap (option_map (λ (s : Slot). s.definer)) (no_slot (w.object x) (folded n) o))
 
     -- y defines a name of a slot that new has
     pub meets_by_slots : (new y : ObjNo) → list_any (λ m. is_some (slot_of w new (folded m))) (property_names_of w y) ≡ meets_on w new y
@@ -38,16 +80,38 @@ module _ (t : Maps) (sound : IsSound t) where
       ∙ sym (any_map p (λ e. e.1.name) (filter (λ e. int_eq e.1.definer.0 y.0) (entries t.props)))
       ∙ ap (list_any p) (names_listed t sound y)
 
--- what a walk gives of what y defines is held, and y's
-pub defined_held : (t : Maps) (y : ObjNo) (from : PropId) → AllByRecursion (λ e. (get t.props e.0 ≡ Some e.1) × (e.1.definer ≡ y)) (defined_left y from t)
-defined_held t y from = all_weaker (λ e. (get t.props e.0 ≡ Some e.1) × (int_eq e.1.definer.0 y.0 ≡ true)) (λ e. (get t.props e.0 ≡ Some e.1) × (e.1.definer ≡ y)) (λ e h. (h.0, ap (λ n. record { 0 = n }) ((Decides-int_eq e.1.definer.0 y.0).0 h.1))) (defined_left y from t)
-    (all_pass (λ e. get t.props e.0 ≡ Some e.1) (λ e. int_eq e.1.definer.0 y.0) _ (all_filter (λ e. get t.props e.0 ≡ Some e.1) (λ e. is_past prop_cmp (Some from) e.0) (entries t.props) (all_held prop_total prop_exact t.props)))
+-- ---- who clashes
 
--- ---- who takes a name
+module _ (t : Maps) (good : IsGood t) (x : ObjNo) where
+  abbrev w : World
+  w = world_of t
 
--- the definer of x's slot of the name
-pub taken_above : (t : Maps) → IsGood t → (x : ObjNo) (n : Name) (id : PropId) (s : Slot) → is_some (get t.slots (x, id)) ≡ true → slot_of (world_of t) x (folded n) ≡ Some s → IsTaken (world_of t) x n s.definer
-taken_above t good x n id s held e =
-    let w = world_of t in
-    let here : is_object w x ≡ true = is_object_seen (look_ups t) x ∙ (good.sound.slots x id.0 held).0 in
-    (definer_defines w good.formed x here (folded n) s e, or_left (is_among s.definer (chain w x)) (is_among x (chain w s.definer)) (definer_in w good.formed x here (folded n) s e))
+  -- the first that defines a name which the new parent has
+  pub first_meeting : (new : ObjNo) → find (meets_on w new) (walk_down w x) ≡ (if shares_property_name w x new then Some (first_to_meet w x new) else None)
+  first_meeting new =
+      first_if_any (find (meets_on w new) (walk_down w x)) (shares_property_name w x new) nothing
+      (found_any (meets_on w new) (walk_down w x) ∙ any_walked t good.formed.tree x (meets_on w new) ∙ any_meets w x new)
+
+  module _ (n : Name) where
+    abbrev defines_it : ObjNo → Bool
+    defines_it y = defines_name w y n
+
+    -- the first that defines the name
+    first_definer : find defines_it (chain w x ++ walk_down w x) ≡ (if clashes w x n then Some (first_to_define w x n) else None)
+    first_definer =
+        first_if_any (find defines_it (chain w x ++ walk_down w x)) (clashes w x n) nothing
+        (found_any defines_it (chain w x ++ walk_down w x)
+        ∙ any-append defines_it (chain w x) (walk_down w x)
+        ∙ (λ i. any_defines w (chain w x) n i || (any_walked t good.formed.tree x defines_it ∙ any_defines w (subtree_of w x) n) i))
+
+    by_slot : option_or (definer_of_slot w x (folded n)) (find defines_it (walk_down w x)) ≡ (if clashes w x n then Some (first_to_define w x n) else None)
+    by_slot =
+        sym (ap (λ o. option_or o (find defines_it (walk_down w x))) (first_above w good.formed x n))
+        ∙ sym (find-append defines_it (chain w x) (walk_down w x)) ∙ first_definer
+
+    -- it is the definer of x's slot, and if x has none it is the first in the walk down
+    pub definer_above : (s : Slot) → Some s ≡ slot_of w x (folded n) → Some s.definer ≡ (if clashes w x n then Some (first_to_define w x n) else None)
+    definer_above s e = ap (λ o. option_or (option_map (λ (s : Slot). s.definer) o) (find defines_it (walk_down w x))) e ∙ by_slot
+
+    pub definer_under : (found : Option ObjNo) → None ≡ slot_of w x (folded n) → found ≡ find defines_it (walk_down w x) → found ≡ (if clashes w x n then Some (first_to_define w x n) else None)
+    definer_under found e under = under ∙ ap (λ o. option_or (option_map (λ (s : Slot). s.definer) o) (find defines_it (walk_down w x))) e ∙ by_slot

@@ -1,7 +1,6 @@
 -- What is owed along a list of definers, by the rows of properties.
-use Rattle.moo_props.{proofs.Words.{arith, ◌||◌, ◌≡◌, ℕ, Bool, true, false, Option, None, Some, List, [], ◌∷◌, refl, sym, ap, ◌∙◌, inl, inr, ◌&&◌, is_some, unwrap_or, if◌then◌else◌, option_map, option_and_then, filter_map, list_any, cons_option, AllByRecursion, get, entries, get-entries, false≢true, and_parts, or_cases, or_right, none-some, same_Some, ObjNo, ObjRow, PropId, PropRow, Maps, prop_cmp, prop_exact, prop_total, Name, Property, same_object, same_text, same_property, folded, is_among, same_object-Decides, same_text-Decides, World, WorldObject, Slot, IsWellFormed, is_object, chain, property_names_of, defined_by, defined_by_any, property_named, slot_of, LookUps, IsSound, look_ups, world_of, numbers_below, name_on, prop_id, decided_alike, any-append, no_slot, names_shown, is_object_seen, owed_listed, Chain-chain, chain_of_none, any_map, IsGood, SlotRow, name_of, slot_seen, defines, definer_among, named_owed, cond_some, some_of}, proofs.Cases.{none_of, passing, some_map}, proofs.Gains.{defines_pair}, proofs.Walked.{all_held, any_held, slot_here}}
+use Rattle.moo_props.{proofs.Words.{arith, ◌||◌, ◌≡◌, ℕ, Bool, true, false, Option, None, Some, List, [], ◌∷◌, refl, sym, ap, ◌∙◌, inl, inr, ◌&&◌, is_some, unwrap_or, if◌then◌else◌, option_map, option_and_then, filter_map, list_any, cons_option, AllByRecursion, get, entries, get-entries, false≢true, and_parts, or_cases, or_right, none-some, same_Some, ObjNo, ObjRow, PropId, PropRow, Maps, prop_cmp, prop_exact, prop_total, Name, Property, same_object, same_property, is_among, same_object-Decides, World, WorldObject, Slot, IsWellFormed, is_object, chain, property_names_of, defined_by, defined_by_any, property_named, slot_of, LookUps, IsSound, look_ups, world_of, numbers_below, name_on, prop_id, decided_alike, any-append, no_slot, names_shown, is_object_seen, owed_listed, Chain-chain, chain_of_none, any_map, IsGood, SlotRow, name_of, slot_seen, defines, definer_among, named_owed, cond_some, some_of}, proofs.Cases.{none_of, passing, some_map}, proofs.Gains.{defines_pair}, proofs.Walked.{all_held, any_held, slot_here}}
 use Rattle.moo_world.proofs.Inheritance.Keeping.{same_property-is}
-use Rattle.moo_world.proofs.Inheritance.Owed.{named_so}
 
 -- ---- lists
 
@@ -86,25 +85,14 @@ has_owed w wf x n = by (is_object w x) refl
         ∙ some_map (λ (p : Property). p.0) (property_named (defined_by_any w (chain w x)) n)
     by false o = ap is_some (no_slot (w.object x) n o) ∙ sym (ap (λ l. is_some (property_named (defined_by_any w l) n)) (chain_of_none w x o))
 
--- who defines a slot is in the chain, and defines a property of its name
-slot_owed : (w : World) → IsWellFormed w → (z : ObjNo) → is_object w z ≡ true → (n : Name) (s : Slot) → slot_of w z n ≡ Some s
-    → (p : Property) × (s.definer ≡ p.0) × (is_among p.0 (chain w z) ≡ true) × (list_any (same_property p) (defined_by w p.0) ≡ true) × (folded p.1 ≡ n)
-slot_owed w wf z zo n s e =
+-- who defines a slot is in the chain
+pub definer_in : (w : World) → IsWellFormed w → (z : ObjNo) → is_object w z ≡ true → (n : Name) (s : Slot) → slot_of w z n ≡ Some s → is_among s.definer (chain w z) ≡ true
+definer_in w wf z zo n s e =
     let owed = property_named (defined_by_any w (chain w z)) n in
     let definer : Some s.definer ≡ option_map (λ (p : Property). p.0) owed = sym (ap (option_map (λ (s : Slot). s.definer)) e) ∙ wf.slots z (chain w z) n zo (Chain-chain w wf.tree z zo) in
     let p = some_of owed (sym (some_map (λ (p : Property). p.0) owed) ∙ ap is_some (sym definer)) in
-    let own = definer_among w p.0 (chain w z) (named_owed w (chain w z) n p.0 p.1) in
-    (p.0, same_Some s.definer p.0.0 (definer ∙ ap (option_map (λ (p : Property). p.0)) p.1), own.0, own.1, named_so (defined_by_any w (chain w z)) n p.0 p.1)
-
-pub definer_in : (w : World) → IsWellFormed w → (z : ObjNo) → is_object w z ≡ true → (n : Name) (s : Slot) → slot_of w z n ≡ Some s → is_among s.definer (chain w z) ≡ true
-definer_in w wf z zo n s e = let p = slot_owed w wf z zo n s e in ap (λ d. is_among d (chain w z)) p.1 ∙ p.2
-
-pub definer_defines : (w : World) → IsWellFormed w → (z : ObjNo) → is_object w z ≡ true → (n : Name) (s : Slot) → slot_of w z n ≡ Some s → list_any (λ m. same_text (folded m) n) (property_names_of w s.definer) ≡ true
-definer_defines w wf z zo n s e =
-    let p = slot_owed w wf z zo n s e in
-    let test : Property → Bool = λ q. same_text (folded q.1) n in
-    ap (λ d. list_any (λ m. same_text (folded m) n) (property_names_of w d)) p.1
-    ∙ sym (any_map test (λ m. (p.0.0, m)) (property_names_of w p.0.0)) ∙ any_pair test (defined_by w p.0.0) p.0 p.3 ((same_text-Decides (folded p.0.1) n).1 p.4)
+    ap (λ d. is_among d (chain w z)) (same_Some s.definer p.0.0 (definer ∙ ap (option_map (λ (p : Property). p.0)) p.1))
+    ∙ (definer_among w p.0 (chain w z) (named_owed w (chain w z) n p.0 p.1)).0
 
 -- so an object with a slot of a property that x defines is under x
 pub own_under : (t : Maps) → IsGood t → (x z : ObjNo) (j : PropId) (k : SlotRow) → get t.slots (z, j) ≡ Some k → defines t x j ≡ true → is_among x (chain (world_of t) z) ≡ true

@@ -3,7 +3,7 @@ pub use Rattle.std.proofs.Common.{Bool, FitsSigned, IfSome, Less, List, None, Op
 pub use Rattle.std.specs.Bool.{Decides}
 pub use Rattle.std.specs.Cmp.{IsTotalOrder, nat_cmp_is, tied_itself, unsigned_tied}
 pub use Rattle.std.specs.FinMap.{FinMap, entries, entries_sorted, get, get-entries, get-insert, get-remove, insert, is_sorted, remove}
-pub use Rattle.std.specs.List.{AllByRecursion, cons_option, filter, filter_map, list_any}
+pub use Rattle.std.specs.List.{AllByRecursion, cons_option, filter, filter_map, find, list_any}
 pub use Rattle.std.specs.Option.{option_and_then, option_map, option_or}
 pub use Rattle.std.specs.Ordering.{eq_by_cmp, int_eq, is_lt, ordering_then}
 pub use Rattle.std.specs.Prelude.{if◌then◌else◌, int_lt, is_some, not, slice_get, unwrap_or, ◌&&◌, ◌+ℤ◌}
@@ -52,19 +52,18 @@ pub use Rattle.moo_world.specs.Keeps.{beside_world}
 pub use Rattle.moo_world.specs.Laws.{MayReparent}
 pub use Rattle.moo_world.specs.Manual.{ancestors, gained, unless_defined_by, lost}
 pub use Rattle.moo_world.specs.Numbers.{IsSameButSlots, verbs_stay}
-pub use Rattle.moo_world.specs.ObjectLists.{subtree_of}
+pub use Rattle.moo_world.specs.ObjectLists.{first_to_meet, meets_on, shares_property_name, subtree_of, walk_down}
 pub use Rattle.moo_world.specs.Objects.{Name, Property, is_among, nothing, same_object-Decides, same_object-eq, same_property, same_text, same_text-Decides}
 unfoldable pub use Rattle.moo_world.specs.Objects.{folded, same_object}
-pub use Rattle.moo_world.specs.PropertyCalls.{defines_name}
+pub use Rattle.moo_world.specs.PropertyCalls.{defines_name, first_to_define}
 pub use Rattle.moo_world.specs.Quota.{quota_in, quota_of}
 pub use Rattle.moo_world.specs.Recycling.{recycled}
 pub use Rattle.moo_world.specs.Rows.{AreSound, IsGood, IsSound, LookUps, look_ups, name_on, numbers_below, prop_id, object_shown, slot_on, slot_seen, verb_id, world_of}
 unfoldable pub use Rattle.moo_world.specs.Rows.{world_shown}
-pub use Rattle.moo_world.specs.World.{Chain, IsTree, IsWellFormed, NamesDiffer, WorldObject, Slot, World, defined_by, fresh, is_object, is_property_name, property_names_of, numbers_to, defined_by_any, owner_of, property_named, parent_of, read_along, read_in, read_of, reparented, slot_fits, slot_of, object_changed, with_slots, without_slots}
+pub use Rattle.moo_world.specs.World.{Chain, IsTree, IsWellFormed, NamesDiffer, WorldObject, Slot, World, defined_by, fresh, is_object, is_property_name, property_names_of, numbers_to, defined_by_any, definer_of_name, definer_of_slot, owner_of, property_named, parent_of, read_along, read_in, read_of, reparented, slot_fits, slot_of, object_changed, with_slots, without_slots}
 unfoldable pub use Rattle.moo_world.specs.World.{chain}
 pub use Rattle.moo_tree.specs.Under.{owners_under}
 pub use Rattle.moo_props.specs.Birth.{new_row, with_new_row}
-pub use Rattle.moo_props.specs.Clashes.{meets_on}
 pub use Rattle.moo_props.specs.Defining.{with_definition}
 pub use Rattle.moo_props.specs.Descent.{after_below, from_here, walk_after}
 pub use Rattle.moo_props.specs.Dropped.{dropped_keys, goes_with}

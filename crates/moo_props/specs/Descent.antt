@@ -1,47 +1,40 @@
 -- The walk down from an object, which takes no memory: each object comes before its children, and these in ascending order.
-use Rattle.std.specs.Prelude.{ℕ, zero, suc, ◌-◌, List, [], ◌∷◌, ◌++◌, map, length, drop, Option, None, Some, if◌then◌else◌}
+use Rattle.std.specs.Prelude.{List, [], ◌∷◌, ◌++◌, map, drop, Option, None, Some, if◌then◌else◌}
 use Rattle.std.specs.List.{flat_map}
 use Rattle.moo_value.specs.declared.value.ObjNo.{ObjNo}
 use Rattle.moo_rows.specs.declared.row.Link.TheVariants.{ChildOf}
 use Rattle.moo_rows.specs.Links.{linked_left}
 use Rattle.moo_rows.specs.Maps.{Maps}
-use Rattle.moo_world.specs.Objects.{nothing, same_object}
+use Rattle.moo_world.specs.ObjectLists.{below, levels_below}
+use Rattle.moo_world.specs.Objects.{same_object}
 use Rattle.moo_world.specs.Rows.{world_of}
-use Rattle.moo_world.specs.World.{chain, numbers_to}
+use Rattle.moo_world.specs.World.{World, chain}
 
 -- the children of an object past one of them
 abbrev pub children_past : Maps → ObjNo → ObjNo → List ObjNo
 children_past maps object from = map (λ pair. pair.0) (linked_left (ChildOf object) from maps)
 
--- what is below an object, so many levels deep
-abbrev pub below : ℕ → Maps → ObjNo → List ObjNo
-below zero maps object = []
-below (suc levels) maps object = flat_map (λ child. child ∷ below levels maps child) (children_past maps object nothing)
-
--- how many levels there may be below an object
-abbrev pub levels_below : Maps → ObjNo → ℕ
-levels_below maps object = numbers_to (world_of maps).top - length (chain (world_of maps) object)
-
 -- all that is below an object
-abbrev pub descendants : Maps → ObjNo → List ObjNo
-descendants maps object = below (levels_below maps object) maps object
+abbrev pub descendants : World → ObjNo → List ObjNo
+descendants world object = below (levels_below world object) world object
 
 -- objects, each with all that is below it
-abbrev pub branches : Maps → List ObjNo → List ObjNo
-branches maps objects = flat_map (λ object. object ∷ descendants maps object) objects
+abbrev pub branches : World → List ObjNo → List ObjNo
+branches world objects = flat_map (λ object. object ∷ descendants world object) objects
 
 -- what comes after an object and all that is below it, up to the end of the subtree of the top, by the ancestors of the object
 abbrev pub after_branch : Maps → ObjNo → ObjNo → List ObjNo → List ObjNo
 after_branch maps top object [] = []
 after_branch maps top object (parent ∷ ancestors) =
-    if same_object top object then [] else branches maps (children_past maps parent object) ++ after_branch maps top parent ancestors
+    if same_object top object then []
+    else branches (world_of maps) (children_past maps parent object) ++ after_branch maps top parent ancestors
 
 abbrev pub after_below : Maps → ObjNo → ObjNo → List ObjNo
 after_below maps top object = after_branch maps top object (drop 1 (chain (world_of maps) object))
 
 -- what comes after an object in the subtree of the top
 abbrev pub walk_after : Maps → ObjNo → ObjNo → List ObjNo
-walk_after maps top object = descendants maps object ++ after_below maps top object
+walk_after maps top object = descendants (world_of maps) object ++ after_below maps top object
 
 -- the walk from an object on, or its end
 abbrev pub from_here : Maps → ObjNo → Option ObjNo → List ObjNo

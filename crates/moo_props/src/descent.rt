@@ -1,9 +1,7 @@
 //! Going down a subtree without taking memory: each object before its children, and these in ascending order.
 
-ghost use Rattle.std.specs.Prelude.{◌≡◌, Bool, true, IfSome};
-ghost use Rattle.std.specs.List.{list_any};
-ghost use Rattle.moo_value.specs.declared.value.ObjNo.{ObjNo};
-ghost use Rattle.moo_world.specs.ObjectLists.{subtree_of};
+ghost use Rattle.std.specs.Prelude.{◌≡◌, true, IfSome};
+ghost use Rattle.moo_world.specs.ObjectLists.{walk_down};
 ghost use Rattle.moo_world.specs.Objects.{is_among};
 ghost use Rattle.moo_world.specs.Rows.{world_of};
 ghost use Rattle.moo_world.specs.World.{IsTree, chain};
@@ -52,8 +50,7 @@ pub(crate) fn next_under<R: Rows>(rows: &R, x: ObjNo, y: ObjNo) -> Option<ObjNo>
 /// Where the walk down from x begins: at x, if that is an object.
 pub(crate) fn subtree_top<R: Rows>(rows: &R, x: ObjNo) -> Option<ObjNo>
     requires tree { IsTree (world_of (R.held rows.now).maps) }
-    ensures top { (test : ObjNo → Bool) →
-        list_any test (from_here (R.held rows.now).maps x result) ≡ list_any test (subtree_of (world_of (R.held rows.now).maps) x) }
+    ensures top { from_here (R.held rows.now).maps x result ≡ walk_down (world_of (R.held rows.now).maps) x }
     ensures under { IfSome result (λ z. is_among x (chain (world_of (R.held rows.now).maps) z) ≡ true) }
 {
     if valid(rows, x) { Some(x) } else { None }

@@ -34,8 +34,9 @@ fn told_of<'a, B: Rows, R: Rows>(
     requires { refusal.held ≡ None → IsGood (R.held rows.now).maps }
     ensures meant { IfOk result (λ told. refusal.held ≡ None → told.names.meant.items
         ≡ names_meant (world_of (R.held rows.now).maps) programmer call.now.name call.now.args refusal.reason) }
-    ensures held { IfOk result (λ told. is_some refusal.held ≡ true → told.names.meant.items ≡ []) }
-    ensures clash { IfOk result (λ told. told.names.clash ≡ clash_name (R.held rows.now).maps programmer refusal.reason) }
+    ensures clash { IfOk result (λ told. refusal.held ≡ None → told.names.clash
+        ≡ clash_name (world_of (R.held rows.now).maps) programmer call.now.args refusal.reason) }
+    ensures held { IfOk result (λ told. is_some refusal.held ≡ true → (told.names.meant.items ≡ []) × (told.names.clash ≡ None)) }
 {
     let is_held = refusal.held.is_some();
     let names = disclosure_of(

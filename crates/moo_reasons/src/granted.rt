@@ -5,10 +5,9 @@ use crate::sentence::Told;
 use crate::shown::Said;
 use crate::telling::{put_some, tell};
 use moo_batch::held_call;
-use moo_calls_shared::Reason;
 use moo_disclosure::Disclosure;
 use moo_value::{Value, ValueList};
-use moo_world::{Batch, CallName};
+use moo_world::{Batch, CallName, Reason};
 use std::alloc::AllocError;
 
 /// The calls of the petition that calls of a batch make on rows whose next petition has this number, if it gets that one.

@@ -6,10 +6,9 @@ use crate::given::{
 };
 use crate::plain::{first_unasked, first_unfit};
 use crate::shown::Said;
-use moo_calls_shared::Reason;
 use moo_disclosure::Disclosure;
 use moo_value::{ObjNo, Value};
-use moo_world::{BuiltIn, CallName};
+use moo_world::{BuiltIn, CallName, Reason};
 use std::alloc::AllocError;
 
 /// What is said of a reason. In its words `@` stands for the programmer, `%` for the first value of the call, `&` for the second, and `$`
@@ -226,14 +225,10 @@ pub(crate) fn tell(
     disclosed: &Disclosure,
 ) -> Result<(), AllocError> {
     said.put(lead)?;
-    if let Reason::NameShared {
-        definer,
-        property: _,
-    } = reason
-    {
+    if let Reason::NameShared(definer) = reason {
         return put_shared(said, definer, given, disclosed);
     }
-    if let Reason::NameTaken { definer } = reason {
+    if let Reason::NameTaken(definer) = reason {
         return put_taken(said, definer, value_at(given, name_position(given.name)));
     }
     match sentence(given, reason) {

@@ -56,7 +56,8 @@ pub use Rattle.moo_world.specs.ObjectLists.{children_of, is_parent_of, shares_pr
 pub use Rattle.moo_world.specs.Objects.{Name, Property, is_among, nothing, object_at, same_object-Decides, same_object-eq, same_property-self, same_text-Decides, number_limit}
 unfoldable pub use Rattle.moo_world.specs.Objects.{folded, same_object, same_property, same_text}
 pub use Rattle.moo_world.specs.OneByOne.{ChildrenMoveAscending, ChildrenMoveOneByOne, MayMoveOneByOne, emptied, manually_moved, moved_one_by_one, taken_out}
-pub use Rattle.moo_world.specs.Outcomes.{Done, Failed, Full, Outcome, check, found_or, given, with_next}
+pub use Rattle.moo_world.specs.declared.reason.Reason.{Reason}
+pub use Rattle.moo_world.specs.Outcomes.{Done, Failed, Failure, Full, Outcome, check, fails, found_or, given, in_petition, of_itself, taken_for, with_next}
 pub use Rattle.moo_world.specs.Ownership.{CreateTakesOne, KeepsOwnership, NoWizardKeepsOwnership, PetitionsLeaveTheWorld, RecycleGivesOne, SameRights, name_after, name_by, name_changed, name_given}
 pub use Rattle.moo_world.specs.Petitions.{PetitionsStand, are_few, are_shallow, is_named, petition_fits}
 pub use Rattle.moo_world.specs.PropertyCalls.{add_property, by_field, change_of, clear_property, defines_name, delete_property, may_define, may_rename, may_set, owner_is_object, renamed_to, set, set_built_in, set_property_info}

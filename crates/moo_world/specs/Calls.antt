@@ -20,21 +20,23 @@
 --   `a ≡ b`, `a ≢ b`, `¬ P`, `P ⊎ Q`  a is b, a isn't b, not P, P or Q. `A × B` is both of two statements, and the pairs of two kinds.
 --   `P → Q`, `P ↔ Q`    if P then Q; if and only if. `(x : A) → P` says P of each x of A, `(x : A) × P` of some x of A. `{x : A}` is left to be
 --                       found. `Decides t P`: the test t is true if P holds, else false.
---   `do`                the lines are steps. `require c else E`: if c isn't true the call fails with E. `x ← found or_else E`: x is what was
---                       found, or the call fails with E if it is `None`. `x ← given r`: x is what r holds, or the call fails with its error.
+--   `do`                the lines are steps. `require c else R`: if c isn't true the call fails for the reason R, whose error is `error_of R`
+--                       (Reasons). `x ← found or_else R`: x is what was found, or the call fails for R if it is `None`. `x ← given r` and
+--                       `x ← taken_for r`: x is what r holds, or the call fails with its error or for its reason.
 --                       `x ← with_next n` and `require_room c`: if no number is left the outcome is `Full`. `Done a w` answers a and leaves w.
-use Rattle.std.specs.Prelude.{nat_le, not, ◌||◌, List, [], length, Option, None, Some, unwrap_or}
+use Rattle.std.specs.Prelude.{nat_le, not, ◌||◌, List, [], length, Option, None, Some, unwrap_or, if◌then◌else◌}
 use Rattle.std.specs.Option.{option_and_then}
 use Rattle.moo_value.specs.declared.value.ObjNo.{ObjNo}
 use Rattle.moo_value.specs.declared.value.Value.{Value}
 use Rattle.moo_value.specs.declared.value.Value.TheVariants.{Obj}
 use Rattle.moo_value.specs.Value.{is_true}
 use Rattle.moo_world.specs.declared.change.Change.TheVariants as to
+use Rattle.moo_world.specs.declared.reason.Reason.{Reason}
 use Rattle.moo_world.specs.Objects.{nothing, same_object, is_among}
 use Rattle.moo_world.specs.World.{World, is_object, row_of, row_passes, owner_of, parent_of, chain, reparented}
-use Rattle.moo_world.specs.Outcomes.{Outcome, Done, Failed, require◌else◌, ◌>>◌, given, with_next, ◌>>=◌}
+use Rattle.moo_world.specs.Outcomes.{Outcome, Done, fails, require◌else◌, ◌>>◌, given, with_next, ◌>>=◌}
 use Rattle.moo_world.specs.Answers.{zero, flag, object_list}
-use Rattle.moo_world.specs.ObjectLists.{children_of, players_of, shares_property_name}
+use Rattle.moo_world.specs.ObjectLists.{children_of, players_of, shares_property_name, first_to_meet}
 use Rattle.moo_world.specs.Rights.{is_wizard, controls, may_be_parent, may_make_owner, accepts, is_within}
 use Rattle.moo_world.specs.Quota.{may_afford, charged, quota_returned}
 use Rattle.moo_world.specs.Creation.{next_object, owner_or_self, created}
@@ -53,7 +55,8 @@ use Rattle.moo_world.specs.Arguments.{new_property_info, object_and_desc, new_ve
 use Rattle.moo_world.specs.PropertyCalls.{get, properties, property_info, is_clear_property, set}
 use Rattle.moo_world.specs.PropertyCalls.{add_property, delete_property, set_property_info, clear_property}
 use Rattle.moo_world.specs.VerbCalls.{verbs, verb_info, verb_args, add_verb, delete_verb, set_verb_info, set_verb_args}
-use Rattle.moo_world.specs.Codes.{E_PERM, E_INVARG, E_RECMOVE, E_NACC, E_QUOTA}
+use Rattle.moo_world.specs.declared.reason.Reason.TheVariants.{NoProgrammer, NoWizard, NoObject, NoPlace, NoParent, NotControlled}
+use Rattle.moo_world.specs.declared.reason.Reason.TheVariants.{NotFertile, NoOwner, ParentBelow, NameShared, NotAccepted, PlaceInside, NoQuota, LongList, Unasked}
 
 -- ---- the calls that only read
 
@@ -62,17 +65,17 @@ valid world object = Done (flag (is_object world object)) world
 
 abbrev pub parent : World → ObjNo → Outcome World
 parent world object = do
-  require is_object world object else E_INVARG
+  require is_object world object else NoObject object
   Done (Obj (unwrap_or (parent_of world object) nothing)) world
 
 abbrev pub children : World → ObjNo → Outcome World
 children world object = do
-  require is_object world object else E_INVARG
+  require is_object world object else NoObject object
   Done (object_list (children_of world object)) world
 
 abbrev pub is_player : World → ObjNo → Outcome World
 is_player world object = do
-  require is_object world object else E_INVARG
+  require is_object world object else NoObject object
   Done (flag (row_passes (λ row. row.player) world object)) world
 
 abbrev pub players : World → Outcome World
@@ -88,57 +91,61 @@ accept_value (Some objects) = object_list objects
 
 abbrev pub accept_list : World → ObjNo → Outcome World
 accept_list world object = do
-  require is_object world object else E_INVARG
+  require is_object world object else NoObject object
   Done (accept_value (option_and_then (λ row. row.accept) (row_of world object))) world
 
 -- ---- the calls that change something
 
+-- why the programmer may not use the parent
+abbrev pub unfit_parent : World → ObjNo → Reason
+unfit_parent world parent = if is_object world parent then NotFertile parent else NoParent parent
+
 abbrev pub create : World → ObjNo → ObjNo → ObjNo → Outcome World
 create world programmer parent owner = do
-  require may_be_parent world programmer parent else E_PERM
-  require may_make_owner world programmer owner else E_PERM
-  require is_object world owner || same_object nothing owner else E_INVARG
-  require may_afford world owner else E_QUOTA
+  require may_be_parent world programmer parent else unfit_parent world parent
+  require may_make_owner world programmer owner else NoOwner owner
+  require is_object world owner || same_object nothing owner else NoPlace owner
+  require may_afford world owner else NoQuota owner
   object ← with_next (next_object world)
   Done (Obj object) (charged (created world object parent (owner_or_self object owner)) owner)
 
 abbrev pub chparent : World → ObjNo → ObjNo → ObjNo → Outcome World
 chparent world programmer object new_parent = do
-  require is_object world object else E_INVARG
-  require is_object world new_parent || same_object nothing new_parent else E_INVARG
-  require controls world programmer object else E_PERM
-  require may_be_parent world programmer new_parent else E_PERM
-  require not (is_among object (chain world new_parent)) else E_RECMOVE
-  require not (shares_property_name world object new_parent) else E_INVARG
+  require is_object world object else NoObject object
+  require is_object world new_parent || same_object nothing new_parent else NoPlace new_parent
+  require controls world programmer object else NotControlled object
+  require may_be_parent world programmer new_parent else NotFertile new_parent
+  require not (is_among object (chain world new_parent)) else ParentBelow new_parent
+  require not (shares_property_name world object new_parent) else NameShared (first_to_meet world object new_parent)
   Done zero (reparented world object new_parent)
 
 -- The former owner's quota is read after the object is gone, so none is returned for an object that owned itself.
 abbrev pub recycle : World → ObjNo → ObjNo → Outcome World
 recycle world programmer object = do
-  require is_object world object else E_INVARG
-  require controls world programmer object else E_PERM
+  require is_object world object else NoObject object
+  require controls world programmer object else NotControlled object
   Done zero (quota_returned (recycled world object) (owner_of world object))
 
 abbrev pub move : World → ObjNo → ObjNo → ObjNo → Outcome World
 move world programmer object destination = do
-  require is_object world object else E_INVARG
-  require is_object world destination || same_object nothing destination else E_INVARG
-  require controls world programmer object else E_PERM
-  require is_wizard world programmer || accepts world destination object else E_NACC
-  require not (is_within world destination object) else E_RECMOVE
+  require is_object world object else NoObject object
+  require is_object world destination || same_object nothing destination else NoPlace destination
+  require controls world programmer object else NotControlled object
+  require is_wizard world programmer || accepts world destination object else NotAccepted destination
+  require not (is_within world destination object) else PlaceInside destination
   Done zero (field_changed world object (to.Location destination))
 
 abbrev pub set_player_flag : World → ObjNo → ObjNo → Value → Outcome World
 set_player_flag world programmer object value = do
-  require is_object world object else E_INVARG
-  require is_wizard world programmer else E_PERM
+  require is_object world object else NoObject object
+  require is_wizard world programmer else NoWizard
   Done zero (field_changed world object (to.Player (is_true value)))
 
 abbrev pub set_accept : World → ObjNo → ObjNo → Option (List ObjNo) → Outcome World
 set_accept world programmer object list = do
-  require is_object world object else E_INVARG
-  require controls world programmer object else E_PERM
-  require nat_le (length (unwrap_or list [])) 1000 else E_INVARG
+  require is_object world object else NoObject object
+  require controls world programmer object else NotControlled object
+  require nat_le (length (unwrap_or list [])) 1000 else LongList
   Done zero (field_changed world object (to.Accept list))
 
 -- ---- each call by its name
@@ -185,14 +192,14 @@ named_call world programmer SetVerbArgs args =
     given (new_verb_args args) λ (object, (descriptor, verb_args)). set_verb_args world programmer object descriptor verb_args
 named_call world programmer SetAccept args = given (object_and_accept args) λ (object, list). set_accept world programmer object list
 -- the calls of petitions need more than the world: `batch_call` says what they do, and never asks for them here
-named_call world programmer Petition args = Failed E_INVARG
-named_call world programmer Petitions args = Failed E_INVARG
-named_call world programmer Grant args = Failed E_INVARG
-named_call world programmer Decline args = Failed E_INVARG
+named_call world programmer Petition args = fails Unasked
+named_call world programmer Petitions args = fails Unasked
+named_call world programmer Grant args = fails Unasked
+named_call world programmer Decline args = fails Unasked
 
 -- A call on the world. The programmer has to be an object. Each call that a petition holds is made in this way, by the wizard who grants
 -- it. A call of a batch is `batch_call`, in Requests, which knows the calls of petitions too.
 unfoldable pub world_call : World → ObjNo → Call → Outcome World
 world_call world programmer call = do
-  require is_object world programmer else E_PERM
+  require is_object world programmer else NoProgrammer
   named_call world programmer call.name call.args

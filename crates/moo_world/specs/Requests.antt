@@ -20,13 +20,14 @@ use Rattle.moo_world.specs.Answers.{zero, list_of}
 use Rattle.moo_world.specs.Arguments.{no_values}
 use Rattle.moo_world.specs.Names.{petition_call, call_name_of}
 use Rattle.moo_world.specs.Objects.{same_object, number_limit}
-use Rattle.moo_world.specs.Outcomes.{Outcome, Done, Failed, Full, given, require◌else◌, require_room, ◌>>◌, ◌or_else◌, ◌>>=◌}
+use Rattle.moo_world.specs.Outcomes.{Outcome, Done, Failed, Full, fails, in_petition, given, require◌else◌, require_room, ◌>>◌, ◌or_else◌, ◌>>=◌}
 use Rattle.moo_world.specs.Petitions.{is_named, are_few, are_shallow, PetitionsStand}
 use Rattle.moo_world.specs.Rights.{is_wizard}
 use Rattle.moo_world.specs.Rows.{world_of}
 use Rattle.moo_world.specs.Calls.{world_call, named_call}
 use Rattle.moo_world.specs.World.{World, is_object, IsWellFormed}
-use Rattle.moo_world.specs.Codes.{Code, E_PERM, E_INVARG, E_TYPE, E_ARGS}
+use Rattle.moo_world.specs.Codes.{Code, E_TYPE, E_ARGS}
+use Rattle.moo_world.specs.declared.reason.Reason.TheVariants.{NoProgrammer, NoWizard, Unnamed, NotFew, Unasked, Deep, NoPetition, NotAsker}
 
 -- the whole database: the world, the petitions with the number of the next one, and how many batches were accepted
 pub record State : Type 0 where
@@ -47,7 +48,7 @@ pub record IsFormed (state : State) : Type 0 where
 -- what is done in the world alone
 abbrev pub in_world : State → Outcome World → Outcome State
 in_world state (Done answer next) = Done answer (record state { world = next })
-in_world state (Failed code) = Failed code
+in_world state (Failed failure) = Failed failure
 in_world state Full = Full
 
 -- ---- what the calls take
@@ -93,13 +94,16 @@ held_call other = None
 -- One of them, made by the wizard who grants the petition. `petition` lets in calls on the world alone. E_INVARG comes only if another tool
 -- wrote something else into the file.
 abbrev pub held_step : World → ObjNo → Value → Outcome World
-held_step world programmer held = elim (held_call held) [ None ↦ Failed E_INVARG | Some call ↦ world_call world programmer call ]
+held_step world programmer held = elim (held_call held) [ None ↦ fails Unasked | Some call ↦ world_call world programmer call ]
 
--- all of them, one after another, up to the first that fails
-abbrev pub held_steps : World → ObjNo → List Value → Outcome World
-held_steps world programmer [] = Done zero world
-held_steps world programmer (held ∷ rest) =
-    elim (held_step world programmer held) [ Done answer next ↦ held_steps next programmer rest | Failed code ↦ Failed code | Full ↦ Full ]
+-- all of them from this place on, one after another, up to the first that fails
+abbrev pub held_steps : ℕ → World → ObjNo → List Value → Outcome World
+held_steps place world programmer [] = Done zero world
+held_steps place world programmer (held ∷ rest) = elim (held_step world programmer held) [
+  | Done answer next ↦ held_steps (place + 1) next programmer rest
+  | Failed failure ↦ Failed (in_petition place failure)
+  | Full ↦ Full
+]
 
 -- ---- the calls of petitions
 
@@ -124,10 +128,10 @@ petition_filed state programmer calls = do
 -- a petition may ask for calls on the world, each a list that begins with its name, few and not too deep
 abbrev pub petition : State → ObjNo → Values → Outcome State
 petition state programmer calls = do
-  require list_all is_named (spread calls) else E_TYPE
-  require are_few calls else E_INVARG
-  require are_on_world calls else E_INVARG
-  require are_shallow calls else E_INVARG
+  require list_all is_named (spread calls) else Unnamed
+  require are_few calls else NotFew
+  require are_on_world calls else Unasked
+  require are_shallow calls else Deep
   petition_filed state programmer calls
 
 -- a petition as it is listed: {number, who, calls}
@@ -142,15 +146,15 @@ petitions state programmer = Done (list_of (map listed (filter
 -- the petition goes, and then its calls are made on the wizard's authority
 abbrev pub grant : State → ObjNo → ℤ → Outcome State
 grant state programmer number = do
-  require is_wizard state.world programmer else E_PERM
-  (id, row) ← petition_at state number or_else E_INVARG
-  in_world (without id state) (held_steps state.world programmer (spread row.calls))
+  require is_wizard state.world programmer else NoWizard
+  (id, row) ← petition_at state number or_else NoPetition
+  in_world (without id state) (held_steps 0 state.world programmer (spread row.calls))
 
 -- who made the petition, or a wizard, takes it away
 abbrev pub decline : State → ObjNo → ℤ → Outcome State
 decline state programmer number = do
-  (id, row) ← petition_at state number or_else E_INVARG
-  require same_object row.who programmer || is_wizard state.world programmer else E_PERM
+  (id, row) ← petition_at state number or_else NoPetition
+  require same_object row.who programmer || is_wizard state.world programmer else NotAsker
   Done zero (without id state)
 
 -- a call of petitions, with what it is given
@@ -170,7 +174,7 @@ call_by_name state programmer call = elim (petition_call call.name) [
 -- Any call of a batch. The programmer has to be an object.
 unfoldable pub batch_call : State → ObjNo → Call → Outcome State
 batch_call state programmer call = do
-  require is_object state.world programmer else E_PERM
+  require is_object state.world programmer else NoProgrammer
   call_by_name state programmer call
 
 -- ---- numbers of petitions

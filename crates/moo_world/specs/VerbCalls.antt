@@ -18,66 +18,67 @@ use Rattle.moo_world.specs.Prepositions.{prep_text, object_spec_text}
 use Rattle.moo_world.specs.VerbReading.{args_of}
 use Rattle.moo_world.specs.Descriptors.{found_verb}
 use Rattle.moo_world.specs.Directories.{verb_added, verb_removed, verb_info_set, verb_args_set}
-use Rattle.moo_world.specs.Codes.{E_PERM, E_INVARG, E_VERBNF}
+use Rattle.moo_world.specs.declared.reason.Reason.TheVariants.{NoObject, NoOwner, NoObjectR, NoObjectW, NoVerb, NoVerbR, NoVerbW, VerbPerms}
+use Rattle.moo_world.specs.declared.reason.Reason.TheVariants.{VerbNames, VerbArgs}
 
 -- ---- reading
 
 abbrev pub verbs : World → ObjNo → ObjNo → Outcome World
 verbs world programmer object = do
-  require is_object world object else E_INVARG
-  require may_read_object world programmer object else E_PERM
+  require is_object world object else NoObject object
+  require may_read_object world programmer object else NoObjectR object
   Done (text_list (map (λ verb. verb.names) (directory_of world object))) world
 
 abbrev pub verb_info : World → ObjNo → ObjNo → Desc → Outcome World
 verb_info world programmer object descriptor = do
-  require is_object world object else E_INVARG
-  (place, verb) ← found_verb world object descriptor or_else E_VERBNF
-  require may_read_verb world programmer verb else E_PERM
+  require is_object world object else NoObject object
+  (place, verb) ← found_verb world object descriptor or_else NoVerb object
+  require may_read_verb world programmer verb else NoVerbR object
   Done (list_of (Obj verb.owner ∷ Str (verb_letters_of verb.bits) ∷ Str verb.names ∷ [])) world
 
 abbrev pub verb_args : World → ObjNo → ObjNo → Desc → Outcome World
 verb_args world programmer object descriptor = do
-  require is_object world object else E_INVARG
-  (place, verb) ← found_verb world object descriptor or_else E_VERBNF
-  require may_read_verb world programmer verb else E_PERM
+  require is_object world object else NoObject object
+  (place, verb) ← found_verb world object descriptor or_else NoVerb object
+  require may_read_verb world programmer verb else NoVerbR object
   Done (list_of (Str (object_spec_text verb.args.dobj) ∷ Str (prep_text verb.args.prep) ∷ Str (object_spec_text verb.args.iobj) ∷ [])) world
 
 -- ---- changing
 
 abbrev pub add_verb : World → ObjNo → ObjNo → Info → Name → Name × Name × Name → Outcome World
 add_verb world programmer object (owner, perms) names (dobj, prep, iobj) = do
-  require is_object world object else E_INVARG
-  require is_object world owner else E_INVARG
-  bits ← verb_bits_of perms or_else E_INVARG
-  require has_word names else E_INVARG
-  args ← args_of dobj prep iobj or_else E_INVARG
-  require may_write_object world programmer object else E_PERM
-  require may_make_owner world programmer owner else E_PERM
+  require is_object world object else NoObject object
+  require is_object world owner else NoObject owner
+  bits ← verb_bits_of perms or_else VerbPerms
+  require has_word names else VerbNames
+  args ← args_of dobj prep iobj or_else VerbArgs
+  require may_write_object world programmer object else NoObjectW object
+  require may_make_owner world programmer owner else NoOwner owner
   require_room (nat_lt world.next_verb number_limit)
   Done zero (verb_added world object (record { names = names; owner = owner; bits = bits; args = args }))
 
 abbrev pub delete_verb : World → ObjNo → ObjNo → Desc → Outcome World
 delete_verb world programmer object descriptor = do
-  require is_object world object else E_INVARG
-  require may_write_object world programmer object else E_PERM
-  (place, verb) ← found_verb world object descriptor or_else E_VERBNF
+  require is_object world object else NoObject object
+  require may_write_object world programmer object else NoObjectW object
+  (place, verb) ← found_verb world object descriptor or_else NoVerb object
   Done zero (verb_removed world object place)
 
 abbrev pub set_verb_info : World → ObjNo → ObjNo → Desc → Info → Name → Outcome World
 set_verb_info world programmer object descriptor (owner, perms) names = do
-  require is_object world object else E_INVARG
-  (place, verb) ← found_verb world object descriptor or_else E_VERBNF
-  require is_object world owner else E_INVARG
-  bits ← verb_bits_of perms or_else E_INVARG
-  require has_word names else E_INVARG
-  require may_write_verb world programmer verb else E_PERM
-  require may_make_owner world programmer owner else E_PERM
+  require is_object world object else NoObject object
+  (place, verb) ← found_verb world object descriptor or_else NoVerb object
+  require is_object world owner else NoObject owner
+  bits ← verb_bits_of perms or_else VerbPerms
+  require has_word names else VerbNames
+  require may_write_verb world programmer verb else NoVerbW object
+  require may_make_owner world programmer owner else NoOwner owner
   Done zero (verb_info_set world object place owner bits names)
 
 abbrev pub set_verb_args : World → ObjNo → ObjNo → Desc → Name × Name × Name → Outcome World
 set_verb_args world programmer object descriptor (dobj, prep, iobj) = do
-  require is_object world object else E_INVARG
-  (place, verb) ← found_verb world object descriptor or_else E_VERBNF
-  args ← args_of dobj prep iobj or_else E_INVARG
-  require may_write_verb world programmer verb else E_PERM
+  require is_object world object else NoObject object
+  (place, verb) ← found_verb world object descriptor or_else NoVerb object
+  args ← args_of dobj prep iobj or_else VerbArgs
+  require may_write_verb world programmer verb else NoVerbW object
   Done zero (verb_args_set world object place args)

@@ -1,5 +1,6 @@
 -- What any call of a batch leaves, along its checks.
-use Rattle.moo_world.{proofs.Words.{arith, ◌≡◌, ℤ, pos, negsuc, Bool, true, false, List, [], ◌∷◌, refl, ap, ◌∙◌, Option, Some, None, Result, Ok, Err, nat_lt, option_map, list_all, get, none-some, Code, Permission, ObjNo, Value, spread, Values, PetitionId, PetitionRow, Call, PetitionCall, petition_call, Outcome, Done, Failed, check, is_named, are_few, are_shallow, State, in_world, one_list, one_integer, petition_id, petition_at, without, held_steps, number_limit, asked, petition_call_by, batch_call, is_wizard, world_call, named_call, World, is_object}, specs.declared.name.PetitionCall.TheVariants.{Petition as to_petition, Petitions as to_list, Grant as to_grant, Decline as to_decline}, proofs.Form.Passing.{Holds, on_check, on_found, on_given, each_check}}
+use Rattle.moo_world.{proofs.Words.{arith, ◌≡◌, ℤ, pos, negsuc, Bool, true, false, List, [], ◌∷◌, refl, ap, ◌∙◌, Option, Some, None, Result, Ok, Err, nat_lt, option_map, list_all, get, none-some, Code, ObjNo, Value, spread, Values, PetitionId, PetitionRow, Call, PetitionCall, petition_call, Outcome, Done, check, fails, is_named, are_few, are_shallow, State, in_world, one_list, one_integer, petition_id, petition_at, without, held_steps, number_limit, asked, petition_call_by, batch_call, is_wizard, world_call, named_call, World, is_object}, specs.declared.name.PetitionCall.TheVariants.{Petition as to_petition, Petitions as to_list, Grant as to_grant, Decline as to_decline}, proofs.Form.Passing.{Holds, on_check, on_found, on_given, each_check}}
+use Rattle.moo_world.specs.declared.reason.Reason.TheVariants.{NoProgrammer}
 use Rattle.moo_value.{specs.declared.value.Value.TheVariants.{List as a_list}, specs.Values.{no_values as no_more}}
 
 -- an answered call leaves a state that is so; an error leaves none
@@ -23,7 +24,7 @@ pub record Led (P : State → Type 0) (s : State) (p : ObjNo) (call : Call) : Ty
   pub stepped : (v : Value) (w : World) → world_call s.world p call ≡ Done v w → P (record s { world = w })
   pub same : P s
   pub asked : (calls : Values) → call.args ≡ a_list calls ∷ [] → is_object s.world p ≡ true → list_all is_named (spread calls) ≡ true → are_few calls ≡ true → are_shallow calls ≡ true → nat_lt s.next_petition number_limit ≡ true → P (asked s p calls)
-  pub granted : (id : PetitionId) (row : PetitionRow) → get s.petitions id ≡ Some row → (v : Value) (w : World) → held_steps s.world p (spread row.calls) ≡ Done v w → P (record (without id s) { world = w })
+  pub granted : (id : PetitionId) (row : PetitionRow) → get s.petitions id ≡ Some row → (v : Value) (w : World) → held_steps 0 s.world p (spread row.calls) ≡ Done v w → P (record (without id s) { world = w })
   pub declined : (id : PetitionId) → P (without id s)
 
 -- the values that were read, or none
@@ -41,16 +42,16 @@ given_list args calls e = grind arith
 -- a call on the world, by a programmer who is an object, is the step of that name
 named_step : (s : State) (p : ObjNo) (call : Call) → is_object s.world p ≡ true → world_call s.world p call ≡ named_call s.world p call.name call.args
 unfolding world_call
-named_step s p call po = ap (λ b. check b (Failed Permission) (named_call s.world p call.name call.args)) po
+named_step s p call po = ap (λ b. check b (fails NoProgrammer) (named_call s.world p call.name call.args)) po
 
 -- any call on the world is a step of it
 pub request_steps : (s : State) (p : ObjNo) (call : Call) → petition_call call.name ≡ None → batch_call s p call ≡ in_world s (world_call s.world p call)
 unfolding batch_call world_call
 request_steps s p call on_world =
-    ap (λ o. check (is_object s.world p) (Failed Permission) (elim o [ None ↦ in_world s (named_call s.world p call.name call.args) | Some c ↦ petition_call_by s p c call.args ])) on_world
+    ap (λ o. check (is_object s.world p) (fails NoProgrammer) (elim o [ None ↦ in_world s (named_call s.world p call.name call.args) | Some c ↦ petition_call_by s p c call.args ])) on_world
     ∙ by (is_object s.world p) (named_call s.world p call.name call.args)
   where
-    by : (b : Bool) (o : Outcome World) → check b (Failed Permission) (in_world s o) ≡ in_world s (check b (Failed Permission) o)
+    by : (b : Bool) (o : Outcome World) → check b (fails NoProgrammer) (in_world s o) ≡ in_world s (check b (fails NoProgrammer) o)
     by b o = grind arith
 
 pub request_leaves : (P : State → Type 0) (s : State) (p : ObjNo) (call : Call) → Led P s p call → Leaves P (batch_call s p call)

@@ -1,6 +1,7 @@
 -- The small tree of the worked rows, and what the definitions give on it.
-use Rattle.moo_world.proofs.Words.{◌≡◌, ℕ, pos, Bool, true, false, List, [], ◌∷◌, refl, Option, Some, None, eqb, ◌&&◌, lookup, empty, ObjNo, ObjRow, SlotRow, Clear, Set, Value, Int, Obj, Bits, nothing, same_object, same_text, same_property, folded, World, slot_of, parent_of, read_of, chain, defined_by_any, rebuilt, reparented, Permission, RecursiveMove, Call, CallName, Create, MaxObject, common, manual_slot, chparent, subtree_of, children_of, Failed, recycled, world_call, batch_call, Verdict, Accepted, Refused, NoRoom, Stale, judge, LookUps, world_shown}
+use Rattle.moo_world.proofs.Words.{◌≡◌, ℕ, pos, Bool, true, false, List, [], ◌∷◌, refl, Option, Some, None, eqb, ◌&&◌, lookup, empty, ObjNo, ObjRow, SlotRow, Clear, Set, Value, Int, Obj, Bits, nothing, same_object, same_text, same_property, folded, World, slot_of, parent_of, read_of, chain, defined_by_any, rebuilt, reparented, Permission, Call, CallName, Create, MaxObject, common, manual_slot, chparent, subtree_of, children_of, fails, recycled, world_call, batch_call, Verdict, Accepted, Refused, NoRoom, Stale, judge, LookUps, world_shown}
 use Rattle.moo_rows.specs.PlainRow.{plain_row}
+use Rattle.moo_world.specs.declared.reason.Reason.TheVariants.{ParentBelow}
 
 abbrev pub no : ℕ → ObjNo
 no n = record { 0 = pos n }
@@ -56,9 +57,9 @@ on_the_tree :
     -- after chparent(#5, #7) the manual's wording gives #6 the same slot of c
     × (manual_slot T (no 5) (no 7) (no 6) (99 ∷ []) ≡ slot_of (reparented T (no 5) (no 7)) (no 6) (99 ∷ []))
     -- chparent(#5, #5) is E_RECMOVE
-    × (chparent T (no 3) (no 5) (no 5) ≡ Failed RecursiveMove)
+    × (chparent T (no 3) (no 5) (no 5) ≡ fails (ParentBelow (no 5)))
     -- chparent(#4, #6) is E_RECMOVE: #6 is under #4
-    × (chparent T (no 3) (no 4) (no 6) ≡ Failed RecursiveMove)
+    × (chparent T (no 3) (no 4) (no 6) ≡ fails (ParentBelow (no 6)))
     -- recycle(#5): #6 is then a child of #4
     × (parent_of (recycled T (no 5)) (no 6) ≡ Some (no 4))
     -- and has lost b, which #5 defined

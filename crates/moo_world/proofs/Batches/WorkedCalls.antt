@@ -1,13 +1,18 @@
 -- Batches of calls on the opening world and on the small tree, and what the definitions answer.
-use Rattle.moo_world.{proofs.Words.{◌≡◌, ℕ, pos, true, false, List, [], ◌∷◌, refl, Option, Some, None, codes, lookup, empty, Permission, NotAccepted, RecursiveMove, InvalidArgument, PropertyNotFound, VerbNotFound, Quota, Arguments, Value, Int, Obj, Str, Call, CallName, MaxObject, Get, Properties, VerbInfo, VerbArgs, Create, Chparent, Recycle, Move, AddProperty, DeleteProperty, SetPropertyInfo, ClearProperty, AddVerb, DeleteVerb, SetVerbArgs, SetAccept, SetVerbInfo, Verbs, nothing, same_object, same_text, same_property, folded, World, chain, location_chain, rebuilt, LookUps, world_shown, list_of, object_list, text_list, prep_of, world_call, State, batch_call, Ran, Through, FailedAt, FullAt, run_calls}, specs.declared.name.CallName.TheVariants.{Set}, specs.Answers.{zero}, specs.Matching.{matches}, proofs.Batches.TreeT.{no, row, T as world_T}}
+use Rattle.moo_world.{proofs.Words.{◌≡◌, ℕ, pos, true, false, List, [], ◌∷◌, refl, Option, Some, None, codes, lookup, empty, Arguments, Value, Int, Obj, Str, Call, CallName, MaxObject, Get, Properties, VerbInfo, VerbArgs, Create, Chparent, Recycle, Move, AddProperty, DeleteProperty, SetPropertyInfo, ClearProperty, AddVerb, DeleteVerb, SetVerbArgs, SetAccept, SetVerbInfo, Verbs, nothing, same_object, same_text, same_property, folded, World, chain, location_chain, rebuilt, LookUps, world_shown, list_of, object_list, text_list, prep_of, world_call, State, batch_call, Ran, Through, FailedAt, FullAt, run_calls, of_itself, Reason}, specs.declared.name.CallName.TheVariants.{Set}, specs.Answers.{zero}, specs.Matching.{matches}, proofs.Batches.TreeT.{no, row, T as world_T}}
 use Rattle.moo_value.specs.declared.code.Code.TheVariants.{«Type» as WrongType}
+use Rattle.moo_world.specs.declared.reason.Reason.TheVariants.{Given, NoProgrammer, NoObject, NotFertile, NoOwner, NameShared, NotAccepted, PlaceInside, NoQuota, NeverSet, NotTaken, NotDefined, NotInherited, NoVerb}
 use Rattle.moo_rows.{specs.declared.row.Preposition.TheVariants.{Set as of_set}, specs.declared.row.PrepositionSet.TheVariants.{OutOf, In}}
 
 -- the answers of a batch's calls, or None if one failed
 abbrev pub answers : Ran → Option (List Value)
 answers (Through vs w) = Some vs
-answers (FailedAt k e) = None
+answers (FailedAt k failure) = None
 answers (FullAt k) = None
+
+-- the call of this number, from 1, fails for this reason
+abbrev pub fails_at : ℕ → Reason → Ran
+fails_at place reason = FailedAt place (of_itself reason)
 
 abbrev pub call : CallName → List Value → Call
 call name args = record { name = name; args = args }
@@ -55,17 +60,17 @@ and_as_4 calls = elim (run_calls opening (no 3) (call Create (o 1 ∷ Obj nothin
 
 objects_worked :
     -- it may not make a child of #0, which isn't fertile
-    (and_as_4 (call Create (o 0 ∷ []) ∷ []) ≡ FailedAt 1 Permission)
+    (and_as_4 (call Create (o 0 ∷ []) ∷ []) ≡ fails_at 1 (NotFertile (no 0)))
     -- nor an object for #3
-    × (and_as_4 (call Create (o 1 ∷ o 3 ∷ []) ∷ []) ≡ FailedAt 1 Permission)
+    × (and_as_4 (call Create (o 1 ∷ o 3 ∷ []) ∷ []) ≡ fails_at 1 (NoOwner (no 3)))
     -- nor one that owns itself
-    × (and_as_4 (call Create (o 1 ∷ Obj nothing ∷ []) ∷ []) ≡ FailedAt 1 Permission)
+    × (and_as_4 (call Create (o 1 ∷ Obj nothing ∷ []) ∷ []) ≡ fails_at 1 (NoOwner nothing))
     -- a wrong number of arguments is E_ARGS
-    × (run_calls opening (no 3) (call Create [] ∷ []) ≡ FailedAt 1 Arguments)
+    × (run_calls opening (no 3) (call Create [] ∷ []) ≡ fails_at 1 (Given Arguments))
     -- a wrong type is E_TYPE
-    × (run_calls opening (no 3) (call Create (i 1 ∷ []) ∷ []) ≡ FailedAt 1 WrongType)
+    × (run_calls opening (no 3) (call Create (i 1 ∷ []) ∷ []) ≡ fails_at 1 (Given WrongType))
     -- the programmer isn't an object
-    × (run_calls opening (no 9) (call MaxObject [] ∷ []) ≡ FailedAt 1 Permission)
+    × (run_calls opening (no 9) (call MaxObject [] ∷ []) ≡ fails_at 1 NoProgrammer)
 unfolding world_shown chain same_object same_text same_property folded rebuilt world_call batch_call
 objects_worked = (refl, refl, refl, refl, refl, refl)
 
@@ -73,11 +78,11 @@ objects_worked = (refl, refl, refl, refl, refl, refl)
 
 locations_worked :
     -- #2 holds #3, so it can't go into it
-    (run_calls opening (no 3) (call Move (o 2 ∷ o 3 ∷ []) ∷ []) ≡ FailedAt 1 RecursiveMove)
+    (run_calls opening (no 3) (call Move (o 2 ∷ o 3 ∷ []) ∷ []) ≡ fails_at 1 (PlaceInside (no 3)))
     -- a list of its own counts before one higher up
     × (answers (and_as_4 (call Create (o 1 ∷ []) ∷ call Create (o 1 ∷ []) ∷ call SetAccept (o 6 ∷ object_list (no 1 ∷ []) ∷ []) ∷ call Move (o 5 ∷ o 6 ∷ []) ∷ call Get (o 6 ∷ text (codes "contents") ∷ []) ∷ [])) ≡ Some (o 5 ∷ o 6 ∷ zero ∷ zero ∷ object_list (no 5 ∷ []) ∷ []))
     -- an empty list of its own hides one higher up
-    × (and_as_4 (call Create (o 1 ∷ []) ∷ call SetAccept (o 5 ∷ object_list (no 1 ∷ []) ∷ []) ∷ call Create (o 5 ∷ []) ∷ call SetAccept (o 6 ∷ object_list [] ∷ []) ∷ call Move (o 5 ∷ o 6 ∷ []) ∷ []) ≡ FailedAt 5 NotAccepted)
+    × (and_as_4 (call Create (o 1 ∷ []) ∷ call SetAccept (o 5 ∷ object_list (no 1 ∷ []) ∷ []) ∷ call Create (o 5 ∷ []) ∷ call SetAccept (o 6 ∷ object_list [] ∷ []) ∷ call Move (o 5 ∷ o 6 ∷ []) ∷ []) ≡ fails_at 5 (NotAccepted (no 6)))
 unfolding world_shown chain location_chain same_object same_text same_property folded rebuilt world_call batch_call
 locations_worked = (refl, refl, refl)
 
@@ -89,7 +94,7 @@ values_worked :
     call Get (o 6 ∷ text (codes "a") ∷ []) ∷ call Set (o 5 ∷ text (codes "a") ∷ i 11 ∷ []) ∷ call Get (o 6 ∷ text (codes "A") ∷ [])
     ∷ call ClearProperty (o 5 ∷ text (codes "a") ∷ []) ∷ call Get (o 6 ∷ text (codes "a") ∷ []) ∷ [])) ≡ Some (i 10 ∷ zero ∷ i 11 ∷ zero ∷ i 10 ∷ []))
     -- the slot on the definer can't be cleared
-    × (run_calls T (no 3) (call ClearProperty (o 4 ∷ text (codes "a") ∷ []) ∷ []) ≡ FailedAt 1 InvalidArgument)
+    × (run_calls T (no 3) (call ClearProperty (o 4 ∷ text (codes "a") ∷ []) ∷ []) ≡ fails_at 1 (NotInherited (no 4)))
 unfolding world_shown chain same_object same_text same_property folded rebuilt world_call batch_call
 values_worked = (refl, refl)
 
@@ -99,13 +104,13 @@ names_worked :
     -- #6 defines C
     (answers (run_calls T (no 3) (call AddProperty (o 6 ∷ text (codes "C") ∷ i 1 ∷ list_of (o 3 ∷ text [] ∷ []) ∷ []) ∷ [])) ≡ Some (zero ∷ []))
     -- then #5, its parent, can't go under #7, which defines c
-    × (run_calls T (no 3) (call AddProperty (o 6 ∷ text (codes "C") ∷ i 1 ∷ list_of (o 3 ∷ text [] ∷ []) ∷ []) ∷ call Chparent (o 5 ∷ o 7 ∷ []) ∷ []) ≡ FailedAt 2 InvalidArgument)
+    × (run_calls T (no 3) (call AddProperty (o 6 ∷ text (codes "C") ∷ i 1 ∷ list_of (o 3 ∷ text [] ∷ []) ∷ []) ∷ call Chparent (o 5 ∷ o 7 ∷ []) ∷ []) ≡ fails_at 2 (NameShared (no 6)))
     -- a new name is that of all descendants, and a deleted property is gone
     × (answers (run_calls T (no 3) (
     call SetPropertyInfo (o 4 ∷ text (codes "a") ∷ list_of (o 3 ∷ text (codes "r") ∷ text (codes "aa") ∷ []) ∷ []) ∷ call Get (o 6 ∷ text (codes "AA") ∷ [])
     ∷ call DeleteProperty (o 4 ∷ text (codes "aa") ∷ []) ∷ call Properties (o 4 ∷ []) ∷ [])) ≡ Some (zero ∷ i 10 ∷ zero ∷ text_list [] ∷ []))
     -- an inherited property can't be deleted
-    × (run_calls T (no 3) (call DeleteProperty (o 5 ∷ text (codes "a") ∷ []) ∷ []) ≡ FailedAt 1 PropertyNotFound)
+    × (run_calls T (no 3) (call DeleteProperty (o 5 ∷ text (codes "a") ∷ []) ∷ []) ≡ fails_at 1 (NotDefined (no 5)))
 unfolding world_shown chain same_object same_text same_property folded rebuilt world_call batch_call
 names_worked = (refl, refl, refl, refl)
 
@@ -121,7 +126,7 @@ then_as_4 (FullAt k) calls = FullAt k
 
 quotas_worked :
     -- a quota of 1 lets one object be made
-    (then_as_4 (with_quota (call Set (o 4 ∷ text (codes "ownership_quota") ∷ i 1 ∷ []) ∷ [])) (call Create (o 1 ∷ []) ∷ call Create (o 1 ∷ []) ∷ []) ≡ FailedAt 2 Quota)
+    (then_as_4 (with_quota (call Set (o 4 ∷ text (codes "ownership_quota") ∷ i 1 ∷ []) ∷ [])) (call Create (o 1 ∷ []) ∷ call Create (o 1 ∷ []) ∷ []) ≡ fails_at 2 (NoQuota (no 4)))
     -- recycling it gives that back
     × (answers (then_as_4 (with_quota (call Set (o 4 ∷ text (codes "ownership_quota") ∷ i 1 ∷ []) ∷ [])) (call Create (o 1 ∷ []) ∷ call Recycle (o 5 ∷ []) ∷ call Create (o 1 ∷ []) ∷ [])) ≡ Some (o 5 ∷ zero ∷ o 6 ∷ []))
     -- a quota at the greatest integer stays, and none is asked for if the new object owns itself
@@ -146,11 +151,11 @@ built_ins_worked :
     -- a bit takes the truth of the value: an empty string is false
     (answers (run_calls opening (no 3) (call Set (o 1 ∷ text (codes "f") ∷ text [] ∷ []) ∷ call Get (o 1 ∷ text (codes "F") ∷ []) ∷ [])) ≡ Some (zero ∷ zero ∷ []))
     -- an owner has to be an object
-    × (run_calls opening (no 3) (call Set (o 1 ∷ text (codes "owner") ∷ o 9 ∷ []) ∷ []) ≡ FailedAt 1 InvalidArgument)
+    × (run_calls opening (no 3) (call Set (o 1 ∷ text (codes "owner") ∷ o 9 ∷ []) ∷ []) ≡ fails_at 1 (NoObject (no 9)))
     -- a name has to be a string
-    × (run_calls opening (no 3) (call Set (o 1 ∷ text (codes "name") ∷ i 5 ∷ []) ∷ []) ≡ FailedAt 1 WrongType)
+    × (run_calls opening (no 3) (call Set (o 1 ∷ text (codes "name") ∷ i 5 ∷ []) ∷ []) ≡ fails_at 1 NotTaken)
     -- contents can't be set
-    × (run_calls opening (no 3) (call Set (o 1 ∷ text (codes "contents") ∷ list_of [] ∷ []) ∷ []) ≡ FailedAt 1 Permission)
+    × (run_calls opening (no 3) (call Set (o 1 ∷ text (codes "contents") ∷ list_of [] ∷ []) ∷ []) ≡ fails_at 1 NeverSet)
 unfolding world_shown chain location_chain same_object same_text same_property folded rebuilt world_call batch_call
 built_ins_worked = (refl, refl, refl, refl)
 
@@ -187,7 +192,7 @@ verbs_worked :
     (answers (with_verb (call SetVerbArgs (o 4 ∷ i 1 ∷ list_of (text (codes "any") ∷ text (codes "from") ∷ text (codes "this") ∷ []) ∷ []) ∷ call VerbArgs (o 4 ∷ text (codes "take") ∷ []) ∷ []))
     ≡ Some (o 4 ∷ zero ∷ zero ∷ list_of (text (codes "any") ∷ text (codes "out of/from inside/from") ∷ text (codes "this") ∷ []) ∷ []))
     -- after the only verb is deleted there is none
-    × (with_verb (call DeleteVerb (o 4 ∷ i 1 ∷ []) ∷ call VerbInfo (o 4 ∷ i 1 ∷ []) ∷ []) ≡ FailedAt 4 VerbNotFound)
+    × (with_verb (call DeleteVerb (o 4 ∷ i 1 ∷ []) ∷ call VerbInfo (o 4 ∷ i 1 ∷ []) ∷ []) ≡ fails_at 4 (NoVerb (no 4)))
     -- a verb found by a word gets other names, and is found by these
     × (answers (with_verb (
     call SetVerbInfo (o 4 ∷ text (codes "get") ∷ list_of (o 3 ∷ text (codes "r") ∷ text (codes "foo*bar drop") ∷ []) ∷ []) ∷ call Verbs (o 4 ∷ []) ∷ call VerbInfo (o 4 ∷ text (codes "foob") ∷ []) ∷ call DeleteVerb (o 4 ∷ i 1 ∷ []) ∷ call Verbs (o 4 ∷ []) ∷ []))

@@ -3,7 +3,7 @@ use Rattle.moo_world.proofs.Words.{arith, ◌≡◌, Bool, true, List, [], ◌�
 use Rattle.moo_value.{specs.declared.code.Code.TheVariants.{«Type» as wrong_type}, specs.declared.value.Value.TheVariants.{List as a_list}, specs.Values.{no_values as no_more}}
 
 -- what was read passes a test, where something was
-abbrev passes : {A : Type 0} → (A → Bool) → Result A Code → Bool
+abbrev passes : {A E : Type 0} → (A → Bool) → Result A E → Bool
 passes test (Ok a) = test a
 passes test other = true
 

@@ -1,20 +1,20 @@
 -- What holds of all that a call leaves, along its checks: of every world, and of every state.
-use Rattle.moo_world.proofs.Words.{◌≡◌, Bool, true, false, refl, subst, Option, Some, None, Result, Ok, Err, Code, ObjNo, Value, BuiltIn, Outcome, Done, Failed, Full, check, given, with_next, found_or, by_field, World}
+use Rattle.moo_world.proofs.Words.{◌≡◌, Bool, true, false, refl, subst, Option, Some, None, Result, Ok, Err, Code, ObjNo, Value, BuiltIn, Reason, Failure, Outcome, Done, Failed, Full, check, given, taken_for, with_next, found_or, by_field, World}
 
 -- an answer and what is left are so; an error leaves nothing
 unfoldable pub Holds : {S : Type 0} → (Value → S → Type 0) → Outcome S → Type 0
 Holds P (Done v next) = P v next
-Holds P (Failed code) = Unit {0}
+Holds P (Failed failure) = Unit {0}
 Holds P Full = Unit {0}
 
 pub of_done : {S : Type 0} (P : Value → S → Type 0) (o : Outcome S) (v : Value) (next : S) → Holds P o → o ≡ Done v next → P v next
 unfolding Holds
 of_done P o v next h e = subst (Holds P) e h
 
-pub on_check : {S : Type 0} (P : Value → S → Type 0) (b : Bool) (code : Code) (rest : Outcome S) → (b ≡ true → Holds P rest) → Holds P (check b (Failed code) rest)
+pub on_check : {S : Type 0} (P : Value → S → Type 0) (b : Bool) (failure : Failure) (rest : Outcome S) → (b ≡ true → Holds P rest) → Holds P (check b (Failed failure) rest)
 unfolding Holds
-on_check P true code rest h = h refl
-on_check P false code rest h = tt
+on_check P true failure rest h = h refl
+on_check P false failure rest h = tt
 
 pub on_room : {S : Type 0} (P : Value → S → Type 0) (b : Bool) (rest : Outcome S) → (b ≡ true → Holds P rest) → Holds P (check b Full rest)
 unfolding Holds
@@ -26,10 +26,15 @@ unfolding Holds
 on_given P (Ok a) rest h = h a refl
 on_given P (Err code) rest h = tt
 
-pub on_found : {A S : Type 0} (P : Value → S → Type 0) (o : Option A) (code : Code) (rest : A → Outcome S) → ((a : A) → o ≡ Some a → Holds P (rest a)) → Holds P (found_or o code rest)
+pub on_taken : {A S : Type 0} (P : Value → S → Type 0) (r : Result A Reason) (rest : A → Outcome S) → ((a : A) → r ≡ Ok a → Holds P (rest a)) → Holds P (taken_for r rest)
 unfolding Holds
-on_found P (Some a) code rest h = h a refl
-on_found P None code rest h = tt
+on_taken P (Ok a) rest h = h a refl
+on_taken P (Err reason) rest h = tt
+
+pub on_found : {A S : Type 0} (P : Value → S → Type 0) (o : Option A) (reason : Reason) (rest : A → Outcome S) → ((a : A) → o ≡ Some a → Holds P (rest a)) → Holds P (found_or o reason rest)
+unfolding Holds
+on_found P (Some a) reason rest h = h a refl
+on_found P None reason rest h = tt
 
 pub on_next : {S : Type 0} (P : Value → S → Type 0) (o : Option ObjNo) (rest : ObjNo → Outcome S) → ((x : ObjNo) → o ≡ Some x → Holds P (rest x)) → Holds P (with_next o rest)
 unfolding Holds
@@ -45,9 +50,9 @@ pub on_done : {S : Type 0} (P : Value → S → Type 0) (v : Value) (next : S) �
 unfolding Holds
 on_done P v next h = h
 
-pub on_failed : {S : Type 0} (P : Value → S → Type 0) (code : Code) → Holds P (Failed code)
+pub on_failed : {S : Type 0} (P : Value → S → Type 0) (failure : Failure) → Holds P (Failed failure)
 unfolding Holds
-on_failed P code = tt
+on_failed P failure = tt
 
 -- the checks of a call, one after another
-pub ruleset each_check = (on_check, on_room, on_given, on_found, on_next, on_field, on_done, on_failed)
+pub ruleset each_check = (on_check, on_room, on_given, on_taken, on_found, on_next, on_field, on_done, on_failed)

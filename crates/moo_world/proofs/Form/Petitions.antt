@@ -1,6 +1,7 @@
 -- Every call of a batch leaves a well formed world, and petitions as they may stand.
-use Rattle.moo_world.{proofs.Lemmas.{◌≡◌, ℕ, ◌+◌, ◌<◌, ◌≤◌, true, List, [], ◌∷◌, Option, Some, None, refl, subst, arith, is_some, if◌then◌else◌, option_and_then, list_all, FinMap, insert, remove, and_parts, le-leb, leb-true, ltb-true, none-some, InvalidArgument, ObjNo, Value, Int, Obj, Str, Error, nesting, spread, Values, levels, int, object, string, error, list, PetitionId, PetitionRow, petition_exact, petition_cmp, petition_total, Call, CallName, all_within_limits, fits, arguments_fit, RequestsKeepForm, call_name_of, petition_call, Outcome, Done, Failed, Full, PetitionsStand, petition_fits, is_named, are_few, are_shallow, State, IsFormed, petition_id, call_in, held_call, held_step, held_steps, number_limit, batch_call, world_call, World, IsWellFormed, is_object, Led, of_done, request_leaves, put_or_old, none_or_old}, proofs.Form.Calls.{calls_keep_form}}
+use Rattle.moo_world.{proofs.Lemmas.{◌≡◌, ℕ, ◌+◌, ◌<◌, ◌≤◌, true, List, [], ◌∷◌, Option, Some, None, refl, subst, arith, is_some, if◌then◌else◌, option_and_then, list_all, FinMap, insert, remove, and_parts, le-leb, leb-true, ltb-true, none-some, ObjNo, Value, Int, Obj, Str, Error, nesting, spread, Values, levels, int, object, string, error, list, PetitionId, PetitionRow, petition_exact, petition_cmp, petition_total, Call, CallName, all_within_limits, fits, arguments_fit, RequestsKeepForm, call_name_of, petition_call, Outcome, Done, Failed, Full, fails, in_petition, PetitionsStand, petition_fits, is_named, are_few, are_shallow, State, IsFormed, petition_id, call_in, held_call, held_step, held_steps, number_limit, batch_call, world_call, World, IsWellFormed, is_object, Led, of_done, request_leaves, put_or_old, none_or_old}, proofs.Form.Calls.{calls_keep_form}}
 use Rattle.moo_value.{specs.declared.value.Value.TheVariants.{List as a_list}, specs.Values.{no_values}}
+use Rattle.moo_world.specs.declared.reason.Reason.TheVariants.{Unasked}
 
 -- ---- the values of a list that fits, one by one
 
@@ -44,21 +45,21 @@ held_args_fit (Error c) call e h = absurd (none-some call e)
 held_step_keeps : (w next : World) (p : ObjNo) (held : Value) (v : Value) → IsWellFormed w → fits held ≡ true → held_step w p held ≡ Done v next → IsWellFormed next
 held_step_keeps w next p held v wf fit e = by (held_call held) refl e
   where
-    by : (o : Option Call) → held_call held ≡ o → elim o [ None ↦ Failed InvalidArgument | Some call ↦ world_call w p call ] ≡ Done v next → IsWellFormed next
+    by : (o : Option Call) → held_call held ≡ o → elim o [ None ↦ fails Unasked | Some call ↦ world_call w p call ] ≡ Done v next → IsWellFormed next
     by None h e = cc
     by (Some call) h e = calls_keep_form w next p call v wf (held_args_fit held call h fit) e
 
-held_steps_keep : (w next : World) (p : ObjNo) (helds : List Value) (v : Value) → IsWellFormed w → list_all fits helds ≡ true → held_steps w p helds ≡ Done v next → IsWellFormed next
-held_steps_keep w next p [] v wf fit e = let same : w ≡ next = cc in subst IsWellFormed same wf
-held_steps_keep w next p (held ∷ rest) v wf fit e = by (held_step w p held) refl e (λ mid. held_steps_keep mid next p rest v)
+held_steps_keep : (place : ℕ) (w next : World) (p : ObjNo) (helds : List Value) (v : Value) → IsWellFormed w → list_all fits helds ≡ true → held_steps place w p helds ≡ Done v next → IsWellFormed next
+held_steps_keep place w next p [] v wf fit e = let same : w ≡ next = cc in subst IsWellFormed same wf
+held_steps_keep place w next p (held ∷ rest) v wf fit e = by (held_step w p held) refl e (λ mid. held_steps_keep (place + 1) mid next p rest v)
   where
     parts : (fits held ≡ true) × (list_all fits rest ≡ true)
     parts = and_parts (fits held) (list_all fits rest) fit
 
-    by : (o : Outcome World) → held_step w p held ≡ o → elim o [ Done u mid ↦ held_steps mid p rest | Failed code ↦ Failed code | Full ↦ Full ] ≡ Done v next
-        → ((mid : World) → IsWellFormed mid → list_all fits rest ≡ true → held_steps mid p rest ≡ Done v next → IsWellFormed next) → IsWellFormed next
+    by : (o : Outcome World) → held_step w p held ≡ o → elim o [ Done u mid ↦ held_steps (place + 1) mid p rest | Failed failure ↦ Failed (in_petition place failure) | Full ↦ Full ] ≡ Done v next
+        → ((mid : World) → IsWellFormed mid → list_all fits rest ≡ true → held_steps (place + 1) mid p rest ≡ Done v next → IsWellFormed next) → IsWellFormed next
     by (Done u mid) h e onward = onward mid (held_step_keeps w mid p held u wf parts.0 h) parts.1 e
-    by (Failed code) h e onward = cc
+    by (Failed failure) h e onward = cc
     by Full h e onward = cc
 
 -- ---- petitions that come and go
@@ -97,7 +98,7 @@ requests_keep_form s next p call v formed fit e = of_done (λ v. IsFormed) (batc
             (asked_fits s p calls formed there call_name_of few shallow (subst (λ args. list_all fits args ≡ true) given fit)) (ltb-true s.next_petition number_limit left);
       };
       granted = λ id row there v w e. record {
-        world = held_steps_keep s.world w p (spread row.calls) v formed.world (held_fit row (formed.petitions.fit id row there)) e;
+        world = held_steps_keep 0 s.world w p (spread row.calls) v formed.world (held_fit row (formed.petitions.fit id row there)) e;
         petitions = still_stand s.petitions s.next_petition id formed.petitions;
       };
       declined = λ id. record { world = formed.world; petitions = still_stand s.petitions s.next_petition id formed.petitions };

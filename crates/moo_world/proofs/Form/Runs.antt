@@ -4,7 +4,7 @@ use Rattle.moo_world.{proofs.Words.{arith, ◌≡◌, Bool, true, false, List, [
 -- calls that were all done leave them so
 abbrev LeavesForm : Ran → Type 0
 LeavesForm (Through vs s) = IsFormed s
-LeavesForm (FailedAt k e) = Unit {0}
+LeavesForm (FailedAt k failure) = Unit {0}
 LeavesForm (FullAt k) = Unit {0}
 
 one_more : (v : Value) (r : Ran) → LeavesForm r → LeavesForm (after_one v r)
@@ -18,9 +18,9 @@ calls_leave s p (call ∷ calls) formed fit = by (batch_call s p call) refl (λ 
     parts = and_parts (arguments_fit call) (list_all arguments_fit calls) fit
 
     by : (e : Outcome State) → batch_call s p call ≡ e → ((next : State) → IsFormed next → list_all arguments_fit calls ≡ true → LeavesForm (run_calls next p calls))
-        → LeavesForm (elim e [ Done v next ↦ after_one v (run_calls next p calls) | Failed code ↦ FailedAt 1 code | Full ↦ FullAt 1 ])
+        → LeavesForm (elim e [ Done v next ↦ after_one v (run_calls next p calls) | Failed failure ↦ FailedAt 1 failure | Full ↦ FullAt 1 ])
     by (Done v next) e rest = one_more v (run_calls next p calls) (rest next (requests_keep_form s next p call v formed parts.0 e) parts.1)
-    by (Failed code) e rest = tt
+    by (Failed failure) e rest = tt
     by Full e rest = tt
 
 verdict_leaves : (s : State) (r : Ran) → IsFormed s → LeavesForm r → IsFormed (left_by s (verdict_of s.seq r))

@@ -1,9 +1,9 @@
-use Rattle.std.{proofs.Common.{◌≡◌, true, Ok, Some, List, sym, ap, ◌∙◌, subst, rules, ◌≤◌, length, None}, specs.List.{list_all}, specs.Prelude.{nat_le, nat_lt}, proofs.lemmas.Bool.{and_parts, leb-true}, proofs.lemmas.Result.{on_ok_weaker}}
-use Rattle.moo_value.{specs.declared.code.Code.TheVariants.{Permission, InvalidArgument}, specs.declared.value.Value.{Value}, specs.Value.{spread}}
+use Rattle.std.{proofs.Common.{◌≡◌, true, Ok, Some, List, sym, ap, ◌∙◌, subst, rules, ◌≤◌, length}, specs.List.{list_all}, specs.Prelude.{nat_le, nat_lt}, proofs.lemmas.Bool.{and_parts, leb-true}, proofs.lemmas.Result.{on_ok_weaker}}
+use Rattle.moo_value.{specs.declared.value.Value.{Value}, specs.Value.{spread}}
 use Rattle.moo_rows.{specs.declared.row.PetitionId.{PetitionId}, specs.declared.row.PetitionRow.{PetitionRow}}
-use Rattle.moo_world.{specs.Arguments.{fits, is_number}, specs.Outcomes.{Failed, check, found_or, given as given_to}, specs.Requests.{State, grant, held_steps, in_world, one_integer, petition_at, without}, specs.Rights.{is_wizard}, specs.World.{World}, proofs.Batches.Requested.{found_there}, proofs.Form.Petitions.{held_fit}, specs.Petitions.{is_named, are_few}}
-use Rattle.moo_calls_shared.{specs.Outcomes.{world_in}, specs.About.{about_given}, specs.Told.{IfAbout}}
-use Rattle.moo_batch.{specs.Outcomes.{state_in, ComesInTurn, KeepInTurn, Reaches}, proofs.Beside.{removed-keeps, removed-state}, proofs.InTurn.{granted-reaches, granted-keeps}, specs.Telling.{IsFaultInTurn, about_number}, proofs.TrueInTurn.{granted-told, if_told}, proofs.AtCheck.{held-stays}}
+use Rattle.moo_world.{specs.Arguments.{fits, is_number}, specs.declared.reason.Reason.TheVariants.{NoWizard, NoPetition}, specs.Outcomes.{check, fails, found_or, given as given_to}, specs.Requests.{State, grant, held_steps, in_world, one_integer, petition_at, without}, specs.Rights.{is_wizard}, specs.World.{World}, proofs.Batches.Requested.{found_there}, proofs.Form.Petitions.{held_fit}, specs.Petitions.{is_named, are_few}}
+use Rattle.moo_calls_shared.specs.Outcomes.{world_in}
+use Rattle.moo_batch.{specs.Outcomes.{state_in, ComesInTurn, KeepInTurn, Reaches}, proofs.Beside.{removed-keeps, removed-state}, proofs.InTurn.{granted-reaches, granted-keeps}, proofs.AtCheck.{held-stays}}
 use Rattle.moo_batch.proofs.granting.grant.Goals as goal
 
 pub returns-clause-check : goal.returns-clause-check
@@ -33,13 +33,13 @@ returns-clause-reaches g c =
     let found : petition_at s n ≡ Some (c.in-Some.id, c.in-Some.row.now) = search rules in
     let is = removed-state old mid c.in-Some.id c.in_ok-remove_petition.ensures.ok in
     let helds : c.items.result.now ≡ spread c.in-Some.row.now.calls = c.items.ensures.plain ∙ ap (λ (r : PetitionRow). spread r.calls) c.in_ok-row.ensures in
-    let comes = subst (λ (w : World). ComesInTurn (held_steps w p (spread c.in-Some.row.now.calls)) new c.held_steps.result) (ap (λ (t : State). t.world) is)
-    (subst (λ (l : List Value). ComesInTurn (held_steps (world_in mid) p l) new c.held_steps.result) helds c.held_steps.ensures.comes) in
+    let comes = subst (λ (w : World). ComesInTurn (held_steps 0 w p (spread c.in-Some.row.now.calls)) new c.held_steps.result) (ap (λ (t : State). t.world) is)
+    (subst (λ (l : List Value). ComesInTurn (held_steps 0 (world_in mid) p l) new c.held_steps.result) helds c.held_steps.ensures.comes) in
     subst (λ effect. Reaches effect new c.held_steps.result)
     (sym (ap (λ r. given_to r (grant s p)) given
-    ∙ ap (λ b. check b (Failed Permission) (found_or (petition_at s n) InvalidArgument (λ e. in_world (without e.0 s) (held_steps s.world p (spread e.1.calls))))) wizard
-    ∙ ap (λ o. found_or o InvalidArgument (λ e. in_world (without e.0 s) (held_steps s.world p (spread e.1.calls)))) found))
-    (granted-reaches (without c.in-Some.id s) p c.items.result.now mid new (held_steps s.world p (spread c.in-Some.row.now.calls)) c.held_steps.result is comes c.held_steps.ensures.kept)
+    ∙ ap (λ b. check b (fails NoWizard) (found_or (petition_at s n) NoPetition (λ e. in_world (without e.0 s) (held_steps 0 s.world p (spread e.1.calls))))) wizard
+    ∙ ap (λ o. found_or o NoPetition (λ e. in_world (without e.0 s) (held_steps 0 s.world p (spread e.1.calls)))) found))
+    (granted-reaches (without c.in-Some.id s) p c.items.result.now mid new (held_steps 0 s.world p (spread c.in-Some.row.now.calls)) c.held_steps.result is comes c.held_steps.ensures.kept)
 
 pub returns-clause-kept : goal.returns-clause-kept
 returns-clause-kept g c =
@@ -68,27 +68,3 @@ held_steps-requires-clause-few g c =
     let few = (and_parts (are_few row.calls) _ (and_parts (list_all is_named calls) _ after).1).0 in
     let short = leb-true (length calls) 64 (and_parts (nat_lt 0 (length calls)) (nat_le (length calls) 64) few).1 in
     subst (λ helds. length helds ≤ 64) (sym (c.items.ensures.plain ∙ ap (λ (r : PetitionRow). spread r.calls) c.in_ok-row.ensures)) short
-
-pub returns-clause-told : goal.returns-clause-told
-returns-clause-told g c =
-    let old = g.R.Rows.held c.args.rows.now in
-    let mid = g.R.Rows.held c.remove_petition.new.self in
-    let new = g.R.Rows.held c.held_steps.new.rows in
-    let p = c.args.programmer in
-    let n = c.in_ok-number.number in
-    let e : PetitionId × PetitionRow = (c.in-Some.id, c.in-Some.row.now) in
-    let given : one_integer c.args.args.now ≡ Ok n = search rules in
-    let found : petition_at (state_in old) n ≡ Some e = search rules in
-    let helds : c.items.result.now ≡ spread c.in-Some.row.now.calls = c.items.ensures.plain ∙ ap (λ (r : PetitionRow). spread r.calls) c.in_ok-row.ensures in
-    let o = held_steps (world_in mid) p c.items.result.now in
-    if_told c.held_steps.result (ComesInTurn o new) _ _
-    (λ fault comes is. granted-told p c.args.args.now n e old mid new o (about_given (one_integer c.args.args.now) about_number) fault given found c.in_ok-remove_petition.ensures.ok comes
-    (subst (λ (l : List Value). IsFaultInTurn p l mid.maps fault) helds is))
-    c.held_steps.ensures.comes c.held_steps.ensures.told
-
-pub returns-in_default-clause-told : goal.returns-in_default-clause-told
-returns-in_default-clause-told g c =
-    let s = state_in (g.R.Rows.held c.args.rows.now) in
-    let given : one_integer c.args.args.now ≡ Ok c.in_ok-number.number = search rules in
-    let none : petition_at s c.in_ok-number.number ≡ None = search rules in
-    subst (λ read. IfAbout (about_given read about_number).number (λ number. petition_at s number ≡ None)) (sym given) none

@@ -2,13 +2,12 @@ use Rattle.std.{proofs.Common.{rules, ◌≡◌, ◌+◌, ◌∷◌, Err, drop, 
 use Rattle.moo_rows.specs.Maps.{Held}
 use Rattle.moo_world.{specs.Requests.{held_steps}, specs.Rows.{IsGood}}
 use Rattle.moo_calls_shared.specs.Outcomes.{world_in}
-use Rattle.moo_batch.{specs.Outcomes.{ComesInTurn, held_at}, specs.Telling.{IsFaultInTurn}, proofs.TrueInTurn.{HaveTold, told-one, told-started, told-stopped}, proofs.InTurn.{HaveStepped, stepped-one, stepped-fits, stepped-all, stepped-kept, stepped-stopped}}
+use Rattle.moo_batch.{specs.Outcomes.{ComesInTurn, held_at}, proofs.InTurn.{HaveStepped, stepped-one, stepped-fits, stepped-all, stepped-kept, stepped-stopped}}
 use Rattle.moo_batch.proofs.granting.held_steps.Goals as goal
 
 pub loop-held-init : goal.loop-held-init
 loop-held-init g c = record {
   stepped = record { steps = refl; good = c.requires.good; beside = refl; base = refl; numbers = λ last lead. lead; fit = c.requires.fit };
-  told = told-started c.args.wizard c.args.helds.now (g.R.Rows.held c.args.rows.now).maps;
   place = refl;
 }
 
@@ -17,11 +16,9 @@ loop-held-preserved g c =
     let left = drop (c.loop-held.held-index + 1) c.args.helds.now in
     let next : drop c.loop-held.held-index c.args.helds.now ≡ c.held-item.result ∷ left = grind (arith, common_steps) in
     let same : g.R.Rows.held c.may_call.new.self ≡ g.R.Rows.held c.loop-held.rows = c.may_call.ensures.yes (search rules) in
-    let stepped = subst (λ now. HaveStepped (g.R.Rows.held c.args.rows.now) c.args.wizard c.args.helds.now now (drop c.loop-held.held-index c.args.helds.now)) (sym same) c.loop-held.invariant.stepped in
-    let told = subst (λ (now : Held). HaveTold (g.R.Rows.held c.args.rows.now).maps c.args.wizard c.args.helds.now now.maps (drop c.loop-held.held-index c.args.helds.now) c.loop-held.held-index) (sym same) c.loop-held.invariant.told in
+    let stepped = subst (λ now. HaveStepped (g.R.Rows.held c.args.rows.now) c.args.wizard c.args.helds.now c.loop-held.place now (drop c.loop-held.held-index c.args.helds.now)) (sym same) c.loop-held.invariant.stepped in
     record {
       stepped = stepped-one c.held-item.result left c.in-Ok._done (g.R.Rows.held c.held_step.new.rows) next stepped c.in-Ok.ensures.comes c.in-Ok.ensures.kept;
-      told = told-one (g.R.Rows.held c.may_call.new.self) c.held-item.result left c.in-Ok._done (g.R.Rows.held c.held_step.new.rows) next told c.in-Ok.ensures.comes c.in-Ok.ensures.kept;
       place = ap (λ n. n + 1) c.loop-held.invariant.place;
     }
 
@@ -39,17 +36,9 @@ pub returns-in-Err-clause-comes : goal.returns-in-Err-clause-comes
 returns-in-Err-clause-comes g c =
     let new = g.R.Rows.held c.held_step.new.rows in
     let same : g.R.Rows.held c.may_call.new.self ≡ g.R.Rows.held c.loop-held.rows = c.may_call.ensures.yes (search rules) in
-    let was = subst (λ now. HaveStepped (g.R.Rows.held c.args.rows.now) c.args.wizard c.args.helds.now now (drop c.loop-held.held-index c.args.helds.now)) (sym same) c.loop-held.invariant.stepped in
-    let stopped : ComesInTurn (held_steps (world_in (g.R.Rows.held c.args.rows.now)) c.args.wizard c.args.helds.now) new (Err (held_at c.loop-held.place c.in-Err.fault)) =
-    stepped-stopped c.held-item.result (drop (c.loop-held.held-index + 1) c.args.helds.now) c.loop-held.place c.in-Err.fault new (grind (arith, common_steps)) was c.in-Err.ensures.comes in
-    search rules
-
-pub returns-in-Err-clause-told : goal.returns-in-Err-clause-told
-returns-in-Err-clause-told g c =
-    let same : g.R.Rows.held c.may_call.new.self ≡ g.R.Rows.held c.loop-held.rows = c.may_call.ensures.yes (search rules) in
-    let was = subst (λ (now : Held). HaveTold (g.R.Rows.held c.args.rows.now).maps c.args.wizard c.args.helds.now now.maps (drop c.loop-held.held-index c.args.helds.now) c.loop-held.held-index) (sym same) c.loop-held.invariant.told in
-    let stopped : IsFaultInTurn c.args.wizard c.args.helds.now (g.R.Rows.held c.args.rows.now).maps (held_at c.loop-held.place c.in-Err.fault) =
-    told-stopped (g.R.Rows.held c.may_call.new.self) c.held-item.result (drop (c.loop-held.held-index + 1) c.args.helds.now) c.loop-held.place c.in-Err.fault (g.R.Rows.held c.held_step.new.rows) (grind (arith, common_steps)) was c.loop-held.invariant.place c.in-Err.ensures.comes c.in-Err.ensures.told in
+    let was = subst (λ now. HaveStepped (g.R.Rows.held c.args.rows.now) c.args.wizard c.args.helds.now c.loop-held.place now (drop c.loop-held.held-index c.args.helds.now)) (sym same) c.loop-held.invariant.stepped in
+    let stopped : ComesInTurn (held_steps 0 (world_in (g.R.Rows.held c.args.rows.now)) c.args.wizard c.args.helds.now) new (Err (held_at c.loop-held.place c.in-Err.fault)) =
+    stepped-stopped c.held-item.result (drop (c.loop-held.held-index + 1) c.args.helds.now) c.in-Err.fault new (grind (arith, common_steps)) was c.in-Err.ensures.comes in
     search rules
 
 pub returns-clause-comes : goal.returns-clause-comes

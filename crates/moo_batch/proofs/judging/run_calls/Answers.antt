@@ -1,8 +1,6 @@
 use Rattle.std.{proofs.Common.{◌≡◌, ◌+◌, [], ◌∷◌, ◌++◌, length, drop, sym, ap, ◌∙◌, subst, rules, arith}, proofs.lemmas.Grind.{common_steps}}
 use Rattle.moo_rows.specs.Maps.{Base}
-use Rattle.moo_calls_shared.specs.Reasons.{error_of}
-use Rattle.moo_calls_shared.specs.declared.fault.Fault.TheVariants.{Moo, Held as of_held}
-use Rattle.moo_batch.proofs.TrueInBatch.{HaveFound, found-failed, found-one, found-started}
+use Rattle.moo_world.specs.Outcomes.{in_petition, of_itself}
 use Rattle.moo_batch.proofs.Running.{HaveRunSoFar, run-started, run-one_more, run-ended, run-kept, run-failed, run-full}
 use Rattle.moo_batch.proofs.judging.run_calls.Goals as goal
 
@@ -12,18 +10,17 @@ loop-call-init g c =
     let none : c.new-answers.result.items ≡ [] = search rules in (
       subst (λ answers. HaveRunSoFar before c.args.programmer c.args.calls.now answers before c.args.calls.now) (sym none) (run-started before c.args.programmer c.args.calls.now c.requires.good),
       ap length none,
-      found-started c.args.programmer c.args.calls.now before.maps,
     )
 
 pub returns-in-Err-Moo-clause-comes : goal.returns-in-Err-Moo-clause-comes
 returns-in-Err-Moo-clause-comes g c =
     let comes = rw c.in-Err-Moo.field-0-is at c.in-Err-Moo.ensures.reaches in
-    rw c.in-Err-Moo.field-0-is (run-failed c.call-item.result (drop (c.loop-call.call-index + 1) c.args.calls.now) (error_of c.in-Err-Moo.reason) c.len.result (omega arith) (grind (arith, common_steps)) c.loop-call.invariant.0 comes)
+    rw c.in-Err-Moo.field-0-is (run-failed c.call-item.result (drop (c.loop-call.call-index + 1) c.args.calls.now) (of_itself c.in-Err-Moo.reason) c.len.result (omega arith) (grind (arith, common_steps)) c.loop-call.invariant.0 comes)
 
 pub returns-in-Err-Held-clause-comes : goal.returns-in-Err-Held-clause-comes
 returns-in-Err-Held-clause-comes g c =
     let comes = rw c.in-Err-Held.field-0-is at c.in-Err-Held.ensures.reaches in
-    rw c.in-Err-Held.field-0-is (run-failed c.call-item.result (drop (c.loop-call.call-index + 1) c.args.calls.now) (error_of c.in-Err-Held.reason) c.len.result (omega arith) (grind (arith, common_steps)) c.loop-call.invariant.0 comes)
+    rw c.in-Err-Held.field-0-is (run-failed c.call-item.result (drop (c.loop-call.call-index + 1) c.args.calls.now) (in_petition c.in-Err-Held.place (of_itself c.in-Err-Held.reason)) c.len.result (omega arith) (grind (arith, common_steps)) c.loop-call.invariant.0 comes)
 
 pub returns-in-Err-Full-clause-comes : goal.returns-in-Err-Full-clause-comes
 returns-in-Err-Full-clause-comes g c =
@@ -40,8 +37,6 @@ loop-call-preserved g c =
       subst (λ now. HaveRunSoFar (g.R.Rows.held c.args.rows.now) c.args.programmer c.args.calls.now c.push.new.self.items now left) (sym same)
           (run-one_more c.call-item.result left c.in-Ok.answer c.push.new.self.items _ pushed (grind (arith, common_steps)) c.loop-call.invariant.0 c.in-Ok.ensures.reaches c.in-Ok.ensures.kept),
       ap length pushed ∙ grind (arith, common_steps),
-      subst (λ now. HaveFound (g.R.Rows.held c.args.rows.now).maps c.args.programmer c.args.calls.now now.maps left (c.loop-call.call-index + 1)) (sym same)
-          (found-one (g.R.Rows.held c.loop-call.rows) c.call-item.result left c.in-Ok.answer (g.R.Rows.held c.step_on.new.rows) (grind (arith, common_steps)) c.loop-call.invariant.2 c.in-Ok.ensures.reaches),
     )
 
 pub returns-clause-comes : goal.returns-clause-comes
@@ -49,17 +44,3 @@ returns-clause-comes g c = rw c.from_vec.ensures (run-ended (grind (arith, commo
 
 pub returns-clause-kept : goal.returns-clause-kept
 returns-clause-kept g c = run-kept (grind (arith, common_steps)) c.loop-call.invariant.0
-
--- ---- the reason is true
-
-pub returns-in-Err-Moo-clause-told : goal.returns-in-Err-Moo-clause-told
-returns-in-Err-Moo-clause-told g c =
-    let told = rw c.in-Err-Moo.field-0-is at c.in-Err-Moo.ensures.told in
-    let place : c.len.result + 1 ≡ c.loop-call.call-index + 1 = search rules in
-    rw c.in-Err-Moo.field-0-is (c.loop-call.call-index, place, found-failed (g.R.Rows.held c.loop-call.rows) c.call-item.result (drop (c.loop-call.call-index + 1) c.args.calls.now) (Moo c.in-Err-Moo.reason) (grind (arith, common_steps)) c.loop-call.invariant.2 told)
-
-pub returns-in-Err-Held-clause-told : goal.returns-in-Err-Held-clause-told
-returns-in-Err-Held-clause-told g c =
-    let told = rw c.in-Err-Held.field-0-is at c.in-Err-Held.ensures.told in
-    let place : c.len.result + 1 ≡ c.loop-call.call-index + 1 = search rules in
-    rw c.in-Err-Held.field-0-is (c.loop-call.call-index, place, found-failed (g.R.Rows.held c.loop-call.rows) c.call-item.result (drop (c.loop-call.call-index + 1) c.args.calls.now) (of_held c.in-Err-Held.place c.in-Err-Held.reason) (grind (arith, common_steps)) c.loop-call.invariant.2 told)

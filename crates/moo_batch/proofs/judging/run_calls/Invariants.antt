@@ -1,10 +1,9 @@
 use Rattle.std.proofs.Common.{◌≡◌, length, drop}
-use Rattle.moo_batch.{proofs.Running.{HaveRunSoFar}, proofs.TrueInBatch.{HaveFound}}
+use Rattle.moo_batch.proofs.Running.{HaveRunSoFar}
 use Rattle.moo_batch.proofs.judging.run_calls.Given as goal
 
--- the calls so far have given the answers, one each, and what is true of a call that is left is true of it among all
+-- the calls so far have given the answers, one each
 abbrev pub invariant-loop-call : goal.invariant-loop-call
 invariant-loop-call g l =
     HaveRunSoFar (g.R.Rows.held l.fn.rows) l.programmer l.calls l.answers.items (g.R.Rows.held l.rows) (drop l.call-index l.calls)
     × (length l.answers.items ≡ l.call-index)
-    × HaveFound (g.R.Rows.held l.fn.rows).maps l.programmer l.calls (g.R.Rows.held l.rows).maps (drop l.call-index l.calls) l.call-index

@@ -1,7 +1,6 @@
 use Rattle.std.{proofs.Common.{◌≡◌, None, rules}, proofs.lemmas.Result.{on_ok_weaker}}
-use Rattle.moo_world.{specs.Names.{petition_call}, specs.Calls.{world_call}}
-use Rattle.moo_batch.{proofs.InTurn.{stepped-keeps, stepped-reaches}, proofs.TrueInTurn.{if_told, stepped-told}, proofs.AtCheck.{comes-stays}}
-use Rattle.moo_calls_shared.specs.Outcomes.{world_in, ComesTo}
+use Rattle.moo_world.{specs.Names.{petition_call}}
+use Rattle.moo_batch.{proofs.InTurn.{stepped-keeps, stepped-reaches}, proofs.AtCheck.{comes-stays}}
 use Rattle.moo_batch.proofs.stepping.step.Goals as goal
 
 pub returns-in_default-clause-check : goal.returns-in_default-clause-check
@@ -16,11 +15,3 @@ pub returns-in_default-clause-kept : goal.returns-in_default-clause-kept
 returns-in_default-clause-kept g c =
     let on_world : petition_call c.args.call.now.name ≡ None = search rules in
     on_ok_weaker c.step.result (stepped-keeps c.args.call.now c.args.programmer (g.R.Rows.held c.args.rows.now) (g.R.Rows.held c.step.new.rows) on_world) c.step.ensures.kept
-
-pub returns-in_default-clause-told : goal.returns-in_default-clause-told
-returns-in_default-clause-told g c =
-    let on_world : petition_call c.args.call.now.name ≡ None = search rules in
-    let old = g.R.Rows.held c.args.rows.now in
-    let new = g.R.Rows.held c.step.new.rows in
-    let o = world_call (world_in old) c.args.programmer c.args.call.now in
-    if_told c.step.result (ComesTo o old new) _ _ (λ fault comes is. stepped-told c.args.call.now c.args.programmer old new o fault on_world comes is) c.step.ensures.comes c.step.ensures.told

@@ -2,7 +2,6 @@ use Rattle.std.proofs.Common.{sym, ◌∙◌}
 use Rattle.moo_world.proofs.Shown.NumbersKept.{then_slots}
 use Rattle.moo_calls_shared.specs.Outcomes.{world_in}
 use Rattle.moo_calls.proofs.Created.{quota_still}
-use Rattle.moo_calls_shared.specs.About.{about_object}
 use Rattle.moo_calls.proofs.creating.create.Goals as goal
 
 pub charge-requires-clause-quota : goal.charge-requires-clause-quota
@@ -19,7 +18,3 @@ returns-clause-kept g c =
       base = charged.kept.base ∙ made.base;
       numbers = then_slots (g.R.Rows.held c.args.rows.now).maps (g.R.Rows.held c.make.new.rows).maps (g.R.Rows.held c.charge.new.rows).maps made.numbers charged.rest;
     }
-
-pub returns-then-not-may_be_parent-clause-told : goal.returns-then-not-may_be_parent-clause-told
-returns-then-not-may_be_parent-clause-told g c =
-    c.parent_fault.ensures.told c.args.programmer (about_object c.args.parent) (sym c.may_be_parent.ensures ∙ c.if-not-may_be_parent.true)

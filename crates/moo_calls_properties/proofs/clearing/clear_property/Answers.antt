@@ -1,9 +1,9 @@
-use Rattle.std.proofs.Common.{rules, ◌≡◌, ap, sym, ◌∙◌}
+use Rattle.std.proofs.Common.{rules, ◌≡◌, sym, ◌∙◌}
 use Rattle.moo_rows.specs.declared.row.SlotState.TheVariants.{Clear}
-use Rattle.moo_world.{specs.Changes.{cleared}, specs.Objects.{folded, same_object}, specs.Rows.{slot_seen, world_shown}, specs.Outcomes.{Failed}, specs.PropertyCalls.{clear_property}, specs.World.{is_object}}
-use Rattle.moo_calls_shared.{specs.Outcomes.{world_in}, specs.Reasons.{error_of}, proofs.Passed.{check_passed}}
+use Rattle.moo_world.{specs.Changes.{cleared}, specs.Objects.{folded, same_object}, specs.Rows.{slot_seen, world_shown}, specs.Outcomes.{fails}, specs.PropertyCalls.{clear_property}, specs.World.{is_object}}
+use Rattle.moo_calls_shared.{specs.Outcomes.{world_in}, proofs.Passed.{check_passed}}
 use Rattle.moo_props.{specs.Names.{spelling_of}, proofs.FoundSlots.{definer_found}, proofs.Quotas.{folded_spelling}}
-use Rattle.moo_calls_properties.proofs.{OwnProperty.{owns_slot, owns_by_slot}, PropertyNames.{slot_named}}
+use Rattle.moo_calls_properties.proofs.PropertyNames.{slot_named}
 use Rattle.moo_calls_properties.proofs.clearing.clear_property.Goals as goal
 
 pub clear-requires-clause-inherited : goal.clear-requires-clause-inherited
@@ -16,16 +16,10 @@ clear-requires-clause-inherited g c =
 pub returns-in_err-found-clause-comes : goal.returns-in_err-found-clause-comes
 returns-in_err-found-clause-comes g c =
     let w = world_in (g.R.Rows.held c.args.rows.now) in
-    let failed : clear_property w c.args.programmer c.args.x c.args.name.now ≡ Failed (error_of c.in_err-found.field-0.0) =
+    let failed : clear_property w c.args.programmer c.args.x c.args.name.now ≡ fails c.in_err-found.field-0.0 =
     check_passed (is_object w c.args.x) _ _ (sym c.valid.ensures ∙ c.if-not-valid.false)
     ∙ c.in_err-found.ensures.err _
     in search rules
-
-pub returns-then-eq-clause-told : goal.returns-then-eq-clause-told
-unfolding same_object
-returns-then-eq-clause-told g c =
-    sym (sym c.if-eq.true ∙ c.eq.ensures ∙ ap (owns_slot c.args.x) (sym c.in_ok-found.ensures.slot)
-    ∙ owns_by_slot (world_in (g.R.Rows.held c.args.rows.now)) c.requires.formed c.args.x c.args.name.now)
 
 pub returns-clause-comes : goal.returns-clause-comes
 unfolding same_object world_shown

@@ -1,14 +1,14 @@
 use Rattle.std.proofs.Common.{rules, ◌≡◌, ap, ◌∙◌}
 use Rattle.moo_rows.specs.declared.row.SlotState.TheVariants.{Set}
-use Rattle.moo_world.{specs.Changes.{value_set}, specs.Outcomes.{Failed}, specs.PropertyCalls.{set_property}}
-use Rattle.moo_calls_shared.{specs.Outcomes.{world_in}, specs.Reasons.{error_of}}
+use Rattle.moo_world.{specs.Changes.{value_set}, specs.Outcomes.{fails}, specs.PropertyCalls.{set_property}}
+use Rattle.moo_calls_shared.{specs.Outcomes.{world_in}}
 use Rattle.moo_props.{specs.Names.{spelling_of}, proofs.Quotas.{folded_spelling}}
 use Rattle.moo_calls_properties.proofs.PropertyNames.{slot_named}
 use Rattle.moo_calls_properties.proofs.setting.set_property.Goals as goal
 
 pub returns-in_err-found-clause-comes : goal.returns-in_err-found-clause-comes
 returns-in_err-found-clause-comes g c =
-    let failed : set_property (world_in (g.R.Rows.held c.args.rows.now)) c.args.programmer c.args.x c.args.name.now c.args.value.now ≡ Failed (error_of c.in_err-found.field-0.0) =
+    let failed : set_property (world_in (g.R.Rows.held c.args.rows.now)) c.args.programmer c.args.x c.args.name.now c.args.value.now ≡ fails c.in_err-found.field-0.0 =
     c.in_err-found.ensures.err _
     in search rules
 

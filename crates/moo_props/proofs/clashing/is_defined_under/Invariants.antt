@@ -1,13 +1,13 @@
-use Rattle.moo_props.proofs.Words.{◌≡◌, true, length, IfSome, list_any, subtree_of, is_among, defines_name, world_of, chain, from_here}
+use Rattle.moo_props.proofs.Words.{◌≡◌, true, length, IfSome, find, walk_down, is_among, defines_name, world_of, chain, from_here}
 use Rattle.moo_props.proofs.clashing.is_defined_under.Given as goal
 
--- one that is still to come defines the name if one of the subtree does
+-- the first that defines the name is still to come
 abbrev pub invariant-loop-at : goal.invariant-loop-at
 invariant-loop-at g l =
     let t = (g.R.Rows.held l.rows).maps in
     let w = world_of t in
     record {
-      any : list_any (λ y. defines_name w y l.name) (from_here t l.x l.at) ≡ list_any (λ y. defines_name w y l.fn.name) (subtree_of w l.fn.x);
+      first : find (λ y. defines_name w y l.name) (from_here t l.x l.at) ≡ find (λ y. defines_name w y l.fn.name) (walk_down w l.fn.x);
       under : IfSome l.at (λ y. is_among l.x (chain w y) ≡ true);
     }
 

@@ -1,9 +1,8 @@
 //! Which check of a call failed.
 
 ghost use Rattle.std.specs.Prelude.{◌≡◌};
-ghost use Rattle.moo_calls_shared.specs.Reasons.{error_of};
+ghost use Rattle.moo_world.specs.Reasons.{error_of};
 
-use moo_rows::PropId;
 use moo_value::{Code, ObjNo};
 
 /// Which check of a call failed, with the numbers that it failed for. What it says of a name, a verb, a text or a petition is said of
@@ -36,8 +35,8 @@ pub enum Reason {
     NoObjectW(ObjNo),
     /// E_RECMOVE: the new parent is the object or under it.
     ParentBelow(ObjNo),
-    /// E_INVARG: this object, which is the one of the call or under it, defines a property that the new parent has too.
-    NameShared { definer: ObjNo, property: PropId },
+    /// E_INVARG: this object, which is the one of the call or under it, defines a property of a name that the new parent has too.
+    NameShared(ObjNo),
     /// E_NACC: the place doesn't accept the object.
     NotAccepted(ObjNo),
     /// E_RECMOVE: the place is the object or inside it.
@@ -61,7 +60,7 @@ pub enum Reason {
     /// E_INVARG: no property has such a name.
     NoPropertyName,
     /// E_INVARG: this object defines a property of the name already.
-    NameTaken { definer: ObjNo },
+    NameTaken(ObjNo),
     /// E_PERM: the slot on the object has no r.
     NoPropertyR(ObjNo),
     /// E_PERM: the slot on the object has no w.
@@ -114,14 +113,11 @@ impl Reason {
             Reason::NotTaken | Reason::Unnamed => Code::Type,
             Reason::NoObject(_)
             | Reason::NoPlace(_)
-            | Reason::NameShared {
-                definer: _,
-                property: _,
-            }
+            | Reason::NameShared(_)
             | Reason::NotRenamed(_)
             | Reason::NotInherited(_)
             | Reason::NoPropertyName
-            | Reason::NameTaken { definer: _ }
+            | Reason::NameTaken(_)
             | Reason::PropertyPerms
             | Reason::VerbPerms
             | Reason::VerbNames

@@ -1,14 +1,14 @@
 -- The error with which a call fails at each check.
 use Rattle.moo_value.specs.declared.code.Code.{Code}
 use Rattle.moo_world.specs.Codes.{E_TYPE, E_PERM, E_PROPNF, E_VERBNF, E_INVIND, E_RECMOVE, E_NACC, E_INVARG, E_QUOTA}
-use Rattle.moo_calls_shared.specs.declared.reason.Reason.{Reason}
-use Rattle.moo_calls_shared.specs.declared.reason.Reason.TheVariants.{Given, NoProgrammer, NoWizard, NoObject, NoTarget, NoPlace, NoParent}
-use Rattle.moo_calls_shared.specs.declared.reason.Reason.TheVariants.{NotControlled, NotFertile, NoOwner, NoObjectR, NoObjectW, ParentBelow}
-use Rattle.moo_calls_shared.specs.declared.reason.Reason.TheVariants.{NameShared, NotAccepted, PlaceInside, NoQuota, NeverSet, NotTaken}
-use Rattle.moo_calls_shared.specs.declared.reason.Reason.TheVariants.{NamesPlayer, NoProperty, NotDefined, NotRenamed, NotInherited}
-use Rattle.moo_calls_shared.specs.declared.reason.Reason.TheVariants.{NoPropertyName, NameTaken, NoPropertyR, NoPropertyW, NotGiven}
-use Rattle.moo_calls_shared.specs.declared.reason.Reason.TheVariants.{PropertyPerms, NoVerb, NoVerbR, NoVerbW, VerbPerms, VerbNames, VerbArgs}
-use Rattle.moo_calls_shared.specs.declared.reason.Reason.TheVariants.{LongList, Unnamed, NotFew, Unasked, Deep, NoPetition, NotAsker}
+use Rattle.moo_world.specs.declared.reason.Reason.{Reason}
+use Rattle.moo_world.specs.declared.reason.Reason.TheVariants.{Given, NoProgrammer, NoWizard, NoObject, NoTarget, NoPlace, NoParent}
+use Rattle.moo_world.specs.declared.reason.Reason.TheVariants.{NotControlled, NotFertile, NoOwner, NoObjectR, NoObjectW, ParentBelow}
+use Rattle.moo_world.specs.declared.reason.Reason.TheVariants.{NameShared, NotAccepted, PlaceInside, NoQuota, NeverSet, NotTaken}
+use Rattle.moo_world.specs.declared.reason.Reason.TheVariants.{NamesPlayer, NoProperty, NotDefined, NotRenamed, NotInherited}
+use Rattle.moo_world.specs.declared.reason.Reason.TheVariants.{NoPropertyName, NameTaken, NoPropertyR, NoPropertyW, NotGiven}
+use Rattle.moo_world.specs.declared.reason.Reason.TheVariants.{PropertyPerms, NoVerb, NoVerbR, NoVerbW, VerbPerms, VerbNames, VerbArgs}
+use Rattle.moo_world.specs.declared.reason.Reason.TheVariants.{LongList, Unnamed, NotFew, Unasked, Deep, NoPetition, NotAsker}
 
 abbrev pub error_of : Reason → Code
 error_of (Given code) = code
@@ -24,7 +24,7 @@ error_of (NoOwner x) = E_PERM
 error_of (NoObjectR x) = E_PERM
 error_of (NoObjectW x) = E_PERM
 error_of (ParentBelow x) = E_RECMOVE
-error_of (NameShared definer property) = E_INVARG
+error_of (NameShared definer) = E_INVARG
 error_of (NotAccepted x) = E_NACC
 error_of (PlaceInside x) = E_RECMOVE
 error_of (NoQuota x) = E_QUOTA
