@@ -1,5 +1,5 @@
 -- The first item of which something holds.
-use Rattle.std.proofs.Common.{◌≡◌, ◌<◌, ◌≤◌, ◌+◌, add-one, ◌-◌, ◌^◌, drop_of_length-le, min, max, ℕ, zero, suc, List, [], ◌∷◌, length, get_or, set, drop, inl, inr, refl, sym, ap, subst, ◌∙◌, arith}
+use Rattle.std.proofs.Common.{◌≡◌, ◌<◌, ◌≤◌, ◌+◌, add-one, ◌-◌, ◌^◌, drop_of_length-le, min, max, ℕ, zero, suc, List, [], ◌∷◌, ◌++◌, length, get_or, set, take, drop, inl, inr, refl, sym, ap, subst, ◌∙◌, arith}
 use Rattle.std.specs.Prelude.{⊤, Some}
 use Rattle.moo_desk.specs.declared.leaving.Leaving.{Leaving}
 use Rattle.std.specs.declared.time.Duration.{Duration}
@@ -9,7 +9,8 @@ use Rattle.moo_desk.specs.Stages.{ended}
 use Rattle.moo_desk.specs.Choices.{CutsAt, IsLingering, IsStuck, answers_of, held_of, largest_of}
 use Rattle.std.specs.List.{sum_by}
 use Rattle.std.proofs.lemmas.List.Sums.{sum_by-drop_more}
-use Rattle.moo_desk.specs.Each.{HoldsOfNone, IsFirstPlace, OfFirst, TurnsFirst}
+use Rattle.moo_desk.specs.Each.{HoldsOfNone, IsFirstPlace, OfFirst, TakesFirst, TurnsFirst}
+use Rattle.moo_desk.proofs.Ledgers.{taken_out}
 use Rattle.moo_desk.proofs.Reading.{saturated}
 
 -- it holds of none of so many
@@ -46,6 +47,18 @@ pub first_holds : {A : Type 0} (Holds : A → Type 0) (n : ℕ) (xs : List A) (d
 first_holds Holds n [] d is = absurd is
 first_holds Holds zero (x ∷ xs) d is = is
 first_holds Holds (suc n) (x ∷ xs) d is = first_holds Holds n xs d is.1
+
+-- before the first place it holds of none
+none_before : {A : Type 0} (Holds : A → Type 0) (n : ℕ) (xs : List A) → IsFirstPlace Holds xs (Some n) → HoldsOfNone Holds (take n xs)
+none_before Holds n [] is = absurd is
+none_before Holds zero (x ∷ xs) is = tt
+none_before Holds (suc n) (x ∷ xs) is = (is.0, none_before Holds n xs is.1)
+
+-- what stands at the first place is taken out
+pub first_taken : {A : Type 0} (Holds : A → Type 0) (n : ℕ) (xs ys : List A) (x : A) → IsFirstPlace Holds xs (Some n) → get_or xs n x ≡ x → ys ≡ take n xs ++ drop (suc n) xs
+    → TakesFirst Holds xs x ys
+first_taken Holds n xs ys x is there out =
+    (take n xs, drop (suc n) xs, none_before Holds n xs is, subst Holds there (first_holds Holds n xs x is), taken_out xs n x (first_below Holds n xs is) there, out)
 
 pub not_lacking : {A : Type 0} (Holds : A → Type 0) (n : ℕ) (xs : List A) → IsFirstPlace Holds xs (Some n) → ¬ (HoldsOfNone Holds xs)
 not_lacking Holds n [] is lacks = is

@@ -15,7 +15,8 @@ use Rattle.moo_desk.specs.declared.leaving.Leaving.{Leaving}
 use Rattle.moo_desk.specs.declared.leaving.Stage.TheVariants.{Sending}
 use Rattle.moo_desk.specs.declared.outgoing.Outgoing.{Outgoing}
 use Rattle.moo_desk.specs.declared.slot.Slot.{Slot}
-use Rattle.moo_desk.specs.Each.{TakesOut}
+use Rattle.moo_desk.specs.Choices.{IsReady}
+use Rattle.moo_desk.specs.Each.{TakesFirst}
 use Rattle.moo_desk.specs.Deeds.{Book, book_of, Keep, Admits}
 use Rattle.moo_desk.specs.Ripe.{IsRipe}
 use Rattle.moo_desk.specs.Told.{TellsOf}
@@ -41,12 +42,12 @@ module _ {R W : Type 0}
     pub ripe : ∥ IsRipe it.is_limited it.reader.coming it.reader.bytes.items ∥₁
     pub peer : inward.peer it.reader.reader ≡ outward.peer it.writer.writer
 
-  -- one that came isn't held any more, or there is none
+  -- The first one that is to be handed out, in the order in which they came, isn't held any more; or there is none.
   abbrev pub TakesSlot : Book (Slot R W inward incoming reader outward writer) R W
       → Option (Slot R W inward incoming reader outward writer) → Book (Slot R W inward incoming reader outward writer) R W → Type 0
   TakesSlot old None new = new ≡ old
   TakesSlot old (Some slot) new =
-      (slot.rests ≡ true) × TakesOut old.slots slot new.slots × (new.leaving ≡ old.leaving) × (new.losses ≡ old.losses)
+      TakesFirst IsReady old.slots slot new.slots × (new.leaving ≡ old.leaving) × (new.losses ≡ old.losses)
 
   -- A connection is handed out, and isn't held any more; all others are that the gate gave. If none is handed out one of these at most
   -- was lost as it came. With what the desk holds is how many connections its gate gave by then.

@@ -204,11 +204,8 @@ impl<R: Inward + OpenStream + Drop, W: Outward + OpenStream + Drop> Held<R, W> {
         if held(&self.leaving) >= BUDGET {
             return None;
         }
-        let place = self.slots.iter().position(|slot| slot.rests)?;
-        if place < self.slots.len() && self.slots[place].rests {
-            return Some(self.slots.remove(place));
-        }
-        None
+        let place = first(&self.slots, &Ready)?;
+        Some(self.slots.remove(place))
     }
 
     /// For how long the oldest unfinished request can't be ended yet. None if it can be, or if there is none.

@@ -210,12 +210,12 @@ module _ {R W : Type 0} {inward : Inward.Ghosts R} {incoming : Incoming.Ghosts R
         held = owes.holds;
         losses = omega (arith, owes.counts);
       }
-  ledger_after (calls_accept (Some it) ∷ earlier) first last (between, runs, (slot, mid, comes, (rests, out, leaving, losses), is)) bound =
+  ledger_after (calls_accept (Some it) ∷ earlier) first last (between, runs, (slot, mid, comes, (out, leaving, losses), is)) bound =
       let so = ledger_after earlier first between runs (omega (arith, bound)) in
       let owes = owes_kept comes.came _ _ so.began (in_all told_in earlier) (omega (arith, given_count earlier so.began so.given, bound)) comes.keep (record { fates = so.fates; becomes = so.becomes; holds = so.held; counts = so.losses }) in
       record {
         missed = so.missed;
-        came = omega (arith, so.came, comes.all, comes.few, slots_kept comes.came _ _ comes.keep, taken_length mid.slots last.0.slots.items slot out);
+        came = omega (arith, so.came, comes.all, comes.few, slots_kept comes.came _ _ comes.keep, taken_length mid.slots last.0.slots.items slot (out.0, out.1, out.4, out.5));
         few = omega (arith, so.few);
         began = so.began;
         fates = owes.fates;

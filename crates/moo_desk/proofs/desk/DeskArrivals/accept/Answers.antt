@@ -26,6 +26,6 @@ returns-in-Some g c =
         book_of c.go_round-took.new.self.held,
         admits_joined 0 _ _ _ c.loop.invariant (c.go_round-took.ensures.none (λ is. absurd (true≢false (sym (rw is at c.if-eq.ensures))))),
         handed,
-        record { rests = handed.0; same = (refl, refl, refl, refl); ripe = ∥∥₁_map c.in-Some.slot.ripe (λ ripe. ripe handed.0); peer = c.in-Some.slot.pair },
+        record { rests = handed.0.3; same = (refl, refl, refl, refl); ripe = ∥∥₁_map c.in-Some.slot.ripe (λ ripe. ripe handed.0.3); peer = c.in-Some.slot.pair },
       );
     }
