@@ -8,3 +8,4 @@ pub mod AtCheck
 pub mod Nesting
 pub mod Ticking
 pub mod Seen
+pub mod Before

@@ -1,5 +1,5 @@
 -- What the calls of a batch and a batch come to on rows.
-use Rattle.std.specs.Prelude.{◌≡◌, ◌≢◌, ◌<◌, true, List, [], None, Result, Ok, Err, ⊤}
+use Rattle.std.specs.Prelude.{◌≡◌, ◌≢◌, ◌<◌, ◌-◌, true, List, [], None, Result, Ok, Err, ⊤}
 use Rattle.moo_value.specs.declared.value.Value.{Value}
 use Rattle.moo_value.specs.declared.value.ObjNo.{ObjNo}
 use Rattle.moo_rows.specs.Maps.{Maps, Held}
@@ -11,6 +11,7 @@ use Rattle.moo_world.specs.Judge as model
 use Rattle.moo_world.specs.Judge.{State, state_of}
 use Rattle.moo_world.specs.Outcomes.{Failure}
 use Rattle.moo_batch.specs.declared.witness.Refusal.{Refusal}
+use Rattle.moo_batch.specs.Facts.{state_before_call}
 use Rattle.moo_batch.specs.declared.judging.Stop.{Stop}
 use Rattle.moo_batch.specs.declared.judging.Stop.TheVariants.{Refused as refused_at, Full as full_at, OutOfMemory as no_memory}
 use Rattle.moo_batch.specs.declared.judging.Verdict.{Verdict}
@@ -34,6 +35,13 @@ abbrev pub IsGoodAt : Maps → Stop → Type 0
 IsGoodAt maps (refused_at refusal) = refusal.held ≡ None → IsGood maps
 IsGoodAt maps (full_at call) = ⊤
 IsGoodAt maps (no_memory call) = ⊤
+
+-- at a check that fails the rows show the state after the calls before, unless it is one of a call that a granted petition holds
+abbrev pub StandsAtCheck : ObjNo → List Call → State → State → Stop → Type 0
+StandsAtCheck programmer calls state now (refused_at refusal) =
+    refusal.held ≡ None → now ≡ state_before_call state programmer calls (refusal.call - 1)
+StandsAtCheck programmer calls state now (full_at call) = ⊤
+StandsAtCheck programmer calls state now (no_memory call) = ⊤
 
 -- what done calls keep: the rows are good ones, no batch is counted yet, and each call kept numbers
 pub record HaveKept (p : ObjNo) (calls : List Call) (old new : Held) : Type 0 where

@@ -1,21 +1,24 @@
 //! What a batch comes to.
 
-ghost use Rattle.std.specs.Prelude.{◌≡◌, ◌+◌, ◌<◌, ◌≤◌, ℕ, Some, true, false, length, OnOk, IfErr};
+ghost use Rattle.std.specs.Prelude.{◌≡◌, ◌+◌, ◌<◌, ◌≤◌, ℕ, Option, Some, true, false, length, OnOk, IfSome, IfErr};
+ghost use Rattle.moo_batch.specs.declared.witness.Facts.{Facts};
 ghost use Rattle.moo_batch.specs.declared.witness.Refusal.{Refusal};
 ghost use Rattle.moo_world.specs.Reasons.{error_of};
 ghost use Rattle.moo_rows.specs.Maps.{Maps};
 ghost use Rattle.moo_memory.specs.Changes.{AreChanges};
-ghost use Rattle.moo_world.specs.Rows.{IsGood};
+ghost use Rattle.moo_world.specs.Rows.{IsGood, world_of};
 ghost use Rattle.moo_world.specs.Between.{CallKeepsNumbers};
 ghost use Rattle.moo_world.specs.Judge.{is_due, run_calls};
 ghost use Rattle.moo_world.specs.Names.{is_grant};
 ghost use Rattle.moo_world.specs.Requests.{batch_call};
 ghost use Rattle.moo_batch.specs.Outcomes.{state_in, KeepsGoodRows, Reaches, StaysAtCheck};
 ghost use Rattle.moo_batch.specs.Ticks.{TakesOne, TakesTicks};
-ghost use Rattle.moo_batch.specs.Judge.{ComeTo, HaveKept, IsGoodAt, IsVerdict};
+ghost use Rattle.moo_batch.specs.Judge.{ComeTo, HaveKept, IsGoodAt, IsVerdict, StandsAtCheck};
+ghost use Rattle.moo_batch.specs.Facts.{AreFacts};
 ghost use Rattle.moo_batch.specs.Seeing.{HasSeen};
 
 use crate::charging::ticks_of;
+use crate::facts::show_refusal;
 use crate::stepping::step;
 use crate::witness::{Refusal, Witness};
 use moo_calls_shared::Fault;
@@ -90,6 +93,7 @@ fn run_calls<R: Rows>(
     ensures comes { ComeTo (run_calls (state_in (R.held rows.old)) programmer calls.now) (state_in (R.held rows.new)) result }
     ensures kept { OnOk result (HaveKept programmer calls.now (R.held rows.old) (R.held rows.new)) }
     ensures good { IfErr result (IsGoodAt (R.held rows.new).maps) }
+    ensures at { IfErr result (StandsAtCheck programmer calls.now (state_in (R.held rows.old)) (state_in (R.held rows.new))) }
 {
     let mut answers = Vec::new(alloc);
     for call in calls {
@@ -154,6 +158,7 @@ fn counted(alloc: Global, head: Head) -> Changes
 /// The verdict on a batch whose calls stopped, which left these rows over those that it was judged on. The witness sees a refusal, and
 /// ticks that are spent.
 fn stopped<B: Rows, R: Rows, W: Witness>(
+    alloc: Global,
     base: &B,
     rows: &R,
     batch: &Batch,
@@ -165,14 +170,15 @@ fn stopped<B: Rows, R: Rows, W: Witness>(
     ensures full { (call : ℕ) → stop ≡ Stop.Full call → result ≡ Verdict.Full call }
     ensures memory { (call : ℕ) → stop ≡ Stop.OutOfMemory call → result ≡ Verdict.OutOfMemory }
     ensures ticks { W.left witness.new ≡ W.left witness.old }
-    ensures sees { (refusal : Refusal) → stop ≡ Stop.Refused refusal →
-        W.sees (W.kept witness.old) batch.now refusal (W.kept witness.new) }
+    ensures sees { (refusal : Refusal) → stop ≡ Stop.Refused refusal → (facts : Option Facts)
+        × IfSome facts (AreFacts (world_of (R.held rows.now).maps) (B.held base.now).maps batch.now refusal)
+        × W.sees (W.kept witness.old) batch.now refusal facts (W.kept witness.new) }
     ensures full_still { (call : ℕ) → stop ≡ Stop.Full call → W.kept witness.new ≡ W.kept witness.old }
     ensures memory_still { (call : ℕ) → stop ≡ Stop.OutOfMemory call → W.kept witness.new ≡ W.kept witness.old }
 {
     match stop {
         Stop::Refused(refusal) => {
-            witness.see(base, rows, batch, refusal);
+            show_refusal(alloc, base, rows, batch, refusal, witness);
             Verdict::Refused {
                 call: refusal.call,
                 code: refusal.reason.code(),
@@ -238,7 +244,7 @@ pub fn judge<R: Rows, W: Witness>(
     leave_ticks(&draft, ticks, witness);
     let answers = match ran {
         Ok(answers) => answers,
-        Err(stop) => return stopped(rows, &draft, batch, stop, witness),
+        Err(stop) => return stopped(alloc, rows, &draft, batch, stop, witness),
     };
     let mut next = draft.head();
     next.seq = head.seq + 1;

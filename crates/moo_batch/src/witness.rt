@@ -1,13 +1,13 @@
 //! Who sees how a batch is judged.
 
-ghost use Rattle.std.specs.Prelude.{◌≡◌, ℕ, Option, None, option_map};
+ghost use Rattle.std.specs.Prelude.{◌≡◌, ℕ, Option, option_map};
+ghost use Rattle.moo_batch.specs.declared.witness.Facts.{Facts};
 ghost use Rattle.moo_batch.specs.declared.witness.Refusal.{Refusal};
 ghost use Rattle.moo_world.specs.declared.call.Batch.{Batch};
-ghost use Rattle.moo_world.specs.Rows.{IsGood};
 
-use moo_calls_shared::Reason;
-use moo_rows::Rows;
-use moo_world::Batch;
+use moo_disclosure::Disclosure;
+use moo_value::ValueList;
+use moo_world::{Batch, Reason};
 
 /// Why a batch is refused: its first call that fails, numbered from 1, and the check that failed.
 #[derive(Clone, Copy)]
@@ -18,7 +18,18 @@ pub struct Refusal {
     pub reason: Reason,
 }
 
-/// Who says how many ticks a batch may take, and sees why it is refused, at the check that failed.
+/// What whoever tells of a refusal is told of the rows.
+#[derive(Drop)]
+pub struct Facts<'a> {
+    /// Names that its programmer may list.
+    pub names: Disclosure,
+    /// What the petition asks for that the call grants, if the batch doesn't make it and its programmer may see it.
+    pub petition: Option<&'a ValueList>,
+    /// The number that the first petition of the batch gets.
+    pub next_petition: u32,
+}
+
+/// Who says how many ticks a batch may take, and sees why it is refused, at the check that failed. It never sees rows.
 pub trait Witness {
     /// What it keeps of the refusals that it has seen.
     ghost Kept: { Type 0 };
@@ -26,7 +37,7 @@ pub trait Witness {
     ghost kept: { Self → Kept };
 
     /// What it keeps before and after it sees the refusal of a batch.
-    ghost sees: { Kept → Batch → Refusal → Kept → Type 0 };
+    ghost sees: { Kept → Batch → Refusal → Option Facts → Kept → Type 0 };
 
     /// How many ticks are left, or `None` if there is no bound.
     ghost left: { Self → Option ℕ };
@@ -45,10 +56,11 @@ pub trait Witness {
         ensures left { left self.new ≡ left self.old }
         ensures kept { kept self.new ≡ kept self.old };
 
-    /// A batch is refused that was judged on the rows `base`. The other rows are those on which the check failed. If a granted petition
-    /// fails, they have been changed by the calls that it holds before the one that failed.
-    fn see<B: Rows, R: Rows>(&mut self, base: &B, rows: &R, batch: &Batch, refusal: Refusal)
-        requires { refusal.held ≡ None → IsGood (R.held rows.now).maps }
+    /// Whether it wants to be told the facts of a refusal.
+    fn wants_facts(&self) -> bool;
+
+    /// A batch is refused. The facts are `None` if it doesn't want them, or memory ran out for them.
+    fn see(&mut self, batch: &Batch, refusal: Refusal, facts: Option<&Facts<'_>>)
         ensures left { left self.new ≡ left self.old }
-        ensures sees { sees (kept self.old) batch.now refusal (kept self.new) };
+        ensures sees { sees (kept self.old) batch.now refusal (option_map (λ f. f.now) facts.entry) (kept self.new) };
 }

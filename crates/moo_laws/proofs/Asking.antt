@@ -4,7 +4,8 @@ use Rattle.moo_world.specs.declared.name.CallName.TheVariants.{Valid, Parent, Ch
 use Rattle.moo_world.specs.declared.descriptor.Desc.TheVariants.{Index, Name as a_word}
 use Rattle.moo_world.specs.declared.built_in.BuiltIn.{BuiltIn}
 use Rattle.moo_world.specs.declared.built_in.BuiltIn.TheVariants.{Name as NameField, Owner, Location, Contents, Programmer, Wizard, R, W, F}
-use Rattle.moo_world.specs.Outcomes.{given}
+use Rattle.moo_world.specs.Outcomes.{Failure, given}
+use Rattle.moo_world.specs.declared.reason.Reason.{Reason}
 use Rattle.std.specs.Prelude.{Err}
 use Rattle.moo_value.specs.declared.value.Value.TheVariants.{Int, Obj, Str}
 use Rattle.moo_world.specs.Objects.{nothing, object_at}
@@ -30,21 +31,21 @@ use Rattle.moo_laws.specs.Reading.{is_question, emptied_slot, LookAlike, SameAns
 
 -- ---- along the checks
 
-both_checked : (b c : Bool) (code : Code) (r s : Outcome World) → c ≡ b → (b ≡ true → SameAnswer r s) → SameAnswer (check b (Failed code) r) (check c (Failed code) s)
-both_checked true true code r s e h = h refl
-both_checked true false code r s e h = absurd (false≢true e)
-both_checked false true code r s e h = absurd (false≢true (sym e))
-both_checked false false code r s e h = refl
+both_checked : (b c : Bool) (failure : Failure) (r s : Outcome World) → c ≡ b → (b ≡ true → SameAnswer r s) → SameAnswer (check b (Failed failure) r) (check c (Failed failure) s)
+both_checked true true failure r s e h = h refl
+both_checked true false failure r s e h = absurd (false≢true e)
+both_checked false true failure r s e h = absurd (false≢true (sym e))
+both_checked false false failure r s e h = refl
 
 both_given : {A : Type 0} (r : Result A Code) (f g : A → Outcome World) → ((a : A) → SameAnswer (f a) (g a)) → SameAnswer (given r f) (given r g)
 both_given (Ok a) f g h = h a
 both_given (Err code) f g h = refl
 
-both_found : {A : Type 0} (o q : Option A) (code : Code) (f g : A → Outcome World) → q ≡ o → ((a : A) → SameAnswer (f a) (g a)) → SameAnswer (found_or o code f) (found_or q code g)
-both_found (Some a) (Some b) code f g e h = subst (λ x. SameAnswer (f a) (g x)) (sym (same_Some b a e)) (h a)
-both_found (Some a) None code f g e h = absurd (none-some a e)
-both_found None (Some b) code f g e h = absurd (none-some b (sym e))
-both_found None None code f g e h = refl
+both_found : {A : Type 0} (o q : Option A) (reason : Reason) (f g : A → Outcome World) → q ≡ o → ((a : A) → SameAnswer (f a) (g a)) → SameAnswer (found_or o reason f) (found_or q reason g)
+both_found (Some a) (Some b) reason f g e h = subst (λ x. SameAnswer (f a) (g x)) (sym (same_Some b a e)) (h a)
+both_found (Some a) None reason f g e h = absurd (none-some a e)
+both_found None (Some b) reason f g e h = absurd (none-some b (sym e))
+both_found None None reason f g e h = refl
 
 both_fields : (o : Option BuiltIn) (f g : BuiltIn → Outcome World) (r s : Outcome World) → ((x : BuiltIn) → SameAnswer (f x) (g x)) → SameAnswer r s → SameAnswer (by_field o f r) (by_field o g s)
 both_fields (Some x) f g r s h k = h x
@@ -117,8 +118,8 @@ module _ (p : ObjNo) (w v : World) (alike : LookAlike p w v) where
 
   -- ---- the calls
 
-  object_checked : (x : ObjNo) (code : Code) (r s : Outcome World) → SameAnswer r s → SameAnswer (check (is_object w x) (Failed code) r) (check (is_object v x) (Failed code) s)
-  object_checked x code r s h = both_checked (is_object w x) (is_object v x) code r s (ap (λ f. f x) there) (λ _. h)
+  object_checked : (x : ObjNo) (failure : Failure) (r s : Outcome World) → SameAnswer r s → SameAnswer (check (is_object w x) (Failed failure) r) (check (is_object v x) (Failed failure) s)
+  object_checked x failure r s h = both_checked (is_object w x) (is_object v x) failure r s (ap (λ f. f x) there) (λ _. h)
 
   parents : parent_of v ≡ parent_of w
   parents = sym (parents_same w v alike.rest)
@@ -131,11 +132,11 @@ module _ (p : ObjNo) (w v : World) (alike : LookAlike p w v) where
   may_read : (a b : Slot) → emptied_slot b ≡ emptied_slot a → may_read_slot v p b ≡ may_read_slot w p a
   may_read a b same = λ i. passes (λ row. row.wizard) i p || (same_object p (same i).owner || (same i).bits.r)
 
-  slot_found : (x : ObjNo) (n : Name) (code : Code) (f g : Slot → Outcome World) → ((a b : Slot) → slot_of w x n ≡ Some a → slot_of v x n ≡ Some b → emptied_slot b ≡ emptied_slot a → SameAnswer (f a) (g b))
-      → SameAnswer (found_or (slot_of w x n) code f) (found_or (slot_of v x n) code g)
-  slot_found x n code f g h = by (slot_of w x n) refl (slot_of v x n) refl (alike.slots x n)
+  slot_found : (x : ObjNo) (n : Name) (reason : Reason) (f g : Slot → Outcome World) → ((a b : Slot) → slot_of w x n ≡ Some a → slot_of v x n ≡ Some b → emptied_slot b ≡ emptied_slot a → SameAnswer (f a) (g b))
+      → SameAnswer (found_or (slot_of w x n) reason f) (found_or (slot_of v x n) reason g)
+  slot_found x n reason f g h = by (slot_of w x n) refl (slot_of v x n) refl (alike.slots x n)
     where
-      by : (o : Option Slot) → slot_of w x n ≡ o → (q : Option Slot) → slot_of v x n ≡ q → option_map emptied_slot q ≡ option_map emptied_slot o → SameAnswer (found_or o code f) (found_or q code g)
+      by : (o : Option Slot) → slot_of w x n ≡ o → (q : Option Slot) → slot_of v x n ≡ q → option_map emptied_slot q ≡ option_map emptied_slot o → SameAnswer (found_or o reason f) (found_or q reason g)
       by (Some a) e (Some b) d same = h a b e d (same_Some (emptied_slot b) (emptied_slot a) same)
       by (Some a) e None d same = absurd (none-some (emptied_slot a) same)
       by None e (Some b) d same = absurd (none-some (emptied_slot b) (sym same))

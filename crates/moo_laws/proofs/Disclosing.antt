@@ -1,27 +1,25 @@
--- What a refusal tells is the same on rows that differ in values alone, and each name is one that the programmer may list.
-use Rattle.std.proofs.Common.{◌≡◌, ℕ, zero, suc, ◌<◌, Bool, true, false, ◌||◌, inl, inr, List, [], ◌∷◌, Option, Some, None, IfSome, take, refl, sym, ap, ◌∙◌, subst, arith}
-use Rattle.std.{specs.Prelude.{if◌then◌else◌, is_some, unwrap_or}, specs.List.{All, Contains, cons_option, filter_map, flat_map}, specs.Option.{option_and_then, option_map}, specs.FinMap.{get}}
-use Rattle.std.proofs.lemmas.List.Elements.{All-append, All-nil, All-take, Contains-append_left, Contains-append_right, Contains-get_or, filter_map-append}
-use Rattle.std.proofs.lemmas.Bool.{cases_lt}
+-- What a refusal tells is the same in worlds that differ in values alone, and each name is one that the programmer may list.
+use Rattle.std.proofs.Common.{◌≡◌, suc, Bool, true, false, ◌||◌, List, [], ◌∷◌, Option, Some, None, IfSome, take, refl, sym, ap, ◌∙◌, arith}
+use Rattle.std.{specs.Prelude.{if◌then◌else◌, is_some, unwrap_or}, specs.List.{All, find, flat_map}, specs.Option.{option_and_then, option_map}}
+use Rattle.std.proofs.lemmas.List.Elements.{All-append, All-nil, All-take, Contains-get_or}
 use Rattle.moo_value.{specs.declared.value.ObjNo.{ObjNo}, specs.declared.value.Value.{Value}}
-use Rattle.moo_rows.{specs.Maps.{Maps}, specs.declared.row.ObjRow.{ObjRow}, specs.declared.row.PropId.{PropId}, specs.declared.row.PropRow.{PropRow}}
-use Rattle.moo_world.{proofs.Lemmas.{World, Slot, false≢true, names_same, same_object, same_object-Decides, SameButSlots}, proofs.Ownership.Created.{chains_same}, proofs.Shown.RowLaws.{names_shown}}
-use Rattle.moo_world.{specs.declared.name.CallName.{CallName}, specs.Objects.{Name, folded}, specs.Rights.{may_read_object}, specs.Rows.{IsSound, LookUps, look_ups, name_on, numbers_below, prop_id, world_of}, specs.World.{chain, property_names_of, slot_of}}
-use Rattle.moo_calls_shared.{specs.declared.reason.Reason.{Reason}, specs.declared.reason.Reason.TheVariants.{NameShared}}
+use Rattle.moo_world.{proofs.Lemmas.{ObjRow, World, Slot, names_same, same_object, SameButSlots}, proofs.Ownership.Created.{chains_same}}
+use Rattle.moo_world.{specs.declared.name.CallName.{CallName}, specs.Objects.{Name, folded}, specs.Rights.{may_read_object}, specs.World.{chain, property_names_of, slot_of}}
+use Rattle.moo_world.{specs.declared.reason.Reason.{Reason}, specs.declared.reason.Reason.TheVariants.{NameShared}}
 use Rattle.moo_laws.{specs.Listed.{IsListed}, specs.Reading.{emptied_slot}, proofs.Asking.{same_rows}}
-use Rattle.moo_disclosure.specs.Disclosed.{clash_name, lacks_property, names_listed, names_meant, names_near, objects_searched, property_given}
+use Rattle.moo_disclosure.specs.Disclosed.{clash_name, lacks_property, name_shared, names_listed, names_meant, names_near, new_parent_given, objects_searched, property_given}
 
--- ---- the same on rows that differ in values alone
+-- ---- the same in worlds that differ in values alone
 
 module _ (p : ObjNo) (w v : World) (rest : SameButSlots w v) where
-  pub may_list : (x : ObjNo) → may_read_object v p x ≡ may_read_object w p x
+  may_list : (x : ObjNo) → may_read_object v p x ≡ may_read_object w p x
   may_list x = ap (λ (r : ObjNo → Option ObjRow). (unwrap_or (option_map (λ row. same_object p row.owner) (r x)) false || unwrap_or (option_map (λ row. row.wizard) (r p)) false) || unwrap_or (option_map (λ row. row.r) (r x)) false) (same_rows w v rest)
 
   listed_same : (x : ObjNo) → names_listed v p x ≡ names_listed w p x
   listed_same x = λ i. if may_list x i then (sym (names_same w v rest) i x) else []
 
   module _ (slots : (x : ObjNo) (n : Name) → option_map emptied_slot (slot_of v x n) ≡ option_map emptied_slot (slot_of w x n)) where
-    pub has_same : (x : ObjNo) (n : Name) → is_some (slot_of v x n) ≡ is_some (slot_of w x n)
+    has_same : (x : ObjNo) (n : Name) → is_some (slot_of v x n) ≡ is_some (slot_of w x n)
     has_same x n = sym (emptied (slot_of v x n)) ∙ ap is_some (slots x n) ∙ emptied (slot_of w x n)
       where
         emptied : (o : Option Slot) → is_some (option_map emptied_slot o) ≡ is_some o
@@ -34,10 +32,12 @@ module _ (p : ObjNo) (w v : World) (rest : SameButSlots w v) where
     pub meant_same : (call : CallName) (args : List Value) (reason : Reason) → names_meant v p call args reason ≡ names_meant w p call args reason
     meant_same call args reason = ap (λ (near : ObjNo × Name → List Name). if lacks_property reason then elim (property_given args) [ None ↦ [] | Some given ↦ near given ] else []) (λ i given. near_same call given i)
 
-pub clash_same : (p : ObjNo) (maps other : Maps) (reason : Reason) → SameButSlots (world_of maps) (world_of other) → other.props ≡ maps.props → clash_name other p reason ≡ clash_name maps p reason
-clash_same p maps other reason rest props = ap (λ (name : ObjNo → PropId → Option Name). elim reason [ NameShared definer property ↦ name definer property | _ ↦ None ])
-    (λ i definer property. if may_list p (world_of maps) (world_of other) rest definer i
-    then option_and_then (λ (row : PropRow). if same_object row.definer definer then Some row.name else None) (get (props i) (prop_id property.0)) else None)
+    shared_same : (definer q : ObjNo) → name_shared v definer q ≡ name_shared w definer q
+    shared_same definer q = λ i. find (λ name. has_same q (folded name) i) (take 200 (sym (names_same w v rest) i definer))
+
+    pub clash_same : (args : List Value) (reason : Reason) → clash_name v p args reason ≡ clash_name w p args reason
+    clash_same args reason = ap (λ (name : ObjNo → Option Name). elim reason [ NameShared definer ↦ name definer | _ ↦ None ])
+        (λ i definer. if may_list definer i then option_and_then (λ q. shared_same definer q i) (new_parent_given args) else None)
 
 -- ---- each name is listed
 
@@ -68,43 +68,21 @@ module _ (w : World) (p : ObjNo) where
       by true (Some given) = near_listed call given
       by false given = All-nil (IsListed w p)
 
--- what one of the numbers below a bound gives is among what they give
-among_below : {X : Type 0} (f : ℕ → Option X) (x : X) (k : ℕ) → f k ≡ Some x → (n : ℕ) → k < n → Contains (filter_map f (numbers_below n)) x
-among_below f x k found zero below = absurd (omega (arith, below))
-among_below f x k found (suc n) below = subst (λ l. Contains l x) (sym (filter_map-append f (numbers_below n) (n ∷ []))) (elim (cases_lt k n) [
-  | inl less ↦ Contains-append_left (filter_map f (numbers_below n)) (cons_option (f n) []) x (among_below f x k found n less)
-  | inr least ↦ Contains-append_right (filter_map f (numbers_below n)) (cons_option (f n) []) x
-      (subst (λ o. Contains (cons_option o []) x) (sym found ∙ ap f (omega (arith, below, least))) (0, omega arith, refl))
-])
+  -- ---- what is found
 
-module _ (maps : Maps) (sound : IsSound maps) (p definer : ObjNo) (id : ℕ) where
-  abbrev m : LookUps
-  m = look_ups maps
-
-  -- what the definer defines has the name of the property
-  among_own : (row : PropRow) → m.prop id ≡ Some row → row.definer ≡ definer → (owner : Option ObjRow) → m.object definer ≡ owner → Contains (property_names_of (world_of maps) definer) row.name
-  among_own row held own None none = absurd (false≢true (sym (ap is_some none) ∙ ap (λ d. is_some (m.object d)) (sym own) ∙ sound.definers id row held))
-  among_own row held own (Some entry) there = subst (λ l. Contains l row.name) (sym (names_shown m definer entry there))
-      (among_below (name_on m definer) row.name id (ap (option_and_then (λ (q : PropRow). if same_object q.definer definer then Some q.name else None)) held ∙ ap (λ b. if b then Some row.name else None) ((same_object-Decides row.definer definer).1 own)) m.head.next_prop (sound.props_below id (ap is_some held)).1)
-
-  name_listed : may_read_object (world_of maps) p definer ≡ true → IfSome (name_on m definer id) (IsListed (world_of maps) p)
-  name_listed may = by (m.prop id) refl
+  found_listed : (test : Name → Bool) (names : List Name) → All (IsListed w p) names → IfSome (find test names) (IsListed w p)
+  found_listed test [] listed = tt
+  found_listed test (name ∷ names) listed = by (test name) (found_listed test names (λ k d below. listed (suc k) d (omega (arith, below))))
     where
-      if_own : (row : PropRow) → m.prop id ≡ Some row → (b : Bool) → same_object row.definer definer ≡ b → IfSome (if b then Some row.name else None) (IsListed (world_of maps) p)
-      if_own row held true own = (definer, may, among_own row held ((same_object-Decides row.definer definer).0 own) (m.object definer) refl)
-      if_own row held false own = tt
+      by : (b : Bool) → IfSome (find test names) (IsListed w p) → IfSome (if b then Some name else find test names) (IsListed w p)
+      by true rest = listed 0 name (omega arith)
+      by false rest = rest
 
-      by : (o : Option PropRow) → m.prop id ≡ o → IfSome (option_and_then (λ (q : PropRow). if same_object q.definer definer then Some q.name else None) o) (IsListed (world_of maps) p)
-      by None held = tt
-      by (Some row) held = if_own row held (same_object row.definer definer) refl
-
-  pub shared_listed : IfSome (if may_read_object (world_of maps) p definer then name_on m definer id else None) (IsListed (world_of maps) p)
-  shared_listed = by (may_read_object (world_of maps) p definer) refl
+  pub clash_listed : (args : List Value) (reason : Reason) → IfSome (clash_name w p args reason) (IsListed w p)
+  clash_listed args (NameShared definer) = by (may_read_object w p definer) refl (new_parent_given args)
     where
-      by : (b : Bool) → may_read_object (world_of maps) p definer ≡ b → IfSome (if b then name_on m definer id else None) (IsListed (world_of maps) p)
-      by true may = name_listed may
-      by false may = tt
-
-pub clash_listed : (p : ObjNo) (maps : Maps) → IsSound maps → (reason : Reason) → IfSome (clash_name maps p reason) (IsListed (world_of maps) p)
-clash_listed p maps sound (NameShared definer property) = shared_listed maps sound p definer property.0
-clash_listed p maps sound other = tt
+      by : (b : Bool) → may_read_object w p definer ≡ b → (given : Option ObjNo) → IfSome (if b then option_and_then (name_shared w definer) given else None) (IsListed w p)
+      by true may (Some q) = found_listed _ (take 200 (property_names_of w definer)) (All-take (IsListed w p) 200 (property_names_of w definer) (λ k d below. (definer, may, Contains-get_or (property_names_of w definer) k d below)))
+      by true may None = tt
+      by false may given = tt
+  clash_listed args other = tt

@@ -1,9 +1,11 @@
 -- Each call of who isn't a wizard tells the same in worlds that are the same but for guarded values, and leaves such worlds.
-use Rattle.moo_world.{proofs.Lemmas.{◌≡◌, true, false, ◌||◌, List, [], ◌∷◌, ◌++◌, not, nat_lt, nat_le, length, refl, sym, ap, subst, Option, unwrap_or, option_map, and_parts, Code, ObjNo, Value, Clear, Set, Name, nothing, same_object, same_text, folded, is_among, Outcome, Done, Failed, Full, World, IsWellFormed, is_object, is_wizard, may_define, clashes, change_of, created, plain_object, owner_or_self, recycled, owner_of, owners_same, create, chparent, recycle, move, set_player_flag, set_accept, set, add_property, delete_property, set_property_info, clear_property, named_call, Holds, check, quota_returned, int_lt, filter, has_word}, proofs.Form.Fields.{not_true}, specs.declared.name.CallName.{CallName}, specs.declared.descriptor.Desc.{Desc}}
+use Rattle.moo_world.{proofs.Lemmas.{◌≡◌, true, false, ◌||◌, List, [], ◌∷◌, ◌++◌, not, nat_lt, nat_le, length, refl, sym, ap, subst, Option, unwrap_or, option_map, and_parts, ObjNo, Value, Clear, Set, Name, nothing, same_object, same_text, folded, is_among, Outcome, Done, Failed, Full, World, IsWellFormed, is_object, is_wizard, may_define, clashes, change_of, created, plain_object, owner_or_self, recycled, owner_of, owners_same, create, chparent, recycle, move, set_player_flag, set_accept, set, add_property, delete_property, set_property_info, clear_property, named_call, Holds, check, quota_returned, int_lt, filter, has_word}, proofs.Form.Fields.{not_true}, specs.declared.name.CallName.{CallName}, specs.declared.descriptor.Desc.{Desc}}
 use Rattle.moo_world.specs.declared.name.CallName.TheVariants.{Valid, Parent, Children, IsPlayer, Players, MaxObject, Get, Properties, PropertyInfo, IsClearProperty, Verbs, VerbInfo, VerbArgs, AcceptList, Create, Chparent, Recycle, Move, SetPlayerFlag, Set as to_set, AddProperty, DeleteProperty, SetPropertyInfo, ClearProperty, AddVerb, DeleteVerb, SetVerbInfo, SetVerbArgs, SetAccept, Petition, Petitions, Grant, Decline}
 use Rattle.moo_world.specs.Arguments.{Info, one_object, two_objects, object_and_text, object_and_value, object_text_and_value, parent_and_owner, object_and_accept, new_property, new_property_info, object_and_desc, new_verb, new_verb_info, new_verb_args}
 use Rattle.std.specs.Prelude.{pos}
 use Rattle.moo_world.specs.BuiltIns.{built_in}
+use Rattle.moo_world.specs.Outcomes.{Failure, of_itself}
+use Rattle.moo_world.specs.declared.reason.Reason.TheVariants.{NameShared}
 use Rattle.moo_world.specs.VerbCalls.{add_verb, delete_verb, set_verb_info, set_verb_args}
 use Rattle.moo_laws.specs.Reading.{is_question, SameAnswer}
 use Rattle.moo_laws.specs.Guarded.{SameButGuarded}
@@ -14,20 +16,21 @@ use Rattle.moo_laws.proofs.GuardedSlots.{alike_rebuilt, alike_changed}
 use Rattle.moo_laws.proofs.GuardedWorlds.{alike_rows, alike_verbs, next_verb_alike, both_changed, both_added, both_removed, charged_alike, returned_alike, quota_same}
 use Rattle.moo_laws.proofs.GuardedNames.{alike_added}
 use Rattle.moo_laws.proofs.GuardedInfo.{renamed_alike}
-use Rattle.moo_laws.proofs.GuardedChecks.{Both, on_checks, on_rooms, on_givens, on_founds, on_nexts, on_fields, on_slots, objects, chains, wizards, controlled, parents_allowed, owners_allowed, writable, verbs_writable, known, numbered, names_shared, accepting, within, settable, owner_there, definable, defining, renamable, slots_writable, written_is_shown}
+use Rattle.moo_laws.proofs.GuardedChecks.{Both, on_checks, on_checks_for, on_rooms, on_givens, on_takens, on_founds, on_nexts, on_fields, on_slots, objects, chains, wizards, controlled, parents_allowed, owners_allowed, writable, verbs_writable, known, numbered, names_shared, accepting, within, settable, owner_there, definable, defining, renamable, slots_writable, written_is_shown}
+use Rattle.moo_laws.proofs.GuardedClashes.{unfit_same, met_same, unset_same, undefined_same, unrenamed_same}
 
 module _ (p : ObjNo) (w v : World) (wf : IsWellFormed w) (none : is_wizard w p ≡ false) (alike : SameButGuarded p w v) where
   abbrev Rel : World → World → Type 0
   Rel x y = SameButGuarded p x y
 
-  object_there : (x : ObjNo) (code : Code) (r s : Outcome World) → (is_object w x ≡ true → Both Rel r s) → Both Rel (check (is_object w x) (Failed code) r) (check (is_object v x) (Failed code) s)
-  object_there x code r s h = on_checks Rel (is_object w x) (is_object v x) code r s (objects p w v alike.rest x) h
+  object_there : (x : ObjNo) (failure : Failure) (r s : Outcome World) → (is_object w x ≡ true → Both Rel r s) → Both Rel (check (is_object w x) (Failed failure) r) (check (is_object v x) (Failed failure) s)
+  object_there x failure r s h = on_checks Rel (is_object w x) (is_object v x) failure r s (objects p w v alike.rest x) h
 
   -- ---- objects
 
   creates : (q owner : ObjNo) → Both Rel (create w p q owner) (create v p q owner)
   creates q owner =
-      on_checks Rel _ _ _ _ _ (parents_allowed p w v alike.rest q) λ _.
+      on_checks_for Rel _ _ _ _ _ _ (ap of_itself (unfit_same p w v alike.rest q)) (parents_allowed p w v alike.rest q) λ _.
       on_checks Rel _ _ _ _ _ (owners_allowed p w v alike.rest owner) λ _.
       on_checks Rel _ _ _ _ _ (known p w v alike.rest owner) λ _.
       on_checks Rel _ _ _ _ _ (λ i. same_object nothing owner || unwrap_or (option_map (λ quota. int_lt (pos 0) quota) (quota_same p w v alike owner i)) true) λ _.
@@ -41,7 +44,7 @@ module _ (p : ObjNo) (w v : World) (wf : IsWellFormed w) (none : is_wizard w p �
       on_checks Rel _ _ _ _ _ (controlled p w v alike.rest x) λ _.
       on_checks Rel _ _ _ _ _ (parents_allowed p w v alike.rest q) λ _.
       on_checks Rel _ _ _ _ _ (λ i. not (is_among x (chains p w v alike.rest q i))) λ _.
-      on_checks Rel _ _ _ _ _ (λ i. not (names_shared p w v alike.rest x q i)) λ _.
+      on_checks_for Rel _ _ _ _ _ _ (λ i. of_itself (NameShared (met_same p w v alike.rest x q i))) (λ i. not (names_shared p w v alike.rest x q i)) λ _.
       (refl, alike_rebuilt p w v alike _ _ q (both_changed w v x (λ entry. record entry { row = record entry.row { parent = q } }) alike.rest (λ r. refl)))
 
   recycles : (x : ObjNo) → Both Rel (recycle w p x) (recycle v p x)
@@ -81,8 +84,8 @@ module _ (p : ObjNo) (w v : World) (wf : IsWellFormed w) (none : is_wizard w p �
   sets x n value =
       object_there x _ _ _ λ _.
       on_fields Rel (built_in n) _ _ _ _
-      (λ f. on_givens Rel (change_of f value) _ _ λ c.
-      on_checks Rel _ _ _ _ _ (settable p w v alike.rest x f) λ _.
+      (λ f. on_takens Rel (change_of f value) _ _ λ c.
+      on_checks_for Rel _ _ _ _ _ _ (ap of_itself (unset_same p w v alike.rest x f)) (settable p w v alike.rest x f) λ _.
       on_checks Rel _ _ _ _ _ (owner_there p w v alike.rest c) λ _.
       (refl, alike_rows p w v alike x _))
       (on_slots p w v alike Rel x (folded n) _ _ _ λ a b e same.
@@ -96,7 +99,7 @@ module _ (p : ObjNo) (w v : World) (wf : IsWellFormed w) (none : is_wizard w p �
       on_founds Rel _ _ _ _ _ refl λ bits.
       on_checks Rel _ _ _ _ _ (writable p w v alike.rest x) λ _.
       on_checks Rel _ _ _ _ _ (owners_allowed p w v alike.rest info.0) λ _.
-      on_checks Rel _ _ _ _ _ (definable p w v alike.rest x n) λ may.
+      on_checks_for Rel _ _ _ _ _ _ (ap of_itself (undefined_same p w v alike.rest x n)) (definable p w v alike.rest x n) λ may.
       on_rooms Rel _ _ _ _ (ap (λ (k : World). nat_lt k.next_prop 4294967295) (sym alike.rest))
       (refl, alike_added p w v alike wf x n (record { definer = x; owner = info.0; bits = bits; state = Set value }) xo (free x n may) refl)
     where
@@ -168,7 +171,7 @@ module _ (p : ObjNo) (w v : World) (wf : IsWellFormed w) (none : is_wizard w p �
       on_founds Rel _ _ _ _ _ refl λ bits.
       on_checks Rel _ _ _ _ _ (slots_writable p w v alike.rest a b same) λ may.
       on_checks Rel _ _ _ _ _ (λ i. same_object info.0 (same i).owner || wizards p w v alike.rest i) λ _.
-      on_checks Rel _ _ _ _ _ (renamable p w v alike.rest x n new) λ good.
+      on_checks_for Rel _ _ _ _ _ _ (ap of_itself (unrenamed_same p w v alike.rest x n new)) (renamable p w v alike.rest x n new) λ good.
       (refl, renamed_alike p w v wf none alike x n a e (written_is_shown p w v alike.rest none (folded n) a may) info.0 bits there new good)
 
   -- ---- each call by its name

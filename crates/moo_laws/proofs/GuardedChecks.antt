@@ -1,9 +1,9 @@
 -- The checks of calls pass alike in worlds that are the same but for guarded values.
 use Rattle.moo_world.{proofs.Lemmas.{◌≡◌, Bool, true, false, ◌&&◌, ◌||◌, List, [], ◌∷◌, ◌+ℤ◌, map, not, filter, flat_map, list_any, arith, refl, sym, ap, subst, ◌∙◌, pos, int_lt, Option, Some, None, Result, Ok, is_some, unwrap_or, if◌then◌else◌, option_map, option_and_then, option_or, false≢true, none-some, same_Some, Code, ObjNo, ObjRow, VerbRow, Name, Property, nothing, same_object, folded, is_among, Outcome, Done, Failed, Full, check, found_or, World, WorldObject, Slot, SameButSlots, is_object, location_of, slot_of, chain, climb, numbers_to, location_chain, property_named, shares_property_name, next_object, is_wizard, controls, may_be_parent, may_make_owner, may_set, may_write_object, may_write_slot, may_write_verb, accept_along, accepts, is_within, names_same, objects_same, row_of, row_passes, may_define, may_rename, defines_name, owner_is_object, property_names_of, is_property_name}, proofs.Form.Values.{clashes_same, defines_same}, proofs.Ownership.Created.{chains_same}}
 use Rattle.std.specs.Prelude.{Err}
-use Rattle.moo_world.specs.Outcomes.{given, with_next}
+use Rattle.moo_world.specs.Outcomes.{Failure, given, taken_for, with_next}
+use Rattle.moo_world.specs.declared.reason.Reason.{Reason}
 use Rattle.moo_world.specs.PropertyCalls.{by_field}
-use Rattle.moo_world.specs.Rights.{may_read_slot, may_read_verb}
 use Rattle.moo_world.specs.Objects.{object_at}
 use Rattle.moo_world.specs.Rows.{numbers_below}
 use Rattle.moo_world.specs.declared.built_in.BuiltIn.{BuiltIn}
@@ -24,11 +24,15 @@ Both Q Full Full = Unit {0}
 Both Q o q = ⊥
 
 module _ {S : Type 0} (Q : S → S → Type 0) where
-  pub on_checks : (b c : Bool) (code : Code) (r s : Outcome S) → c ≡ b → (b ≡ true → Both Q r s) → Both Q (check b (Failed code) r) (check c (Failed code) s)
-  on_checks true true code r s e h = h refl
-  on_checks true false code r s e h = absurd (false≢true e)
-  on_checks false true code r s e h = absurd (false≢true (sym e))
-  on_checks false false code r s e h = refl
+  -- a check that fails for a reason of the world's
+  pub on_checks_for : (b c : Bool) (failure other : Failure) (r s : Outcome S) → other ≡ failure → c ≡ b → (b ≡ true → Both Q r s) → Both Q (check b (Failed failure) r) (check c (Failed other) s)
+  on_checks_for true true failure other r s same e h = h refl
+  on_checks_for true false failure other r s same e h = absurd (false≢true e)
+  on_checks_for false true failure other r s same e h = absurd (false≢true (sym e))
+  on_checks_for false false failure other r s same e h = same
+
+  pub on_checks : (b c : Bool) (failure : Failure) (r s : Outcome S) → c ≡ b → (b ≡ true → Both Q r s) → Both Q (check b (Failed failure) r) (check c (Failed failure) s)
+  on_checks b c failure r s e h = on_checks_for b c failure failure r s refl e h
 
   pub on_rooms : (b c : Bool) (r s : Outcome S) → c ≡ b → Both Q r s → Both Q (check b Full r) (check c Full s)
   on_rooms true true r s e h = h
@@ -40,11 +44,15 @@ module _ {S : Type 0} (Q : S → S → Type 0) where
   on_givens (Ok a) f g h = h a
   on_givens (Err code) f g h = refl
 
-  pub on_founds : {A : Type 0} (o q : Option A) (code : Code) (f g : A → Outcome S) → q ≡ o → ((a : A) → Both Q (f a) (g a)) → Both Q (found_or o code f) (found_or q code g)
-  on_founds (Some a) (Some b) code f g e h = subst (λ x. Both Q (f a) (g x)) (sym (same_Some b a e)) (h a)
-  on_founds (Some a) None code f g e h = absurd (none-some a e)
-  on_founds None (Some b) code f g e h = absurd (none-some b (sym e))
-  on_founds None None code f g e h = refl
+  pub on_takens : {A : Type 0} (r : Result A Reason) (f g : A → Outcome S) → ((a : A) → Both Q (f a) (g a)) → Both Q (taken_for r f) (taken_for r g)
+  on_takens (Ok a) f g h = h a
+  on_takens (Err reason) f g h = refl
+
+  pub on_founds : {A : Type 0} (o q : Option A) (reason : Reason) (f g : A → Outcome S) → q ≡ o → ((a : A) → Both Q (f a) (g a)) → Both Q (found_or o reason f) (found_or q reason g)
+  on_founds (Some a) (Some b) reason f g e h = subst (λ x. Both Q (f a) (g x)) (sym (same_Some b a e)) (h a)
+  on_founds (Some a) None reason f g e h = absurd (none-some a e)
+  on_founds None (Some b) reason f g e h = absurd (none-some b (sym e))
+  on_founds None None reason f g e h = refl
 
   pub on_nexts : (o q : Option ObjNo) (f g : ObjNo → Outcome S) → q ≡ o → ((x : ObjNo) → Both Q (f x) (g x)) → Both Q (with_next o f) (with_next q g)
   on_nexts (Some a) (Some b) f g e h = subst (λ x. Both Q (f a) (g x)) (sym (same_Some b a e)) (h a)
@@ -88,9 +96,6 @@ module _ (p : ObjNo) (w v : World) (rest : SameButSlots w v) where
 
   pub writable : (x : ObjNo) → may_write_object v p x ≡ may_write_object w p x
   writable x = λ i. controlled x i || passing (λ row. row.w) x i
-
-  pub verbs_readable : (verb : VerbRow) → may_read_verb v p verb ≡ may_read_verb w p verb
-  verbs_readable verb = λ i. wizards i || (same_object p verb.owner || verb.bits.r)
 
   pub verbs_writable : (verb : VerbRow) → may_write_verb v p verb ≡ may_write_verb w p verb
   verbs_writable verb = λ i. wizards i || (same_object p verb.owner || verb.bits.w)
@@ -162,9 +167,6 @@ module _ (p : ObjNo) (w v : World) (rest : SameButSlots w v) where
 
   -- ---- slots
 
-  pub slots_readable : (a b : Slot) → emptied_slot b ≡ emptied_slot a → may_read_slot v p b ≡ may_read_slot w p a
-  slots_readable a b same = λ i. wizards i || (same_object p (same i).owner || (same i).bits.r)
-
   pub slots_writable : (a b : Slot) → emptied_slot b ≡ emptied_slot a → may_write_slot v p b ≡ may_write_slot w p a
   slots_writable a b same = λ i. wizards i || (same_object p (same i).owner || (same i).bits.w)
 
@@ -173,10 +175,10 @@ module _ (p : ObjNo) (w v : World) (rest : SameButSlots w v) where
   written_is_shown none n a may = grind arith
 
 module _ (p : ObjNo) (w v : World) (alike : SameButGuarded p w v) where
-  pub on_slots : (Q : World → World → Type 0) (x : ObjNo) (n : Name) (code : Code) (f g : Slot → Outcome World) → ((a b : Slot) → slot_of w x n ≡ Some a → emptied_slot b ≡ emptied_slot a → Both Q (f a) (g b)) → Both Q (found_or (slot_of w x n) code f) (found_or (slot_of v x n) code g)
-  on_slots Q x n code f g h = by (slot_of w x n) refl (slot_of v x n) (alike.slots x n)
+  pub on_slots : (Q : World → World → Type 0) (x : ObjNo) (n : Name) (reason : Reason) (f g : Slot → Outcome World) → ((a b : Slot) → slot_of w x n ≡ Some a → emptied_slot b ≡ emptied_slot a → Both Q (f a) (g b)) → Both Q (found_or (slot_of w x n) reason f) (found_or (slot_of v x n) reason g)
+  on_slots Q x n reason f g h = by (slot_of w x n) refl (slot_of v x n) (alike.slots x n)
     where
-      by : (o : Option Slot) → slot_of w x n ≡ o → (q : Option Slot) → option_map emptied_slot q ≡ option_map emptied_slot o → Both Q (found_or o code f) (found_or q code g)
+      by : (o : Option Slot) → slot_of w x n ≡ o → (q : Option Slot) → option_map emptied_slot q ≡ option_map emptied_slot o → Both Q (found_or o reason f) (found_or q reason g)
       by (Some a) e (Some b) same = h a b e (same_Some (emptied_slot b) (emptied_slot a) same)
       by (Some a) e None same = absurd (none-some (emptied_slot a) same)
       by None e (Some b) same = absurd (none-some (emptied_slot b) (sym same))

@@ -1,7 +1,9 @@
 -- The calls of petitions of who isn't a wizard tell the same in states that are alike, and leave such states.
-use Rattle.moo_world.{proofs.Lemmas.{◌≡◌, ℤ, pos, negsuc, Bool, true, false, cond, ◌||◌, List, ◌+◌, map, nat_lt, refl, sym, ap, ◌∙◌, Option, Some, None, is_some, if◌then◌else◌, option_map, option_and_then, both_ways, false≢true, none-some, get, get-insert, get-remove, list_of, ObjNo, Value, Values, Int, PetitionId, PetitionRow, petition_cmp, petition_total, petition_id, are_few, are_shallow, are_on_world, is_named, asked, without, Outcome, Done, Failed, check, found_or, same_object, State, is_wizard, petition_call_by, one_list, one_integer, no_values, list_all, spread, InvalidArgument, Permission}, specs.declared.name.PetitionCall.{PetitionCall}}
+use Rattle.moo_world.{proofs.Lemmas.{◌≡◌, ℤ, pos, negsuc, Bool, true, false, cond, ◌||◌, List, ◌+◌, map, nat_lt, refl, sym, ap, ◌∙◌, Option, Some, None, is_some, if◌then◌else◌, option_map, option_and_then, both_ways, false≢true, none-some, get, get-insert, get-remove, list_of, ObjNo, Value, Values, Int, PetitionId, PetitionRow, petition_cmp, petition_total, petition_id, are_few, are_shallow, are_on_world, is_named, asked, without, Outcome, Done, check, found_or, same_object, State, is_wizard, petition_call_by, one_list, one_integer, no_values, list_all, spread}, specs.declared.name.PetitionCall.{PetitionCall}}
 use Rattle.std.specs.Ordering.{eq_by_cmp}
 use Rattle.moo_world.specs.Answers.{zero}
+use Rattle.moo_world.specs.Outcomes.{fails}
+use Rattle.moo_world.specs.declared.reason.Reason.TheVariants.{NoPetition, NotAsker}
 use Rattle.moo_world.specs.Requests.{listed, petition, petitions, grant, decline}
 use Rattle.moo_world.specs.declared.name.PetitionCall.TheVariants.{Petition as to_petition, Petitions as to_list, Grant as to_grant, Decline as to_decline}
 use Rattle.moo_laws.specs.Guarded.{AlikeFor}
@@ -10,7 +12,7 @@ use Rattle.moo_laws.proofs.Unseen.{seen_own}
 use Rattle.moo_laws.proofs.GuardedChecks.{Both, on_checks, on_rooms, on_givens, wizards}
 
 -- a petition is the programmer's own in both states or in neither
-pub owned_alike : (p : ObjNo) (a b : PetitionRow) → ◌≡◌ {A = Option PetitionRow} (if same_object b.who p then Some b else None) (if same_object a.who p then Some a else None) → same_object b.who p ≡ same_object a.who p
+owned_alike : (p : ObjNo) (a b : PetitionRow) → ◌≡◌ {A = Option PetitionRow} (if same_object b.who p then Some b else None) (if same_object a.who p then Some a else None) → same_object b.who p ≡ same_object a.who p
 owned_alike p a b e = by (same_object a.who p) (same_object b.who p) e
   where
     by : (x y : Bool) → ◌≡◌ {A = Option PetitionRow} (if y then Some b else None) (if x then Some a else None) → y ≡ x
@@ -89,7 +91,7 @@ module _ (p : ObjNo) (s t : State) (alike : AlikeFor p s t) (none : is_wizard s.
       by_own false o q e = e
 
   abbrev taken_away : State → Option (PetitionId × PetitionRow) → Outcome State
-  taken_away u o = found_or o InvalidArgument (λ found. check (same_object found.1.who p || is_wizard u.world p) (Failed Permission) (Done zero (without found.0 u)))
+  taken_away u o = found_or o NoPetition (λ found. check (same_object found.1.who p || is_wizard u.world p) (fails NotAsker) (Done zero (without found.0 u)))
 
   declines_one : (id : PetitionId) (o q : Option PetitionRow) → is_some q ≡ is_some o → own_now q ≡ own_now o → Both Rel (taken_away s (option_map (λ row. (id, row)) o)) (taken_away t (option_map (λ row. (id, row)) q))
   declines_one id None None e same = refl

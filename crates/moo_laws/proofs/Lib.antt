@@ -11,6 +11,7 @@ pub mod GuardedSlots
 pub mod GuardedWorlds
 pub mod GuardedNames
 pub mod GuardedChecks
+pub mod GuardedClashes
 pub mod GuardedInfo
 pub mod GuardedCalls
 pub mod GuardedPetitions
@@ -23,8 +24,3 @@ pub mod QuotaCalls
 pub mod QuotaBatches
 pub mod QuotaSums
 pub mod Disclosing
-pub mod RowsShown
-pub mod TrueReasons
-pub mod ReadingErrors
-pub mod TrueRefusals
-pub mod OneReason

@@ -2,8 +2,9 @@
 use Rattle.moo_world.{proofs.Lemmas.{◌≡◌, List, [], ◌∷◌, arith, refl, subst, Option, Some, None, nat_lt, if◌then◌else◌, ObjNo, Value, Outcome, Done, Failed, Full, State, World, held_call, held_step, held_steps, world_call, Led, of_done, request_leaves}, specs.declared.call.Call.{Call}, specs.declared.call.Batch.{Batch}}
 use Rattle.moo_world.specs.Judge.{Ran, Through, FailedAt, FullAt, NoRoom, Stale, after_one, run_calls, is_due, last_seq, verdict_of, judge, left_by, after}
 use Rattle.moo_world.specs.Requests.{batch_call}
-use Rattle.moo_world.specs.Codes.{E_INVARG}
-use Rattle.std.specs.Prelude.{Bool, true, false}
+use Rattle.moo_world.specs.Outcomes.{fails, in_petition}
+use Rattle.moo_world.specs.declared.reason.Reason.TheVariants.{Unasked}
+use Rattle.std.specs.Prelude.{ℕ, ◌+◌, Bool, true, false}
 use Rattle.moo_laws.specs.ObjectNumbers.{KeepsObjectNumbers}
 use Rattle.moo_laws.proofs.ObjectNumbers.{none_again, none_again_itself, none_again_joins}
 
@@ -11,24 +12,24 @@ use Rattle.moo_laws.proofs.ObjectNumbers.{none_again, none_again_itself, none_ag
 one_held : (w mid : World) (p : ObjNo) (held : Value) (a : Value) → held_step w p held ≡ Done a mid → KeepsObjectNumbers w mid
 one_held w mid p held a e = by (held_call held) e
   where
-    by : (o : Option Call) → (elim o [ None ↦ Failed E_INVARG | Some call ↦ world_call w p call ]) ≡ Done a mid → KeepsObjectNumbers w mid
+    by : (o : Option Call) → (elim o [ None ↦ fails Unasked | Some call ↦ world_call w p call ]) ≡ Done a mid → KeepsObjectNumbers w mid
     by None e = absurd (grind arith)
     by (Some call) e = none_again w mid p call a e
 
 -- all of them
-held_again : (w next : World) (p : ObjNo) (helds : List Value) (v : Value) → held_steps w p helds ≡ Done v next → KeepsObjectNumbers w next
-held_again w next p [] v e = subst (λ (o : Outcome World). IfDone o) e (none_again_itself w)
+held_again : (place : ℕ) (w next : World) (p : ObjNo) (helds : List Value) (v : Value) → held_steps place w p helds ≡ Done v next → KeepsObjectNumbers w next
+held_again place w next p [] v e = subst (λ (o : Outcome World). IfDone o) e (none_again_itself w)
   where
     IfDone : Outcome World → Type 0
     IfDone (Done v next) = KeepsObjectNumbers w next
-    IfDone (Failed code) = Unit {0}
+    IfDone (Failed failure) = Unit {0}
     IfDone Full = Unit {0}
-held_again w next p (held ∷ helds) v e = by (held_step w p held) (λ mid a done. one_held w mid p held a done) (λ mid done. held_again mid next p helds v done) e
+held_again place w next p (held ∷ helds) v e = by (held_step w p held) (λ mid a done. one_held w mid p held a done) (λ mid done. held_again (place + 1) mid next p helds v done) e
   where
-    by : (o : Outcome World) → ((mid : World) (a : Value) → o ≡ Done a mid → KeepsObjectNumbers w mid) → ((mid : World) → held_steps mid p helds ≡ Done v next → KeepsObjectNumbers mid next)
-        → (elim o [ Done answer mid ↦ held_steps mid p helds | Failed code ↦ Failed code | Full ↦ Full ]) ≡ Done v next → KeepsObjectNumbers w next
+    by : (o : Outcome World) → ((mid : World) (a : Value) → o ≡ Done a mid → KeepsObjectNumbers w mid) → ((mid : World) → held_steps (place + 1) mid p helds ≡ Done v next → KeepsObjectNumbers mid next)
+        → (elim o [ Done answer mid ↦ held_steps (place + 1) mid p helds | Failed failure ↦ Failed (in_petition place failure) | Full ↦ Full ]) ≡ Done v next → KeepsObjectNumbers w next
     by (Done a mid) one rest e = none_again_joins w mid next (one mid a refl) (rest mid e)
-    by (Failed code) one rest e = absurd (grind arith)
+    by (Failed failure) one rest e = absurd (grind arith)
     by Full one rest e = absurd (grind arith)
 
 request_again : (s next : State) (p : ObjNo) (call : Call) (v : Value) → batch_call s p call ≡ Done v next → KeepsObjectNumbers s.world next.world
@@ -39,7 +40,7 @@ request_again s next p call v e = of_done (λ v next. KeepsObjectNumbers s.world
       stepped = λ v w e. none_again s.world w p call v e;
       same = none_again_itself s.world;
       asked = λ calls given there named few shallow left. none_again_itself s.world;
-      granted = λ id row there v w e. held_again s.world w p _ v e;
+      granted = λ id row there v w e. held_again 0 s.world w p _ v e;
       declined = λ id. none_again_itself s.world;
     }
 
@@ -58,9 +59,9 @@ calls_again : (s : State) (p : ObjNo) (calls : List Call) → LeavesNumbers s.wo
 calls_again s p [] = none_again_itself s.world
 calls_again s p (call ∷ calls) = by (batch_call s p call) refl (λ next. calls_again next p calls)
   where
-    by : (o : Outcome State) → batch_call s p call ≡ o → ((next : State) → LeavesNumbers next.world (run_calls next p calls)) → LeavesNumbers s.world (elim o [ Done v next ↦ after_one v (run_calls next p calls) | Failed code ↦ FailedAt 1 code | Full ↦ FullAt 1 ])
+    by : (o : Outcome State) → batch_call s p call ≡ o → ((next : State) → LeavesNumbers next.world (run_calls next p calls)) → LeavesNumbers s.world (elim o [ Done v next ↦ after_one v (run_calls next p calls) | Failed failure ↦ FailedAt 1 failure | Full ↦ FullAt 1 ])
     by (Done v next) e rest = one_more s.world next.world v (run_calls next p calls) (request_again s next p call v e) (rest next)
-    by (Failed code) e rest = tt
+    by (Failed failure) e rest = tt
     by Full e rest = tt
 
 batch_again : (s : State) (b : Batch) → KeepsObjectNumbers s.world (left_by s (judge s b)).world

@@ -64,7 +64,7 @@ calls_move p owner (call ∷ calls) s quota formed fit none kept answers end h =
     by : (o : Outcome State) → batch_call s p call ≡ o
         → ((next : State) (quota : ℤ) → IsFormed next → list_all arguments_fit calls ≡ true → is_wizard next.world p ≡ false → HasKeptQuota next.world owner quota → (answers : List Value) (end : State) → run_calls next p calls ≡ Through answers end
         → QuotaMoves end.world owner quota (share (same_object p owner) (of_kind makes calls)) (share (same_object p owner) (of_kind ends calls)))
-        → (elim o [ Done v next ↦ after_one v (run_calls next p calls) | Failed code ↦ FailedAt 1 code | Full ↦ FullAt 1 ]) ≡ Through answers end
+        → (elim o [ Done v next ↦ after_one v (run_calls next p calls) | Failed failure ↦ FailedAt 1 failure | Full ↦ FullAt 1 ]) ≡ Through answers end
         → QuotaMoves end.world owner quota (share (same_object p owner) (of_kind makes (call ∷ calls))) (share (same_object p owner) (of_kind ends (call ∷ calls)))
     by (Done v next) e rest h =
         let later : IsFormed next = requests_keep_form s next p call v formed parts.0 e in
@@ -73,7 +73,7 @@ calls_move p owner (call ∷ calls) s quota formed fit none kept answers end h =
         subst (λ n. QuotaMoves end.world owner quota n (share (same_object p owner) (of_kind ends (call ∷ calls)))) (shares_join (same_object p owner) (cond (makes call.name) 1 0) (of_kind makes calls))
         (subst (λ n. QuotaMoves end.world owner quota (share (same_object p owner) (cond (makes call.name) 1 0) + share (same_object p owner) (of_kind makes calls)) n) (shares_join (same_object p owner) (cond (ends call.name) 1 0) (of_kind ends calls))
         (moves_join end.world owner quota one.0 _ _ _ _ one.2.0 one.2.1 one.2.2 one.2.3 (rest next one.0 later parts.1 (none_after s next p call v formed.world none e) one.1 goes.0 end goes.1)))
-    by (Failed code) e rest h = absurd (grind arith)
+    by (Failed failure) e rest h = absurd (grind arith)
     by Full e rest h = absurd (grind arith)
 
 -- ---- batches

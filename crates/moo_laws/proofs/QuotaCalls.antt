@@ -147,7 +147,7 @@ moved_by w next p owner quota call v wf formed none kept done = of_done (λ v le
 
     weaker : (o : Outcome World) (po : is_object w p ≡ true) → Holds (λ v left. Effect w p owner quota wf po none kept (cond (makes call.name) 1 0) (cond (ends call.name) 1 0) left) o
         → Holds (λ v left. IsWellFormed left → KeepsOwnership w left p (name_after w call) → KeepsObjectNumbers w left → QuotaMoves left owner quota (if same_object p owner then cond (makes call.name) 1 0 else 0) (if same_object p owner then cond (ends call.name) 1 0 else 0)) o
-    weaker (Failed code) po h = tt
+    weaker (Failed failure) po h = tt
     weaker Full po h = tt
     weaker (Done a left) po h = λ formed own numbers. (h.now, kept_now w left p owner quota h.now (still_gone w left p (name_after w call) own numbers) kept (same_chain w p owner quota wf po none kept left formed h.lines) h.lines h.faces h.own, (h.back, h.few, h.sum, λ small. exact (if same_object p owner then cond (ends call.name) 1 0 else 0) h.back h.few h.whole small))
 

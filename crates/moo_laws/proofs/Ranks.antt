@@ -166,14 +166,14 @@ calls_keep s p (call ∷ calls) formed none answers end h = by (batch_call s p c
   where
     by : (o : Outcome State) → batch_call s p call ≡ o
         → ((next : State) → FormedBy next p calls → is_wizard next.world p ≡ false → (answers : List Value) (end : State) → run_calls next p calls ≡ Through answers end → Kept next.world end.world (λ x named. slot_behind_calls next p calls x named))
-        → (elim o [ Done v next ↦ after_one v (run_calls next p calls) | Failed code ↦ FailedAt 1 code | Full ↦ FullAt 1 ]) ≡ Through answers end
-        → Kept s.world end.world (λ x named. elim o [ Done answer next ↦ option_and_then (slot_behind_calls next p calls x) (slot_behind_call s.world next.world call x named) | Failed code ↦ None | Full ↦ None ])
+        → (elim o [ Done v next ↦ after_one v (run_calls next p calls) | Failed failure ↦ FailedAt 1 failure | Full ↦ FullAt 1 ]) ≡ Through answers end
+        → Kept s.world end.world (λ x named. elim o [ Done answer next ↦ option_and_then (slot_behind_calls next p calls x) (slot_behind_call s.world next.world call x named) | Failed failure ↦ None | Full ↦ None ])
     by (Done v next) e rest h =
         let one = one_call s next p call v formed.0 none e in
         let goes = ran_on v (run_calls next p calls) answers end h in
         kept_joins s.world next.world end.world (λ x named. slot_behind_call s.world next.world call x named) (λ x named. slot_behind_calls next p calls x named) formed.0 one
         (rest next (formed.1 v next e) (still_none s.world next.world p one.rises none) goes.0 end goes.1)
-    by (Failed code) e rest h = absurd (grind arith)
+    by (Failed failure) e rest h = absurd (grind arith)
     by Full e rest h = absurd (grind arith)
 
 -- ---- batches

@@ -1,14 +1,16 @@
 -- Batches that only read have the same verdicts from states that agree.
 use Rattle.moo_world.{proofs.Form.Passing.{each_check}, proofs.Lemmas.{◌≡◌, Bool, true, false, ◌||◌, List, [], ◌∷◌, arith, refl, sym, ap, subst, Option, Some, None, Result, Ok, ◌+◌, if◌then◌else◌, map, nat_lt, list_all, false≢true, and_parts, Code, ObjNo, Value, same_object, same_object-Decides, State, World, is_object, Outcome, Done, Failed, Full, Holds, check, named_call, in_world, petition_call, petition_call_by, no_values, list_of, batch_call}, specs.declared.name.CallName.{CallName}, specs.declared.call.Call.{Call}, specs.declared.call.Batch.{Batch}}
-use Rattle.std.specs.Prelude.{Err}
-use Rattle.moo_world.specs.Outcomes.{given}
+use Rattle.std.specs.Prelude.{ℕ, zero, suc, Err}
+use Rattle.moo_world.specs.Reasons.{error_of}
+use Rattle.moo_world.specs.Outcomes.{Failure, given}
 use Rattle.moo_world.specs.Requests.{listed}
 use Rattle.moo_world.specs.declared.name.PetitionCall.{PetitionCall}
 use Rattle.moo_world.specs.declared.name.CallName.TheVariants.{Valid, Parent, Children, IsPlayer, Players, MaxObject, Get, Properties, PropertyInfo, IsClearProperty, Verbs, VerbInfo, VerbArgs, AcceptList, Create, Chparent, Recycle, Move, SetPlayerFlag, Set, AddProperty, DeleteProperty, SetPropertyInfo, ClearProperty, AddVerb, DeleteVerb, SetVerbInfo, SetVerbArgs, SetAccept, Petition, Petitions, Grant, Decline}
 use Rattle.moo_world.specs.declared.name.PetitionCall.TheVariants.{Petitions as to_list}
 use Rattle.moo_world.specs.Judge.{Ran, Through, FailedAt, FullAt, Verdict, NoRoom, Stale, after_one, run_calls, is_due, last_seq, verdict_of, judge, left_by}
+use Rattle.moo_batch.specs.Facts.{state_before_call}
 use Rattle.moo_laws.specs.Reading.{is_question, SameAnswer}
-use Rattle.moo_laws.specs.Agreeing.{AgreeFor, SameVerdict, TellTheSame, lists_petitions, only_asks}
+use Rattle.moo_laws.specs.Agreeing.{AgreeFor, SameVerdict, TellTheSame, lists_petitions, only_asks, refusal_of}
 use Rattle.moo_laws.proofs.Asking.{there, asked}
 use Rattle.moo_laws.proofs.PetitionsSeen.{same_list}
 
@@ -52,20 +54,20 @@ stays w p Petitions values h = absurd (false≢true h)
 stays w p Grant values h = absurd (false≢true h)
 stays w p Decline values h = absurd (false≢true h)
 
-pub of_world : (name : CallName) → is_question name ≡ true → petition_call name ≡ None
+of_world : (name : CallName) → is_question name ≡ true → petition_call name ≡ None
 of_world name h = grind arith
 
-pub to_the_list : (name : CallName) → lists_petitions name ≡ true → petition_call name ≡ Some to_list
+to_the_list : (name : CallName) → lists_petitions name ≡ true → petition_call name ≡ Some to_list
 to_the_list name h = grind arith
 
-pub either : (a b : Bool) → (a || b) ≡ true → (a ≡ false → b ≡ true)
+either : (a b : Bool) → (a || b) ≡ true → (a ≡ false → b ≡ true)
 either a b h = grind arith
 
 -- ---- one call from two states
 
 module _ (p : ObjNo) (s t : State) where
-  -- one answer or one error, and each state stays
-  abbrev pub SameStep : Outcome State → Outcome State → Type 0
+  -- one answer or one reason, and each state stays
+  abbrev SameStep : Outcome State → Outcome State → Type 0
   SameStep (Done a x) (Done b y) = (b ≡ a) × ((x ≡ s) × (y ≡ t))
   SameStep (Failed c) (Failed d) = d ≡ c
   SameStep Full Full = Unit {0}
@@ -89,11 +91,11 @@ module _ (p : ObjNo) (s t : State) where
   in_both Full (Done b y) same left right = absurd same
   in_both Full (Failed d) same left right = absurd same
 
-  step_checked : (b c : Bool) (code : Code) (o q : Outcome State) → c ≡ b → SameStep o q → SameStep (check b (Failed code) o) (check c (Failed code) q)
-  step_checked true true code o q e h = h
-  step_checked false false code o q e h = refl
-  step_checked true false code o q e h = absurd (false≢true e)
-  step_checked false true code o q e h = absurd (false≢true (sym e))
+  step_checked : (b c : Bool) (failure : Failure) (o q : Outcome State) → c ≡ b → SameStep o q → SameStep (check b (Failed failure) o) (check c (Failed failure) q)
+  step_checked true true failure o q e h = h
+  step_checked false false failure o q e h = refl
+  step_checked true false failure o q e h = absurd (false≢true e)
+  step_checked false true failure o q e h = absurd (false≢true (sym e))
 
   step_given : {A : Type 0} (r : Result A Code) (f g : A → Outcome State) → ((a : A) → SameStep (f a) (g a)) → SameStep (given r f) (given r g)
   step_given (Ok a) f g h = h a
@@ -114,7 +116,7 @@ module _ (p : ObjNo) (s t : State) where
     listed_step : (values : List Value) → SameStep (petition_call_by s p to_list values) (petition_call_by t p to_list values)
     listed_step values = step_given (no_values values) _ _ (λ _. (ap (λ es. list_of (map listed es)) (same_list s t p agree.petitions), (refl, refl)))
 
-    pub step : (call : Call) → (is_question call.name || lists_petitions call.name) ≡ true → SameStep (batch_call s p call) (batch_call t p call)
+    step : (call : Call) → (is_question call.name || lists_petitions call.name) ≡ true → SameStep (batch_call s p call) (batch_call t p call)
     unfolding batch_call
     step call h = step_checked (is_object s.world p) (is_object t.world p) _ _ _ (ap (λ f. f p) (there p s.world t.world agree.worlds)) (by (is_question call.name) refl)
       where
@@ -129,13 +131,52 @@ module _ (p : ObjNo) (s t : State) where
     runs [] h = (refl, (refl, refl))
     runs (call ∷ calls) h = let parts = and_parts _ _ h in by (batch_call s p call) (batch_call t p call) (step call parts.0) (runs calls parts.1)
       where
-        by : (o q : Outcome State) → SameStep o q → SameRun (run_calls s p calls) (run_calls t p calls) → SameRun (elim o [ Done v next ↦ after_one v (run_calls next p calls) | Failed code ↦ FailedAt 1 code | Full ↦ FullAt 1 ]) (elim q [ Done v next ↦ after_one v (run_calls next p calls) | Failed code ↦ FailedAt 1 code | Full ↦ FullAt 1 ])
+        by : (o q : Outcome State) → SameStep o q → SameRun (run_calls s p calls) (run_calls t p calls) → SameRun (elim o [ Done v next ↦ after_one v (run_calls next p calls) | Failed failure ↦ FailedAt 1 failure | Full ↦ FullAt 1 ]) (elim q [ Done v next ↦ after_one v (run_calls next p calls) | Failed failure ↦ FailedAt 1 failure | Full ↦ FullAt 1 ])
         by (Done a x) (Done b y) (e, (f, g)) rest =
             subst (λ z. SameRun (after_one a (run_calls z p calls)) (after_one b (run_calls y p calls))) (sym f)
             (subst (λ z. SameRun (after_one a (run_calls s p calls)) (after_one b (run_calls z p calls))) (sym g)
             (one_more a b (run_calls s p calls) (run_calls t p calls) e rest))
         by (Failed c) (Failed d) e rest = (refl, e)
         by Full Full e rest = refl
+        by (Done a x) (Failed d) e rest = absurd e
+        by (Done a x) Full e rest = absurd e
+        by (Failed c) (Done b y) e rest = absurd e
+        by (Failed c) Full e rest = absurd e
+        by Full (Done b y) e rest = absurd e
+        by Full (Failed d) e rest = absurd e
+
+    -- ---- why a batch is refused
+
+    reason_of_runs : (r q : Ran) → SameRun r q → ◌≡◌ {A = Option (ℕ × Failure)} (elim q [ FailedAt k d ↦ Some (k, d) | _ ↦ None ]) (elim r [ FailedAt k d ↦ Some (k, d) | _ ↦ None ])
+    reason_of_runs (Through vs x) (Through us y) h = refl
+    reason_of_runs (FailedAt k c) (FailedAt l d) (e, f) = λ i. Some (e i, f i)
+    reason_of_runs (FullAt k) (FullAt l) h = refl
+    reason_of_runs (Through vs x) (FailedAt l d) h = absurd h
+    reason_of_runs (Through vs x) (FullAt l) h = absurd h
+    reason_of_runs (FailedAt k c) (Through us y) h = absurd h
+    reason_of_runs (FailedAt k c) (FullAt l) h = absurd h
+    reason_of_runs (FullAt k) (Through us y) h = absurd h
+    reason_of_runs (FullAt k) (FailedAt l d) h = absurd h
+
+    pub refused_reading : (b : Batch) → only_asks p b ≡ true → refusal_of t b ≡ refusal_of s b
+    refused_reading b h =
+        let parts = and_parts (same_object b.programmer p) _ h in
+        let own : b.programmer ≡ p = (same_object-Decides b.programmer p).0 parts.0 in
+        reason_of_runs _ _ (subst (λ x. SameRun (run_calls s x b.calls) (run_calls t x b.calls)) (sym own) (runs b.calls parts.1))
+
+    -- ---- the state on which a call is made
+
+    pub reads_before : (calls : List Call) (place : ℕ) → list_all (λ call. is_question call.name || lists_petitions call.name) calls ≡ true
+        → AgreeFor p (state_before_call s p calls place) (state_before_call t p calls place)
+    reads_before calls zero h = agree
+    reads_before [] (suc place) h = agree
+    reads_before (call ∷ calls) (suc place) h = let parts = and_parts (is_question call.name || lists_petitions call.name) _ h in by (batch_call s p call) (batch_call t p call) (step call parts.0) (reads_before calls place parts.1)
+      where
+        by : (o q : Outcome State) → SameStep o q → AgreeFor p (state_before_call s p calls place) (state_before_call t p calls place)
+            → AgreeFor p (elim o [ Done v next ↦ state_before_call next p calls place | Failed failure ↦ s | Full ↦ s ]) (elim q [ Done v next ↦ state_before_call next p calls place | Failed failure ↦ t | Full ↦ t ])
+        by (Done a x) (Done b y) (e, (f, g)) rest = subst (λ z. AgreeFor p (state_before_call z p calls place) (state_before_call y p calls place)) (sym f) (subst (λ z. AgreeFor p (state_before_call s p calls place) (state_before_call z p calls place)) (sym g) rest)
+        by (Failed c) (Failed d) e rest = agree
+        by Full Full e rest = agree
         by (Done a x) (Failed d) e rest = absurd e
         by (Done a x) Full e rest = absurd e
         by (Failed c) (Done b y) e rest = absurd e
@@ -153,7 +194,7 @@ module _ (p : ObjNo) (s t : State) where
 
     of_runs : (r q : Ran) → SameRun r q → Judged (verdict_of s.seq r) (verdict_of t.seq q)
     of_runs (Through vs x) (Through us y) (e, (f, g)) = (e, subst (λ z. AgreeFor p (record z { seq = s.seq + 1 }) (record y { seq = t.seq + 1 })) (sym f) (subst (λ z. AgreeFor p (record s { seq = s.seq + 1 }) (record z { seq = t.seq + 1 })) (sym g) one_later))
-    of_runs (FailedAt k c) (FailedAt l d) e = (e, agree)
+    of_runs (FailedAt k c) (FailedAt l d) (e, f) = ((e, ap (λ (failure : Failure). error_of failure.reason) f), agree)
     of_runs (FullAt k) (FullAt l) e = (e, agree)
     of_runs (Through vs x) (FailedAt l d) h = absurd h
     of_runs (Through vs x) (FullAt l) h = absurd h

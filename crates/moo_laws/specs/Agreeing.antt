@@ -1,5 +1,5 @@
 -- What two states have to share for a programmer, so that no batch of theirs that only reads tells them apart.
-use Rattle.std.specs.Prelude.{◌≡◌, ◌↔◌, Bool, true, false, ◌&&◌, ◌||◌, List, Option, Some, None, if◌then◌else◌}
+use Rattle.std.specs.Prelude.{◌≡◌, ◌↔◌, ℕ, Bool, true, false, ◌&&◌, ◌||◌, List, Option, Some, None, if◌then◌else◌}
 use Rattle.std.specs.Option.{option_and_then}
 use Rattle.std.specs.List.{list_all, AllZip}
 use Rattle.std.specs.FinMap.{get}
@@ -11,8 +11,9 @@ use Rattle.moo_world.specs.declared.call.Batch.{Batch}
 use Rattle.moo_world.specs.declared.name.CallName.{CallName}
 use Rattle.moo_world.specs.declared.name.CallName.TheVariants.{Petitions}
 use Rattle.moo_world.specs.Changes.{value_set}
-use Rattle.moo_world.specs.Judge.{State, Verdict, Accepted, Refused, NoRoom, Stale, verdicts}
+use Rattle.moo_world.specs.Judge.{State, Verdict, Accepted, Refused, NoRoom, Stale, verdicts, FailedAt, run_calls}
 use Rattle.moo_world.specs.Objects.{Name, same_object}
+use Rattle.moo_world.specs.Outcomes.{Failure}
 use Rattle.moo_world.specs.Rights.{is_wizard}
 use Rattle.moo_laws.specs.Reading.{is_question, LookAlike}
 
@@ -59,6 +60,10 @@ SameVerdict (Refused place code) (Refused other_place other_code) = (other_place
 SameVerdict (NoRoom place) (NoRoom other_place) = other_place ≡ place
 SameVerdict (Stale seq) (Stale other_seq) = other_seq ≡ seq
 SameVerdict verdict other = ⊥
+
+-- the first call that fails when those of a batch are made in turn, counted from 1, and why
+abbrev pub refusal_of : State → Batch → Option (ℕ × Failure)
+refusal_of state batch = elim (run_calls state batch.programmer batch.calls) [ FailedAt place failure ↦ Some (place, failure) | _ ↦ None ]
 
 -- the batches, one after another, have the same verdicts from one state as from the other
 abbrev pub TellTheSame : List Batch → State → State → Type 0

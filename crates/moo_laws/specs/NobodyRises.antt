@@ -45,7 +45,7 @@ slot_behind_calls state programmer [] object named = Some named
 slot_behind_calls state programmer (call ∷ calls) object named = elim (batch_call state programmer call) [
   | Done answer next ↦
       option_and_then (slot_behind_calls next programmer calls object) (slot_behind_call state.world next.world call object named)
-  | Failed code ↦ None
+  | Failed failure ↦ None
   | Full ↦ None
 ]
 

@@ -46,10 +46,10 @@ pub record LookAlike (programmer : ObjNo) (world other : World) : Type 0 where
       slot_of other object name ≡ Some other_slot → may_read_slot world programmer slot ≡ true →
       (is_clear other_slot.state ≡ is_clear slot.state) × (read_of other object name ≡ read_of world object name)
 
--- two calls have one answer, or one error
+-- two calls have one answer, or one reason why they fail
 abbrev pub SameAnswer : Outcome World → Outcome World → Type 0
 SameAnswer (Done answer next) (Done other_answer other_next) = other_answer ≡ answer
-SameAnswer (Failed code) (Failed other_code) = other_code ≡ code
+SameAnswer (Failed failure) (Failed other_failure) = other_failure ≡ failure
 SameAnswer Full Full = ⊤
 SameAnswer outcome other = ⊥
 

@@ -17,6 +17,6 @@ pub use guarded::batches_tell_no_more;
 pub use numbers::object_numbers_stay;
 pub use questions::questions_tell_no_more;
 pub use quotas::kept_quotas_move;
-pub use reasons::{reasons_tell_no_more, wrong_values_have_one_reason};
+pub use reasons::reasons_tell_no_more;
 pub use refusals::refusals_tell_no_more;
 pub use rights::nobody_rises;

@@ -11,7 +11,7 @@ ghost use Rattle.moo_world.specs.Calls.{world_call};
 ghost use Rattle.moo_laws.specs.Reading.{is_question, IsHidden, LookAlike, SameAnswer};
 
 /// What a call that only reads answers depends on no value that the programmer may not read: in two worlds that look alike to a programmer,
-/// it has one answer or one error. What a call that changes something tells isn't said here.
+/// it has one answer, or fails for one reason. What a call that changes something tells isn't said here.
 ///
 /// LambdaMOO Programmer's Manual, 'Properties on Objects' in the chapter on the database.
 pub fn questions_tell_no_more()

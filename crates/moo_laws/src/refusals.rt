@@ -1,35 +1,44 @@
 //! What somebody learns by a refusal.
 
-ghost use Rattle.std.specs.Prelude.{◌≡◌, List, IfSome};
+ghost use Rattle.std.specs.Prelude.{◌≡◌, ℕ, List, IfSome, true, false};
 ghost use Rattle.std.specs.List.{All};
 ghost use Rattle.moo_value.specs.declared.value.ObjNo.{ObjNo};
 ghost use Rattle.moo_value.specs.declared.value.Value.{Value};
-ghost use Rattle.moo_rows.specs.Maps.{Maps};
+ghost use Rattle.moo_world.specs.declared.call.Batch.{Batch};
 ghost use Rattle.moo_world.specs.declared.name.CallName.{CallName};
-ghost use Rattle.moo_world.specs.Requests.{state_of};
-ghost use Rattle.moo_world.specs.Rows.{IsSound, world_of};
-ghost use Rattle.moo_calls_shared.specs.declared.reason.Reason.{Reason};
-ghost use Rattle.moo_laws.specs.Agreeing.{AgreeFor};
-ghost use Rattle.moo_laws.specs.Guarded.{AlikeFor};
+ghost use Rattle.moo_world.specs.declared.reason.Reason.{Reason};
+ghost use Rattle.moo_world.specs.Judge.{State};
+ghost use Rattle.moo_world.specs.Requests.{IsFormed};
+ghost use Rattle.moo_world.specs.Rights.{is_wizard};
+ghost use Rattle.moo_world.specs.World.{World};
+ghost use Rattle.moo_batch.specs.Facts.{state_before_call};
+ghost use Rattle.moo_laws.specs.Agreeing.{AgreeFor, only_asks};
+ghost use Rattle.moo_laws.specs.Guarded.{AlikeFor, is_batch_of};
 ghost use Rattle.moo_laws.specs.Listed.{IsListed};
 ghost use Rattle.moo_disclosure.specs.Disclosed.{clash_name, names_meant};
 
 /// What a refusal tells besides its reason and what the call was given depends on nothing that its programmer may not see, and each name
-/// in it is one that `properties` answers the programmer with.
+/// in it is one that `properties` answers the programmer with. The reason itself tells no more either, by `reasons_tell_no_more`.
 ///
 /// LambdaMOO Programmer's Manual, 'Properties on Objects' in the chapter on the database. Reasons of refusals are this server's own.
 pub fn refusals_tell_no_more()
-    // From states that agree for the programmer, or that are alike, the same reason tells the same. Of a property that clashes the reason
-    // has the number, which is that of one property in both.
-    ensures agree { (programmer : ObjNo) (maps other : Maps) (call : CallName) (args : List Value) (reason : Reason) →
-        AgreeFor programmer (state_of maps) (state_of other) → other.props ≡ maps.props →
-        (names_meant (world_of other) programmer call args reason ≡ names_meant (world_of maps) programmer call args reason)
-        × (clash_name other programmer reason ≡ clash_name maps programmer reason) }
-    ensures alike { (programmer : ObjNo) (maps other : Maps) (call : CallName) (args : List Value) (reason : Reason) →
-        AlikeFor programmer (state_of maps) (state_of other) → other.props ≡ maps.props →
-        (names_meant (world_of other) programmer call args reason ≡ names_meant (world_of maps) programmer call args reason)
-        × (clash_name other programmer reason ≡ clash_name maps programmer reason) }
-    ensures listed { (programmer : ObjNo) (maps : Maps) (call : CallName) (args : List Value) (reason : Reason) → IsSound maps →
-        All (IsListed (world_of maps) programmer) (names_meant (world_of maps) programmer call args reason)
-        × IfSome (clash_name maps programmer reason) (IsListed (world_of maps) programmer) }
+    // From states that agree for the programmer, or that are alike, the same reason tells the same.
+    ensures agree { (programmer : ObjNo) (state other : State) (call : CallName) (args : List Value) (reason : Reason) →
+        AgreeFor programmer state other →
+        (names_meant other.world programmer call args reason ≡ names_meant state.world programmer call args reason)
+        × (clash_name other.world programmer args reason ≡ clash_name state.world programmer args reason) }
+    ensures alike { (programmer : ObjNo) (state other : State) (call : CallName) (args : List Value) (reason : Reason) →
+        AlikeFor programmer state other →
+        (names_meant other.world programmer call args reason ≡ names_meant state.world programmer call args reason)
+        × (clash_name other.world programmer args reason ≡ clash_name state.world programmer args reason) }
+    // So are the states on which any call of a batch is made: the world in which these names are looked for.
+    ensures alike_before { (programmer : ObjNo) (state other : State) (batch : Batch) (place : ℕ) → IsFormed state →
+        is_wizard state.world programmer ≡ false → AlikeFor programmer state other → is_batch_of programmer batch ≡ true →
+        AlikeFor programmer (state_before_call state programmer batch.calls place) (state_before_call other programmer batch.calls place) }
+    ensures agree_before { (programmer : ObjNo) (state other : State) (batch : Batch) (place : ℕ) → AgreeFor programmer state other →
+        only_asks programmer batch ≡ true →
+        AgreeFor programmer (state_before_call state programmer batch.calls place) (state_before_call other programmer batch.calls place) }
+    ensures listed { (programmer : ObjNo) (world : World) (call : CallName) (args : List Value) (reason : Reason) →
+        All (IsListed world programmer) (names_meant world programmer call args reason)
+        × IfSome (clash_name world programmer args reason) (IsListed world programmer) }
 {}

@@ -1,6 +1,7 @@
 -- What is kept of the refusals that were seen, in their order.
-use Rattle.std.specs.Prelude.{◌≡◌, ◌⊎◌, Bool, true, false, List, [], ◌∷◌, ◌++◌, map}
+use Rattle.std.specs.Prelude.{◌≡◌, ◌⊎◌, Bool, true, false, List, [], ◌∷◌, ◌++◌, map, Option}
 use Rattle.moo_world.specs.declared.call.Batch.{Batch}
+use Rattle.moo_batch.specs.declared.witness.Facts.{Facts}
 use Rattle.moo_batch.specs.declared.witness.Refusal.{Refusal}
 use Rattle.moo_reasons.specs.declared.why.Whys.{Whys}
 
@@ -11,8 +12,8 @@ pub record Seen : Type 0 where
   pub refusals : List Refusal
 
 -- If lines are wanted there is one more after the others, which is of this refusal; or memory ran out for it.
-abbrev pub SeesRefusal : Seen → Batch → Refusal → Seen → Type 0
-SeesRefusal old batch refusal new = (new.is_wanted ≡ old.is_wanted)
+abbrev pub SeesRefusal : Seen → Batch → Refusal → Option Facts → Seen → Type 0
+SeesRefusal old batch refusal facts new = (new.is_wanted ≡ old.is_wanted)
     × (old.is_wanted ≡ false → new ≡ old)
     × (old.is_wanted ≡ true → (new.is_lost ≡ true)
     ⊎ ((new.is_lost ≡ old.is_lost) × (new.refusals ≡ old.refusals ++ refusal ∷ [])))

@@ -1,10 +1,9 @@
 //! Which call of a petition is refused when it is granted.
 
 use crate::given::{FIRST, Given, given_by, list_at, value_at};
-use crate::sentence::Told;
 use crate::shown::Said;
 use crate::telling::{put_some, tell};
-use moo_batch::held_call;
+use moo_batch::{Facts, held_call};
 use moo_disclosure::Disclosure;
 use moo_value::{Value, ValueList};
 use moo_world::{Batch, CallName, Reason};
@@ -26,7 +25,7 @@ fn calls_asked<'a>(batch: &'a Batch, next: u32, number: u32) -> Option<&'a Value
 }
 
 /// The number of the petition that a call grants.
-pub(crate) fn petition_number(grant: Given<'_>) -> Option<u32> {
+fn petition_number(grant: Given<'_>) -> Option<u32> {
     let Some(Value::Int(number)) = value_at(grant, FIRST) else {
         return None;
     };
@@ -34,10 +33,14 @@ pub(crate) fn petition_number(grant: Given<'_>) -> Option<u32> {
 }
 
 /// The calls of the petition that a call of a batch grants. It is disclosed, or the batch makes it.
-fn calls_granted<'a>(batch: &'a Batch, grant: Given<'_>, told: &Told<'a>) -> Option<&'a ValueList> {
-    match told.petition {
+fn calls_granted<'a>(
+    batch: &'a Batch,
+    grant: Given<'_>,
+    facts: &Facts<'a>,
+) -> Option<&'a ValueList> {
+    match facts.petition {
         Some(calls) => Some(calls),
-        None => calls_asked(batch, told.next_petition, petition_number(grant)?),
+        None => calls_asked(batch, facts.next_petition, petition_number(grant)?),
     }
 }
 
@@ -45,10 +48,10 @@ fn calls_granted<'a>(batch: &'a Batch, grant: Given<'_>, told: &Told<'a>) -> Opt
 pub(crate) fn held_value<'a>(
     batch: &'a Batch,
     grant: Given<'_>,
-    told: &Told<'a>,
+    facts: &Facts<'a>,
     place: u32,
 ) -> Option<&'a Value> {
-    calls_granted(batch, grant, told)?
+    calls_granted(batch, grant, facts)?
         .items()
         .get(place as usize)
 }

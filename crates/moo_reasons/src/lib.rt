@@ -6,7 +6,6 @@
 
 mod built_ins;
 mod calls;
-mod finding;
 mod forms;
 mod given;
 mod granted;

@@ -1,12 +1,11 @@
 //! What is told of the replies of a text.
 
 use crate::calls::put_call_reason;
-use crate::finding::refusal_text;
 use crate::headers::put_header_reason;
+use crate::sentence::refusal_text;
 use crate::shown::Said;
 use crate::why::room_reason;
-use moo_batch::{Refusal, Witness};
-use moo_rows::Rows;
+use moo_batch::{Facts, Refusal, Witness};
 use moo_text::{Answer, Marks, Notes, Reply};
 use moo_world::Batch;
 use std::alloc::{AllocError, Global};
@@ -165,7 +164,7 @@ impl<'a, C: Eprint> Witness for StandardNotes<'a, C> {
 
     ghost kept = { λ _. tt };
 
-    ghost sees = { λ _ _ _ _. ⊤ };
+    ghost sees = { λ _ _ _ _ _. ⊤ };
 
     ghost left = { λ _. None };
 
@@ -177,13 +176,18 @@ impl<'a, C: Eprint> Witness for StandardNotes<'a, C> {
 
     fn see_spent(&mut self, _call: u32) {}
 
-    fn see<B: Rows, R: Rows>(&mut self, base: &B, rows: &R, batch: &Batch, refusal: Refusal) {
-        if self.told < MOST_TOLD {
-            self.refusal = match refusal_text(self.alloc, base, rows, batch, refusal) {
+    fn wants_facts(&self) -> bool {
+        self.told < MOST_TOLD
+    }
+
+    fn see(&mut self, batch: &Batch, refusal: Refusal, facts: Option<&Facts<'_>>) {
+        self.refusal = match facts {
+            Some(facts) => match refusal_text(self.alloc, batch, refusal, facts) {
                 Ok(said) => Some(said.text()),
                 Err(_) => None,
-            };
-        }
+            },
+            None => None,
+        };
     }
 }
 

@@ -6,11 +6,10 @@ ghost use Rattle.moo_reasons.specs.Seen.{Seen, SeesRefusal, seen_by};
 ghost use Rattle.moo_reasons.specs.Told.{IsFirstLine, TellsReply};
 
 use crate::calls::put_call_reason;
-use crate::finding::refusal_text;
 use crate::line::{Why, line_of};
+use crate::sentence::refusal_text;
 use crate::shown::Said;
-use moo_batch::{Refusal, Witness};
-use moo_rows::Rows;
+use moo_batch::{Facts, Refusal, Witness};
 use moo_text::Reply;
 use moo_world::Batch;
 use std::alloc::{AllocError, Global};
@@ -137,13 +136,20 @@ impl Witness for Whys {
         self.spent_at = Some(call);
     }
 
-    fn see<B: Rows, R: Rows>(&mut self, base: &B, rows: &R, batch: &Batch, refusal: Refusal) {
+    fn wants_facts(&self) -> bool {
+        self.is_wanted
+    }
+
+    fn see(&mut self, batch: &Batch, refusal: Refusal, facts: Option<&Facts<'_>>) {
         if !self.is_wanted {
             return;
         }
-        let why = match refusal_text(self.alloc, base, rows, batch, refusal) {
-            Ok(said) => Why::new(refusal, said),
-            Err(fault) => Err(fault),
+        let why = match facts {
+            Some(facts) => match refusal_text(self.alloc, batch, refusal, facts) {
+                Ok(said) => Why::new(refusal, said),
+                Err(fault) => Err(fault),
+            },
+            None => Err(AllocError),
         };
         let is_kept = match why {
             Ok(why) => self.seen.push_back(why).is_ok(),

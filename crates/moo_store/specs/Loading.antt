@@ -6,6 +6,7 @@ use Rattle.sqlite.specs.declared.error.ErrorCode.TheVariants.{NameTaken}
 use Rattle.sqlite.specs.State.{State as Database, HasCleanDisk, Survives}
 use Rattle.sqlite.specs.Held.{Held, state}
 use Rattle.sqlite.specs.Store.{Ghosts}
+use Rattle.sqlite.specs.Tree.{Trees}
 use Rattle.moo_rows.specs.Maps.{Maps}
 use Rattle.moo_world.specs.Judge.{state_of}
 use Rattle.moo_tables_rows.specs.Tables.{no_schema}
@@ -13,7 +14,7 @@ use Rattle.moo_tables_rows.specs.Inside.{RestsAt}
 use Rattle.moo_tables_rows.specs.Cause.{StopsChange}
 use Rattle.moo_store.specs.Kept.{World}
 use Rattle.moo_store.specs.Opening.{Adoption}
-use Rattle.moo_store_rows.specs.States.{LeavesState}
+use Rattle.moo_store_rows.specs.NewTables.{LeavesAsMade, RestsAsMade}
 use Rattle.moo_store.specs.World.{store_of, StandsFor}
 use Rattle.moo_store_rows.specs.declared.fault.StoreFault.{StoreFault}
 use Rattle.moo_store_rows.specs.declared.fault.StoreFault.TheVariants.{Store, OutOfMemory}
@@ -22,16 +23,19 @@ use Rattle.moo_store_rows.specs.declared.fault.StoreFault.TheVariants.{Store, Ou
 abbrev pub name_taken : StoreFault
 name_taken = Store (SqliteFailure NameTaken)
 
--- a crash leaves what it could leave before, or the state of these rows
+-- a crash leaves what it could leave before, or tables of these rows, each in its printed cells
 abbrev pub SurvivesOr : Maps → Database → Database → Type 0
-SurvivesOr rows old new = Survives old new (λ trees. LeavesState trees (state_of rows))
+SurvivesOr rows old new = Survives old new (λ trees. LeavesAsMade trees rows)
 
 module _ {S : Type 0} (g : Ghosts S) where
-  -- The tables of these rows were made in a database that had none. The World over them has the very rows, with their numbers.
+  -- The tables of these rows were made in a database that had none. The World over them has the very rows, with their numbers. Each row is
+  -- in its printed cells, and no other row is there, in any table; so it is of what a crash leaves.
   pub record IsLoaded (rows : Maps) (conn : Held S) (world : World S) : Type 0 where
     pub empty : ¬ ((state g conn).now.schema ≢ no_schema)
     pub stands : StandsFor g true world (state_of rows)
     pub same : world.rows.maps ≡ rows
+    pub rests : HasCleanDisk (store_of g world) → RestsAsMade (store_of g world) rows
+    pub left : HasCleanDisk (store_of g world) → (trees : Trees) → (store_of g world).may_leave trees → LeavesAsMade trees rows
     pub crash : SurvivesOr rows (state g conn) (store_of g world)
 
   -- They weren't made. A database that has tables is refused, and comes back as it is; so it does if memory runs out. Otherwise the

@@ -24,8 +24,9 @@ pub fn create_in<S: Alter + Drop>(
     conn: Connection<S>,
 ) -> Result<World<S>, (StoreFault, Connection<S>)>
     requires outside { (state S.Store conn).in_transaction ≡ false }
-    // The World of the opening rows, with their numbers. A database that has tables is refused, and comes back as it is; so it does if
-    // memory runs out. If the store fails its tables are those before, and a crash leaves what it could leave before, or the opening world.
+    // The World of the opening rows, with their numbers, each in its printed cells, and no other row in any table. A database that has
+    // tables is refused, and comes back as it is; so it does if memory runs out. If the store fails its tables are those before, and a
+    // crash leaves what it could leave before, or the opening world, in the same cells.
     ensures loads { Loads S.Store opening_maps conn result }
 {
     // It is asked first, so that a database with tables is refused as such even if memory runs out.

@@ -38,8 +38,9 @@ pub fn load_in<S: Alter + Drop>(
     requires outside { (state S.Store conn).in_transaction ≡ false }
     requires good { IsGood rows.maps }
     requires limit { rows.maps.head.seq < 2 ^ 63 }
-    // The World of these very rows, with their numbers. A database that has tables is refused, and comes back as it is; so it does if
-    // memory runs out. If the store fails its tables are those before, and a crash leaves what it could leave before, or these rows.
+    // The World of these very rows, with their numbers, each in its printed cells, and no other row in any table. A database that has
+    // tables is refused, and comes back as it is; so it does if memory runs out. If the store fails its tables are those before, and a
+    // crash leaves what it could leave before, or these rows, in the same cells.
     ensures loads { Loads S.Store rows.maps conn result }
 {
     if !is_new(&conn) {

@@ -1,7 +1,6 @@
 //! Telling nobody.
 
-use moo_batch::{Refusal, Witness};
-use moo_rows::Rows;
+use moo_batch::{Facts, Refusal, Witness};
 use moo_text::{Answer, Marks, Notes};
 use moo_world::Batch;
 
@@ -16,7 +15,7 @@ impl Witness for NoNotes {
 
     ghost kept = { λ _. tt };
 
-    ghost sees = { λ _ _ _ _. ⊤ };
+    ghost sees = { λ _ _ _ _ _. ⊤ };
 
     ghost left = { λ _. None };
 
@@ -28,7 +27,11 @@ impl Witness for NoNotes {
 
     fn see_spent(&mut self, _call: u32) {}
 
-    fn see<B: Rows, R: Rows>(&mut self, _base: &B, _rows: &R, _batch: &Batch, _refusal: Refusal) {}
+    fn wants_facts(&self) -> bool {
+        false
+    }
+
+    fn see(&mut self, _batch: &Batch, _refusal: Refusal, _facts: Option<&Facts<'_>>) {}
 }
 
 impl Notes for NoNotes {

@@ -16,7 +16,7 @@ rests_already store t m rests current shown = record {
 
 -- those of an earlier version were migrated
 module _ (m : Maps) (head : Head) (slots : List ((ObjNo × PropId) × Option SlotCells)) (is : head ≡ m.head) (printed : PrintEach (λ key. PrintsSlot None) slots (all_of m.slots)) where
-  pub rests_migrated : (old new : Database) (t : Tables) → Rests old t → IsEarlier t.version → Rests new (migrated head slots t) → HasNoSlot new.now → ShowsRows t m → RestsCurrent new old.now.trees t m
+  pub rests_migrated : (old new : Database) (t : Tables) → Rests old t → IsEarlier t.version → Rests new (migrated head slots t) → HasNoSlot new.now.trees → ShowsRows t m → RestsCurrent new old.now.trees t m
   rests_migrated old new t was earlier rests none shown = record {
     tables = migrated head slots t;
     rests = rests;

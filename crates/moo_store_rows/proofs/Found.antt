@@ -1,5 +1,5 @@
 -- Rows that were found in tables of which more is known.
-use Rattle.moo_store_rows.{proofs.Words.{◌≡◌, Maps, Tables}, specs.Reading.{AreFound}}
+use Rattle.moo_store_rows.{proofs.Words.{Maps, Tables}, specs.Reading.{AreFound}}
 
 pub found_as : (Known Closer : Tables → Type 0) (rows : Maps) → ((tables : Tables) → Closer tables → Known tables) → AreFound Known rows → AreFound Closer rows
 found_as Known Closer rows more it = record {

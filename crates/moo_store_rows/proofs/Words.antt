@@ -13,7 +13,7 @@ pub use Rattle.moo_rows.specs.declared.row.PetitionRow.{PetitionRow}
 pub use Rattle.moo_rows.specs.declared.row.PropId.{PropId}
 pub use Rattle.moo_rows.specs.declared.row.SlotRow.{SlotRow}
 pub use Rattle.moo_store_rows.specs.Opening.{Adopts, IsOfStore, SaysOr, StopsBy, TakesOver}
-pub use Rattle.moo_store_rows.specs.Printed.{PrintEach, Prints, PrintsObject, PrintsOver, PrintsPetition, PrintsProp, PrintsSlot, PrintsVerb, all_changes, all_of, as_changes, new_number}
+pub use Rattle.moo_store_rows.specs.Printed.{PrintEach, Prints, PrintsObject, PrintsOver, PrintsPetition, PrintsProp, PrintsSlot, PrintsVerb, PrintsAll, accept_text, all_changes, all_of, as_changes, calls_text, new_number, state_text}
 pub use Rattle.moo_store_rows.specs.States.{KeepsRows, LeavesState}
 pub use Rattle.moo_store_rows.specs.Untouched.{IfBoth, KeepsCells}
 pub use Rattle.moo_store_rows.specs.Current.{unread_from}

@@ -1,5 +1,5 @@
 -- What a comparison of tables with rows may answer.
-use Rattle.std.specs.Prelude.{◌≡◌, ◌≢◌, ◌⊎◌, IsTrue, ⊤, ℕ, length, Result, Ok, Err}
+use Rattle.std.specs.Prelude.{◌≡◌, ◌≢◌, ◌⊎◌, IsTrue, ℕ, length, Result, Ok, Err}
 use Rattle.sqlite.specs.State.{State as Database, HasCleanDisk, Survives}
 use Rattle.moo_rows.specs.Maps.{Maps}
 use Rattle.moo_world.specs.ObjectLists.{objects_of}

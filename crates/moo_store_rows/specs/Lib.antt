@@ -1,5 +1,6 @@
 pub mod Printed
 pub mod States
+pub mod NewTables
 pub mod Current
 pub mod Untouched
 pub mod Moment

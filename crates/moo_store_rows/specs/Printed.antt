@@ -6,9 +6,11 @@ use Rattle.std.specs.declared.cmp.Ordering.{Ordering}
 use Rattle.moo_rows.specs.declared.row.ObjRow.{ObjRow}
 use Rattle.moo_rows.specs.declared.row.PropRow.{PropRow}
 use Rattle.moo_rows.specs.declared.row.SlotRow.{SlotRow}
+use Rattle.moo_rows.specs.declared.row.SlotState.{SlotState}
+use Rattle.moo_rows.specs.declared.row.SlotState.TheVariants.{Clear, Set}
 use Rattle.moo_rows.specs.declared.row.VerbRow.{VerbRow}
 use Rattle.moo_rows.specs.declared.row.PetitionRow.{PetitionRow}
-use Rattle.moo_rows.specs.Maps.{Maps}
+use Rattle.moo_rows.specs.Maps.{Maps, no_maps}
 use Rattle.moo_tables_rows.specs.declared.object.ObjectCells.{ObjectCells}
 use Rattle.moo_tables_rows.specs.declared.prop.PropCells.{PropCells}
 use Rattle.moo_tables_rows.specs.declared.slot.SlotCells.{SlotCells}
@@ -17,20 +19,38 @@ use Rattle.moo_tables_rows.specs.declared.petition.PetitionCells.{PetitionCells}
 use Rattle.moo_tables_rows.specs.declared.cells.CellChanges.{CellChanges}
 use Rattle.moo_memory.specs.declared.changes.Changes.{Changes}
 use Rattle.moo_cells.specs.Shows.{ShowsAccept, ShowsSlotState, ShowsOrNone}
-use Rattle.moo_rows.specs.Bits.{bits_number, verb_bits_of}
-use Rattle.moo_value.specs.Literal.{Spells}
+use Rattle.moo_rows.specs.Bits.{bits_number, verb_bits_of, verb_letters_of}
+use Rattle.moo_value.specs.Literal.{Spells, print}
+use Rattle.moo_value.specs.Values.{Values}
+use Rattle.moo_value.specs.declared.value.ObjNo.{ObjNo}
 use Rattle.moo_value.specs.declared.value.Value.TheVariants.{List as a_list}
+use Rattle.moo_world.specs.Answers.{object_list}
 use Rattle.moo_world.specs.Prepositions.{prep_text, object_spec_text}
 
--- A column of which a value has several spellings: a text of the new value if it changes, or None if the cell stays.
-abbrev pub PrintsOver : {V : Type 0} → (List ℕ → V → Type 0) → Option V → V → Option (Vec ℕ Global) → Type 0
-PrintsOver shows old new (Some text) = shows text.items new × (old ≢ Some new)
-PrintsOver shows old new None = old ≡ Some new
+-- the printed cell of an accept list, which has other spellings too: empty for none, else the printed list
+abbrev pub accept_text : Option (List ObjNo) → List ℕ
+accept_text None = []
+accept_text (Some objects) = print (object_list objects)
+
+-- that of a slot: empty if it is clear, else the printed value
+abbrev pub state_text : SlotState → List ℕ
+state_text Clear = []
+state_text (Set value) = print value
+
+-- that of the calls of a petition
+abbrev pub calls_text : Values → List ℕ
+calls_text calls = print (a_list calls)
+
+-- A column of which a value has several spellings: the printed text of the new value if it changes, which shows it, or None if the cell
+-- stays.
+abbrev pub PrintsOver : {V : Type 0} → (List ℕ → V → Type 0) → (V → List ℕ) → Option V → V → Option (Vec ℕ Global) → Type 0
+PrintsOver shows text_of old new (Some text) = shows text.items new × (text.items ≡ text_of new) × (old ≢ Some new)
+PrintsOver shows text_of old new None = old ≡ Some new
 
 -- the cells of a row, to be written over those of the row that is there, if one is
 pub record PrintsObject (old : Option ObjRow) (cells : ObjectCells) (row : ObjRow) : Type 0 where
   pub row_is : cells.row ≡ row
-  pub accept : PrintsOver ShowsAccept (option_map (λ r. r.accept) old) row.accept cells.accept
+  pub accept : PrintsOver ShowsAccept accept_text (option_map (λ r. r.accept) old) row.accept cells.accept
 
 pub record PrintsProp (old : Option PropRow) (cells : PropCells) (row : PropRow) : Type 0 where
   pub definer : cells.definer ≡ row.definer
@@ -39,19 +59,19 @@ pub record PrintsProp (old : Option PropRow) (cells : PropCells) (row : PropRow)
 pub record PrintsSlot (old : Option SlotRow) (cells : SlotCells) (row : SlotRow) : Type 0 where
   pub owner : cells.owner ≡ row.owner
   pub bits : cells.bits ≡ bits_number row.bits
-  pub value : PrintsOver ShowsSlotState (option_map (λ r. r.state) old) row.state cells.value
+  pub value : PrintsOver ShowsSlotState state_text (option_map (λ r. r.state) old) row.state cells.value
 
 pub record PrintsVerb (old : Option VerbRow) (cells : VerbCells) (row : VerbRow) : Type 0 where
   pub names : cells.names.items ≡ row.names
   pub owner : cells.owner ≡ row.owner
-  pub bits : PrintsOver (λ text bits. verb_bits_of text ≡ Some bits) (option_map (λ r. r.bits) old) row.bits cells.bits
+  pub bits : PrintsOver (λ text bits. verb_bits_of text ≡ Some bits) verb_letters_of (option_map (λ r. r.bits) old) row.bits cells.bits
   pub dobj : cells.dobj.items ≡ object_spec_text row.args.dobj
   pub prep : cells.prep.items ≡ prep_text row.args.prep
   pub iobj : cells.iobj.items ≡ object_spec_text row.args.iobj
 
 pub record PrintsPetition (old : Option PetitionRow) (cells : PetitionCells) (row : PetitionRow) : Type 0 where
   pub who : cells.who ≡ row.who
-  pub calls : PrintsOver (λ text calls. Spells (a_list calls) text) (option_map (λ r. r.calls) old) row.calls cells.calls
+  pub calls : PrintsOver (λ text calls. Spells (a_list calls) text) calls_text (option_map (λ r. r.calls) old) row.calls cells.calls
 
 -- the keys are the same, one after another, and at each the cells show the new row, or neither is there
 abbrev pub PrintEach : {K C X : Type 0} → (K → C → X → Type 0) → List (K × Option C) → List (K × Option X) → Type 0
@@ -92,3 +112,7 @@ pub record Prints (last : Option ℕ) (base : Maps) (cells : CellChanges) (chang
   pub slots : PrintEach (λ key. PrintsSlot (get base.slots key)) cells.slots.items changes.slots
   pub verbs : PrintEach (λ key. PrintsVerb (get base.verbs key)) cells.verbs.items changes.verbs
   pub petitions : PrintEach (λ id. PrintsPetition (get base.petitions id)) cells.petitions.items changes.petitions
+
+-- these are the cells of all these rows, each as a row that wasn't there
+abbrev pub PrintsAll : CellChanges → Maps → Type 0
+PrintsAll cells rows = Prints None no_maps cells (all_changes rows)

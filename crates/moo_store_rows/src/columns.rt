@@ -4,15 +4,15 @@ ghost use Rattle.std.specs.Prelude.{◌≡◌, ◌↔◌, IsTrue, List, ℕ, Som
 ghost use Rattle.std.specs.Cmp.{booleans_Decides};
 ghost use Rattle.std.proofs.Common.{ap};
 ghost use Rattle.moo_value.specs.Equal.{IsExact, same_by-exact};
-ghost use Rattle.moo_value.specs.Literal.{Spells};
+ghost use Rattle.moo_value.specs.Literal.{Spells, print};
 ghost use Rattle.moo_value.specs.Values.{coded_values};
 ghost use Rattle.moo_value.specs.declared.value.Value.TheVariants.{List as a_list};
-ghost use Rattle.moo_rows.specs.Bits.{verb_bits_of};
+ghost use Rattle.moo_rows.specs.Bits.{verb_bits_of, verb_letters_of};
 ghost use Rattle.moo_rows.specs.declared.row.VerbBits.{VerbBits as Bits};
 ghost use Rattle.moo_rows.specs.Equal.{list_eq-exact};
 ghost use Rattle.moo_rows.specs.SameRows.{and, is, option-exact, state-exact};
 ghost use Rattle.moo_cells.specs.Shows.{ShowsAccept, ShowsSlotState};
-ghost use Rattle.moo_store_rows.specs.Printed.{PrintsOver};
+ghost use Rattle.moo_store_rows.specs.Printed.{PrintsOver, accept_text, calls_text, state_text};
 
 use moo_rows::{ObjList, ObjRow, PetitionRow, SlotRow, SlotState, VerbBits, VerbRow};
 use moo_value::{Value, ValueList, print_literal};
@@ -29,20 +29,23 @@ pub(crate) trait Column: PartialEq {
     /// Whether a text spells a value.
     ghost spells: { List ℕ → Self → Type 0 };
 
+    /// The one text that is printed of a value.
+    ghost text: { Self → List ℕ };
+
     fn of(row: &Self::Row) -> &Self
         ensures { result.now ≡ part row.now };
 
-    /// A text of the value. The only error is out of memory.
+    /// The printed text of the value. The only error is out of memory.
     fn cell(&self, alloc: Global) -> Result<Vec<u8>, AllocError>
-        ensures { IfOk result (λ cell. spells cell.items self.now) };
+        ensures { IfOk result (λ cell. spells cell.items self.now × (cell.items ≡ text self.now)) };
 
     /// Values that are called equal are equal.
     ghost exact: { IsExact Self.PartialEq.eq };
 }
 
-/// A literal of a value, as a cell.
+/// The printed literal of a value, as a cell.
 fn literal_cell(alloc: Global, value: &Value) -> Result<Vec<u8>, AllocError>
-    ensures { IfOk result (λ cell. Spells value.now cell.items) }
+    ensures { IfOk result (λ cell. Spells value.now cell.items × (cell.items ≡ print value.now)) }
 {
     let mut cell = Vec::new(alloc);
     print_literal(alloc, value, &mut cell)?;
@@ -55,6 +58,8 @@ impl Column for Option<ObjList> {
     ghost part = { λ row. row.accept };
 
     ghost spells = { ShowsAccept };
+
+    ghost text = { accept_text };
 
     fn of(row: &ObjRow) -> &Option<ObjList> {
         &row.accept
@@ -80,6 +85,8 @@ impl Column for SlotState {
 
     ghost spells = { ShowsSlotState };
 
+    ghost text = { state_text };
+
     fn of(row: &SlotRow) -> &SlotState {
         &row.state
     }
@@ -101,6 +108,8 @@ impl Column for VerbBits {
 
     ghost spells = { λ text bits. verb_bits_of text ≡ Some bits };
 
+    ghost text = { verb_letters_of };
+
     fn of(row: &VerbRow) -> &VerbBits {
         &row.bits
     }
@@ -121,6 +130,8 @@ impl Column for ValueList {
     ghost part = { λ row. row.calls };
 
     ghost spells = { λ text calls. Spells (a_list calls) text };
+
+    ghost text = { calls_text };
 
     fn of(row: &PetitionRow) -> &ValueList {
         &row.calls
@@ -144,13 +155,13 @@ fn stays<V: Column>(old: Option<&V::Row>, value: &V) -> bool
     }
 }
 
-/// The text of the value of a row, or None if it is that of the old one. The only error is out of memory.
+/// The printed text of the value of a row, or None if it is that of the old one. The only error is out of memory.
 pub(crate) fn text_over<V: Column>(
     alloc: Global,
     old: Option<&V::Row>,
     row: &V::Row,
 ) -> Result<Option<Vec<u8>>, AllocError>
-    ensures { IfOk result (λ cell. PrintsOver V.spells (option_map V.part (option_map (λ row. row.now) old.entry)) (V.part row.now) cell) }
+    ensures { IfOk result (λ cell. PrintsOver V.spells V.text (option_map V.part (option_map (λ row. row.now) old.entry)) (V.part row.now) cell) }
 {
     let value = V::of(row);
     if stays::<V>(old, value) {

@@ -3,8 +3,7 @@
 ghost use Rattle.std.specs.Prelude.{◌≡◌, Option, Some, None, IfOk, option_map};
 ghost use Rattle.std.specs.FinMap.{get};
 ghost use Rattle.moo_cells.specs.Shows.{ShowsOrNone};
-ghost use Rattle.moo_rows.specs.Maps.{no_maps};
-ghost use Rattle.moo_store_rows.specs.Printed.{PrintEach, Prints, PrintsObject, PrintsProp, PrintsSlot, PrintsVerb, PrintsPetition, new_number, all_of, all_changes};
+ghost use Rattle.moo_store_rows.specs.Printed.{PrintEach, Prints, PrintsObject, PrintsProp, PrintsSlot, PrintsVerb, PrintsPetition, PrintsAll, new_number, all_of};
 
 use crate::columns::text_over;
 use moo_memory::{ChangeList, Changes, Flat};
@@ -159,7 +158,7 @@ pub(crate) fn print_left<K: Copy + Drop, C: Drop, V: Print<K, C>>(
 
 /// The cells of all rows, as changes from no rows. The only error is out of memory.
 pub fn print_all(alloc: Global, rows: &Flat) -> Result<CellChanges, AllocError>
-    ensures { IfOk result (λ cells. Prints None no_maps cells (all_changes rows.now.maps)) }
+    ensures { IfOk result (λ cells. PrintsAll cells rows.now.maps) }
 {
     let head = rows.head();
     let objects = print_left::<ObjNo, ObjectCells, ObjRow>(alloc, rows)?;

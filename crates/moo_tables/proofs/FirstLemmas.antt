@@ -1,5 +1,5 @@
 -- SQL refuses no statement that makes a table of the first version in a database without tables: why one of them fails.
-use Rattle.moo_tables.{proofs.Words.{◌≡◌, ℕ, [], ◌∷◌, false, Ok, Err, Result, IfErr, IsTrue, refl, arith, Error, Schema, Table, lacks_sequence, State, HasCleanDisk, HasNoTables, StaysInside, StopsChange, RanStatement, create_text, no_schema, head_schema, object_schema, prop_schema, slot_schema, first_schema, head_table, object_table, prop_table, slot_table, verb_table, value_cmp, IsMaking, create_head_is, create_object_is, create_prop_is, create_slot_is, create_verb_is, Ran, Tables, Sees, Holds, HasCauseIn, IsUnderWay, First, no_rows, clean_before, stays_then, stops_since, err_again}, proofs.MakingLemmas.{IsPassed, IsAt, unnumbered, made_at, making_stops}, proofs.ReadCauseLemmas.{handed_on}, specs.Migrated.{HasCauseOfMigrating}, specs.Transaction.{HasCauseOfMaking}}
+use Rattle.moo_tables.{proofs.Words.{◌≡◌, ℕ, [], false, Ok, Err, Result, IfErr, IsTrue, refl, arith, Error, Schema, Table, lacks_sequence, State, HasCleanDisk, HasNoTables, StaysInside, StopsChange, RanStatement, create_text, no_schema, head_schema, object_schema, prop_schema, slot_schema, first_schema, head_table, object_table, prop_table, slot_table, verb_table, value_cmp, IsMaking, create_head_is, create_object_is, create_prop_is, create_slot_is, create_verb_is, Ran, Tables, Sees, Holds, HasCauseIn, HasNoSlot, IsUnderWay, First, no_rows, clean_before, stays_then, stops_since, err_again}, proofs.MakingLemmas.{IsPassed, IsAt, unnumbered, made_at, making_stops}, proofs.ReadCauseLemmas.{handed_on}, specs.Migrated.{HasCauseOfMigrating}, specs.Transaction.{HasCauseOfMaking}}
 use Rattle.std.specs.Result.{IsErrAnd}
 use Rattle.sqlite_schema.specs.Names.{same_name}
 use Rattle.sqlite_trees.specs.Sound as sound
@@ -84,7 +84,7 @@ module _ {a b d : State} where
 
 -- ---- the tables that the first version lacks, and the rows
 
-module _ {a b d : State} (first : StaysInside a b) (made : HasCleanDisk b → HasNoTables a.now → Holds b.now (no_rows First) × IsUnderWay b) (quiet : StaysInside b d) where
+module _ {a b d : State} (first : StaysInside a b) (made : HasCleanDisk b → HasNoTables a.now → Holds b.now (no_rows First) × IsUnderWay b × HasNoSlot b.now.trees) (quiet : StaysInside b d) where
   since : {A : Type 0} (r : Result A Error) → IfErr r (StopsChange b d) → IsTrue b.is_open → IfErr r (StopsChange a d)
   since (Ok x) it is_open = tt
   since (Err e) it is_open = stops_since a b d e first.survives.counts first.survives.limit is_open it

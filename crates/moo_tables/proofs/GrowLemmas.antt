@@ -1,5 +1,5 @@
 -- What the statements do that make the tables of the present version of those of an earlier one.
-use Rattle.moo_tables.{proofs.Words.{◌≡◌, ℕ, List, [], ◌∷◌, Ok, Err, Result, OnOk, refl, sym, ap, subst, ◌∙◌, Schema, Database, Error, State, HasCleanDisk, First, Tables, schema_of, first_schema, slot2_schema, petition_schema, second_schema, slot2_table, petition_table, petition_head_table, numbered_in, paired_in, head_places, object_places, prop_places, slot_places, verb_places, petition_places, petition_head_places, with_counter, AreKeyed, Holds, Sees, StaysInside, Changes, RanStatement, IsGrown, GrowsTables, grown, no_tables, KeepsUnread, create_text, IsEarlier, IsUnderWay, no_rows, present_schema, create_slot2_is, create_petition_is, create_petition_head_is, of_version, clean_before, only_first, same_tables}, proofs.CreateLemmas.{runs_making}}
+use Rattle.moo_tables.{proofs.Words.{◌≡◌, ℕ, List, [], ◌∷◌, Ok, Err, Result, OnOk, refl, sym, ap, subst, ◌∙◌, Schema, Database, Error, State, HasCleanDisk, First, Tables, schema_of, first_schema, slot2_schema, petition_schema, second_schema, slot2_table, petition_table, petition_head_table, numbered_in, paired_in, head_places, object_places, prop_places, slot_places, verb_places, petition_places, petition_head_places, with_counter, AreKeyed, HasNoSlot, Holds, Sees, StaysInside, Changes, RanStatement, IsGrown, GrowsTables, grown, no_tables, KeepsUnread, create_text, IsEarlier, IsUnderWay, no_rows, present_schema, create_slot2_is, create_petition_is, create_petition_head_is, of_version, clean_before, only_first, same_tables}, proofs.CreateLemmas.{runs_making}}
 
 pub makes_slot2 : (old new : State) (count : ℕ) → RanStatement (create_text slot2_table) [] old new (Ok count) → HasCleanDisk new → (base : Database) → IsGrown base first_schema [] old.now → IsGrown base slot2_schema (7 ∷ []) new.now
 makes_slot2 old new count ran = λ clean base was.
@@ -98,3 +98,13 @@ becomes_then a {b} {z} quiet one two = λ clean tables holds earlier.
 
 pub all_made : (b z : State) (P : Type 0) → StaysInside b z → (HasCleanDisk b → P → Holds b.now (no_rows First)) → GrowsTables b z → HasCleanDisk z → P → Sees z no_tables
 all_made b z P quiet one two clean p = (two clean (no_rows First) (one (clean_before b z _ quiet.survives clean) p) refl).0
+
+-- a table that no statement after the first five writes has no row yet
+pub none_in_slot : (b d z : State) (P : Type 0) (change : Tables → Tables) (r : Result (Unit {0}) Error) → StaysInside b d → StaysInside d z → (HasCleanDisk b → P → Holds b.now (no_rows First) × IsUnderWay b × HasNoSlot b.now.trees) → GrowsTables b d → OnOk r (Changes change d z)
+    → OnOk r (HasCleanDisk z → P → HasNoSlot z.now.trees)
+none_in_slot b d z P change (Err e) quiet-two quiet-three one two three = tt
+none_in_slot b d z P change (Ok _) quiet-two quiet-three one two three = λ clean p.
+    let late = clean_before d z _ quiet-three.survives clean in
+    let begun = one (clean_before b d _ quiet-two.survives late) p in
+    let made = two late (no_rows First) begun.0 refl in
+    (three clean no_tables made.0).1 ∙ made.1 ∙ begun.2

@@ -36,8 +36,8 @@ goes_on old new text params (Ok count) ran clean = (ran clean).0
 
 pub all_migrated : (a : State) {b d e z : State} (head : Head) (slots : List ((ObjNo × PropId) × Option SlotCells)) (r : Result ℕ Error) → StaysInside b d → StaysInside d e → StaysInside e z
     → Becomes a b → Changes (with_head_cells head) b d → Changes (with_each with_slot_cells slots) d e → OnOk r (HasCleanDisk z → (tables : Tables) → Sees e tables → Sees z tables)
-    → OnOk r (HasCleanDisk z → HasTables present_schema e → AreKeyed (e.now.trees 3) → HasNoSlot z.now)
-    → OnOk r (HasCleanDisk z → (tables : Tables) → Holds a.now tables → IsEarlier tables.version → Sees z (migrated head slots tables) × HasNoSlot z.now)
+    → OnOk r (HasCleanDisk z → HasTables present_schema e → AreKeyed (e.now.trees 3) → HasNoSlot z.now.trees)
+    → OnOk r (HasCleanDisk z → (tables : Tables) → Holds a.now tables → IsEarlier tables.version → Sees z (migrated head slots tables) × HasNoSlot z.now.trees)
 all_migrated a {b} {d} {e} {z} head slots (Err error) quiet-two quiet-three quiet-four one two three four five = tt
 all_migrated a {b} {d} {e} {z} head slots (Ok count) quiet-two quiet-three quiet-four one two three four five = λ clean tables holds earlier.
     let late = clean_before e z _ quiet-four.survives clean in

@@ -2,6 +2,7 @@
 use Rattle.std.specs.Prelude.{◌≡◌, IsTrue, ℕ, pos, List, [], ◌∷◌, Option, Some, None, Result, IfErr}
 use Rattle.std.specs.List.{AllByRecursion}
 use Rattle.sqlite.specs.Schema.{Schema}
+use Rattle.sqlite.specs.Tree.{Trees}
 use Rattle.sqlite.specs.Effect.{Database, IsDatabase}
 use Rattle.sqlite.specs.State.{State, HasCleanDisk}
 use Rattle.sqlite.specs.declared.error.Error.{Error}
@@ -39,8 +40,8 @@ GrowsTables old new =
     Sees new (grown tables) × KeepsUnread old.now new.now
 
 -- the table `slot` of the first version has no row
-abbrev pub HasNoSlot : Database → Type 0
-HasNoSlot db = db.trees (slot_tree First) ≡ []
+abbrev pub HasNoSlot : Trees → Type 0
+HasNoSlot trees = trees (slot_tree First) ≡ []
 
 -- the tables of the present version, with this head and these slots, and with the other rows of these tables: there is no petition yet, and
 -- the first has the number 1
@@ -60,7 +61,7 @@ migrated head slots t = record {
 abbrev pub MigratesInside : Head → List ((ObjNo × PropId) × Option SlotCells) → State → State → Type 0
 MigratesInside head slots old new =
     HasCleanDisk new → (tables : Tables) → Holds old.now tables → IsEarlier tables.version →
-    Sees new (migrated head slots tables) × HasNoSlot new.now
+    Sees new (migrated head slots tables) × HasNoSlot new.now.trees
 
 -- a call that fails in a transaction on tables of an earlier version has one of the causes of any change
 abbrev pub HasCauseOfMigrating : {A : Type 0} → State → State → Result A Error → Type 0

@@ -37,7 +37,7 @@ pub record CommitsTables {A : Type 0} (changes : CellChanges) (old new : State) 
 -- leaves what it could leave before, or the tables of the present version.
 pub record MigratesTables {A : Type 0} (head : Head) (slots : List ((ObjNo × PropId) × Option SlotCells)) (old new : State)
     (r : Result A Error) : Type 0 where
-  pub emptied : HasCleanDisk new → OnOk r ((tables : Tables) → Rests old tables → IsEarlier tables.version → HasNoSlot new.now)
+  pub emptied : HasCleanDisk new → OnOk r ((tables : Tables) → Rests old tables → IsEarlier tables.version → HasNoSlot new.now.trees)
   pub restored : HasCleanDisk new → OnErr r (IsTrue new.is_open → RestsAt new old.committed)
   pub undone : HasCleanDisk new → OnErr r (IsTrue new.is_open → (tables : Tables) → Rests old tables → Rests new tables)
   pub cause : HasCleanDisk new →
@@ -47,11 +47,16 @@ pub record MigratesTables {A : Type 0} (head : Head) (slots : List ((ObjNo × Pr
   pub migrated : HasCleanDisk new →
       OnOk r ((tables : Tables) → Rests old tables → IsEarlier tables.version → Rests new (migrated head slots tables))
 
--- The tables were made in a database without tables, with the rows of these changes. A crash leaves what it could leave before, or them.
+-- a crash leaves what it could leave before, or the tables with the rows of these changes, and no row in the table `slot`
+abbrev pub SurvivesMaking : CellChanges → State → State → Type 0
+SurvivesMaking changes old new = Survives old new (λ trees. Leaves trees (tables_with changes no_tables) × HasNoSlot trees)
+
+-- The tables were made in a database without tables, with the rows of these changes. The table `slot`, which isn't read, has no row.
 pub record HasMade (changes : CellChanges) (old new : State) : Type 0 where
   pub outside : new.in_transaction ≡ false
   pub made : HasCleanDisk new → HasNoTables old.now → Rests new (tables_with changes no_tables)
-  pub crash : (HasCleanDisk old → HasNoTables old.now) → Survives old new (λ trees. Leaves trees (tables_with changes no_tables))
+  pub empty : HasCleanDisk new → HasNoTables old.now → HasNoSlot new.now.trees
+  pub crash : (HasCleanDisk old → HasNoTables old.now) → SurvivesMaking changes old new
 
 -- a call that fails in a transaction on a database without tables has one of the causes of any change
 abbrev pub HasCauseOfMaking : {A : Type 0} → State → State → Result A Error → Type 0
@@ -63,4 +68,4 @@ pub record HasNotMade (changes : CellChanges) (error : Error) (old new : State) 
   pub outside : new.in_transaction ≡ false
   pub cause : HasCleanDisk new → HasNoTables old.now → StopsChange old new error
   pub undone : HasCleanDisk new → HasNoTables old.now → IsTrue new.is_open → RestsAt new old.committed
-  pub crash : (HasCleanDisk old → HasNoTables old.now) → Survives old new (λ trees. Leaves trees (tables_with changes no_tables))
+  pub crash : (HasCleanDisk old → HasNoTables old.now) → SurvivesMaking changes old new

@@ -1,6 +1,9 @@
 use Rattle.std.{proofs.Common.{◌≡◌, ◌+◌, [], ◌∷◌, ◌++◌, length, drop, sym, ap, ◌∙◌, subst, rules, arith}, proofs.lemmas.Grind.{common_steps}}
 use Rattle.moo_rows.specs.Maps.{Base}
 use Rattle.moo_world.specs.Outcomes.{in_petition, of_itself}
+use Rattle.std.proofs.lemmas.Option.{none-some}
+use Rattle.moo_batch.{specs.Outcomes.{state_in}, specs.Facts.{state_before_call}}
+use Rattle.moo_batch.proofs.Before.{HaveLed, led-started, led-one, led-here}
 use Rattle.moo_batch.proofs.Running.{HaveRunSoFar, run-started, run-one_more, run-ended, run-kept, run-failed, run-full}
 use Rattle.moo_batch.proofs.judging.run_calls.Goals as goal
 
@@ -10,6 +13,7 @@ loop-call-init g c =
     let none : c.new-answers.result.items ≡ [] = search rules in (
       subst (λ answers. HaveRunSoFar before c.args.programmer c.args.calls.now answers before c.args.calls.now) (sym none) (run-started before c.args.programmer c.args.calls.now c.requires.good),
       ap length none,
+      led-started c.args.programmer c.args.calls.now (state_in before),
     )
 
 pub returns-in-Err-Moo-clause-comes : goal.returns-in-Err-Moo-clause-comes
@@ -37,6 +41,8 @@ loop-call-preserved g c =
       subst (λ now. HaveRunSoFar (g.R.Rows.held c.args.rows.now) c.args.programmer c.args.calls.now c.push.new.self.items now left) (sym same)
           (run-one_more c.call-item.result left c.in-Ok.answer c.push.new.self.items _ pushed (grind (arith, common_steps)) c.loop-call.invariant.0 c.in-Ok.ensures.reaches c.in-Ok.ensures.kept),
       ap length pushed ∙ grind (arith, common_steps),
+      subst (λ now. HaveLed (state_in (g.R.Rows.held c.args.rows.now)) c.args.programmer c.args.calls.now (state_in now) left (c.loop-call.call-index + 1)) (sym same)
+          (led-one c.call-item.result left c.in-Ok.answer (state_in (g.R.Rows.held c.step_on.new.rows)) (grind (arith, common_steps)) c.loop-call.invariant.2 c.in-Ok.ensures.reaches),
     )
 
 pub returns-clause-comes : goal.returns-clause-comes
@@ -44,3 +50,13 @@ returns-clause-comes g c = rw c.from_vec.ensures (run-ended (grind (arith, commo
 
 pub returns-clause-kept : goal.returns-clause-kept
 returns-clause-kept g c = run-kept (grind (arith, common_steps)) c.loop-call.invariant.0
+
+-- at a check that fails the rows are those after the calls before
+pub returns-in-Err-Moo-clause-at : goal.returns-in-Err-Moo-clause-at
+returns-in-Err-Moo-clause-at g c =
+    let still = rw c.in-Err-Moo.field-0-is at c.in-Err-Moo.ensures.check in
+    let place : c.loop-call.call-index ≡ c.len.result + 1 - 1 = search rules in
+    rw c.in-Err-Moo.field-0-is (λ own. ap state_in still ∙ led-here c.loop-call.invariant.2 ∙ ap (state_before_call (state_in (g.R.Rows.held c.args.rows.now)) c.args.programmer c.args.calls.now) place)
+
+pub returns-in-Err-Held-clause-at : goal.returns-in-Err-Held-clause-at
+returns-in-Err-Held-clause-at g c = rw c.in-Err-Held.field-0-is (λ own. absurd (none-some _ (sym own)))

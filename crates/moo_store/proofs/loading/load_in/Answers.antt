@@ -1,7 +1,7 @@
-use Rattle.moo_store.{specs.Loading.{name_taken}, proofs.Words.{◌≡◌, ◌∙◌, IsTrue, true, inl, inr, rules, refl, sym, ap, subst, HasCleanDisk, Survives, state, state_of, KeepsRows, LeavesState, World, ShowsItsRows}, proofs.Adapters.{stands_for_rows}}
+use Rattle.moo_store.{specs.Loading.{name_taken}, proofs.Words.{◌≡◌, ◌∙◌, IsTrue, true, inl, inr, rules, refl, sym, ap, subst, HasCleanDisk, Survives, state, KeepsRows, World, ShowsItsRows}, proofs.Adapters.{stands_for_rows}}
 use Rattle.std.proofs.lemmas.Bool.{true≢false}
 use Rattle.sqlite.{specs.declared.error.Error.TheVariants.{SqliteFailure}, specs.declared.error.ErrorCode.TheVariants.{NameTaken}}
-use Rattle.moo_store_rows.proofs.Opened.{has_no_tables, keeps_all, survives_all}
+use Rattle.moo_store_rows.{specs.NewTables.{LeavesAsMade, RestsAsMade}, proofs.Opened.{has_no_tables, keeps_all, left_all, survives_all}}
 use Rattle.moo_store.proofs.loading.load_in.Goals as goal
 
 pub over-requires-clause-outside : goal.over-requires-clause-outside
@@ -13,20 +13,22 @@ returns-in-Ok-create_tables g c =
     let conn = c.in-Ok-create_tables.connection in
     let rows = c.args.rows.maps in
     let none = has_no_tables (state g.S.Store c.args.conn).now (c.is_new.ensures.0 new) in
-    let keeps : HasCleanDisk (state g.S.Store conn) → KeepsRows (state g.S.Store conn) rows = λ clean.
-    keeps_all (state g.S.Store conn) c.in-Ok.cells rows c.in-Ok.ensures (c.in-Ok-create_tables.ensures.made.made clean none) in
+    let made : HasCleanDisk (state g.S.Store conn) → RestsAsMade (state g.S.Store conn) rows = λ clean.
+    record { cells = c.in-Ok.cells; prints = c.in-Ok.ensures; rests = c.in-Ok-create_tables.ensures.made.made clean none; empty = c.in-Ok-create_tables.ensures.made.empty clean none } in
     let is = c.over.ensures.is in
     let connection = ap (λ (w : World _). w.connection) is in
     let same = ap (λ (w : World _). w.rows.maps) is in
-    let shown : ShowsItsRows g.S.Store c.over.result = λ clean.
-    subst (KeepsRows (state g.S.Store c.over.result.connection)) (sym same)
-    (subst (λ conn. HasCleanDisk (state g.S.Store conn) → KeepsRows (state g.S.Store conn) rows) (sym connection) keeps clean) in
+    let store = state g.S.Store c.over.result.connection in
+    let rests : HasCleanDisk store → RestsAsMade store rows = subst (λ conn. HasCleanDisk (state g.S.Store conn) → RestsAsMade (state g.S.Store conn) rows) (sym connection) made in
+    let shown : ShowsItsRows g.S.Store c.over.result = λ clean. subst (KeepsRows store) (sym same) (keeps_all store rows (rests clean)) in
     record {
       loads = record {
         empty = λ taken. taken (c.is_new.ensures.0 new);
         stands = stands_for_rows g.S.Store true c.over.result rows (ap (λ (w : World _). w.failed) is) same c.requires.good (λ _. shown);
         same = same;
-        crash = subst (λ conn. Survives (state g.S.Store c.args.conn) (state g.S.Store conn) (λ trees. LeavesState trees (state_of rows))) (sym connection)
+        rests = rests;
+        left = λ clean. left_all store rows (g.met.S.Store.settled c.over.result.connection.store) c.requires.good (rests clean);
+        crash = subst (λ conn. Survives (state g.S.Store c.args.conn) (state g.S.Store conn) (λ trees. LeavesAsMade trees rows)) (sym connection)
             (survives_all (state g.S.Store c.args.conn) (state g.S.Store conn) c.in-Ok.cells rows c.in-Ok.ensures c.requires.good (c.in-Ok-create_tables.ensures.made.crash (λ clean. none)));
       };
     }

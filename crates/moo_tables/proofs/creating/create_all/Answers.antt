@@ -1,4 +1,4 @@
-use Rattle.moo_tables.{proofs.Words.{rules, ◌≡◌, ◌≤◌, ◌∙◌, inl, inr, refl, sym, subst, true, StopsChange, fails_so, stops_since, stops_to, Result, Ok, Err, Error, OnOk, OnErr, IfErr, IsTrue, false, state, State, HasCleanDisk, KeepsCommit, Survives, survives_then, Rests, Sees, Leaves, HasNoTables, no_tables, Tables, tables_with, RestsAt, no_ok, stays_begun, on_ok, clean_before, commits, leaves, restores, restored, CellChanges}, proofs.ReadCauseLemmas.{handed_on}, specs.Transaction.{HasMade, HasNotMade}, proofs.creating.create_all.Given.{Over}}
+use Rattle.moo_tables.{proofs.Words.{rules, ◌≡◌, ◌≤◌, ◌∙◌, inl, inr, refl, sym, subst, true, StopsChange, fails_so, stops_since, stops_to, Result, Ok, Err, Error, OnOk, OnErr, IfErr, IsTrue, false, state, State, HasCleanDisk, KeepsCommit, survives_then, Rests, Sees, HasNoSlot, HasNoTables, no_tables, Tables, tables_with, RestsAt, no_ok, stays_begun, on_ok, clean_before, commits, leaves, restores, restored, CellChanges}, proofs.ReadCauseLemmas.{handed_on}, specs.Transaction.{HasMade, HasNotMade, SurvivesMaking}, proofs.creating.create_all.Given.{Over}}
 use Rattle.moo_tables.proofs.creating.create_all.Goals as goal
 use Rattle.sqlite.specs.Steps.{FailsToCommit}
 
@@ -27,14 +27,17 @@ early g c clean = clean_before (last g c) (end g c) _ c.commit.ensures.survives 
 made : (g : Over) (c : goal.After-conn-2-1 g) → HasCleanDisk (last g c) → HasNoTables (old g c).now → Sees (last g c) (tables_with c.args.changes.now no_tables)
 made g c clean none = c.in_ok-create_and_write.ensures.made clean (rw c.transaction-tx.ensures.begun none)
 
+emptied : (g : Over) (c : goal.After-conn-2-1 g) → HasCleanDisk (last g c) → HasNoTables (old g c).now → HasNoSlot (last g c).now.trees
+emptied g c clean none = c.in_ok-create_and_write.ensures.empty clean (rw c.transaction-tx.ensures.begun none)
+
 -- a clause under the premise that the disk is clean is one of the case that it is about
 
 abbrev Crashes : CellChanges → State → State → Type 0
-Crashes changes old end = (HasCleanDisk old → HasNoTables old.now) → Survives old end (λ trees. Leaves trees (tables_with changes no_tables))
+Crashes changes old end = (HasCleanDisk old → HasNoTables old.now) → SurvivesMaking changes old end
 
-has_made : (changes : CellChanges) (old end : State) (r : Result (Unit {0}) Error) → end.in_transaction ≡ false → (HasCleanDisk end → OnOk r (HasNoTables old.now → Rests end (tables_with changes no_tables))) → Crashes changes old end → OnOk r (HasMade changes old end)
-has_made changes old end (Ok _) outside made crash = record { outside = outside; made = made; crash = crash }
-has_made changes old end (Err e) outside made crash = tt
+has_made : (changes : CellChanges) (old end : State) (r : Result (Unit {0}) Error) → end.in_transaction ≡ false → (HasCleanDisk end → OnOk r (HasNoTables old.now → Rests end (tables_with changes no_tables))) → (HasCleanDisk end → OnOk r (HasNoTables old.now → HasNoSlot end.now.trees)) → Crashes changes old end → OnOk r (HasMade changes old end)
+has_made changes old end (Ok _) outside made empty crash = record { outside = outside; made = made; empty = empty; crash = crash }
+has_made changes old end (Err e) outside made empty crash = tt
 
 has_not_made : (changes : CellChanges) (old end : State) (r : Result (Unit {0}) Error) → end.in_transaction ≡ false → (HasCleanDisk end → HasNoTables old.now → IfErr r (StopsChange old end))
     → (HasCleanDisk end → OnErr r (HasNoTables old.now → IsTrue end.is_open → RestsAt end old.committed)) → Crashes changes old end → IfErr r (λ error. HasNotMade changes error old end)
@@ -54,12 +57,14 @@ stops old last end tables (Err e) up steps (inr late) seen none = absurd (let bo
 crashes : (g : Over) (c : goal.After-conn-2-1 g) → Crashes c.args.changes.now (old g c) (end g c)
 crashes g c held =
     let first = (stays_begun g.S.Store {h = c.args.conn.now} c.transaction-tx.ensures.begun c.create_and_write.ensures.inside).0 in
-    let seen = λ (clean : HasCleanDisk (last g c)). made g c clean (held (clean_before (old g c) (last g c) _ first clean)) in
-    survives_then (old g c) (last g c) (end g c) _ _ _ (λ _ db none. absurd none) (λ clean db is. leaves (last g c) (tables_with c.args.changes.now no_tables) db (seen (early g c clean)) is) first c.commit.ensures.survives
+    let none = λ (clean : HasCleanDisk (end g c)). held (clean_before (old g c) (last g c) _ first (early g c clean)) in
+    survives_then (old g c) (last g c) (end g c) _ _ _ (λ _ db none. absurd none)
+    (λ clean db is. (leaves (last g c) (tables_with c.args.changes.now no_tables) db (made g c (early g c clean) (none clean)) is, subst HasNoSlot (sym is) (emptied g c (early g c clean) (none clean)))) first c.commit.ensures.survives
 
 pub returns-clause-made : goal.returns-clause-made
 returns-clause-made g c =
-    rw (committed g c) (has_made c.args.changes.now (old g c) (end g c) c.commit.result c.commit.ensures.ended (λ clean. on_ok c.commit.result (c.commit.ensures.ok clean) (λ ok none. commits (last g c) (end g c) (tables_with c.args.changes.now no_tables) ok.1 (made g c (early g c clean) none))) (crashes g c))
+    rw (committed g c) (has_made c.args.changes.now (old g c) (end g c) c.commit.result c.commit.ensures.ended (λ clean. on_ok c.commit.result (c.commit.ensures.ok clean) (λ ok none. commits (last g c) (end g c) (tables_with c.args.changes.now no_tables) ok.1 (made g c (early g c clean) none)))
+    (λ clean. on_ok c.commit.result (c.commit.ensures.ok clean) (λ ok none. subst (λ db. HasNoSlot db.trees) (sym ok.1.now_is) (emptied g c (early g c clean) none))) (crashes g c))
 
 pub returns-clause-refused : goal.returns-clause-refused
 returns-clause-refused g c =

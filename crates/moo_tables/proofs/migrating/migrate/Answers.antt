@@ -24,7 +24,7 @@ end g c = state g.S.Store c.commit.new.self.0
 early : (g : Over) (c : goal.After-conn-2-1 g) → HasCleanDisk (end g c) → HasCleanDisk (last g c)
 early g c clean = clean_before (last g c) (end g c) _ c.commit.ensures.survives clean
 
-wrote : (g : Over) (c : goal.After-conn-2-1 g) → HasCleanDisk (last g c) → (tables : Tables) → Holds (old g c).now tables → IsEarlier tables.version → Sees (last g c) (migrated c.args.head.now c.args.slots.now tables) × HasNoSlot (last g c).now
+wrote : (g : Over) (c : goal.After-conn-2-1 g) → HasCleanDisk (last g c) → (tables : Tables) → Holds (old g c).now tables → IsEarlier tables.version → Sees (last g c) (migrated c.args.head.now c.args.slots.now tables) × HasNoSlot (last g c).now.trees
 wrote g c clean tables was earlier = c.in_ok-write_migrated.ensures.migrated clean tables (rw c.transaction-tx.ensures.begun was) earlier
 
 -- why the commit failed
@@ -42,7 +42,7 @@ returns-clause-migrates g c =
     let first = stays_begun g.S.Store {h = c.args.conn.now} c.transaction-tx.ensures.begun c.write_migrated.ensures.inside in
     let back = λ (clean : HasCleanDisk (end g c)). restored (old g c) (last g c) (end g c) r (first.1 (early g c clean)) (c.commit.ensures.err clean) (c.in_ok-write_migrated.ensures.goes_on (early g c clean)) in
     rw (committed g c) (record {
-      emptied = λ clean. on_ok r (c.commit.ensures.ok clean) (λ ok tables was earlier. subst (λ db. HasNoSlot db) (sym ok.1.now_is) (wrote g c (early g c clean) tables was.holds earlier).1);
+      emptied = λ clean. on_ok r (c.commit.ensures.ok clean) (λ ok tables was earlier. subst (λ db. HasNoSlot db.trees) (sym ok.1.now_is) (wrote g c (early g c clean) tables was.holds earlier).1);
       restored = back;
       undone = λ clean. rest_again (old g c) (end g c) r (back clean);
       cause = λ clean. stops (old g c) (last g c) (end g c) after r first.0.counts first.0.limit (c.commit.ensures.err clean) (λ tables was earlier. (wrote g c (early g c clean) tables was.holds earlier).0);

@@ -1,0 +1,45 @@
+-- What a witness is told of the rows if a batch is refused.
+use Rattle.std.specs.Prelude.{◌≡◌, ℕ, zero, suc, ◌-◌, true, List, [], ◌∷◌, Option, None, Some, is_some, slice_get, IfSome}
+use Rattle.moo_value.specs.declared.value.ObjNo.{ObjNo}
+use Rattle.moo_rows.specs.Maps.{Maps}
+use Rattle.moo_rows.specs.declared.row.PetitionId.{PetitionId}
+use Rattle.moo_world.specs.declared.call.Batch.{Batch}
+use Rattle.moo_world.specs.declared.call.Call.{Call}
+use Rattle.moo_world.specs.Outcomes.{Done, Failed, Full}
+use Rattle.moo_world.specs.Requests.{State, batch_call, state_of}
+use Rattle.moo_world.specs.World.{World}
+use Rattle.moo_disclosure.specs.Disclosed.{calls_seen, clash_name, names_meant}
+use Rattle.moo_batch.specs.declared.witness.Facts.{Facts}
+use Rattle.moo_batch.specs.declared.witness.Refusal.{Refusal}
+
+-- the state on which the call at this place is made, from 0: that after the calls before it
+abbrev pub state_before_call : State → ObjNo → List Call → ℕ → State
+state_before_call state programmer calls zero = state
+state_before_call state programmer [] (suc place) = state
+state_before_call state programmer (call ∷ calls) (suc place) = elim (batch_call state programmer call) [
+  | Done answer next ↦ state_before_call next programmer calls place
+  | Failed failure ↦ state
+  | Full ↦ state
+]
+
+-- the call that a refusal is about
+abbrev pub refused_call : Batch → Refusal → Option Call
+refused_call batch refusal = slice_get batch.calls (refusal.call - 1)
+
+-- What is told of a refusal, in the world where its check failed; the batch was judged on the rows `base`.
+pub record AreFacts (world : World) (base : Maps) (batch : Batch) (refusal : Refusal) (facts : Facts) : Type 0 where
+  -- names that the programmer may list
+  pub meant : refusal.held ≡ None → IfSome (refused_call batch refusal) (λ call.
+      facts.names.meant.items ≡ names_meant world batch.programmer call.name call.args refusal.reason)
+  pub clash : refusal.held ≡ None → IfSome (refused_call batch refusal) (λ call.
+      facts.names.clash ≡ clash_name world batch.programmer call.args refusal.reason)
+  -- none of a call that a granted petition holds
+  pub held : is_some refusal.held ≡ true → (facts.names.meant.items ≡ []) × (facts.names.clash ≡ None)
+  -- what a petition asks for that the programmer may see
+  pub petition : IfSome facts.petition (λ calls. (id : PetitionId) × (calls_seen base batch.programmer id ≡ Some calls.now))
+  pub next : facts.next_petition ≡ base.head.next_petition
+
+-- the same of a batch that is judged on these rows: its check fails after the calls before
+abbrev pub AreFactsOf : Maps → Batch → Refusal → Facts → Type 0
+AreFactsOf maps batch refusal facts =
+    AreFacts (state_before_call (state_of maps) batch.programmer batch.calls (refusal.call - 1)).world maps batch refusal facts

@@ -1,0 +1,97 @@
+//! What a witness is told of a refusal.
+
+ghost use Rattle.std.specs.Prelude.{◌≡◌, None, Some, Option, IfOk, IfSome, IfErr, ⊤};
+ghost use Rattle.moo_rows.specs.declared.row.PetitionId.{PetitionId};
+ghost use Rattle.moo_world.specs.Rows.{IsGood, world_of};
+ghost use Rattle.moo_disclosure.specs.Disclosed.{calls_seen};
+ghost use Rattle.moo_batch.specs.declared.witness.Facts.{Facts};
+ghost use Rattle.moo_batch.specs.Facts.{AreFacts};
+
+use crate::args::one_integer;
+use crate::witness::{Facts, Refusal, Witness};
+use moo_disclosure::{Disclosure, calls_seen, disclosure_of};
+use moo_rows::{PetitionId, Rows};
+use moo_value::{ObjNo, ValueList};
+use moo_world::{Batch, Call, CallName};
+use std::alloc::{AllocError, Global};
+
+/// What the petition asks for that a call grants, if it is among these rows and the programmer may see it.
+fn petition_granted<'a, B: Rows>(
+    base: &'a B,
+    programmer: ObjNo,
+    call: &Call,
+) -> Option<&'a ValueList>
+    ensures { IfSome result (λ calls. (id : PetitionId) × (calls_seen (B.held base.now).maps programmer id ≡ Some calls.now)) }
+{
+    if !matches!(call.name, CallName::Grant) {
+        return None;
+    }
+    let number = one_integer(call.args.items()).ok()?;
+    calls_seen(base, programmer, PetitionId(u32::try_from(number).ok()?))
+}
+
+/// The facts of a refusal whose check failed on these rows. AllocError: memory ran out.
+fn facts_of<'a, B: Rows, R: Rows>(
+    alloc: Global,
+    base: &'a B,
+    rows: &R,
+    batch: &Batch,
+    refusal: Refusal,
+) -> Result<Facts<'a>, AllocError>
+    requires { refusal.held ≡ None → IsGood (R.held rows.now).maps }
+    ensures { IfOk result (AreFacts (world_of (R.held rows.now).maps) (B.held base.now).maps batch.now refusal) }
+{
+    let next_petition = base.head().next_petition;
+    let place = (refusal.call as usize).saturating_sub(1);
+    let Some(call) = batch.calls.items().get(place) else {
+        let names = Disclosure {
+            meant: Vec::new(alloc),
+            clash: None,
+        };
+        return Ok(Facts {
+            names,
+            petition: None,
+            next_petition,
+        });
+    };
+    let names = disclosure_of(
+        alloc,
+        rows,
+        batch.programmer,
+        call.name,
+        call.args.items(),
+        refusal.reason,
+        refusal.held.is_some(),
+    )?;
+    Ok(Facts {
+        names,
+        petition: petition_granted(base, batch.programmer, call),
+        next_petition,
+    })
+}
+
+/// Shows a witness the refusal of a batch that was judged on the rows `base`, with its facts if it wants them. The other rows are those on
+/// which the check failed. If a granted petition fails, they have been changed by the calls that it holds before the one that failed.
+pub(crate) fn show_refusal<B: Rows, R: Rows, W: Witness>(
+    alloc: Global,
+    base: &B,
+    rows: &R,
+    batch: &Batch,
+    refusal: Refusal,
+    witness: &mut W,
+)
+    requires { refusal.held ≡ None → IsGood (R.held rows.now).maps }
+    ensures ticks { W.left witness.new ≡ W.left witness.old }
+    ensures sees { (facts : Option Facts)
+        × IfSome facts (AreFacts (world_of (R.held rows.now).maps) (B.held base.now).maps batch.now refusal)
+        × W.sees (W.kept witness.old) batch.now refusal facts (W.kept witness.new) }
+{
+    if !witness.wants_facts() {
+        witness.see(batch, refusal, None);
+        return;
+    }
+    match facts_of(alloc, base, rows, batch, refusal) {
+        Ok(facts) => witness.see(batch, refusal, Some(&facts)),
+        Err(_) => witness.see(batch, refusal, None),
+    }
+}
