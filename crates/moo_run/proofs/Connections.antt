@@ -181,9 +181,9 @@ pub made_led : (task : Task) (s : State) (run : Run) (Crash : Stand → Type 0) 
     → RunsFrom task s run (HasCleanDisk store) Crash (LeadsFrom was store rows) ⊤ → RunsFrom task s run (HasCleanDisk store) Crash (LeadsFromMade store rows) ⊤
 made_led task s run Crash was store rows made it =
     runs_when task s run (HasCleanDisk store) (HasCleanDisk store) Crash Crash (LeadsFrom was store rows) (LeadsFromMade store rows) ⊤ (λ clean. clean) (λ end clean crash. crash) (λ batches others clean led.
-        let there = made clean in
-        let tables = tables_with there.cells no_tables in
-        (led.0, there.cells, there.prints, subst (λ unread. LeavesWritten store rows tables unread batches others) there.empty (led.1 tables there.rests))) it
+    let there = made clean in
+    let tables = tables_with there.cells no_tables in
+    (led.0, there.cells, there.prints, subst (λ unread. LeavesWritten store rows tables unread batches others) there.empty (led.1 tables there.rests))) it
 
 -- and of its rows alone
 pub made_rows : (task : Task) (s : State) (run : Run) (Clean : Type 0) (Crash : Stand → Type 0) (store : Database) (rows : Maps) → RunsFrom task s run Clean Crash (LeadsFromMade store rows) ⊤ → RunsFrom task s run Clean Crash (LeavesLed store rows) ⊤
