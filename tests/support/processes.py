@@ -12,6 +12,8 @@ import time
 from pathlib import Path
 from typing import Any, Iterator, Sequence
 
+# The script that starts a program of web/ which sends itself a signal.
+SIGNALLED = Path(__file__).with_name("signalled.py")
 started: list[subprocess.Popen[bytes]] = []
 
 

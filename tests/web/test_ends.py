@@ -6,7 +6,6 @@
 import contextlib
 import http.client
 import os
-import pathlib
 import random
 import signal
 import subprocess
@@ -18,7 +17,7 @@ from tests.support import processes
 from tests.support.web import DEBIANS_PYTHON, Front, ask
 from tests.web.test_serving import ServingTest
 
-SCRIPT = (DEBIANS_PYTHON, "-I", pathlib.Path(processes.__file__).with_name("signalled_front.py"))
+STARTS, SERVES = ("moo_web.serving", "need_server"), ("moo_web.status.heart", "Heart.beat")
 ENDS = int(os.environ.get("ENDS", 8))
 # It takes ten at most to end in order. A front that has missed the signal never ends.
 LONGEST_END = 60.0
@@ -44,11 +43,11 @@ class Signals(EndTest):
     def test_one_that_comes_while_an_object_is_freed(self):
         """What a handler raises then is thrown away, as it is during an import."""
         for number, moment, status in (
-            (signal.SIGTERM, "it starts", 0), (signal.SIGTERM, "it serves", 0), (signal.SIGINT, "it starts", 130), (signal.SIGINT, "it serves", 0),
+            (signal.SIGTERM, STARTS, 0), (signal.SIGTERM, SERVES, 0), (signal.SIGINT, STARTS, 130), (signal.SIGINT, SERVES, 0)
         ):  # fmt: skip
-            with self.subTest(f"{number.name} when {moment}"), processes.inherited_signal(number, signal.SIG_DFL):
-                front = Front(self.folder, self.moo.port, script=SCRIPT, env={"SIGNAL": str(int(number)), "MOMENT": moment}, wait=False)
-                self.assertEqual(self.ended(front), status)
+            with self.subTest(f"{number.name} after {moment[1]}"), processes.inherited_signal(number, signal.SIG_DFL):
+                script = (DEBIANS_PYTHON, "-I", processes.SIGNALLED, int(number), *moment, "moo_web.serving")
+                self.assertEqual(self.ended(Front(self.folder, self.moo.port, script=script, wait=False)), status)
 
     def test_one_that_comes_at_any_moment(self):
         """Before Python has begun with its work, a signal ends it as any program."""
