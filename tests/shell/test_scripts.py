@@ -423,6 +423,7 @@ class Mistakes(OnWorld):
             ("\\show", ["which object? #5 is one"]),
             ("begin\nwood", ["malformed: wood isn't a call: "]),
             ("\\shwo #4", ["\\shwo isn't a word of the shell (did you mean \\show?)"]),
+            ("\\go #4", ["\\go isn't a word of the shell (did you mean @go?)"]),
             ("\\show box", ["box isn't an object"]),
             ("\\as 77", ["#77 isn't an object"]),
             ("create(#1, #77)", ["E_INVARG"]),

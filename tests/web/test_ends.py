@@ -14,7 +14,8 @@ import time
 import unittest
 
 from tests.support import processes
-from tests.support.web import DEBIANS_PYTHON, Front, ask
+from tests.support.operating import TOOLS
+from tests.support.web import DEBIANS_PYTHON, Front, WEB, ask
 from tests.web.test_serving import ServingTest
 
 STARTS, SERVES = ("moo_web.serving", "need_server"), ("moo_web.status.heart", "Heart.beat")
@@ -22,6 +23,20 @@ ENDS = int(os.environ.get("ENDS", 8))
 # It takes ten at most to end in order. A front that has missed the signal never ends.
 LONGEST_END = 60.0
 BATCH = {"calls": ["max_object()"]}
+# A front whose second disk doesn't answer once the file `stuck` is there. Then it makes the file `waits`.
+STUCK = f"""
+import os, pathlib, sys, threading
+sys.path[:0] = {[str(WEB), str(TOOLS)]!r}
+room, sync = pathlib.Path(sys.argv.pop(1)), os.fdatasync
+def slow(file):
+    if threading.current_thread().name.startswith("second-disk") and (room / "stuck").exists():
+        (room / "waits").touch()
+        threading.Event().wait()
+    sync(file)
+os.fdatasync = slow
+from moo_web.serving import main
+main()
+"""
 
 
 class EndTest(ServingTest):
@@ -86,6 +101,17 @@ class Signals(EndTest):
         front.process.send_signal(signal.SIGTERM)
         self.assertEqual(self.ended(front), 0)
         self.assertLess(time.monotonic() - began, 3)
+
+    def test_one_that_comes_while_a_disk_does_not_answer(self):
+        """The thread that waits for the disk isn't waited for."""
+        script = (DEBIANS_PYTHON, "-I", "-c", STUCK, self.room)
+        front = self.front("--journal", self.room / "second", script=script)
+        (self.room / "stuck").touch()
+        threading.Thread(target=self.send_batch, args=(front,), daemon=True).start()
+        while not (self.room / "waits").exists():
+            time.sleep(0.05)
+        front.process.send_signal(signal.SIGTERM)
+        self.assertEqual(self.ended(front), 0)
 
     def test_one_that_is_ignored(self):
         """As Ctrl-C is in the background of a shell."""

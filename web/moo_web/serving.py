@@ -286,4 +286,6 @@ def main() -> None:
         serve(said)
     except (Failed, InUse, Damaged, NoRoom, Broken, Wrong, OSError) as error:
         sys.exit(f"moo-web: {error}")
+    # Python would wait for the thread of a disk that doesn't answer.
+    os._exit(0)
 
