@@ -296,7 +296,7 @@ class Looks(SiteTest):
         self.assertIn("small box #9 size 28 29", reader.get("/done/4").text)
         self.assertEqual(tidied(answer), "")
         self.assertEqual([reader.get(f"/history/{number}").status for number in (0, 3, 6, 10**14)], [404] * 4)
-        self.assertIn("There is no batch of this number that you may see.", reader.get("/history/3").text)
+        self.assertIn("There is nothing of this number that you may see.", reader.get("/history/3").text)
 
     def test_the_word_of_the_menu_that_a_page_is_under(self):
         self.write("wizard", 'set(#9, "size", 29)')
