@@ -260,7 +260,7 @@ def serve(said: argparse.Namespace) -> None:
 def at_signals(act: Callable[[int], None]) -> None:
     """Has SIGTERM and SIGINT do this. One that is ignored stays so, as SIGINT is in the background of a shell.
 
-    `act` raises nothing. Python throws an exception away that comes during an import or while an object is freed, and the front would go on.
+    `act` raises nothing: Python throws an exception away that comes during an import or while an object is freed, and all would go on.
     """
     for number in (signal.SIGTERM, signal.SIGINT):
         if signal.getsignal(number) is not signal.SIG_IGN:
@@ -268,7 +268,7 @@ def at_signals(act: Callable[[int], None]) -> None:
 
 
 def end_at_once(number: int) -> None:
-    """Ends the process, whatever it does: a start has nothing to put in order."""
+    """Ends the process, whatever it does: a start has nothing to put in order, and who sends a second signal won't wait."""
     os._exit(0 if number == signal.SIGTERM else INTERRUPTED)
 
 
