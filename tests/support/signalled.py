@@ -2,8 +2,8 @@
 
     signalled.py NUMBER MODULE FUNCTION PROGRAM WORDS..
 
-PROGRAM is the module of the program, as moo_web.serving, and WORDS are the program's. The signal NUMBER comes after the first call of FUNCTION,
-a function of MODULE or a method of a class there, as `Heart.beat`.
+PROGRAM is the module of the program, as moo_web.serving, and WORDS are the program's. The signal NUMBER comes after the first call of
+FUNCTION, a function of MODULE or a method of a class there, as `Heart.beat`.
 """
 
 from __future__ import annotations
