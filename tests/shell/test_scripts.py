@@ -14,7 +14,7 @@ from pathlib import Path
 from typing import Iterator
 
 from tests.support.cases import ProgramTest
-from tests.support.processes import seconds_of_children, start
+from tests.support.processes import inherited_signal, seconds_of_children, start
 from tests.support.program import MOO, TOP, Ended
 from tests.support.service import Service, free_port
 from tests.support.shell import PATIENCE, SHELL, children, environment, has_ended, run_script, run_shell
@@ -88,7 +88,7 @@ VILLAGE_ANSWERS = """\
 
 
 @contextlib.contextmanager
-def opened_for_writing(fifo: str, seconds: float) -> Iterator[None]:
+def opened_for_writing(fifo: str, seconds: float) -> Iterator[int]:
     """A fifo that somebody else reads, or waits for, within so many seconds."""
     end = time.monotonic() + seconds
     while True:
@@ -100,7 +100,7 @@ def opened_for_writing(fifo: str, seconds: float) -> Iterator[None]:
                 raise
         time.sleep(0.05)
     try:
-        yield
+        yield opened
     finally:
         os.close(opened)
 
@@ -337,6 +337,16 @@ class Scripts(OnWorld):
                 os.kill(shell.pid, number)
                 self.case(f"it ends by {number.name}", (shell.wait(PATIENCE), has_ended(service)), (status, True))
 
+    def test_a_signal_that_is_ignored(self) -> None:
+        """As nohup has it."""
+        os.mkfifo("late")
+        with inherited_signal(signal.SIGHUP, signal.SIG_IGN):
+            shell = start([*SHELL, "-q", "-f", "late", "world.db"], env=environment())
+        with opened_for_writing("late", PATIENCE) as script:
+            shell.send_signal(signal.SIGHUP)
+            os.write(script, b"create(#1)\n")
+        self.case("it goes on", (shell.wait(PATIENCE), run("check", "world.db")), (0, (0, "ok seq 1 objects 5\n")))
+
 
 class Rehearsals(OnWorld):
     def test_on_a_file(self) -> None:
@@ -413,6 +423,7 @@ class Mistakes(OnWorld):
             ("\\show", ["which object? #5 is one"]),
             ("begin\nwood", ["malformed: wood isn't a call: "]),
             ("\\shwo #4", ["\\shwo isn't a word of the shell (did you mean \\show?)"]),
+            ("\\go #4", ["\\go isn't a word of the shell (did you mean @go?)"]),
             ("\\show box", ["box isn't an object"]),
             ("\\as 77", ["#77 isn't an object"]),
             ("create(#1, #77)", ["E_INVARG"]),

@@ -8,6 +8,7 @@ import signal
 import stat
 
 from tests.support.cases import ProgramTest
+from tests.support.processes import inherited_signal
 from tests.support.program import ended
 from tests.support.shell import PATIENCE, at_prompt, children, has_ended, is_running, run_shell
 from tests.support.terminal import Terminal
@@ -356,7 +357,9 @@ class Ends(Typed):
 
     def test_signals(self) -> None:
         for number in (signal.SIGTERM, signal.SIGHUP, signal.SIGKILL, signal.SIGSEGV):
-            shell = self.shell()
+            # Tests that nohup started would have SIGHUP ignored.
+            with inherited_signal(signal.SIGHUP, signal.SIG_DFL):
+                shell = self.shell()
             service = self.service_of(shell)
             self.case(f"it runs until {number.name}", is_running(service), True)
             os.kill(shell.process.pid, number)

@@ -10,8 +10,10 @@ import subprocess
 import sys
 import time
 from pathlib import Path
-from typing import Any, Sequence
+from typing import Any, Iterator, Sequence
 
+# The script that starts a program of web/ which sends itself a signal.
+SIGNALLED = Path(__file__).with_name("signalled.py")
 started: list[subprocess.Popen[bytes]] = []
 
 
@@ -20,6 +22,16 @@ def start(words: Sequence[Any], **how: Any) -> subprocess.Popen[bytes]:
     process = subprocess.Popen(words, **how)
     started.append(process)
     return process
+
+
+@contextlib.contextmanager
+def inherited_signal(number: signal.Signals, action: signal.Handlers) -> Iterator[None]:
+    """What is started meanwhile begins with a signal that is ignored, or that ends it, whichever whoever runs the tests has chosen."""
+    before = signal.signal(number, action)
+    try:
+        yield
+    finally:
+        signal.signal(number, before)
 
 
 def run_script(words: Sequence[Any], seconds: float, **variables: str) -> tuple[int, str]:

@@ -4,6 +4,7 @@
 """
 
 import contextlib
+import fcntl
 import hashlib
 import os
 import pathlib
@@ -18,10 +19,12 @@ import tempfile
 import threading
 import time
 import unittest
+from unittest import mock
 
 from tests.support import processes
 from tests.support.operating import KeptService, SECONDS, TOOLS, checked, make_world, said, tool
 from tests.support.program import MOO
+from tests.support.service import free_port
 
 import moo_client
 from moo_client import Moo, Obj
@@ -164,6 +167,25 @@ class AtRest(Copies):
         module.backup(module.read_words(["--moo", MOO, str(self.file), str(self.folder)]))
         self.assertEqual(refusals, [(1, "moo: store fault\n")] * 2)
         self.assertEqual(checked(self.file), 1)
+
+    def test_an_alarm_that_comes_too_early(self):
+        """One that comes just before the wait for the lock doesn't end it, and the next one does."""
+        module, service = tool("moo-backup"), processes.start([MOO, "serve", self.file, str(free_port())], stdout=subprocess.PIPE)
+        self.addCleanup(processes.end_all)
+        service.stdout.readline()
+
+        def lock_after_alarm(*words):
+            signal.pthread_sigmask(signal.SIG_BLOCK, {signal.SIGALRM})
+            signal.sigwait({signal.SIGALRM})
+            signal.pthread_sigmask(signal.SIG_UNBLOCK, {signal.SIGALRM})
+            return fcntl.lockf(*words)
+
+        # A wait that nothing ends ends with the run.
+        end = threading.Timer(30, service.kill)
+        end.start()
+        self.addCleanup(end.cancel)
+        with mock.patch.object(module, "fcntl", mock.Mock(lockf=lock_after_alarm, LOCK_SH=fcntl.LOCK_SH)), open(self.file, "rb") as file:
+            self.assertFalse(module.is_locked_within(file, 0.5))
 
     def test_the_newest_are_kept(self):
         self.folder.mkdir()

@@ -15,7 +15,7 @@ from tests.support import processes
 from tests.support.operating import SECONDS, TOOLS
 from tests.support.program import MOO, TOP
 from tests.support.pages import lacking as lacking_pages
-from tests.support.web import WEB, lacking
+from tests.support.web import DEBIANS_PYTHON, WEB, lacking
 
 FOUND = re.compile(r"http://127\.0\.0\.1:(\d+)/")
 LINE = re.compile(r"^    (\w+) +([0-9a-f]{8}) +(\S.*)$", re.M)
@@ -103,6 +103,15 @@ class Runs(DemoTest):
         demo.send_signal(signal.SIGINT)
         self.assertEqual(demo.wait(SECONDS), 0)
         self.assertEqual(self.running(), [])
+
+    def test_a_signal_whose_exception_is_thrown_away(self):
+        """It comes while an object is freed, before anything was started."""
+        words = [DEBIANS_PYTHON, "-I", processes.SIGNALLED, int(signal.SIGTERM), "moo_web.demo", "lacking", "moo_web.demo", "--moo", MOO]
+        how = {"env": dict(os.environ, TMPDIR=str(self.room)), "stdout": subprocess.PIPE, "stderr": subprocess.DEVNULL}
+        demo = processes.start([str(word) for word in words], **how)
+        said, _ = demo.communicate(timeout=60)
+        self.assertEqual((demo.returncode, said), (0, b"\nIt is over, and nothing is left.\n"))
+        self.assertEqual((self.running(), list(self.room.iterdir())), ([], []))
 
 
 class Lacks(DemoTest):

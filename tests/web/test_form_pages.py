@@ -77,6 +77,8 @@ class Forms(FormsTest):
         self.has(page, 'set(Oil "lamp" #8 , "name", "Oil \\"lamp\\"")')
         self.assertEqual(ada.get("/o/8").status, 200)
         self.has(ada.page, 'Oil "lamp"')
+        ada.get("/do/rename?object=%238")
+        self.has(ada.send("Preview", name=""), 'Oil "lamp" #8 has no name any more.', status=200)
 
     def test_each_kind_of_change(self):
         wizard = self.somebody("wizard")

@@ -1,5 +1,6 @@
 """What each kind of person sees on the pages of a front, and what they don't; names that look like HTML; lists in parts."""
 
+import re
 import unittest
 
 from tests.support.pages import PagesTest, tidied
@@ -295,6 +296,21 @@ class Looks(SiteTest):
         self.assertIn("small box #9 size 28 29", reader.get("/done/4").text)
         self.assertEqual(tidied(answer), "")
         self.assertEqual([reader.get(f"/history/{number}").status for number in (0, 3, 6, 10**14)], [404] * 4)
+        self.assertIn("There is nothing of this number that you may see.", reader.get("/history/3").text)
+
+    def test_the_word_of_the_menu_that_a_page_is_under(self):
+        self.write("wizard", 'set(#9, "size", 29)')
+        for path, said in (
+            ("/", "This page: </span>World"), ("/do", "This page: </span>Change"), ("/do/rename", "This page is under: </span>Change"),
+            ("/edit/9", "This page is under: </span>Change"), ("/edit/new", "This page is under: </span>Change"),
+            ("/class/6", "This page is under: </span>Change"), ("/batch", "This page is under: </span>Change"),
+            ("/undo/4", "This page is under: </span>Change"), ("/history/4", "This page is under: </span>History"),
+            ("/done/4", "This page is under: </span>History"), ("/differences", "This page is under: </span>History"),
+            ("/quotas", "This page is under: </span>People"), ("/o/9", ""),
+        ):  # fmt: skip
+            with self.subTest(path):
+                found = re.findall(r'class="here"><span class="hidden">([^<]*</span>\w+)', self.reader("wizard").get(path).source)
+                self.assertEqual(found, [said] if said else [])
 
     def test_links_to_forms_are_for_those_who_may_change_it(self):
         for who, wanted in (("ada", ["diary", "size", "colour"]), ("ben", []), ("wizard", ["diary", "size", "opener", "colour"])):
@@ -341,6 +357,7 @@ class Looks(SiteTest):
         self.assertIn("2 named like “BOX”", text)
         self.assertLess(text.index("generic box"), text.index("small box"))
         self.assertIn("There is no object of the number 77.", reader.get("/find?q=77").text)
+        self.assertIn("0 named like “no such word” No object.", reader.get("/find?q=no+such+word").text)
 
     def test_a_property_is_found_as_soon_as_it_is_there(self):
         reader = self.reader("wizard")

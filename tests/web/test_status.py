@@ -358,7 +358,9 @@ class AccessLog(ServingTest):
         front.process.send_signal(signal.SIGHUP)
         self.assertEqual(ask(front.port, "GET", "/api/seq", token=self.token), (200, {"seq": 0}))
         front.kill()
-        front = self.front()
+        # Tests that nohup started would have it ignored.
+        with processes.inherited_signal(signal.SIGHUP, signal.SIG_DFL):
+            front = self.front()
         front.process.send_signal(signal.SIGHUP)
         self.assertEqual(front.end(), -signal.SIGHUP)
 

@@ -248,8 +248,8 @@ class Concerned(UndoTest):
         self.has(wizard.get("/differences?a=2&b=3"), '2 values.', 'Torch #8 name "Lamp" "Torch"', 'Thing #6 name "Generic Thing" "Thing"')
         page = wizard.get("/differences?a=3&b=2&o=Torch")
         self.has(page, '1 value.', 'Torch #8 name "Torch" "Lamp"')
-        self.has(wizard.get("/differences?a=1&b=3"), "batch 2 isn't in the journal")
-        self.has(wizard.get("/differences?a=2&b=9"), "the world has number 3 yet")
+        self.has(wizard.get("/differences?a=1&b=3"), "Batch 2 isn't in the journal.")
+        self.has(wizard.get("/differences?a=2&b=9"), "The world has number 3 yet.")
         self.has(wizard.get("/differences?a=3&b=3"), "Nothing differs.")
 
 

@@ -11,7 +11,7 @@ from collections.abc import Callable
 from pathlib import Path
 from typing import Optional
 
-from moo_shell import including, looks
+from moo_shell import building, including, looks
 from moo_shell.batches import Refused
 from moo_shell.editing import edit
 from moo_shell.elsewhere import STOPS, of_psql
@@ -361,6 +361,6 @@ def run_command(session: Session, word: str, text: str) -> None:
     if word not in COMMANDS:
         if of_psql(word):
             raise Failed(f"\\{word} isn't a word of the shell: {of_psql(word)}")
-        like = did_you_mean("\\" + word, ["\\" + name for name in COMMANDS])
+        like = f" (did you mean @{word}?)" if word in building.COMMANDS else did_you_mean("\\" + word, ["\\" + name for name in COMMANDS])
         raise Failed(f"\\{word} isn't a word of the shell{like}; \\help lists them")
     COMMANDS[word].run(session, text)

@@ -170,7 +170,7 @@ class Prompt:
         the next key. On a copy it is left to do so, since the copy has to be removed.
         """
         ends = () if self.session.is_copy else (signal.SIGTERM, signal.SIGHUP)
-        before = {each: signal.signal(each, signal.SIG_DFL) for each in ends}
+        before = {each: signal.signal(each, signal.SIG_DFL) for each in ends if signal.getsignal(each) is not signal.SIG_IGN}
         try:
             text = input(words)
         finally:

@@ -198,7 +198,9 @@ def main() -> None:
     """Runs the shell. Its status is 0 if all was done, 1 if not, 2 if the words are wrong, or that of `moo`."""
     said = read_words(sys.argv[1:])
     for each in (signal.SIGTERM, signal.SIGHUP):
-        signal.signal(each, stop)
+        # As nohup has it for SIGHUP.
+        if signal.getsignal(each) is not signal.SIG_IGN:
+            signal.signal(each, stop)
     try:
         run(said)
         sys.stdout.flush()

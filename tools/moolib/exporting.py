@@ -201,7 +201,7 @@ class Export:
         calls = [*self.created(), *self.marked(), *self.added(), *self.inherited(), *self.verbs(), *self.placed()]
         count = len(self.order)
         self.leave_out_unread()
-        how = "moo-shell -f FILE world.db makes the same again, and so does the page 'Batch' of a front."
+        how = "moo-shell -f FILE world.db makes the same again, and so does the page 'A batch of calls' of a front."
         if len(calls) > MOST_CALLS:
             how = f"moo-shell -f FILE world.db makes the same again. The page 'Batch' takes {MOST_CALLS:,} calls at most, and this has {len(calls):,}."
         lines = [

@@ -35,6 +35,8 @@ It needs Debian's python3-waitress and python3-jinja2, and the program moo: that
 ends it.
 """
 STOP_SECONDS = 10.0
+ENDS = (signal.SIGINT, signal.SIGTERM, signal.SIGHUP)
+AGAIN = 1.0
 PACKAGES = (("waitress", "python3-waitress"), ("jinja2", "python3-jinja2"))
 
 
@@ -182,9 +184,14 @@ def greet(demo: Demo) -> None:
 
 
 def end_by_signal(number: int, frame: object) -> None:
-    """Ends the program by an exception, so that all is cleared up. A second signal is ignored meanwhile."""
-    for one in (signal.SIGINT, signal.SIGTERM, signal.SIGHUP):
+    """Ends the program by an exception, so that all is cleared up. A second signal is ignored meanwhile.
+
+    Python throws an exception away that comes during an import or while an object is freed. So it comes again until the clearing begins.
+    """
+    for one in ENDS:
         signal.signal(one, signal.SIG_IGN)
+    signal.signal(signal.SIGALRM, end_by_signal)
+    signal.setitimer(signal.ITIMER_REAL, AGAIN)
     raise KeyboardInterrupt
 
 
@@ -202,6 +209,7 @@ def run(said: argparse.Namespace) -> None:
             greet(demo)
             demo.wait()
         finally:
+            signal.setitimer(signal.ITIMER_REAL, 0)
             demo.stop()
 
 
@@ -212,8 +220,10 @@ def main() -> None:
     parser.add_argument("--moo", metavar="PROGRAM", help="the program moo")
     said = parser.parse_args()
     only_ours()
-    for number in (signal.SIGINT, signal.SIGTERM, signal.SIGHUP):
-        signal.signal(number, end_by_signal)
+    for number in ENDS:
+        # As nohup has it for SIGHUP.
+        if signal.getsignal(number) is not signal.SIG_IGN:
+            signal.signal(number, end_by_signal)
     try:
         run(said)
     except Failed as error:

@@ -10,7 +10,7 @@ import sys
 import threading
 import time
 from pathlib import Path
-from typing import TYPE_CHECKING, Any
+from typing import TYPE_CHECKING, Any, Callable
 
 from moolib.errors import Failed
 
@@ -51,6 +51,7 @@ RATE = 100.0
 SEGMENT_BYTES = 1 << 26
 DEBIANS_MODULES = "/usr/lib/python3/dist-packages"
 END_SECONDS = 5.0
+INTERRUPTED = 130
 WIZARD_ASKING = 2.0
 SHARE_HELP = (
     "what a person may use in a minute: seconds of moo's time, rows and bytes written "
@@ -239,6 +240,7 @@ def serve(said: argparse.Namespace) -> None:
         front.serve_status(said, room, tell)
     front.writer.start(said.rebase)
     front.listen(said, room)
+    at_signals(lambda number: end_in_order(front.server))
     if front.pages:
         threading.Thread(target=front.pages.warm, name="warm", daemon=True).start()
     threading.Thread(target=front.history.keep_up, args=(tell,), name="history", daemon=True).start()
@@ -255,14 +257,35 @@ def serve(said: argparse.Namespace) -> None:
         front.history.end()
 
 
+def at_signals(act: Callable[[int], None]) -> None:
+    """Has SIGTERM and SIGINT do this. One that is ignored stays so, as SIGINT is in the background of a shell.
+
+    `act` raises nothing: Python throws an exception away that comes during an import or while an object is freed, and all would go on.
+    """
+    for number in (signal.SIGTERM, signal.SIGINT):
+        if signal.getsignal(number) is not signal.SIG_IGN:
+            signal.signal(number, lambda number, frame: act(number))
+
+
+def end_at_once(number: int) -> None:
+    """Ends the process, whatever it does: a start has nothing to put in order, and who sends a second signal won't wait."""
+    os._exit(0 if number == signal.SIGTERM else INTERRUPTED)
+
+
+def end_in_order(server: Any) -> None:
+    """Has the server end, and the process with it. The next signal ends it at once."""
+    at_signals(end_at_once)
+    server.end()
+
+
 def main() -> None:
     """Runs the program with the words of the command line."""
+    at_signals(end_at_once)
     said = read_words(sys.argv[1:])
-    signal.signal(signal.SIGTERM, lambda number, frame: sys.exit(0))
     try:
         serve(said)
     except (Failed, InUse, Damaged, NoRoom, Broken, Wrong, OSError) as error:
         sys.exit(f"moo-web: {error}")
-    except KeyboardInterrupt:
-        sys.exit(130)
+    # Python would wait for the thread of a disk that doesn't answer.
+    os._exit(0)
 

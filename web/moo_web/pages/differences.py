@@ -14,6 +14,7 @@ from moo_web.journal.segments import Accepted
 from moo_web.pages.history import numbers_for
 from moo_web.pages.lists import part_of
 from moo_web.pages.pages import Visit
+from moo_web.pages.words import sentence
 from moo_web.paths import whole_number
 
 # So many batches are gone through for a page; moo-replay has no bound.
@@ -33,9 +34,9 @@ def differences(visit: Visit, history: History) -> Reply:
         try:
             found = found_between(visit, history, first, last, numbers[0] if numbers else None)
         except Failed as failed:
-            wrong = str(failed)
+            wrong = sentence(str(failed))
     if asked and len(numbers) != 1:
-        found, wrong = [], f"{'Several objects are' if numbers else 'No object is'} named like “{asked}”"
+        found, wrong = [], f"{'Several objects are' if numbers else 'No object is'} named like “{asked}”."
     return visit.page(
         "pages/differences.html", first=first, last=last, asked=asked, wrong=wrong, part=part_of(found, visit.fields.get("page", ""), PAGE)
     )

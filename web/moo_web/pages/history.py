@@ -83,7 +83,7 @@ def one(visit: Visit, history: History, number: int, is_done: bool = False) -> R
     """One batch: what it did, with values before and after. It isn't there for those whom it doesn't concern."""
     batch = history.one(number)
     if batch is None or not concerns(visit, history, batch):
-        return visit.refused("not found", 404)
+        return visit.refused("no batch", 404)
     return visit.page(
         "pages/one_batch.html", batch=batch, told=Telling(visit, history, batch).told(), here=walked_to(visit, batch),
         is_done=is_done and batch.who.lower() == visit.name.lower(),

@@ -40,7 +40,7 @@ SENTENCES = {
 }
 # The same of `set` for built-in properties, by their names; with what isn't true after a stroke.
 BUILT_IN = {
-    "name": "{0} is called {2}.",
+    "name": "{0} is called {2}.|{0} has no name any more.",
     "owner": "{0} is given to {2}.",
     "wizard": "{0} becomes a wizard, who has every right.|{0} isn’t a wizard any more.",
     "programmer": "{0} gets the mark of a programmer, at which nothing looks.|{0} loses the mark of a programmer.",

@@ -39,6 +39,7 @@ ERROR_TEXTS: dict[str, tuple[str, str]] = {
         "Go back, load the page again, and send it once more.",
     ),
     "not found": ("Nothing here", "There is no such page."),
+    "no batch": ("Nothing here", "There is nothing of this number that you may see. What was done past this front isn’t in its history."),
     "method not allowed": ("Nothing here", "This page can’t be asked for in this way."),
     "too large": ("Too large", "This is more than can be sent or shown at once. Nothing was done."),
     "too many": (

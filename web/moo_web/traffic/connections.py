@@ -35,6 +35,8 @@ LONGEST_READ = 1 << 22
 # What all connections may hold together of requests and answers.
 MOST_HELD = 1 << 28
 LOOK_EVERY = 1
+# A turn of the loop waits for so many seconds at most.
+LONGEST_TURN = 1.0
 
 
 class Room:
@@ -211,11 +213,27 @@ class Channel(HTTPChannel):  # type: ignore[misc]
 
 
 class Patient:
-    """What lets slow and silent peers go, for servers."""
+    """What lets slow and silent peers go, for servers, and ends their loop."""
 
     active_channels: dict[int, Channel]
+    asyncore: Any
+    _map: dict[int, Any]
+    task_dispatcher: Any
+    pull_trigger: Callable[[], None]
     # What is called about once a second, as long as the loop turns.
     beat: Callable[[], None]
+    is_over = False
+
+    def run(self) -> None:
+        """Serves until `end` is called. Then no request is begun any more, and those that were begun have some seconds."""
+        while not self.is_over:
+            self.asyncore.loop(LONGEST_TURN, True, self._map, 1)
+        self.task_dispatcher.shutdown()
+
+    def end(self) -> None:
+        """Has the loop end after this turn. The handler of a signal may call it, and any thread."""
+        self.is_over = True
+        self.pull_trigger()
 
     def maintenance(self, now: float) -> None:
         """Closes each connection whose peer is late, or that is let go. A peer that reads nothing can't be written to, so this waits for none."""
@@ -245,8 +263,7 @@ class Way(NamedTuple):
         trusted = {"trusted_proxy": self.proxy, "trusted_proxy_count": 1, "trusted_proxy_headers": {"x-forwarded-for"}}
         return Adjustments(
             ident=None, connection_limit=MOST_CONNECTIONS, cleanup_interval=LOOK_EVERY, max_request_body_size=LONGEST_READ,
-            max_request_header_size=LONGEST_HEAD, clear_untrusted_proxy_headers=True, asyncore_use_poll=True,
-            **(trusted if self.proxy else {}),
+            max_request_header_size=LONGEST_HEAD, clear_untrusted_proxy_headers=True, **(trusted if self.proxy else {}),
         )  # fmt: skip
 
 
