@@ -1,5 +1,5 @@
 -- What serving a request comes to.
-use Rattle.moo_http.{proofs.Words.{◌≡◌, ◌≢◌, inl, inr, ℕ, Bool, List, [], ◌++◌, Option, Some, None, refl, sym, subst, ap, ◌∙◌, append_assoc, append-nil, Result, Ok, Err, IfErr, IsErrAnd, Appends, Ghosts, Stand, World, IsMovedAs, StandsAt, Takes, Asked, Nothing, Request, ServeFault, Read, Write, OutOfMemory, RequestOutcome, Consulted, response_with, response_text, IsWhyOf, Serves, StandsStill, Written, Served, Traffic, ledger_by, no_batches}, specs.Faults.{fault_of}, specs.Serves.{AnswersTo}}
+use Rattle.moo_http.{proofs.Words.{◌≡◌, ◌≢◌, inl, inr, ℕ, Bool, List, [], ◌++◌, Option, Some, None, refl, sym, subst, ap, ◌∙◌, append_assoc, append-nil, Result, Ok, Err, IfErr, IsErrAnd, Appends, Ghosts, Stand, World, IsMovedAs, StandsAt, Takes, Asked, Nothing, Request, ServeFault, Read, Write, OutOfMemory, RequestOutcome, Consulted, response_with, response_text, Serves, StandsStill, Written, Served, Traffic, ledger_by, no_batches}, specs.Faults.{fault_of}, specs.Seen.{TellsWhy}, specs.Serves.{AnswersTo}}
 use Rattle.moo_http_request.specs.declared.fault.ReadFault.{ReadFault}
 use Rattle.moo_http_request.specs.declared.fault.ReadFault.TheVariants as read
 
@@ -49,14 +49,14 @@ nothing g known old was bytes done unwritten takes at stays =
 
 -- ---- a request came
 
-answered : {S : Type 0} (g : Ghosts S) (known : Bool) (old : Stand) (was world : World S) (bytes : Traffic) (is_head asks_why : Bool) (asked : Asked) (o : RequestOutcome) (whys : List (Option (List ℕ))) → Takes bytes.left bytes.rest (Request is_head asks_why asked) → IsWhyOf asks_why whys → Consulted g known old world asked o
+answered : {S : Type 0} (g : Ghosts S) (known : Bool) (old : Stand) (was world : World S) (bytes : Traffic) (is_head asks_why : Bool) (asked : Asked) (o : RequestOutcome) (whys : List (Option (List ℕ))) → Takes bytes.left bytes.rest (Request is_head asks_why asked) → TellsWhy was.rows.maps asks_why asked o whys → Consulted g known old world asked o
     → IsMovedAs g was world asked o → Serves g known old was world bytes (response_text is_head (response_with asks_why whys o))
-answered g known old was world bytes is_head asks_why asked o whys takes wanted consulted moved = record {
+answered g known old was world bytes is_head asks_why asked o whys takes told consulted moved = record {
   received = Request is_head asks_why asked;
   takes = takes;
   new = consulted.new;
   ledger = ledger_by asked o;
-  gets = (o, whys, wanted, consulted.answers, refl, refl);
+  gets = (o, whys, told, consulted.answers, refl, refl);
   stands = consulted.stands;
   crash = consulted.crash;
   moved = moved;
@@ -64,10 +64,10 @@ answered g known old was world bytes is_head asks_why asked o whys takes wanted 
 
 pub served : {S : Type 0} (g : Ghosts S) (known : Bool) (r : Result (Unit {0}) ServeFault) (old : Stand) (was world : World S) (bytes : Traffic) (is_head asks_why : Bool) (asked : Asked)
     → Takes bytes.left bytes.rest (Request is_head asks_why asked) → AnswersTo g known old was world is_head asks_why asked r bytes.before bytes.after → IfErr r (λ fault. fault ≢ Read) → Served g known r old was world bytes
-served g known (Ok done) old was world bytes is_head asks_why asked takes (o, whys, wanted, consulted, moved, written) other =
-    (response_text is_head (response_with asks_why whys o), answered g known old was world bytes is_head asks_why asked o whys takes wanted consulted moved, written)
-served g known (Err Write) old was world bytes is_head asks_why asked takes (o, whys, wanted, consulted, moved, written) other =
-    (response_text is_head (response_with asks_why whys o), answered g known old was world bytes is_head asks_why asked o whys takes wanted consulted moved, written.0, written.1)
+served g known (Ok done) old was world bytes is_head asks_why asked takes (o, whys, told, consulted, moved, written) other =
+    (response_text is_head (response_with asks_why whys o), answered g known old was world bytes is_head asks_why asked o whys takes told consulted moved, written)
+served g known (Err Write) old was world bytes is_head asks_why asked takes (o, whys, told, consulted, moved, written) other =
+    (response_text is_head (response_with asks_why whys o), answered g known old was world bytes is_head asks_why asked o whys takes told consulted moved, written.0, written.1)
 served g known (Err Read) old was world bytes is_head asks_why asked takes it other = absurd (other refl)
-served g known (Err OutOfMemory) old was world bytes is_head asks_why asked takes (o, whys, wanted, consulted, moved, written) other =
-    (written, inr (response_text is_head (response_with asks_why whys o), answered g known old was world bytes is_head asks_why asked o whys takes wanted consulted moved))
+served g known (Err OutOfMemory) old was world bytes is_head asks_why asked takes (o, whys, told, consulted, moved, written) other =
+    (written, inr (response_text is_head (response_with asks_why whys o), answered g known old was world bytes is_head asks_why asked o whys takes told consulted moved))

@@ -1,9 +1,12 @@
 -- The connections that a source hands out, served one after another.
-use Rattle.moo_http.{proofs.Words.{◌≡◌, inl, inr, ℕ, suc, ◌+◌, Bool, true, false, List, [], ◌∷◌, Option, Some, refl, sym, ap, subst, arith, ◌∙◌, ◌≢◌, Result, Ok, Err, is_ok, IfErr, ◌⊎◌, IsTrue, HasCleanDisk, Ghosts, Stand, World, IsMovedBy, store_of, CrashLeaves, StandsAt, Nothing, Request, ServeFault, Read, Write, OutOfMemory, ServiceFault, StandsAtEnd, ConveysBy, Serves, StandsStill, Served, Yields, Exchanged, Visited, Visit, Attended, ServesFrom, attended_between, ServesOn, visit, settle, Loss, None, zero, TellsLoss, TellsLosses, Traffic, Ledger, IsMovedIn, and_then, no_batches, moved_then, written_none}, specs.Serves.{Gets, Moved}}
+use Rattle.moo_http.{proofs.Words.{◌≡◌, inl, inr, ℕ, suc, ◌+◌, Bool, true, false, List, [], ◌∷◌, Option, Some, refl, sym, ap, subst, arith, ◌∙◌, ◌≢◌, Result, Ok, Err, is_ok, IfErr, ◌⊎◌, IsTrue, HasCleanDisk, Ghosts, Stand, World, IsMovedBy, store_of, CrashLeaves, StandsAt, Nothing, Request, ServeFault, Read, Write, OutOfMemory, ServiceFault, StandsAtEnd, ConveysBy, Serves, StandsStill, Served, Yields, Exchanged, Visited, Visit, Attended, ServesFrom, attended_between, ServesOn, visit, settle, Loss, None, zero, TellsLoss, TellsLosses, Traffic, Ledger, IsMovedIn, and_then, no_batches, moved_then, written_none}, specs.Seen.{IsToldWith, TellsWhy}, specs.Serves.{Gets, IsWhyOf, Moved}}
 use Rattle.std.specs.declared.io.Read as Reading
 use Rattle.std.specs.declared.io.Write as Writing
 use Rattle.moo_arrivals.specs.declared.arrivals.Arrivals as Arrivals
 use Rattle.moo_http_request.specs.declared.request.Received.{Received}
+use Rattle.moo_http_response.specs.declared.outcome.RequestOutcome.{RequestOutcome}
+use Rattle.moo_reasons.specs.declared.why.Whys.{Whys}
+use Rattle.std.proofs.lemmas.Bool.{true≢false}
 use Rattle.moo_store_rows.proofs.Committed.{IsSettled}
 use Rattle.moo_http.specs.declared.ports.Ports as Ports
 use Rattle.moo_http.specs.declared.service.ServiceFault.TheVariants as service
@@ -23,13 +26,22 @@ stays g known world stand P settled at crash holds = record { end = stand; stand
 
 -- ---- one connection
 
+-- nothing is said of why if it isn't asked
+told_only : (asks_why : Bool) (whys : Whys) (o : RequestOutcome) (shown : List (Option (List ℕ))) → IsToldWith asks_why whys o shown → IsWhyOf asks_why shown
+told_only false whys o shown told = λ e. told
+told_only true whys o shown told = λ e. absurd (true≢false e)
+
 module _ {S : Type 0} (g : Ghosts S) (known : Bool) (old : Stand) (was world : World S) (settled : IsSettled (store_of g was)) (bytes : Traffic) where
   unmoved : (ledger : Ledger) → ledger ≡ no_batches → world ≡ was → IsMovedIn g was world ledger
   unmoved ledger none same = subst (λ (l : Ledger). IsMovedIn g was world l) (sym none) (subst (λ w. IsMovedBy g was w [] []) (sym same) (written_none g was settled))
 
-  moved_by : (received : Received) (output : List ℕ) (ledger : Ledger) (new : Stand) → Gets old received output ledger new → Moved g was world received ledger → IsMovedIn g was world ledger
+  moved_by : (received : Received) (output : List ℕ) (ledger : Ledger) (new : Stand) → Gets (TellsWhy was.rows.maps) old received output ledger new → Moved g was world received ledger → IsMovedIn g was world ledger
   moved_by Nothing output ledger new gets moved = unmoved ledger gets.1 moved
   moved_by (Request is_head asks_why asked) output ledger new gets moved = moved
+
+  gets_why : (received : Received) (output : List ℕ) (ledger : Ledger) (new : Stand) → Gets (TellsWhy was.rows.maps) old received output ledger new → Gets (λ asks_why asked o whys. IsWhyOf asks_why whys) old received output ledger new
+  gets_why Nothing output ledger new gets = gets
+  gets_why (Request is_head asks_why asked) output ledger new (o, whys, told, answers, by, is) = (o, whys, told_only asks_why told.0 o whys told.2, answers, by, is)
 
   -- what is served is yielded by the stand
   yields : (P : Ledger → Stand → Type 0) (output : List ℕ) → ((ledger : Ledger) (new : Stand) → Yields old new bytes output ledger → P ledger new) → Serves g known old was world bytes output → EndsBy g known was world P
@@ -37,7 +49,7 @@ module _ {S : Type 0} (g : Ghosts S) (known : Bool) (old : Stand) (was world : W
     end = it.new;
     stands = it.stands;
     crash = it.crash;
-    ends = (it.ledger, moved_by it.received output it.ledger it.new it.gets it.moved, then it.ledger it.new (it.received, it.takes, it.gets));
+    ends = (it.ledger, moved_by it.received output it.ledger it.new it.gets it.moved, then it.ledger it.new (it.received, it.takes, gets_why it.received output it.ledger it.new it.gets));
   }
 
   still : (P : Ledger → Stand → Type 0) → P no_batches old → StandsAt g known was old → StandsStill g known old was world → EndsBy g known was world P

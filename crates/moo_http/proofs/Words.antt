@@ -24,7 +24,7 @@ pub use Rattle.moo_http.specs.Connections.{ConveysBy, SaysByResult, StandsAtEnd,
 pub use Rattle.moo_http.specs.Lines.{listening_line, served_line}
 pub use Rattle.moo_http.specs.Ledger.{IsMovedIn, Ledger, and_then, no_batches}
 pub use Rattle.moo_http.specs.Traffic.{Traffic, traffic, traffic_of}
-pub use Rattle.moo_http.specs.Serves.{IsWhyOf, Served, Serves, StandsStill, Written}
+pub use Rattle.moo_http.specs.Serves.{Served, Serves, StandsStill, Written}
 pub use Rattle.moo_http.specs.Turns.{Attended, AttendsAll, Exchanged, ServesFrom, ServesOn, IsLeftUnread, Visit, Visited, Yields, attended_between, settle, visit}
 pub use Rattle.moo_http.specs.Settling.{HasNoneLeft, TellsLoss, TellsLosses}
 pub use Rattle.moo_http.specs.declared.fault.ServeFault.{ServeFault}

@@ -1,11 +1,13 @@
 -- What is seen of what was asked, and with which lines its answer is told.
-use Rattle.std.specs.Prelude.{◌≡◌, ◌⊎◌, ℕ, ⊤, List, [], ◌∷◌, Option, String}
+use Rattle.std.specs.Prelude.{◌≡◌, ℕ, ⊤, Bool, true, false, List, [], ◌∷◌, Option, String}
 use Rattle.std.specs.declared.alloc.Global.{Global}
 use Rattle.moo_rows.specs.Maps.{Maps}
 use Rattle.moo_store.specs.Seeing.{HasSeenReply, HasSeenEach}
-use Rattle.moo_reasons.specs.Seen.{Seen, SeesRefusal}
+use Rattle.moo_reasons.specs.Lines.{AreShort}
+use Rattle.moo_reasons.specs.Seen.{Seen, SeesRefusal, none_seen, seen_by}
 use Rattle.moo_reasons.specs.Told.{AreTold, TellsReply}
 use Rattle.moo_reasons.specs.declared.line.Why.{Why}
+use Rattle.moo_reasons.specs.declared.why.Whys.{Whys}
 use Rattle.moo_http_request.specs.declared.asked.Asked.{Asked}
 use Rattle.moo_http_request.specs.declared.asked.Asked.TheVariants.{Calls, Each}
 use Rattle.moo_http_response.specs.Whys.{whys_shown}
@@ -25,7 +27,13 @@ TellsOutcome whys (Replied reply) lines rest = (line : Option (String Global)) �
 TellsOutcome whys (each_replied replies seq) lines rest = AreTold whys replies lines rest
 TellsOutcome whys outcome lines rest = ⊤
 
--- so is what is shown, unless nothing is
-abbrev pub IsToldWith : List Why → RequestOutcome → List (Option (List ℕ)) → Type 0
-IsToldWith whys outcome shown = (shown ≡ []) ⊎ ((lines : List (Option (String Global))) × (rest : List Why)
-    × (shown ≡ whys_shown lines) × TellsOutcome whys outcome lines rest)
+-- What is shown beside an outcome: nothing, if it wasn't asked why; else all lines, each of at most 1,000 bytes, and none was lost.
+abbrev pub IsToldWith : Bool → Whys → RequestOutcome → List (Option (List ℕ)) → Type 0
+IsToldWith false whys outcome shown = shown ≡ []
+IsToldWith true whys outcome shown = (whys.is_lost ≡ false) × ((lines : List (Option (String Global))) × (rest : List Why)
+    × (shown ≡ whys_shown lines) × AreShort lines × TellsOutcome whys.seen.items outcome lines rest)
+
+-- Of what was asked at these rows the refusals were seen, after none, and what is shown are their lines.
+abbrev pub TellsWhy : Maps → Bool → Asked → RequestOutcome → List (Option (List ℕ)) → Type 0
+TellsWhy maps asks_why asked outcome shown = (whys : Whys)
+    × HasSeenAsked maps asked outcome (none_seen asks_why) (seen_by whys) × IsToldWith asks_why whys outcome shown

@@ -20,6 +20,7 @@ use Rattle.moo_http_response.specs.Responses.{response_with, response_text}
 use Rattle.moo_http.specs.Traffic.{Traffic}
 use Rattle.moo_http.specs.Ledger.{Ledger, no_batches, IsMovedIn}
 use Rattle.moo_http.specs.Answers.{MayAnswer, Consulted, ledger_by, IsMovedAs}
+use Rattle.moo_http.specs.Seen.{TellsWhy}
 
 -- it is said why a body, a batch or a call alone is refused only if that was asked too
 abbrev pub IsWhyOf : Bool → List (Option (List ℕ)) → Type 0
@@ -35,11 +36,12 @@ HasRefusal (Request is_head asks_why asked) = ⊥
 abbrev pub ClosesGently : Option (List ℕ) → Option (List ℕ) → Closing → Type 0
 ClosesGently left rest closing = (received : Received) × Takes left rest received × (HasRefusal received → closing ≡ Gently)
 
--- The answer to what is received: nothing if nothing came. The ledger has the batch of what was asked, if it was run.
-abbrev pub Gets : Stand → Received → List ℕ → Ledger → Stand → Type 0
-Gets old Nothing output ledger new = (output ≡ []) × (ledger ≡ no_batches) × (new ≡ old)
-Gets old (Request is_head asks_why asked) output ledger new =
-    (o : RequestOutcome) × (whys : List (Option (List ℕ))) × IsWhyOf asks_why whys × MayAnswer old asked o new
+-- The answer to what is received: nothing if nothing came. The ledger has the batch of what was asked, if it was run. Of the lines that say
+-- why an outcome of what was asked is refused this holds.
+abbrev pub Gets : (Bool → Asked → RequestOutcome → List (Option (List ℕ)) → Type 0) → Stand → Received → List ℕ → Ledger → Stand → Type 0
+Gets Tells old Nothing output ledger new = (output ≡ []) × (ledger ≡ no_batches) × (new ≡ old)
+Gets Tells old (Request is_head asks_why asked) output ledger new =
+    (o : RequestOutcome) × (whys : List (Option (List ℕ))) × Tells asks_why asked o whys × MayAnswer old asked o new
     × (ledger ≡ ledger_by asked o) × (output ≡ response_text is_head (response_with asks_why whys o))
 
 -- the World was moved by the batch that was asked to be run, if it is acknowledged, and by nothing else
@@ -55,7 +57,7 @@ pub record Serves {S : Type 0} (g : Ghosts S) (known : Bool) (old : Stand) (was 
   pub takes : Takes bytes.left bytes.rest received
   pub new : Stand
   pub ledger : Ledger
-  pub gets : Gets old received output ledger new
+  pub gets : Gets (TellsWhy was.rows.maps) old received output ledger new
   pub stands : StandsAt g known world new
   pub crash : IsTrue known → HasCleanDisk (store_of g world) → CrashLeaves (store_of g world) new
   pub moved : Moved g was world received ledger
@@ -72,11 +74,11 @@ Written (Err Write) before behind output = (sent : ℕ) × Appends before behind
 Written (Err Read) before behind output = behind ≡ before
 Written (Err OutOfMemory) before behind output = behind ≡ before
 
--- A World that stood there was asked, and of the answer this is written, by the result. It says why it refuses only if that was asked.
+-- A World that stood there was asked, and of the answer this is written, by the result. It says why it refuses if that was asked.
 abbrev pub AnswersTo : {S : Type 0} → Ghosts S → Bool → Stand → World S → World S → (is_head asks_why : Bool) → Asked
     → Result (Unit {0}) ServeFault → Option (List ℕ) → Option (List ℕ) → Type 0
 AnswersTo g known old was world is_head asks_why asked result before behind =
-    (o : RequestOutcome) × (whys : List (Option (List ℕ))) × IsWhyOf asks_why whys × Consulted g known old world asked o
+    (o : RequestOutcome) × (whys : List (Option (List ℕ))) × TellsWhy was.rows.maps asks_why asked o whys × Consulted g known old world asked o
     × IsMovedAs g was world asked o × Written result before behind (response_text is_head (response_with asks_why whys o))
 
 -- What came of a connection, by the result: its request is served, and the answer written; or a front of the answer; or, if the reader

@@ -1,21 +1,23 @@
 //! Why what was asked is refused.
 
-ghost use Rattle.std.specs.Prelude.{◌≡◌, ℕ, List, [], ◌∷◌, Option, IfOk};
+ghost use Rattle.std.specs.Prelude.{◌≡◌, false, ℕ, List, [], ◌∷◌, Option, IfOk, IfSome};
 ghost use Rattle.moo_http_response.specs.Responses.{response_with, response_text};
+ghost use Rattle.moo_reasons.specs.Lines.{AreShort, IsShort};
 ghost use Rattle.moo_reasons.specs.Told.{AreTold, TellsPlace};
 ghost use Rattle.moo_http.specs.Seen.{IsToldWith, TellsOutcome};
-ghost use Rattle.moo_http.specs.Serves.{IsWhyOf};
 
 use crate::serve::Inquiry;
 use moo_batch::Witness;
 use moo_http_request::{Asked, BodyFault};
 use moo_http_response::{Replies, RequestOutcome, answer_text};
-use moo_reasons::{Whys, call_why};
+use moo_reasons::{Whys, call_why, line_from};
 use moo_text::Reply;
 use std::alloc::{AllocError, Global};
 
 /// Why a text isn't a call, if it isn't one.
-fn text_why(alloc: Global, text: &Option<String>) -> Result<Option<String>, AllocError> {
+fn text_why(alloc: Global, text: &Option<String>) -> Result<Option<String>, AllocError>
+    ensures { IfOk result (λ line. IfSome line IsShort) }
+{
     match text {
         Some(text) => Ok(Some(call_why(alloc, text)?)),
         None => Ok(None),
@@ -32,9 +34,13 @@ fn one_of(alloc: Global, why: Option<String>) -> Result<Vec<Option<String>>, All
 }
 
 /// What is wrong with a body.
-fn body_why(alloc: Global, wrong: Option<&BodyFault>) -> Result<Vec<Option<String>>, AllocError> {
+fn body_why(alloc: Global, wrong: Option<&BodyFault>) -> Result<Vec<Option<String>>, AllocError>
+    ensures { IfOk result (λ lines. AreShort lines.items) }
+{
     match wrong {
-        Some(BodyFault::Shape(fault)) => one_of(alloc, Some(fault.to_string(alloc)?)),
+        Some(BodyFault::Shape(fault)) => {
+            one_of(alloc, Some(line_from(alloc, &fault.to_string(alloc)?)?))
+        }
         Some(BodyFault::Call(text)) => one_of(alloc, Some(call_why(alloc, text)?)),
         _ => Ok(Vec::new(alloc)),
     }
@@ -47,7 +53,8 @@ fn alone_why(
     reply: &Option<Reply>,
     text: Option<&Option<String>>,
 ) -> Result<Option<String>, AllocError>
-    ensures { IfOk result (λ line. TellsPlace seen.old.seen.items reply.now line seen.new.seen.items) }
+    ensures told { IfOk result (λ line. TellsPlace seen.old.seen.items reply.now line seen.new.seen.items) }
+    ensures short { IfOk result (λ line. IfSome line IsShort) }
 {
     match (reply, text) {
         (Some(reply), _) => seen.next(reply),
@@ -63,7 +70,8 @@ fn each_whys(
     replies: &Replies,
     texts: &[Option<String>],
 ) -> Result<Vec<Option<String>>, AllocError>
-    ensures { IfOk result (λ lines. AreTold seen.old.seen.items replies.now lines.items seen.new.seen.items) }
+    ensures told { IfOk result (λ lines. AreTold seen.old.seen.items replies.now lines.items seen.new.seen.items) }
+    ensures short { IfOk result (λ lines. AreShort lines.items) }
 {
     let mut each = Vec::new(alloc);
     for reply in replies.items() {
@@ -103,7 +111,9 @@ fn spent_why(
     alloc: Global,
     seen: &mut Whys,
     asked: &Asked,
-) -> Result<Vec<Option<String>>, AllocError> {
+) -> Result<Vec<Option<String>>, AllocError>
+    ensures { IfOk result (λ lines. AreShort lines.items) }
+{
     let judged = seen.judged();
     let why = seen.spent_why(last_place(asked, judged))?;
     if why.is_some() || seen.ticks() != Some(0) {
@@ -117,14 +127,20 @@ fn spent_why(
 }
 
 /// Why what was asked is refused, if its body, its batch or one of its calls alone is, or has spent the ticks of the request.
+/// AllocError: memory ran out for one of the lines.
 fn find_whys(
     alloc: Global,
     seen: &mut Whys,
     outcome: &RequestOutcome,
     inquiry: &Inquiry,
 ) -> Result<Vec<Option<String>>, AllocError>
-    ensures { IfOk result (λ lines. TellsOutcome seen.old.seen.items outcome.now lines.items seen.new.seen.items) }
+    ensures told { IfOk result (λ lines. TellsOutcome seen.old.seen.items outcome.now lines.items seen.new.seen.items) }
+    ensures short { IfOk result (λ lines. AreShort lines.items) }
+    ensures kept { IfOk result (λ _. seen.old.is_lost ≡ false) }
 {
+    if seen.is_lost() {
+        return Err(AllocError);
+    }
     let wrong = inquiry.wrong.as_ref();
     match outcome {
         RequestOutcome::Refused(_) => body_why(alloc, wrong),
@@ -136,26 +152,22 @@ fn find_whys(
 }
 
 /// The bytes of the answer to what was asked, which say why it is refused if that was asked too: of each reply that refuses the first line
-/// that is left. Nothing is said of it if memory runs out.
-/// AllocError: memory for the answer was refused.
+/// that is left.
+/// AllocError: memory for the answer, or for one of its lines, was refused.
 pub(crate) fn told_answer(
     alloc: Global,
     seen: &mut Whys,
     inquiry: &Inquiry,
     outcome: RequestOutcome,
 ) -> Result<Vec<u8>, AllocError>
-    ensures { IfOk result (λ bytes. (whys : List (Option (List ℕ))) × IsWhyOf inquiry.now.asks_why whys
-        × (bytes.items ≡ response_text inquiry.now.is_head (response_with inquiry.now.asks_why whys outcome))
-        × IsToldWith seen.old.seen.items outcome whys) }
+    ensures { IfOk result (λ bytes. (whys : List (Option (List ℕ))) × IsToldWith inquiry.now.asks_why seen.old outcome whys
+        × (bytes.items ≡ response_text inquiry.now.is_head (response_with inquiry.now.asks_why whys outcome))) }
 {
     let is_head = inquiry.is_head;
     let asks_why = inquiry.asks_why;
     if !asks_why {
         return answer_text(alloc, outcome, asks_why, &[], is_head);
     }
-    let whys = match find_whys(alloc, seen, &outcome, inquiry) {
-        Ok(whys) => whys,
-        Err(_) => Vec::new(alloc),
-    };
+    let whys = find_whys(alloc, seen, &outcome, inquiry)?;
     answer_text(alloc, outcome, asks_why, &whys, is_head)
 }

@@ -11,6 +11,10 @@ pub record Seen : Type 0 where
   pub is_lost : Bool
   pub refusals : List Refusal
 
+-- nothing was seen yet
+abbrev pub none_seen : Bool → Seen
+none_seen is_wanted = record { is_wanted = is_wanted; is_lost = false; refusals = [] }
+
 -- If lines are wanted there is one more after the others, which is of this refusal; or memory ran out for it.
 abbrev pub SeesRefusal : Seen → Batch → Refusal → Option Facts → Seen → Type 0
 SeesRefusal old batch refusal facts new = (new.is_wanted ≡ old.is_wanted)

@@ -21,6 +21,6 @@ mod telling;
 mod values;
 mod why;
 
-pub use line::Why;
+pub use line::{Why, line_from};
 pub use notes::StandardNotes;
 pub use why::{Whys, call_why};

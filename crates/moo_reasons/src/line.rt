@@ -5,7 +5,7 @@ ghost use Rattle.moo_reasons.specs.Lines.{IsShort};
 
 use crate::shown::Said;
 use moo_batch::Refusal;
-use std::alloc::AllocError;
+use std::alloc::{AllocError, Global};
 
 /// The most bytes of a line.
 const LONGEST: usize = 1000;
@@ -19,6 +19,15 @@ pub(crate) fn line_of(mut said: Said) -> Result<String, AllocError>
 {
     said.shorten(LONGEST, FRONT)?;
     Ok(said.text())
+}
+
+/// A sentence as a line. AllocError: memory ran out.
+pub fn line_from(alloc: Global, sentence: &str) -> Result<String, AllocError>
+    ensures { IfOk result IsShort }
+{
+    let mut said = Said::new(alloc);
+    said.put(sentence.as_bytes())?;
+    line_of(said)
 }
 
 /// Why a batch is refused, and what is said of that.

@@ -1,12 +1,12 @@
 //! Why a batch isn't accepted, in one line of at most 1,000 bytes: tabs and printing ASCII.
 
-ghost use Rattle.std.specs.Prelude.{◌≡◌, [], false, IfOk};
+ghost use Rattle.std.specs.Prelude.{◌≡◌, [], false, IfOk, IfSome};
 ghost use Rattle.moo_reasons.specs.Lines.{IsShort};
 ghost use Rattle.moo_reasons.specs.Seen.{Seen, SeesRefusal, seen_by};
 ghost use Rattle.moo_reasons.specs.Told.{IsFirstLine, TellsReply};
 
 use crate::calls::put_call_reason;
-use crate::line::{Why, line_of};
+use crate::line::{Why, line_from, line_of};
 use crate::sentence::refusal_text;
 use crate::shown::Said;
 use moo_batch::{Facts, Refusal, Witness};
@@ -69,6 +69,13 @@ impl Whys {
         }
     }
 
+    /// Whether memory ran out for the line of a refusal.
+    pub fn is_lost(&self) -> bool
+        ensures { result ≡ self.now.is_lost }
+    {
+        self.is_lost
+    }
+
     /// How many batches were judged.
     pub fn judged(&self) -> u32 {
         self.judged
@@ -76,18 +83,22 @@ impl Whys {
 
     /// Which call spent the ticks of the request, if one did: that of the last batch, or if it was asked alone, at this place, from 1.
     /// AllocError: memory ran out.
-    pub fn spent_why(&self, place: Option<u32>) -> Result<Option<String>, AllocError> {
+    pub fn spent_why(&self, place: Option<u32>) -> Result<Option<String>, AllocError>
+        ensures { IfOk result (λ line. IfSome line IsShort) }
+    {
         let Some(call) = self.spent_at else {
             return Ok(None);
         };
         let call = place.unwrap_or(call);
         let ticks = self.ticks;
-        Ok(Some(format!(in self.alloc; "call {call}: over {ticks} ticks (moo serve --ticks)")?))
+        let sentence = format!(in self.alloc; "call {call}: over {ticks} ticks (moo serve --ticks)")?;
+        Ok(Some(line_from(self.alloc, &sentence)?))
     }
 
     /// The first line that wasn't taken yet.
     fn next_line(&mut self) -> Option<String>
-        ensures { IsFirstLine self.old.seen.items result self.new.seen.items }
+        ensures first { IsFirstLine self.old.seen.items result self.new.seen.items }
+        ensures short { IfSome result IsShort }
     {
         match self.seen.pop_front() {
             Some(why) => Some(why.into_text()),
@@ -98,14 +109,12 @@ impl Whys {
     /// Why the next batch got this reply: the call that failed, its error and the check, what there is no room for, or which call spent the
     /// ticks. None if it is nothing of these. AllocError: memory ran out.
     pub fn next(&mut self, reply: &Reply) -> Result<Option<String>, AllocError>
-        ensures { IfOk result (λ line. TellsReply self.old.seen.items reply.now line self.new.seen.items) }
+        ensures told { IfOk result (λ line. TellsReply self.old.seen.items reply.now line self.new.seen.items) }
+        ensures short { IfOk result (λ line. IfSome line IsShort) }
     {
-        if self.is_lost {
-            return Err(AllocError);
-        }
         match reply {
             Reply::Refused { call: _, code: _ } => Ok(self.next_line()),
-            Reply::Full { call } => Ok(Some(String::from_str(self.alloc, room_reason(*call))?)),
+            Reply::Full { call } => Ok(Some(line_from(self.alloc, room_reason(*call))?)),
             Reply::NoMemory => self.spent_why(None),
             _ => Ok(None),
         }
