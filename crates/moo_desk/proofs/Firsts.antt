@@ -9,7 +9,7 @@ use Rattle.moo_desk.specs.Stages.{ended}
 use Rattle.moo_desk.specs.Choices.{CutsAt, IsLingering, IsStuck, answers_of, held_of, largest_of}
 use Rattle.std.specs.List.{sum_by}
 use Rattle.std.proofs.lemmas.List.Sums.{sum_by-drop_more}
-use Rattle.moo_desk.specs.Each.{HoldsOfNone, IsFirstPlace, OfFirst, TakesFirst, TurnsFirst}
+use Rattle.moo_desk.specs.Each.{HoldsOfNone, IsFirstPlace, OfFirst, TakesOutFirst, TurnsFirst}
 use Rattle.moo_desk.proofs.Ledgers.{taken_out}
 use Rattle.moo_desk.proofs.Reading.{saturated}
 
@@ -56,7 +56,7 @@ none_before Holds (suc n) (x ∷ xs) is = (is.0, none_before Holds n xs is.1)
 
 -- what stands at the first place is taken out
 pub first_taken : {A : Type 0} (Holds : A → Type 0) (n : ℕ) (xs ys : List A) (x : A) → IsFirstPlace Holds xs (Some n) → get_or xs n x ≡ x → ys ≡ take n xs ++ drop (suc n) xs
-    → TakesFirst Holds xs x ys
+    → TakesOutFirst Holds xs x ys
 first_taken Holds n xs ys x is there out =
     (take n xs, drop (suc n) xs, none_before Holds n xs is, subst Holds there (first_holds Holds n xs x is), taken_out xs n x (first_below Holds n xs is) there, out)
 

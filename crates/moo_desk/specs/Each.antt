@@ -17,8 +17,8 @@ HoldsOfNone Holds [] = ⊤
 HoldsOfNone Holds (x ∷ xs) = (¬ (Holds x)) × HoldsOfNone Holds xs
 
 -- the second is the first without this one, which is the first of which it holds
-abbrev pub TakesFirst : {A : Type 0} → (A → Type 0) → List A → A → List A → Type 0
-TakesFirst {A} Holds xs x ys =
+abbrev pub TakesOutFirst : {A : Type 0} → (A → Type 0) → List A → A → List A → Type 0
+TakesOutFirst {A} Holds xs x ys =
     (front back : List A) × HoldsOfNone Holds front × Holds x × (xs ≡ front ++ x ∷ back) × (ys ≡ front ++ back)
 
 -- the place of the first of which it holds, or none if it holds of none

@@ -16,7 +16,7 @@ use Rattle.moo_desk.specs.declared.leaving.Stage.TheVariants.{Sending}
 use Rattle.moo_desk.specs.declared.outgoing.Outgoing.{Outgoing}
 use Rattle.moo_desk.specs.declared.slot.Slot.{Slot}
 use Rattle.moo_desk.specs.Choices.{IsReady}
-use Rattle.moo_desk.specs.Each.{TakesFirst}
+use Rattle.moo_desk.specs.Each.{TakesOutFirst}
 use Rattle.moo_desk.specs.Deeds.{Book, book_of, Keep, Admits}
 use Rattle.moo_desk.specs.Ripe.{IsRipe}
 use Rattle.moo_desk.specs.Told.{TellsOf}
@@ -47,7 +47,7 @@ module _ {R W : Type 0}
       → Option (Slot R W inward incoming reader outward writer) → Book (Slot R W inward incoming reader outward writer) R W → Type 0
   TakesSlot old None new = new ≡ old
   TakesSlot old (Some slot) new =
-      TakesFirst IsReady old.slots slot new.slots × (new.leaving ≡ old.leaving) × (new.losses ≡ old.losses)
+      TakesOutFirst IsReady old.slots slot new.slots × (new.leaving ≡ old.leaving) × (new.losses ≡ old.losses)
 
   -- A connection is handed out, and isn't held any more; all others are that the gate gave. If none is handed out one of these at most
   -- was lost as it came. With what the desk holds is how many connections its gate gave by then.
