@@ -1,5 +1,6 @@
 -- What serving a request comes to.
-use Rattle.moo_http.{proofs.Words.{◌≡◌, ◌≢◌, inl, inr, ℕ, Bool, List, [], ◌++◌, Option, Some, None, refl, sym, subst, ap, ◌∙◌, append_assoc, append-nil, Result, Ok, Err, IfErr, IsErrAnd, Appends, Ghosts, Stand, World, IsMovedAs, StandsAt, Takes, Asked, Nothing, Request, ServeFault, Read, Write, OutOfMemory, RequestOutcome, Consulted, response_with, response_text, Serves, StandsStill, Written, Served, Traffic, ledger_by, no_batches}, specs.Faults.{fault_of}, specs.Seen.{TellsWhy}, specs.Serves.{AnswersTo}}
+use Rattle.moo_http.{proofs.Words.{◌≡◌, ◌≢◌, inl, inr, ℕ, Bool, List, [], ◌++◌, Option, Some, None, refl, sym, subst, ap, ◌∙◌, append_assoc, append-nil, Result, Ok, Err, IfErr, IsErrAnd, false, true, true≢false, Appends, Ghosts, Stand, World, IsMovedAs, StandsAt, Takes, Asked, Nothing, Request, ServeFault, Read, Write, OutOfMemory, RequestOutcome, Consulted, response_with, response_text, Serves, StandsStill, Written, Served, Traffic, ledger_by, no_batches}, specs.Faults.{fault_of}, specs.Seen.{TellsWhy}, specs.Serves.{AnswersTo, IsWhyOf, Telling, ToldBy}}
+use Rattle.moo_rows.specs.Maps.{Maps}
 use Rattle.moo_http_request.specs.declared.fault.ReadFault.{ReadFault}
 use Rattle.moo_http_request.specs.declared.fault.ReadFault.TheVariants as read
 
@@ -49,9 +50,9 @@ nothing g known old was bytes done unwritten takes at stays =
 
 -- ---- a request came
 
-answered : {S : Type 0} (g : Ghosts S) (known : Bool) (old : Stand) (was world : World S) (bytes : Traffic) (is_head asks_why : Bool) (asked : Asked) (o : RequestOutcome) (whys : List (Option (List ℕ))) → Takes bytes.left bytes.rest (Request is_head asks_why asked) → TellsWhy was.rows.maps asks_why asked o whys → Consulted g known old world asked o
-    → IsMovedAs g was world asked o → Serves g known old was world bytes (response_text is_head (response_with asks_why whys o))
-answered g known old was world bytes is_head asks_why asked o whys takes told consulted moved = record {
+answered : {S : Type 0} (Tells : Telling) (g : Ghosts S) (known : Bool) (old : Stand) (was world : World S) (bytes : Traffic) (is_head asks_why : Bool) (asked : Asked) (o : RequestOutcome) (whys : List (Option (List ℕ))) → Takes bytes.left bytes.rest (Request is_head asks_why asked) → Tells asks_why asked o whys → Consulted g known old world asked o
+    → IsMovedAs g was world asked o → Serves Tells g known old was world bytes (response_text is_head (response_with asks_why whys o))
+answered Tells g known old was world bytes is_head asks_why asked o whys takes told consulted moved = record {
   received = Request is_head asks_why asked;
   takes = takes;
   new = consulted.new;
@@ -65,9 +66,27 @@ answered g known old was world bytes is_head asks_why asked o whys takes told co
 pub served : {S : Type 0} (g : Ghosts S) (known : Bool) (r : Result (Unit {0}) ServeFault) (old : Stand) (was world : World S) (bytes : Traffic) (is_head asks_why : Bool) (asked : Asked)
     → Takes bytes.left bytes.rest (Request is_head asks_why asked) → AnswersTo g known old was world is_head asks_why asked r bytes.before bytes.after → IfErr r (λ fault. fault ≢ Read) → Served g known r old was world bytes
 served g known (Ok done) old was world bytes is_head asks_why asked takes (o, whys, told, consulted, moved, written) other =
-    (response_text is_head (response_with asks_why whys o), answered g known old was world bytes is_head asks_why asked o whys takes told consulted moved, written)
+    (response_text is_head (response_with asks_why whys o), answered (TellsWhy was.rows.maps) g known old was world bytes is_head asks_why asked o whys takes told consulted moved, written)
 served g known (Err Write) old was world bytes is_head asks_why asked takes (o, whys, told, consulted, moved, written) other =
-    (response_text is_head (response_with asks_why whys o), answered g known old was world bytes is_head asks_why asked o whys takes told consulted moved, written.0, written.1)
+    (response_text is_head (response_with asks_why whys o), answered (TellsWhy was.rows.maps) g known old was world bytes is_head asks_why asked o whys takes told consulted moved, written.0, written.1)
 served g known (Err Read) old was world bytes is_head asks_why asked takes it other = absurd (other refl)
 served g known (Err OutOfMemory) old was world bytes is_head asks_why asked takes (o, whys, told, consulted, moved, written) other =
-    (written, inr (response_text is_head (response_with asks_why whys o), answered g known old was world bytes is_head asks_why asked o whys takes told consulted moved))
+    (written, inr (response_text is_head (response_with asks_why whys o), answered IsWhyOf g known old was world bytes is_head asks_why asked o whys takes told consulted moved))
+
+-- ---- why it is refused
+
+-- nothing is said of that if it isn't asked
+pub told_only : (maps : Maps) (asks_why : Bool) (asked : Asked) (o : RequestOutcome) (whys : List (Option (List ℕ))) → TellsWhy maps asks_why asked o whys → IsWhyOf asks_why asked o whys
+told_only maps false asked o whys told = λ e. told.2
+told_only maps true asked o whys told = λ e. absurd (true≢false e)
+
+pub told_by : (r : Result (Unit {0}) ServeFault) (maps : Maps) (asks_why : Bool) (asked : Asked) (o : RequestOutcome) (whys : List (Option (List ℕ))) → TellsWhy maps asks_why asked o whys → ToldBy r maps asks_why asked o whys
+told_by (Ok done) maps asks_why asked o whys told = told
+told_by (Err Read) maps asks_why asked o whys told = told
+told_by (Err Write) maps asks_why asked o whys told = told
+told_by (Err OutOfMemory) maps asks_why asked o whys told = told_only maps asks_why asked o whys told
+
+-- an answer that wasn't made says nothing
+pub untold : (r : Result (Unit {0}) ServeFault) (maps : Maps) (asks_why : Bool) (asked : Asked) (o : RequestOutcome) → IsErrAnd r (λ e. e ≡ OutOfMemory) → ToldBy r maps asks_why asked o []
+untold (Ok done) maps asks_why asked o is = absurd is
+untold (Err e) maps asks_why asked o is = subst (λ e. ToldBy (Err e) maps asks_why asked o []) (sym is) (λ e. refl)

@@ -1,12 +1,11 @@
 -- The connections that a source hands out, served one after another.
-use Rattle.moo_http.{proofs.Words.{◌≡◌, inl, inr, ℕ, suc, ◌+◌, Bool, true, false, List, [], ◌∷◌, Option, Some, refl, sym, ap, subst, arith, ◌∙◌, ◌≢◌, Result, Ok, Err, is_ok, IfErr, ◌⊎◌, IsTrue, HasCleanDisk, Ghosts, Stand, World, IsMovedBy, store_of, CrashLeaves, StandsAt, Nothing, Request, ServeFault, Read, Write, OutOfMemory, ServiceFault, StandsAtEnd, ConveysBy, Serves, StandsStill, Served, Yields, Exchanged, Visited, Visit, Attended, ServesFrom, attended_between, ServesOn, visit, settle, Loss, None, zero, TellsLoss, TellsLosses, Traffic, Ledger, IsMovedIn, and_then, no_batches, moved_then, written_none}, specs.Seen.{IsToldWith, TellsWhy}, specs.Serves.{Gets, IsWhyOf, Moved}}
+use Rattle.moo_http.{proofs.Words.{◌≡◌, inl, inr, ℕ, suc, ◌+◌, Bool, true, false, List, [], ◌∷◌, Option, Some, refl, sym, ap, subst, arith, ◌∙◌, ◌≢◌, Result, Ok, Err, is_ok, IfErr, ◌⊎◌, IsTrue, HasCleanDisk, Ghosts, Stand, World, IsMovedBy, store_of, CrashLeaves, StandsAt, Nothing, Request, ServeFault, Read, Write, OutOfMemory, ServiceFault, StandsAtEnd, ConveysBy, Serves, StandsStill, Served, Yields, Exchanged, Visited, Visit, Attended, ServesFrom, attended_between, ServesOn, visit, settle, Loss, None, zero, TellsLoss, TellsLosses, Traffic, Ledger, IsMovedIn, and_then, no_batches, moved_then, written_none}, proofs.Serving.{told_only}, specs.Seen.{TellsWhy}, specs.Serves.{Gets, IsWhyOf, Moved, Telling}}
 use Rattle.std.specs.declared.io.Read as Reading
 use Rattle.std.specs.declared.io.Write as Writing
 use Rattle.moo_arrivals.specs.declared.arrivals.Arrivals as Arrivals
 use Rattle.moo_http_request.specs.declared.request.Received.{Received}
 use Rattle.moo_http_response.specs.declared.outcome.RequestOutcome.{RequestOutcome}
-use Rattle.moo_reasons.specs.declared.why.Whys.{Whys}
-use Rattle.std.proofs.lemmas.Bool.{true≢false}
+use Rattle.moo_http_request.specs.declared.asked.Asked.{Asked}
 use Rattle.moo_store_rows.proofs.Committed.{IsSettled}
 use Rattle.moo_http.specs.declared.ports.Ports as Ports
 use Rattle.moo_http.specs.declared.service.ServiceFault.TheVariants as service
@@ -26,41 +25,45 @@ stays g known world stand P settled at crash holds = record { end = stand; stand
 
 -- ---- one connection
 
--- nothing is said of why if it isn't asked
-told_only : (asks_why : Bool) (whys : Whys) (o : RequestOutcome) (shown : List (Option (List ℕ))) → IsToldWith asks_why whys o shown → IsWhyOf asks_why shown
-told_only false whys o shown told = λ e. told
-told_only true whys o shown told = λ e. absurd (true≢false e)
+-- lines of which this is known were asked for
+abbrev IsAsked : Telling → Type 0
+IsAsked Tells = (asks_why : Bool) (asked : Asked) (o : RequestOutcome) (whys : List (Option (List ℕ))) → Tells asks_why asked o whys → IsWhyOf asks_why asked o whys
 
 module _ {S : Type 0} (g : Ghosts S) (known : Bool) (old : Stand) (was world : World S) (settled : IsSettled (store_of g was)) (bytes : Traffic) where
   unmoved : (ledger : Ledger) → ledger ≡ no_batches → world ≡ was → IsMovedIn g was world ledger
   unmoved ledger none same = subst (λ (l : Ledger). IsMovedIn g was world l) (sym none) (subst (λ w. IsMovedBy g was w [] []) (sym same) (written_none g was settled))
 
-  moved_by : (received : Received) (output : List ℕ) (ledger : Ledger) (new : Stand) → Gets (TellsWhy was.rows.maps) old received output ledger new → Moved g was world received ledger → IsMovedIn g was world ledger
-  moved_by Nothing output ledger new gets moved = unmoved ledger gets.1 moved
-  moved_by (Request is_head asks_why asked) output ledger new gets moved = moved
+  moved_by : (Tells : Telling) (received : Received) (output : List ℕ) (ledger : Ledger) (new : Stand) → Gets Tells old received output ledger new → Moved g was world received ledger → IsMovedIn g was world ledger
+  moved_by Tells Nothing output ledger new gets moved = unmoved ledger gets.1 moved
+  moved_by Tells (Request is_head asks_why asked) output ledger new gets moved = moved
 
-  gets_why : (received : Received) (output : List ℕ) (ledger : Ledger) (new : Stand) → Gets (TellsWhy was.rows.maps) old received output ledger new → Gets (λ asks_why asked o whys. IsWhyOf asks_why whys) old received output ledger new
-  gets_why Nothing output ledger new gets = gets
-  gets_why (Request is_head asks_why asked) output ledger new (o, whys, told, answers, by, is) = (o, whys, told_only asks_why told.0 o whys told.2, answers, by, is)
+  -- what is known of the lines is that they were asked for, at least
+  gets_why : (Tells : Telling) → IsAsked Tells → (received : Received) (output : List ℕ) (ledger : Ledger) (new : Stand) → Gets Tells old received output ledger new → Gets IsWhyOf old received output ledger new
+  gets_why Tells asks Nothing output ledger new gets = gets
+  gets_why Tells asks (Request is_head asks_why asked) output ledger new (o, whys, told, answers, by, is) = (o, whys, asks asks_why asked o whys told, answers, by, is)
 
   -- what is served is yielded by the stand
-  yields : (P : Ledger → Stand → Type 0) (output : List ℕ) → ((ledger : Ledger) (new : Stand) → Yields old new bytes output ledger → P ledger new) → Serves g known old was world bytes output → EndsBy g known was world P
-  yields P output then it = record {
+  yields : (Tells : Telling) → IsAsked Tells → (P : Ledger → Stand → Type 0) (output : List ℕ) → ((ledger : Ledger) (new : Stand) → Yields old new bytes output ledger → P ledger new) → Serves Tells g known old was world bytes output → EndsBy g known was world P
+  yields Tells asks P output then it = record {
     end = it.new;
     stands = it.stands;
     crash = it.crash;
-    ends = (it.ledger, moved_by it.received output it.ledger it.new it.gets it.moved, then it.ledger it.new (it.received, it.takes, gets_why it.received output it.ledger it.new it.gets));
+    ends = (
+      it.ledger,
+      moved_by Tells it.received output it.ledger it.new it.gets it.moved,
+      then it.ledger it.new (it.received, it.takes, gets_why Tells asks it.received output it.ledger it.new it.gets),
+    );
   }
 
   still : (P : Ledger → Stand → Type 0) → P no_batches old → StandsAt g known was old → StandsStill g known old was world → EndsBy g known was world P
   still P holds at it = record { end = old; stands = subst (λ w. StandsAt g known w old) (sym it.same) at; crash = it.crash; ends = (no_batches, unmoved no_batches refl it.same, holds) }
 
   pub exchanged : (r : Result (Unit {0}) ServeFault) → StandsAt g known was old → Served g known r old was world bytes → EndsBy g known was world (λ ledger end. Exchanged r old end bytes ledger)
-  exchanged (Ok done) at (output, serves, wrote) = yields (λ ledger end. Exchanged (Ok done) old end bytes ledger) output (λ ledger new it. (output, it, wrote)) serves
-  exchanged (Err Write) at (output, serves, sent, wrote) = yields (λ ledger end. Exchanged (Err Write) old end bytes ledger) output (λ ledger new it. (output, it, sent, wrote)) serves
+  exchanged (Ok done) at (output, serves, wrote) = yields (TellsWhy was.rows.maps) (told_only was.rows.maps) (λ ledger end. Exchanged (Ok done) old end bytes ledger) output (λ ledger new it. (output, it, wrote)) serves
+  exchanged (Err Write) at (output, serves, sent, wrote) = yields (TellsWhy was.rows.maps) (told_only was.rows.maps) (λ ledger end. Exchanged (Err Write) old end bytes ledger) output (λ ledger new it. (output, it, sent, wrote)) serves
   exchanged (Err Read) at (stays, same) = still (λ ledger end. Exchanged (Err Read) old end bytes ledger) (refl, refl, same) at stays
   exchanged (Err OutOfMemory) at (same, inl stays) = still (λ ledger end. Exchanged (Err OutOfMemory) old end bytes ledger) (same, inl (refl, refl)) at stays
-  exchanged (Err OutOfMemory) at (same, inr (output, serves)) = yields (λ ledger end. Exchanged (Err OutOfMemory) old end bytes ledger) output (λ ledger new it. (same, inr (output, it))) serves
+  exchanged (Err OutOfMemory) at (same, inr (output, serves)) = yields IsWhyOf (λ asks_why asked o whys told. told) (λ ledger end. Exchanged (Err OutOfMemory) old end bytes ledger) output (λ ledger new it. (same, inr (output, it))) serves
 
 -- by whether it was answered
 visited_by : (Unread : Type 0) (r : Result (Unit {0}) ServeFault) (answered : Bool) (old new : Stand) (bytes : Traffic) (ledger : Ledger) → answered ≡ is_ok r → IfErr r (λ fault. fault ≡ Read → Unread) → Exchanged r old new bytes ledger

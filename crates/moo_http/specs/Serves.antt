@@ -21,10 +21,20 @@ use Rattle.moo_http.specs.Traffic.{Traffic}
 use Rattle.moo_http.specs.Ledger.{Ledger, no_batches, IsMovedIn}
 use Rattle.moo_http.specs.Answers.{MayAnswer, Consulted, ledger_by, IsMovedAs}
 use Rattle.moo_http.specs.Seen.{TellsWhy}
+use Rattle.moo_rows.specs.Maps.{Maps}
+
+-- What is known of the lines that say why an outcome of what was asked is refused.
+abbrev pub Telling : Type 1
+Telling = Bool → Asked → RequestOutcome → List (Option (List ℕ)) → Type 0
 
 -- it is said why a body, a batch or a call alone is refused only if that was asked too
-abbrev pub IsWhyOf : Bool → List (Option (List ℕ)) → Type 0
-IsWhyOf asks_why whys = asks_why ≡ false → whys ≡ []
+abbrev pub IsWhyOf : Bool → Asked → RequestOutcome → List (Option (List ℕ)) → Type 0
+IsWhyOf asks_why asked o whys = asks_why ≡ false → whys ≡ []
+
+-- The same, by the result: only an answer that was made has its lines.
+abbrev pub ToldBy : Result (Unit {0}) ServeFault → Maps → Telling
+ToldBy (Err OutOfMemory) maps = IsWhyOf
+ToldBy result maps = TellsWhy maps
 
 -- what is received is refused, before the World is asked
 abbrev pub HasRefusal : Received → Type 0
@@ -36,9 +46,9 @@ HasRefusal (Request is_head asks_why asked) = ⊥
 abbrev pub ClosesGently : Option (List ℕ) → Option (List ℕ) → Closing → Type 0
 ClosesGently left rest closing = (received : Received) × Takes left rest received × (HasRefusal received → closing ≡ Gently)
 
--- The answer to what is received: nothing if nothing came. The ledger has the batch of what was asked, if it was run. Of the lines that say
--- why an outcome of what was asked is refused this holds.
-abbrev pub Gets : (Bool → Asked → RequestOutcome → List (Option (List ℕ)) → Type 0) → Stand → Received → List ℕ → Ledger → Stand → Type 0
+-- The answer to what is received: nothing if nothing came. The ledger has the batch of what was asked, if it was run. This is known of the
+-- lines that say why it is refused.
+abbrev pub Gets : Telling → Stand → Received → List ℕ → Ledger → Stand → Type 0
 Gets Tells old Nothing output ledger new = (output ≡ []) × (ledger ≡ no_batches) × (new ≡ old)
 Gets Tells old (Request is_head asks_why asked) output ledger new =
     (o : RequestOutcome) × (whys : List (Option (List ℕ))) × Tells asks_why asked o whys × MayAnswer old asked o new
@@ -51,13 +61,13 @@ Moved g was world (Request is_head asks_why asked) ledger = IsMovedIn g was worl
 
 -- The reader gave some bytes, and this is the whole answer to what they ask. The World stands where that leaves it, and so does
 -- whatever a crash leaves.
-pub record Serves {S : Type 0} (g : Ghosts S) (known : Bool) (old : Stand) (was world : World S) (bytes : Traffic) (output : List ℕ)
-    : Type 0 where
+pub record Serves {S : Type 0} (Tells : Telling) (g : Ghosts S) (known : Bool) (old : Stand) (was world : World S) (bytes : Traffic)
+    (output : List ℕ) : Type 0 where
   pub received : Received
   pub takes : Takes bytes.left bytes.rest received
   pub new : Stand
   pub ledger : Ledger
-  pub gets : Gets (TellsWhy was.rows.maps) old received output ledger new
+  pub gets : Gets Tells old received output ledger new
   pub stands : StandsAt g known world new
   pub crash : IsTrue known → HasCleanDisk (store_of g world) → CrashLeaves (store_of g world) new
   pub moved : Moved g was world received ledger
@@ -78,7 +88,8 @@ Written (Err OutOfMemory) before behind output = behind ≡ before
 abbrev pub AnswersTo : {S : Type 0} → Ghosts S → Bool → Stand → World S → World S → (is_head asks_why : Bool) → Asked
     → Result (Unit {0}) ServeFault → Option (List ℕ) → Option (List ℕ) → Type 0
 AnswersTo g known old was world is_head asks_why asked result before behind =
-    (o : RequestOutcome) × (whys : List (Option (List ℕ))) × TellsWhy was.rows.maps asks_why asked o whys × Consulted g known old world asked o
+    (o : RequestOutcome) × (whys : List (Option (List ℕ))) × ToldBy result was.rows.maps asks_why asked o whys
+    × Consulted g known old world asked o
     × IsMovedAs g was world asked o × Written result before behind (response_text is_head (response_with asks_why whys o))
 
 -- What came of a connection, by the result: its request is served, and the answer written; or a front of the answer; or, if the reader
@@ -86,11 +97,11 @@ AnswersTo g known old was world is_head asks_why asked result before behind =
 abbrev pub Served : {S : Type 0} → Ghosts S → Bool → Result (Unit {0}) ServeFault → Stand → World S → World S → Traffic
     → Type 0
 Served g known (Ok done) old was world bytes =
-    (output : List ℕ) × Serves g known old was world bytes output × Appends bytes.before bytes.after output
+    (output : List ℕ) × Serves (TellsWhy was.rows.maps) g known old was world bytes output × Appends bytes.before bytes.after output
 Served g known (Err Write) old was world bytes =
-    (output : List ℕ) × Serves g known old was world bytes output
+    (output : List ℕ) × Serves (TellsWhy was.rows.maps) g known old was world bytes output
     × (sent : ℕ) × Appends bytes.before bytes.after (take sent output)
 Served g known (Err Read) old was world bytes = StandsStill g known old was world × (bytes.after ≡ bytes.before)
 Served g known (Err OutOfMemory) old was world bytes =
     (bytes.after ≡ bytes.before)
-    × (StandsStill g known old was world ⊎ ((output : List ℕ) × Serves g known old was world bytes output))
+    × (StandsStill g known old was world ⊎ ((output : List ℕ) × Serves IsWhyOf g known old was world bytes output))

@@ -28,8 +28,7 @@ use Rattle.moo_http.specs.Settling.{HasNoneLeft}
 -- batch that they ask, if it was run.
 abbrev pub Yields : Stand → Stand → Traffic → List ℕ → Ledger → Type 0
 Yields old new bytes output ledger =
-    (received : Received) × Takes bytes.left bytes.rest received
-    × Gets (λ asks_why asked o whys. IsWhyOf asks_why whys) old received output ledger new
+    (received : Received) × Takes bytes.left bytes.rest received × Gets IsWhyOf old received output ledger new
 
 -- What came of a connection, by the result: the answer is written whole; or a front of it; or, if the reader failed, nothing was asked;
 -- or memory was refused, before anything was asked or after that, and nothing is written.
