@@ -91,7 +91,9 @@ impl Whys {
         };
         let call = place.unwrap_or(call);
         let ticks = self.ticks;
-        let sentence = format!(in self.alloc; "call {call}: over {ticks} ticks (moo serve --ticks)")?;
+        let sentence = format!(in self.alloc;
+            "call {call}: over {ticks} ticks (moo serve --ticks)"
+        )?;
         Ok(Some(line_from(self.alloc, &sentence)?))
     }
 

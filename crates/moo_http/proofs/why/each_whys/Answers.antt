@@ -17,7 +17,7 @@ loop-reply-preserved c =
     let lines = c.loop-reply.each.items in
     let one = subst (λ reply. TellsPlace left reply line rest) c.reply-item.is c.in_ok-alone_why.ensures.told in (
       subst (λ all. AreTold whys (take (at + 1) replies) all rest) (sym c.in_ok-push.ensures.items)
-      (subst (λ first. AreTold whys first (lines ++ line ∷ []) rest) (sym (take_more replies at item c.loop-reply-test.true))
-      (told-more (take at replies) lines (get_or replies at item) line whys left rest c.loop-reply.invariant.0 one)),
+          (subst (λ first. AreTold whys first (lines ++ line ∷ []) rest) (sym (take_more replies at item c.loop-reply-test.true))
+          (told-more (take at replies) lines (get_or replies at item) line whys left rest c.loop-reply.invariant.0 one)),
       subst (λ all. AreShort all) (sym c.in_ok-push.ensures.items) (short-more lines line c.loop-reply.invariant.1 c.in_ok-alone_why.ensures.short),
     )

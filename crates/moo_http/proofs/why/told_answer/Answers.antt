@@ -5,5 +5,5 @@ use Rattle.moo_http.proofs.why.told_answer.Goals as goal
 
 pub returns-then-not-asks_why : goal.returns-then-not-asks_why
 returns-then-not-asks_why c =
-    let not_asked = c.if-not-asks_why.false in
+    let not_asked = c.if-not-asks_why.true in
     IfOk-weaker c.answer_text.result _ _ (λ bytes is. ([], subst (λ b. IsToldWith b c.args.seen.now c.args.outcome []) (sym not_asked) refl, is)) c.answer_text.ensures
