@@ -1,6 +1,6 @@
 //! What a witness is told of a refusal.
 
-ghost use Rattle.std.specs.Prelude.{◌≡◌, None, Some, Option, IfOk, IfSome, IfErr, ⊤};
+ghost use Rattle.std.specs.Prelude.{◌≡◌, None, Some, Option, IfOk, IfSome};
 ghost use Rattle.moo_rows.specs.declared.row.PetitionId.{PetitionId};
 ghost use Rattle.moo_world.specs.Rows.{IsGood, world_of};
 ghost use Rattle.moo_disclosure.specs.Disclosed.{calls_seen};

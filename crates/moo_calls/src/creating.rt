@@ -1,12 +1,9 @@
 //! Making objects.
 
 ghost use Rattle.std.specs.Prelude.{◌≡◌, true, OnOk};
-ghost use Rattle.moo_value.specs.declared.value.ObjNo.{ObjNo};
-ghost use Rattle.moo_world.specs.Rights.{may_be_parent};
 ghost use Rattle.moo_world.specs.Rows.{IsGood};
 ghost use Rattle.moo_world.specs.Creation.{next_object, owner_or_self};
 ghost use Rattle.moo_world.specs.Quota.{may_afford, charged};
-ghost use Rattle.moo_world.specs.Codes.{E_PERM};
 ghost use Rattle.moo_world.specs.Calls.{create, named_call, unfit_parent};
 ghost use Rattle.moo_world.specs.declared.name.CallName.TheVariants.{Create};
 ghost use Rattle.moo_calls_shared.specs.Outcomes.{world_in, ComesTo};

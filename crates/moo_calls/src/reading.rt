@@ -1,7 +1,6 @@
 //! Calls that only read, and that anybody may make.
 //! LambdaMOO Programmer's Manual, 'Fundamental Operations on Objects' and 'Operations on Player Objects'.
 
-ghost use Rattle.moo_value.specs.declared.value.ObjNo.{ObjNo};
 ghost use Rattle.std.specs.Prelude.{◌≡◌, false, Some, IfOk, IfErr};
 ghost use Rattle.moo_world.specs.declared.reason.Reason.TheVariants.{NoObject};
 ghost use Rattle.moo_calls_shared.specs.declared.fault.Fault.TheVariants.{Moo};

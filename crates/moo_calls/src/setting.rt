@@ -1,13 +1,10 @@
 //! Setting built-in properties.
 
 ghost use Rattle.std.specs.Prelude.{◌≡◌, true, None, Some, OnOk, if◌then◌else◌};
-ghost use Rattle.moo_value.specs.declared.value.ObjNo.{ObjNo};
 ghost use Rattle.moo_world.specs.Arguments.{fits};
-ghost use Rattle.moo_world.specs.Codes.{E_PERM};
 ghost use Rattle.moo_world.specs.Keeps.{Keeps};
-ghost use Rattle.moo_world.specs.Objects.{Name};
+ghost use Rattle.moo_world.specs.declared.built_in.BuiltIn.TheVariants.{Name};
 ghost use Rattle.moo_world.specs.PropertyCalls.{change_of, may_set, owner_given, owner_is_object, set_built_in, unset_reason};
-ghost use Rattle.moo_world.specs.Rights.{may_set_name};
 ghost use Rattle.moo_world.specs.Rows.{IsGood};
 ghost use Rattle.moo_world.specs.World.{is_object};
 ghost use Rattle.moo_calls_shared.specs.Outcomes.{world_in, ComesTo, TakenOrNot};
@@ -52,7 +49,7 @@ fn may_set<R: Rows>(rows: &R, programmer: ObjNo, x: ObjNo, field: BuiltIn) -> bo
 
 /// Why the programmer may not name the object.
 fn namer_fault<R: Rows>(rows: &R, x: ObjNo) -> Reason
-    ensures { result ≡ unset_reason (world_in (R.held rows.now)) x BuiltIn.Name }
+    ensures { result ≡ unset_reason (world_in (R.held rows.now)) x Name }
 {
     match rows.object(x) {
         Some(row) if row.player => Reason::NamesPlayer(x),

@@ -12,8 +12,8 @@ use Rattle.moo_rows.specs.Opening.{opening_maps}
 use Rattle.moo_world.specs.Judge.{state_of}
 use Rattle.moo_store.specs.Kept.{World}
 use Rattle.moo_store_rows.specs.Opening.{IsOfStore}
-use Rattle.moo_store_rows.specs.NewTables.{LeavesAsMade, RestsAsMade}
-use Rattle.moo_store.specs.World.{store_of, StandsFor}
+use Rattle.moo_store_rows.specs.States.{LeavesState}
+use Rattle.moo_store.specs.World.{store_of, StandsFor, Left}
 use Rattle.moo_store_rows.specs.declared.fault.StoreFault.{StoreFault}
 use Rattle.moo_files.specs.Blank.{IsBlank}
 use Rattle.moo_files.specs.Causes.{StopsOver}
@@ -50,14 +50,11 @@ module _ {D : Type 0} {g : Ghosts D} where
   abbrev pub StopsMaking : Image → StoreFault → Held (FileStore D g) → Type 0
   StopsMaking image fault conn = (site : Site) → IsSite image site → TakesWorld site → StopsOver ⊤ fault conn
 
-  -- A world of these rows was made in files that had room for it. It has the very rows, each in its printed cells, and no other row is in
-  -- any table; a crash leaves these.
+  -- A world of these rows was made in files that had room for it: it has the very rows, and a crash leaves it.
   pub record IsMadeIn (rows : Maps) (image : Image) (world : World (FileStore D g)) : Type 0 where
     pub stands : StandsFor over_files true world (state_of rows)
     pub same : world.rows.maps ≡ rows
-    pub rests : HasCleanDisk (store_of over_files world) → RestsAsMade (store_of over_files world) rows
-    pub left : HasCleanDisk (store_of over_files world) → (trees : Trees) → (store_of over_files world).may_leave trees →
-        LeavesAsMade trees rows
+    pub left : HasCleanDisk (store_of over_files world) → Left (store_of over_files world) (state_of rows)
     pub room : HasCleanDisk (store_of over_files world) → HoldsNoTable image
     pub over : (site : Site) → IsSite image site → HasCleanDisk (store_of over_files world) → TakesWorld site
 
@@ -79,4 +76,4 @@ module _ {T D : Type 0} {g : Ghosts D} where
   -- what making the world of these rows does
   abbrev pub Makes : Maps → Image → Attempt T D g → Type 0
   Makes rows image (Ok world) = IsMadeIn rows image world
-  Makes rows image (Err e) = IsUnmadeIn (λ found. LeavesAsMade found rows) image e.0 e.1
+  Makes rows image (Err e) = IsUnmadeIn (λ found. LeavesState found (state_of rows)) image e.0 e.1

@@ -1,9 +1,10 @@
 -- Batches of who isn't a wizard have the same verdicts from states that are alike, and leave such states.
 use Rattle.moo_world.{proofs.Form.Petitions.{requests_keep_form}, proofs.Form.Runs.{runs_keep_form}, proofs.Lemmas.{◌≡◌, Bool, true, false, ◌&&◌, List, [], ◌∷◌, ◌+◌, refl, sym, ap, subst, Option, Some, None, if◌then◌else◌, nat_lt, list_all, and_parts, ObjNo, Value, same_object, same_object-Decides, State, World, IsFormed, is_object, is_wizard, Outcome, Done, Failed, Full, named_call, in_world, petition_call, petition_call_by, batch_call, arguments_fit}, specs.declared.call.Call.{Call}, specs.declared.call.Batch.{Batch}, specs.declared.name.PetitionCall.{PetitionCall}}
-use Rattle.std.specs.Prelude.{ℕ}
+use Rattle.std.specs.Prelude.{ℕ, zero, suc}
 use Rattle.moo_world.specs.Outcomes.{Failure}
 use Rattle.moo_world.specs.Reasons.{error_of}
 use Rattle.moo_world.specs.Judge.{Ran, Through, FailedAt, FullAt, Verdict, NoRoom, Stale, after_one, run_calls, is_due, last_seq, verdict_of, judge, left_by, after}
+use Rattle.moo_batch.specs.Facts.{state_before_call}
 use Rattle.moo_laws.specs.Agreeing.{SameVerdict, TellTheSame, refusal_of}
 use Rattle.moo_laws.specs.Guarded.{SameButGuarded, AlikeFor, is_batch_of}
 use Rattle.moo_laws.proofs.Ranks.{none_after, nobody_rises, still_none}
@@ -92,6 +93,32 @@ module _ (p : ObjNo) where
       let parts = and_parts (same_object b.programmer p) (list_all arguments_fit b.calls) h in
       let own : b.programmer ≡ p = (same_object-Decides b.programmer p).0 parts.0 in
       reason_of_runs _ _ (subst (λ x. BothRan (run_calls s x b.calls) (run_calls t x b.calls)) (sym own) (runs b.calls s t formed none alike parts.1))
+
+  -- ---- the state on which a call is made
+
+  pub before : (calls : List Call) (place : ℕ) (s t : State) → IsFormed s → is_wizard s.world p ≡ false → AlikeFor p s t → list_all arguments_fit calls ≡ true
+      → AlikeFor p (state_before_call s p calls place) (state_before_call t p calls place)
+  before calls zero s t formed none alike fit = alike
+  before [] (suc place) s t formed none alike fit = alike
+  before (call ∷ calls) (suc place) s t formed none alike fit = by (batch_call s p call) refl (batch_call t p call) (step s t formed none alike call) (λ x y f n k. before calls place x y f n k parts.1)
+    where
+      parts : (arguments_fit call ≡ true) × (list_all arguments_fit calls ≡ true)
+      parts = and_parts (arguments_fit call) (list_all arguments_fit calls) fit
+
+      Rest : Type 0
+      Rest = (x y : State) → IsFormed x → is_wizard x.world p ≡ false → AlikeFor p x y → AlikeFor p (state_before_call x p calls place) (state_before_call y p calls place)
+
+      by : (o : Outcome State) → batch_call s p call ≡ o → (q : Outcome State) → Both (AlikeFor p) o q → Rest
+          → AlikeFor p (elim o [ Done v next ↦ state_before_call next p calls place | Failed failure ↦ s | Full ↦ s ]) (elim q [ Done v next ↦ state_before_call next p calls place | Failed failure ↦ t | Full ↦ t ])
+      by (Done a x) e (Done b y) (same, left) rest = rest x y (requests_keep_form s x p call a formed parts.0 e) (none_after s x p call a formed.world none e) left
+      by (Failed c) e (Failed d) same rest = alike
+      by Full e Full same rest = alike
+      by (Done a x) e (Failed d) same rest = absurd same
+      by (Done a x) e Full same rest = absurd same
+      by (Failed c) e (Done b y) same rest = absurd same
+      by (Failed c) e Full same rest = absurd same
+      by Full e (Done b y) same rest = absurd same
+      by Full e (Failed d) same rest = absurd same
 
   -- ---- one batch
 

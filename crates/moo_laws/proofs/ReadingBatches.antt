@@ -1,6 +1,6 @@
 -- Batches that only read have the same verdicts from states that agree.
 use Rattle.moo_world.{proofs.Form.Passing.{each_check}, proofs.Lemmas.{◌≡◌, Bool, true, false, ◌||◌, List, [], ◌∷◌, arith, refl, sym, ap, subst, Option, Some, None, Result, Ok, ◌+◌, if◌then◌else◌, map, nat_lt, list_all, false≢true, and_parts, Code, ObjNo, Value, same_object, same_object-Decides, State, World, is_object, Outcome, Done, Failed, Full, Holds, check, named_call, in_world, petition_call, petition_call_by, no_values, list_of, batch_call}, specs.declared.name.CallName.{CallName}, specs.declared.call.Call.{Call}, specs.declared.call.Batch.{Batch}}
-use Rattle.std.specs.Prelude.{ℕ, Err}
+use Rattle.std.specs.Prelude.{ℕ, zero, suc, Err}
 use Rattle.moo_world.specs.Reasons.{error_of}
 use Rattle.moo_world.specs.Outcomes.{Failure, given}
 use Rattle.moo_world.specs.Requests.{listed}
@@ -8,6 +8,7 @@ use Rattle.moo_world.specs.declared.name.PetitionCall.{PetitionCall}
 use Rattle.moo_world.specs.declared.name.CallName.TheVariants.{Valid, Parent, Children, IsPlayer, Players, MaxObject, Get, Properties, PropertyInfo, IsClearProperty, Verbs, VerbInfo, VerbArgs, AcceptList, Create, Chparent, Recycle, Move, SetPlayerFlag, Set, AddProperty, DeleteProperty, SetPropertyInfo, ClearProperty, AddVerb, DeleteVerb, SetVerbInfo, SetVerbArgs, SetAccept, Petition, Petitions, Grant, Decline}
 use Rattle.moo_world.specs.declared.name.PetitionCall.TheVariants.{Petitions as to_list}
 use Rattle.moo_world.specs.Judge.{Ran, Through, FailedAt, FullAt, Verdict, NoRoom, Stale, after_one, run_calls, is_due, last_seq, verdict_of, judge, left_by}
+use Rattle.moo_batch.specs.Facts.{state_before_call}
 use Rattle.moo_laws.specs.Reading.{is_question, SameAnswer}
 use Rattle.moo_laws.specs.Agreeing.{AgreeFor, SameVerdict, TellTheSame, lists_petitions, only_asks, refusal_of}
 use Rattle.moo_laws.proofs.Asking.{there, asked}
@@ -162,6 +163,26 @@ module _ (p : ObjNo) (s t : State) where
         let parts = and_parts (same_object b.programmer p) _ h in
         let own : b.programmer ≡ p = (same_object-Decides b.programmer p).0 parts.0 in
         reason_of_runs _ _ (subst (λ x. SameRun (run_calls s x b.calls) (run_calls t x b.calls)) (sym own) (runs b.calls parts.1))
+
+    -- ---- the state on which a call is made
+
+    pub reads_before : (calls : List Call) (place : ℕ) → list_all (λ call. is_question call.name || lists_petitions call.name) calls ≡ true
+        → AgreeFor p (state_before_call s p calls place) (state_before_call t p calls place)
+    reads_before calls zero h = agree
+    reads_before [] (suc place) h = agree
+    reads_before (call ∷ calls) (suc place) h = let parts = and_parts (is_question call.name || lists_petitions call.name) _ h in by (batch_call s p call) (batch_call t p call) (step call parts.0) (reads_before calls place parts.1)
+      where
+        by : (o q : Outcome State) → SameStep o q → AgreeFor p (state_before_call s p calls place) (state_before_call t p calls place)
+            → AgreeFor p (elim o [ Done v next ↦ state_before_call next p calls place | Failed failure ↦ s | Full ↦ s ]) (elim q [ Done v next ↦ state_before_call next p calls place | Failed failure ↦ t | Full ↦ t ])
+        by (Done a x) (Done b y) (e, (f, g)) rest = subst (λ z. AgreeFor p (state_before_call z p calls place) (state_before_call y p calls place)) (sym f) (subst (λ z. AgreeFor p (state_before_call s p calls place) (state_before_call z p calls place)) (sym g) rest)
+        by (Failed c) (Failed d) e rest = agree
+        by Full Full e rest = agree
+        by (Done a x) (Failed d) e rest = absurd e
+        by (Done a x) Full e rest = absurd e
+        by (Failed c) (Done b y) e rest = absurd e
+        by (Failed c) Full e rest = absurd e
+        by Full (Done b y) e rest = absurd e
+        by Full (Failed d) e rest = absurd e
 
     -- ---- one batch
 

@@ -1,15 +1,19 @@
 //! What somebody learns by a refusal.
 
-ghost use Rattle.std.specs.Prelude.{◌≡◌, List, IfSome};
+ghost use Rattle.std.specs.Prelude.{◌≡◌, ℕ, List, IfSome, true, false};
 ghost use Rattle.std.specs.List.{All};
 ghost use Rattle.moo_value.specs.declared.value.ObjNo.{ObjNo};
 ghost use Rattle.moo_value.specs.declared.value.Value.{Value};
+ghost use Rattle.moo_world.specs.declared.call.Batch.{Batch};
 ghost use Rattle.moo_world.specs.declared.name.CallName.{CallName};
 ghost use Rattle.moo_world.specs.declared.reason.Reason.{Reason};
 ghost use Rattle.moo_world.specs.Judge.{State};
+ghost use Rattle.moo_world.specs.Requests.{IsFormed};
+ghost use Rattle.moo_world.specs.Rights.{is_wizard};
 ghost use Rattle.moo_world.specs.World.{World};
-ghost use Rattle.moo_laws.specs.Agreeing.{AgreeFor};
-ghost use Rattle.moo_laws.specs.Guarded.{AlikeFor};
+ghost use Rattle.moo_batch.specs.Facts.{state_before_call};
+ghost use Rattle.moo_laws.specs.Agreeing.{AgreeFor, only_asks};
+ghost use Rattle.moo_laws.specs.Guarded.{AlikeFor, is_batch_of};
 ghost use Rattle.moo_laws.specs.Listed.{IsListed};
 ghost use Rattle.moo_disclosure.specs.Disclosed.{clash_name, names_meant};
 
@@ -27,6 +31,13 @@ pub fn refusals_tell_no_more()
         AlikeFor programmer state other →
         (names_meant other.world programmer call args reason ≡ names_meant state.world programmer call args reason)
         × (clash_name other.world programmer args reason ≡ clash_name state.world programmer args reason) }
+    // So are the states on which any call of a batch is made: the world in which these names are looked for.
+    ensures alike_before { (programmer : ObjNo) (state other : State) (batch : Batch) (place : ℕ) → IsFormed state →
+        is_wizard state.world programmer ≡ false → AlikeFor programmer state other → is_batch_of programmer batch ≡ true →
+        AlikeFor programmer (state_before_call state programmer batch.calls place) (state_before_call other programmer batch.calls place) }
+    ensures agree_before { (programmer : ObjNo) (state other : State) (batch : Batch) (place : ℕ) → AgreeFor programmer state other →
+        only_asks programmer batch ≡ true →
+        AgreeFor programmer (state_before_call state programmer batch.calls place) (state_before_call other programmer batch.calls place) }
     ensures listed { (programmer : ObjNo) (world : World) (call : CallName) (args : List Value) (reason : Reason) →
         All (IsListed world programmer) (names_meant world programmer call args reason)
         × IfSome (clash_name world programmer args reason) (IsListed world programmer) }

@@ -1,8 +1,7 @@
 -- The world that a task begins with.
-use Rattle.moo_run.{proofs.Words.{◌≡◌, ◌⊎◌, inl, inr, ℕ, Bool, List, Some, Bor, codes, refl, sym, ap, subst, ◌∙◌, ◌<◌, ◌^◌, true, false, ◌||◌, bytes_eq, true≢false, Maps, opening_maps, IsGood, State, state_of, Ghosts, Image, IsHeld, Stand, Task, Given, Run, Leads, makes_world, begins_anew, is_load, dump_word, is_input, reads_input, ReadsFile, IsDumpedAs, BeginsWith, BeginsNumbered, RunsFrom, FailsAtOnce, RefusesDump, FailsToBegin, RunsNew, Failure}, proofs.Connections.{unseen}, specs.Run.{BeginsFrom, RefusesTask, TellsLack}}
+use Rattle.moo_run.{proofs.Words.{◌≡◌, ◌⊎◌, inl, inr, ℕ, Bool, List, Some, Bor, codes, refl, sym, ap, subst, ◌∙◌, ◌<◌, ◌^◌, true, false, ◌||◌, bytes_eq, true≢false, Maps, opening_maps, IsGood, State, state_of, Ghosts, Image, IsHeld, Stand, LeavesState, Task, Given, Run, Leads, makes_world, begins_anew, is_load, dump_word, is_input, reads_input, ReadsFile, IsDumpedAs, BeginsWith, BeginsNumbered, RunsFrom, FailsAtOnce, RefusesDump, FailsToBegin, RunsNew, Failure}, proofs.Connections.{unseen}, specs.Run.{RefusesTask, TellsLack}}
 use Rattle.sqlite.specs.Tree.{Trees}
 use Rattle.moo_load.specs.RowsOf.{AreRowsOf}
-use Rattle.moo_store_rows.specs.NewTables.{LeavesAsMade}
 use Rattle.moo_files.{specs.Remains.{KeepsSuch, KeepsNothingBut}, specs.declared.remains.Remains.{Remains}, proofs.RemainsLemmas.{keeps_more, blank_more}}
 use Rattle.moo_cli.{specs.declared.task.Action.{Action}, specs.declared.task.Action.TheVariants.{Load}, specs.Tasks.{text_word}}
 
@@ -76,22 +75,18 @@ pub new_unseen : (task : Task) (run : Run) (Clean : Type 0) (Crash : Stand → T
 new_unseen task run Clean Crash Led Shown (inl fails) = inl fails
 new_unseen task run Clean Crash Led Shown (inr (s, begins, it)) = inr (s, begins, unseen task s run Clean Crash Led Shown it)
 
--- the rows that a refused making of that world may leave are those that the task begins with
-new_rows : (action : Action) (given : Given) (rows : Maps) → BeginsWith action given (state_of rows) → BeginsNumbered action rows → (found : Trees) → LeavesAsMade found rows → (m : Maps) × BeginsFrom action given m × LeavesAsMade found m
-new_rows action given rows begins numbers found leaves = (rows, record { good = leaves.good; world = begins; numbers = numbers }, leaves)
-
 -- what a refused making of that world leaves
-pub unmade_begins : {T D : Type 0} {g : Ghosts D} (action : Action) (given : Given) (rows : Maps) → BeginsWith action given (state_of rows) → BeginsNumbered action rows → (trees : Trees) (image : Image) (remains : Remains T D g)
-    → KeepsSuch (λ found. (found ≡ trees) ⊎ LeavesAsMade found rows) image remains → KeepsSuch (λ found. (found ≡ trees) ⊎ ((m : Maps) × BeginsFrom action given m × LeavesAsMade found m)) image remains
-unmade_begins action given rows begins numbers trees image remains =
-    keeps_more (λ found. (found ≡ trees) ⊎ LeavesAsMade found rows) (λ found. (found ≡ trees) ⊎ ((m : Maps) × BeginsFrom action given m × LeavesAsMade found m))
-    (λ found kept. elim kept [ inl same ↦ inl same | inr leaves ↦ inr (new_rows action given rows begins numbers found leaves) ]) image remains
+pub unmade_begins : {T D : Type 0} {g : Ghosts D} (action : Action) (given : Given) (s : State) → BeginsWith action given s → (trees : Trees) (image : Image) (remains : Remains T D g)
+    → KeepsSuch (λ found. (found ≡ trees) ⊎ LeavesState found s) image remains → KeepsSuch (λ found. (found ≡ trees) ⊎ ((t : State) × BeginsWith action given t × LeavesState found t)) image remains
+unmade_begins action given s begins trees image remains =
+    keeps_more (λ found. (found ≡ trees) ⊎ LeavesState found s) (λ found. (found ≡ trees) ⊎ ((t : State) × BeginsWith action given t × LeavesState found t))
+    (λ found kept. elim kept [ inl same ↦ inl same | inr leaves ↦ inr (s, begins, leaves) ]) image remains
 
 -- and of files that held nothing
-pub fresh_begins : {T D : Type 0} {g : Ghosts D} (action : Action) (given : Given) (rows : Maps) → BeginsWith action given (state_of rows) → BeginsNumbered action rows → (image : Image) (remains : Remains T D g)
-    → KeepsNothingBut (λ found. LeavesAsMade found rows) image remains → KeepsNothingBut (λ found. (m : Maps) × BeginsFrom action given m × LeavesAsMade found m) image remains
-fresh_begins action given rows begins numbers image remains =
-    blank_more (λ found. LeavesAsMade found rows) (λ found. (m : Maps) × BeginsFrom action given m × LeavesAsMade found m) (new_rows action given rows begins numbers) image remains
+pub fresh_begins : {T D : Type 0} {g : Ghosts D} (action : Action) (given : Given) (s : State) → BeginsWith action given s → (image : Image) (remains : Remains T D g)
+    → KeepsNothingBut (λ found. LeavesState found s) image remains → KeepsNothingBut (λ found. (t : State) × BeginsWith action given t × LeavesState found t) image remains
+fresh_begins action given s begins image remains =
+    blank_more (λ found. LeavesState found s) (λ found. (t : State) × BeginsWith action given t × LeavesState found t) (λ found leaves. (s, begins, leaves)) image remains
 
 -- a task that begins with a new world isn't one that takes up its file
 pub never_other : {A : Type 0} (task : Task) → is_load task.action ≡ true → begins_anew task ≡ false → A

@@ -1,10 +1,8 @@
 -- A task over a connection.
-use Rattle.moo_run.{specs.Ends.{LeadsFromMade}, proofs.Words.{◌≡◌, ◌⊎◌, inl, inr, ℕ, List, [], Option, Result, Ok, Err, refl, sym, subst, subst₂, ap, ◌∙◌, Bool, true, false, IsTrue, MatchResult, ⊤, HasCleanDisk, Held, state, Task, Stand, Failure, Reports, store_failure, Given, Run, Leads, MayLead, Done, StopsTask, ShowsTables, EndsTask, RunsAction, RunsIn, RunsFrom, RunsUnseen, IsOpening, MayRefuse, LeadsFrom, LeavesNothingNew, only_reads, serves, Batch, State, LeavesLed, Maps, World, store_of, CrashLeaves}}
+use Rattle.moo_run.proofs.Words.{◌≡◌, ◌⊎◌, inl, inr, ℕ, List, [], Option, Result, Ok, Err, refl, sym, subst, subst₂, ap, ◌∙◌, Bool, true, false, IsTrue, MatchResult, ⊤, HasCleanDisk, Held, state, Task, Stand, Failure, Reports, store_failure, Given, Run, Leads, MayLead, Done, StopsTask, ShowsTables, EndsTask, RunsAction, RunsIn, RunsFrom, RunsUnseen, IsOpening, MayRefuse, LeadsFrom, LeavesNothingNew, only_reads, serves, Batch, State, LeavesLed, Maps, World, store_of, CrashLeaves}
 use Rattle.sqlite.{specs.State.{State as Database}, specs.Store.{Ghosts}, specs.declared.error.Error.{Error}}
 use Rattle.moo_cli.{specs.declared.task.Action.{Action}, specs.declared.task.Action.TheVariants.{Init, Apply, Rehearse, Ask, Dump, Load, Check, Serve}}
-use Rattle.moo_tables_rows.{specs.Cells.{tables_with}, specs.Inside.{no_tables}}
-use Rattle.moo_store.specs.Untouched.{LeavesWritten}
-use Rattle.moo_store_rows.{specs.NewTables.{RestsAsMade}, specs.declared.fault.StoreFault.{StoreFault}, specs.Opening.{IsOfStore}}
+use Rattle.moo_store_rows.{specs.declared.fault.StoreFault.{StoreFault}, specs.Opening.{IsOfStore}}
 use Rattle.moo_store_rows.specs.declared.fault.StoreFault.TheVariants as store_fault
 
 -- why a new world can't be made, and why the opening of a world fails
@@ -176,19 +174,10 @@ pub led_rows : (task : Task) (s : State) (run : Run) (Clean : Type 0) (Crash : S
 led_rows task s run Clean Crash was store rows it =
     runs_when task s run Clean Clean Crash Crash (LeadsFrom was store rows) (LeavesLed store rows) ⊤ (λ clean. clean) (λ end clean crash. crash) (λ batches others clean led. led.0) it
 
--- what is known of one whose world was just made
-pub made_led : (task : Task) (s : State) (run : Run) (Crash : Stand → Type 0) (was store : Database) (rows : Maps) → (HasCleanDisk store → RestsAsMade was rows)
-    → RunsFrom task s run (HasCleanDisk store) Crash (LeadsFrom was store rows) ⊤ → RunsFrom task s run (HasCleanDisk store) Crash (LeadsFromMade store rows) ⊤
-made_led task s run Crash was store rows made it =
-    runs_when task s run (HasCleanDisk store) (HasCleanDisk store) Crash Crash (LeadsFrom was store rows) (LeadsFromMade store rows) ⊤ (λ clean. clean) (λ end clean crash. crash) (λ batches others clean led.
-        let there = made clean in
-        let tables = tables_with there.cells no_tables in
-        (led.0, there.cells, there.prints, subst (λ unread. LeavesWritten store rows tables unread batches others) there.empty (led.1 tables there.rests))) it
-
--- and of its rows alone
-pub made_rows : (task : Task) (s : State) (run : Run) (Clean : Type 0) (Crash : Stand → Type 0) (store : Database) (rows : Maps) → RunsFrom task s run Clean Crash (LeadsFromMade store rows) ⊤ → RunsFrom task s run Clean Crash (LeavesLed store rows) ⊤
-made_rows task s run Clean Crash store rows it =
-    runs_when task s run Clean Clean Crash Crash (LeadsFromMade store rows) (LeavesLed store rows) ⊤ (λ clean. clean) (λ end clean crash. crash) (λ batches others clean led. led.0) it
+-- the same of one whose tables are known
+pub surely_led : (task : Task) (s : State) (run : Run) (Clean : Type 0) (Crash : Stand → Type 0) (was store : Database) (rows : Maps) (Shown : Type 0)
+    → RunsFrom task s run (IsTrue true × Clean) Crash (LeadsFrom was store rows) Shown → RunsFrom task s run Clean Crash (LeavesLed store rows) ⊤
+surely_led task s run Clean Crash was store rows Shown it = led_rows task s run Clean Crash was store rows (surely task s run Clean Crash (LeadsFrom was store rows) Shown it)
 
 -- and of its end alone
 pub surely_ends : (task : Task) (s : State) (run : Run) (Clean : Type 0) (Crash : Stand → Type 0) (Led : Leads) (Shown : Type 0)

@@ -1,11 +1,11 @@
 -- The outcome of a run over a file, by what the file holds.
-use Rattle.std.specs.Prelude.{IsTrue, ◌≡◌, ◌<◌, ◌⊎◌, ℕ, true, false, List, [], length, codes, ⊤}
+use Rattle.std.specs.Prelude.{IsTrue, ◌≡◌, ◌<◌, ◌⊎◌, ℕ, true, false, List, length, codes, ⊤}
 use Rattle.std.specs.Str.{bytes_eq}
 use Rattle.sqlite_disk.specs.declared.Disk.{Ghosts}
 use Rattle.sqlite_store.specs.declared.store.FileStore.{FileStore}
 use Rattle.sqlite_wal.specs.Recovery.{Image}
 use Rattle.sqlite.specs.Tree.{Trees}
-use Rattle.sqlite.specs.State.{State as Store, HasCleanDisk}
+use Rattle.sqlite.specs.State.{HasCleanDisk}
 use Rattle.sqlite.specs.Held.{Held}
 use Rattle.sqlite.specs.Files.{IsNothing, file_state}
 use Rattle.moo_rows.specs.Maps.{Maps}
@@ -15,11 +15,7 @@ use Rattle.moo_tables_rows.specs.Tables.{Tables}
 use Rattle.moo_cells.specs.Shows.{ShowsRows}
 use Rattle.moo_store_rows.specs.Opening.{SaysOr, AreMigrated, IsOfStore}
 use Rattle.moo_store_rows.specs.States.{LeavesRows, LeavesState}
-use Rattle.moo_store_rows.specs.NewTables.{LeavesAsMade}
-use Rattle.moo_store_rows.specs.Printed.{PrintsAll}
-use Rattle.moo_tables_rows.specs.declared.cells.CellChanges.{CellChanges}
-use Rattle.moo_tables_rows.specs.Cells.{tables_with}
-use Rattle.moo_tables_rows.specs.Inside.{Leaves, no_tables}
+use Rattle.moo_tables_rows.specs.Inside.{Leaves}
 use Rattle.moo_files.specs.Opened.{Contents, Nothing, Database, Unfit, Hold}
 use Rattle.moo_store_rows.specs.Current.{BecomesCurrent, unread_from}
 use Rattle.moo_store.specs.Led.{LeavesLed}
@@ -30,8 +26,7 @@ use Rattle.moo_files.specs.Contents.{HoldsSuch, HoldsTrees, HoldsTables, HoldsSt
 use Rattle.moo_files.specs.Contents.{HasOtherTables, HasAnyTable, IsKept, ReadsAsOurs}
 use Rattle.moo_files.specs.Remains.{IsCleanRemains, MayStopAs, Spares, KeepsSuch, KeepsNothingBut, StillHolds, StillHoldsTrees}
 use Rattle.moo_files.specs.Blank.{IsBlank}
-use Rattle.moo_files.specs.Causes.{HasCauseOr, HasCauseOver, IsDenied, IsOpenable}
-use Rattle.moo_files.specs.Making.{StopsMaking}
+use Rattle.moo_files.specs.Causes.{HasCauseOver, IsDenied}
 use Rattle.moo_files.specs.Closing.{IsClosedFrom}
 use Rattle.moo_files.specs.declared.remains.Remains.{Remains}
 use Rattle.moo_files.specs.declared.remains.Remains.TheVariants as remains
@@ -39,7 +34,7 @@ use Rattle.moo_cli.specs.declared.task.Task.{Task}
 use Rattle.moo_cli.specs.Tasks.{NamesTask, NamesAlone}
 use Rattle.moo_run_lines.specs.Lines.{Reports, store_failure}
 use Rattle.moo_run.specs.Given.{Run}
-use Rattle.moo_run.specs.Run.{begins_anew, only_reads, is_load, RefusesTask, BeginsFrom, FailsToBegin, Leads}
+use Rattle.moo_run.specs.Run.{begins_anew, only_reads, is_load, RefusesTask, BeginsWith, BeginsFrom, FailsToBegin}
 use Rattle.moo_run.specs.Run.{RunsFrom, RunsUnseen, RunsTask, FailsAtOnce, RefusesFile, EndsUsage}
 use Rattle.moo_run_lines.specs.declared.failure.Failure.{Failure}
 use Rattle.moo_run.specs.declared.ends.Ends.{Ends}
@@ -49,27 +44,15 @@ use Rattle.moo_run.specs.declared.ends.Ends.TheVariants as variant
 abbrev pub HoldsRows : Image → Maps → Type 0
 HoldsRows image rows = IsGood rows × HoldsSuch (λ trees. LeavesRows trees rows) image
 
--- a database of the new world that the task begins with, each row in its printed cells
+-- a database of the new world that the task begins with
 abbrev pub LeavesNew : Task → Run → Trees → Type 0
-LeavesNew task run trees = (rows : Maps) × BeginsFrom task.action run.given rows × LeavesAsMade trees rows
-
--- Whatever a crash leaves shows rows to which these batches lead from those of a world that was just made, or these and one of the others.
--- It has tables to which they lead from the printed cells, with the cells kept of all that stays, and no row in the table `slot`.
-abbrev pub LeadsFromMade : Store → Maps → Leads
-LeadsFromMade store rows batches others =
-    LeavesLed store rows batches others
-    × (cells : CellChanges) × PrintsAll cells rows × LeavesWritten store rows (tables_with cells no_tables) [] batches others
+LeavesNew task run trees = (s : State) × BeginsWith task.action run.given s × LeavesState trees s
 
 module _ {D : Type 0} {g : Ghosts D} where
   -- A task ran over its file from these rows. If the disk is clean, a crash leaves rows to which its batches lead, with all numbers kept.
   abbrev pub RunsRows : Task → Maps → Held (FileStore D g) → Run → Type 0
   RunsRows task rows conn run = RunsFrom task (state_of rows) run (HasCleanDisk (file_state conn)) (CrashLeaves (file_state conn))
       (LeavesLed (file_state conn) rows) ⊤
-
-  -- A task ran over its file from the rows of a new world that it made. If the disk is clean, its batches lead on from their printed cells.
-  abbrev pub RunsMade : Task → Maps → Held (FileStore D g) → Run → Type 0
-  RunsMade task rows conn run = RunsFrom task (state_of rows) run (HasCleanDisk (file_state conn)) (CrashLeaves (file_state conn))
-      (LeadsFromMade (file_state conn) rows) ⊤
 
   -- the task ran over its file from s, with what a crash then leaves
   abbrev pub RanFrom : Task → State → Held (FileStore D g) → Run → Type 0
@@ -105,7 +88,7 @@ module _ {D : Type 0} {g : Ghosts D} where
   -- the task ran over the file that held this image
   pub record RanOver (task : Task) (image : Image) (conn : Held (FileStore D g)) (run : Run) : Type 0 where
     -- it begins with a new world, and runs from that, which is made only if the files have room for it: never over a world or a table
-    pub anew : begins_anew task ≡ true → (rows : Maps) × BeginsFrom task.action run.given rows × RunsMade task rows conn run
+    pub anew : begins_anew task ≡ true → (rows : Maps) × BeginsFrom task.action run.given rows × RunsRows task rows conn run
     pub room : begins_anew task ≡ true → HasCleanDisk (file_state conn) → HoldsNoTable image
     pub taken : (s : State) → begins_anew task ≡ true → HoldsState image s → HasCleanDisk (file_state conn) → ⊥
     pub occupied : (trees : Trees) → begins_anew task ≡ true → HoldsTrees image trees → HasAnyTable trees →
@@ -144,20 +127,6 @@ module _ {T D : Type 0} {g : Ghosts D} where
   abbrev pub IsUntouched : Remains T D g → Type 0
   IsUntouched left = (start : T) × (left ≡ remains.Untouched start)
 
-  -- the dump of the task gives no world, and no file was opened
-  abbrev pub GivesNoWorld : Task → Remains T D g → Run → Type 0
-  GivesNoWorld task rest run = IsTrue (is_load task.action) × IsUntouched rest × (failure : Failure)
-      × RefusesTask run.given task.action failure × Reports failure run.before run.after run.status
-
-  -- The dump of the task gives no world. Or none was made in the file, which held this image, for a cause: the host denied it, its disk
-  -- failed or refused, or memory ran out; or a row of the world is too big or has no number left. Over a connection that is open nothing
-  -- is said of files without room for a world.
-  abbrev pub FailsToMake : Task → Image → Remains T D g → Run → Type 0
-  FailsToMake task image rest run =
-      ((fault : StoreFault) × HasCauseOr (StopsMaking image fault) (IsDenied run.given.denies task.file.now) fault rest
-      × Reports (store_failure fault) run.before run.after run.status)
-      ⊎ GivesNoWorld task rest run
-
   -- This database is refused, and no damage is told of a state or of other tables. It is kept, damaged or of other tables as it is, or
   -- migrated.
   pub record RefusedOn (trees : Trees) (image : Image) (rest : Remains T D g) (run : Run) : Type 0 where
@@ -173,9 +142,8 @@ module _ {T D : Type 0} {g : Ghosts D} where
 
   -- no world was opened or made of the file that held this image, and this is what is left of it
   pub record RefusedOver (task : Task) (image : Image) (rest : Remains T D g) (run : Run) : Type 0 where
-    -- a new world can't be made, and if the files held nothing or a database, that has a cause
+    -- a new world can't be made
     pub anew : begins_anew task ≡ true → FailsToBegin task run
-    pub unfit : begins_anew task ≡ true → IsOpenable image → IsCleanRemains rest → FailsToMake task image rest run
     -- or what the file holds isn't taken up
     pub over : begins_anew task ≡ false → (held : Contents) → Hold image held → IsCleanRemains rest → RefusedOnto held image rest run
     pub opened : begins_anew task ≡ false → RefusesFile run
@@ -195,7 +163,8 @@ module _ {T D : Type 0} {g : Ghosts D} where
     pub rests : run.given.ports.rests
     -- if no file was opened, the line tells why; or the start is unspent, and the line tells why a dump gives no world
     pub told : ((fault : StoreFault) × MayStopAs fault rest × Reports (store_failure fault) run.before run.after run.status)
-        ⊎ GivesNoWorld task rest run
+        ⊎ (IsTrue (is_load task.action) × IsUntouched rest × (failure : Failure)
+        × RefusesTask run.given task.action failure × Reports failure run.before run.after run.status)
     -- Tables are refused for what is wrong with them. Else the host denied the file, its disk failed or refused, or memory ran out; only
     -- those of an earlier version that show a world may also be refused because they can't be migrated.
     pub cause : begins_anew task ≡ false → (tables : Tables) → HoldsTables image tables → IsCleanRemains rest →

@@ -76,11 +76,12 @@ fn refusal_of<T: Start, H: WorldFiles<T>>(host: &H, file: &str, fault: StoreFaul
 /// Makes the world of a dump in a file, does what the task says over it, and hands back what is left of the file.
 fn run_loaded<'s, S: Streams>(
     session: &mut Session<'s, S>,
+    file: &str,
     start: S::File,
     dump: &str,
     task: Task<'_>,
 ) -> Ends<S::File, <S::Host as WorldFiles<S::File>>::Disk>
-    requires may { S.Host.may_open session.old.host task.file.now }
+    requires may { S.Host.may_open session.old.host file.now }
     requires read { (path : List ℕ) → ReadsFile task path → S.Host.may_read session.old.host path }
     requires load { is_load task.action ≡ true }
     requires word { dump_word task.action ≡ dump.now }
@@ -100,10 +101,10 @@ fn run_loaded<'s, S: Streams>(
             return Ends::Refused(Remains::Untouched(start));
         }
     };
-    match load_from(session.alloc, &session.host, task.file, start, rows) {
+    match load_from(session.alloc, &session.host, file, start, rows) {
         Ok(world) => Ends::Ran(run_in_files(session, world, task)),
         Err((fault, remains)) => {
-            session.fail_to_open(task.file, refusal(fault));
+            session.fail_to_open(file, refusal(fault));
             Ends::Refused(remains)
         }
     }
@@ -112,20 +113,21 @@ fn run_loaded<'s, S: Streams>(
 /// Makes the opening world in a file, does what the task says over it, and hands back what is left of the file.
 fn run_created<'s, S: Streams>(
     session: &mut Session<'s, S>,
+    file: &str,
     start: S::File,
     task: Task<'_>,
 ) -> Ends<S::File, <S::Host as WorldFiles<S::File>>::Disk>
-    requires may { S.Host.may_open session.old.host task.file.now }
+    requires may { S.Host.may_open session.old.host file.now }
     requires read { (path : List ℕ) → ReadsFile task path → S.Host.may_read session.old.host path }
     requires load { is_load task.action ≡ false }
     requires anew { begins_anew task ≡ true }
     ensures runs { RunsFile task.entry (image_at S.File.Start) result (⟦<Session<'s, S> as Runs>⟧.run session.old session.new) }
     ensures input { reads_input task.entry ≡ false → session.new.input ≡ session.old.input }
 {
-    match create_from(session.alloc, &session.host, task.file, start) {
+    match create_from(session.alloc, &session.host, file, start) {
         Ok(world) => Ends::Ran(run_in_files(session, world, task)),
         Err((fault, remains)) => {
-            session.fail_to_open(task.file, refusal(fault));
+            session.fail_to_open(file, refusal(fault));
             Ends::Refused(remains)
         }
     }
@@ -181,10 +183,10 @@ pub fn run_from<'s, S: Streams>(
     ensures input { reads_input task.entry ≡ false → session.new.input ≡ session.old.input }
 {
     match dump_word(task) {
-        Some(dump) => run_loaded(session, start, dump, task),
+        Some(dump) => run_loaded(session, task.file, start, dump, task),
         None => {
             if begins_anew(task) {
-                run_created(session, start, task)
+                run_created(session, task.file, start, task)
             } else {
                 run_found(session, start, task)
             }

@@ -1,5 +1,5 @@
 -- From what a crash left of a run to the next run.
-use Rattle.moo_run.{proofs.Words.{◌≡◌, ◌≢◌, ◌⊎◌, inl, inr, ℕ, zero, suc, Bool, true, false, List, length, codes, refl, sym, ap, subst, true≢false, false_from_ne_true, ◌||◌, bytes_eq, Ghosts, Image, HasCleanDisk, Held, file_state, Maps, Batch, IsGood, State, state_of, LeavesLed, LeavesRows, Task, Run, makes_world, begins_anew, HoldsRows, RunsRows, RanFrom, RanOver, RefusedOver, EndsWith, RunsOver}, proofs.Connections.{made_rows, unled}, specs.declared.ends.Ends.{Ends}}
+use Rattle.moo_run.{proofs.Words.{◌≡◌, ◌≢◌, ◌⊎◌, inl, inr, ℕ, zero, suc, Bool, true, false, List, length, codes, refl, sym, ap, subst, true≢false, false_from_ne_true, ◌||◌, bytes_eq, Ghosts, Image, HasCleanDisk, Held, file_state, Maps, Batch, IsGood, State, state_of, LeavesLed, LeavesRows, Task, Run, makes_world, begins_anew, HoldsRows, RunsRows, RanFrom, RanOver, RefusedOver, EndsWith, RunsOver}, proofs.Connections.{unled}, specs.declared.ends.Ends.{Ends}}
 use Rattle.moo_run_laws.specs.Again.{Started, StartedRows, LeadTo, TakesUp, TakesRows, IsLeftAfter, IsFoundOf, IsFoundIn}
 use Rattle.moo_run.specs.declared.ends.Ends.TheVariants as variant
 use Rattle.sqlite_store.specs.declared.store.FileStore.{FileStore}
@@ -85,7 +85,7 @@ module _ {D : Type 0} {g : Ghosts D} where
   -- the same of rows
   pub rows_from : (task : Task) (image : Image) (conn : Held (FileStore D g)) (run : Run) (After : Maps → Type 0)
       → HasCleanDisk (file_state conn) → RanOver task image conn run → ((rows : Maps) → RunsRows task rows conn run → After rows) → StartedRows task image run.given After
-  rows_from task image conn run After clean it after = ((λ other rows holds. after rows ((it.over other (a_database holds.1.trees) holds.1.holds clean).rows rows holds.0 holds.1.such)), (λ anew. let begun = it.anew anew in (begun.0, begun.1, after begun.0 (made_rows _ _ _ _ _ _ _ begun.2))))
+  rows_from task image conn run After clean it after = ((λ other rows holds. after rows ((it.over other (a_database holds.1.trees) holds.1.holds clean).rows rows holds.0 holds.1.such)), (λ anew. let begun = it.anew anew in (begun.0, begun.1, after begun.0 begun.2)))
 
 -- a state that is refused was refused for a cause
 pub fails_for : {T D : Type 0} {g : Ghosts D} (path : List ℕ) (image : Image) (rest : Remains T D g) (run : Run) (s : State) (holds : HoldsState image s) → RefusesTables path holds.such.leaves.tables rest run → FailsFor path image rest run

@@ -15,6 +15,7 @@ use Rattle.moo_tables_rows.specs.Cause.{StopsChange}
 use Rattle.moo_store.specs.Kept.{World}
 use Rattle.moo_store.specs.Opening.{Adoption}
 use Rattle.moo_store_rows.specs.NewTables.{LeavesAsMade, RestsAsMade}
+use Rattle.moo_store_rows.specs.States.{LeavesState}
 use Rattle.moo_store.specs.World.{store_of, StandsFor}
 use Rattle.moo_store_rows.specs.declared.fault.StoreFault.{StoreFault}
 use Rattle.moo_store_rows.specs.declared.fault.StoreFault.TheVariants.{Store, OutOfMemory}
@@ -23,9 +24,13 @@ use Rattle.moo_store_rows.specs.declared.fault.StoreFault.TheVariants.{Store, Ou
 abbrev pub name_taken : StoreFault
 name_taken = Store (SqliteFailure NameTaken)
 
--- a crash leaves what it could leave before, or tables of these rows, each in its printed cells
+-- a crash leaves what it could leave before, or the state of these rows
 abbrev pub SurvivesOr : Maps → Database → Database → Type 0
-SurvivesOr rows old new = Survives old new (λ trees. LeavesAsMade trees rows)
+SurvivesOr rows old new = Survives old new (λ trees. LeavesState trees (state_of rows))
+
+-- or these rows, each in its printed cells
+abbrev pub SurvivesAsMade : Maps → Database → Database → Type 0
+SurvivesAsMade rows old new = Survives old new (λ trees. LeavesAsMade trees rows)
 
 module _ {S : Type 0} (g : Ghosts S) where
   -- The tables of these rows were made in a database that had none. The World over them has the very rows, with their numbers. Each row is
@@ -48,6 +53,7 @@ module _ {S : Type 0} (g : Ghosts S) where
     pub undone : (last ≡ conn)
         ⊎ (HasCleanDisk (state g last) → IsTrue (state g last).is_open → RestsAt (state g last) (state g conn).committed)
     pub crash : (last ≡ conn) ⊎ SurvivesOr rows (state g conn) (state g last)
+    pub cells : (last ≡ conn) ⊎ SurvivesAsMade rows (state g conn) (state g last)
 
   abbrev pub Loads : Maps → Held S → Adoption S → Type 0
   Loads rows conn (Ok world) = IsLoaded rows conn world

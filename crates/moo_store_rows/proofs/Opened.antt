@@ -63,3 +63,7 @@ left_all store m settled good it trees left =
 pub survives_all : (old new : Database) (cells : CellChanges) (m : Maps) → PrintsAll cells m → IsGood m → SurvivesMaking cells old new → Survives old new (λ trees. LeavesAsMade trees m)
 survives_all old new cells m p good survives = survives_more old new (λ trees. Leaves trees (tables_with cells no_tables) × HasNoSlot trees) (λ trees. LeavesAsMade trees m)
     (λ clean trees lies. record { good = good; cells = cells; prints = p; leaves = lies.0; empty = lies.1 }) survives
+
+-- so it is of their state
+pub survives_state : (old new : Database) (m : Maps) → Survives old new (λ trees. LeavesAsMade trees m) → Survives old new (λ trees. LeavesState trees (state_of m))
+survives_state old new m survives = survives_more old new (λ trees. LeavesAsMade trees m) (λ trees. LeavesState trees (state_of m)) (λ clean trees made. leaves_all trees m made) survives

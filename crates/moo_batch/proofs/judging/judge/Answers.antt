@@ -1,8 +1,8 @@
 use Rattle.std.{proofs.Common.{◌≡◌, Err, ◌+◌, ◌<◌, [], true, false, refl, sym, ap, ◌∙◌, subst, rules}, proofs.lemmas.List.{nil_from_length}}
 use Rattle.moo_rows.{specs.Maps.{Base, Held}, specs.declared.row.Head.{Head}}
-use Rattle.moo_world.{specs.Between.{CallsLead}, specs.Judge.{State, is_due, last_seq, verdict_of, run_calls, Accepted}, specs.Judge.{state_of}}
+use Rattle.moo_world.{specs.Between.{CallsLead}, specs.Judge.{is_due, last_seq, verdict_of, run_calls, Accepted}, specs.Judge.{state_of}}
 use Rattle.moo_memory.specs.Changes.{AreChanges}
-use Rattle.moo_batch.{proofs.Seen.{facts-of, stopped-seen}, specs.declared.witness.Refusal.{Refusal}, specs.declared.judging.Stop.TheVariants.{Refused as refused_at}, specs.Judge.{ComeTo, IsVerdict, StandsAtCheck}, specs.declared.judging.Verdict.TheVariants.{OutOfMemory}, proofs.Ticking.{none_taken}, proofs.Verdicts.{judge-stale, judge-full, judge-run, with_seq, good-with_seq, world_of-with_seq, stopped-so}}
+use Rattle.moo_batch.{proofs.Seen.{stopped-seen}, specs.Judge.{ComeTo, IsVerdict, StandsAtCheck}, specs.declared.judging.Verdict.TheVariants.{OutOfMemory}, proofs.Ticking.{none_taken}, proofs.Verdicts.{judge-stale, judge-full, judge-run, with_seq, good-with_seq, world_of-with_seq, stopped-so}}
 use Rattle.moo_batch.proofs.judging.judge.Goals as goal
 
 pub returns-then-not-is_due-clause-verdict : goal.returns-then-not-is_due-clause-verdict
@@ -87,7 +87,5 @@ returns-in-Err-clause-seen g c =
     let stands : StandsAtCheck batch.programmer batch.calls (state_of t) after c.in-Err.stop =
     subst (λ m. StandsAtCheck batch.programmer batch.calls (state_of m) after c.in-Err.stop) c.within-draft.ensures.maps
     (subst (λ calls. StandsAtCheck batch.programmer calls (state_of c.within-draft.result.maps) after c.in-Err.stop) c.items-calls.ensures.value c.in-Err.ensures.at) in
-    let sees = λ (refusal : Refusal) (is : c.in-Err.stop ≡ refused_at refusal). let told = c.stopped.ensures.sees refusal is in
-    (told.0, facts-of after.world t batch refusal told.0 (λ own. ap (λ (s : State). s.world) (subst (StandsAtCheck batch.programmer batch.calls (state_of t) after) is stands own)) told.1, told.2) in
     stopped-seen g.W.Witness.sees t batch after c.stopped.result (g.W.Witness.kept c.args.witness.now) (g.W.Witness.kept c.leave_ticks.new.witness) (g.W.Witness.kept c.stopped.new.witness) c.in-Err.stop c.leave_ticks.ensures.kept
-    c.stopped.ensures.refused c.stopped.ensures.full c.stopped.ensures.memory sees c.stopped.ensures.full_still c.stopped.ensures.memory_still comes
+    c.stopped.ensures.refused c.stopped.ensures.full c.stopped.ensures.memory c.stopped.ensures.sees c.stopped.ensures.full_still c.stopped.ensures.memory_still stands comes

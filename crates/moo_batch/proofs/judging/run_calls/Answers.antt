@@ -1,4 +1,4 @@
-use Rattle.std.{proofs.Common.{◌≡◌, ◌+◌, [], ◌∷◌, ◌++◌, length, drop, sym, ap, ◌∙◌, subst, rules, arith}, proofs.lemmas.Grind.{common_steps}}
+use Rattle.std.{proofs.Common.{◌≡◌, ◌+◌, ◌-◌, [], ◌∷◌, ◌++◌, length, drop, sym, ap, ◌∙◌, subst, rules, arith}, proofs.lemmas.Grind.{common_steps}}
 use Rattle.moo_rows.specs.Maps.{Base}
 use Rattle.moo_world.specs.Outcomes.{in_petition, of_itself}
 use Rattle.std.proofs.lemmas.Option.{none-some}
@@ -56,7 +56,7 @@ pub returns-in-Err-Moo-clause-at : goal.returns-in-Err-Moo-clause-at
 returns-in-Err-Moo-clause-at g c =
     let still = rw c.in-Err-Moo.field-0-is at c.in-Err-Moo.ensures.check in
     let place : c.loop-call.call-index ≡ c.len.result + 1 - 1 = search rules in
-    rw c.in-Err-Moo.field-0-is (λ own. ap state_in still ∙ led-here c.loop-call.invariant.2 ∙ ap (state_before_call (state_in (g.R.Rows.held c.args.rows.now)) c.args.programmer c.args.calls.now) place)
+    λ own. ap state_in still ∙ led-here c.loop-call.invariant.2 ∙ ap (state_before_call (state_in (g.R.Rows.held c.args.rows.now)) c.args.programmer c.args.calls.now) place
 
 pub returns-in-Err-Held-clause-at : goal.returns-in-Err-Held-clause-at
-returns-in-Err-Held-clause-at g c = rw c.in-Err-Held.field-0-is (λ own. absurd (none-some _ (sym own)))
+returns-in-Err-Held-clause-at g c = λ own. absurd (none-some _ (sym own))

@@ -29,7 +29,6 @@ returns-in-Err-clause-runs g c =
     let reports = tells_fault fault c.refusal_of-failure.result old new c.fail_to_open.new.self.status c.refusal_of-failure.ensures c.fail_to_open.ensures.reports in
     record {
       anew = λ anew. never_anew c.args.task c.requires.other anew;
-      unfit = λ anew. never_anew c.args.task c.requires.other anew;
       over = λ other held holds clean. refused_onto (image_at g.S.File.Start) fault c.in-Err.remains run held (c.in-Err.ensures.refuses held holds clean) reports;
       opened = λ other. refuses_file fault run reports;
       left = still_held (image_at g.S.File.Start) fault c.in-Err.remains c.in-Err.ensures.refuses;

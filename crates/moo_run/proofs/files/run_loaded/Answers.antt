@@ -1,8 +1,7 @@
-use Rattle.moo_run.{proofs.Words.{inl, inr, refl, true, sym, subst, ◌∙◌, file_state, over_files, store_of, image_at, state_of, Run, given_to, CrashLeaves, StandsFor, BeginsWith}, proofs.Beginning.{begins_dumped, numbered_dumped, held_rows, refuses_dump, reads_dump, keeps_input, of_other_texts, load_begins, never_other}, proofs.Connections.{surely, made_led}, proofs.Refusals.{tells_fault}, proofs.Making.{made_over, unmade_over}}
+use Rattle.moo_run.{proofs.Words.{inl, inr, refl, true, sym, subst, ◌∙◌, file_state, over_files, image_at, state_of, Run, given_to, StandsFor, LeavesState, BeginsWith}, proofs.Beginning.{begins_dumped, numbered_dumped, held_rows, refuses_dump, reads_dump, keeps_input, of_other_texts, load_begins, never_other}, proofs.Connections.{surely_led}, proofs.Refusals.{tells_fault}, proofs.Making.{made_over, unmade_over}}
 use Rattle.moo_run.proofs.files.run_loaded.Goals as goal
 use Rattle.moo_files.{specs.Making.{Empty, HalfMade}, proofs.MakingLemmas.{taken_never, occupied_never, trees_or_made, table_kept, state_kept}}
 use Rattle.moo_load.specs.RowsOf.{AreRowsOf}
-use Rattle.moo_store_rows.specs.NewTables.{LeavesAsMade, RestsAsMade}
 
 -- the dump shows no world, and the file isn't opened
 pub returns-in-Err-clause-runs : goal.returns-in-Err-clause-runs
@@ -11,7 +10,6 @@ returns-in-Err-clause-runs g c =
     let told = refuses_dump c.args.task.action given c.args.dump.now c.in-Err.failure c.requires.word c.in-Err.ensures.failure c.in-Err.ensures.lacks in
     record {
       anew = λ anew. (c.in-Err.failure, inr (c.requires.load, told), c.fail.ensures.reports);
-      unfit = λ anew openable clean. inr (c.requires.load, (c.args.start, refl), c.in-Err.failure, told, c.fail.ensures.reports);
       over = λ other held holds. never_other c.args.task c.requires.load other;
       opened = λ other. never_other c.args.task c.requires.load other;
       left = λ s holds clean. holds;
@@ -40,9 +38,7 @@ returns-in-Ok-load_from-clause-runs g c =
       world = subst (BeginsWith c.args.task.action given) (sym same) (begins_dumped c.args.task.action given c.args.dump.now s c.requires.load c.requires.word c.in-Ok.ensures.dumped (held_rows c.in-Ok.rows.maps c.in-Ok.ensures.good c.in-Ok.ensures.limit));
       numbers = numbered_dumped c.args.task.action world.rows.maps c.requires.load (subst (λ rows. AreRowsOf (state_of rows) rows) (sym made.same) c.in-Ok.ensures.numbered);
     })
-    (of_other_texts c.args.task c.requires.load (state_of world.rows.maps) _ given _ _ _ _ (made_led c.args.task (state_of world.rows.maps) _ (CrashLeaves (file_state c.run_in_files.result)) (store_of over_files world) (file_state c.run_in_files.result) world.rows.maps
-    (λ clean. subst (RestsAsMade (store_of over_files world)) (sym made.same) (made.rests (ran.clean true s made.stands clean)))
-    (surely _ _ _ _ _ _ _ (ran.runs true (state_of world.rows.maps) (subst (StandsFor over_files true world) (sym same) made.stands)))) (λ rests. rests))
+    (of_other_texts c.args.task c.requires.load (state_of world.rows.maps) _ given _ _ _ _ (surely_led _ _ _ _ _ _ (file_state c.run_in_files.result) _ _ (ran.runs true (state_of world.rows.maps) (subst (StandsFor over_files true world) (sym same) made.stands))) (λ rests. rests))
     (ran.clean true s made.stands) (taken_never c.in-Ok.rows.maps (image_at g.S.File.Start) world made) (occupied_never c.in-Ok.rows.maps (image_at g.S.File.Start) world made) made.room
 
 pub returns-in-Err-load_from-clause-runs : goal.returns-in-Err-load_from-clause-runs
@@ -58,10 +54,10 @@ returns-in-Err-load_from-clause-runs g c =
     let new = g.S.Output.Write.contents c.fail_to_open.new.self.output in
     let status = c.fail_to_open.new.self.status in
     let run : Run = record { given = given; before = old; after = new; status = status } in
-    unmade_over c.args.task (image_at g.S.File.Start) run (load_begins c.args.task c.requires.load) fault c.in-Err-load_from.remains c.in-Ok.rows.maps begins (numbered_dumped c.args.task.action c.in-Ok.rows.maps c.requires.load c.in-Ok.ensures.numbered) c.fail_to_open.ensures.host
+    unmade_over c.args.task (image_at g.S.File.Start) run (load_begins c.args.task c.requires.load) fault c.in-Err-load_from.remains s begins c.fail_to_open.ensures.host
     (tells_fault fault c.refusal.result old new status (inl c.refusal.ensures) c.fail_to_open.ensures.reports)
-    unmade.of_store unmade.stopped (table_kept (λ found. LeavesAsMade found c.in-Ok.rows.maps) image fault rest unmade) (trees_or_made (λ found. LeavesAsMade found c.in-Ok.rows.maps) image fault rest unmade)
-    (unmade.kept Empty) (unmade.kept HalfMade) unmade.spared (state_kept (λ found. LeavesAsMade found c.in-Ok.rows.maps) image fault rest unmade) c.in-Err-load_from.ensures.cause
+    unmade.of_store unmade.stopped (table_kept (λ found. LeavesState found s) image fault rest unmade) (trees_or_made (λ found. LeavesState found s) image fault rest unmade)
+    (unmade.kept Empty) (unmade.kept HalfMade) unmade.spared (state_kept (λ found. LeavesState found s) image fault rest unmade)
 
 pub read_world-requires : goal.read_world-requires
 read_world-requires g c = record { read = λ other. c.requires.read c.args.dump.now (reads_dump c.args.task c.args.dump.now c.requires.load c.requires.word other) }

@@ -21,6 +21,7 @@ returns-then-not-is_new g c =
         outside = c.requires.outside;
         undone = inl refl;
         crash = inl refl;
+        cells = inl refl;
       };
     }
 
@@ -32,5 +33,6 @@ returns-in_default g c = record {
     outside = c.requires.outside;
     undone = inl refl;
     crash = inl refl;
+    cells = inl refl;
   };
 }

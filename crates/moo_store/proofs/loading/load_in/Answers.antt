@@ -1,7 +1,7 @@
-use Rattle.moo_store.{specs.Loading.{name_taken}, proofs.Words.{◌≡◌, ◌∙◌, IsTrue, true, inl, inr, rules, refl, sym, ap, subst, HasCleanDisk, Survives, state, KeepsRows, World, ShowsItsRows}, proofs.Adapters.{stands_for_rows}}
+use Rattle.moo_store.{specs.Loading.{name_taken}, proofs.Words.{◌≡◌, ◌∙◌, IsTrue, true, inl, inr, rules, refl, sym, ap, subst, HasCleanDisk, Survives, state, state_of, KeepsRows, LeavesState, World, ShowsItsRows}, proofs.Adapters.{stands_for_rows}}
 use Rattle.std.proofs.lemmas.Bool.{true≢false}
 use Rattle.sqlite.{specs.declared.error.Error.TheVariants.{SqliteFailure}, specs.declared.error.ErrorCode.TheVariants.{NameTaken}}
-use Rattle.moo_store_rows.{specs.NewTables.{LeavesAsMade, RestsAsMade}, proofs.Opened.{has_no_tables, keeps_all, left_all, survives_all}}
+use Rattle.moo_store_rows.{specs.NewTables.{RestsAsMade}, proofs.Opened.{has_no_tables, keeps_all, left_all, survives_all, survives_state}}
 use Rattle.moo_store.proofs.loading.load_in.Goals as goal
 
 pub over-requires-clause-outside : goal.over-requires-clause-outside
@@ -28,8 +28,8 @@ returns-in-Ok-create_tables g c =
         same = same;
         rests = rests;
         left = λ clean. left_all store rows (g.met.S.Store.settled c.over.result.connection.store) c.requires.good (rests clean);
-        crash = subst (λ conn. Survives (state g.S.Store c.args.conn) (state g.S.Store conn) (λ trees. LeavesAsMade trees rows)) (sym connection)
-            (survives_all (state g.S.Store c.args.conn) (state g.S.Store conn) c.in-Ok.cells rows c.in-Ok.ensures c.requires.good (c.in-Ok-create_tables.ensures.made.crash (λ clean. none)));
+        crash = subst (λ conn. Survives (state g.S.Store c.args.conn) (state g.S.Store conn) (λ trees. LeavesState trees (state_of rows))) (sym connection)
+            (survives_state (state g.S.Store c.args.conn) (state g.S.Store conn) rows (survives_all (state g.S.Store c.args.conn) (state g.S.Store conn) c.in-Ok.cells rows c.in-Ok.ensures c.requires.good (c.in-Ok-create_tables.ensures.made.crash (λ clean. none))));
       };
     }
 
@@ -37,14 +37,17 @@ pub returns-in-Err : goal.returns-in-Err
 returns-in-Err g c =
     let new : IsTrue c.is_new.result = c.if-not-is_new.false in
     let none = has_no_tables (state g.S.Store c.args.conn).now (c.is_new.ensures.0 new) in
-    let crash = c.in-Err.ensures.refused.crash (λ clean. none) in
+    let old = state g.S.Store c.args.conn in
+    let last = state g.S.Store c.in-Err.conn in
+    let cells = survives_all old last c.in-Ok.cells c.args.rows.maps c.in-Ok.ensures c.requires.good (c.in-Err.ensures.refused.crash (λ clean. none)) in
     record {
       loads = record {
         taken = λ taken. absurd (taken (c.is_new.ensures.0 new));
         kind = inr (c.in-Err.error, refl, λ clean empty. c.in-Err.ensures.refused.cause clean none);
         outside = c.in-Err.ensures.refused.outside;
         undone = inr (λ clean opened. c.in-Err.ensures.refused.undone clean none opened);
-        crash = inr (survives_all (state g.S.Store c.args.conn) (state g.S.Store c.in-Err.conn) c.in-Ok.cells c.args.rows.maps c.in-Ok.ensures c.requires.good crash);
+        crash = inr (survives_state old last c.args.rows.maps cells);
+        cells = inr cells;
       };
     }
 
@@ -60,6 +63,7 @@ returns-then-not-is_new g c =
         outside = c.requires.outside;
         undone = inl refl;
         crash = inl refl;
+        cells = inl refl;
       };
     }
 
@@ -71,5 +75,6 @@ returns-in_default g c = record {
     outside = c.requires.outside;
     undone = inl refl;
     crash = inl refl;
+    cells = inl refl;
   };
 }
