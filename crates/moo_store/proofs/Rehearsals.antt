@@ -2,6 +2,7 @@
 use Rattle.moo_store.{proofs.Words.{◌≡◌, Reply, inl, inr, Bool, true, false, refl, sym, ap, subst, ◌∙◌, Batch, Accepted, judge, left_by, state_of, Maps, Value, Answer, reply_of, ℕ, List, ⊤, ◌⊎◌, Ghosts, HasCleanDisk, IsGood, World, Held, state}, specs.Moves.{Stands, VerdictLeads, RunsAt}, specs.Rehearsed.{Rehearsal, IsRehearsedAt, RehearsesAt}, proofs.Verdicts.{not_both}}
 use Rattle.moo_store_rows.{specs.Moment.{Moment, rows_alone, HasAtRest, LeadsBy}, specs.Place.{Place, Works, Failed, Between, CrashLeavesAt}}
 use Rattle.moo_world.specs.Between.{BatchLeads}
+use Rattle.moo_rows.specs.Maps.{Held as Rows}
 use Rattle.moo_text.specs.declared.reply.Answer.TheVariants as answer
 use Rattle.moo_text.specs.declared.reply.Reply.TheVariants as reply
 
@@ -51,3 +52,7 @@ taken_at {S} g old new m same failed at = record {
   rests = subst (λ (c : Held S). HasCleanDisk (state g c) → ⊤ → HasAtRest (state g c) m) (sym same) at.rests;
   crash = subst (λ (c : Held S). HasCleanDisk (state g c) → CrashLeavesAt (state g c) (Failed m)) (sym same) at.crash;
 }
+
+-- its rehearsal begins at these rows alone
+pub begins_at : {S : Type 0} (g : Ghosts S) (world : World S) (it : Rehearsal) (m : Moment) → it.rows ≡ world.rows → it.failed ≡ world.failed → Stands g world (Works m) → IsRehearsedAt it (Works (rows_alone m.rows))
+begins_at g world it m rows failed at = (failed ∙ at.failed, ap rows_alone (sym (at.rows at.failed) ∙ ap (λ (r : Rows). r.maps) (sym rows)))

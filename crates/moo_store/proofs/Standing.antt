@@ -1,17 +1,9 @@
 -- Where runs of batches leave a World.
-use Rattle.moo_store.{proofs.Words.{◌≡◌, inl, inr, true, false, List, [], ◌∷◌, refl, sym, ap, subst, ◌∙◌, Batch, State, Verdict, Accepted, Refused, NoRoom, Stale, judge, left_by, after, Next, Answer, reply_of, answer_of, state_behind, Turn, Turns, accepted, is_plain, replies, answers_asked, batches_of}, specs.Moves.{VerdictLeads, RunsAt, AsksAt}, proofs.Leading.{turns_lead, leads_after}}
+use Rattle.moo_store.{proofs.Words.{◌≡◌, inl, inr, true, false, List, [], ◌∷◌, refl, sym, ap, subst, ◌∙◌, Batch, State, Verdict, Accepted, Refused, NoRoom, Stale, judge, left_by, after, Next, Answer, reply_of, answer_of, state_behind, Turns, is_plain, replies, answers_asked, batches_of}, specs.Moves.{VerdictLeads, RunsAt, AsksAt, state_at}}
 use Rattle.moo_store_rows.{specs.Moment.{Moment, state_of_moment}, specs.Place.{Place, Works, Failed, Between, moment_of}}
 use Rattle.std.specs.List.{AllByRecursion}
 use Rattle.moo_text.{specs.declared.next.Next.TheVariants.{Batch as Whole, Malformed, Truncated, End}, specs.declared.reply.Reply.TheVariants.{NoMemory}}
 use Rattle.moo_text.specs.declared.reply.Answer.TheVariants as answer
-
--- the state of the last moment that was reached
-abbrev pub state_at : Place → State
-state_at place = state_of_moment (moment_of place)
-
--- the state behind a text is that after its acknowledged batches
-pub text_after : (from to : Place) (items : List Next) (answers : List Answer) → Turns RunsAt from items answers to → state_at to ≡ after (state_at from) (accepted items answers)
-text_after from to items answers it = leads_after (moment_of from) (moment_of to) (accepted items answers) (turns_lead from to items answers it)
 
 -- ---- where nothing is refused
 
