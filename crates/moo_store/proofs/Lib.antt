@@ -12,7 +12,7 @@ pub mod Rehearsals
 pub mod Telling
 pub mod Stopped
 pub mod Asking
-pub mod Reopening
+pub mod TakenUp
 pub mod AdoptLemmas
 pub mod AdoptedLemmas
 pub mod CheckLemmas

@@ -1,4 +1,4 @@
-use Rattle.moo_store.{proofs.Words.{Ok, Err, state, clean_before, store_of}, proofs.Reopening.{left_in, taken_up, refused_left}}
+use Rattle.moo_store.{proofs.Words.{Ok, Err, state, clean_before, store_of}, proofs.TakenUp.{left_in, taken_up, refused_left}}
 use Rattle.moo_store.proofs.reopening.a_crash_is_taken_up.Goals as goal
 
 pub returns-clause-stands : goal.returns-clause-stands
