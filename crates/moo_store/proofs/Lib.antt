@@ -13,9 +13,8 @@ pub mod Telling
 pub mod Stopped
 pub mod Asking
 pub mod TakenUp
-pub mod AdoptLemmas
-pub mod AdoptedLemmas
-pub mod CheckLemmas
+pub mod ListRuns
+pub mod CheckMoves
 pub mod Commits
 pub mod Alone
 pub mod SeenEach

@@ -1,10 +1,15 @@
 -- Batches of a list that are run one after another, from place to place.
-use Rattle.moo_store.{proofs.Words.{◌≡◌, ◌∙◌, inl, inr, ℕ, suc, ◌+◌, ◌<◌, Bool, true, false, List, [], ◌∷◌, ◌++◌, append_assoc, append-nil, length-append, take, take_more, drop, length, get_or, map, Ok, Err, OnOk, IfErr, MatchStore, IsTrue, ⊤, refl, sym, ap, subst, subst₂, arith, Ghosts, HasCleanDisk, IsGood, Batch, Reply, Answer, answer_to, acknowledged, added, says_accepted, accepted, World, store_of, Turns, KeepsFaults, IsStopped, StoreFault, Store, Closed}, specs.Moves.{Stands, MovesBy, RunsAt, FailsRun}, specs.Runs.{Ended, EndsList, RunsEach}, proofs.Going.{turns-push}, proofs.Moving.{stands_somewhere, moves_as, moves_none, moves_then}, proofs.Leading.{turns_lead}, proofs.Stopped.{faults_same, faults_then, stopped_since}}
+use Rattle.moo_store.{proofs.Words.{◌≡◌, ◌∙◌, inl, inr, ℕ, suc, ◌+◌, ◌<◌, Bool, true, false, List, [], ◌∷◌, ◌++◌, append_assoc, append-nil, length-append, take, take_more, drop, length, get_or, map, Option, IsSome, Result, Ok, Err, MatchStore, IsTrue, ⊤, refl, sym, ap, subst, subst₂, arith, Ghosts, HasCleanDisk, IsGood, Batch, Reply, Answer, answer_to, acknowledged, added, says_accepted, accepted, World, store_of, Turns, KeepsFaults, IsStopped, StoreFault, Store, Closed, OutOfMemory}, specs.Moves.{Stands, MovesBy, RunsAt, FailsRun}, specs.Runs.{EndsList, RunsEach}, proofs.Going.{turns-push}, proofs.Moving.{stands_somewhere, moves_as, moves_none, moves_then}, proofs.Leading.{turns_lead}, proofs.Stopped.{faults_same, faults_then, stopped_since}}
 use Rattle.moo_store_rows.{specs.Moment.{AllCells, Moment, KeepsCellsAt, LeadsByEach, HasAtRest}, specs.Place.{Place, Works, Failed, Between, moment_of, has_failed}, proofs.Moments.{some_cells, kept_cells, cells_at_rest}}
-use Rattle.std.{specs.Prelude.{Option, IsSome}, proofs.Math.Seq.{drop-append_seam, drop-cons, take-append_seam}, proofs.lemmas.List.{map-append}}
+use Rattle.std.{proofs.Math.Seq.{drop-append_seam, drop-cons, take-append_seam}, proofs.lemmas.List.{map-append}}
+use Rattle.sqlite.specs.declared.error.Error.{Error}
 use Rattle.moo_text.specs.declared.next.Next.TheVariants.{Batch as Whole}
 use Rattle.moo_text.specs.declared.reply.Answer.TheVariants as answer
 use Rattle.moo_text.specs.declared.reply.Reply.TheVariants as reply
+
+-- what a run answers
+abbrev Ended : Type 0
+Ended = Result (Unit {0}) StoreFault
 
 -- ---- acknowledged batches
 
@@ -200,3 +205,17 @@ module _ {S : Type 0} (g : Ghosts S) (old now : World S) (all : List Batch) (cou
 
   pub still_at_end : acknowledged all (added before replies) ≡ [] → now ≡ old
   still_at_end none = p.still (sym (ap (acknowledged all) added_is) ∙ none)
+
+-- a World that had failed, before the first batch
+pub shut_first : {S : Type 0} (g : Ghosts S) (old : World S) (all : List Batch) (before : List Reply) → old.failed ≡ true → MovesBy g old old (λ from to. RunsEach from all (added before before) (Err Closed) to)
+shut_first g old all before failed =
+    let p = reached_first g old all before before refl in
+    ends_by g old old all 0 before before p old (Err Closed) (λ from to. IsTrue (has_failed from) × (to ≡ from)) (record { clean = λ c. c; closed = λ f. refl; goes = λ from at. (from, at, (sym at.failed ∙ failed, refl)) })
+    (λ from mid to at it. (it.0, it.1, λ works. (let no : true ≡ false = sym (sym at.failed ∙ failed) ∙ works in absurd cc)))
+
+-- no room for the replies
+pub no_room_first : {S : Type 0} (g : Ghosts S) (old : World S) (all : List Batch) (before behind : List Reply) → behind ≡ before → old.failed ≡ false → MovesBy g old old (λ from to. RunsEach from all (added before behind) (Err OutOfMemory) to)
+unfolding reached_first
+no_room_first g old all before behind same works =
+    let p = reached_first g old all before behind same in
+    ends_by g old old all 0 before behind p old (Err OutOfMemory) (λ from to. to ≡ from) (moves_none g old (λ from to. to ≡ from) (λ from. refl)) (λ from mid to at it. (refl, sym at.failed ∙ works, refl, it))
