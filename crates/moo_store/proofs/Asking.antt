@@ -10,16 +10,12 @@ replied_at : (m : Moment) (batch : Batch) (r : Result Reply StoreFault) → IsOk
 replied_at m batch (Ok reply) it = ((reply, refl, it), refl)
 replied_at m batch (Err fault) it = absurd it
 
-closed_of : (r : Result Reply StoreFault) → IsErrOf r Closed → answer_to r ≡ answer.Closed
-closed_of (Ok reply) it = absurd it
-closed_of (Err fault) it = ap (λ f. (let r : Result Reply StoreFault = Err f in answer_to r)) it
-
 -- what asking a batch says of a World, at whatever place it is
 pub asked_at : {S : Type 0} (g : Ghosts S) (world : World S) (batch : Batch) (r : Result Reply StoreFault) → (world.failed ≡ false → IsOkAnd r (MayReplyAsked (state_in world) batch)) → (IsTrue world.failed → IsErrOf r Closed)
     → (place : Place) → Stands g world place → AsksAt place batch (answer_to r) place
 asked_at g world batch r asks closed (Works m) at = replied_at m batch r (subst (λ (rows : Maps). IsOkAnd r (MayReplyAsked (state_of rows) batch)) (at.rows at.failed) (asks at.failed))
-asked_at g world batch r asks closed (Failed m) at = (closed_of r (closed at.failed), refl)
-asked_at g world batch r asks closed (Between m next) at = (closed_of r (closed at.failed), refl)
+asked_at g world batch r asks closed (Failed m) at = (ap answer_to (closed at.failed), refl)
+asked_at g world batch r asks closed (Between m next) at = (ap answer_to (closed at.failed), refl)
 
 -- ---- a text
 

@@ -1,5 +1,5 @@
 -- What an accepted batch says of its state.
-use Rattle.moo_store.proofs.Words.{◌≡◌, ℕ, ◌+◌, ◌<◌, Bool, Result, Ok, Err, OnOk, true, false, refl, ap, arith, is_err, Batch, Value, nat_lt, if◌then◌else◌, State, Ran, Through, FailedAt, FullAt, Accepted, Refused, NoRoom, Stale, is_due, last_seq, run_calls, verdict_of, judge, IsRun}
+use Rattle.moo_store.proofs.Words.{◌≡◌, ℕ, ◌+◌, ◌<◌, Bool, List, Result, Ok, Err, OnOk, true, false, refl, ap, arith, is_err, Batch, Value, nat_lt, if◌then◌else◌, State, Ran, Through, FailedAt, FullAt, Accepted, Refused, NoRoom, Stale, is_due, last_seq, run_calls, verdict_of, judge, IsRun}
 use borrow.Author.Tests.{ltb-true}
 
 pub when_ok : {T E P : Type 0} (r : Result T E) → false ≡ is_err r → OnOk r P → P

@@ -1,24 +1,17 @@
 -- What comes of a text, by its result, seen as something else; and what answers a text batch by batch.
-use Rattle.moo_store.{proofs.Words.{◌≡◌, ◌∙◌, ⊤, if◌then◌else◌, ℕ, Bool, true, false, IsTrue, Option, List, Result, Ok, Err, refl, sym, subst, HasCleanDisk, Ghosts, store_of, World, Batch, Answer, TextFault}, specs.Stopping.{CompletesUntil, EndsEarly, EndsAs, AnswersBy}, specs.Moves.{Stands, MovesBy, RunsAt}, specs.declared.course.Course.{Course}, proofs.Following.{completes-follows, halts-follows, early-follows}}
+use Rattle.moo_store.{proofs.Words.{◌≡◌, ◌∙◌, ⊤, ℕ, Bool, true, false, IsTrue, Option, List, Result, Ok, Err, refl, sym, subst, HasCleanDisk, Ghosts, store_of, World, Batch, Answer, TextFault}, specs.Stopping.{CompletesUntil, EndsAs, AnswersBy}, specs.Moves.{Stands, MovesBy, RunsAt}, specs.declared.course.Course.{Course}, proofs.Following.{completes-follows, halts-follows, early-follows}}
 use Rattle.moo_store_rows.specs.Place.{Place}
 
--- how a text ended, by whether it stopped
-abbrev Ends : {A : Type 0} → (A → Batch → Answer → A → Type 0) → Bool → A → A → (text before behind : Option (List ℕ)) → Bool → ℕ → ℕ → Type 0
-Ends step stop old new text before behind stopped b l = if stopped then (stop ≡ true) × EndsEarly step old new text before behind b l else CompletesUntil step stop old new text before behind b l
-
--- one that wasn't to stop came to its end
-not_stopped : {A : Type 0} (step : A → Batch → Answer → A → Type 0) (old new : A) (text before behind : Option (List ℕ)) (stopped : Bool) (b l : ℕ) → Ends step false old new text before behind stopped b l → CompletesUntil step false old new text before behind b l
-not_stopped step old new text before behind false b l it = it
-not_stopped step old new text before behind true b l it = let no : false ≡ true = it.0 in absurd cc
-
-pub to_its_end : {A : Type 0} (step : A → Batch → Answer → A → Type 0) (old new : A) (text before behind : Option (List ℕ)) (course : Course) → EndsAs step false old new text before behind course → CompletesUntil step false old new text before behind course.tally.batches course.tally.lost
-to_its_end step old new text before behind course it = not_stopped step old new text before behind course.stopped course.tally.batches course.tally.lost it
+-- a text that wasn't to stop came to its end
+pub to_its_end : {A : Type 0} (step : A → Batch → Answer → A → Type 0) (old new : A) (text before behind : Option (List ℕ)) (stopped : Bool) (b l : ℕ) → EndsAs step false old new text before behind stopped b l → CompletesUntil step false old new text before behind b l
+to_its_end step old new text before behind false b l it = it
+to_its_end step old new text before behind true b l it = let no : false ≡ true = it.0 in absurd cc
 
 -- Where the one stands as the other before a step, it does so behind it.
 module _ {A B : Type 0} (P : A → Batch → Answer → A → Type 0) (Q : B → Batch → Answer → B → Type 0) (As : A → B → Type 0)
     (step : (old new : A) (stand : B) (batch : Batch) (a : Answer) → As old stand → P old batch a new → (next : B) × As new next × Q stand batch a next) where
-  ends-follow : (stop stopped : Bool) (old new : A) (stand : B) (text before behind : Option (List ℕ)) (b l : ℕ) → As old stand → Ends P stop old new text before behind stopped b l
-      → (next : B) × As new next × Ends Q stop stand next text before behind stopped b l
+  ends-follow : (stop stopped : Bool) (old new : A) (stand : B) (text before behind : Option (List ℕ)) (b l : ℕ) → As old stand → EndsAs P stop old new text before behind stopped b l
+      → (next : B) × As new next × EndsAs Q stop stand next text before behind stopped b l
   ends-follow stop true old new stand text before behind b l at it = let run = early-follows P Q As step old new stand text before behind b l at it.1 in (run.0, run.1, (it.0, run.2))
   ends-follow stop false old new stand text before behind b l at it = let run = completes-follows P Q As step old new stand text before behind b l at it.0 in (run.0, run.1, (run.2, it.1))
 
