@@ -1,7 +1,7 @@
 use Rattle.moo_store.{specs.Loading.{SurvivesAsMade, name_taken}, proofs.Words.{◌≡◌, ◌∙◌, IsTrue, true, Some, [], inl, inr, rules, refl, sym, ap, subst, state, HasCleanDisk, World, Moment, rows_alone}}
 use Rattle.std.proofs.lemmas.Bool.{true≢false}
 use Rattle.sqlite.{specs.declared.error.Error.TheVariants.{SqliteFailure}, specs.declared.error.ErrorCode.TheVariants.{NameTaken}}
-use Rattle.moo_store_rows.{specs.NewTables.{RestsAsMade}, proofs.Opened.{has_no_tables, keeps_all, survives_all}}
+use Rattle.moo_store_rows.{specs.NewTables.{RestsAsMade}, proofs.Opened.{has_no_tables, keeps_all, survives_all}, proofs.Committed.{shown_by}}
 use Rattle.moo_tables_rows.{specs.Cells.{tables_with}, specs.Inside.{no_tables}}
 use Rattle.moo_store.proofs.loading.load_in.Goals as goal
 
@@ -26,7 +26,7 @@ returns-in-Ok-create_tables g c =
         seen = λ clean. (
           m,
           record { same = refl; cells = c.in-Ok.cells; prints = c.in-Ok.ensures; are = refl },
-          c.over.ensures.stands m refl (λ clean. (let it = made clean in let keeps = keeps_all (state g.S.Store conn) rows it in (it.rests, refl, keeps.shows, it.empty))),
+          c.over.ensures.stands m refl (λ clean. (let it = made clean in (it.rests, refl, shown_by (state g.S.Store conn) rows (tables_with c.in-Ok.cells no_tables) (keeps_all (state g.S.Store conn) rows it) it.rests, it.empty))),
         );
         crash = subst (λ conn. SurvivesAsMade rows old (state g.S.Store conn)) (sym connection) (survives_all old (state g.S.Store conn) c.in-Ok.cells rows c.in-Ok.ensures c.requires.good (c.in-Ok-create_tables.ensures.made.crash (λ clean. none)));
       };

@@ -9,7 +9,7 @@ returns-in-Ok g c =
     let before = g.W.Write.contents c.args.writer.now in
     let behind = g.W.Write.contents c.answer_until.new.writer in
     moves_as g.S.Store old new (λ from to. AnswersBy RunsAt false from to text before behind (Ok c.in-Ok.course)) _
-    (text_moves g.S.Store false old new text before behind (Ok c.in-Ok.course) c.in-Ok.ensures) (λ from to at here it. to_its_end RunsAt from to text before behind c.in-Ok.course it)
+    (text_moves g.S.Store false old new text before behind (Ok c.in-Ok.course) c.in-Ok.ensures) (λ from to at here it. to_its_end RunsAt from to text before behind c.in-Ok.course.stopped c.in-Ok.course.tally.batches c.in-Ok.course.tally.lost it)
 
 pub returns-in-Err : goal.returns-in-Err
 returns-in-Err g c = text_moves g.S.Store false c.args.world.now c.answer_until.new.answering (g.R.Read.remaining c.args.reader) (g.W.Write.contents c.args.writer.now) (g.W.Write.contents c.answer_until.new.writer) (Err c.in-Err.fault) c.in-Err.ensures
