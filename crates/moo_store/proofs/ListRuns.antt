@@ -1,6 +1,6 @@
 -- Batches of a list that are run one after another, from place to place.
-use Rattle.moo_store.{proofs.Words.{◌≡◌, ◌∙◌, inl, inr, ℕ, suc, ◌+◌, ◌<◌, Bool, true, false, List, [], ◌∷◌, ◌++◌, append_assoc, append-nil, length-append, take, take_more, drop, length, get_or, map, Option, IsSome, Result, Ok, Err, MatchStore, IsTrue, ⊤, refl, sym, ap, subst, subst₂, arith, Ghosts, HasCleanDisk, IsGood, Batch, Reply, Answer, answer_to, acknowledged, added, says_accepted, accepted, World, store_of, Turns, KeepsFaults, IsStopped, StoreFault, Store, Closed, OutOfMemory}, specs.Moves.{Stands, MovesBy, RunsAt, FailsRun}, specs.Runs.{EndsList, RunsEach}, proofs.Going.{turns-push}, proofs.Moving.{stands_somewhere, moves_as, moves_none, moves_then}, proofs.Leading.{turns_lead}, proofs.Stopped.{faults_same, faults_then, stopped_since}}
-use Rattle.moo_store_rows.{specs.Moment.{AllCells, Moment, KeepsCellsAt, LeadsByEach, HasAtRest}, specs.Place.{Place, Works, Failed, Between, moment_of, has_failed}, proofs.Moments.{some_cells, kept_cells, cells_at_rest}}
+use Rattle.moo_store.{proofs.Words.{◌≡◌, ◌∙◌, inl, inr, ℕ, suc, ◌+◌, ◌<◌, true, false, List, [], ◌∷◌, ◌++◌, append_assoc, append-nil, length-append, take, take_more, drop, length, get_or, map, Option, IsSome, Result, Ok, Err, MatchStore, IsTrue, ⊤, refl, sym, ap, subst, subst₂, arith, Ghosts, HasCleanDisk, IsGood, Batch, Reply, answer_to, acknowledged, added, says_accepted, accepted, World, store_of, Turns, KeepsFaults, IsStopped, StoreFault, Store, Closed, OutOfMemory}, specs.Moves.{Stands, MovesBy, RunsAt, FailsRun}, specs.Runs.{EndsList, RunsEach}, proofs.Going.{turns-push}, proofs.Moving.{stands_somewhere, moves_as, moves_none, moves_then}, proofs.Leading.{turns_lead}, proofs.Stopped.{faults_same, faults_then, stopped_since}}
+use Rattle.moo_store_rows.{specs.Moment.{AllCells, Moment, KeepsCellsAt, LeadsByEach}, specs.Place.{Place, Works, Failed, Between, moment_of, has_failed}, proofs.Moments.{some_cells, kept_cells, cells_at_rest}}
 use Rattle.std.{proofs.Math.Seq.{drop-append_seam, drop-cons, take-append_seam}, proofs.lemmas.List.{map-append}}
 use Rattle.sqlite.specs.declared.error.Error.{Error}
 use Rattle.moo_text.specs.declared.next.Next.TheVariants.{Batch as Whole}
@@ -48,7 +48,7 @@ unaccepted batch reply.NoMemory none = refl
 
 -- ---- cells that are known stay known
 
-pub leads_seen : (m end : Moment) (batches : List Batch) → LeadsByEach m batches end → IsSome m.cells → IsSome end.cells
+leads_seen : (m end : Moment) (batches : List Batch) → LeadsByEach m batches end → IsSome m.cells → IsSome end.cells
 leads_seen m end [] it some = subst (λ (x : Moment). IsSome x.cells) (sym it) some
 leads_seen m end (b ∷ bs) it some =
     let c = some_cells m.cells some in
@@ -108,7 +108,7 @@ closed_there (Failed m) to batch it = (refl, it.1)
 closed_there (Between m next) to batch it = (refl, it.1)
 
 module _ {S : Type 0} (g : Ghosts S) (old now : World S) (all : List Batch) (count : ℕ) (before replies : List Reply) (p : Reached g old now all count before replies) where
-  pub added_is : added before replies ≡ p.new
+  added_is : added before replies ≡ p.new
   added_is = ap (drop (length before)) p.whole ∙ drop-append_seam before p.new
 
   pub stood : take (length before) replies ≡ before

@@ -1,6 +1,5 @@
 -- What comes of a text, by its result, seen as something else; and what answers a text batch by batch.
 use Rattle.moo_store.{proofs.Words.{◌≡◌, ◌∙◌, ⊤, ℕ, Bool, true, false, IsTrue, Option, List, Result, Ok, Err, refl, sym, subst, HasCleanDisk, Ghosts, store_of, World, Batch, Answer, TextFault}, specs.Stopping.{CompletesUntil, EndsAs, AnswersBy}, specs.Moves.{Stands, MovesBy, RunsAt}, specs.declared.course.Course.{Course}, proofs.Following.{completes-follows, halts-follows, early-follows}}
-use Rattle.moo_store_rows.specs.Place.{Place}
 
 -- a text that wasn't to stop came to its end
 pub to_its_end : {A : Type 0} (step : A → Batch → Answer → A → Type 0) (old new : A) (text before behind : Option (List ℕ)) (stopped : Bool) (b l : ℕ) → EndsAs step false old new text before behind stopped b l → CompletesUntil step false old new text before behind b l

@@ -1,4 +1,4 @@
-use Rattle.moo_store.{proofs.Words.{◌≡◌, Some, refl, sym, ap, subst, state, HasCleanDisk, Survives, Adopts, World, store_of, Moment, rows_alone, unread_of}}
+use Rattle.moo_store.{proofs.Words.{Some, refl, sym, ap, subst, state, HasCleanDisk, Survives, Adopts, World, Moment, rows_alone, unread_of}}
 use Rattle.moo_store.proofs.adopting.adopt.Goals as goal
 
 pub returns-in-Ok : goal.returns-in-Ok

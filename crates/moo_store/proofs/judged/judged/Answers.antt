@@ -1,4 +1,4 @@
-use Rattle.moo_store.{proofs.Words.{inl, refl, Refused, NoRoom, Stale}, proofs.Verdicts.{refused_stays, no_room_stays}}
+use Rattle.moo_store.{proofs.Words.{refl, Refused, NoRoom, Stale}, proofs.Verdicts.{refused_stays, no_room_stays}}
 use Rattle.moo_batch.proofs.Ticking.{of_batch}
 use Rattle.moo_store.proofs.judged.judged.Goals as goal
 

@@ -1,4 +1,4 @@
-use Rattle.moo_store.{specs.Loading.{SurvivesAsMade, name_taken}, proofs.Words.{◌≡◌, ◌∙◌, IsTrue, true, Some, [], inl, inr, rules, refl, sym, ap, subst, state, HasCleanDisk, World, Moment, rows_alone}}
+use Rattle.moo_store.{specs.Loading.{SurvivesAsMade, name_taken}, proofs.Words.{◌≡◌, ◌∙◌, IsTrue, Some, [], inl, inr, rules, refl, sym, ap, subst, state, HasCleanDisk, World, Moment, rows_alone}}
 use Rattle.std.proofs.lemmas.Bool.{true≢false}
 use Rattle.sqlite.{specs.declared.error.Error.TheVariants.{SqliteFailure}, specs.declared.error.ErrorCode.TheVariants.{NameTaken}}
 use Rattle.moo_store_rows.{specs.NewTables.{RestsAsMade}, proofs.Opened.{has_no_tables, keeps_all, survives_all}, proofs.Committed.{shown_by}}

@@ -1,4 +1,4 @@
-use Rattle.moo_store.{proofs.Words.{◌≡◌, true, false, refl, subst, state, stays, World, store_of, MovesBy}, specs.Runs.{LeavesChecked}, proofs.CheckMoves.{checked_moves, closed_check}}
+use Rattle.moo_store.{proofs.Words.{◌≡◌, true, refl, subst, state, stays, World, store_of, MovesBy}, specs.Runs.{LeavesChecked}, proofs.CheckMoves.{checked_moves, closed_check}}
 use Rattle.moo_store_rows.specs.Checked.{Checks, KeepsTables}
 use Rattle.moo_store.proofs.world.World.check.Goals as goal
 

@@ -1,4 +1,4 @@
-use Rattle.moo_store.{proofs.Words.{◌≡◌, ◌+◌, inl, inr, vec_len, refl, sym, ap, subst, arith, true, false, Closed, OutOfMemory, store_of, World, IsGood}, proofs.Running.{when_ok}, proofs.Stopped.{faults_same, faults_then}, proofs.ListRuns.{reached_first, reached_next, reached_last, reached_fault, shut_first, no_room_first, stood, fails_since, still_at_fault, still_at_end}}
+use Rattle.moo_store.{proofs.Words.{◌≡◌, ◌+◌, inl, inr, vec_len, refl, subst, arith, true, false, store_of, World, IsGood}, proofs.Running.{when_ok}, proofs.Stopped.{faults_same, faults_then}, proofs.ListRuns.{reached_first, reached_next, reached_last, reached_fault, shut_first, no_room_first, stood, fails_since, still_at_fault, still_at_end}}
 use Rattle.moo_store.proofs.world.World.run.Goals as goal
 
 -- before the first batch
