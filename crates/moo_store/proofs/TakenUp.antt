@@ -35,13 +35,13 @@ module _ {S T : Type 0} (g : Ghosts S) (h : Ghosts T) (crashed : World S) (place
       }
 
   -- a World that is opened over it works at it, brought to the present version
-  pub taken_up : (world : World T) → IsLeft → IsAdopted h (state h found) world → HasCleanDisk (store_of h world) → (m now : Moment) × MayBeLeft place m × BecomesPresent m now × Stands h world (Works now)
+  pub taken_up : (world : World T) → IsLeft → IsAdopted h (state h found) world → HasCleanDisk (store_of h world) → (m now : Moment) × MayBeLeft place m × IsSome m.cells × BecomesPresent m now × Stands h world (Works now)
   taken_up world left it clean =
       let new = it.seen left.cells.tables left.rests clean in
       let good : IsGood new.0.rows = subst IsGood new.3.0 (new.4.good new.1 refl) in
       let rows = one_good left.cells.tables left.m.rows new.0.rows left.shows (good_within left.m.rows left.good) new.2.shows good in
       let cells = left.are ∙ ap (λ u. Some (record { tables = left.cells.tables; unread = u })) (sym left.unread) ∙ sym new.2.are in
-      (left.m, new.1, left.may, subst (λ m. BecomesPresent m new.1) (sym (one_moment left.m new.0 rows cells)) new.3, new.4)
+      (left.m, new.1, left.may, subst IsSome (sym left.are) refl, subst (λ m. BecomesPresent m new.1) (sym (one_moment left.m new.0 rows cells)) new.3, new.4)
 
   -- if none is opened, nothing is wrong with it
   pub refused_left : (fault : StoreFault) (last : Held T) → IsLeft → IsUnadopted h found fault last → HasCleanDisk (state h last) → IsOfStore fault
