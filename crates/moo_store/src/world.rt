@@ -106,8 +106,8 @@ impl<S: Alter + Drop> World<S> {
         Ok(Reply::Accepted { seq, answers })
     }
 
-    /// Runs one batch, and commits it if it is accepted. If it is refused, the witness sees why, once. The faults: Store if the store
-    /// failed; Closed if the World had failed.
+    /// Runs one batch, and commits it if it is accepted. If it is refused, the witness sees why, once. The faults: Store if the store failed;
+    /// Closed if the World had failed.
     pub fn run_one<N: Witness>(
         &mut self,
         batch: &Batch,
