@@ -39,7 +39,7 @@ impl<S: Alter> Model for World<S> {
 }
 
 impl<S: Alter + Drop> World<S> {
-    ghost use Rattle.std.specs.Prelude.{◌≡◌, ◌⊎◌, ◌<◌, ◌^◌, Bool, false, true, IsTrue, length, Some, IfOk, IfErr};
+    ghost use Rattle.std.specs.Prelude.{◌≡◌, ◌<◌, ◌^◌, false, true, IsTrue, length, Some, IfOk, IfErr};
     ghost use Rattle.std.specs.Prelude.{IfSome, IfNone, IsErrOf, IsOkAnd, Ok};
     ghost use Rattle.sqlite.specs.State.{HasCleanDisk};
     ghost use Rattle.sqlite.specs.Held.{state};

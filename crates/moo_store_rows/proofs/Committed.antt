@@ -12,9 +12,6 @@ use Rattle.moo_memory.specs.declared.changes.Changes.{Changes}
 pub shown_by : (store : Database) (rows : Maps) (t : Tables) → KeepsRows store rows → Rests store t → ShowsRows t rows
 shown_by store rows t it rests = subst (λ x. ShowsRows x rows) (one_tables store it.tables t it.rests rests) it.shows
 
-pub current_by : (store : Database) (rows : Maps) (t : Tables) → KeepsRows store rows → Rests store t → IsCurrent t
-current_by store rows t it rests = subst IsCurrent (one_tables store it.tables t it.rests rests) it.current
-
 in_doubt : (b : Bool) → (doubt b ≡ 0) ⊎ (doubt b ≡ 0 → ⊥)
 unfolding doubt
 in_doubt true = inl refl

@@ -3,7 +3,6 @@ use Rattle.moo_store_rows.{proofs.Words.{◌≡◌, Bool, IsTrue, ◌∙◌, fal
 use Rattle.moo_tables_rows.proofs.InsideLemmas.{left_by as tables_left}
 use Rattle.std.specs.Prelude.{IfSome, IsSome}
 use Rattle.sqlite.{specs.State.{State as Database, HasCleanDisk}, specs.Effect.{Database as Content}}
-use Rattle.sqlite_trees.specs.View.{doubt}
 
 -- the law of a store that is open: a crash leaves the last commit
 abbrev pub IsSettled : Database → Type 0
@@ -29,26 +28,3 @@ moment_left store m settled rest some trees lies =
     let here = cells_at_rest store m c.0 c.1 rest in
     let committed = settled trees here.0.is_open lies in
     (c.0, c.1, tables_left store c.0.tables trees here.0 committed, here.2, ap unread_of (committed ∙ ap (λ (db : Content). db.trees) (sym here.0.committed)) ∙ here.3)
-
--- the cells of a store, if its tables are known to show these rows
-pub record IsKnownAs (known : Bool) (store : Database) (rows : Maps) : Type 0 where
-  pub cells : Option AllCells
-  pub seen : IsTrue known → HasCleanDisk store → IsSome cells
-  pub rests : HasCleanDisk store → HasAtRest store (record { rows = rows; cells = cells })
-
-pub known_cells : (known : Bool) (store : Database) (rows : Maps) → (IsTrue known → HasCleanDisk store → KeepsRows store rows) → IsKnownAs known store rows
-unfolding doubt
-known_cells known store rows it = by known store.is_clean refl it
-  where
-    by : (known b : Bool) → store.is_clean ≡ b → (IsTrue known → HasCleanDisk store → KeepsRows store rows) → IsKnownAs known store rows
-    by true true e it = let keeps = it refl (subst (λ b. doubt b ≡ 0) (sym e) refl) in record {
-      cells = Some (record { tables = keeps.tables; unread = unread_of store.now.trees });
-      seen = λ sure clean. refl;
-      rests = λ clean. (keeps.rests, keeps.current, keeps.shows, refl);
-    }
-    by true false e it = record {
-      cells = None;
-      seen = λ sure clean. (let no : doubt false ≡ 0 = subst (λ b. doubt b ≡ 0) e clean in absurd cc);
-      rests = λ clean. tt;
-    }
-    by false b e it = record { cells = None; seen = λ sure clean. (let no : false ≡ true = sure in absurd cc); rests = λ clean. tt }

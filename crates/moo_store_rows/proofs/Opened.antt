@@ -1,7 +1,6 @@
 -- The tables of a whole world.
 use Rattle.moo_store_rows.{proofs.Words.{◌≡◌, Option, None, Ordering, refl, sym, ap, ◌∙◌, subst, FinMap, empty, get, get-empty, Maps, no_maps, object_cmp, prop_cmp, slot_cmp, verb_cmp, petition_cmp, ObjRow, SlotRow, PetitionRow, IsGood, state_of, present, no_schema, tables_with, Leaves, HasNoTables, no_tables, CellChanges, IsChanges, AreChanges, ShowsObject, ShowsProp, ShowsSlot, ShowsVerb, ShowsPetition, ShowsOrNone, ShowsMaps, ShowsRows, PrintsAll, Trees, all_of, all_changes, KeepsRows, LeavesState}, specs.NewTables.{LeavesAsMade, RestsAsMade}, proofs.AllRows.{all_changed}, proofs.Moments.{IsSettled}, proofs.OpenLemmas.{survives_more}, proofs.Shown.{shows-written}}
 use Rattle.moo_tables.{specs.Migrated.{HasNoSlot}, specs.Transaction.{SurvivesMaking}}
-use Rattle.moo_tables_rows.proofs.InsideLemmas.{left_by}
 use Rattle.sqlite.{specs.State.{State as Database, Survives}, specs.Effect.{Database as Content}}
 use Rattle.moo_rows.{specs.declared.row.PropRow.{PropRow}, specs.declared.row.VerbRow.{VerbRow}}
 
@@ -44,26 +43,6 @@ shows_all cells m p = shows-written None cells (all_changes m) no_maps m no_tabl
 pub keeps_all : (store : Database) (m : Maps) → RestsAsMade store m → KeepsRows store m
 keeps_all store m it = record { tables = tables_with it.cells no_tables; rests = it.rests; current = refl; shows = shows_all it.cells m it.prints }
 
--- and so does what a crash leaves of them
-pub leaves_all : (trees : Trees) (m : Maps) → LeavesAsMade trees m → LeavesState trees (state_of m)
-leaves_all trees m it = record { rows = m; good = it.good; state = refl; leaves = record { tables = tables_with it.cells no_tables; leaves = it.leaves; shows = shows_all it.cells m it.prints } }
-
--- which are those at rest
-pub left_all : (store : Database) (m : Maps) → IsSettled store → IsGood m → RestsAsMade store m → (trees : Trees) → store.may_leave trees → LeavesAsMade trees m
-left_all store m settled good it trees left =
-    let is = settled trees it.rests.is_open left in
-    record {
-      good = good;
-      cells = it.cells;
-      prints = it.prints;
-      leaves = left_by store (tables_with it.cells no_tables) trees it.rests is;
-      empty = subst HasNoSlot (sym (is ∙ sym (ap (λ (db : Content). db.trees) it.rests.committed))) it.empty;
-    }
-
 pub survives_all : (old new : Database) (cells : CellChanges) (m : Maps) → PrintsAll cells m → IsGood m → SurvivesMaking cells old new → Survives old new (λ trees. LeavesAsMade trees m)
 survives_all old new cells m p good survives = survives_more old new (λ trees. Leaves trees (tables_with cells no_tables) × HasNoSlot trees) (λ trees. LeavesAsMade trees m)
     (λ clean trees lies. record { good = good; cells = cells; prints = p; leaves = lies.0; empty = lies.1 }) survives
-
--- so it is of their state
-pub survives_state : (old new : Database) (m : Maps) → Survives old new (λ trees. LeavesAsMade trees m) → Survives old new (λ trees. LeavesState trees (state_of m))
-survives_state old new m survives = survives_more old new (λ trees. LeavesAsMade trees m) (λ trees. LeavesState trees (state_of m)) (λ clean trees made. leaves_all trees m made) survives

@@ -77,5 +77,5 @@ BecomesPresent m now = (now.rows ≡ m.rows) × IfSome m.cells (λ c. (d : AllCe
     × BecomesCurrent c.tables d.tables × (d.unread ≡ unread_kept c.tables.version c.unread))
 
 -- the same moment; or, if it was of an earlier version, one of the same rows to which it was migrated
-abbrev pub IsSpared : Moment → Moment → Type 0
-IsSpared m end = (end ≡ m) ⊎ (IfSome m.cells (λ c. IsEarlier c.tables.version) × (end.rows ≡ m.rows))
+abbrev pub IsSparedMoment : Moment → Moment → Type 0
+IsSparedMoment m end = (end ≡ m) ⊎ (IfSome m.cells (λ c. IsEarlier c.tables.version) × (end.rows ≡ m.rows))

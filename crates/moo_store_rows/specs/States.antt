@@ -22,13 +22,6 @@ pub record LeavesRows (trees : Trees) (rows : Maps) : Type 0 where
   pub leaves : Leaves trees tables
   pub shows : ShowsRows tables rows
 
--- the tables, of the present version, show good rows of this state
-pub record KeepsState (store : Database) (s : State) : Type 0 where
-  pub rows : Maps
-  pub good : IsGood rows
-  pub state : state_of rows ≡ s
-  pub keeps : KeepsRows store rows
-
 -- so do tables of any version
 pub record ShowsState (store : Database) (s : State) : Type 0 where
   pub tables : Tables
