@@ -33,8 +33,8 @@ pub fn load_from<T: Start, H: WorldFiles<T>>(
     requires good { IsGood rows.maps }
     requires limit { rows.maps.head.seq < 2 ^ 63 }
     // The world of these rows is made only in files that have room for it: nothing, half a first page, or a database without any table.
-    // It has the very rows, with their numbers, and a crash leaves it. Else the store failed, and the files hold what they held, or that
-    // world, whole.
+    // It has the very rows, with their numbers, each in its printed cells, and no other row is in any table; a crash leaves these. Else the
+    // store failed, and the files hold what they held, or that world, whole, in the same cells.
     ensures makes { Makes rows.maps (image_at T.Start) result }
     // If they couldn't be opened, the host said so.
     ensures refusing { IfErr result (λ e. IfNotOpened e.1 ((error : Refusal) × H.refuses host.now path.now error)) }
