@@ -6,17 +6,17 @@ use Rattle.sqlite.specs.declared.error.ErrorCode.TheVariants.{NameTaken}
 use Rattle.sqlite.specs.State.{State as Database, HasCleanDisk, Survives}
 use Rattle.sqlite.specs.Held.{Held, state}
 use Rattle.sqlite.specs.Store.{Ghosts}
-use Rattle.sqlite.specs.Tree.{Trees}
 use Rattle.moo_rows.specs.Maps.{Maps}
-use Rattle.moo_world.specs.Judge.{state_of}
 use Rattle.moo_tables_rows.specs.Tables.{no_schema}
 use Rattle.moo_tables_rows.specs.Inside.{RestsAt}
 use Rattle.moo_tables_rows.specs.Cause.{StopsChange}
 use Rattle.moo_store.specs.Kept.{World}
 use Rattle.moo_store.specs.Opening.{Adoption}
-use Rattle.moo_store_rows.specs.NewTables.{LeavesAsMade, RestsAsMade}
-use Rattle.moo_store_rows.specs.States.{LeavesState}
-use Rattle.moo_store.specs.World.{store_of, StandsFor}
+use Rattle.moo_store_rows.specs.Moment.{Moment, rows_alone}
+use Rattle.moo_store_rows.specs.Place.{Works}
+use Rattle.moo_store_rows.specs.NewTables.{LeavesAsMade, IsMadeOf}
+use Rattle.moo_store.specs.Moves.{Stands}
+use Rattle.moo_store.specs.World.{store_of}
 use Rattle.moo_store_rows.specs.declared.fault.StoreFault.{StoreFault}
 use Rattle.moo_store_rows.specs.declared.fault.StoreFault.TheVariants.{Store, OutOfMemory}
 
@@ -24,24 +24,18 @@ use Rattle.moo_store_rows.specs.declared.fault.StoreFault.TheVariants.{Store, Ou
 abbrev pub name_taken : StoreFault
 name_taken = Store (SqliteFailure NameTaken)
 
--- a crash leaves what it could leave before, or the state of these rows
-abbrev pub SurvivesOr : Maps → Database → Database → Type 0
-SurvivesOr rows old new = Survives old new (λ trees. LeavesState trees (state_of rows))
-
--- or these rows, each in its printed cells
+-- a crash leaves what it could leave before, or these rows, each in its printed cells
 abbrev pub SurvivesAsMade : Maps → Database → Database → Type 0
 SurvivesAsMade rows old new = Survives old new (λ trees. LeavesAsMade trees rows)
 
 module _ {S : Type 0} (g : Ghosts S) where
-  -- The tables of these rows were made in a database that had none. The World over them has the very rows, with their numbers. Each row is
-  -- in its printed cells, and no other row is there, in any table; so it is of what a crash leaves.
+  -- The tables of these rows were made in a database that had none, and the World over them works at the moment of these very rows, with
+  -- their numbers, each in its printed cells. A crash leaves what it could leave before, or that.
   pub record IsLoaded (rows : Maps) (conn : Held S) (world : World S) : Type 0 where
     pub empty : ¬ ((state g conn).now.schema ≢ no_schema)
-    pub stands : StandsFor g true world (state_of rows)
-    pub same : world.rows.maps ≡ rows
-    pub rests : HasCleanDisk (store_of g world) → RestsAsMade (store_of g world) rows
-    pub left : HasCleanDisk (store_of g world) → (trees : Trees) → (store_of g world).may_leave trees → LeavesAsMade trees rows
-    pub crash : SurvivesOr rows (state g conn) (store_of g world)
+    pub unseen : Stands g world (Works (rows_alone rows))
+    pub seen : HasCleanDisk (store_of g world) → (m : Moment) × IsMadeOf rows m × Stands g world (Works m)
+    pub crash : SurvivesAsMade rows (state g conn) (store_of g world)
 
   -- They weren't made. A database that has tables is refused, and comes back as it is; so it does if memory runs out. Otherwise the
   -- store failed, for a cause of any change: its tables are those before, and a crash may leave those of the rows.
@@ -52,8 +46,7 @@ module _ {S : Type 0} (g : Ghosts S) where
     pub outside : (state g last).in_transaction ≡ false
     pub undone : (last ≡ conn)
         ⊎ (HasCleanDisk (state g last) → IsTrue (state g last).is_open → RestsAt (state g last) (state g conn).committed)
-    pub crash : (last ≡ conn) ⊎ SurvivesOr rows (state g conn) (state g last)
-    pub cells : (last ≡ conn) ⊎ SurvivesAsMade rows (state g conn) (state g last)
+    pub crash : (last ≡ conn) ⊎ SurvivesAsMade rows (state g conn) (state g last)
 
   abbrev pub Loads : Maps → Held S → Adoption S → Type 0
   Loads rows conn (Ok world) = IsLoaded rows conn world

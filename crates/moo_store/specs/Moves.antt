@@ -6,16 +6,17 @@ use Rattle.sqlite.specs.declared.error.Error.{Error}
 use Rattle.moo_world.specs.declared.call.Batch.{Batch}
 use Rattle.moo_world.specs.Rows.{IsGood}
 use Rattle.moo_world.specs.Judge as model
-use Rattle.moo_world.specs.Judge.{judge}
+use Rattle.moo_world.specs.Judge.{State, judge}
 use Rattle.moo_text.specs.declared.reply.Answer.{Answer}
 use Rattle.moo_text.specs.declared.reply.Answer.TheVariants as answer
+use Rattle.moo_text.specs.declared.reply.Reply.{Reply}
 use Rattle.moo_text.specs.declared.reply.Reply.TheVariants.{NoMemory}
 use Rattle.moo_store_rows.specs.Moment.{Moment, state_of_moment, LeadsBy, HasAtRest}
 use Rattle.moo_store_rows.specs.Place.{Place, Works, Failed, Between, moment_of, has_failed, MayBeLeft, CrashLeavesAt, IsOpenAt}
 use Rattle.moo_store_rows.specs.Stopped.{IsStopped}
 use Rattle.moo_store_rows.specs.declared.fault.StoreFault.{StoreFault}
 use Rattle.moo_store_rows.specs.declared.fault.StoreFault.TheVariants.{Store, Closed}
-use Rattle.moo_store.specs.Answered.{reply_of, IsRun}
+use Rattle.moo_store.specs.Answered.{reply_of, answer_of, IsRun}
 use Rattle.moo_store.specs.Kept.{World}
 use Rattle.moo_store.specs.World.{store_of}
 
@@ -34,6 +35,10 @@ pub record MovesBy {S : Type 0} (g : Ghosts S) (old new : World S) (Way : Place 
   pub clean : HasCleanDisk (store_of g new) → HasCleanDisk (store_of g old)
   pub closed : IsTrue old.failed → new ≡ old
   pub goes : (from : Place) → Stands g old from → (to : Place) × Stands g new to × Way from to
+
+-- the state of the last moment that was reached
+abbrev pub state_at : Place → State
+state_at place = state_of_moment (moment_of place)
 
 -- ---- one batch
 
@@ -55,6 +60,15 @@ RunsAt (Works m) batch (answer.Replied reply) to =
 RunsAt (Works m) batch answer.Fault to = StopsStore m batch (judge (state_of_moment m) batch) to
 RunsAt (Works m) batch a to = ⊥
 RunsAt place batch a to = (a ≡ answer.Closed) × (to ≡ place)
+
+-- Asked at a state, a batch is answered as it is judged, with the present number; or NoMemory, if its calls are run.
+abbrev pub MayReplyAsked : State → Batch → Reply → Type 0
+MayReplyAsked s batch reply = ((reply ≡ NoMemory) × IsRun s batch) ⊎ (reply ≡ answer_of s (judge s batch))
+
+-- asked, a World that works replies so, and stays where it is
+abbrev pub AsksAt : Place → Batch → Answer → Place → Type 0
+AsksAt (Works m) batch a to = ((reply : Reply) × (a ≡ answer.Replied reply) × MayReplyAsked (state_of_moment m) batch reply) × (to ≡ Works m)
+AsksAt place batch a to = (a ≡ answer.Closed) × (to ≡ place)
 
 -- Why a batch meets a fault: the World had failed; or its store failed, and if its cells are known, this is why.
 abbrev pub FailsRun : {S : Type 0} → Ghosts S → World S → World S → StoreFault → Type 0

@@ -1,50 +1,38 @@
 -- What opening the world of a store may answer.
-use Rattle.std.specs.Prelude.{◌≡◌, true, false, Result, Ok, Err, IfOk, IfErr}
+use Rattle.std.specs.Prelude.{◌≡◌, Some, Result, Ok, Err}
 use Rattle.sqlite.specs.State.{State as Database, HasCleanDisk, Survives}
 use Rattle.sqlite.specs.Held.{Held, state}
 use Rattle.sqlite.specs.Store.{Ghosts}
-use Rattle.moo_world.specs.Judge.{State, state_of}
-use Rattle.moo_world.specs.Rows.{IsGood}
 use Rattle.moo_tables_rows.specs.Tables.{Tables}
 use Rattle.moo_tables_rows.specs.Inside.{Rests}
 use Rattle.moo_cells.specs.Shows.{ShowsRows}
-use Rattle.moo_store_rows.specs.States.{ShowsState}
-use Rattle.moo_store_rows.specs.Opening.{IsOfStore, Adopts, HasOthers, IsUnadopted}
-use Rattle.moo_store_rows.specs.Current.{RestsCurrent}
-use Rattle.moo_store.specs.Kept.{World}
-use Rattle.moo_store.specs.World.{store_of, StandsFor}
+use Rattle.moo_store_rows.specs.Current.{unread_of}
+use Rattle.moo_store_rows.specs.Moment.{Moment, rows_alone, BecomesPresent}
+use Rattle.moo_store_rows.specs.Place.{Works}
+use Rattle.moo_store_rows.specs.Opening.{Adopts, HasOthers, IsUnadopted}
 use Rattle.moo_store_rows.specs.declared.fault.StoreFault.{StoreFault}
+use Rattle.moo_store.specs.Kept.{World}
+use Rattle.moo_store.specs.Moves.{Stands}
+use Rattle.moo_store.specs.World.{store_of}
 
 -- what opening a World over a connection answers, or making one
 abbrev pub Adoption : Type 0 → Type 0
 Adoption S = Result (World S) (StoreFault × Held S)
 
+-- these tables rest in the store, and show just this moment
+pub record RestsAtMoment (store : Database) (tables : Tables) (m : Moment) : Type 0 where
+  pub rests : Rests store tables
+  pub shows : ShowsRows tables m.rows
+  pub are : m.cells ≡ Some (record { tables = tables; unread = unread_of store.now.trees })
+
 module _ {S : Type 0} (g : Ghosts S) where
-  -- if the tables show a state, a World that is opened stands for it
-  abbrev pub OpensState : Database → Adoption S → Type 0
-  OpensState store r = (s : State) → ShowsState store s → IfOk r (λ world. HasCleanDisk (store_of g world) → StandsFor g true world s)
-
-  -- and if none is opened, the store failed or memory ran out
-  abbrev pub RefusesState : Database → Adoption S → Type 0
-  RefusesState store r = (s : State) → ShowsState store s → IfErr r (λ e. HasCleanDisk (state g e.1) → IsOfStore e.0)
-
-  -- the rows of a World that is opened are good, and those that the tables show
-  abbrev pub OpensShown : Database → Adoption S → Type 0
-  OpensShown store r = IfOk r (λ world. HasCleanDisk (store_of g world) → (tables : Tables) → Rests store tables →
-      ShowsRows tables world.rows.maps × IsGood world.rows.maps)
-
-  -- A World was opened over the tables of this connection: they are ours. It works, its rows are good, and what is said of rows alone is
-  -- said of them. It stands for the state that the tables show, and has their rows. They rest in it, each cell, or those that they were
-  -- migrated to, and the table that isn't read has its rows, or none after a migration; a crash leaves what it could leave before, or these.
+  -- A World was opened over the tables of this connection, which are ours: it works at a moment of their good rows. If their cells are
+  -- known, it is at the moment that they show, brought to the present version. A crash leaves what it could leave before, or that.
   pub record IsAdopted (conn : Database) (world : World S) : Type 0 where
-    pub works : world.failed ≡ false
-    pub good : IsGood world.rows.maps
-    pub stands : StandsFor g false world (state_of world.rows.maps)
     pub ours : ¬ HasOthers conn
-    pub state : (s : State) → ShowsState conn s → HasCleanDisk (store_of g world) → StandsFor g true world s
-    pub shown : (tables : Tables) → Rests conn tables → HasCleanDisk (store_of g world) → ShowsRows tables world.rows.maps
-    pub rests : (tables : Tables) → Rests conn tables → HasCleanDisk (store_of g world) →
-        RestsCurrent (store_of g world) conn.now.trees tables world.rows.maps
+    pub unseen : Stands g world (Works (rows_alone world.rows.maps))
+    pub seen : (tables : Tables) → Rests conn tables → HasCleanDisk (store_of g world) →
+        (m now : Moment) × RestsAtMoment conn tables m × BecomesPresent m now × Stands g world (Works now)
     pub crash : Survives conn (store_of g world) (Adopts conn)
 
   -- what opening the world that the tables of a connection show answers

@@ -1,21 +1,17 @@
 -- How the answering of a text ends at the first answer that isn't `accepted`.
-use Rattle.std.specs.Prelude.{◌&&◌, not, ◌≡◌, ◌≤◌, ℕ, Bool, true, false, IsTrue, List, [], ◌∷◌, ◌++◌, length, Option, if◌then◌else◌}
+use Rattle.std.specs.Prelude.{◌&&◌, not, ◌≡◌, ◌≤◌, ℕ, Bool, true, false, IsTrue, List, [], ◌∷◌, ◌++◌, length, Option, Result, Ok, Err, if◌then◌else◌}
 use Rattle.std.specs.List.{AllByRecursion, count_by}
 use Rattle.std.specs.Io.KnownBytes.{Appends}
-use Rattle.sqlite.specs.State.{HasCleanDisk}
-use Rattle.sqlite.specs.Store.{Ghosts}
 use Rattle.moo_world.specs.declared.call.Batch.{Batch}
 use Rattle.moo_text.specs.Items.{items}
 use Rattle.moo_text.specs.declared.next.Next.{Next}
 use Rattle.moo_text.specs.declared.reply.Answer.{Answer}
 use Rattle.moo_text.specs.declared.reply.Answer.TheVariants as answer
 use Rattle.moo_text.specs.declared.reply.Reply.TheVariants.{Accepted, Refused, Full, Stale, NoMemory}
-use Rattle.moo_store.specs.Kept.{World}
-use Rattle.moo_store.specs.World.{store_of, CrashLeaves, StandsAt}
-use Rattle.moo_store.specs.Stand.{Stand, RunsBatch}
+use Rattle.moo_store.specs.declared.course.Course.{Course}
+use Rattle.moo_store.specs.declared.tally.Tally.{Tally}
 use Rattle.moo_text.specs.declared.fault.TextFault.{TextFault}
 use Rattle.moo_store.specs.Turns.{Turns, Completes, Halts, answers_text, is_batch, is_lost_answer, GivesFrontOrAll}
-use Rattle.moo_store.specs.Text.{accepted, faulted, KeepsRest, KeepsLed, KeepsLeft}
 
 abbrev pub says_accepted : Answer → Bool
 says_accepted (answer.Replied (Accepted seq answers)) = true
@@ -79,17 +75,19 @@ pub record EndsEarly {A : Type 0} (step : A → Batch → Answer → A → Type 
   pub batches_are : batches ≡ count_by is_batch answers
   pub lost_are : lost ≡ count_by is_lost_answer answers
 
--- The text was run up to the first answer that isn't `accepted`.
-pub record AppliesFirst {S : Type 0} (g : Ghosts S) (known : Bool) (old : Stand) (text before behind : Option (List ℕ))
-    (was world : World S) (batches lost : ℕ) : Type 0 where
-  pub new : Stand
-  pub stands : StandsAt g known world new
-  pub early : EndsEarly RunsBatch old new text before behind batches lost
-  pub crash : IsTrue known → HasCleanDisk (store_of g world) → CrashLeaves (store_of g world) new
-  pub clean : HasCleanDisk (store_of g world) → HasCleanDisk (store_of g was)
-  -- in the tables, each acknowledged batch keeps the cells of the rows that it leaves as they are
-  pub cells : IsTrue known → KeepsRest g was world (accepted early.done early.answers)
-  -- a crash leaves rows that the acknowledged batches lead to, with all numbers kept, or these and the batch in which the store failed
-  pub led : IsTrue known → KeepsLed g was world (accepted early.done early.answers) (faulted early.done early.answers)
-  -- and tables with the cells kept of all that these batches leave as it is
-  pub left : IsTrue known → KeepsLeft g was world (accepted early.done early.answers) (faulted early.done early.answers)
+-- It is answered to its end. Or up to and with the first answer that isn't `accepted`, if it is to stop there.
+abbrev pub EndsAs : {A : Type 0} → (A → Batch → Answer → A → Type 0) → Bool → A → A → (text before behind : Option (List ℕ)) → Course → Type 0
+EndsAs step stop old new text before behind course = if course.stopped
+    then (stop ≡ true) × EndsEarly step old new text before behind course.tally.batches course.tally.lost
+    else CompletesUntil step stop old new text before behind course.tally.batches course.tally.lost
+
+-- What comes of a text of batches, by the result of answering it.
+abbrev pub AnswersBy : {A : Type 0} → (A → Batch → Answer → A → Type 0) → Bool → A → A → (text before behind : Option (List ℕ))
+    → Result Course TextFault → Type 0
+AnswersBy step stop old new text before behind (Ok course) = EndsAs step stop old new text before behind course
+AnswersBy step stop old new text before behind (Err fault) = HaltsUntil step stop old new text before behind fault
+
+-- the result of a text that was not to stop
+abbrev pub to_the_end : Result Tally TextFault → Result Course TextFault
+to_the_end (Ok tally) = Ok (record { tally = tally; stopped = false })
+to_the_end (Err fault) = Err fault

@@ -1,13 +1,13 @@
 //! Answering the items of a text in turn.
 
-ghost use Rattle.std.specs.Prelude.{◌≡◌, ◌≢◌, ◌⊎◌, ℕ, true, false, take, IfOk, IfErr, IfSome, IfNone};
+ghost use Rattle.std.specs.Prelude.{◌≡◌, ◌≢◌, ◌⊎◌, ℕ, take, IfOk, IfErr, IfSome, IfNone};
 ghost use Rattle.std.specs.Io.KnownBytes.{Appends};
 ghost use Rattle.moo_world.specs.declared.call.Batch.{Batch};
 ghost use Rattle.moo_text.specs.declared.reply.Answer.{Answer};
 ghost use Rattle.moo_text.specs.Replies.{answer_text};
 ghost use Rattle.moo_store.specs.Text.{answer_to};
-ghost use Rattle.moo_store.specs.Turns.{Turn, Completes, Halts};
-ghost use Rattle.moo_store.specs.Stopping.{CompletesUntil, HaltsUntil, EndsEarly};
+ghost use Rattle.moo_store.specs.Turns.{Turn};
+ghost use Rattle.moo_store.specs.Stopping.{AnswersBy};
 
 use crate::course::{Course, stops_after};
 use crate::tally::Tally;
@@ -96,14 +96,7 @@ pub(crate) fn answer_until<R: Read + Drop, W: Write, A: Answering, N: Notes + Wi
     stop: bool,
     notes: &mut N,
 ) -> Result<Course, TextFault>
-    ensures completes { IfOk result (λ course. course.stopped ≡ false →
-        CompletesUntil A.answered stop answering.old answering.new (R.remaining reader) (W.contents writer.old)
-        (W.contents writer.new) course.tally.batches course.tally.lost) }
-    ensures early { IfOk result (λ course. course.stopped ≡ true → (stop ≡ true)
-        × EndsEarly A.answered answering.old answering.new (R.remaining reader) (W.contents writer.old)
-        (W.contents writer.new) course.tally.batches course.tally.lost) }
-    ensures halts { IfErr result (λ fault. HaltsUntil A.answered stop answering.old answering.new (R.remaining reader)
-        (W.contents writer.old) (W.contents writer.new) fault) }
+    ensures { AnswersBy A.answered stop answering.old answering.new (R.remaining reader) (W.contents writer.old) (W.contents writer.new) result }
 {
     let mut feed = Feed::new(answering.allocator(), reader);
     let mut tally = Tally::new();
@@ -129,23 +122,5 @@ pub(crate) fn answer_until<R: Read + Drop, W: Write, A: Answering, N: Notes + Wi
                 stopped: true,
             });
         }
-    }
-}
-
-/// Answers each item of a text to its end, and writes its answer before the next item is read. Then the notes are told of it.
-pub(crate) fn answer_all<R: Read + Drop, W: Write, A: Answering, N: Notes + Witness>(
-    reader: R,
-    writer: &mut W,
-    answering: &mut A,
-    notes: &mut N,
-) -> Result<Tally, TextFault>
-    ensures completes { IfOk result (λ tally. Completes A.answered answering.old answering.new (R.remaining reader) (W.contents writer.old)
-        (W.contents writer.new) tally.batches tally.lost) }
-    ensures halts { IfErr result (λ fault. Halts A.answered answering.old answering.new (R.remaining reader) (W.contents writer.old)
-        (W.contents writer.new) fault) }
-{
-    match answer_until(reader, writer, answering, false, notes) {
-        Ok(course) => Ok(course.tally),
-        Err(fault) => Err(fault),
     }
 }

@@ -1,10 +1,7 @@
 //! Running a text of batches.
 
-ghost use Rattle.std.specs.Prelude.{◌≡◌, Bool, true, false, IfOk, IfErr};
-ghost use Rattle.moo_store.specs.Stand.{Stand};
-ghost use Rattle.moo_store.specs.World.{StandsAt};
-ghost use Rattle.moo_store.specs.Text.{RunsAndAnswers, Applies, StopsRun};
-ghost use Rattle.moo_store.specs.Stopping.{AreAccepted, AppliesFirst};
+ghost use Rattle.moo_store.specs.Moves.{MovesBy, RunsAt};
+ghost use Rattle.moo_store.specs.Stopping.{AnswersBy};
 
 use crate::answering::{Answering, answer_until, answered_by};
 use crate::course::Course;
@@ -17,14 +14,13 @@ use std::alloc::Global;
 use std::io::{Read, Write};
 
 impl<S: Alter + Drop> Answering for World<S> {
-    ghost answered = { RunsAndAnswers S.Store };
+    ghost answered = { λ old batch a new. MovesBy S.Store old new (λ from to. RunsAt from batch a to) };
 
     fn allocator(&self) -> Global {
         self.alloc
     }
 
     fn answer<N: Witness>(&mut self, batch: &Batch, witness: &mut N) -> Answer {
-        self.has_good_rows();
         answered_by(self.run_one(batch, witness))
     }
 }
@@ -46,24 +42,10 @@ pub fn apply_until<R: Read + Drop, W: Write, S: Alter + Drop, N: Notes + Witness
     stop: bool,
     notes: &mut N,
 ) -> Result<Course, TextFault>
-    // It came to the end of the text; if it was to stop, each answer is `accepted`.
-    ensures applies { IfOk result (λ course. course.stopped ≡ false →
-        (known : Bool) (stand : Stand) → StandsAt S.Store known world.old stand →
-        (run : Applies S.Store known stand (R.remaining reader) (W.contents writer.old)
-        (W.contents writer.new) world.old world.new course.tally.batches course.tally.lost)
-        × (stop ≡ true → AreAccepted run.completes.answers)) }
-
-    // Or it stopped: the answers up to and with the first that isn't `accepted` are written, and nothing else.
-    ensures early { IfOk result (λ course. course.stopped ≡ true → (stop ≡ true)
-        × ((known : Bool) (stand : Stand) → StandsAt S.Store known world.old stand →
-        AppliesFirst S.Store known stand (R.remaining reader) (W.contents writer.old)
-        (W.contents writer.new) world.old world.new course.tally.batches course.tally.lost)) }
-
-    // At a fault the answers of the items that are done are written, and the beginning of the next one.
-    ensures stops { IfErr result (λ fault. (known : Bool) (stand : Stand) → StandsAt S.Store known world.old stand →
-        (run : StopsRun S.Store known stand (R.remaining reader) (W.contents writer.old) (W.contents writer.new) world.old world.new fault)
-        × (stop ≡ true → AreAccepted run.halts.answers)) }
+    // Each item of the text has its turn, up to its end or, if it is to stop, to the first answer that isn't `accepted`; and its answer is
+    // written, and nothing else. At a fault the answers of the items that are done are written, and the beginning of the next one.
+    ensures { MovesBy S.Store world.old world.new (λ from to.
+        AnswersBy RunsAt stop from to (R.remaining reader) (W.contents writer.old) (W.contents writer.new) result) }
 {
-    world.has_good_rows();
     answer_until(reader, writer, world, stop, notes)
 }

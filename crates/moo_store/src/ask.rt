@@ -1,11 +1,11 @@
 //! Asking a text of batches, which changes nothing.
 
-ghost use Rattle.std.specs.Prelude.{◌≡◌, Bool, IfOk, IfErr};
-ghost use Rattle.moo_store.specs.Stand.{Stand, AsksBatch};
-ghost use Rattle.moo_store.specs.Turns.{Completes, Halts};
-ghost use Rattle.moo_store.specs.World.{StandsAt};
+ghost use Rattle.std.specs.Prelude.{◌≡◌, false};
+ghost use Rattle.moo_store_rows.specs.Place.{Place};
+ghost use Rattle.moo_store.specs.Moves.{Stands, AsksAt};
+ghost use Rattle.moo_store.specs.Stopping.{AnswersBy, to_the_end};
 
-use crate::answering::{Answering, answer_all, answered_by};
+use crate::answering::{Answering, answer_until, answered_by};
 use crate::tally::Tally;
 use crate::world::World;
 use moo_batch::Witness;
@@ -23,7 +23,7 @@ struct Questions<'a, S: Alter> {
 
 impl<'a, S: Alter + Drop> Answering for Questions<'a, S> {
     ghost answered = { λ old batch a new. (new ≡ old)
-        × ((known : Bool) (stand : Stand) → StandsAt S.Store known old.world.now stand → AsksBatch stand batch a stand) };
+        × ((place : Place) → Stands S.Store old.world.now place → AsksAt place batch a place) };
 
     fn allocator(&self) -> Global {
         self.world.allocator()
@@ -42,13 +42,12 @@ pub fn ask_text<R: Read + Drop, W: Write, S: Alter + Drop, N: Notes + Witness>(
     world: &World<S>,
     notes: &mut N,
 ) -> Result<Tally, TextFault>
-    // The answers of all items of the text that the reader gave are written, and nothing else.
-    ensures asks { IfOk result (λ tally. (known : Bool) (stand : Stand) → StandsAt S.Store known world.now stand →
-        Completes AsksBatch stand stand (R.remaining reader) (W.contents writer.old) (W.contents writer.new) tally.batches tally.lost) }
-
-    // At a fault those of the items that are done are written, and the beginning of the next one.
-    ensures stops { IfErr result (λ fault. (known : Bool) (stand : Stand) → StandsAt S.Store known world.now stand →
-        Halts AsksBatch stand stand (R.remaining reader) (W.contents writer.old) (W.contents writer.new) fault) }
+    // Wherever the World is, each item of the text has its turn there, and its answer is written, and nothing else; or a fault comes.
+    ensures { (place : Place) → Stands S.Store world.now place →
+        AnswersBy AsksAt false place place (R.remaining reader) (W.contents writer.old) (W.contents writer.new) (to_the_end result) }
 {
-    answer_all(reader, writer, &mut Questions { world }, notes)
+    match answer_until(reader, writer, &mut Questions { world }, false, notes) {
+        Ok(course) => Ok(course.tally),
+        Err(fault) => Err(fault),
+    }
 }

@@ -1,11 +1,10 @@
 //! Whether the tables of a World still show its rows.
 
-ghost use Rattle.std.specs.Prelude.{◌≡◌, ◌≢◌, IfErr, IsErrOf, IsTrue, false, Bool};
-ghost use Rattle.sqlite.specs.State.{HasCleanDisk};
-ghost use Rattle.moo_tables.specs.ReadCause.{StopsQuery};
-ghost use Rattle.moo_store_rows.specs.Opening.{StopsBy};
+ghost use Rattle.std.specs.Prelude.{◌≡◌};
 ghost use Rattle.moo_store_rows.specs.Checked.{KeepsTables, Checks};
-ghost use Rattle.moo_store.specs.World.{store_of, StandsFor, FailsWorld};
+ghost use Rattle.moo_store.specs.Moves.{MovesBy};
+ghost use Rattle.moo_store.specs.Runs.{LeavesChecked, fails_by};
+ghost use Rattle.moo_store.specs.World.{store_of};
 
 use crate::world::World;
 use moo_store_rows::{StoreFault, check_rows};
@@ -13,7 +12,7 @@ use sqlite::Alter;
 
 /// Whether a World has failed by such a check: by every fault but out of memory.
 fn has_failed(checked: &Result<u64, StoreFault>) -> bool
-    ensures { FailsWorld checked.now result }
+    ensures { result ≡ fails_by checked.now }
 {
     match checked {
         Ok(_) | Err(StoreFault::OutOfMemory) => false,
@@ -31,20 +30,10 @@ impl<S: Alter + Drop> World<S> {
         // Ok only if the tables show the World's own rows. A damage is told only if the tables have it, or if they show other rows than
         // these. A fault of the store has a cause.
         ensures checks { Checks self.old.rows.maps (store_of S.Store self.old) (store_of S.Store self.new) result }
-        // Every fault but out of memory fails the World, and none is Closed.
-        ensures fails { self.old.failed ≡ false → FailsWorld result self.new.failed × IfErr result (λ fault. fault ≢ StoreFault.Closed) }
-        // A failed World changes no more.
-        ensures closed { IsTrue self.old.failed → IsErrOf result StoreFault.Closed × (self.new ≡ self.old) }
-        // A World that stands for a state is checked with no damage, unless memory runs out or a query stops, and stands for it as long as
-        // it works.
-        ensures whole { (known : Bool) (s : _) → StandsFor S.Store known self.old s → IsTrue known →
-            HasCleanDisk (store_of S.Store self.new) →
-            IfErr result (StopsBy (StopsQuery (store_of S.Store self.old) (store_of S.Store self.new))) }
-        ensures stands { (known : Bool) (s : _) → StandsFor S.Store known self.old s → self.new.failed ≡ false →
-            HasCleanDisk (store_of S.Store self.new) → StandsFor S.Store known self.new s }
+        // Every fault but out of memory fails the World where it is, and a failed one changes no more.
+        ensures moves { MovesBy S.Store self.old self.new (λ from to. LeavesChecked from result to) }
         // The rows, the tables and what a crash leaves stay as they are.
-        ensures rows { self.new.rows ≡ self.old.rows }
-        ensures keeps { KeepsTables (store_of S.Store self.old) (store_of S.Store self.new) }
+        ensures keeps { (self.new.rows ≡ self.old.rows) × KeepsTables (store_of S.Store self.old) (store_of S.Store self.new) }
     {
         if self.failed {
             return Err(StoreFault::Closed);

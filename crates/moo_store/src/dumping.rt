@@ -1,9 +1,9 @@
 //! Writing all that a World holds.
 
-ghost use Rattle.std.specs.Prelude.{◌≡◌, ◌≢◌, ℕ, take, false, IsTrue, OnOk, OnErr, IfErr, IsErrOf, Bool};
+ghost use Rattle.std.specs.Prelude.{◌≡◌, ◌≢◌, ℕ, take, false, IsTrue, OnOk, IfErr, IsErrOf};
 ghost use Rattle.std.specs.Io.KnownBytes.{Appends};
 ghost use Rattle.moo_dump.specs.Dump.{dump};
-ghost use Rattle.moo_store.specs.World.{StandsFor};
+ghost use Rattle.moo_store.specs.World.{state_in};
 
 use crate::world::World;
 use moo_dump::{RowsDumpFault, dump};
@@ -27,12 +27,11 @@ impl<S: Alter + Drop> World<S> {
     /// Write if the writer fails or takes no bytes, and OutOfMemory: only the beginning of the text is written then. Closed if the
     /// World had failed: nothing is written.
     pub fn dump<W: Write>(&self, output: &mut W) -> Result<(), DumpFault>
-        ensures ok { (known : Bool) (s : _) → StandsFor S.Store known self.now s →
-            OnOk result (Appends (W.contents output.old) (W.contents output.new) (dump s)) }
-        ensures err { (known : Bool) (s : _) → StandsFor S.Store known self.now s →
-            OnErr result ((count : ℕ) × Appends (W.contents output.old) (W.contents output.new) (take count (dump s))) }
+        ensures ok { self.now.failed ≡ false →
+            OnOk result (Appends (W.contents output.old) (W.contents output.new) (dump (state_in self.now))) }
+        ensures err { self.now.failed ≡ false → IfErr result (λ fault. (fault ≢ DumpFault.Closed)
+            × ((count : ℕ) × Appends (W.contents output.old) (W.contents output.new) (take count (dump (state_in self.now))))) }
         ensures closed { IsTrue self.now.failed → IsErrOf result DumpFault.Closed × (output.new ≡ output.old) }
-        ensures open { self.now.failed ≡ false → IfErr result (λ fault. fault ≢ DumpFault.Closed) }
     {
         if self.failed {
             return Err(DumpFault::Closed);

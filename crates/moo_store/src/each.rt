@@ -1,11 +1,11 @@
 //! Asking batches, each of which sees the World as it is at present.
 
-ghost use Rattle.std.specs.Prelude.{◌≡◌, ◌≢◌, false, Bool, IfOk, IfErr, IsErrOf, IsTrue, option_map};
+ghost use Rattle.std.specs.Prelude.{◌≡◌, ◌≢◌, false, IfOk, IsErrOf, IsTrue, MatchResult, option_map};
 ghost use Rattle.moo_batch.specs.Ticks.{NoneComeBack};
 ghost use Rattle.moo_world.specs.Judge.{judge};
 ghost use Rattle.moo_store.specs.Answered.{answer_of, answers_alone};
 ghost use Rattle.moo_store.specs.Seeing.{HasSeenEach, HasSeenPlace, HasSeenReply};
-ghost use Rattle.moo_store.specs.World.{StandsFor};
+ghost use Rattle.moo_store.specs.World.{state_in};
 
 use crate::world::World;
 use moo_batch::Witness;
@@ -31,8 +31,8 @@ fn ask_kept<S: Alter + Drop, N: Witness>(
     batch: &Batch,
     witness: &mut N,
 ) -> Result<Reply, AllocError>
-    ensures reply { (known : Bool) (s : _) → StandsFor S.Store known world.now s →
-        IfOk result (λ reply. reply ≡ answer_of s (judge s batch.now)) }
+    ensures reply { world.now.failed ≡ false →
+        IfOk result (λ reply. reply ≡ answer_of (state_in world.now) (judge (state_in world.now) batch.now)) }
     ensures ticks { NoneComeBack (N.left witness.old) (N.left witness.new) }
     ensures seen { IfOk result (λ reply.
         HasSeenReply N.sees world.now.rows.maps batch.now reply (N.kept witness.old) (N.kept witness.new)) }
@@ -50,8 +50,8 @@ fn ask_alone<S: Alter + Drop, N: Witness>(
     batch: &Option<Batch>,
     witness: &mut N,
 ) -> Result<Option<Reply>, AllocError>
-    ensures reply { (known : Bool) (s : _) → StandsFor S.Store known world.now s →
-        IfOk result (λ reply. reply ≡ option_map (λ batch. answer_of s (judge s batch)) batch.now) }
+    ensures reply { world.now.failed ≡ false →
+        IfOk result (λ reply. reply ≡ option_map (λ batch. answer_of (state_in world.now) (judge (state_in world.now) batch)) batch.now) }
     ensures ticks { NoneComeBack (N.left witness.old) (N.left witness.new) }
     ensures seen { IfOk result (λ reply.
         HasSeenPlace N.sees world.now.rows.maps batch.now reply (N.kept witness.old) (N.kept witness.new)) }
@@ -68,8 +68,7 @@ fn ask_all<S: Alter + Drop, N: Witness>(
     batches: &[Option<Batch>],
     witness: &mut N,
 ) -> Result<Vec<Option<Reply>>, AllocError>
-    ensures replies { (known : Bool) (s : _) → StandsFor S.Store known world.now s →
-        IfOk result (λ replies. replies.items ≡ answers_alone s batches.now) }
+    ensures replies { world.now.failed ≡ false → IfOk result (λ replies. replies.items ≡ answers_alone (state_in world.now) batches.now) }
     ensures ticks { NoneComeBack (N.left witness.old) (N.left witness.new) }
     ensures seen { IfOk result (λ replies.
         HasSeenEach N.sees world.now.rows.maps batches.now replies.items (N.kept witness.old) (N.kept witness.new)) }
@@ -93,9 +92,8 @@ impl<S: Alter + Drop> World<S> {
         batches: &[Option<Batch>],
         witness: &mut N,
     ) -> Result<Vec<Option<Reply>>, StoreFault>
-        ensures replies { (known : Bool) (s : _) → StandsFor S.Store known self.now s →
-            IfOk result (λ replies. replies.items ≡ answers_alone s batches.now) }
-        ensures fault { self.now.failed ≡ false → IfErr result (λ fault. fault ≡ StoreFault.OutOfMemory) }
+        ensures replies { self.now.failed ≡ false → MatchResult result
+            (λ replies. replies.items ≡ answers_alone (state_in self.now) batches.now) (λ fault. fault ≡ StoreFault.OutOfMemory) }
         ensures closed { IsTrue self.now.failed → IsErrOf result StoreFault.Closed }
         ensures ticks { NoneComeBack (N.left witness.old) (N.left witness.new) }
         ensures seen { IfOk result (λ replies.

@@ -1,14 +1,16 @@
 //! What rows answer to a batch, before anything of it is kept.
 
-ghost use Rattle.std.specs.Prelude.{◌≡◌, ◌⊎◌, [], ◌∷◌, IfOk, IfErr};
+ghost use Rattle.std.specs.Prelude.{◌≡◌, [], ◌∷◌, IfOk, IfErr};
 ghost use Rattle.moo_batch.specs.Judge.{IsVerdict};
 ghost use Rattle.moo_batch.specs.Ticks.{NoneComeBack};
 ghost use Rattle.moo_batch.specs.declared.judging.Verdict.TheVariants.{Accepted};
-ghost use Rattle.moo_world.specs.Judge.{judge as verdict, state_of};
+ghost use Rattle.moo_world.specs.Judge.{state_of};
 ghost use Rattle.moo_world.specs.Rows.{IsGood};
-ghost use Rattle.moo_store.specs.Answered.{IsRun, acknowledged, answer_of};
+ghost use Rattle.moo_store.specs.Answered.{acknowledged};
 ghost use Rattle.moo_store.specs.Seeing.{HasSeenReply};
-ghost use Rattle.moo_store.specs.Stand.{Works, RunsBatch};
+ghost use Rattle.moo_store_rows.specs.Moment.{Moment};
+ghost use Rattle.moo_store_rows.specs.Place.{Works};
+ghost use Rattle.moo_store.specs.Moves.{RunsAt, MayReplyAsked};
 
 use moo_batch::{Verdict, Witness, judge};
 use moo_memory::{Changes, Flat};
@@ -27,10 +29,9 @@ pub(crate) fn judged<N: Witness>(
     requires { IsGood rows.now.maps }
     ensures accepted { IfOk result (λ taken. IsVerdict rows.now.maps batch.now (Accepted taken.0 taken.1)) }
     ensures stays { IfErr result (λ reply.
-        RunsBatch (Works (state_of rows.now.maps)) batch.now (Answer.Replied reply) (Works (state_of rows.now.maps))) }
+        (m : Moment) → m.rows ≡ rows.now.maps → RunsAt (Works m) batch.now (Answer.Replied reply) (Works m)) }
     ensures none { IfErr result (λ reply. acknowledged (batch.now ∷ []) (reply ∷ []) ≡ []) }
-    ensures asked { IfErr result (λ reply. ((reply ≡ Reply.NoMemory) × IsRun (state_of rows.now.maps) batch.now)
-        ⊎ (reply ≡ answer_of (state_of rows.now.maps) (verdict (state_of rows.now.maps) batch.now))) }
+    ensures asked { IfErr result (MayReplyAsked (state_of rows.now.maps) batch.now) }
     ensures ticks { NoneComeBack (N.left witness.old) (N.left witness.new) }
     ensures seen { IfErr result (λ reply. HasSeenReply N.sees rows.now.maps batch.now reply (N.kept witness.old) (N.kept witness.new)) }
     ensures unseen { IfOk result (λ _. N.kept witness.new ≡ N.kept witness.old) }

@@ -4,96 +4,49 @@ ghost use Rattle.std.specs.Prelude.{◌≡◌, ◌++◌, false, true, List};
 ghost use Rattle.std.specs.List.{AllByRecursion};
 ghost use Rattle.moo_world.specs.declared.call.Batch.{Batch};
 ghost use Rattle.moo_text.specs.declared.next.Next.{Next};
-ghost use Rattle.moo_text.specs.declared.reply.Reply.{Reply};
 ghost use Rattle.moo_text.specs.declared.reply.Answer.{Answer};
-ghost use Rattle.moo_rows.specs.Maps.{Maps};
-ghost use Rattle.moo_tables_rows.specs.Tables.{Tables};
-ghost use Rattle.moo_world.specs.Judge.{State, after};
+ghost use Rattle.moo_world.specs.Judge.{after};
 ghost use Rattle.moo_world.specs.Numbers.{NumbersStay};
 ghost use Rattle.moo_world.specs.Requests.{PetitionsStay, state_of};
-ghost use Rattle.moo_store.specs.Led.{BatchesLead};
-ghost use Rattle.moo_store.specs.Untouched.{Writes};
-ghost use Rattle.moo_store.specs.Answered.{Answered, acknowledged};
-ghost use Rattle.moo_store.specs.Stand.{Stand, state_at, RunsBatch, AsksBatch};
 ghost use Rattle.moo_store.specs.Text.{accepted, is_plain, replies, answers_asked, batches_of};
 ghost use Rattle.moo_store.specs.Turns.{Turns};
 ghost use Rattle.moo_store.specs.Stopping.{AreAccepted, EndAtFirst, up_to_first};
-ghost use Rattle.moo_store.specs.Rehearsed.{RehearsesBatch};
+ghost use Rattle.moo_store.specs.Rehearsed.{RehearsesAt};
 ghost use Rattle.moo_world.specs.Rows.{IsGood};
 ghost use Rattle.moo_store_rows.specs.Moment.{Moment, state_of_moment, LeadsByEach};
 ghost use Rattle.moo_store_rows.specs.Place.{Place, moment_of};
 ghost use Rattle.moo_store.specs.Kept.{World};
-ghost use Rattle.moo_store.specs.Moves.{Stands, RunsAt};
+ghost use Rattle.moo_store.specs.Moves.{Stands, RunsAt, AsksAt, state_at};
 
 use sqlite::Alter;
 
-/// The state after a run is that after its acknowledged batches.
-pub fn acknowledged_batches_decide()
-    ensures { (s end : State) (batches : List Batch) (answers : List Reply) → Answered s batches answers end →
-        end ≡ after s (acknowledged batches answers) }
-{}
-
-/// Runs that each start from what the one before left join to one list.
-pub fn runs_join()
-    ensures { (s : State) (first second : List Batch) → after s (first ++ second) ≡ after (after s first) second }
-{}
-
-/// In the rows that accepted batches lead to, every property, verb and petition that is kept has its number, and no other one has a
-/// number that was given before.
-pub fn written_batches_keep_numbers()
-    ensures numbers { (rows end : Maps) (tables after : Tables) (batches : List Batch) → Writes rows tables batches end after →
-        NumbersStay rows end }
-    ensures petitions { (rows end : Maps) (tables after : Tables) (batches : List Batch) → Writes rows tables batches end after →
-        PetitionsStay (state_of rows) (state_of end) }
-{}
-
-/// So it is in the rows that are found after a stop. Their state is that after the batches.
-pub fn led_batches_keep_numbers()
-    ensures numbers { (rows end : Maps) (batches : List Batch) → BatchesLead batches rows end → NumbersStay rows end }
-    ensures petitions { (rows end : Maps) (batches : List Batch) → BatchesLead batches rows end →
-        PetitionsStay (state_of rows) (state_of end) }
-    ensures state { (rows end : Maps) (batches : List Batch) → BatchesLead batches rows end → state_of end ≡ after (state_of rows) batches }
-{}
-
-/// Batches that lead on from where others led join to one list.
-pub fn led_batches_join()
-    ensures { (rows mid end : Maps) (first second : List Batch) → BatchesLead first rows mid → BatchesLead second mid end →
-        BatchesLead (first ++ second) rows end }
-{}
-
-/// The state after a text is that after its acknowledged batches.
-pub fn acknowledged_items_decide()
-    ensures { (old new : Stand) (items : List Next) (answers : List Answer) → Turns RunsBatch old items answers new →
-        state_at new ≡ after (state_at old) (accepted items answers) }
-{}
-
 /// If memory doesn't run out and no fault comes, each batch of a text is judged after the accepted ones before it.
 pub fn plain_answers_are_judged()
-    ensures { (old new : Stand) (items : List Next) (answers : List Answer) → Turns RunsBatch old items answers new →
+    ensures { (old new : Place) (items : List Next) (answers : List Answer) → Turns RunsAt old items answers new →
         AllByRecursion (λ answer. is_plain answer ≡ true) answers →
         (answers ≡ replies (state_at old) items) × (state_at new ≡ after (state_at old) (batches_of items)) }
 {}
 
 /// If memory doesn't run out and no fault comes, each batch of a text of questions is judged on the one state.
 pub fn plain_questions_are_judged()
-    ensures { (old new : Stand) (items : List Next) (answers : List Answer) → Turns AsksBatch old items answers new →
+    ensures { (old new : Place) (items : List Next) (answers : List Answer) → Turns AsksAt old items answers new →
         AllByRecursion (λ answer. is_plain answer ≡ true) answers → answers ≡ answers_asked (state_at old) items }
 {}
 
 /// A text that stops at the first answer that isn't `accepted` is answered as the whole text is, up to and with that answer, if memory
 /// doesn't run out and no fault comes. If none is other than `accepted`, it is answered whole.
 pub fn stops_are_fronts()
-    ensures early { (old new : Stand) (done left : List Next) (answers : List Answer) → Turns RunsBatch old done answers new →
+    ensures early { (old new : Place) (done left : List Next) (answers : List Answer) → Turns RunsAt old done answers new →
         AllByRecursion (λ answer. is_plain answer ≡ true) answers → EndAtFirst answers →
         answers ≡ up_to_first (replies (state_at old) (done ++ left)) }
-    ensures whole { (old new : Stand) (items : List Next) (answers : List Answer) → Turns RunsBatch old items answers new →
+    ensures whole { (old new : Place) (items : List Next) (answers : List Answer) → Turns RunsAt old items answers new →
         AreAccepted answers → answers ≡ up_to_first (replies (state_at old) items) }
 {}
 
 /// A rehearsal of a text answers what running the text answers, if memory doesn't run out and no fault comes.
 pub fn rehearsals_tell_runs()
-    ensures { (old told new : Stand) (items : List Next) (rehearsed answers : List Answer) → Turns RehearsesBatch old items rehearsed told →
-        Turns RunsBatch old items answers new →
+    ensures { (first told old new : Place) (items : List Next) (rehearsed answers : List Answer) →
+        (moment_of first).rows ≡ (moment_of old).rows → Turns RehearsesAt first items rehearsed told → Turns RunsAt old items answers new →
         AllByRecursion (λ answer. is_plain answer ≡ true) rehearsed → AllByRecursion (λ answer. is_plain answer ≡ true) answers →
         rehearsed ≡ answers }
 {}

@@ -30,7 +30,7 @@ pub use loading::load_in;
 pub use moo_store_rows::StoreFault;
 pub use quiet::NoNotes;
 pub use rehearsing::rehearse_text;
-pub use reopening::{parts_join, run_and_reopen, run_then_crash_then_adopt};
+pub use reopening::a_crash_is_taken_up;
 pub use surface::apply_text;
 pub use tally::Tally;
 pub use world::World;

@@ -1,11 +1,11 @@
 //! Rehearsing a text of batches: what running it would answer, and nothing is committed.
 
-ghost use Rattle.std.specs.Prelude.{◌≡◌, Bool, true, false, IfOk, IfErr};
-ghost use Rattle.moo_world.specs.Judge.{State};
-ghost use Rattle.moo_store.specs.Stand.{Stand, Works, Failed};
-ghost use Rattle.moo_store.specs.Stopping.{CompletesUntil, HaltsUntil, EndsEarly};
-ghost use Rattle.moo_store.specs.Rehearsed.{RehearsesAt, RehearsesBatch};
-ghost use Rattle.moo_store.specs.World.{StandsFor, StandsAt};
+ghost use Rattle.std.specs.Prelude.{◌≡◌};
+ghost use Rattle.moo_store_rows.specs.Moment.{Moment, rows_alone};
+ghost use Rattle.moo_store_rows.specs.Place.{Place, Works, Failed};
+ghost use Rattle.moo_store.specs.Moves.{Stands};
+ghost use Rattle.moo_store.specs.Stopping.{AnswersBy};
+ghost use Rattle.moo_store.specs.Rehearsed.{IsRehearsedAt, RehearsesAt};
 
 use crate::answering::{Answering, answer_until};
 use crate::course::Course;
@@ -44,21 +44,17 @@ impl Model for Rehearsal {
 }
 
 impl Rehearsal {
-    ghost use Rattle.std.specs.Prelude.{◌≡◌, Bool, true, false};
+    ghost use Rattle.std.specs.Prelude.{◌≡◌, true, false};
     ghost use Rattle.moo_rows.specs.Maps.{Maps};
     ghost use Rattle.moo_memory.specs.Changes.{AreChanges};
     ghost use Rattle.moo_world.specs.Rows.{IsGood};
-    ghost use Rattle.moo_world.specs.Judge.{state_of};
-    ghost use Rattle.moo_store.specs.Stand.{Stand, Works, Failed};
-    ghost use Rattle.moo_store.specs.Rehearsed.{RehearsesAt, RehearsesBatch};
-    ghost use Rattle.moo_store.specs.World.{StandsFor, StandsAt};
+    ghost use Rattle.moo_store_rows.specs.Place.{Place};
+    ghost use Rattle.moo_store.specs.Rehearsed.{IsRehearsedAt, RehearsesAt};
 
     /// Takes the rows out of a World, which has failed then. Nothing is asked of its store.
     fn of<S: Alter + Drop>(world: &mut World<S>) -> Rehearsal
-        ensures at { (known : Bool) (s : _) → StandsFor S.Store known world.old s → RehearsesAt result (Works s) }
-        ensures stands { (known : Bool) (s : _) → StandsFor S.Store known world.old s → StandsAt S.Store known world.new (Failed s) }
-        ensures still { world.new.connection ≡ world.old.connection }
-        ensures failed { world.new.failed ≡ true }
+        ensures rows { (result.rows ≡ world.old.rows) × (result.failed ≡ world.old.failed) }
+        ensures still { (world.new.connection ≡ world.old.connection) × (world.new.failed ≡ true) }
     {
         let failed = world.failed;
         world.failed = true;
@@ -85,8 +81,7 @@ impl Rehearsal {
 
     /// Answers a batch as if it was run.
     fn rehearse<N: Witness>(&mut self, batch: &Batch, witness: &mut N) -> Answer
-        ensures { (stand : Stand) → RehearsesAt self.old stand → (next : Stand) × RehearsesAt self.new next
-            × RehearsesBatch stand batch.now result next }
+        ensures { (from : Place) → IsRehearsedAt self.old from → (to : Place) × IsRehearsedAt self.new to × RehearsesAt from batch.now result to }
     {
         if self.failed {
             return Answer::Closed;
@@ -99,8 +94,7 @@ impl Rehearsal {
 }
 
 impl Answering for Rehearsal {
-    ghost answered = { λ old batch a new. (stand : Stand) → RehearsesAt old stand → (next : Stand) × RehearsesAt new next
-        × RehearsesBatch stand batch a next };
+    ghost answered = { λ old batch a new. (from : Place) → IsRehearsedAt old from → (to : Place) × IsRehearsedAt new to × RehearsesAt from batch a to };
 
     fn allocator(&self) -> Global {
         self.alloc
@@ -123,24 +117,13 @@ pub fn rehearse_text<R: Read + Drop, W: Write, S: Alter + Drop, N: Notes + Witne
     stop: bool,
     notes: &mut N,
 ) -> Result<Course, TextFault>
-    // The answers of all items of the text that the reader gave are written, as if they were run; if it was to stop, each is `accepted`.
-    ensures rehearses { IfOk result (λ course. course.stopped ≡ false → (known : Bool) (s : State) → StandsFor S.Store known world.old s →
-        (end : Stand) × CompletesUntil RehearsesBatch stop (Works s) end (R.remaining reader) (W.contents writer.old)
-        (W.contents writer.new) course.tally.batches course.tally.lost) }
-
-    // Or it stopped: the answers up to and with the first that isn't `accepted` are written, and nothing else.
-    ensures early { IfOk result (λ course. course.stopped ≡ true → (stop ≡ true)
-        × ((known : Bool) (s : State) → StandsFor S.Store known world.old s → (end : Stand)
-        × EndsEarly RehearsesBatch (Works s) end (R.remaining reader) (W.contents writer.old)
-        (W.contents writer.new) course.tally.batches course.tally.lost)) }
-
-    // At a fault the answers of the items that are done are written, and the beginning of the next one.
-    ensures stops { IfErr result (λ fault. (known : Bool) (s : State) → StandsFor S.Store known world.old s → (end : Stand) ×
-        HaltsUntil RehearsesBatch stop (Works s) end (R.remaining reader) (W.contents writer.old) (W.contents writer.new) fault) }
-
+    // The text is answered as if it was run over the rows alone, and its answers are written, and nothing else. The World has failed where
+    // it was.
+    ensures rehearses { (m : Moment) → Stands S.Store world.old (Works m) → Stands S.Store world.new (Failed m)
+        × ((end : Place) × AnswersBy RehearsesAt stop (Works (rows_alone m.rows)) end
+        (R.remaining reader) (W.contents writer.old) (W.contents writer.new) result) }
     // Nothing was asked of the store.
     ensures still { world.new.connection ≡ world.old.connection }
-    ensures stands { (known : Bool) (s : State) → StandsFor S.Store known world.old s → StandsAt S.Store known world.new (Failed s) }
 {
     let mut rehearsal = Rehearsal::of(world);
     answer_until(reader, writer, &mut rehearsal, stop, notes)

@@ -1,14 +1,16 @@
 //! The program doesn't come this way. The project's requirements name these calls. The program runs batch by batch by `run_one`, texts by
 //! `apply_until`, and looks at an object over its rows.
 
-ghost use Rattle.std.specs.Prelude.{◌≡◌, false, Bool, IsTrue, IfOk, IfErr, IsErrOf};
-ghost use Rattle.moo_store.specs.Runs.{RunsBatches};
-ghost use Rattle.moo_store.specs.Stand.{Stand};
-ghost use Rattle.moo_store.specs.World.{StandsFor, StandsAt};
-ghost use Rattle.moo_store.specs.Text.{Applies, StopsRun};
+ghost use Rattle.std.specs.Prelude.{◌≡◌, ◌⊎◌, [], false, ⊤, IsTrue, IfErr, IsErrOf, MatchResult, length, take};
+ghost use Rattle.moo_store_rows.specs.Stopped.{KeepsFaults};
+ghost use Rattle.moo_store.specs.Answered.{acknowledged, added};
+ghost use Rattle.moo_store.specs.Moves.{MovesBy, RunsAt, FailsRun};
+ghost use Rattle.moo_store.specs.Runs.{RunsEach};
+ghost use Rattle.moo_store.specs.Stopping.{AnswersBy, to_the_end};
+ghost use Rattle.moo_store.specs.World.{store_of, state_in, MatchStore};
 ghost use Rattle.moo_dump.specs.Look.{look_of};
 
-use crate::answering::answer_all;
+use crate::answering::answer_until;
 use crate::quiet::NoNotes;
 use crate::tally::Tally;
 use crate::world::World;
@@ -28,9 +30,15 @@ impl<S: Alter + Drop> World<S> {
     /// is no room for the replies, before anything is done; Store if the store failed, and then the batch in hand and those after
     /// it have no reply; Closed if the World had failed.
     pub fn run(&mut self, batches: &[Batch], replies: &mut Vec<Reply>) -> Result<(), StoreFault>
-        // Each batch that has a reply had its turn, and the replies are those of the state of the World before it. The acknowledged
-        // batches are in the tables, and a crash leaves them, or these and the batch in hand, in which the store failed.
-        ensures runs { RunsBatches S.Store self.old self.new batches.now replies.old.items replies.new.items result }
+        // Each batch that has a reply had its turn, and leads from a moment to the next. If the store failed, so had the batch in hand.
+        ensures moves { MovesBy S.Store self.old self.new
+            (λ from to. RunsEach from batches.now (added replies.old.items replies.new.items) result to) }
+        ensures stood { take (length replies.old.items) replies.new.items ≡ replies.old.items }
+        // batches of which none is acknowledged change nothing, unless the store fails
+        ensures still { acknowledged batches.now (added replies.old.items replies.new.items) ≡ [] → MatchStore result (self.new ≡ self.old) ⊤ }
+        ensures fault { IfErr result (λ fault. ((fault ≡ StoreFault.OutOfMemory) × (replies.new.items ≡ replies.old.items))
+            ⊎ FailsRun S.Store self.old self.new fault) }
+        ensures kept { KeepsFaults (store_of S.Store self.old) (store_of S.Store self.new) }
     {
         if self.failed {
             return Err(StoreFault::Closed);
@@ -51,8 +59,8 @@ impl<S: Alter + Drop> World<S> {
     ///
     /// OutOfMemory if memory runs out. Closed if the World had failed.
     pub fn object(&self, x: ObjNo) -> Result<Option<Look>, StoreFault>
-        ensures look { (known : Bool) (s : _) → StandsFor S.Store known self.now s → IfOk result (λ look. look ≡ look_of s.world x) }
-        ensures fault { self.now.failed ≡ false → IfErr result (λ fault. fault ≡ StoreFault.OutOfMemory) }
+        ensures look { self.now.failed ≡ false → MatchResult result
+            (λ look. look ≡ look_of (state_in self.now).world x) (λ fault. fault ≡ StoreFault.OutOfMemory) }
         ensures closed { IsTrue self.now.failed → IsErrOf result StoreFault.Closed }
     {
         if self.failed {
@@ -72,15 +80,12 @@ pub fn apply_text<R: Read + Drop, W: Write, S: Alter + Drop, N: Notes + Witness>
     world: &mut World<S>,
     notes: &mut N,
 ) -> Result<Tally, TextFault>
-    // The answers of all items of the text that the reader gave are written, and nothing else.
-    ensures applies { IfOk result (λ tally. (known : Bool) (stand : Stand) → StandsAt S.Store known world.old stand →
-        Applies S.Store known stand (R.remaining reader) (W.contents writer.old)
-        (W.contents writer.new) world.old world.new tally.batches tally.lost) }
-
-    // At a fault those of the items that are done are written, and the beginning of the next one.
-    ensures stops { IfErr result (λ fault. (known : Bool) (stand : Stand) → StandsAt S.Store known world.old stand →
-        StopsRun S.Store known stand (R.remaining reader) (W.contents writer.old) (W.contents writer.new) world.old world.new fault) }
+    // Each item of the text that the reader gave has its turn, and its answer is written, and nothing else; or a fault comes.
+    ensures { MovesBy S.Store world.old world.new (λ from to.
+        AnswersBy RunsAt false from to (R.remaining reader) (W.contents writer.old) (W.contents writer.new) (to_the_end result)) }
 {
-    world.has_good_rows();
-    answer_all(reader, writer, world, notes)
+    match answer_until(reader, writer, world, false, notes) {
+        Ok(course) => Ok(course.tally),
+        Err(fault) => Err(fault),
+    }
 }

@@ -45,22 +45,19 @@ impl<S: Alter + Drop> World<S> {
     ghost use Rattle.sqlite.specs.Held.{state};
     ghost use Rattle.moo_rows.specs.Maps.{Maps};
     ghost use Rattle.moo_world.specs.Rows.{IsGood};
-    ghost use Rattle.moo_world.specs.Judge.{state_of, judge as verdict};
     ghost use Rattle.moo_world.specs.ObjectLists.{objects_of};
     ghost use Rattle.moo_memory.specs.Changes.{AreChanges};
     ghost use Rattle.moo_store_rows.specs.Printed.{Prints};
     ghost use Rattle.moo_store.specs.Committing.{CommitsTo, CommitsInto};
-    ghost use Rattle.moo_store.specs.Moves.{Stands, MovesBy, RunsAt, FailsRun};
+    ghost use Rattle.moo_store.specs.Moves.{Stands, MovesBy, RunsAt, MayReplyAsked, FailsRun};
     ghost use Rattle.moo_store_rows.specs.Moment.{Moment, HasAtRest};
     ghost use Rattle.moo_store_rows.specs.Place as place;
     ghost use Rattle.moo_batch.specs.Ticks.{NoneComeBack};
-    ghost use Rattle.moo_store.specs.Answered.{answer_of, IsRun};
     ghost use Rattle.moo_store_rows.specs.Stopped.{KeepsFaults};
     ghost use Rattle.moo_store.specs.Seeing.{HasSeenReply};
-    ghost use Rattle.moo_store.specs.Stand.{Stand};
     ghost use Rattle.moo_store.specs.Stopping.{says_accepted};
     ghost use Rattle.moo_store.specs.Text.{answer_to};
-    ghost use Rattle.moo_store.specs.World.{store_of, StandsFor, StandsAt, CrashLeaves};
+    ghost use Rattle.moo_store.specs.World.{store_of, state_in};
     ghost use Rattle.moo_text.specs.declared.reply.Answer.TheVariants as answer;
 
     /// The World of good rows, over a connection in no transaction. It stands at a moment of these rows that the connection has at rest. `check` tests that: nothing is read or written here. `create_in`, `load_in` and `adopt` make Worlds whose tables do.
@@ -141,10 +138,7 @@ impl<S: Alter + Drop> World<S> {
     /// only fault is Closed.
     #[tactic(auto, using(moo_batch::proofs::Ticking::as_before))]
     pub fn ask<N: Witness>(&self, batch: &Batch, witness: &mut N) -> Result<Reply, StoreFault>
-        ensures verdict { (known : Bool) (s : _) → StandsFor S.Store known self.now s →
-            IsOkAnd result (λ reply. (reply ≡ Reply.NoMemory) ⊎ (reply ≡ answer_of s (verdict s batch.now))) }
-        ensures memory { (known : Bool) (s : _) → StandsFor S.Store known self.now s →
-            IfOk result (λ reply. reply ≡ Reply.NoMemory → IsRun s batch.now) }
+        ensures asks { self.now.failed ≡ false → IsOkAnd result (MayReplyAsked (state_in self.now) batch.now) }
         ensures ticks { NoneComeBack (N.left witness.old) (N.left witness.new) }
         ensures closed { IsTrue self.now.failed → IsErrOf result StoreFault.Closed }
         ensures seen { IfOk result (λ reply.
@@ -164,33 +158,15 @@ impl<S: Alter + Drop> World<S> {
 
     /// The rows, unless the World has failed.
     pub fn good_rows(&self) -> Option<&Flat>
-        ensures good { IfSome result (λ rows. IsGood rows.now.maps) }
-        ensures state { (known : Bool) (s : _) → StandsFor S.Store known self.now s → IfSome result (λ rows. state_of rows.now.maps ≡ s) }
-        ensures works { IfSome result (λ _. self.now.failed ≡ false) }
+        ensures rows { IfSome result (λ rows. (rows.now ≡ self.now.rows) × IsGood rows.now.maps × (self.now.failed ≡ false)) }
         ensures failed { IfNone result (IsTrue self.now.failed) }
     {
         if self.failed { None } else { Some(&self.rows) }
     }
 
-    /// The rows of a World that works are good. The call does nothing; its contract is what it is for.
-    pub fn has_good_rows(&self)
-        ensures { self.now.failed ≡ false → IsGood self.now.rows.maps }
-    {
-        let _failed = self.failed;
-    }
-
-    /// What a crash leaves of a World at rest, wherever it stands: the state of one that works. The call does nothing; its contract
-    /// is what it is for.
-    pub fn leaves(&self)
-        ensures { (known : Bool) (stand : Stand) → StandsAt S.Store known self.now stand → IsTrue known →
-            HasCleanDisk (store_of S.Store self.now) → CrashLeaves (store_of S.Store self.now) stand }
-    {
-        let _failed = self.failed;
-    }
-
     /// The number of the batches that were accepted, 0 to 9,223,372,036,854,775,807. The only fault is Closed.
     pub fn seq(&self) -> Result<u64, StoreFault>
-        ensures number { (known : Bool) (s : _) → StandsFor S.Store known self.now s → result ≡ Ok s.seq }
+        ensures number { self.now.failed ≡ false → result ≡ Ok (state_in self.now).seq }
         ensures closed { IsTrue self.now.failed → IsErrOf result StoreFault.Closed }
     {
         if self.failed {
@@ -201,7 +177,7 @@ impl<S: Alter + Drop> World<S> {
 
     /// The number of objects. Takes no memory. The only fault is Closed.
     pub fn object_count(&self) -> Result<u64, StoreFault>
-        ensures count { (known : Bool) (s : _) → StandsFor S.Store known self.now s → result ≡ Ok (length (objects_of s.world)) }
+        ensures count { self.now.failed ≡ false → result ≡ Ok (length (objects_of (state_in self.now).world)) }
         ensures closed { IsTrue self.now.failed → IsErrOf result StoreFault.Closed }
     {
         if self.failed {

@@ -1,5 +1,5 @@
 -- What tables become as they are opened.
-use Rattle.moo_store_rows.{proofs.Words.{◌≡◌, ◌∙◌, List, Option, None, refl, sym, ap, ObjNo, Head, PropId, Maps, SlotCells, IsEarlier, Tables, migrated, Rests, IsCurrent, ShowsRows, PrintEach, PrintsSlot, all_of, unread_from}, specs.Current.{RestsCurrent}, proofs.Migrated.{shows}}
+use Rattle.moo_store_rows.{proofs.Words.{◌≡◌, ◌∙◌, List, Option, None, refl, sym, ap, ObjNo, Head, PropId, Maps, SlotCells, IsEarlier, Tables, migrated, Rests, IsCurrent, ShowsRows, PrintEach, PrintsSlot, all_of, unread_of, unread_kept}, specs.Current.{RestsCurrent}, proofs.Migrated.{shows}}
 use Rattle.sqlite.specs.State.{State as Database}
 use Rattle.moo_tables.specs.Migrated.{HasNoSlot}
 use Rattle.moo_tables_rows.proofs.InsideLemmas.{only_first}
@@ -11,7 +11,7 @@ rests_already store t m rests current shown = record {
   rests = rests;
   became = record { current = current; same = λ _. refl; unmigrated = record { objects = refl; props = refl; verbs = refl } };
   shows = shown;
-  unread = sym (ap (λ version. unread_from version store.now.trees) current);
+  unread = sym (ap (λ version. unread_kept version (unread_of store.now.trees)) current);
 }
 
 -- those of an earlier version were migrated
@@ -22,5 +22,5 @@ module _ (m : Maps) (head : Head) (slots : List ((ObjNo × PropId) × Option Slo
     rests = rests;
     became = record { current = refl; same = λ current. absurd (earlier current); unmigrated = record { objects = refl; props = refl; verbs = refl } };
     shows = shows m head slots is printed old.now t was.holds earlier shown;
-    unread = none ∙ sym (ap (λ version. unread_from version old.now.trees) (only_first t.version earlier));
+    unread = none ∙ sym (ap (λ version. unread_kept version (unread_of old.now.trees)) (only_first t.version earlier));
   }

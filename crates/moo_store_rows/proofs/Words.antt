@@ -16,7 +16,7 @@ pub use Rattle.moo_store_rows.specs.Opening.{Adopts, IsOfStore, SaysOr, StopsBy,
 pub use Rattle.moo_store_rows.specs.Printed.{PrintEach, Prints, PrintsObject, PrintsOver, PrintsPetition, PrintsProp, PrintsSlot, PrintsVerb, PrintsAll, accept_text, all_changes, all_of, as_changes, calls_text, new_number, state_text}
 pub use Rattle.moo_store_rows.specs.States.{KeepsRows, LeavesState}
 pub use Rattle.moo_store_rows.specs.Untouched.{IfBoth, KeepsCells}
-pub use Rattle.moo_store_rows.specs.Current.{unread_from}
+pub use Rattle.moo_store_rows.specs.Current.{unread_of, unread_kept}
 pub use Rattle.moo_store_rows.specs.declared.fault.StoreFault.{StoreFault}
 pub use Rattle.moo_store_rows.specs.declared.fault.StoreFault.TheVariants.{OutOfMemory, Store}
 pub use Rattle.moo_tables_rows.proofs.InsideLemmas.{clean_before, stays}

@@ -22,10 +22,10 @@ pub record BecomesCurrent (old new : Tables) : Type 0 where
 abbrev pub unread_of : Trees → List Row
 unread_of trees = trees (slot_tree First)
 
--- these rows once tables of this version were brought to the present one: a migration empties the table
-abbrev pub unread_from : Version → Trees → List Row
-unread_from First trees = []
-unread_from Second trees = unread_of trees
+-- which of these rows of it are left once tables of this version were brought to the present one: a migration empties the table
+abbrev pub unread_kept : Version → List Row → List Row
+unread_kept First rows = []
+unread_kept Second rows = rows
 
 -- The connection is open and in no transaction, and has what these tables of these trees became, which shows these rows.
 pub record RestsCurrent (store : Database) (trees : Trees) (old : Tables) (rows : Maps) : Type 0 where
@@ -33,4 +33,4 @@ pub record RestsCurrent (store : Database) (trees : Trees) (old : Tables) (rows 
   pub rests : Rests store tables
   pub became : BecomesCurrent old tables
   pub shows : ShowsRows tables rows
-  pub unread : unread_of store.now.trees ≡ unread_from old.version trees
+  pub unread : unread_of store.now.trees ≡ unread_kept old.version (unread_of trees)

@@ -1,9 +1,9 @@
 pub mod Printed
 pub mod States
-pub mod NewTables
 pub mod Current
 pub mod Untouched
 pub mod Moment
+pub mod NewTables
 pub mod Place
 pub mod Stopped
 pub mod Committing

@@ -1,5 +1,5 @@
 -- A moment: what rests in a store, and what one batch makes of it.
-use Rattle.std.specs.Prelude.{◌≡◌, List, [], ◌∷◌, Option, Some, None, IfSome, ⊤}
+use Rattle.std.specs.Prelude.{◌≡◌, ◌⊎◌, List, [], ◌∷◌, Option, Some, None, IfSome, ⊤}
 use Rattle.sqlite.specs.Order.{Row}
 use Rattle.sqlite.specs.State.{State as Database}
 use Rattle.sqlite.specs.Tree.{Trees}
@@ -10,8 +10,9 @@ use Rattle.moo_world.specs.Between.{BatchLeads}
 use Rattle.moo_world.specs.Judge.{State, state_of, judge, left_by}
 use Rattle.moo_tables_rows.specs.Tables.{Tables}
 use Rattle.moo_tables_rows.specs.Inside.{Rests, Leaves, IsCurrent}
+use Rattle.moo_tables_rows.specs.Version.{IsEarlier}
 use Rattle.moo_cells.specs.Shows.{ShowsRows}
-use Rattle.moo_store_rows.specs.Current.{unread_of}
+use Rattle.moo_store_rows.specs.Current.{BecomesCurrent, unread_of, unread_kept}
 use Rattle.moo_store_rows.specs.Untouched.{KeepsCells}
 
 -- the cells of all tables, and the rows of the table that only earlier versions read
@@ -65,3 +66,16 @@ HasAtRest store m = IfSome m.cells (λ c. Rests store c.tables × IsCurrent c.ta
 -- the cells of this moment, of any version, are in these trees and show its rows
 abbrev pub HasCellsOf : Moment → Trees → Type 0
 HasCellsOf m trees = (c : AllCells) × (m.cells ≡ Some c) × Leaves trees c.tables × ShowsRows c.tables m.rows × (unread_of trees ≡ c.unread)
+
+-- these trees are a database of just this moment, whose rows are good
+abbrev pub AreTreesOf : Moment → Trees → Type 0
+AreTreesOf m trees = IsGood m.rows × HasCellsOf m trees
+
+-- a moment of any version, brought to the present one: it has the same rows, and the cells that a migration leaves
+abbrev pub BecomesPresent : Moment → Moment → Type 0
+BecomesPresent m now = (now.rows ≡ m.rows) × IfSome m.cells (λ c. (d : AllCells) × (now.cells ≡ Some d)
+    × BecomesCurrent c.tables d.tables × (d.unread ≡ unread_kept c.tables.version c.unread))
+
+-- the same moment; or, if it was of an earlier version, one of the same rows to which it was migrated
+abbrev pub IsSpared : Moment → Moment → Type 0
+IsSpared m end = (end ≡ m) ⊎ (IfSome m.cells (λ c. IsEarlier c.tables.version) × (end.rows ≡ m.rows))

@@ -1,4 +1,5 @@
 -- Which cells the tables of a world have that was just made, at rest and after a crash.
+use Rattle.std.specs.Prelude.{◌≡◌, [], Some}
 use Rattle.sqlite.specs.State.{State as Database}
 use Rattle.sqlite.specs.Tree.{Trees}
 use Rattle.moo_rows.specs.Maps.{Maps}
@@ -8,6 +9,7 @@ use Rattle.moo_tables_rows.specs.Cells.{tables_with}
 use Rattle.moo_tables_rows.specs.Inside.{Rests, Leaves, no_tables}
 use Rattle.moo_tables.specs.Migrated.{HasNoSlot}
 use Rattle.moo_store_rows.specs.Printed.{PrintsAll}
+use Rattle.moo_store_rows.specs.Moment.{Moment}
 
 -- The connection is open and in no transaction, and its tables hold these rows and no other, each in its printed cells. The table `slot`,
 -- which isn't read, has no row.
@@ -24,3 +26,10 @@ pub record LeavesAsMade (trees : Trees) (rows : Maps) : Type 0 where
   pub prints : PrintsAll cells rows
   pub leaves : Leaves trees (tables_with cells no_tables)
   pub empty : HasNoSlot trees
+
+-- The moment of a new world: these rows and no other, each in its printed cells, and no row in the table `slot`, which isn't read.
+pub record IsMadeOf (rows : Maps) (m : Moment) : Type 0 where
+  pub same : m.rows ≡ rows
+  pub cells : CellChanges
+  pub prints : PrintsAll cells rows
+  pub are : m.cells ≡ Some (record { tables = tables_with cells no_tables; unread = [] })

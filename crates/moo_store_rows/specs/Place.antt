@@ -22,6 +22,10 @@ MayBeLeft (Works m) t = t ≡ m
 MayBeLeft (Failed m) t = t ≡ m
 MayBeLeft (Between m next) t = (t ≡ m) ⊎ (t ≡ next)
 
+-- a crash leaves this moment and no other
+abbrev pub LeavesJust : Moment → Place → Type 0
+LeavesJust m place = (t : Moment) → MayBeLeft place t → t ≡ m
+
 -- if the cells are known, whatever a crash leaves has those of a moment that may be left here
 abbrev pub CrashLeavesAt : Database → Place → Type 0
 CrashLeavesAt store place =
