@@ -1,7 +1,7 @@
 pub mod Faults
 pub mod Traffic
-pub mod Ledger
 pub mod Answers
+pub mod Advanced
 pub mod Settled
 pub mod Serves
 pub mod Lines
