@@ -183,10 +183,19 @@ StopsAs (manner.Apply options) m end failure text old new = StopsText RunsAt opt
 StopsAs (manner.Rehearse options) m end failure text old new = LeavesJust m end × StopsRehearsing options.stop m failure text old new
 StopsAs manner.Ask m end failure text old new = LeavesJust m end × StopsAsking m failure text old new
 
+-- a line of the number of a state and of how many objects it has
+abbrev pub line_of : (ℕ → ℕ → List ℕ) → State → List ℕ
+line_of line s = line s.seq (length (objects_of s.world))
+
 -- The connections that came to a port were served, so many of them, and what is said of them is written. Their turns led to the end.
 abbrev pub Serving : Attendance → ℕ → ℕ → Moment → Place → Option (List ℕ) → Option (List ℕ) → ℕ → Type 0
 Serving ports port count m end old new status =
     (text : List ℕ) × SaysAttended ports port count (Works m) end text × Appends old new text × (status ≡ 0)
+
+-- the tables show what a moment has, and how much that is was written
+abbrev pub SaysChecked : Moment → Place → Option (List ℕ) → Option (List ℕ) → ℕ → Type 0
+SaysChecked m end old new status =
+    LeavesJust m end × Appends old new (line_of checked_line (state_of_moment m)) × (status ≡ 0)
 
 -- The task is done, and this is its run. All but `apply` and `serve` leave what was there.
 abbrev pub Done : Action → Moment → Place → Run → Type 0
@@ -197,10 +206,9 @@ Done (Rehearse batches) m end run =
     LeavesJust m end × RehearsesText batches.options.stop m (run.given.text batches.path.now) run.before run.after run.status
 Done (Ask batches) m end run = LeavesJust m end × AsksText m (run.given.text batches.now) run.before run.after run.status
 Done Dump m end run = LeavesJust m end × Appends run.before run.after (dump_of (state_of_moment m)) × (run.status ≡ 0)
-Done (Load dump) m end run = let s = state_of_moment m in
-    LeavesJust m end × Appends run.before run.after (loaded_line s.seq (length (objects_of s.world))) × (run.status ≡ 0)
-Done Check m end run = let s = state_of_moment m in
-    LeavesJust m end × Appends run.before run.after (checked_line s.seq (length (objects_of s.world))) × (run.status ≡ 0)
+Done (Load dump) m end run =
+    LeavesJust m end × Appends run.before run.after (line_of loaded_line (state_of_moment m)) × (run.status ≡ 0)
+Done Check m end run = SaysChecked m end run.before run.after run.status
 Done (Serve service) m end run = Serving run.given.ports service.port service.count m end run.before run.after run.status
 
 -- a front of a text is written, since the writer failed or memory ran out
@@ -215,7 +223,13 @@ StopsServing ports port count m end failure old new =
     ⊎ ((end ≡ Works m) × ports.attends port 0 0 (Works m) end × StopsIn (listening_line port) failure old new)
     ⊎ ((text : List ℕ) × SaysAttended ports port count (Works m) end text × StopsIn text failure old new)
 
--- It stops with this failure, and so much is written. On a clean disk no check of known cells finds a damage.
+-- A check found a fault; or the line stops. On a clean disk no check of known cells finds a damage.
+abbrev pub StopsChecking : Moment → Place → Failure → Type 0 → Option (List ℕ) → Option (List ℕ) → Type 0
+StopsChecking m end failure Clean old new = LeavesJust m end
+    × (((fault : StoreFault) × (failure ≡ store_failure fault) × (IsSome m.cells → Clean → IsOfStore fault) × (new ≡ old))
+    ⊎ StopsIn (line_of checked_line (state_of_moment m)) failure old new)
+
+-- It stops with this failure, and so much is written.
 abbrev pub StopsTask : Action → Moment → Place → Failure → Type 0 → Run → Type 0
 StopsTask Init m end failure Clean run = LeavesJust m end × StopsIn created_line failure run.before run.after
 StopsTask (Apply batches) m end failure Clean run =
@@ -228,12 +242,9 @@ StopsTask (Ask batches) m end failure Clean run =
     LeavesJust m end × StopsAsking m failure (run.given.text batches.now) run.before run.after
     × TellsLack run.given.lacks batches.now failure
 StopsTask Dump m end failure Clean run = LeavesJust m end × StopsIn (dump_of (state_of_moment m)) failure run.before run.after
-StopsTask (Load dump) m end failure Clean run = let s = state_of_moment m in
-    LeavesJust m end × StopsIn (loaded_line s.seq (length (objects_of s.world))) failure run.before run.after
-StopsTask Check m end failure Clean run = let s = state_of_moment m in
-    LeavesJust m end
-    × (((fault : StoreFault) × (failure ≡ store_failure fault) × (IsSome m.cells → Clean → IsOfStore fault) × (run.after ≡ run.before))
-    ⊎ StopsIn (checked_line s.seq (length (objects_of s.world))) failure run.before run.after)
+StopsTask (Load dump) m end failure Clean run =
+    LeavesJust m end × StopsIn (line_of loaded_line (state_of_moment m)) failure run.before run.after
+StopsTask Check m end failure Clean run = StopsChecking m end failure Clean run.before run.after
 StopsTask (Serve service) m end failure Clean run =
     StopsServing run.given.ports service.port service.count m end failure run.before run.after
 
@@ -258,6 +269,12 @@ module _ {S : Type 0} (g : Ghosts S) (was world : World S) where
   EndsText how m text old new r = MatchResult r
       (λ status. EndsTask g was world (λ end. AnswersAs how m end text old new status))
       (λ failure. EndsTask g was world (λ end. StopsAs how m end failure text old new))
+
+  -- The tables were tested over the World, from a moment, and a line was written; or that stopped.
+  abbrev pub EndsCheck : Moment → Option (List ℕ) → Option (List ℕ) → Result ℕ Failure → Type 0
+  EndsCheck m old new r = MatchResult r
+      (λ status. EndsTask g was world (λ end. SaysChecked m end old new status))
+      (λ failure. EndsTask g was world (λ end. StopsChecking m end failure (HasCleanDisk (store_of g world)) old new))
 
   -- A task was done over the World, from a moment, or it stopped; by its status.
   abbrev pub RunsAction : Action → Moment → Run → Result ℕ Failure → Type 0

@@ -1,12 +1,13 @@
 //! The file of a task.
 
-ghost use Rattle.std.specs.Prelude.{◌≡◌, ℕ, List, Bool, true, false};
+ghost use Rattle.std.specs.Prelude.{◌≡◌, ℕ, List, true, false};
 ghost use Rattle.sqlite.specs.State.{HasCleanDisk};
 ghost use Rattle.sqlite.specs.Files.{over_files, file_state};
 ghost use Rattle.sqlite.specs.WalFiles.{image_at};
-ghost use Rattle.moo_world.specs.Rows.{IsGood};
-ghost use Rattle.moo_world.specs.Judge.{State};
-ghost use Rattle.moo_store.specs.World.{store_of, StandsFor};
+ghost use Rattle.moo_store_rows.specs.Moment.{Moment};
+ghost use Rattle.moo_store_rows.specs.Place.{Works};
+ghost use Rattle.moo_store.specs.Moves.{Stands};
+ghost use Rattle.moo_store.specs.World.{store_of};
 ghost use Rattle.moo_run_lines.specs.Lines.{Tells, store_failure};
 ghost use Rattle.moo_run.specs.Run.{begins_anew, is_load, dump_word, reads_input, ReadsFile, only_reads};
 ghost use Rattle.moo_run.specs.Run.{LeavesNothingNew, RunsIn, RunsTask};
@@ -39,11 +40,10 @@ fn run_in_files<'s, S: Streams, D: Disk + Drop>(
     task: Task<'_>,
 ) -> Connection<FileStore<D>>
     requires read { (path : List ℕ) → ReadsFile task path → S.Host.may_read session.old.host path }
-    ensures runs { (known : Bool) (s : State) → StandsFor over_files known world s →
-        RunsIn over_files known world result task.entry s (⟦<Session<'s, S> as Runs>⟧.run session.old session.new) }
-    ensures clean { (known : Bool) (s : State) → StandsFor over_files known world s →
+    ensures runs { (m : Moment) → Stands over_files world (Works m) →
+        RunsIn (file_state result) task.entry m (⟦<Session<'s, S> as Runs>⟧.run session.old session.new) }
+    ensures clean { (m : Moment) → Stands over_files world (Works m) →
         HasCleanDisk (file_state result) → HasCleanDisk (store_of over_files world) }
-    ensures good { world.failed ≡ false → IsGood world.rows.maps }
     ensures still { only_reads task.entry.action ≡ true → LeavesNothingNew (store_of over_files world) (file_state result) }
     ensures input { reads_input task.entry ≡ false → session.new.input ≡ session.old.input }
 {

@@ -1,11 +1,12 @@
 //! What is done with a text of batches: they are run, rehearsed or asked.
 
-ghost use Rattle.std.specs.Prelude.{◌≡◌, ◌≢◌, Bool, false, codes, IfErr};
+ghost use Rattle.std.specs.Prelude.{◌≡◌, ◌≢◌, false, codes, IfErr};
 ghost use Rattle.std.specs.Str.{bytes_eq};
-ghost use Rattle.moo_world.specs.Judge.{State};
-ghost use Rattle.moo_store.specs.World.{StandsFor};
+ghost use Rattle.moo_store_rows.specs.Moment.{Moment};
+ghost use Rattle.moo_store_rows.specs.Place.{Works};
+ghost use Rattle.moo_store.specs.Moves.{Stands};
 ghost use Rattle.moo_run.specs.Texts.{OpenedBy, LacksBy};
-ghost use Rattle.moo_run.specs.Run.{lost_status, course_status, changes_world, AnswersBy, TellsLack};
+ghost use Rattle.moo_run.specs.Run.{lost_status, course_status, changes_world, EndsText, TellsLack};
 ghost use Rattle.moo_run.specs.declared.texts.Manner.TheVariants.{Apply, Rehearse, Ask};
 
 use crate::host::BatchFiles;
@@ -56,8 +57,8 @@ fn apply<C: Eprint, R: Read + Drop, W: Write, B: Alter + Drop>(
     console: &C,
     mut notes: StandardNotes<'_, C>,
 ) -> Result<u8, Failure>
-    ensures applies { (known : Bool) (s : State) → StandsFor B.Store known world.old s → AnswersBy B.Store known world.old world.new
-        (Apply options) s (R.remaining text) (W.contents output.old) (W.contents output.new) result }
+    ensures applies { (m : Moment) → Stands B.Store world.old (Works m) → EndsText B.Store world.old world.new
+        (Apply options) m (R.remaining text) (W.contents output.old) (W.contents output.new) result }
     ensures opened { IfErr result (λ failure. failure ≢ Failure.NoBatches) }
 {
     let done = apply_until(text, output, world, options.stop, &mut notes);
@@ -79,12 +80,11 @@ fn rehearse<C: Eprint, R: Read + Drop, W: Write, B: Alter + Drop>(
     output: &mut W,
     mut notes: StandardNotes<'_, C>,
 ) -> Result<u8, Failure>
-    ensures rehearses { (known : Bool) (s : State) → StandsFor B.Store known world.old s → AnswersBy B.Store known world.old world.new
-        (Rehearse options) s (R.remaining text) (W.contents output.old) (W.contents output.new) result }
+    ensures rehearses { (m : Moment) → Stands B.Store world.old (Works m) → EndsText B.Store world.old world.new
+        (Rehearse options) m (R.remaining text) (W.contents output.old) (W.contents output.new) result }
     ensures opened { IfErr result (λ failure. failure ≢ Failure.NoBatches) }
     ensures still { world.new.connection ≡ world.old.connection }
 {
-    world.leaves();
     let done = rehearse_text(text, output, world, options.stop, &mut notes);
     notes.finish();
     match done {
@@ -100,11 +100,10 @@ fn ask<C: Eprint, R: Read + Drop, W: Write, B: Alter + Drop>(
     output: &mut W,
     mut notes: StandardNotes<'_, C>,
 ) -> Result<u8, Failure>
-    ensures asks { (known : Bool) (s : State) → StandsFor B.Store known world.now s → AnswersBy B.Store known world.now world.now
-        Ask s (R.remaining text) (W.contents output.old) (W.contents output.new) result }
+    ensures asks { (m : Moment) → Stands B.Store world.now (Works m) → EndsText B.Store world.now world.now
+        Ask m (R.remaining text) (W.contents output.old) (W.contents output.new) result }
     ensures opened { IfErr result (λ failure. failure ≢ Failure.NoBatches) }
 {
-    world.leaves();
     let done = ask_text(text, output, world, &mut notes);
     notes.finish();
     match done {
@@ -122,8 +121,8 @@ fn answer_text<C: Eprint, R: Read + Drop, W: Write, B: Alter + Drop>(
     console: &C,
     notes: StandardNotes<'_, C>,
 ) -> Result<u8, Failure>
-    ensures answers { (known : Bool) (s : State) → StandsFor B.Store known world.old s → AnswersBy B.Store known world.old world.new
-        manner s (R.remaining text) (W.contents output.old) (W.contents output.new) result }
+    ensures answers { (m : Moment) → Stands B.Store world.old (Works m) → EndsText B.Store world.old world.new
+        manner m (R.remaining text) (W.contents output.old) (W.contents output.new) result }
     ensures opened { IfErr result (λ failure. failure ≢ Failure.NoBatches) }
     ensures still { changes_world manner ≡ false → world.new.connection ≡ world.old.connection }
 {
@@ -157,9 +156,9 @@ pub(crate) fn answer_batches<'s, S: Streams, B: Alter + Drop>(
     text: Option<io::Result<<S::Host as BatchFiles>::Text>>,
 ) -> Result<u8, Failure>
     ensures answers { OpenedBy S.Host.Text.remaining (S.Host.text session.old.host) path.now text →
-        (known : Bool) (s : State) → StandsFor B.Store known world.old s →
+        (m : Moment) → Stands B.Store world.old (Works m) →
         let run = ⟦<Session<'s, S> as Runs>⟧.run session.old session.new in
-        AnswersBy B.Store known world.old world.new manner s (run.given.text path.now) run.before run.after result }
+        EndsText B.Store world.old world.new manner m (run.given.text path.now) run.before run.after result }
     ensures lacks { LacksBy (S.Host.lacks session.old.host) path.now text →
         IfErr result (TellsLack (S.Host.lacks session.old.host) path.now) }
     ensures still { changes_world manner ≡ false → world.new.connection ≡ world.old.connection }
@@ -167,8 +166,6 @@ pub(crate) fn answer_batches<'s, S: Streams, B: Alter + Drop>(
     ensures input { OpenedBy S.Host.Text.remaining (S.Host.text session.old.host) path.now text →
         bytes_eq path.now (codes "-") ≡ false → session.new.input ≡ session.old.input }
 {
-    world.leaves();
-    world.has_good_rows();
     let (console, alloc) = (session.console, session.alloc);
     match text {
         None => {
