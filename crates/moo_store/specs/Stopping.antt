@@ -75,16 +75,17 @@ pub record EndsEarly {A : Type 0} (step : A → Batch → Answer → A → Type 
   pub batches_are : batches ≡ count_by is_batch answers
   pub lost_are : lost ≡ count_by is_lost_answer answers
 
--- It is answered to its end. Or up to and with the first answer that isn't `accepted`, if it is to stop there.
-abbrev pub EndsAs : {A : Type 0} → (A → Batch → Answer → A → Type 0) → Bool → A → A → (text before behind : Option (List ℕ)) → Course → Type 0
-EndsAs step stop old new text before behind course = if course.stopped
-    then (stop ≡ true) × EndsEarly step old new text before behind course.tally.batches course.tally.lost
-    else CompletesUntil step stop old new text before behind course.tally.batches course.tally.lost
+-- It is answered to its end. Or, if it stopped, up to and with the first answer that isn't `accepted`, where it was to stop.
+abbrev pub EndsAs : {A : Type 0} → (A → Batch → Answer → A → Type 0) → Bool → A → A → (text before behind : Option (List ℕ))
+    → (stopped : Bool) → (batches lost : ℕ) → Type 0
+EndsAs step stop old new text before behind true batches lost = (stop ≡ true) × EndsEarly step old new text before behind batches lost
+EndsAs step stop old new text before behind false batches lost = CompletesUntil step stop old new text before behind batches lost
 
 -- What comes of a text of batches, by the result of answering it.
 abbrev pub AnswersBy : {A : Type 0} → (A → Batch → Answer → A → Type 0) → Bool → A → A → (text before behind : Option (List ℕ))
     → Result Course TextFault → Type 0
-AnswersBy step stop old new text before behind (Ok course) = EndsAs step stop old new text before behind course
+AnswersBy step stop old new text before behind (Ok course) =
+    EndsAs step stop old new text before behind course.stopped course.tally.batches course.tally.lost
 AnswersBy step stop old new text before behind (Err fault) = HaltsUntil step stop old new text before behind fault
 
 -- the result of a text that was not to stop
