@@ -1,4 +1,5 @@
 pub mod Words
+pub mod Going
 pub mod Consulting
 pub mod Serving
 pub mod Connections
