@@ -1,4 +1,4 @@
-//! The program doesn't come this way. The project's requirements name these calls. The program calls `open_from` and `create_from` itself,
+//! The program doesn't come this way. The project's requirements name these calls. The program calls `open_from` and `make_from` itself,
 //! and hands on what is left of a file that they refuse.
 
 ghost use Rattle.std.specs.Prelude.{IfOk, IfErr};
@@ -12,7 +12,7 @@ ghost use Rattle.moo_store_rows.specs.Place.{Works};
 ghost use Rattle.moo_store.specs.Moves.{Stands};
 ghost use Rattle.moo_store.specs.World.{store_of};
 
-use crate::making::create_from;
+use crate::making::make_from;
 use crate::opening::open_from;
 use crate::paths::WorldFiles;
 use moo_store::{StoreFault, World};
@@ -39,7 +39,7 @@ pub fn open_at<H: WorldFiles<Unknown>>(
     }
 }
 
-/// As `create_from`, for a file that nobody has read. At each refusal the file is closed.
+/// As `make_from`, the opening world, for a file that nobody has read. At each refusal the file is closed.
 pub fn create_at<H: WorldFiles<Unknown>>(
     alloc: Global,
     host: &H,
@@ -52,7 +52,7 @@ pub fn create_at<H: WorldFiles<Unknown>>(
         (m : Moment) × IsMadeOf opening_maps m × Stands over_files world (Works m)) }
     ensures fault { IfErr result IsOfStore }
 {
-    match create_from(alloc, host, path, Unknown) {
+    match make_from(alloc, host, path, Unknown, None) {
         Ok(world) => Ok(world),
         Err((fault, remains)) => {
             remains.shut();
