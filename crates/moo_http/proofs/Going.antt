@@ -34,11 +34,11 @@ advanced_then old mid new (works, inr more) (other, inl failed) = (works, inl fa
 advanced_then old mid new (works, inr more) (other, inr again) = (works, inr (omega (arith, more, again)))
 
 pub still_then : {S : Type 0} (g : Ghosts S) (old mid new : World S) (First : Place → Place → Type 0) → MovesBy g old mid First → IsStillOrAdvanced g old mid → IsStillOrAdvanced g mid new → IsStillOrAdvanced g old new
-still_then g old mid new First moves first second place at = elim first place at [
+still_then g old mid new First moves first second place at = elim (first place at) [
   | inl same ↦ subst (λ (w : World _). (new ≡ w) ⊎ HasAdvanced w new) same (second place (subst (λ (w : World _). Stands g w place) (sym same) at))
   | inr advanced ↦ (
     let between = moves.goes place at in
-    elim second between.0 between.1 [
+    elim (second between.0 between.1) [
       | inl same ↦ inr (subst (λ (w : World _). HasAdvanced old w) (sym same) advanced)
       | inr further ↦ inr (advanced_then old mid new advanced further)
     ])
