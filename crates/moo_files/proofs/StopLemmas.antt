@@ -1,5 +1,5 @@
 -- From what the disk leaves of the bytes of two files to a database that their store may leave.
-use Rattle.std.{specs.Prelude.{IsSome}, proofs.Common.{inl, inr, IsTrue, List, refl, sym, subst, ◌∙◌}, proofs.Math.Logic.{∥∥₁_elim, ∥∥₁_map}}
+use Rattle.std.{specs.Prelude.{IsSome}, proofs.Common.{inl, inr, IsTrue, refl, sym, subst, ◌∙◌}, proofs.Math.Logic.{∥∥₁_elim, ∥∥₁_map}}
 use mathlib.Core.HLevel.{Σ_prop_path}
 use Rattle.sqlite_disk.specs.declared.Disk.{Ghosts}
 use Rattle.sqlite_wal.{specs.Recovery.{Image}, specs.Files.{outcomes}}
