@@ -10,7 +10,8 @@ use Rattle.sqlite.specs.State.{State as Database, HasCleanDisk}
 use Rattle.sqlite.specs.Tree.{Trees}
 use Rattle.sqlite.specs.Store.{Ghosts}
 use Rattle.moo_world.specs.declared.call.Batch.{Batch}
-use Rattle.moo_rows.specs.Maps.{Maps}
+use Rattle.moo_rows.specs.Maps.{Maps, Held as Rows}
+use Rattle.moo_files.specs.Making.{rows_made}
 use Rattle.moo_rows.specs.Opening.{opening_maps}
 use Rattle.moo_world.specs.Rows.{IsGood}
 use Rattle.moo_world.specs.Judge.{State, state_of}
@@ -25,7 +26,7 @@ use Rattle.moo_load.specs.RowsOf.{AreRowsOf}
 use Rattle.moo_store_rows.specs.declared.fault.StoreFault.{StoreFault}
 use Rattle.moo_store.specs.declared.course.Course.{Course}
 use Rattle.moo_text.specs.declared.reply.Answer.{Answer}
-use Rattle.moo_store.specs.Stopping.{CompletesUntil, HaltsUntil, EndsEarly}
+use Rattle.moo_store.specs.Stopping.{CompletesUntil, HaltsUntil, EndsEarly, AnswersBy}
 use Rattle.moo_store.specs.Rehearsed.{RehearsesAt}
 use Rattle.moo_store_rows.specs.Moment.{Moment, state_of_moment, rows_alone}
 use Rattle.moo_store_rows.specs.NewTables.{IsMadeOf}
@@ -176,6 +177,13 @@ abbrev pub AnswersAs : Manner → Moment → Place → Option (List ℕ) → Opt
 AnswersAs (manner.Apply options) m end text old new status = AnswersText RunsAt options.stop m end text old new status
 AnswersAs (manner.Rehearse options) m end text old new status = LeavesJust m end × RehearsesText options.stop m text old new status
 AnswersAs manner.Ask m end text old new status = LeavesJust m end × AsksText m text old new status
+
+-- what comes of the text of a manner, by the result of answering it
+abbrev pub ComesOf : Manner → Moment → Place → Option (List ℕ) → Option (List ℕ) → Option (List ℕ) → Result Course TextFault → Type 0
+ComesOf (manner.Apply options) m end text old new r = AnswersBy RunsAt options.stop (Works m) end text old new r
+ComesOf (manner.Rehearse options) m end text old new r =
+    LeavesJust m end × ((last : Place) × AnswersBy RehearsesAt options.stop (Works (rows_alone m.rows)) last text old new r)
+ComesOf manner.Ask m end text old new r = LeavesJust m end × AnswersBy AsksAt false (Works m) (Works m) text old new r
 
 -- The answering of a text stops, or its file can't be opened.
 abbrev pub StopsAs : Manner → Moment → Place → Failure → Option (List ℕ) → Option (List ℕ) → Option (List ℕ) → Type 0
@@ -359,6 +367,12 @@ MayNotBegin task given failure =
 
 abbrev pub FailsToBegin : Task → Run → Type 0
 FailsToBegin task run = (failure : Failure) × MayNotBegin task run.given failure × Reports failure run.before run.after run.status
+
+-- The rows of the new world that a task begins with were found: those of its dump, or none in place of the opening ones. Or its dump gives
+-- none.
+abbrev pub FindsRows : Action → Given → Result (Option Rows) Failure → Type 0
+FindsRows action given r = MatchResult r (λ rows. BeginsFrom action given (rows_made rows))
+    (λ failure. IsTrue (is_load action) × RefusesTask given action failure)
 
 -- a new world can't be made, and nothing is asked of the ports; or the task runs from the rows of the one that it begins with
 abbrev pub RunsNew : Task → Run → Type 0
