@@ -1,6 +1,6 @@
 -- What a run of the program writes, the status that it ends with, and the place to which it leads.
 use Rattle.std.specs.Prelude.{◌≡◌, ◌<◌, ◌≤◌, ◌⊎◌, ◌==◌, ◌||◌, ℕ, Bool, true, false, IsTrue, ⊤, if◌then◌else◌}
-use Rattle.std.specs.Prelude.{List, take, length, Option, Some, None, IfSome, IsSome, Result, MatchResult, codes}
+use Rattle.std.specs.Prelude.{List, [], take, length, Option, Some, None, IfSome, IsSome, Result, MatchResult, codes}
 use Rattle.std.specs.Str.{bytes_eq}
 use Rattle.std.specs.Io.KnownBytes.{Appends}
 use Rattle.clap.specs.Kinds.{IsAmong}
