@@ -6,7 +6,7 @@ use Rattle.moo_world.specs.ObjectLists.{objects_of}
 use Rattle.moo_world.specs.Rows.{world_of}
 use Rattle.moo_damage.specs.declared.kind.Kind.TheVariants.{Mismatch}
 use Rattle.moo_tables_rows.specs.Tables.{Tables}
-use Rattle.moo_tables_rows.specs.Inside.{Rests, IsCurrent}
+use Rattle.moo_tables_rows.specs.Inside.{Rests, IsCurrent, KeepsUnread}
 use Rattle.moo_tables.specs.ReadCause.{StopsQuery}
 use Rattle.moo_cells.specs.Compared.{IsMismatch}
 use Rattle.moo_cells.specs.Damage.{Damage, IsNewer}
@@ -25,10 +25,12 @@ SaysInCheck Cause own tables fault = Cause
 abbrev pub StopsCheck : Tables → Database → Database → StoreFault → Type 0
 StopsCheck tables old new = StopsBy (λ error. StopsQuery old new error ⊎ ((¬ IsCurrent tables) × (Store error ≡ not_ours)))
 
--- Nothing was written. What was in the tables is there still, if the connection is, and a crash leaves what it could leave before.
+-- Nothing was written. What was in the tables is there still, if the connection is, also in the one that isn't read, and a crash leaves what
+-- it could leave before.
 pub record KeepsTables (old new : Database) : Type 0 where
   pub clean : HasCleanDisk new → HasCleanDisk old
   pub kept : HasCleanDisk new → IsTrue new.is_open → (tables : Tables) → Rests old tables → Rests new tables
+  pub unread : HasCleanDisk new → IsTrue new.is_open → (tables : Tables) → Rests old tables → KeepsUnread old.now new.now
   pub crash : Survives old new (λ _. ⊥)
 
 -- The tables were seen to show these rows, which have so many objects.

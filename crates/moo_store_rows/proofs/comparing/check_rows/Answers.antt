@@ -1,15 +1,26 @@
-use Rattle.moo_store_rows.{proofs.Words.{◌≡◌, ◌∙◌, IsTrue, false, sym, subst, state, present, schema_of, Maps, Tables, Rests, HasTables, StoreFault, Store, StopsBy, stays}, specs.Checked.{StopsCheck, IsUnchecked}, proofs.OpenLemmas.{at_rest, has_still, rests_still}, proofs.CompareLemmas.{checked_by, unchecked, unasked, cut_off}, proofs.Causes.{told_so, stopped_after}, proofs.Versions.{version_is}}
+use Rattle.moo_store_rows.{proofs.Words.{◌≡◌, ◌∙◌, IsTrue, false, refl, sym, ap, subst, state, present, schema_of, Maps, Tables, Rests, HasTables, StoreFault, Store, StopsBy, stays}, specs.Checked.{StopsCheck, IsUnchecked}, proofs.OpenLemmas.{at_rest, has_still, rests_still}, proofs.CompareLemmas.{checked_by, unchecked, unasked, cut_off}, proofs.Causes.{told_so, stopped_after}, proofs.Versions.{version_is}}
 use Rattle.moo_store_rows.proofs.comparing.check_rows.Goals as goal
 use Rattle.sqlite.specs.State.{State, HasCleanDisk}
 use Rattle.moo_tables.{specs.Listing.{AreListed, tables_of}, specs.ReadCause.{StopsQuery}, proofs.ReadLemmas.{reads_then, fails_then, rests_read}, proofs.ReadCauseLemmas.{not_a_database}}
 use Rattle.sqlite.specs.declared.error.Error.{Error}
-use Rattle.moo_tables_rows.specs.Inside.{FailsToRead, Holds}
+use Rattle.moo_tables_rows.specs.Inside.{FailsToRead, ReadsTables, KeepsUnread, Holds}
+use Rattle.sqlite.specs.Effect.{Database as Content}
+use Rattle.moo_store_rows.specs.Current.{unread_of}
 
 -- a reading that failed leaves the tables, unless it shut the connection
 still : (old new : State) → HasTables (schema_of present) old → FailsToRead (schema_of present) old new → new.in_transaction ≡ false → HasCleanDisk new → IsTrue new.is_open → (tables : Tables) → Rests old tables → Rests new tables
 still old new has fails outside clean opened tables rests =
     let at = at_rest old new (λ _. rests.committed) outside (fails.kept clean has) opened in
     record { is_open = opened; outside = at.outside; committed = at.now_is ∙ sym at.committed_is; holds = subst (λ db. Holds db tables) (sym at.now_is) rests.holds }
+
+-- and so it does the table that isn't read
+unread_still : (old new : State) → HasTables (schema_of present) old → FailsToRead (schema_of present) old new → new.in_transaction ≡ false → HasCleanDisk new → IsTrue new.is_open → (tables : Tables) → Rests old tables → KeepsUnread old.now new.now
+unread_still old new has fails outside clean opened tables rests =
+    ap (λ (db : Content). unread_of db.trees) (at_rest old new (λ _. rests.committed) outside (fails.kept clean has) opened).now_is
+
+-- a reading leaves it
+unread_read : (old new : State) → HasTables (schema_of present) old → ReadsTables (schema_of present) old new → HasCleanDisk new → KeepsUnread old.now new.now
+unread_read old new has read clean = ap (λ (db : Content). unread_of db.trees) (read.same clean has).0.now_is
 
 failed : (own : Maps) (old new : State) (fault : StoreFault) → (error : Error) × (fault ≡ Store error) → (HasCleanDisk new → StopsBy (StopsQuery old new) fault) → IsUnchecked own old new fault
 failed own old new fault it stops =
@@ -24,7 +35,7 @@ returns-in-Err-clause-checks g c =
     (λ clean tables rests. unasked (state g.S.Store c.args.conn.now) tables c.in-Err.fault (c.in-Err.ensures.own tables rests)) (λ _ clean tables rests. rests)
 
 pub returns-in-Err-clause-keeps : goal.returns-in-Err-clause-keeps
-returns-in-Err-clause-keeps g c = record { clean = λ clean. clean; kept = λ clean opened tables rests. rests; crash = (stays (state g.S.Store c.args.conn.now)).survives }
+returns-in-Err-clause-keeps g c = record { clean = λ clean. clean; kept = λ clean opened tables rests. rests; unread = λ clean opened tables rests. refl; crash = (stays (state g.S.Store c.args.conn.now)).survives }
 
 -- each table was seen to show the rows
 
@@ -39,6 +50,7 @@ pub returns-then-shown-clause-keeps : goal.returns-then-shown-clause-keeps
 returns-then-shown-clause-keeps g c = record {
   clean = c.in-Ok-show_in_turn.ensures.read.clean;
   kept = λ clean opened tables rests. rests_still g.S.Store c.args.conn.now c.show_in_turn.new.conn present c.args.own.now.maps c.in-Ok.ensures.ours c.in-Ok-show_in_turn.ensures.read clean tables rests;
+  unread = λ clean opened tables rests. unread_read (state g.S.Store c.args.conn.now) (state g.S.Store c.show_in_turn.new.conn) c.in-Ok.ensures.ours c.in-Ok-show_in_turn.ensures.read clean;
   crash = c.in-Ok-show_in_turn.ensures.read.crash (λ _. c.in-Ok.ensures.ours);
 }
 
@@ -63,6 +75,7 @@ returns-in-Ok-read_lists-clause-keeps g c =
     record {
       clean = read.clean;
       kept = λ clean opened tables rests. rests_still g.S.Store c.args.conn.now c.read_lists.new.conn present c.args.own.now.maps c.in-Ok.ensures.ours read clean tables rests;
+      unread = λ clean opened tables rests. unread_read (state g.S.Store c.args.conn.now) (state g.S.Store c.read_lists.new.conn) c.in-Ok.ensures.ours read clean;
       crash = read.crash (λ _. c.in-Ok.ensures.ours);
     }
 
@@ -93,6 +106,7 @@ returns-in-Err-show_in_turn-clause-keeps g c =
     record {
       clean = fails.clean;
       kept = λ clean opened tables rests. still (state g.S.Store c.args.conn.now) (state g.S.Store c.show_in_turn.new.conn) c.in-Ok.ensures.ours fails (c.show_in_turn.ensures.outside c.requires.outside) clean opened tables rests;
+      unread = λ clean opened tables rests. unread_still (state g.S.Store c.args.conn.now) (state g.S.Store c.show_in_turn.new.conn) c.in-Ok.ensures.ours fails (c.show_in_turn.ensures.outside c.requires.outside) clean opened tables rests;
       crash = fails.crash (λ _. c.in-Ok.ensures.ours);
     }
 
@@ -102,5 +116,6 @@ returns-in-Err-read_lists-clause-keeps g c =
     record {
       clean = fails.clean;
       kept = λ clean opened tables rests. still (state g.S.Store c.args.conn.now) (state g.S.Store c.read_lists.new.conn) c.in-Ok.ensures.ours fails c.in-Err-read_lists.ensures.outside clean opened tables rests;
+      unread = λ clean opened tables rests. unread_still (state g.S.Store c.args.conn.now) (state g.S.Store c.read_lists.new.conn) c.in-Ok.ensures.ours fails c.in-Err-read_lists.ensures.outside clean opened tables rests;
       crash = fails.crash (λ _. c.in-Ok.ensures.ours);
     }
