@@ -41,6 +41,7 @@ use Rattle.moo_cli.specs.declared.task.Action.TheVariants.{Init, Apply, Rehearse
 use Rattle.moo_run.specs.declared.texts.Manner.{Manner}
 use Rattle.moo_run.specs.declared.texts.Manner.TheVariants as manner
 use Rattle.moo_http.specs.Lines.{listening_line}
+use Rattle.moo_http.specs.Leading.{LeadsTo}
 use Rattle.moo_http.specs.Turns.{Attendance, SaysAttended}
 use Rattle.moo_run.specs.Given.{Given, Run}
 use Rattle.moo_cli.specs.Tasks.{NamesTask, NamesAlone, NamesNone, text_word, mistakes}
@@ -296,6 +297,8 @@ module _ {S : Type 0} (g : Ghosts S) (was world : World S) where
 pub record RunsFrom (task : Task) (m : Moment) (run : Run) (Clean : Type 0) : Type 0 where
   pub end : Place
   pub good : (t : Moment) → MayBeLeft end t → IsGood t.rows
+  -- accepted batches, one after another, lead from the moment to whatever may be left
+  pub leads : LeadsTo m end
   -- only a task that serves asks anything of the ports
   pub rests : serves task.action ≡ false → run.given.ports.rests
   pub writes :
