@@ -1,5 +1,5 @@
 -- From what the files hold to what a connection to them keeps.
-use Rattle.moo_files.{proofs.Words.{◌≡◌, ◌≢◌, ◌⊎◌, inl, inr, ℕ, ◌≤◌, [], ap, arith, sym, subst, subst₂, ◌∙◌, ∥∥₁_elim, ∥∥₁_map, Trees-set, Trees, HasCleanDisk, Survives, Opens, IsLive, Held, IsEmpty, IsNothing, file_state, empty_is_sound, Ghosts, FileStore, State, Tables, schema_of, no_schema, ShowsState, LeavesState, Left, Adopts, IsBlank, HoldsTrees, HoldsTables, HoldsState, HasOtherTables, HasAnyTable, IsMigrated, IsKept, ReadsAs, ReadsAsOurs, HoldsNoTable}, specs.Connected.{IsNewOrFound, OnlyLeaves}, proofs.BlankLemmas.{holds_none}, proofs.RemainsLemmas.{found_empty, begun_empty}}
+use Rattle.moo_files.{proofs.Words.{◌≡◌, ◌≢◌, ◌⊎◌, inl, inr, ℕ, ◌≤◌, [], ap, arith, sym, subst, subst₂, ◌∙◌, ∥∥₁_elim, ∥∥₁_map, Trees-set, Trees, HasCleanDisk, Survives, Opens, IsLive, Held, IsEmpty, IsNothing, file_state, empty_is_sound, Ghosts, FileStore, State, Tables, schema_of, no_schema, ShowsState, LeavesState, Adopts, IsBlank, HoldsTrees, HoldsTables, HoldsState, HasOtherTables, HasAnyTable, IsMigrated, IsKept, ReadsAs, ReadsAsOurs, HoldsNoTable}, specs.Connected.{IsNewOrFound, OnlyLeaves}, proofs.BlankLemmas.{holds_none}, proofs.RemainsLemmas.{found_empty, begun_empty}}
 use Rattle.sqlite.{specs.Recovery.{Image}, specs.Schema.{Schema}, specs.State.{State as Database}, specs.Start.{FindsIn}, specs.Effect.{Database as Content, IsDatabase}}
 use Rattle.sqlite_trees.specs.Objects.{catalog_tree}
 use Rattle.sqlite_catalog.specs.Listing.{IsSound}
@@ -50,9 +50,6 @@ shows_held image store s opens live found it =
 -- and a crash leaves it
 pub left_only : (image : Image) (store : Database) (trees : Trees) → Opens store → FindsIn image store → OnlyLeaves store → HoldsTrees image trees → (left : Trees) → store.may_leave left → left ≡ trees
 left_only image store trees opens found only holds left lies = only opens.is_open left lies ∙ has_held image store trees found holds
-
-pub left_held : (image : Image) (store : Database) (s : State) → Opens store → FindsIn image store → OnlyLeaves store → HoldsState image s → Left store s
-left_held image store s opens found only it left lies = subst (λ trees. LeavesState trees s) (sym (left_only image store it.trees opens found only it.holds left lies)) it.such
 
 -- ---- files that held no database, so that a blank one was made, or what `sqlite` found
 

@@ -7,6 +7,7 @@ mod ClosingLemmas
 mod ContentsLemmas
 pub mod MakingLemmas
 pub mod OpenedLemmas
+pub mod PresentLemmas
 mod RefusalLemmas
 pub mod RemainsLemmas
 pub mod StartLemmas

@@ -1,8 +1,6 @@
 -- What follows of what making a world does, whatever that is; and how it is made and refused.
-use Rattle.moo_files.{proofs.Words.{◌≡◌, ◌≢◌, ◌⊎◌, inl, inr, List, [], ◌∷◌, Result, Ok, Err, IfOk, IfErr, refl, sym, ap, subst, ◌∙◌, Trees, HasCleanDisk, Survives, Opens, IsLive, Held, IsEmpty, empty_is_sound, over_files, file_state, Ghosts, FileStore, Files, Image, outcomes, image_of, Leftover, Maps, State, LeavesState, store_of, no_schema, Error, IsOfStore, StoreFault, SparesFiles, HoldsTrees, HoldsState, HasAnyTable, IsCleanRemains, IsUnopened, KeepsSuch, Remains}, specs.Connected.{IsNewOrFound, OnlyLeaves}, specs.Making.{Site, Empty, HalfMade, Filled, IsSite, TakesWorld, KeepsSite, IsMadeIn, IsUnmadeIn, Makes}, specs.Remains.{StillHolds}, proofs.RemainsLemmas.{begun_empty, keeps_more, blank_more, spared_keeps, spared_blank, spared_begun, unopened_keeps, unopened_blank}, proofs.ContentsLemmas.{finds_held, shows_trees, none_found, any_table, left_only, left_new, left_begun, or_committed}}
-use Rattle.std.proofs.lemmas.Result.{IfOk-weaker, IfErr-weaker}
+use Rattle.moo_files.{proofs.Words.{◌≡◌, ◌≢◌, ◌⊎◌, inl, inr, List, [], ◌∷◌, refl, sym, ap, subst, ◌∙◌, Trees, HasCleanDisk, Survives, Opens, IsLive, Held, IsEmpty, empty_is_sound, over_files, file_state, Ghosts, FileStore, Files, Image, outcomes, image_of, Leftover, Maps, Moment, AreTreesOf, IsSpared, store_of, no_schema, Error, IsOfStore, StoreFault, SparesFiles, HoldsTrees, HoldsMoment, HasAnyTable, IsCleanRemains, IsUnopened, KeepsSuch, Remains}, specs.Connected.{IsNewOrFound, OnlyLeaves}, specs.Making.{Site, Empty, HalfMade, Filled, IsSite, TakesWorld, KeepsSite, IsMadeIn, IsUnmadeIn}, proofs.RemainsLemmas.{begun_empty, keeps_more, blank_more, spared_keeps, spared_blank, spared_begun, unopened_keeps, unopened_blank}, proofs.ContentsLemmas.{finds_held, shows_trees, none_found, any_table, left_only, left_new, left_begun, or_committed}}
 use Rattle.sqlite.specs.Schema.{Schema}
-use Rattle.moo_world.specs.Judge.{state_of}
 use Rattle.moo_tables.proofs.SchemaLemmas.{some_tables, one_schema, no_other}
 use Rattle.sqlite.specs.Effect.{IsDatabase}
 use Rattle.moo_store.specs.Kept.{World}
@@ -122,18 +120,15 @@ module _ {D : Type 0} {g : Ghosts D} (image : Image) (old : Held (FileStore D g)
 
 -- ---- the laws
 
--- what shows a state has a table
-state_has_table : (trees : Trees) (s : State) → LeavesState trees s → HasAnyTable trees
-state_has_table trees s it none =
-    let version = it.leaves.tables.version in
-    some_tables version (sym (one_schema version trees no_schema it.leaves.leaves.sound none))
+-- what has the cells of a moment has a table
+moment_has_table : (trees : Trees) (m : Moment) → AreTreesOf m trees → HasAnyTable trees
+moment_has_table trees m it none =
+    let version = it.1.0.tables.version in
+    some_tables version (sym (one_schema version trees no_schema it.1.2.sound none))
 
 module _ {D : Type 0} {g : Ghosts D} (rows : Maps) (image : Image) (world : World (FileStore D g)) (made : IsMadeIn rows image world) where
   pub occupied_never : (trees : Trees) → HoldsTrees image trees → HasAnyTable trees → HasCleanDisk (store_of over_files world) → ⊥
   occupied_never trees holds any clean = made.over (Filled trees) holds clean any
-
-  pub taken_never : (s : State) → HoldsState image s → HasCleanDisk (store_of over_files world) → ⊥
-  taken_never s holds = occupied_never holds.trees holds.holds (state_has_table holds.trees s holds.such)
 
 module _ {T D : Type 0} {g : Ghosts D} (Made : Trees → Type 0) (image : Image) (fault : StoreFault) (rest : Remains T D g) (unmade : IsUnmadeIn Made image fault rest) where
   pub trees_or_made : (trees : Trees) → HoldsTrees image trees → IsCleanRemains rest → KeepsSuch (λ found. (found ≡ trees) ⊎ Made found) image rest
@@ -146,32 +141,7 @@ module _ {T D : Type 0} {g : Ghosts D} (Made : Trees → Type 0) (image : Image)
       keeps_more (λ found. (found ≡ trees) ⊎ ((¬ HasAnyTable trees) × Made found)) (λ found. found ≡ trees)
       (λ found kept. elim kept [ inl same ↦ same | inr made ↦ absurd (made.0 any) ]) image rest (unmade.kept (Filled trees) holds clean)
 
-  pub state_kept : (s : State) → HoldsState image s → IsCleanRemains rest → StillHolds image rest s
-  state_kept s holds clean =
-      keeps_more (λ found. found ≡ holds.trees) (λ trees. LeavesState trees s) (λ found same. subst (λ trees. LeavesState trees s) (sym same) holds.such) image rest
-      (table_kept holds.trees holds.holds (state_has_table holds.trees s holds.such) clean)
-
-module _ {T D : Type 0} {g : Ghosts D} (rows : Maps) (image : Image) where
-  pub is_made : (r : Result (World (FileStore D g)) (StoreFault × Remains T D g)) → Makes rows image r → IfOk r (IsMadeIn rows image)
-  is_made (Ok world) it = it
-  is_made (Err e) it = tt
-
-  pub is_unmade : (r : Result (World (FileStore D g)) (StoreFault × Remains T D g)) → Makes rows image r → IfErr r (λ e. IsUnmadeIn (λ found. LeavesState found (state_of rows)) image e.0 e.1)
-  is_unmade (Ok world) it = tt
-  is_unmade (Err e) it = it
-
-module _ {T D : Type 0} {g : Ghosts D} (rows : Maps) (image : Image) (r : Result (World (FileStore D g)) (StoreFault × Remains T D g)) (it : Makes rows image r) where
-  pub made_occupied : (trees : Trees) → HoldsTrees image trees → HasAnyTable trees → IfOk r (λ world. HasCleanDisk (store_of over_files world) → ⊥)
-  made_occupied trees holds any = IfOk-weaker r _ _ (λ world made. occupied_never rows image world made trees holds any) (is_made rows image r it)
-
-  pub made_taken : (s : State) → HoldsState image s → IfOk r (λ world. HasCleanDisk (store_of over_files world) → ⊥)
-  made_taken s holds = IfOk-weaker r _ _ (λ world made. taken_never rows image world made s holds) (is_made rows image r it)
-
-  pub unmade_trees : (trees : Trees) → HoldsTrees image trees → IfErr r (λ e. IsCleanRemains e.1 → KeepsSuch (λ found. (found ≡ trees) ⊎ LeavesState found (state_of rows)) image e.1)
-  unmade_trees trees holds = IfErr-weaker r _ _ (λ e unmade. trees_or_made (λ found. LeavesState found (state_of rows)) image e.0 e.1 unmade trees holds) (is_unmade rows image r it)
-
-  pub unmade_kept : (trees : Trees) → HoldsTrees image trees → HasAnyTable trees → IfErr r (λ e. IsCleanRemains e.1 → KeepsSuch (λ found. found ≡ trees) image e.1)
-  unmade_kept trees holds any = IfErr-weaker r _ _ (λ e unmade. table_kept (λ found. LeavesState found (state_of rows)) image e.0 e.1 unmade trees holds any) (is_unmade rows image r it)
-
-  pub unmade_refused : (s : State) → HoldsState image s → IfErr r (λ e. IsCleanRemains e.1 → StillHolds image e.1 s)
-  unmade_refused s holds = IfErr-weaker r _ _ (λ e unmade. state_kept (λ found. LeavesState found (state_of rows)) image e.0 e.1 unmade s holds) (is_unmade rows image r it)
+  pub moment_kept : (m : Moment) → HoldsMoment image m → IsCleanRemains rest → KeepsSuch (λ trees. (end : Moment) × IsSpared m end × AreTreesOf end trees) image rest
+  moment_kept m holds clean =
+      keeps_more (λ found. found ≡ holds.trees) (λ trees. (end : Moment) × IsSpared m end × AreTreesOf end trees) (λ found same. (m, inl refl, subst (AreTreesOf m) (sym same) holds.such)) image rest
+      (table_kept holds.trees holds.holds (moment_has_table holds.trees m holds.such) clean)

@@ -1,14 +1,18 @@
--- What follows of what opening answers, whatever it answers: the state, the tables and the rows that files hold.
-use Rattle.std.{specs.Prelude.{Result, IfOk, IfErr}, proofs.Common.{inl, inr}, proofs.lemmas.Result.{IfOk-weaker, IfErr-weaker}}
+-- What follows of what opening answers, whatever it answers: the moment that files hold.
+use Rattle.std.{specs.Prelude.{Result, IfOk, IfErr, refl}, proofs.Common.{inl, inr}, proofs.lemmas.Result.{IfOk-weaker, IfErr-weaker}}
 use Rattle.sqlite_disk.specs.declared.Disk.{Ghosts}
 use Rattle.sqlite_store.specs.declared.store.FileStore.{FileStore}
 use Rattle.sqlite_wal.specs.Recovery.{Image}
-use Rattle.sqlite.{specs.State.{HasCleanDisk}, specs.Files.{over_files}}
-use Rattle.moo_world.specs.Judge.{State}
+use Rattle.sqlite.{specs.State.{HasCleanDisk}, specs.Files.{over_files}, specs.Tree.{Trees}}
+use Rattle.moo_world.specs.Judge.{state_of}
 use Rattle.moo_store.{specs.Kept.{World}, specs.World.{store_of}}
-use Rattle.moo_store_rows.{specs.States.{LeavesState}, specs.declared.fault.StoreFault.{StoreFault}}
+use Rattle.moo_store_rows.{specs.Moment.{Moment, AreTreesOf, IsSpared}, specs.States.{LeavesState}, specs.declared.fault.StoreFault.{StoreFault}}
 use Rattle.moo_files.specs.declared.remains.Remains.TheVariants as remains
-use Rattle.moo_files.{specs.Causes.{HasCauseOver}, specs.Contents.{HoldsState, IsKept}, specs.Remains.{IsCleanRemains, StillHolds}, specs.Opened.{Contents, Database, Hold, IsOpenedOver, Opens, Refuses, OpensHeld, RefusesHeld, OpensTables, OpensGood}, specs.declared.remains.Remains.{Remains}, proofs.ContentsLemmas.{kept_state}, proofs.RemainsLemmas.{keeps_more}}
+use Rattle.moo_files.{specs.Causes.{HasCauseOver}, specs.Contents.{HoldsMoment, IsKept}, specs.Remains.{IsCleanRemains, KeepsSuch}, specs.Opened.{Contents, Database, Hold, Opens, Refuses, OpensHeld, RefusesHeld}, specs.declared.remains.Remains.{Remains}, proofs.RemainsLemmas.{keeps_more}, proofs.PresentLemmas.{spared_kept}}
+
+-- the state of a moment is one that its trees show
+pub leaves_state : (m : Moment) (trees : Trees) → AreTreesOf m trees → LeavesState trees (state_of m.rows)
+leaves_state m trees it = record { rows = m.rows; good = it.0; state = refl; leaves = record { tables = it.1.0.tables; leaves = it.1.2; shows = it.1.3 } }
 
 module _ {T D : Type 0} {g : Ghosts D} (image : Image) (r : Result (World (FileStore D g)) (StoreFault × Remains T D g)) where
   abbrev OpensBy : Type 0
@@ -18,19 +22,15 @@ module _ {T D : Type 0} {g : Ghosts D} (image : Image) (r : Result (World (FileS
   RefusesBy = (held : Contents) → Hold image held → IfErr r (λ e. IsCleanRemains e.1 → Refuses held image e.0 e.1)
 
   pub opens_held : OpensBy → OpensHeld image r
-  opens_held it s holds = IfOk-weaker r _ _ (λ world opens clean. ((opens clean).state s holds.such).0) (it (Database holds.trees) holds.holds)
-
-  pub opens_tables : OpensBy → OpensTables image r
-  opens_tables it tables holds = IfOk-weaker r _ _ (λ world opens clean. ((opens clean).tables tables holds.such).0) (it (Database holds.trees) holds.holds)
-
-  pub opens_good : IfOk r (IsOpenedOver image) → OpensGood r
-  opens_good it = IfOk-weaker r _ _ (λ world opened. (opened.good, opened.stands)) it
+  opens_held it m holds = IfOk-weaker r _ _ (λ world opens clean. (opens clean).present m holds.such) (it (Database holds.trees) holds.holds)
 
   pub refuses_held : RefusesBy → RefusesHeld image r
-  refuses_held it s holds = IfErr-weaker r _ _ (λ e refuses clean. (refuses clean).state s holds.such) (it (Database holds.trees) holds.holds)
+  refuses_held it m holds = IfErr-weaker r _ _ (λ e refuses clean. (refuses clean).state (state_of m.rows) (leaves_state m holds.trees holds.such)) (it (Database holds.trees) holds.holds)
 
-  pub still_holds : RefusesBy → (s : State) → HoldsState image s → IfErr r (λ e. IsCleanRemains e.1 → StillHolds image e.1 s)
-  still_holds it s holds = IfErr-weaker r _ _ (λ e refuses clean. keeps_more (IsKept holds.trees) (λ trees. LeavesState trees s) (λ found kept. kept_state s holds.trees found holds.such kept) image e.1 (refuses clean).kept) (it (Database holds.trees) holds.holds)
+  pub still_holds : RefusesBy → (m : Moment) → HoldsMoment image m → IfErr r (λ e. IsCleanRemains e.1 → KeepsSuch (λ trees. (end : Moment) × IsSpared m end × AreTreesOf end trees) image e.1)
+  still_holds it m holds = IfErr-weaker r _ _
+      (λ e refuses clean. keeps_more (IsKept holds.trees) (λ trees. (end : Moment) × IsSpared m end × AreTreesOf end trees) (λ found kept. spared_kept m holds.trees found holds.such kept) image e.1 (refuses clean).kept)
+      (it (Database holds.trees) holds.holds)
 
 -- more is known of tables that are migrated
 pub over_more : {T D : Type 0} {g : Ghosts D} (Migrated Earlier Denied : Type 0) (fault : StoreFault) (r : Remains T D g) → (Migrated → Earlier) → HasCauseOver Migrated Denied fault r → HasCauseOver Earlier Denied fault r

@@ -1,5 +1,5 @@
 -- From what the disk leaves of the bytes of two files to a database that their store may leave.
-use Rattle.std.{proofs.Common.{inl, inr, IsTrue, List, refl, sym, subst, ◌∙◌}, proofs.Math.Logic.{∥∥₁_elim, ∥∥₁_map}}
+use Rattle.std.{specs.Prelude.{IsSome}, proofs.Common.{inl, inr, IsTrue, refl, sym, subst, ◌∙◌}, proofs.Math.Logic.{∥∥₁_elim, ∥∥₁_map}}
 use mathlib.Core.HLevel.{Σ_prop_path}
 use Rattle.sqlite_disk.specs.declared.Disk.{Ghosts}
 use Rattle.sqlite_wal.{specs.Recovery.{Image}, specs.Files.{outcomes}}
@@ -8,11 +8,9 @@ use Rattle.sqlite_pool.{specs.Stored.{Recovers}, specs.StoredLaws.{recovers_once
 use Rattle.sqlite_store.{specs.Listing.{IsOurs}, specs.FileStore.{state, view, files, schema_in, reading, recovers}, specs.declared.store.FileStore.{FileStore}}
 use Rattle.sqlite_trees.proofs.Doubt.{clean_of}
 use Rattle.sqlite.{specs.State.{State as Database, HasCleanDisk}, specs.Held.{Held, AreDatabases}, specs.Files.{file_state, IsCleanLeft}, specs.Tree.{Trees}, specs.declared.file.Leftover.{Leftover}}
-use Rattle.moo_rows.specs.Maps.{Maps}
-use Rattle.moo_world.{specs.declared.call.Batch.{Batch}, specs.Judge.{State}}
+use Rattle.moo_world.specs.Judge.{State}
 use Rattle.moo_tables_rows.specs.Tables.{schema_of}
-use Rattle.moo_store.{specs.Stand.{Stand}, specs.Led.{LeavesLed}, specs.World.{CrashLeaves}}
-use Rattle.moo_store_rows.specs.States.{LeavesState}
+use Rattle.moo_store_rows.{specs.States.{LeavesState}, specs.Moment.{Moment, HasCellsOf, AreTreesOf, IsSpared}, specs.Place.{Place, moment_of, CrashLeavesAt}}
 use Rattle.moo_files.{specs.Contents.{HoldsSuch, HoldsTrees, IsLeftBy}, specs.Remains.{IsCleanRemains, LeftoverKeeps, KeepsSuch}, specs.Stop.{DiskLeaves, HasNumberedTrees, LeftStoreLeaves, LeftoverLeaves, BytesLeave, AreNumbered}, specs.declared.remains.Remains.{Remains}, proofs.RemainsLemmas.{such_more}}
 use Rattle.moo_files.specs.declared.remains.Remains.TheVariants as remains
 use Rattle.sqlite.specs.declared.file.Leftover.TheVariants as left
@@ -83,12 +81,14 @@ state_is_database s trees leaves =
     let shown = leaves.leaves in
     (schema_of shown.tables.version, shown.leaves.sound)
 
-pub states_are_databases : (store : Database) (stand : Stand) → CrashLeaves store stand → AreDatabases store.may_leave
-states_are_databases store stand leaves trees lies =
-    let shown = (leaves trees lies).2.leaves in
-    (schema_of shown.tables.version, shown.leaves.sound)
+-- so is what has the cells of a moment
+pub moment_is_database : (m : Moment) → AreDatabases (HasCellsOf m)
+moment_is_database m trees it = (schema_of it.0.tables.version, it.2.sound)
 
-pub rows_are_databases : (store : Database) (rows : Maps) (batches others : List Batch) → LeavesLed store rows batches others → AreDatabases store.may_leave
-rows_are_databases store rows batches others leaves trees lies =
-    let shown = (leaves trees lies).5 in
-    (schema_of shown.tables.version, shown.leaves.sound)
+pub spared_are_databases : (m : Moment) → AreDatabases (λ trees. (end : Moment) × IsSpared m end × AreTreesOf end trees)
+spared_are_databases m trees it = moment_is_database it.0 trees it.2.1
+
+pub places_are_databases : (store : Database) (place : Place) → IsSome (moment_of place).cells → CrashLeavesAt store place → AreDatabases store.may_leave
+places_are_databases store place known leaves trees lies =
+    let it = leaves known trees lies in
+    moment_is_database it.0 trees it.2

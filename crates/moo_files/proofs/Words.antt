@@ -1,16 +1,21 @@
 -- The words that most proofs of this crate share.
-pub use Rattle.std.proofs.Common.{Bool, Err, IfErr, IfOk, IsTrue, List, Ok, Option, Result, Some, [], ap, ap₂, arith, cond, false, get_or-take, inl, inr, length, length-take, refl, rules, slice_index, subst, subst₂, sym, take, true, unwrap_or, ℕ, ◌&&◌, ◌++◌, ◌+◌, ◌<◌, ◌∙◌, ◌∷◌, ◌≡◌, ◌≢◌, ◌≤◌, ◌⊎◌}
+pub use Rattle.std.proofs.Common.{Bool, Err, IfErr, IfOk, IsTrue, List, Ok, Option, Result, Some, IsSome, IfSome, [], ap, ap₂, arith, cond, false, get_or-take, inl, inr, length, length-take, refl, rules, slice_index, subst, subst₂, sym, take, true, unwrap_or, ℕ, ◌&&◌, ◌++◌, ◌+◌, ◌<◌, ◌∙◌, ◌∷◌, ◌≡◌, ◌≢◌, ◌≤◌, ◌⊎◌}
 pub use Rattle.std.proofs.Math.Logic.{∥∥₁_elim, ∥∥₁_map}
 pub use Rattle.std.proofs.lemmas.Bool.{cases_Bool, cases_eq}
 pub use Rattle.moo_cells.specs.Shows.{ShowsRows}
 pub use Rattle.moo_rows.specs.Maps.{Maps}
 pub use Rattle.moo_store_rows.specs.Opening.{Adopts, IsOfStore, not_ours}
-pub use Rattle.moo_store.specs.Stand.{MayLeave, Stand}
-pub use Rattle.moo_store_rows.specs.States.{LeavesState, ShowsState}
-pub use Rattle.moo_store.specs.World.{CrashLeaves, Left, store_of}
+pub use Rattle.moo_store_rows.specs.Moment.{AreTreesOf, BecomesPresent, IsSpared, Moment, rows_alone}
+pub use Rattle.moo_store_rows.specs.NewTables.{LeavesAsMade}
+pub use Rattle.moo_store_rows.specs.Place.{CrashLeavesAt, MayBeLeft, Place, Works, moment_of}
+pub use Rattle.moo_store.specs.Kept.{World}
+pub use Rattle.moo_store.specs.Moves.{Stands}
+pub use Rattle.moo_store_rows.specs.States.{LeavesRows, LeavesState, ShowsState}
+pub use Rattle.moo_store.specs.World.{store_of}
 pub use Rattle.moo_store_rows.specs.declared.fault.StoreFault.{StoreFault}
 pub use Rattle.moo_tables_rows.specs.Tables.{Tables, no_schema, schema_of}
 pub use Rattle.moo_world.specs.Judge.{State}
+pub use Rattle.moo_world.specs.Rows.{IsGood}
 pub use Rattle.sqlite.proofs.FileLemmas.{is_something, same_image, stored_used}
 pub use Rattle.sqlite.proofs.ListingLemmas.{empty_is_sound}
 pub use Rattle.sqlite.specs.Files.{AreFoundIn, BeginsWell, FailsToOpenFiles, Finds, HoldsDatabase, IsEmpty, IsNothing, LeavesFiles, NamesSize, SaysSums, faults_left, file_state, image_of, over_files, tally_left}
@@ -43,6 +48,6 @@ pub use Rattle.sqlite_wal.specs.PageSize.{IsPageSize, bytes_of, size_in_file}
 pub use Rattle.sqlite_wal.specs.Reads.{AreClean, OnlyReads, are_clean, tally_of_files}
 pub use Rattle.sqlite_wal.specs.Recovery.{AreWhole, Image, IsIgnored, Pages}
 pub use Rattle.moo_files.specs.Blank.{IsBlank, LeavesBlank, SparesFiles}
-pub use Rattle.moo_files.specs.Contents.{HasAnyTable, HasOtherTables, HoldsEarlier, HoldsNoTable, HoldsNothingBut, HoldsState, HoldsSuch, HoldsTables, HoldsTrees, IsKept, IsLeftBy, IsMigrated, ReadsAs, ReadsAsOurs}
+pub use Rattle.moo_files.specs.Contents.{HasAnyTable, HasOtherTables, HoldsEarlier, HoldsMoment, HoldsNoTable, HoldsNothingBut, HoldsState, HoldsSuch, HoldsTables, HoldsTrees, IsKept, IsLeftBy, IsMigrated, ReadsAs, ReadsAsOurs}
 pub use Rattle.moo_files.specs.Remains.{ExcusesMalformed, IsCleanRemains, IsUnopened, KeepsNothingBut, KeepsSuch, LeftoverBlank, LeftoverKeeps, LeftoverSpares, Spares, TakesForOurs, cannot_open, malformed}
 pub use Rattle.moo_files.specs.declared.remains.Remains.{Remains}

@@ -15,6 +15,7 @@ use Rattle.moo_tables_rows.specs.Tables.{Tables, schema_of, no_schema}
 use Rattle.moo_tables_rows.specs.Inside.{Leaves}
 use Rattle.moo_tables_rows.specs.Version.{IsEarlier}
 use Rattle.moo_cells.specs.Shows.{ShowsRows}
+use Rattle.moo_store_rows.specs.Moment.{Moment, AreTreesOf}
 use Rattle.moo_store_rows.specs.States.{LeavesRows, LeavesState}
 use Rattle.moo_files.specs.Blank.{IsBlank}
 
@@ -31,6 +32,10 @@ pub record HoldsSuch (P : Trees → Type 0) (image : Image) : Type 0 where
 -- a log and its file hold a database with these tables
 abbrev pub HoldsTables : Image → Tables → Type 0
 HoldsTables image tables = HoldsSuch (λ trees. Leaves trees tables) image
+
+-- a log and its file hold a database of just this moment
+abbrev pub HoldsMoment : Image → Moment → Type 0
+HoldsMoment image m = HoldsSuch (AreTreesOf m) image
 
 -- a log and its file hold a database whose tables show good rows of this state
 abbrev pub HoldsState : Image → State → Type 0

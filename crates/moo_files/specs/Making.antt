@@ -1,5 +1,5 @@
 -- What making a world in a file does, by what the file holds.
-use Rattle.std.specs.Prelude.{◌≡◌, ◌⊎◌, true, ⊤, Option, None, Some, Ok, Err}
+use Rattle.std.specs.Prelude.{◌≡◌, ◌⊎◌, ⊤, Option, None, Some, Ok, Err}
 use Rattle.sqlite_disk.specs.declared.Disk.{Ghosts}
 use Rattle.sqlite_store.specs.declared.store.FileStore.{FileStore}
 use Rattle.sqlite_wal.specs.Recovery.{Image}
@@ -9,11 +9,13 @@ use Rattle.sqlite.specs.Files.{over_files, IsNothing}
 use Rattle.sqlite.specs.Tree.{Trees}
 use Rattle.moo_rows.specs.Maps.{Maps, Held as Rows}
 use Rattle.moo_rows.specs.Opening.{opening_maps}
-use Rattle.moo_world.specs.Judge.{state_of}
 use Rattle.moo_store.specs.Kept.{World}
 use Rattle.moo_store_rows.specs.Opening.{IsOfStore}
-use Rattle.moo_store_rows.specs.States.{LeavesState}
-use Rattle.moo_store.specs.World.{store_of, StandsFor, Left}
+use Rattle.moo_store_rows.specs.Moment.{Moment, rows_alone}
+use Rattle.moo_store_rows.specs.NewTables.{IsMadeOf, LeavesAsMade}
+use Rattle.moo_store_rows.specs.Place.{Works}
+use Rattle.moo_store.specs.Moves.{Stands}
+use Rattle.moo_store.specs.World.{store_of}
 use Rattle.moo_store_rows.specs.declared.fault.StoreFault.{StoreFault}
 use Rattle.moo_files.specs.Blank.{IsBlank}
 use Rattle.moo_files.specs.Causes.{StopsOver}
@@ -50,11 +52,11 @@ module _ {D : Type 0} {g : Ghosts D} where
   abbrev pub StopsMaking : Image → StoreFault → Held (FileStore D g) → Type 0
   StopsMaking image fault conn = (site : Site) → IsSite image site → TakesWorld site → StopsOver ⊤ fault conn
 
-  -- A world of these rows was made in files that had room for it: it has the very rows, and a crash leaves it.
+  -- A world of these rows was made in files that had room for it. The World works at a moment that has the very rows, each in its printed
+  -- cells, and no other row in any table.
   pub record IsMadeIn (rows : Maps) (image : Image) (world : World (FileStore D g)) : Type 0 where
-    pub stands : StandsFor over_files true world (state_of rows)
-    pub same : world.rows.maps ≡ rows
-    pub left : HasCleanDisk (store_of over_files world) → Left (store_of over_files world) (state_of rows)
+    pub unseen : Stands over_files world (Works (rows_alone rows))
+    pub seen : HasCleanDisk (store_of over_files world) → (m : Moment) × IsMadeOf rows m × Stands over_files world (Works m)
     pub room : HasCleanDisk (store_of over_files world) → HoldsNoTable image
     pub over : (site : Site) → IsSite image site → HasCleanDisk (store_of over_files world) → TakesWorld site
 
@@ -76,4 +78,4 @@ module _ {T D : Type 0} {g : Ghosts D} where
   -- what making the world of these rows does
   abbrev pub Makes : Maps → Image → Attempt T D g → Type 0
   Makes rows image (Ok world) = IsMadeIn rows image world
-  Makes rows image (Err e) = IsUnmadeIn (λ found. LeavesState found (state_of rows)) image e.0 e.1
+  Makes rows image (Err e) = IsUnmadeIn (λ found. LeavesAsMade found rows) image e.0 e.1

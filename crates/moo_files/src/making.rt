@@ -1,16 +1,12 @@
 //! Making a world in a file, a new one or one of given rows.
 
-ghost use Rattle.std.specs.Prelude.{◌≡◌, ◌<◌, ◌^◌, IfSome, IfOk, IfErr, false};
-ghost use Rattle.sqlite.specs.State.{HasCleanDisk};
+ghost use Rattle.std.specs.Prelude.{◌≡◌, ◌<◌, ◌^◌, IfSome, IfErr, false};
 ghost use Rattle.sqlite.specs.Held.{state};
 ghost use Rattle.sqlite.specs.Files.{over_files};
 ghost use Rattle.sqlite.specs.WalFiles.{image_at};
 ghost use Rattle.sqlite_std_file.specs.declared.pair.OpenError.{OpenError as Refusal};
-ghost use Rattle.moo_rows.specs.Opening.{opening_maps};
-ghost use Rattle.moo_world.specs.Judge.{state_of};
 ghost use Rattle.moo_world.specs.Rows.{IsGood};
 ghost use Rattle.moo_store.specs.Loading.{Loads};
-ghost use Rattle.moo_store.specs.World.{store_of, Left};
 ghost use Rattle.moo_files.specs.Causes.{HasCauseOr, IsDenied, IsOpenable};
 ghost use Rattle.moo_files.specs.Making.{rows_made, Makes, StopsMaking};
 ghost use Rattle.moo_files.specs.Remains.{IfNotOpened, IsCleanRemains};
@@ -24,8 +20,8 @@ use sqlite::{Alter, Connection, FileStore, Start};
 use sqlite_disk::Disk;
 use std::alloc::Global;
 
-/// Makes the world of these rows, or without any the opening one, in a database that has no tables.
-fn make_in<S: Alter + Drop>(
+/// Makes the world of these rows, or without any the opening one, in a database that has no tables: as `load_in`, or as `create_in`.
+pub fn make_in<S: Alter + Drop>(
     alloc: Global,
     conn: Connection<S>,
     rows: Option<Flat>,
@@ -41,29 +37,8 @@ fn make_in<S: Alter + Drop>(
     }
 }
 
-/// The same, and what a crash leaves of a World that was made.
-fn make_to_stay<S: Alter + Drop>(
-    alloc: Global,
-    conn: Connection<S>,
-    rows: Option<Flat>,
-) -> Result<World<S>, (StoreFault, Connection<S>)>
-    requires outside { (state S.Store conn).in_transaction ≡ false }
-    requires good { IfSome rows (λ r. IsGood r.maps) }
-    requires limit { IfSome rows (λ r. r.maps.head.seq < 2 ^ 63) }
-    ensures loads { Loads S.Store (rows_made rows) conn result }
-    ensures left { IfOk result (λ world. HasCleanDisk (store_of S.Store world) →
-        Left (store_of S.Store world) (state_of (rows_made rows))) }
-{
-    match make_in(alloc, conn, rows) {
-        Ok(world) => {
-            world.leaves();
-            Ok(world)
-        }
-        Err(refused) => Err(refused),
-    }
-}
-
-/// `make_to_stay` at the store in files, over any disk: the second call of a generic function at that store.
+/// `make_in` at the store in files, over any disk. What is known of that store weighs on each function that calls a generic one at it, so
+/// this call has a function of its own.
 pub(crate) fn make_files<D: Disk + Drop>(
     alloc: Global,
     conn: Connection<FileStore<D>>,
@@ -73,14 +48,19 @@ pub(crate) fn make_files<D: Disk + Drop>(
     requires good { IfSome rows (λ r. IsGood r.maps) }
     requires limit { IfSome rows (λ r. r.maps.head.seq < 2 ^ 63) }
     ensures loads { Loads over_files (rows_made rows) conn result }
-    ensures left { IfOk result (λ world. HasCleanDisk (store_of over_files world) →
-        Left (store_of over_files world) (state_of (rows_made rows))) }
 {
-    make_to_stay(alloc, conn, rows)
+    make_in(alloc, conn, rows)
 }
 
-/// Makes the world of these rows, or without any the opening one, in a file that holds no table, or makes the file.
-pub(crate) fn make_from<T: Start, H: WorldFiles<T>>(
+/// Makes the world of these rows, or without any the opening one, in a file that holds no table, or makes the file. A file that it makes,
+/// or that held no database, has pages of 1,024 bytes. `T` stands for what the files hold: it is proved for all contents, and no code
+/// reads them.
+///
+/// The rows have to be good, and `seq` below 2^63. They are written in one transaction. Store with `ErrorCode::NameTaken`: the file
+/// has a table, an index or a view already, and stays as it is. Store with any other code: the file can't be made or opened, isn't
+/// a database, is open elsewhere, or the disk failed. OutOfMemory: memory ran out, and nothing was written. At each refusal what is
+/// left of the files is handed back.
+pub fn make_from<T: Start, H: WorldFiles<T>>(
     alloc: Global,
     host: &H,
     path: &str,
@@ -90,8 +70,14 @@ pub(crate) fn make_from<T: Start, H: WorldFiles<T>>(
     requires may { H.may_open host.now path.now }
     requires good { IfSome rows (λ r. IsGood r.maps) }
     requires limit { IfSome rows (λ r. r.maps.head.seq < 2 ^ 63) }
+    // The world of these rows is made only in files that have room for it: nothing, half a first page, or a database without any table.
+    // It has the very rows, with their numbers, each in its printed cells, and no other row is in any table; a crash leaves these. Else the
+    // store failed, and the files hold what they held, or that world, whole, in the same cells.
     ensures makes { Makes (rows_made rows) (image_at T.Start) result }
+    // If they couldn't be opened, the host said so.
     ensures refusing { IfErr result (λ e. IfNotOpened e.1 ((error : Refusal) × H.refuses host.now path.now error)) }
+    // Files that hold nothing or a database are refused only if the host, the disk or memory did; and once a connection is open, if they
+    // have room for a world, only if the disk failed, memory ran out, or a row is too big or has no number left.
     ensures cause { IsOpenable (image_at T.Start) →
         IfErr result (λ e. IsCleanRemains e.1 →
         HasCauseOr (StopsMaking (image_at T.Start) e.0) (IsDenied (H.denies host.now) path.now) e.0 e.1) }
@@ -104,31 +90,4 @@ pub(crate) fn make_from<T: Start, H: WorldFiles<T>>(
         Ok(world) => Ok(world),
         Err((fault, conn)) => Err((fault, Remains::Connection(conn))),
     }
-}
-
-/// Makes a new world in a file that holds no table, or makes the file. A file that it makes, or that held no database, has pages of
-/// 1,024 bytes. `T` stands for what the files hold, and no code reads it.
-///
-/// Store with `ErrorCode::NameTaken`: it has a table, an index or a view already, and stays as it is. Store with any other code:
-/// the file can't be made or opened, isn't a database, is open elsewhere, or the disk failed. OutOfMemory: memory was refused. At
-/// each refusal what is left of the files is handed back.
-pub fn create_from<T: Start, H: WorldFiles<T>>(
-    alloc: Global,
-    host: &H,
-    path: &str,
-    start: T,
-) -> Result<World<FileStore<H::Disk>>, (StoreFault, Remains<T, H::Disk>)>
-    requires may { H.may_open host.now path.now }
-    // The opening world is made only in files that have room for it: nothing, half a first page, or a database without any table. It has
-    // the very rows, and a crash leaves it. Else the store failed, and the files hold what they held, or that world, whole.
-    ensures makes { Makes opening_maps (image_at T.Start) result }
-    // If they couldn't be opened, the host said so.
-    ensures refusing { IfErr result (λ e. IfNotOpened e.1 ((error : Refusal) × H.refuses host.now path.now error)) }
-    // Files that hold nothing or a database are refused only if the host, the disk or memory did; and once a connection is open, if they
-    // have room for a world, only if the disk failed, memory ran out, or a row is too big or has no number left.
-    ensures cause { IsOpenable (image_at T.Start) →
-        IfErr result (λ e. IsCleanRemains e.1 →
-        HasCauseOr (StopsMaking (image_at T.Start) e.0) (IsDenied (H.denies host.now) path.now) e.0 e.1) }
-{
-    make_from(alloc, host, path, start, None)
 }

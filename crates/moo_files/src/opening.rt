@@ -74,9 +74,10 @@ pub fn open_from<T: Start, H: WorldFiles<T>>(
     start: T,
 ) -> Result<World<FileStore<H::Disk>>, (StoreFault, Remains<T, H::Disk>)>
     requires may { H.may_open host.now path.now }
-    // A World that is opened works, its rows are good, and the files read as a sound database with tables of ours.
+    // A World that is opened works at its own rows, which are good, and the files read as a sound database with tables of ours.
     ensures opened { IfOk result (IsOpenedOver (image_at T.Start)) }
-    // It is what they hold: the state and the tables of their database, which a crash leaves, or what that was migrated to.
+    // It works at the moment that their database shows, brought to the present version; a crash leaves the database, or what that was
+    // migrated to.
     ensures opens { (held : Contents) → Hold (image_at T.Start) held →
         IfOk result (λ world. HasCleanDisk (store_of over_files world) → Opens held world) }
     // Files that are refused are spared. If they weren't opened it is for one of few reasons, and that they couldn't be the host said.

@@ -1,15 +1,18 @@
-//! The program doesn't come this way. The project's requirements name these calls. The program calls `open_from` and `create_from` itself,
+//! The program doesn't come this way. The project's requirements name these calls. The program calls `open_from` and `make_from` itself,
 //! and hands on what is left of a file that they refuse.
 
-ghost use Rattle.std.specs.Prelude.{◌≡◌, IfOk, IfErr, false, true};
+ghost use Rattle.std.specs.Prelude.{IfOk, IfErr};
+ghost use Rattle.sqlite.specs.State.{HasCleanDisk};
 ghost use Rattle.sqlite.specs.Files.{over_files};
 ghost use Rattle.moo_rows.specs.Opening.{opening_maps};
-ghost use Rattle.moo_world.specs.Judge.{state_of};
-ghost use Rattle.moo_world.specs.Rows.{IsGood};
+ghost use Rattle.moo_store_rows.specs.Moment.{Moment, rows_alone};
+ghost use Rattle.moo_store_rows.specs.NewTables.{IsMadeOf};
 ghost use Rattle.moo_store_rows.specs.Opening.{IsOfStore};
-ghost use Rattle.moo_store.specs.World.{StandsFor};
+ghost use Rattle.moo_store_rows.specs.Place.{Works};
+ghost use Rattle.moo_store.specs.Moves.{Stands};
+ghost use Rattle.moo_store.specs.World.{store_of};
 
-use crate::making::create_from;
+use crate::making::make_from;
 use crate::opening::open_from;
 use crate::paths::WorldFiles;
 use moo_store::{StoreFault, World};
@@ -24,9 +27,8 @@ pub fn open_at<H: WorldFiles<Unknown>>(
     path: &str,
 ) -> Result<World<FileStore<H::Disk>>, StoreFault>
     requires may { H.may_open host.now path.now }
-    // Whatever the file holds, the World works, its rows are good, and what is said of rows alone is said of them.
-    ensures rows { IfOk result (λ world. IsGood world.rows.maps × StandsFor over_files false world (state_of world.rows.maps)) }
-    ensures works { IfOk result (λ world. world.failed ≡ false) }
+    // Whatever the file holds, the World works at its own rows, which are good, and what is said of rows alone is said of them.
+    ensures { IfOk result (λ world. Stands over_files world (Works (rows_alone world.rows.maps))) }
 {
     match open_from(alloc, host, path, Unknown) {
         Ok(world) => Ok(world),
@@ -37,18 +39,20 @@ pub fn open_at<H: WorldFiles<Unknown>>(
     }
 }
 
-/// As `create_from`, for a file that nobody has read. At each refusal the file is closed.
+/// As `make_from`, the opening world, for a file that nobody has read. At each refusal the file is closed.
 pub fn create_at<H: WorldFiles<Unknown>>(
     alloc: Global,
     host: &H,
     path: &str,
 ) -> Result<World<FileStore<H::Disk>>, StoreFault>
     requires may { H.may_open host.now path.now }
-    ensures stands { IfOk result (λ world. StandsFor over_files true world (state_of opening_maps)) }
-    ensures rows { IfOk result (λ world. world.rows.maps ≡ opening_maps) }
+    // The World works at the opening rows, and if the disk returns what was written, at a moment that has each in its printed cells.
+    ensures unseen { IfOk result (λ world. Stands over_files world (Works (rows_alone opening_maps))) }
+    ensures seen { IfOk result (λ world. HasCleanDisk (store_of over_files world) →
+        (m : Moment) × IsMadeOf opening_maps m × Stands over_files world (Works m)) }
     ensures fault { IfErr result IsOfStore }
 {
-    match create_from(alloc, host, path, Unknown) {
+    match make_from(alloc, host, path, Unknown, None) {
         Ok(world) => Ok(world),
         Err((fault, remains)) => {
             remains.shut();

@@ -1,5 +1,5 @@
 -- What comes of calls that are asked each alone.
-use Rattle.moo_http.{proofs.Words.{◌≡◌, inl, inr, ℕ, List, Option, ap, sym, refl, ◌∙◌, Bool, true, false, Result, Ok, Err, IsTrue, IsErrOf, Ghosts, State, Stand, Works, Failed, StoreFailed, World, StandsFor, StandsAt, RequestOutcome, MayAnswer}, specs.Answers.{each_outcome}, specs.Settled.{lost_by}}
+use Rattle.moo_http.{proofs.Words.{◌≡◌, inl, inr, ℕ, List, Option, ap, sym, refl, ◌∙◌, Bool, true, false, Result, Ok, Err, IsTrue, IsErrOf, Ghosts, State, Moment, state_of_moment, Place, Works, Failed, Between, World, state_in, Stands, RequestOutcome, MayAnswer}, proofs.Consulting.{at_moment}, specs.Answers.{each_outcome}, specs.Settled.{lost_by}}
 use Rattle.std.specs.Prelude.{if◌then◌else◌}
 use Rattle.moo_world.specs.Judge.{is_due}
 use Rattle.moo_text.{specs.declared.reply.Reply.{Reply}, specs.declared.reply.Reply.TheVariants.{Stale}}
@@ -17,39 +17,43 @@ unfolding chosen
 chosen-is each s seq due e same = ap (λ b. if b then outcome.Each (answers_alone s each.batches) s.seq else outcome.Replied (Stale s.seq)) (ap (is_due each.at) same ∙ e)
 
 -- they are meant for another number
-pub each_stale : (each : Each) (s : State) (seq : ℕ) → is_due each.at seq ≡ false → s.seq ≡ seq → MayAnswer (Works s) (Asks each) (outcome.Replied (Stale seq)) (Works s)
+pub each_stale : (each : Each) (m : Moment) (seq : ℕ) → is_due each.at seq ≡ false → (state_of_moment m).seq ≡ seq → MayAnswer (Works m) (Asks each) (outcome.Replied (Stale seq)) (Works m)
 unfolding chosen
-each_stale each s seq other same = inl (ap (λ n. outcome.Replied (Stale n)) (sym same) ∙ sym (chosen-is each s seq false other same), refl)
+each_stale each m seq other same = inl (ap (λ n. outcome.Replied (Stale n)) (sym same) ∙ sym (chosen-is each (state_of_moment m) seq false other same), refl)
 
 -- or for this one
-pub each_due : (each : Each) (s : State) (seq : ℕ) (replies : List (Option Reply)) → is_due each.at seq ≡ true → s.seq ≡ seq → replies ≡ answers_alone s each.batches
-    → MayAnswer (Works s) (Asks each) (outcome.Each replies seq) (Works s)
+pub each_due : (each : Each) (m : Moment) (seq : ℕ) (replies : List (Option Reply)) → is_due each.at seq ≡ true → (state_of_moment m).seq ≡ seq → replies ≡ answers_alone (state_of_moment m) each.batches
+    → MayAnswer (Works m) (Asks each) (outcome.Each replies seq) (Works m)
 unfolding chosen
-each_due each s seq replies due same is = inl (ap (outcome.Each replies) (sym same) ∙ ap (λ rs. outcome.Each rs s.seq) is ∙ sym (chosen-is each s seq true due same), refl)
+each_due each m seq replies due same is =
+    inl (ap (outcome.Each replies) (sym same) ∙ ap (λ rs. outcome.Each rs (state_of_moment m).seq) is ∙ sym (chosen-is each (state_of_moment m) seq true due same), refl)
 
 -- memory for the answers is refused
-pub each_lost : (each : Each) (s : State) (fault : StoreFault) → fault ≡ OutOfMemory → MayAnswer (Works s) (Asks each) (lost_by fault) (Works s)
-each_lost each s fault e = inr (tt, ap lost_by e, refl)
+pub each_lost : (each : Each) (m : Moment) (fault : StoreFault) → fault ≡ OutOfMemory → MayAnswer (Works m) (Asks each) (lost_by fault) (Works m)
+each_lost each m fault e = inr (tt, ap lost_by e, refl)
 
 -- a World that tells this number is one that works
-pub each_at : {S : Type 0} (g : Ghosts S) (known : Bool) (world : World S) (each : Each) (o : RequestOutcome) (r : Result ℕ StoreFault) (seq : ℕ) → r ≡ Ok seq
-    → ((known : Bool) (s : State) → StandsFor g known world s → r ≡ Ok s.seq) → (IsTrue world.failed → IsErrOf r Closed)
-    → ((known : Bool) (s : State) → StandsFor g known world s → s.seq ≡ seq → MayAnswer (Works s) (Asks each) o (Works s))
-    → (stand : Stand) → StandsAt g known world stand → MayAnswer stand (Asks each) o stand
-each_at g known world each o r seq is number closed told (Works s) at = told known s at (let e = number known s at in cc)
-each_at g known world each o r seq is number closed told (Failed s) at = let e = closed at.0 in absurd cc
-each_at g known world each o r seq is number closed told (StoreFailed s hand) at = let e = closed at.0 in absurd cc
+pub each_at : {S : Type 0} (g : Ghosts S) (world : World S) (each : Each) (o : RequestOutcome) (r : Result ℕ StoreFault) (seq : ℕ) → r ≡ Ok seq
+    → (world.failed ≡ false → r ≡ Ok (state_in world).seq) → (IsTrue world.failed → IsErrOf r Closed)
+    → ((m : Moment) → Stands g world (Works m) → (state_of_moment m).seq ≡ seq → MayAnswer (Works m) (Asks each) o (Works m))
+    → (place : Place) → Stands g world place → MayAnswer place (Asks each) o place
+each_at g world each o r seq is number closed told (Works m) at = told m at (ap (λ (s : State). s.seq) (sym (at_moment g world m at)) ∙ of_number (number at.failed))
+  where
+    of_number : r ≡ Ok (state_in world).seq → (state_in world).seq ≡ seq
+    of_number e = cc
+each_at g world each o r seq is number closed told (Failed m) at = let e = closed at.failed in absurd cc
+each_at g world each o r seq is number closed told (Between m next) at = let e = closed at.failed in absurd cc
 
 -- and one that tells none has failed
-pub each_closed : {S : Type 0} (g : Ghosts S) (known : Bool) (world : World S) (each : Each) (r : Result ℕ StoreFault) (fault : StoreFault) → r ≡ Err fault
-    → ((known : Bool) (s : State) → StandsFor g known world s → r ≡ Ok s.seq) → (IsTrue world.failed → IsErrOf r Closed)
-    → (stand : Stand) → StandsAt g known world stand → MayAnswer stand (Asks each) (lost_by fault) stand
-each_closed g known world each r fault is number closed (Works s) at = let e = number known s at in absurd cc
-each_closed g known world each r fault is number closed (Failed s) at = inl (ap lost_by (of_closed (closed at.0)), refl)
+pub each_closed : {S : Type 0} (g : Ghosts S) (world : World S) (each : Each) (r : Result ℕ StoreFault) (fault : StoreFault) → r ≡ Err fault
+    → (world.failed ≡ false → r ≡ Ok (state_in world).seq) → (IsTrue world.failed → IsErrOf r Closed)
+    → (place : Place) → Stands g world place → MayAnswer place (Asks each) (lost_by fault) place
+each_closed g world each r fault is number closed (Works m) at = let e = number at.failed in absurd cc
+each_closed g world each r fault is number closed (Failed m) at = inl (ap lost_by (of_closed (closed at.failed)), refl)
   where
     of_closed : r ≡ Err Closed → fault ≡ Closed
     of_closed e = cc
-each_closed g known world each r fault is number closed (StoreFailed s hand) at = inl (ap lost_by (of_closed (closed at.0)), refl)
+each_closed g world each r fault is number closed (Between m next) at = inl (ap lost_by (of_closed (closed at.failed)), refl)
   where
     of_closed : r ≡ Err Closed → fault ≡ Closed
     of_closed e = cc

@@ -1,67 +1,126 @@
--- What a batch that is run or asked, and a question, say of a World wherever it stands.
-use Rattle.moo_http.{proofs.Words.{◌≡◌, inl, [], refl, sym, ap, subst, ◌∙◌, Bool, true, false, Result, Ok, Err, IsTrue, IfOk, ◌⊎◌, Ghosts, Batch, State, state_of, judge, Stand, Works, Failed, StoreFailed, World, IsMovedBy, StandsFor, StandsAt, store_of, written_none, Calls, Run, Ask, RequestOutcome, MayAnswer, taken_by, failed_by}, specs.Settled.{came_of}}
+-- What a batch that is run or asked, and a question, say of a World at whatever place.
+use Rattle.moo_http.{proofs.Words.{◌≡◌, ◌⊎◌, inl, inr, refl, ap, subst, arith, ◌∙◌, true, false, Result, Ok, Err, IsTrue, IfOk, IfErr, Ghosts, Batch, state_of, judge, World, state_in, Stands, MovesBy, RunsAt, VerdictLeads, StopsStore, Moment, LeadsBy, rows_alone, state_of_moment, Place, Works, Failed, Between, Calls, Run, Ask, RequestOutcome, MayAnswer, HasAdvanced, IsStillOrAdvanced}, proofs.Going.{moves_as}, specs.Settled.{came_of}}
 use Rattle.std.specs.Result.{IsOkAnd}
+use Rattle.sqlite.specs.declared.error.Error.{Error}
 use Rattle.moo_rows.specs.Maps.{Maps}
-use Rattle.moo_text.{specs.declared.reply.Reply.{Reply}, specs.declared.reply.Reply.TheVariants.{NoMemory}}
+use Rattle.moo_world.specs.Judge as model
+use Rattle.moo_text.{specs.declared.reply.Reply.{Reply}, specs.declared.reply.Reply.TheVariants.{Accepted, Refused, Full, Stale, NoMemory}}
 use Rattle.moo_text.specs.declared.reply.Answer.TheVariants as answered
-use Rattle.moo_store.{specs.Answered.{answer_of, IsRun}, specs.Text.{answer_to, StandsBehind}, specs.Untouched.{WritesOne, taken_of, lost_of}, proofs.Asking.{asked_one}, proofs.Running.{FailsAtStore}, proofs.Untouched.{written_on}}
-use Rattle.moo_store_rows.{specs.declared.fault.StoreFault.{StoreFault}, specs.declared.fault.StoreFault.TheVariants.{Store, Damaged, NewerVersion, OutOfMemory, Closed}, proofs.Committed.{IsSettled}}
+use Rattle.moo_store.{specs.Answered.{reply_of}, specs.Moves.{FailsRun, MayReplyAsked}, specs.Stopping.{says_accepted}, specs.Text.{answer_to}}
+use Rattle.moo_store_rows.{specs.declared.fault.StoreFault.{StoreFault}, specs.declared.fault.StoreFault.TheVariants.{Store, Damaged, NewerVersion, OutOfMemory, Closed}}
 use Rattle.moo_http_request.{specs.declared.asked.Asked.TheVariants.{Question as Asks}, specs.declared.question.Question.{Question}}
 use Rattle.moo_http_response.specs.Outcomes.{outcome_of}
+use Rattle.moo_http_response.specs.Told.{told_of}
 use Rattle.moo_http_response.specs.declared.outcome.RequestOutcome.TheVariants as outcome
 
 -- ---- a run of one batch
 
-came_as : {S : Type 0} (g : Ghosts S) (was new : World S) (r : Result Reply StoreFault) → FailsAtStore g was new r → came_of r ≡ outcome_of (answer_to r)
+no_other : {S : Type 0} (g : Ghosts S) (was new : World S) {X : Type 0} (fault : StoreFault) → FailsRun g was new fault → (fault ≡ Closed → X) → ((error : Error) → fault ≡ Store error → X) → X
+no_other g was new fault (inl closed) first second = first closed
+no_other g was new fault (inr (error, is, why)) first second = second error is
+
+came_as : {S : Type 0} (g : Ghosts S) (was new : World S) (r : Result Reply StoreFault) → IfErr r (FailsRun g was new) → came_of r ≡ outcome_of (answer_to r)
 came_as g was new (Ok reply) fails = refl
 came_as g was new (Err (Store error)) fails = refl
-came_as g was new (Err (Damaged kind key)) fails = absurd fails
-came_as g was new (Err NewerVersion) fails = absurd fails
-came_as g was new (Err OutOfMemory) fails = absurd fails
+came_as g was new (Err (Damaged kind key)) fails = no_other g was new (Damaged kind key) fails (λ e. absurd cc) (λ error e. absurd cc)
+came_as g was new (Err NewerVersion) fails = no_other g was new NewerVersion fails (λ e. absurd cc) (λ error e. absurd cc)
+came_as g was new (Err OutOfMemory) fails = no_other g was new OutOfMemory fails (λ e. absurd cc) (λ error e. absurd cc)
 came_as g was new (Err Closed) fails = refl
 
--- the World stands somewhere, and this is what came of the batch
-pub ran_one : {S : Type 0} (g : Ghosts S) (known : Bool) (was new : World S) (stand : Stand) (batch : Batch) (r : Result Reply StoreFault) (o : RequestOutcome) → o ≡ came_of r → FailsAtStore g was new r
-    → StandsBehind g was batch (answer_to r) new → StandsAt g known was stand → (next : Stand) × StandsAt g known new next × MayAnswer stand (Calls Run batch) o next
-ran_one g known was new stand batch r o is fails stands at =
-    let ran = stands known stand at in
-    (ran.0, ran.1, inl (answer_to r, ran.2, is ∙ came_as g was new r fails))
+-- this is what came of the batch
+pub ran_one : {S : Type 0} (g : Ghosts S) (was new : World S) (batch : Batch) (r : Result Reply StoreFault) (o : RequestOutcome) → o ≡ came_of r → IfErr r (FailsRun g was new)
+    → MovesBy g was new (λ from to. RunsAt from batch (answer_to r) to) → MovesBy g was new (λ from to. MayAnswer from (Calls Run batch) o to)
+ran_one g was new batch r o is fails moves =
+    moves_as g was new (λ from to. RunsAt from batch (answer_to r) to) (λ from to. MayAnswer from (Calls Run batch) o to) (λ from to runs. inl (answer_to r, runs, is ∙ came_as g was new r fails)) moves
 
--- by what came of it
-abbrev pub MovedAs : {S : Type 0} (g : Ghosts S) → World S → World S → Batch → RequestOutcome → Type 0
-MovedAs g was new batch o = IsMovedBy g was new (taken_by (Calls Run batch) o) (failed_by (Calls Run batch) o)
+module _ {S : Type 0} (g : Ghosts S) (was new : World S) (batch : Batch) (m : Moment) (works : was.failed ≡ false) (rows : was.rows.maps ≡ m.rows) where
+  -- an accepted batch is counted
+  led_advances : (next : Moment) (to : Place) → LeadsBy m batch next → (to ≡ Works next) ⊎ (to ≡ Failed next) → Stands g new to → HasAdvanced was new
+  led_advances next to leads (inl is) at =
+      let there : Stands g new (Works next) = subst (λ p. Stands g new p) is at in
+      let counted = ap (λ (x : Maps). x.head.seq) leads.rows.2 in
+      let now = ap (λ (x : Maps). x.head.seq) (there.rows there.failed) in
+      let before = ap (λ (x : Maps). x.head.seq) rows in
+      (works, inr (omega (arith, counted, now, before)))
+  led_advances next to leads (inr is) at =
+      let there : Stands g new (Failed next) = subst (λ p. Stands g new p) is at in
+      (works, inl there.failed)
 
-moved_as : {S : Type 0} (g : Ghosts S) (was new : World S) (batch : Batch) (r : Result Reply StoreFault) → FailsAtStore g was new r → IsMovedBy g was new (taken_of batch r) (lost_of batch r) → MovedAs g was new batch (came_of r)
-moved_as g was new batch (Ok reply) fails moved = moved
-moved_as g was new batch (Err (Store error)) fails moved = moved
-moved_as g was new batch (Err (Damaged kind key)) fails moved = absurd fails
-moved_as g was new batch (Err NewerVersion) fails moved = absurd fails
-moved_as g was new batch (Err OutOfMemory) fails moved = absurd fails
-moved_as g was new batch (Err Closed) fails moved = moved
+  verdict_advances : (v : model.Verdict) (to : Place) → VerdictLeads m batch v to → says_accepted (answered.Replied (reply_of v)) ≡ true → Stands g new to → HasAdvanced was new
+  verdict_advances (model.Accepted answers end) to (next, leads, is) accepted at = led_advances next to leads is at
+  verdict_advances (model.Refused call code) to is accepted at = absurd cc
+  verdict_advances (model.NoRoom call) to is accepted at = absurd cc
+  verdict_advances (model.Stale seq) to is accepted at = absurd cc
 
-pub moved_one : {S : Type 0} (g : Ghosts S) (was new : World S) (batch : Batch) (r : Result Reply StoreFault) (o : RequestOutcome) → o ≡ came_of r → IsSettled (store_of g was) → FailsAtStore g was new r → WritesOne g was new batch r → MovedAs g was new batch o
-moved_one g was new batch r o is settled fails wrote =
-    subst (MovedAs g was new batch) (sym is) (moved_as g was new batch r fails (written_on g was was new [] [] batch r (written_none g was settled) fails wrote))
+  stops_advances : (v : model.Verdict) (to : Place) → StopsStore m batch v to → Stands g new to → HasAdvanced was new
+  stops_advances (model.Accepted answers end) to (next, leads, is) at =
+      let there : Stands g new (Between m next) = subst (λ p. Stands g new p) is at in
+      (works, inl there.failed)
+  stops_advances (model.Refused call code) to is at = absurd is
+  stops_advances (model.NoRoom call) to is at = absurd is
+  stops_advances (model.Stale seq) to is at = absurd is
+
+  replied_advances : (reply : Reply) (to : Place) → RunsAt (Works m) batch (answered.Replied reply) to → says_accepted (answered.Replied reply) ≡ true → Stands g new to → HasAdvanced was new
+  replied_advances reply to (inl (none, same, run)) accepted at =
+      let no : says_accepted (answered.Replied NoMemory) ≡ true = subst (λ r. says_accepted (answered.Replied r) ≡ true) none accepted in
+      absurd cc
+  replied_advances reply to (inr (is, leads)) accepted at =
+      verdict_advances (judge (state_of_moment m) batch) to leads (subst (λ r. says_accepted (answered.Replied r) ≡ true) is accepted) at
+
+  by_reply : (reply : Reply) (to : Place) → (says_accepted (answered.Replied reply) ≡ false → new ≡ was) → RunsAt (Works m) batch (answered.Replied reply) to → Stands g new to → (new ≡ was) ⊎ HasAdvanced was new
+  by_reply (Accepted seq answers) to still runs at = inr (replied_advances (Accepted seq answers) to runs refl at)
+  by_reply (Refused call code) to still runs at = inl (still refl)
+  by_reply (Full call) to still runs at = inl (still refl)
+  by_reply (Stale seq) to still runs at = inl (still refl)
+  by_reply NoMemory to still runs at = inl (still refl)
+
+  by_result : (r : Result Reply StoreFault) (to : Place) → IfOk r (λ reply. says_accepted (answered.Replied reply) ≡ false → new ≡ was) → IfErr r (FailsRun g was new) → RunsAt (Works m) batch (answer_to r) to → Stands g new to
+      → (new ≡ was) ⊎ HasAdvanced was new
+  by_result (Ok reply) to still fails runs at = by_reply reply to still runs at
+  by_result (Err (Store error)) to still fails runs at = inr (stops_advances (judge (state_of_moment m) batch) to runs at)
+  by_result (Err (Damaged kind key)) to still fails runs at = no_other g was new (Damaged kind key) fails (λ e. absurd cc) (λ error e. absurd cc)
+  by_result (Err NewerVersion) to still fails runs at = no_other g was new NewerVersion fails (λ e. absurd cc) (λ error e. absurd cc)
+  by_result (Err OutOfMemory) to still fails runs at = no_other g was new OutOfMemory fails (λ e. absurd cc) (λ error e. absurd cc)
+  by_result (Err Closed) to still fails runs at = absurd runs
+
+-- and unless the batch was accepted, or the store failed in it, it is the very World
+pub still_one : {S : Type 0} (g : Ghosts S) (was new : World S) (batch : Batch) (r : Result Reply StoreFault) → MovesBy g was new (λ from to. RunsAt from batch (answer_to r) to)
+    → IfOk r (λ reply. says_accepted (answered.Replied reply) ≡ false → new ≡ was) → IfErr r (FailsRun g was new) → IsStillOrAdvanced g was new
+still_one g was new batch r moves still fails (Works m) at =
+    let it = moves.goes (Works m) at in
+    by_result g was new batch m at.failed (at.rows at.failed) r it.0 still fails it.2 it.1
+still_one g was new batch r moves still fails (Failed m) at = inl (moves.closed at.failed)
+still_one g was new batch r moves still fails (Between m next) at = inl (moves.closed at.failed)
 
 -- ---- questions
 
-pub asked : {S : Type 0} (g : Ghosts S) (known : Bool) (world : World S) (batch : Batch) (r : Result Reply StoreFault)
-    → ((known : Bool) (s : State) → StandsFor g known world s → IsOkAnd r (λ reply. (reply ≡ NoMemory) ⊎ (reply ≡ answer_of s (judge s batch)))) → ((known : Bool) (s : State) → StandsFor g known world s → IfOk r (λ reply. reply ≡ NoMemory → IsRun s batch))
-    → (IsTrue world.failed → r ≡ Err Closed) → (stand : Stand) → StandsAt g known world stand → MayAnswer stand (Calls Ask batch) (came_of r) stand
-asked g known world batch (Ok reply) judged run closed stand at = inl (answered.Replied reply, asked_one g world batch (Ok reply) judged run closed known stand at, refl)
-asked g known world batch (Err fault) judged run closed (Works s) at = absurd (judged known s at)
-asked g known world batch (Err fault) judged run closed (Failed s) at = inl (answered.Closed, (refl, refl), ap came_of (closed at.0))
-asked g known world batch (Err fault) judged run closed (StoreFailed s hand) at = inl (answered.Closed, (refl, refl), ap came_of (closed at.0))
+-- what is said of the state of the rows is said of the moment where a World works
+pub at_moment : {S : Type 0} (g : Ghosts S) (world : World S) (m : Moment) → Stands g world (Works m) → state_in world ≡ state_of_moment m
+at_moment g world m at = ap state_of (at.rows at.failed)
 
--- what the rows of a World that works tell, it tells wherever it stands
-pub told_by_rows : {S : Type 0} (g : Ghosts S) (known : Bool) (world : World S) (question : Question) (rows : Maps) (o : RequestOutcome) → ((known : Bool) (s : State) → StandsFor g known world s → state_of rows ≡ s) → world.failed ≡ false
-    → MayAnswer (Works (state_of rows)) (Asks question) o (Works (state_of rows)) → (stand : Stand) → StandsAt g known world stand → MayAnswer stand (Asks question) o stand
-told_by_rows g known world question rows o state works told (Works s) at = subst (λ (now : State). MayAnswer (Works now) (Asks question) o (Works now)) (state known s at) told
-told_by_rows g known world question rows o state works told (Failed s) at = let failed = at.0 in absurd cc
-told_by_rows g known world question rows o state works told (StoreFailed s hand) at = let failed = at.0 in absurd cc
+pub asked : {S : Type 0} (g : Ghosts S) (world : World S) (batch : Batch) (r : Result Reply StoreFault) → (world.failed ≡ false → IsOkAnd r (MayReplyAsked (state_in world) batch)) → (IsTrue world.failed → r ≡ Err Closed)
+    → (place : Place) → Stands g world place → MayAnswer place (Calls Ask batch) (came_of r) place
+asked g world batch (Ok reply) asks closed (Works m) at =
+    inl (answered.Replied reply, ((reply, refl, subst (λ s. MayReplyAsked s batch reply) (at_moment g world m at) (asks at.failed)), refl), refl)
+asked g world batch (Ok reply) asks closed (Failed m) at = let e = closed at.failed in absurd cc
+asked g world batch (Ok reply) asks closed (Between m next) at = let e = closed at.failed in absurd cc
+asked g world batch (Err fault) asks closed (Works m) at = absurd (asks at.failed)
+asked g world batch (Err fault) asks closed (Failed m) at = inl (answered.Closed, (refl, refl), ap came_of (closed at.failed))
+asked g world batch (Err fault) asks closed (Between m next) at = inl (answered.Closed, (refl, refl), ap came_of (closed at.failed))
+
+-- what the rows of a World that works tell, it tells at whatever place
+pub told_by_rows : {S : Type 0} (g : Ghosts S) (world : World S) (question : Question) (o : RequestOutcome) → world.failed ≡ false → MayAnswer (Works (rows_alone world.rows.maps)) (Asks question) o (Works (rows_alone world.rows.maps))
+    → (place : Place) → Stands g world place → MayAnswer place (Asks question) o place
+told_by_rows g world question o works told place at = by place at told
+  where
+    by : (place : Place) → Stands g world place → MayAnswer (Works (rows_alone world.rows.maps)) (Asks question) o (Works (rows_alone world.rows.maps)) → MayAnswer place (Asks question) o place
+    by (Works m) at (inl (is, same)) = inl (subst (λ (rows : Maps). o ≡ outcome.Told (told_of question (state_of rows))) (at.rows works) is, refl)
+    by (Works m) at (inr (takes, is, same)) = inr (takes, is, refl)
+    by (Failed m) at told = let failed = at.failed in absurd cc
+    by (Between m next) at told = let failed = at.failed in absurd cc
 
 -- and one that failed is closed
-pub told_closed : {S : Type 0} (g : Ghosts S) (known : Bool) (world : World S) (question : Question) → world.failed ≡ true → (stand : Stand) → StandsAt g known world stand → MayAnswer stand (Asks question) outcome.Closed stand
-told_closed g known world question failed (Works s) at = let works = at.works in absurd cc
-told_closed g known world question failed (Failed s) at = inl (refl, refl)
-told_closed g known world question failed (StoreFailed s hand) at = inl (refl, refl)
+pub told_closed : {S : Type 0} (g : Ghosts S) (world : World S) (question : Question) → world.failed ≡ true → (place : Place) → Stands g world place → MayAnswer place (Asks question) outcome.Closed place
+told_closed g world question failed (Works m) at = let works = at.failed in absurd cc
+told_closed g world question failed (Failed m) at = inl (refl, refl)
+told_closed g world question failed (Between m next) at = inl (refl, refl)

@@ -1,5 +1,5 @@
 -- What a World that works answers, beside the defined answer.
-use Rattle.moo_http.proofs.Words.{◌≡◌, ◌≢◌, inl, inr, ap, ◌∙◌, Batch, State, judge, left_by, Stand, Works, state_at, VerdictLeaves, RunsBatch, AsksBatch, Asked, Refused, Calls, Run, Ask, RequestOutcome, response_of, MayAnswer, Comes, answer}
+use Rattle.moo_http.proofs.Words.{◌≡◌, ◌≢◌, inl, inr, refl, ap, ◌∙◌, Batch, judge, left_by, Moment, Place, Works, state_at, state_of_moment, VerdictLeads, RunsAt, AsksAt, Asked, Refused, Calls, Run, Ask, RequestOutcome, response_of, MayAnswer, Comes, answer}
 use Rattle.moo_world.specs.Judge as model
 use Rattle.moo_text.specs.declared.reply.Answer.{Answer}
 use Rattle.moo_text.specs.declared.reply.Answer.TheVariants as answered
@@ -7,41 +7,43 @@ use Rattle.moo_http_request.specs.declared.asked.Asked.TheVariants.{Each, Questi
 use Rattle.moo_http_response.specs.Outcomes.{outcome_of}
 use Rattle.moo_http_response.specs.declared.outcome.RequestOutcome.TheVariants as outcome
 
-leaves : (s : State) (v : model.Verdict) (new : Stand) → VerdictLeaves s v new → state_at new ≡ left_by s v
-leaves s (model.Accepted answers next) new left = elim left [ inl e ↦ ap state_at e | inr e ↦ ap state_at e ]
-leaves s (model.Refused call code) new left = ap state_at left
-leaves s (model.NoRoom call) new left = ap state_at left
-leaves s (model.Stale seq) new left = ap state_at left
+leaves : (m : Moment) (batch : Batch) (v : model.Verdict) (to : Place) → judge (state_of_moment m) batch ≡ v → VerdictLeads m batch v to → state_at to ≡ left_by (state_of_moment m) v
+leaves m batch (model.Accepted answers end) to is (next, leads, left) =
+    let there : state_of_moment next ≡ left_by (state_of_moment m) (model.Accepted answers end) = leads.state ∙ ap (left_by (state_of_moment m)) is in
+    elim left [ inl e ↦ ap state_at e ∙ there | inr e ↦ ap state_at e ∙ there ]
+leaves m batch (model.Refused call code) to is left = ap state_at left
+leaves m batch (model.NoRoom call) to is left = ap state_at left
+leaves m batch (model.Stale seq) to is left = ap state_at left
 
 -- the answer is the defined one, and so is the next state
-abbrev pub IsDefined : State → Asked → RequestOutcome → Stand → Type 0
-IsDefined s asked o new = (o ≡ (answer s asked).0) × (state_at new ≡ (answer s asked).1)
+abbrev pub IsDefined : Moment → Asked → RequestOutcome → Place → Type 0
+IsDefined m asked o to = (o ≡ (answer (state_of_moment m) asked).0) × (state_at to ≡ (answer (state_of_moment m) asked).1)
 
-run_defined : (s : State) (batch : Batch) (a : Answer) (o : RequestOutcome) (new : Stand) → RunsBatch (Works s) batch a new → o ≡ outcome_of a → (response_of o).status ≢ 503 → IsDefined s (Calls Run batch) o new
-run_defined s batch (answered.Replied reply) o new runs is other = elim runs [
+run_defined : (m : Moment) (batch : Batch) (a : Answer) (o : RequestOutcome) (to : Place) → RunsAt (Works m) batch a to → o ≡ outcome_of a → (response_of o).status ≢ 503 → IsDefined m (Calls Run batch) o to
+run_defined m batch (answered.Replied reply) o to runs is other = elim runs [
   | inl none ↦ absurd (other (ap (λ x. (response_of x).status) (is ∙ ap outcome.Replied none.0)))
-  | inr one ↦ (is ∙ ap outcome.Replied one.0, leaves s (judge s batch) new one.1)
+  | inr one ↦ (is ∙ ap outcome.Replied one.0, leaves m batch (judge (state_of_moment m) batch) to refl one.1)
 ]
-run_defined s batch answered.Fault o new runs is other = absurd (other (ap (λ x. (response_of x).status) is))
-run_defined s batch answered.Closed o new runs is other = absurd runs
-run_defined s batch (answered.Malformed number) o new runs is other = absurd runs
-run_defined s batch answered.Truncated o new runs is other = absurd runs
+run_defined m batch answered.Fault o to runs is other = absurd (other (ap (λ x. (response_of x).status) is))
+run_defined m batch answered.Closed o to runs is other = absurd runs
+run_defined m batch (answered.Malformed number) o to runs is other = absurd runs
+run_defined m batch answered.Truncated o to runs is other = absurd runs
 
-ask_defined : (s : State) (batch : Batch) (a : Answer) (o : RequestOutcome) (new : Stand) → AsksBatch (Works s) batch a new → o ≡ outcome_of a → (response_of o).status ≢ 503 → IsDefined s (Calls Ask batch) o new
-ask_defined s batch a o new asks is other = elim asks.0 [
-  | inl none ↦ absurd (other (ap (λ x. (response_of x).status) (is ∙ ap outcome_of none.0)))
-  | inr one ↦ (is ∙ ap outcome_of one, ap state_at asks.1)
+ask_defined : (m : Moment) (batch : Batch) (a : Answer) (o : RequestOutcome) (to : Place) → AsksAt (Works m) batch a to → o ≡ outcome_of a → (response_of o).status ≢ 503 → IsDefined m (Calls Ask batch) o to
+ask_defined m batch a o to ((reply, replied, asks), same) is other = elim asks [
+  | inl none ↦ absurd (other (ap (λ x. (response_of x).status) (is ∙ ap outcome_of (replied ∙ ap answered.Replied none.0))))
+  | inr one ↦ (is ∙ ap outcome_of (replied ∙ ap answered.Replied one), ap state_at same)
 ]
 
-comes_defined : (s : State) (asked : Asked) (o : RequestOutcome) (new : Stand) → Comes (Works s) asked o new → (response_of o).status ≢ 503 → IsDefined s asked o new
-comes_defined s (Refused refusal) o new comes other = (comes.0, ap state_at comes.1)
-comes_defined s (Calls Run batch) o new comes other = run_defined s batch comes.0 o new comes.1 comes.2 other
-comes_defined s (Calls Ask batch) o new comes other = ask_defined s batch comes.0 o new comes.1 comes.2 other
-comes_defined s (Each each) o new comes other = (comes.0, ap state_at comes.1)
-comes_defined s (Question question) o new comes other = (comes.0, ap state_at comes.1)
+comes_defined : (m : Moment) (asked : Asked) (o : RequestOutcome) (to : Place) → Comes (Works m) asked o to → (response_of o).status ≢ 503 → IsDefined m asked o to
+comes_defined m (Refused refusal) o to comes other = (comes.0, ap state_at comes.1)
+comes_defined m (Calls Run batch) o to comes other = run_defined m batch comes.0 o to comes.1 comes.2 other
+comes_defined m (Calls Ask batch) o to comes other = ask_defined m batch comes.0 o to comes.1 comes.2 other
+comes_defined m (Each each) o to comes other = (comes.0, ap state_at comes.1)
+comes_defined m (Question question) o to comes other = (comes.0, ap state_at comes.1)
 
-pub defined : (s : State) (asked : Asked) (o : RequestOutcome) (new : Stand) → MayAnswer (Works s) asked o new → (response_of o).status ≢ 503 → IsDefined s asked o new
-defined s asked o new answers other = elim answers [
-  | inl comes ↦ comes_defined s asked o new comes other
+pub defined : (m : Moment) (asked : Asked) (o : RequestOutcome) (to : Place) → MayAnswer (Works m) asked o to → (response_of o).status ≢ 503 → IsDefined m asked o to
+defined m asked o to answers other = elim answers [
+  | inl comes ↦ comes_defined m asked o to comes other
   | inr none ↦ absurd (other (ap (λ x. (response_of x).status) none.1))
 ]

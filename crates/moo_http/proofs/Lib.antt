@@ -1,8 +1,10 @@
 pub mod Words
+pub mod Going
 pub mod Consulting
 pub mod Serving
 pub mod Connections
 pub mod Turns
+pub mod Leading
 pub mod Defined
 pub mod Apart
 pub mod Passing

@@ -1,5 +1,5 @@
 -- From what the judge sees through a desk to what the peer sees.
-use Rattle.moo_http.{proofs.Words.{◌≡◌, inl, inr, ℕ, zero, suc, List, [], ◌∷◌, ◌++◌, length, take, Option, Some, None, refl, sym, ap, subst, ◌∙◌, append_assoc, append-nil, Ok, Err, Stand, Keeps, Appends, Consumes, Takes, Yields, Exchanged, ServeFault, Read, Write, OutOfMemory, Traffic, Ledger}, specs.Through.{Passes, FailedThrough}}
+use Rattle.moo_http.{proofs.Words.{◌≡◌, inl, inr, ℕ, zero, suc, List, [], ◌∷◌, ◌++◌, length, take, Option, Some, None, refl, sym, ap, subst, ◌∙◌, append_assoc, append-nil, Ok, Err, Place, Keeps, Appends, Consumes, Takes, Yields, Exchanged, ServeFault, Read, Write, OutOfMemory, Traffic}, specs.Through.{Passes, FailedThrough}}
 use Rattle.std.specs.Io.KnownBytes.{append_known, prepend_known}
 use Rattle.std.proofs.KnownBytes.{Appends-nil}
 use Rattle.std.proofs.lemmas.List.{append_cancel_left}
@@ -12,7 +12,7 @@ consumes_given (Some x) None rest bs p q = absurd p
 consumes_given (Some x) (Some y) None bs p q = absurd q
 consumes_given (Some x) (Some y) (Some z) bs p q = sym p ∙ q
 
-module _ (old new : Stand) (peer judge : Traffic) (unsent : List ℕ) (it : Passes peer judge unsent) where
+module _ (from to : Place) (peer judge : Traffic) (unsent : List ℕ) (it : Passes peer judge unsent) where
   takes_given : (received : Received) → Takes judge.left judge.rest received → Takes peer.left peer.rest received
   takes_given received taken = subst (λ rest. Takes peer.left rest received) (sym it.rest) (record {
     given = taken.given;
@@ -21,8 +21,8 @@ module _ (old new : Stand) (peer judge : Traffic) (unsent : List ℕ) (it : Pass
     behind = taken.behind;
   })
 
-  yields_given : (output : List ℕ) (ledger : Ledger) → Yields old new judge output ledger → Yields old new peer output ledger
-  yields_given output ledger (received, takes, gets) = (received, takes_given received takes, gets)
+  yields_given : (output : List ℕ) → Yields from to judge output → Yields from to peer output
+  yields_given output (received, takes, gets) = (received, takes_given received takes, gets)
 
 -- a front of a front is one
 take_within : (m n : ℕ) (xs : List ℕ) → (k : ℕ) × (take m (take n xs) ≡ take k xs)
@@ -61,10 +61,10 @@ none_sent before after (Some t) (Some w) unsent bytes fresh sent front same =
     let it = front_sent before after (Some t) (Some w) unsent [] bytes fresh sent front (subst (λ a. Appends before a []) (sym same) (Appends-nil before)) in
     it.1 ∙ ap (λ l. t ++ l) (take-nil it.0) ∙ append-nil t
 
-module _ (old new : Stand) (ledger : Ledger) (peer judge : Traffic) where
-  pub passes_answer : Passes peer judge [] → Exchanged (Ok tt) old new judge ledger → Exchanged (Ok tt) old new peer ledger
+module _ (from to : Place) (peer judge : Traffic) where
+  pub passes_answer : Passes peer judge [] → Exchanged (Ok tt) from to judge → Exchanged (Ok tt) from to peer
   passes_answer it (output, yields, wrote) =
-      (output, yields_given old new peer judge [] it output ledger yields, all_sent judge.before judge.after peer.before peer.after output it.fresh it.sent wrote)
+      (output, yields_given from to peer judge [] it output yields, all_sent judge.before judge.after peer.before peer.after output it.fresh it.sent wrote)
 
   module _ (unsent : List ℕ) (it : Passes peer judge unsent) where
     -- of what is written a front is sent
@@ -74,17 +74,17 @@ module _ (old new : Stand) (ledger : Ledger) (peer judge : Traffic) where
     unwritten : judge.after ≡ judge.before → Keeps peer.before peer.after
     unwritten same = none_sent judge.before judge.after peer.before peer.after unsent it.front.0 it.fresh it.sent it.front.1 same
 
-    given : (output : List ℕ) → Yields old new judge output ledger → Yields old new peer output ledger
-    given output yields = yields_given old new peer judge unsent it output ledger yields
+    given : (output : List ℕ) → Yields from to judge output → Yields from to peer output
+    given output yields = yields_given from to peer judge unsent it output yields
 
-    pub passes_front : Exchanged (Ok tt) old new judge ledger → Exchanged (Err Write) old new peer ledger
+    pub passes_front : Exchanged (Ok tt) from to judge → Exchanged (Err Write) from to peer
     passes_front (output, yields, wrote) = let front = fronted output wrote in (output, given output yields, front.0, front.1)
 
-    pub passes_fault : (fault : ServeFault) → Exchanged (Err fault) old new judge ledger → FailedThrough fault old new peer ledger
+    pub passes_fault : (fault : ServeFault) → Exchanged (Err fault) from to judge → FailedThrough fault from to peer
     passes_fault Write (output, yields, count, wrote) =
         let front = fronted (take count output) wrote in
         let cut = take_within front.0 count output in
         (output, given output yields, cut.0, subst (Appends peer.before peer.after) cut.1 front.1)
-    passes_fault Read (same, none, still) = (same, none, unwritten still)
-    passes_fault OutOfMemory (still, inl (same, none)) = (unwritten still, inl (same, none))
+    passes_fault Read (same, still) = (same, unwritten still)
+    passes_fault OutOfMemory (still, inl same) = (unwritten still, inl same)
     passes_fault OutOfMemory (still, inr (output, yields)) = (unwritten still, inr (output, given output yields))

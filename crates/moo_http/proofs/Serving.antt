@@ -1,5 +1,5 @@
 -- What serving a request comes to.
-use Rattle.moo_http.{proofs.Words.{◌≡◌, ◌≢◌, inl, inr, ℕ, Bool, List, [], ◌++◌, Option, Some, None, refl, sym, subst, ap, ◌∙◌, append_assoc, append-nil, Result, Ok, Err, IfErr, IsErrAnd, Appends, Ghosts, Stand, World, IsMovedAs, StandsAt, Takes, Asked, Nothing, Request, ServeFault, Read, Write, OutOfMemory, RequestOutcome, Consulted, response_with, response_text, IsWhyOf, Serves, StandsStill, Written, Served, Traffic, ledger_by, no_batches}, specs.Faults.{fault_of}, specs.Serves.{AnswersTo}}
+use Rattle.moo_http.{proofs.Words.{◌≡◌, ◌≢◌, inl, inr, ℕ, List, [], ◌++◌, Option, Some, None, refl, sym, subst, ap, ◌∙◌, append_assoc, append-nil, Bool, Result, Ok, Err, IfErr, IsErrAnd, Appends, Place, Takes, Asked, Nothing, Request, ServeFault, Read, Write, OutOfMemory, response_with, response_text, AnswersAsked, Exchanged, Written, Traffic}, specs.Faults.{fault_of}}
 use Rattle.moo_http_request.specs.declared.fault.ReadFault.{ReadFault}
 use Rattle.moo_http_request.specs.declared.fault.ReadFault.TheVariants as read
 
@@ -15,13 +15,13 @@ appends_both (Some x) (Some y) (Some z) bs cs p q = q ∙ ap (λ l. l ++ cs) p �
 
 -- ---- the request wasn't read
 
-pub unread : {S : Type 0} (g : Ghosts S) (known : Bool) (fault : ReadFault) (old : Stand) (was : World S) (bytes : Traffic) → bytes.after ≡ bytes.before → StandsStill g known old was was → Served g known (Err (fault_of fault)) old was was bytes
-unread g known read.Read old was bytes unwritten stays = (stays, unwritten)
-unread g known read.OutOfMemory old was bytes unwritten stays = (unwritten, inl stays)
+unread : (fault : ReadFault) (place : Place) (bytes : Traffic) → bytes.after ≡ bytes.before → Exchanged (Err (fault_of fault)) place place bytes
+unread read.Read place bytes unwritten = (refl, unwritten)
+unread read.OutOfMemory place bytes unwritten = (unwritten, inl refl)
 
-pub unread_at : {S : Type 0} (g : Ghosts S) (known : Bool) (r : Result (Unit {0}) ServeFault) (fault : ReadFault) (old : Stand) (was : World S) (bytes : Traffic) → IsErrAnd r (λ e. e ≡ fault_of fault) → bytes.after ≡ bytes.before → StandsStill g known old was was → Served g known r old was was bytes
-unread_at g known (Ok x) fault old was bytes is unwritten stays = absurd is
-unread_at g known (Err e) fault old was bytes is unwritten stays = subst (λ e. Served g known (Err e) old was was bytes) (sym is) (unread g known fault old was bytes unwritten stays)
+pub unread_at : (r : Result (Unit {0}) ServeFault) (fault : ReadFault) (place : Place) (bytes : Traffic) → IsErrAnd r (λ e. e ≡ fault_of fault) → bytes.after ≡ bytes.before → Exchanged r place place bytes
+unread_at (Ok x) fault place bytes is unwritten = absurd is
+unread_at (Err e) fault place bytes is unwritten = subst (λ e. Exchanged (Err e) place place bytes) (sym is) (unread fault place bytes unwritten)
 
 -- why it wasn't
 pub unread_cause : {Failed : Type 0} (r : Result (Unit {0}) ServeFault) (fault : ReadFault) → IsErrAnd r (λ e. e ≡ fault_of fault) → (fault ≡ read.Read → Failed) → IfErr r (λ e. e ≡ Read → Failed)
@@ -43,31 +43,17 @@ written_nothing (Err e) before output is = subst (λ e. Written (Err e) before b
 
 -- ---- nothing came
 
-pub nothing : {S : Type 0} (g : Ghosts S) (known : Bool) (old : Stand) (was : World S) (bytes : Traffic) (done : Unit {0}) → bytes.after ≡ bytes.before → Takes bytes.left bytes.rest Nothing → StandsAt g known was old → StandsStill g known old was was → Served g known (Ok done) old was was bytes
-nothing g known old was bytes done unwritten takes at stays =
-    ([], record { received = Nothing; takes = takes; new = old; ledger = no_batches; gets = (refl, refl, refl); stands = at; crash = stays.crash; moved = refl }, subst (λ after. Appends bytes.before after []) (sym unwritten) (appends_nothing bytes.before))
+pub nothing : (place : Place) (bytes : Traffic) (done : Unit {0}) → bytes.after ≡ bytes.before → Takes bytes.left bytes.rest Nothing → Exchanged (Ok done) place place bytes
+nothing place bytes done unwritten takes = ([], (Nothing, takes, (refl, refl)), subst (λ after. Appends bytes.before after []) (sym unwritten) (appends_nothing bytes.before))
 
 -- ---- a request came
 
-answered : {S : Type 0} (g : Ghosts S) (known : Bool) (old : Stand) (was world : World S) (bytes : Traffic) (is_head asks_why : Bool) (asked : Asked) (o : RequestOutcome) (whys : List (Option (List ℕ))) → Takes bytes.left bytes.rest (Request is_head asks_why asked) → IsWhyOf asks_why whys → Consulted g known old world asked o
-    → IsMovedAs g was world asked o → Serves g known old was world bytes (response_text is_head (response_with asks_why whys o))
-answered g known old was world bytes is_head asks_why asked o whys takes wanted consulted moved = record {
-  received = Request is_head asks_why asked;
-  takes = takes;
-  new = consulted.new;
-  ledger = ledger_by asked o;
-  gets = (o, whys, wanted, consulted.answers, refl, refl);
-  stands = consulted.stands;
-  crash = consulted.crash;
-  moved = moved;
-}
-
-pub served : {S : Type 0} (g : Ghosts S) (known : Bool) (r : Result (Unit {0}) ServeFault) (old : Stand) (was world : World S) (bytes : Traffic) (is_head asks_why : Bool) (asked : Asked)
-    → Takes bytes.left bytes.rest (Request is_head asks_why asked) → AnswersTo g known old was world is_head asks_why asked r bytes.before bytes.after → IfErr r (λ fault. fault ≢ Read) → Served g known r old was world bytes
-served g known (Ok done) old was world bytes is_head asks_why asked takes (o, whys, wanted, consulted, moved, written) other =
-    (response_text is_head (response_with asks_why whys o), answered g known old was world bytes is_head asks_why asked o whys takes wanted consulted moved, written)
-served g known (Err Write) old was world bytes is_head asks_why asked takes (o, whys, wanted, consulted, moved, written) other =
-    (response_text is_head (response_with asks_why whys o), answered g known old was world bytes is_head asks_why asked o whys takes wanted consulted moved, written.0, written.1)
-served g known (Err Read) old was world bytes is_head asks_why asked takes it other = absurd (other refl)
-served g known (Err OutOfMemory) old was world bytes is_head asks_why asked takes (o, whys, wanted, consulted, moved, written) other =
-    (written, inr (response_text is_head (response_with asks_why whys o), answered g known old was world bytes is_head asks_why asked o whys takes wanted consulted moved))
+pub served : (r : Result (Unit {0}) ServeFault) (from to : Place) (bytes : Traffic) (is_head asks_why : Bool) (asked : Asked) → Takes bytes.left bytes.rest (Request is_head asks_why asked) → IfErr r (λ fault. fault ≢ Read)
+    → AnswersAsked is_head asks_why asked r from to bytes.before bytes.after → Exchanged r from to bytes
+served (Ok done) from to bytes is_head asks_why asked takes other (o, whys, wanted, answers, written) =
+    (response_text is_head (response_with asks_why whys o), (Request is_head asks_why asked, takes, (o, whys, wanted, answers, refl)), written)
+served (Err Write) from to bytes is_head asks_why asked takes other (o, whys, wanted, answers, written) =
+    (response_text is_head (response_with asks_why whys o), (Request is_head asks_why asked, takes, (o, whys, wanted, answers, refl)), written.0, written.1)
+served (Err Read) from to bytes is_head asks_why asked takes other it = absurd (other refl)
+served (Err OutOfMemory) from to bytes is_head asks_why asked takes other (o, whys, wanted, answers, written) =
+    (written, inr (response_text is_head (response_with asks_why whys o), (Request is_head asks_why asked, takes, (o, whys, wanted, answers, refl))))

@@ -1,66 +1,18 @@
 -- The connections that a source hands out, served one after another.
-use Rattle.moo_http.{proofs.Words.{◌≡◌, inl, inr, ℕ, suc, ◌+◌, Bool, true, false, List, [], ◌∷◌, Option, Some, refl, sym, ap, subst, arith, ◌∙◌, ◌≢◌, Result, Ok, Err, is_ok, IfErr, ◌⊎◌, IsTrue, HasCleanDisk, Ghosts, Stand, World, IsMovedBy, store_of, CrashLeaves, StandsAt, Nothing, Request, ServeFault, Read, Write, OutOfMemory, ServiceFault, StandsAtEnd, ConveysBy, Serves, StandsStill, Served, Yields, Exchanged, Visited, Visit, Attended, ServesFrom, attended_between, ServesOn, visit, settle, Loss, None, zero, TellsLoss, TellsLosses, Traffic, Ledger, IsMovedIn, and_then, no_batches, moved_then, written_none}, specs.Serves.{Gets, Moved}}
+use Rattle.moo_http.{proofs.Words.{◌≡◌, ◌≢◌, ◌⊎◌, inl, inr, ℕ, zero, suc, ◌+◌, Bool, true, false, List, [], ◌∷◌, Option, Some, None, refl, sym, subst, arith, ◌∙◌, Result, Ok, Err, is_ok, IfErr, Ghosts, World, MovesBy, Place, IsStillOrAdvanced, ServeFault, Read, ServiceFault, Exchanged, Visited, Visit, Attended, ServesFrom, attended_between, ServesOn, visit, settle, Loss, TellsLoss, TellsLosses, Traffic}, proofs.Going.{moves_as, moves_then, still_then}}
 use Rattle.std.specs.declared.io.Read as Reading
 use Rattle.std.specs.declared.io.Write as Writing
 use Rattle.moo_arrivals.specs.declared.arrivals.Arrivals as Arrivals
-use Rattle.moo_http_request.specs.declared.request.Received.{Received}
-use Rattle.moo_store_rows.proofs.Committed.{IsSettled}
 use Rattle.moo_http.specs.declared.ports.Ports as Ports
 use Rattle.moo_http.specs.declared.service.ServiceFault.TheVariants as service
 
--- The World stands at an end of which this holds with the batches that moved it.
-abbrev pub EndsBy : {S : Type 0} → Ghosts S → Bool → World S → World S → (Ledger → Stand → Type 0) → Type 0
-EndsBy g known was world P = StandsAtEnd g known world (λ end. (ledger : Ledger) × IsMovedIn g was world ledger × P ledger end)
-
--- the same end, of which something else holds
-pub ends_as : {S : Type 0} (g : Ghosts S) (known : Bool) (was world : World S) (P Q : Ledger → Stand → Type 0) → ((ledger : Ledger) (end : Stand) → P ledger end → Q ledger end) → EndsBy g known was world P → EndsBy g known was world Q
-ends_as g known was world P Q then it = record { end = it.end; stands = it.stands; crash = it.crash; ends = (it.ends.0, it.ends.1, then it.ends.0 it.end it.ends.2) }
-
--- where a World stood that nothing moved, it stands
-pub stays : {S : Type 0} (g : Ghosts S) (known : Bool) (world : World S) (stand : Stand) (P : Ledger → Stand → Type 0) → IsSettled (store_of g world) → StandsAt g known world stand
-    → (IsTrue known → HasCleanDisk (store_of g world) → CrashLeaves (store_of g world) stand) → P no_batches stand → EndsBy g known world world P
-stays g known world stand P settled at crash holds = record { end = stand; stands = at; crash = crash; ends = (no_batches, written_none g world settled, holds) }
-
 -- ---- one connection
 
-module _ {S : Type 0} (g : Ghosts S) (known : Bool) (old : Stand) (was world : World S) (settled : IsSettled (store_of g was)) (bytes : Traffic) where
-  unmoved : (ledger : Ledger) → ledger ≡ no_batches → world ≡ was → IsMovedIn g was world ledger
-  unmoved ledger none same = subst (λ (l : Ledger). IsMovedIn g was world l) (sym none) (subst (λ w. IsMovedBy g was w [] []) (sym same) (written_none g was settled))
-
-  moved_by : (received : Received) (output : List ℕ) (ledger : Ledger) (new : Stand) → Gets old received output ledger new → Moved g was world received ledger → IsMovedIn g was world ledger
-  moved_by Nothing output ledger new gets moved = unmoved ledger gets.1 moved
-  moved_by (Request is_head asks_why asked) output ledger new gets moved = moved
-
-  -- what is served is yielded by the stand
-  yields : (P : Ledger → Stand → Type 0) (output : List ℕ) → ((ledger : Ledger) (new : Stand) → Yields old new bytes output ledger → P ledger new) → Serves g known old was world bytes output → EndsBy g known was world P
-  yields P output then it = record {
-    end = it.new;
-    stands = it.stands;
-    crash = it.crash;
-    ends = (it.ledger, moved_by it.received output it.ledger it.new it.gets it.moved, then it.ledger it.new (it.received, it.takes, it.gets));
-  }
-
-  still : (P : Ledger → Stand → Type 0) → P no_batches old → StandsAt g known was old → StandsStill g known old was world → EndsBy g known was world P
-  still P holds at it = record { end = old; stands = subst (λ w. StandsAt g known w old) (sym it.same) at; crash = it.crash; ends = (no_batches, unmoved no_batches refl it.same, holds) }
-
-  pub exchanged : (r : Result (Unit {0}) ServeFault) → StandsAt g known was old → Served g known r old was world bytes → EndsBy g known was world (λ ledger end. Exchanged r old end bytes ledger)
-  exchanged (Ok done) at (output, serves, wrote) = yields (λ ledger end. Exchanged (Ok done) old end bytes ledger) output (λ ledger new it. (output, it, wrote)) serves
-  exchanged (Err Write) at (output, serves, sent, wrote) = yields (λ ledger end. Exchanged (Err Write) old end bytes ledger) output (λ ledger new it. (output, it, sent, wrote)) serves
-  exchanged (Err Read) at (stays, same) = still (λ ledger end. Exchanged (Err Read) old end bytes ledger) (refl, refl, same) at stays
-  exchanged (Err OutOfMemory) at (same, inl stays) = still (λ ledger end. Exchanged (Err OutOfMemory) old end bytes ledger) (same, inl (refl, refl)) at stays
-  exchanged (Err OutOfMemory) at (same, inr (output, serves)) = yields (λ ledger end. Exchanged (Err OutOfMemory) old end bytes ledger) output (λ ledger new it. (same, inr (output, it))) serves
-
 -- by whether it was answered
-visited_by : (Unread : Type 0) (r : Result (Unit {0}) ServeFault) (answered : Bool) (old new : Stand) (bytes : Traffic) (ledger : Ledger) → answered ≡ is_ok r → IfErr r (λ fault. fault ≡ Read → Unread) → Exchanged r old new bytes ledger
-    → Visited Unread answered old new bytes ledger
-visited_by Unread (Ok done) answered old new bytes ledger is cause it = subst (λ b. Visited Unread b old new bytes ledger) (sym is) it
-visited_by Unread (Err fault) answered old new bytes ledger is cause it = subst (λ b. Visited Unread b old new bytes ledger) (sym is) (fault, cause, it)
-
-pub visited : {S : Type 0} (g : Ghosts S) (known : Bool) (old : Stand) (was world : World S) (settled : IsSettled (store_of g was)) (bytes : Traffic) (Unread : Type 0) (r : Result (Unit {0}) ServeFault) (answered : Bool) → answered ≡ is_ok r → StandsAt g known was old
-    → IfErr r (λ fault. fault ≡ Read → Unread) → Served g known r old was world bytes → EndsBy g known was world (λ ledger end. Visited Unread answered old end bytes ledger)
-visited g known old was world settled bytes Unread r answered is at cause served =
-    ends_as g known was world (λ ledger end. Exchanged r old end bytes ledger) (λ ledger end. Visited Unread answered old end bytes ledger) (λ ledger end it. visited_by Unread r answered old end bytes ledger is cause it)
-    (exchanged g known old was world settled bytes r at served)
+pub visited : (Unread : Type 0) (r : Result (Unit {0}) ServeFault) (answered : Bool) (from to : Place) (bytes : Traffic) → answered ≡ is_ok r → IfErr r (λ fault. fault ≡ Read → Unread) → Exchanged r from to bytes
+    → Visited Unread answered from to bytes
+visited Unread (Ok done) answered from to bytes is cause it = subst (λ b. Visited Unread b from to bytes) (sym is) it
+visited Unread (Err fault) answered from to bytes is cause it = subst (λ b. Visited Unread b from to bytes) (sym is) (fault, cause, it)
 
 -- a connection that is read, of which a fault has its cause
 pub is_unread : (Failed Unlimited : Type 0) (r : Result (Unit {0}) ServeFault) → IfErr r (λ fault. fault ≡ Read → Failed) → IfErr r (λ fault. fault ≡ Read → Failed ⊎ Unlimited)
@@ -68,106 +20,32 @@ is_unread Failed Unlimited (Ok done) cause = tt
 is_unread Failed Unlimited (Err fault) cause = λ is. inl (cause is)
 
 -- a connection that is neither read nor written
-pub unvisited : (Unread : Type 0) (old : Stand) (bytes : Traffic) → Unread → bytes.after ≡ bytes.before → Visited Unread false old old bytes no_batches
-unvisited Unread old bytes cause unwritten = (Read, (λ e. cause), (refl, refl, unwritten))
+pub unvisited : (Unread : Type 0) (place : Place) (bytes : Traffic) → Unread → bytes.after ≡ bytes.before → Visited Unread false place place bytes
+unvisited Unread place bytes cause unwritten = (Read, (λ e. cause), (refl, unwritten))
 
 -- ---- many
 
--- From one World to another, wherever it stood: this holds of where it stood and where it stands, and of the batches that moved it.
-pub record Leads {S : Type 0} (g : Ghosts S) (was world : World S) (Way : Ledger → Stand → Stand → Type 0) : Type 0 where
-  pub reaches : ConveysBy g was world Way
-  pub clean : HasCleanDisk (store_of g world) → HasCleanDisk (store_of g was)
-
-pub leads_nowhere : {S : Type 0} (g : Ghosts S) (world : World S) (Way : Ledger → Stand → Stand → Type 0) → ((stand : Stand) → Way no_batches stand stand) → IsSettled (store_of g world)
-    → ((known : Bool) (stand : Stand) → StandsAt g known world stand → IsTrue known → HasCleanDisk (store_of g world) → CrashLeaves (store_of g world) stand) → Leads g world world Way
-leads_nowhere g world Way holds settled leaves = record {
-  reaches = λ known stand at. stays g known world stand (λ ledger end. Way ledger stand end) settled at (leaves known stand at) (holds stand);
-  clean = λ clean. clean;
-}
-
-pub leads_on : {S : Type 0} (g : Ghosts S) (was between world : World S) (First Second Way : Ledger → Stand → Stand → Type 0)
-    → ((first second : Ledger) (old mid new : Stand) → First first old mid → Second second mid new → Way (and_then first second) old new) → Leads g was between First
-    → ConveysBy g between world Second → (HasCleanDisk (store_of g world) → HasCleanDisk (store_of g between)) → Leads g was world Way
-leads_on g was between world First Second Way both first second clean = record {
-  reaches = λ known stand at.
-      let mid = first.reaches known stand at in
-      let last = second known mid.end mid.stands in
-      let one = mid.ends.0 in
-      let other = last.ends.0 in
-      record {
-        end = last.end;
-        stands = last.stands;
-        crash = last.crash;
-        ends = (and_then one other, moved_then g was between world one.taken one.lost other.taken other.lost mid.ends.1 last.ends.1, both one other stand mid.end last.end mid.ends.2 last.ends.2);
-      };
-  clean = λ now. first.clean (clean now);
-}
-
--- the same way, of which something else holds
-pub leads_as : {S : Type 0} (g : Ghosts S) (was world : World S) (First Way : Ledger → Stand → Stand → Type 0) → ((ledger : Ledger) (old new : Stand) → First ledger old new → Way ledger old new) → Leads g was world First → Leads g was world Way
-leads_as g was world First Way then first = record {
-  reaches = λ known stand at. ends_as g known was world (λ ledger end. First ledger stand end) (λ ledger end. Way ledger stand end) (λ ledger end it. then ledger stand end it) (first.reaches known stand at);
-  clean = first.clean;
-}
-
 module _ {A R W : Type 0} (source : Arrivals.Ghosts A R W) (reader : Reading.Ghosts R) (fails : R → R → Type 0) (writer : Writing.Ghosts W) where
-  pub attended_none : (from : A) (old : Stand) → Attended source reader fails writer 0 0 no_batches from old from old
-  attended_none from old = ([], refl, refl, refl, (refl, refl))
+  pub attended_none : (old : A) (place : Place) → Attended source reader fails writer 0 0 old place old place
+  attended_none old place = ([], refl, refl, (refl, refl))
 
   -- from the connections of a source that was opened on a port and closed to those of the port
-  pub serves_on : {P : Type 0} (ports : Ports.Ghosts P A R W) (first between last : P) (r : Result (Unit {0}) ServiceFault) (port count : ℕ) (ledger : Ledger) (from : A) (old : Stand) (to : A) (new : Stand) (before after : Option (List ℕ))
-      → ports.listens first port (Some from) between → ports.closes between to last → IfErr r (λ fault. fault ≢ service.Port)
-      → ServesFrom source reader fails writer r port count ledger from old to new before after → ServesOn (attended_between source reader fails writer ports first last) r port count ledger old new before after
-  serves_on ports first between last (Ok done) port count ledger from old to new before after opened closed other (text, (answered, failed, sum, holds, is), wrote) =
-      (text, (answered, failed, sum, (between, from, to, opened, holds, closed), is), wrote)
-  serves_on ports first between last (Err service.Port) port count ledger from old to new before after opened closed other it = absurd (other refl)
-  serves_on ports first between last (Err service.Write) port count ledger from old to new before after opened closed other (inl (stays, front)) =
-      inl ((stays.1, stays.2, (between, from, to, opened, (([], refl, refl, stays.2, (stays.0, stays.1)), inl refl), closed)), front)
-  serves_on ports first between last (Err service.Write) port count ledger from old to new before after opened closed other (inr (text, (answered, failed, sum, holds, is), front)) =
-      inr (text, (answered, failed, sum, (between, from, to, opened, holds, closed), is), front)
-  serves_on ports first between last (Err service.OutOfMemory) port count ledger from old to new before after opened closed other (inl (stays, front)) =
-      inl ((stays.1, stays.2, (between, from, to, opened, (([], refl, refl, stays.2, (stays.0, stays.1)), inl refl), closed)), front)
-  serves_on ports first between last (Err service.OutOfMemory) port count ledger from old to new before after opened closed other (inr (text, (answered, failed, sum, holds, is), front)) =
-      inr (text, (answered, failed, sum, (between, from, to, opened, holds, closed), is), front)
+  pub serves_on : {P : Type 0} (ports : Ports.Ghosts P A R W) (first between last : P) (r : Result (Unit {0}) ServiceFault) (port count : ℕ) (old : A) (from : Place) (new : A) (to : Place) (before after : Option (List ℕ))
+      → ports.listens first port (Some old) between → ports.closes between new last → IfErr r (λ fault. fault ≢ service.Port)
+      → ServesFrom source reader fails writer r port count old from new to before after → ServesOn (attended_between source reader fails writer ports first last) r port count from to before after
+  serves_on ports first between last (Ok done) port count old from new to before after opened closed other (text, (answered, failed, sum, holds, is), wrote) =
+      (text, (answered, failed, sum, (between, old, new, opened, holds, closed), is), wrote)
+  serves_on ports first between last (Err service.Port) port count old from new to before after opened closed other it = absurd (other refl)
+  serves_on ports first between last (Err service.Write) port count old from new to before after opened closed other (inl (stays, front)) =
+      inl ((stays.1, (between, old, new, opened, (([], refl, refl, (stays.0, stays.1)), inl refl), closed)), front)
+  serves_on ports first between last (Err service.Write) port count old from new to before after opened closed other (inr (text, (answered, failed, sum, holds, is), front)) =
+      inr (text, (answered, failed, sum, (between, old, new, opened, holds, closed), is), front)
+  serves_on ports first between last (Err service.OutOfMemory) port count old from new to before after opened closed other (inl (stays, front)) =
+      inl ((stays.1, (between, old, new, opened, (([], refl, refl, (stays.0, stays.1)), inl refl), closed)), front)
+  serves_on ports first between last (Err service.OutOfMemory) port count old from new to before after opened closed other (inr (text, (answered, failed, sum, holds, is), front)) =
+      inr (text, (answered, failed, sum, (between, old, new, opened, holds, closed), is), front)
 
 -- ---- answers that were lost
-
-module _ {A R W : Type 0} (source : Arrivals.Ghosts A R W) (reader : Reading.Ghosts R) (fails : R → R → Type 0) (writer : Writing.Ghosts W) where
-  -- Some turns, and then one more, by how many were answered and failed before it and after it.
-  abbrev pub GoesOn : A → A → A → Bool → ℕ → ℕ → ℕ → ℕ → Type 0
-  GoesOn from between to result answered failed some more = (first second : Ledger) (old mid new : Stand) → Attended source reader fails writer answered failed first from old between mid
-      → Visit source reader fails writer result second between mid to new → Attended source reader fails writer some more (and_then first second) from old to new
-
-  pub one_answered : (from between to : A) (result : Bool) (answered failed : ℕ) → result ≡ true → GoesOn from between to result answered failed (answered + 1) failed
-  one_answered from between to result answered failed is first second old mid new (turns, a, f, ran, after) turn =
-      (visit true second ∷ turns, omega (arith, a), f, ap (λ ledger. and_then ledger second) ran, (between, mid, after, subst (λ b. Visit source reader fails writer b second between mid to new) is turn))
-
-  pub one_failed : (from between to : A) (result : Bool) (answered failed : ℕ) → result ≡ false → GoesOn from between to result answered failed answered (failed + 1)
-  one_failed from between to result answered failed is first second old mid new (turns, a, f, ran, after) turn =
-      (visit false second ∷ turns, a, omega (arith, f), ap (λ ledger. and_then ledger second) ran, (between, mid, after, subst (λ b. Visit source reader fails writer b second between mid to new) is turn))
-
-  -- after that the source was asked once for a lost answer
-  attended_on : (from : A) (old : Stand) (between to : A) (new : Stand) (ledger : Ledger) (answered failed left lost : ℕ)
-      → Attended source reader fails writer answered failed ledger from old between new → TellsLoss source.loses between answered failed to left lost
-      → Attended source reader fails writer left lost ledger from old to new
-  attended_on from old between to new ledger answered failed left lost it (inl (same, some, more)) = rw (same, some, more) it
-  attended_on from old between to new ledger answered failed left lost (turns, a, f, ran, after) (inr (inl (told, some, more))) =
-      rw (some, more) (settle None ∷ turns, a, f, ran, (between, new, after, (told, refl)))
-  attended_on from old between to new ledger answered failed left lost (turns, a, f, ran, after) (inr (inr (loss, told, some, more))) =
-      (settle (Some loss) ∷ turns, omega (arith, a, some), omega (arith, f, more), ran, (between, new, after, (told, refl)))
-
-  -- or so often
-  pub attended_all : (asked : ℕ) (from : A) (old : Stand) (between to : A) (new : Stand) (ledger : Ledger) (answered failed left lost : ℕ)
-      → Attended source reader fails writer answered failed ledger from old between new → TellsLosses source.loses asked between answered failed to left lost
-      → Attended source reader fails writer left lost ledger from old to new
-  attended_all zero from old between to new ledger answered failed left lost it (same, some, more) = rw (same, some, more) it
-  attended_all (suc n) from old between to new ledger answered failed left lost it (mid, some, more, earlier, last) =
-      attended_on from old mid to new ledger some more left lost (attended_all n from old between mid new ledger answered failed some more it earlier) last
-
-  -- from a source to another, by how many of so many turns were answered and failed
-  pub record Passed {S : Type 0} (g : Ghosts S) (was world : World S) (from to : A) (answered failed count : ℕ) : Type 0 where
-    pub sum : answered + failed ≡ count
-    pub leads : Leads g was world (λ ledger old new. Attended source reader fails writer answered failed ledger from old to new)
 
 -- asking for lost answers changes no sum
 settles_sum : {A : Type 0} (loses : A → Option Loss → A → Type 0) (from to : A) (answered failed left lost : ℕ) → TellsLoss loses from answered failed to left lost → answered + failed ≡ left + lost
@@ -180,11 +58,51 @@ settles_all_sum loses zero from to answered failed left lost (same, some, more) 
 settles_all_sum loses (suc n) from to answered failed left lost (mid, some, more, earlier, last) =
     settles_all_sum loses n from mid answered failed some more earlier ∙ settles_sum loses mid to some more left lost last
 
--- after so many turns the source was asked once for a lost answer
-pub passed_on : {A R W : Type 0} (source : Arrivals.Ghosts A R W) (reader : Reading.Ghosts R) (fails : R → R → Type 0) (writer : Writing.Ghosts W) {S : Type 0} (g : Ghosts S) (was world : World S) (from between to : A) (answered failed left lost count : ℕ)
-    → Passed source reader fails writer g was world from between answered failed count → TellsLoss source.loses between answered failed to left lost → Passed source reader fails writer g was world from to left lost count
-passed_on source reader fails writer g was world from between to answered failed left lost count it told = record {
-  sum = sym (settles_sum source.loses between to answered failed left lost told) ∙ it.sum;
-  leads = leads_as g was world (λ ledger old new. Attended source reader fails writer answered failed ledger from old between new) (λ ledger old new. Attended source reader fails writer left lost ledger from old to new)
-      (λ ledger old new attended. attended_on source reader fails writer from old between to new ledger answered failed left lost attended told) it.leads;
-}
+module _ {A R W : Type 0} (source : Arrivals.Ghosts A R W) (reader : Reading.Ghosts R) (fails : R → R → Type 0) (writer : Writing.Ghosts W) where
+  -- Some turns, and then one more, by how many were answered and failed before it and after it.
+  abbrev pub GoesOn : A → A → A → Bool → ℕ → ℕ → ℕ → ℕ → Type 0
+  GoesOn old between new result answered failed some more = (from mid to : Place) → Attended source reader fails writer answered failed old from between mid → Visit source reader fails writer result between mid new to
+      → Attended source reader fails writer some more old from new to
+
+  pub one_answered : (old between new : A) (result : Bool) (answered failed : ℕ) → result ≡ true → GoesOn old between new result answered failed (answered + 1) failed
+  one_answered old between new result answered failed is from mid to (turns, a, f, after) turn =
+      (visit true ∷ turns, omega (arith, a), f, (between, mid, after, subst (λ b. Visit source reader fails writer b between mid new to) is turn))
+
+  pub one_failed : (old between new : A) (result : Bool) (answered failed : ℕ) → result ≡ false → GoesOn old between new result answered failed answered (failed + 1)
+  one_failed old between new result answered failed is from mid to (turns, a, f, after) turn =
+      (visit false ∷ turns, a, omega (arith, f), (between, mid, after, subst (λ b. Visit source reader fails writer b between mid new to) is turn))
+
+  -- after that the source was asked once for a lost answer
+  pub attended_on : (old : A) (from : Place) (between new : A) (to : Place) (answered failed left lost : ℕ) → Attended source reader fails writer answered failed old from between to
+      → TellsLoss source.loses between answered failed new left lost → Attended source reader fails writer left lost old from new to
+  attended_on old from between new to answered failed left lost it (inl (same, some, more)) = rw (same, some, more) it
+  attended_on old from between new to answered failed left lost (turns, a, f, after) (inr (inl (told, some, more))) =
+      rw (some, more) (settle None ∷ turns, a, f, (between, to, after, (told, refl)))
+  attended_on old from between new to answered failed left lost (turns, a, f, after) (inr (inr (loss, told, some, more))) =
+      (settle (Some loss) ∷ turns, omega (arith, a, some), omega (arith, f, more), (between, to, after, (told, refl)))
+
+  -- or so often
+  pub attended_all : (asked : ℕ) (old : A) (from : Place) (between new : A) (to : Place) (answered failed left lost : ℕ) → Attended source reader fails writer answered failed old from between to
+      → TellsLosses source.loses asked between answered failed new left lost → Attended source reader fails writer left lost old from new to
+  attended_all zero old from between new to answered failed left lost it (same, some, more) = rw (same, some, more) it
+  attended_all (suc n) old from between new to answered failed left lost it (mid, some, more, earlier, last) =
+      attended_on old from mid new to some more left lost (attended_all n old from between mid to answered failed some more it earlier) last
+
+  -- From a source to another, by how many of so many turns were answered and failed. Unless the World was led on by them, it is the very one.
+  pub record Passed {S : Type 0} (g : Ghosts S) (was world : World S) (old new : A) (answered failed count : ℕ) : Type 0 where
+    pub sum : answered + failed ≡ count
+    pub moves : MovesBy g was world (λ from to. Attended source reader fails writer answered failed old from new to)
+    pub still : IsStillOrAdvanced g was world
+
+  -- after so many turns one more, and then the source was asked once for a lost answer
+  pub passed_on : {S : Type 0} (g : Ghosts S) (was mid world : World S) (first between next last : A) (result : Bool) (answered failed some more left lost count : ℕ) → Passed g was mid first between answered failed count
+      → MovesBy g mid world (λ from to. Visit source reader fails writer result between from next to) → IsStillOrAdvanced g mid world → some + more ≡ count + 1 → GoesOn first between next result answered failed some more
+      → TellsLoss source.loses next some more last left lost → Passed g was world first last left lost (count + 1)
+  passed_on g was mid world first between next last result answered failed some more left lost count it visits still sum goes told = record {
+    sum = sym (settles_sum source.loses next last some more left lost told) ∙ sum;
+    moves = moves_as g was world (λ from to. Attended source reader fails writer some more first from next to) (λ from to. Attended source reader fails writer left lost first from last to)
+        (λ from to attended. attended_on first from next last to some more left lost attended told)
+        (moves_then g was mid world (λ from to. Attended source reader fails writer answered failed first from between to) (λ from to. Visit source reader fails writer result between from next to)
+        (λ from to. Attended source reader fails writer some more first from next to) goes it.moves visits);
+    still = still_then g was mid world (λ from to. Attended source reader fails writer answered failed first from between to) it.moves it.still still;
+  }

@@ -10,22 +10,21 @@ pub use Rattle.moo_http_request.specs.declared.asked.Mode.TheVariants.{Ask, Run}
 pub use Rattle.moo_http_request.specs.declared.request.Received.TheVariants.{Nothing, Request}
 pub use Rattle.moo_http_response.specs.Responses.{response_of, response_text, response_with}
 pub use Rattle.moo_http_response.specs.declared.outcome.RequestOutcome.{RequestOutcome}
-pub use Rattle.moo_store.proofs.Untouched.{moved_then, written_none}
 pub use Rattle.moo_store.specs.Kept.{World}
-pub use Rattle.moo_store.specs.Stand.{AsksBatch, Failed, RunsBatch, Stand, StoreFailed, VerdictLeaves, Works, state_at}
-pub use Rattle.moo_store.specs.Untouched.{IsMovedBy}
-pub use Rattle.moo_store.specs.World.{CrashLeaves, StandsAt, StandsFor, store_of}
+pub use Rattle.moo_store.specs.Moves.{AsksAt, MovesBy, RunsAt, Stands, StopsStore, VerdictLeads, state_at}
+pub use Rattle.moo_store.specs.World.{state_in, store_of}
+pub use Rattle.moo_store_rows.specs.Moment.{LeadsBy, Moment, rows_alone, state_of_moment}
+pub use Rattle.moo_store_rows.specs.Place.{Between, Failed, Place, Works, moment_of}
 pub use Rattle.moo_world.specs.Judge.{State, judge, left_by, state_of}
 pub use Rattle.moo_world.specs.declared.call.Batch.{Batch}
-pub use Rattle.sqlite.specs.State.{HasCleanDisk}
 pub use Rattle.sqlite.specs.Store.{Ghosts}
-pub use Rattle.moo_http.specs.Answers.{Comes, Consulted, IsMovedAs, MayAnswer, answer, failed_by, ledger_by, taken_by}
-pub use Rattle.moo_http.specs.Connections.{ConveysBy, SaysByResult, StandsAtEnd, WritesFront}
+pub use Rattle.moo_http.specs.Advanced.{HasAdvanced, IsStillOrAdvanced}
+pub use Rattle.moo_http.specs.Answers.{Comes, MayAnswer, answer}
+pub use Rattle.moo_http.specs.Connections.{SaysByResult, WritesFront}
 pub use Rattle.moo_http.specs.Lines.{listening_line, served_line}
-pub use Rattle.moo_http.specs.Ledger.{IsMovedIn, Ledger, and_then, no_batches}
 pub use Rattle.moo_http.specs.Traffic.{Traffic, traffic, traffic_of}
-pub use Rattle.moo_http.specs.Serves.{IsWhyOf, Served, Serves, StandsStill, Written}
-pub use Rattle.moo_http.specs.Turns.{Attended, AttendsAll, Exchanged, ServesFrom, ServesOn, IsLeftUnread, Visit, Visited, Yields, attended_between, settle, visit}
+pub use Rattle.moo_http.specs.Serves.{AnswersAsked, IsWhyOf, Written}
+pub use Rattle.moo_http.specs.Turns.{Attended, AttendsAll, Exchanged, Happening, ServesFrom, ServesOn, IsLeftUnread, Visit, Visited, Yields, attended_between, settle, visit}
 pub use Rattle.moo_http.specs.Settling.{HasNoneLeft, TellsLoss, TellsLosses}
 pub use Rattle.moo_http.specs.declared.fault.ServeFault.{ServeFault}
 pub use Rattle.moo_http.specs.declared.fault.ServeFault.TheVariants.{OutOfMemory, Read, Write}

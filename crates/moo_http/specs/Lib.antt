@@ -1,7 +1,8 @@
 pub mod Faults
 pub mod Traffic
-pub mod Ledger
 pub mod Answers
+pub mod Advanced
+pub mod Leading
 pub mod Settled
 pub mod Serves
 pub mod Lines

@@ -1,9 +1,8 @@
 -- What passes between a peer and the service through a desk, which gathers a request before it is judged and sends the answer after that.
 use Rattle.std.specs.Prelude.{◌≡◌, ◌⊎◌, ℕ, List, [], Ok, Err}
 use Rattle.std.specs.Io.KnownBytes.{Keeps, Appends, append_known, prepend_known}
-use Rattle.moo_store.specs.Stand.{Stand}
+use Rattle.moo_store_rows.specs.Place.{Place}
 use Rattle.moo_http.specs.Traffic.{Traffic}
-use Rattle.moo_http.specs.Ledger.{Ledger, no_batches}
 use Rattle.moo_http.specs.Turns.{Exchanged, Yields}
 use Rattle.moo_http.specs.declared.fault.ServeFault.{ServeFault}
 use Rattle.moo_http.specs.declared.fault.ServeFault.TheVariants.{Read, Write, OutOfMemory}
@@ -22,23 +21,22 @@ pub record Passes (peer judge : Traffic) (unsent : List ℕ) : Type 0 where
   pub front : (bytes : List ℕ) × Appends peer.before peer.after bytes
 
 -- What came of a connection that met a fault, as its peer sees it: as `Exchanged`, where what is known of its bytes stays as it was.
-abbrev pub FailedThrough : ServeFault → Stand → Stand → Traffic → Ledger → Type 0
-FailedThrough Write old new peer ledger = Exchanged (Err Write) old new peer ledger
-FailedThrough Read old new peer ledger = (new ≡ old) × (ledger ≡ no_batches) × Keeps peer.before peer.after
-FailedThrough OutOfMemory old new peer ledger =
-    Keeps peer.before peer.after
-    × (((new ≡ old) × (ledger ≡ no_batches)) ⊎ ((output : List ℕ) × Yields old new peer output ledger))
+abbrev pub FailedThrough : ServeFault → Place → Place → Traffic → Type 0
+FailedThrough Write from to peer = Exchanged (Err Write) from to peer
+FailedThrough Read from to peer = (to ≡ from) × Keeps peer.before peer.after
+FailedThrough OutOfMemory from to peer =
+    Keeps peer.before peer.after × ((to ≡ from) ⊎ ((output : List ℕ) × Yields from to peer output))
 
 -- an answer of which nothing is left to be sent is the peer's answer
 abbrev pub AnswersPass : Type 0
-AnswersPass = (old new : Stand) (ledger : Ledger) (peer judge : Traffic) → Passes peer judge [] →
-    Exchanged (Ok tt) old new judge ledger → Exchanged (Ok tt) old new peer ledger
+AnswersPass = (from to : Place) (peer judge : Traffic) → Passes peer judge [] → Exchanged (Ok tt) from to judge →
+    Exchanged (Ok tt) from to peer
 
 -- of another the peer has a front
 abbrev pub FrontsPass : Type 0
-FrontsPass = (old new : Stand) (ledger : Ledger) (peer judge : Traffic) (unsent : List ℕ) → Passes peer judge unsent →
-    Exchanged (Ok tt) old new judge ledger → Exchanged (Err Write) old new peer ledger
+FrontsPass = (from to : Place) (peer judge : Traffic) (unsent : List ℕ) → Passes peer judge unsent →
+    Exchanged (Ok tt) from to judge → Exchanged (Err Write) from to peer
 
 abbrev pub FaultsPass : Type 0
-FaultsPass = (fault : ServeFault) (old new : Stand) (ledger : Ledger) (peer judge : Traffic) (unsent : List ℕ) →
-    Passes peer judge unsent → Exchanged (Err fault) old new judge ledger → FailedThrough fault old new peer ledger
+FaultsPass = (fault : ServeFault) (from to : Place) (peer judge : Traffic) (unsent : List ℕ) → Passes peer judge unsent →
+    Exchanged (Err fault) from to judge → FailedThrough fault from to peer

@@ -1,12 +1,13 @@
 //! Asking the World.
 
-ghost use Rattle.std.specs.Prelude.{◌≡◌, Bool};
-ghost use Rattle.moo_world.specs.Judge.{State, state_of, is_due};
+ghost use Rattle.std.specs.Prelude.{◌≡◌};
+ghost use Rattle.moo_world.specs.Judge.{is_due};
 ghost use Rattle.moo_world.specs.Rows.{IsGood};
-ghost use Rattle.moo_store.specs.Stand.{Stand, Works};
-ghost use Rattle.sqlite.specs.State.{HasCleanDisk};
-ghost use Rattle.moo_store.specs.World.{store_of, StandsAt, StandsFor};
-ghost use Rattle.moo_http.specs.Answers.{MayAnswer, IsAnswered, Consulted, IsMovedAs};
+ghost use Rattle.moo_store.specs.Moves.{Stands, MovesBy};
+ghost use Rattle.moo_store_rows.specs.Moment.{Moment, state_of_moment, rows_alone};
+ghost use Rattle.moo_store_rows.specs.Place.{Place, Works};
+ghost use Rattle.moo_http.specs.Advanced.{IsStillOrAdvanced};
+ghost use Rattle.moo_http.specs.Answers.{MayAnswer};
 ghost use Rattle.moo_http.specs.Seen.{HasSeenAsked};
 ghost use Rattle.moo_http.specs.Settled.{lost_by, came_of};
 ghost use Rattle.moo_reasons.specs.Seen.{seen_by};
@@ -49,18 +50,16 @@ fn run_batch<S: Alter + Drop>(
     batch: &Batch,
     whys: &mut Whys,
 ) -> RequestOutcome
-    ensures clean { HasCleanDisk (store_of S.Store world.new) → HasCleanDisk (store_of S.Store world.old) }
-    ensures comes { IsAnswered S.Store world.old world.new (Asked.Calls Mode.Run batch.now) result }
-    ensures moved { IsMovedAs S.Store world.old world.new (Asked.Calls Mode.Run batch.now) result }
+    ensures moves { MovesBy S.Store world.old world.new (λ from to. MayAnswer from (Asked.Calls Mode.Run batch.now) result to) }
+    ensures still { IsStillOrAdvanced S.Store world.old world.new }
     ensures seen { HasSeenAsked world.old.rows.maps (Asked.Calls Mode.Run batch.now) result (seen_by whys.old) (seen_by whys.new) }
 {
-    world.has_good_rows();
     came(world.run_one(batch, whys))
 }
 
 fn ask_batch<S: Alter + Drop>(world: &World<S>, batch: &Batch, whys: &mut Whys) -> RequestOutcome
-    ensures comes { (known : Bool) (stand : Stand) → StandsAt S.Store known world.now stand →
-        MayAnswer stand (Asked.Calls Mode.Ask batch.now) result stand }
+    ensures comes { (place : Place) → Stands S.Store world.now place →
+        MayAnswer place (Asked.Calls Mode.Ask batch.now) result place }
     ensures seen { HasSeenAsked world.now.rows.maps (Asked.Calls Mode.Ask batch.now) result (seen_by whys.old) (seen_by whys.new) }
 {
     came(world.ask(batch, whys))
@@ -83,8 +82,8 @@ fn ask_each_at<S: Alter + Drop>(
     seq: u64,
     whys: &mut Whys,
 ) -> RequestOutcome
-    ensures comes { (known : Bool) (s : State) → StandsFor S.Store known world.now s → s.seq ≡ seq →
-        MayAnswer (Works s) (Asked.Each each.now) result (Works s) }
+    ensures comes { (m : Moment) → Stands S.Store world.now (Works m) → (state_of_moment m).seq ≡ seq →
+        MayAnswer (Works m) (Asked.Each each.now) result (Works m) }
     ensures seen { HasSeenAsked world.now.rows.maps (Asked.Each each.now) result (seen_by whys.old) (seen_by whys.new) }
 {
     if !is_due(each.at, seq) {
@@ -98,8 +97,7 @@ fn ask_each_at<S: Alter + Drop>(
 
 /// What comes of calls that are asked each alone.
 fn ask_each<S: Alter + Drop>(world: &World<S>, each: &Each, whys: &mut Whys) -> RequestOutcome
-    ensures comes { (known : Bool) (stand : Stand) → StandsAt S.Store known world.now stand →
-        MayAnswer stand (Asked.Each each.now) result stand }
+    ensures comes { (place : Place) → Stands S.Store world.now place → MayAnswer place (Asked.Each each.now) result place }
     ensures seen { HasSeenAsked world.now.rows.maps (Asked.Each each.now) result (seen_by whys.old) (seen_by whys.new) }
 {
     match world.seq() {
@@ -111,7 +109,7 @@ fn ask_each<S: Alter + Drop>(world: &World<S>, each: &Each, whys: &mut Whys) -> 
 /// What comes of a question to a World of these rows that works.
 fn ask_rows<R: Rows>(alloc: Global, rows: &R, question: Question) -> RequestOutcome
     requires { IsGood (R.held rows.now).maps }
-    ensures { let stand = Works (state_of (R.held rows.now).maps) in MayAnswer stand (Asked.Question question) result stand }
+    ensures { let place = Works (rows_alone (R.held rows.now).maps) in MayAnswer place (Asked.Question question) result place }
 {
     match tell(alloc, rows, question) {
         Ok(told) => RequestOutcome::Told(told),
@@ -125,8 +123,7 @@ fn ask_question<S: Alter + Drop>(
     world: &World<S>,
     question: Question,
 ) -> RequestOutcome
-    ensures { (known : Bool) (stand : Stand) → StandsAt S.Store known world.now stand →
-        MayAnswer stand (Asked.Question question) result stand }
+    ensures { (place : Place) → Stands S.Store world.now place → MayAnswer place (Asked.Question question) result place }
 {
     match world.good_rows() {
         Some(rows) => ask_rows(alloc, rows, question),
@@ -141,33 +138,13 @@ fn take_batch<S: Alter + Drop>(
     batch: &Batch,
     whys: &mut Whys,
 ) -> RequestOutcome
-    ensures clean { HasCleanDisk (store_of S.Store world.new) → HasCleanDisk (store_of S.Store world.old) }
-    ensures comes { IsAnswered S.Store world.old world.new (Asked.Calls mode batch.now) result }
-    ensures moved { IsMovedAs S.Store world.old world.new (Asked.Calls mode batch.now) result }
+    ensures moves { MovesBy S.Store world.old world.new (λ from to. MayAnswer from (Asked.Calls mode batch.now) result to) }
+    ensures still { IsStillOrAdvanced S.Store world.old world.new }
     ensures seen { HasSeenAsked world.old.rows.maps (Asked.Calls mode batch.now) result (seen_by whys.old) (seen_by whys.new) }
 {
     match mode {
         Mode::Run => run_batch(world, batch, whys),
         Mode::Ask => ask_batch(world, batch, whys),
-    }
-}
-
-fn answer<S: Alter + Drop>(
-    alloc: Global,
-    world: &mut World<S>,
-    asked: &Asked,
-    whys: &mut Whys,
-) -> RequestOutcome
-    ensures clean { HasCleanDisk (store_of S.Store world.new) → HasCleanDisk (store_of S.Store world.old) }
-    ensures comes { IsAnswered S.Store world.old world.new asked.now result }
-    ensures moved { IsMovedAs S.Store world.old world.new asked.now result }
-    ensures seen { HasSeenAsked world.old.rows.maps asked.now result (seen_by whys.old) (seen_by whys.new) }
-{
-    match asked {
-        Asked::Refused(refusal) => RequestOutcome::Refused(*refusal),
-        Asked::Calls(mode, batch) => take_batch(world, *mode, batch, whys),
-        Asked::Each(each) => ask_each(world, each, whys),
-        Asked::Question(question) => ask_question(alloc, world, *question),
     }
 }
 
@@ -178,14 +155,16 @@ pub(crate) fn consult<S: Alter + Drop>(
     asked: &Asked,
     whys: &mut Whys,
 ) -> RequestOutcome
-    ensures clean { HasCleanDisk (store_of S.Store world.new) → HasCleanDisk (store_of S.Store world.old) }
-    ensures comes { (known : Bool) (stand : Stand) → StandsAt S.Store known world.old stand →
-        Consulted S.Store known stand world.new asked.now result }
-    // Only a batch that is run changes rows and tables: it keeps the cells of the rows that it leaves as they are, and all numbers.
-    ensures moved { IsMovedAs S.Store world.old world.new asked.now result }
+    // Wherever the World was, what comes of it is what holds there. Only a batch that is run leads on: it keeps the cells of the rows that
+    // it leaves as they are, and all numbers.
+    ensures moves { MovesBy S.Store world.old world.new (λ from to. MayAnswer from asked.now result to) }
+    ensures still { IsStillOrAdvanced S.Store world.old world.new }
     ensures seen { HasSeenAsked world.old.rows.maps asked.now result (seen_by whys.old) (seen_by whys.new) }
 {
-    let outcome = answer(alloc, world, asked, whys);
-    world.leaves();
-    outcome
+    match asked {
+        Asked::Refused(refusal) => RequestOutcome::Refused(*refusal),
+        Asked::Calls(mode, batch) => take_batch(world, *mode, batch, whys),
+        Asked::Each(each) => ask_each(world, each, whys),
+        Asked::Question(question) => ask_question(alloc, world, *question),
+    }
 }

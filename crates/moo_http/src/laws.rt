@@ -1,18 +1,23 @@
 //! What holds of answers.
 
-ghost use Rattle.std.specs.Prelude.{◌≡◌, ◌≢◌};
-ghost use Rattle.moo_world.specs.Judge.{State};
-ghost use Rattle.moo_store.specs.Stand.{Stand, Works, state_at};
+ghost use Rattle.std.specs.Prelude.{◌≡◌, ◌≢◌, ℕ};
+ghost use Rattle.moo_store_rows.specs.Moment.{Moment, state_of_moment};
+ghost use Rattle.moo_store_rows.specs.Place.{Place, Works, moment_of};
 ghost use Rattle.moo_http_request.specs.declared.asked.Asked.{Asked};
 ghost use Rattle.moo_http_response.specs.declared.outcome.RequestOutcome.{RequestOutcome};
 ghost use Rattle.moo_http.specs.Answers.{MayAnswer, answer};
 ghost use Rattle.moo_http_response.specs.Responses.{response_of};
+ghost use Rattle.moo_http.specs.Leading.{LeadsTo};
 ghost use Rattle.moo_http.specs.Through.{AnswersPass, FrontsPass, FaultsPass};
+ghost use Rattle.moo_http.specs.Turns.{Attended};
 
-/// Whatever a World that works answers but 503, is the defined answer at its state, and leaves the defined next state.
+use moo_arrivals::Arrivals;
+
+/// Whatever a World that works answers but 503, is the defined answer at its state, and leads to the defined next state.
 pub fn answers_are_defined()
-    ensures { (s : State) (asked : Asked) (o : RequestOutcome) (new : Stand) → MayAnswer (Works s) asked o new →
-        (response_of o).status ≢ 503 → (o ≡ (answer s asked).0) × (state_at new ≡ (answer s asked).1) }
+    ensures { (m : Moment) (asked : Asked) (o : RequestOutcome) (to : Place) → MayAnswer (Works m) asked o to →
+        (response_of o).status ≢ 503 →
+        (o ≡ (answer (state_of_moment m) asked).0) × (state_of_moment (moment_of to) ≡ (answer (state_of_moment m) asked).1) }
 {}
 
 /// What is exchanged through a desk is what the peer sees: all of its answer once nothing is left to be sent, else a front of it.
@@ -20,4 +25,10 @@ pub fn exchanges_pass_through()
     ensures sent { AnswersPass }
     ensures lost { FrontsPass }
     ensures failed { FaultsPass }
+{}
+
+/// The turns of connections lead on by accepted batches, and by nothing else: to whatever may be left where they end.
+pub fn connections_lead_on<A: Arrivals>()
+    ensures leads { (m : Moment) (answered failed : ℕ) (old new : A) (from to : Place) →
+        Attended A.Arrivals A.Reader.Read A.Reader.fails A.Writer.Write answered failed old from new to → LeadsTo m from → LeadsTo m to }
 {}

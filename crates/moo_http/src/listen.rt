@@ -1,12 +1,9 @@
 //! Connections, served in turn.
 
-ghost use Rattle.std.specs.Prelude.{◌≡◌, ◌+◌, ◌^◌, ◌<◌, ℕ, true, false, List};
-ghost use Rattle.moo_world.specs.declared.call.Batch.{Batch};
-ghost use Rattle.moo_store.specs.Untouched.{IsMovedBy};
-ghost use Rattle.sqlite.specs.State.{HasCleanDisk};
-ghost use Rattle.moo_store.specs.World.{store_of};
+ghost use Rattle.std.specs.Prelude.{◌≡◌, ◌+◌, ◌^◌, ◌<◌, ℕ, true, false};
+ghost use Rattle.moo_store.specs.Moves.{MovesBy};
+ghost use Rattle.moo_http.specs.Advanced.{IsStillOrAdvanced};
 ghost use Rattle.moo_http.specs.Traffic.{traffic_of};
-ghost use Rattle.moo_http.specs.Connections.{ConveysBy};
 ghost use Rattle.moo_http.specs.Serves.{ClosesGently};
 ghost use Rattle.moo_http.specs.Turns.{Visited, IsLeftUnread, Visit, Attended, AttendsAll};
 ghost use Rattle.moo_http.specs.Settling.{TellsLoss, TellsLosses, HasNoneLeft};
@@ -35,20 +32,18 @@ pub fn serve_connection<S: Alter + Drop, R: Incoming, W: Write>(
     world: &mut World<S>,
     note: &mut Note,
 ) -> bool
-    // Wherever the World stood: it is answered, and then all of its answer is written; or it met a fault of `serve_one`, and what was
-    // written of the answer is by the fault. Just the batch that was asked moved the World, if that was run.
-    ensures visited { ConveysBy S.Store world.old world.new (λ ledger stand end.
-        Visited (IsLeftUnread R.fails connection.old connection.new) result stand end
-        (traffic_of R.Read W.Write connection.old connection.new) ledger) }
+    // Wherever the World was: it is answered, and then all of its answer is written; or it met a fault of `serve_one`, and what was
+    // written of the answer is by the fault. Just the batch that was asked led the World on, if that was run.
+    ensures visited { MovesBy S.Store world.old world.new (λ from to.
+        Visited (IsLeftUnread R.fails connection.old connection.new) result from to
+        (traffic_of R.Read W.Write connection.old connection.new)) }
     ensures unlimited { connection.old.is_limited ≡ false →
         (result ≡ false) × (world.new ≡ world.old) × (connection.new ≡ connection.old) }
     // If it was answered by a refusal, the note says that it is to be closed gently.
     ensures gentle { result ≡ true →
         ClosesGently (R.remaining connection.old.reader) (R.remaining connection.new.reader) note.new.closing }
-    ensures moved { (batches lost : List Batch) × IsMovedBy S.Store world.old world.new batches lost }
-    ensures clean { HasCleanDisk (store_of S.Store world.new) → HasCleanDisk (store_of S.Store world.old) }
+    ensures still { IsStillOrAdvanced S.Store world.old world.new }
 {
-    world.leaves();
     let is_limited = connection.is_limited;
     if !is_limited {
         note.fails(Trouble::NotLimited);
@@ -73,12 +68,10 @@ pub fn serve_next<S: Alter + Drop, A: Arrivals>(
     world: &mut World<S>,
     note: &mut Note,
 ) -> bool
-    ensures turn { ConveysBy S.Store world.old world.new (λ ledger stand end.
-        Visit A.Arrivals A.Reader.Read A.Reader.fails A.Writer.Write result ledger arrivals.old stand arrivals.new end) }
-    ensures moved { (batches lost : List Batch) × IsMovedBy S.Store world.old world.new batches lost }
-    ensures clean { HasCleanDisk (store_of S.Store world.new) → HasCleanDisk (store_of S.Store world.old) }
+    ensures turn { MovesBy S.Store world.old world.new (λ from to.
+        Visit A.Arrivals A.Reader.Read A.Reader.fails A.Writer.Write result arrivals.old from arrivals.new to) }
+    ensures still { IsStillOrAdvanced S.Store world.old world.new }
 {
-    world.leaves();
     let Some(mut connection) = arrivals.accept(means.routes, left) else {
         note.fails(Trouble::NotTaken);
         return false;
@@ -142,12 +135,10 @@ fn serve_each<'a, S: Alter + Drop, A: Arrivals, C: Clock + Eprint>(
     count: u32,
 ) -> Served
     ensures count { result.answered + result.failed ≡ count }
-    ensures serves { ConveysBy S.Store world.old world.new (λ ledger stand end. Attended A.Arrivals A.Reader.Read A.Reader.fails
-        A.Writer.Write result.answered result.failed ledger arrivals.old stand arrivals.new end) }
-    ensures moved { (batches lost : List Batch) × IsMovedBy S.Store world.old world.new batches lost }
-    ensures clean { HasCleanDisk (store_of S.Store world.new) → HasCleanDisk (store_of S.Store world.old) }
+    ensures serves { MovesBy S.Store world.old world.new (λ from to. Attended A.Arrivals A.Reader.Read A.Reader.fails
+        A.Writer.Write result.answered result.failed arrivals.old from arrivals.new to) }
+    ensures still { IsStillOrAdvanced S.Store world.old world.new }
 {
-    world.leaves();
     let mut served = Served {
         answered: 0,
         failed: 0,
@@ -175,15 +166,13 @@ pub fn serve_on<'a, S: Alter + Drop, A: Arrivals, C: Clock + Eprint>(
     count: u32,
 ) -> Served
     ensures count { result.answered + result.failed ≡ count }
-    // The World moved by what the connections asked that the source handed out, in their order, each of which got its answer or failed,
+    // The World was led on by what the connections asked that the source handed out, in their order, each of which got its answer or failed,
     // and by nothing else. So many of them were answered, and so many failed. Just the batches that they asked and that were run wrote to
     // the tables: each keeps the cells of what stays, and all numbers. At last the source told of no lost answer, unless none counts as
     // answered.
-    ensures serves { ConveysBy S.Store world.old world.new (λ ledger stand end. AttendsAll A.Arrivals A.Reader.Read A.Reader.fails
-        A.Writer.Write result.answered result.failed ledger arrivals.old stand arrivals.new end) }
-    // It moved by accepted batches, one after another: each wrote only rows that differ, and kept all numbers.
-    ensures moved { (batches lost : List Batch) × IsMovedBy S.Store world.old world.new batches lost }
-    ensures clean { HasCleanDisk (store_of S.Store world.new) → HasCleanDisk (store_of S.Store world.old) }
+    ensures serves { MovesBy S.Store world.old world.new (λ from to. AttendsAll A.Arrivals A.Reader.Read A.Reader.fails
+        A.Writer.Write result.answered result.failed arrivals.old from arrivals.new to) }
+    ensures still { IsStillOrAdvanced S.Store world.old world.new }
 {
     let mut served = serve_each(means, arrivals, log, world, count);
     settle_rest(arrivals, log, &mut served);

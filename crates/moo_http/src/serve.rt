@@ -1,16 +1,14 @@
 //! One request, answered.
 
-ghost use Rattle.std.specs.Prelude.{◌≡◌, ◌≢◌, IfErr, OnOk, Bool, List};
-ghost use Rattle.moo_world.specs.declared.call.Batch.{Batch};
-ghost use Rattle.moo_store.specs.Untouched.{IsMovedBy};
-ghost use Rattle.moo_store.specs.Stand.{Stand};
-ghost use Rattle.sqlite.specs.State.{HasCleanDisk};
-ghost use Rattle.moo_store.specs.World.{store_of, StandsAt};
+ghost use Rattle.std.specs.Prelude.{◌≡◌, ◌≢◌, IfErr, OnOk};
+ghost use Rattle.moo_store.specs.Moves.{MovesBy};
 ghost use Rattle.moo_http_request.specs.Given.{HasFailed};
 ghost use Rattle.moo_http.specs.Traffic.{traffic};
 ghost use Rattle.moo_http_request.specs.declared.asked.Refusal.{Refusal};
 ghost use Rattle.moo_arrivals.specs.declared.arrivals.Closing.{Closing};
-ghost use Rattle.moo_http.specs.Serves.{AnswersTo, ClosesGently, Served};
+ghost use Rattle.moo_http.specs.Advanced.{IsStillOrAdvanced};
+ghost use Rattle.moo_http.specs.Serves.{AnswersAsked, ClosesGently};
+ghost use Rattle.moo_http.specs.Turns.{Exchanged};
 
 use crate::consult::consult;
 use crate::fault::ServeFault;
@@ -52,13 +50,11 @@ fn serve_asked<S: Alter + Drop, W: Write>(
     world: &mut World<S>,
     note: &mut Note,
 ) -> Result<(), ServeFault>
-    ensures answered { (known : Bool) (stand : Stand) → StandsAt S.Store known world.old stand →
-        AnswersTo S.Store known stand world.old world.new inquiry.now.is_head inquiry.now.asks_why inquiry.now.asked
-        result (W.contents writer.old) (W.contents writer.new) }
+    ensures answered { MovesBy S.Store world.old world.new (λ from to. AnswersAsked inquiry.now.is_head inquiry.now.asks_why
+        inquiry.now.asked result from to (W.contents writer.old) (W.contents writer.new)) }
+    ensures still { IsStillOrAdvanced S.Store world.old world.new }
     ensures unwritten { IfErr result (λ fault. fault ≢ ServeFault.Write → writer.new ≡ writer.old) }
     ensures fault { IfErr result (λ fault. fault ≢ ServeFault.Read) }
-    ensures moved { (batches lost : List Batch) × IsMovedBy S.Store world.old world.new batches lost }
-    ensures clean { HasCleanDisk (store_of S.Store world.new) → HasCleanDisk (store_of S.Store world.old) }
     ensures gentle { (refusal : Refusal) → inquiry.now.asked ≡ Asked.Refused refusal → note.new.closing ≡ Closing.Gently }
 {
     note.asks(&inquiry.asked);
@@ -81,23 +77,19 @@ pub fn serve_one<S: Alter + Drop, R: Incoming, W: Write>(
     world: &mut World<S>,
     note: &mut Note,
 ) -> Result<(), ServeFault>
-    // Wherever the World stood, the answer to the bytes that the reader gave is written, and nothing else, and the World stands where
-    // it leaves it; by the result.
-    ensures served { (known : Bool) (stand : Stand) → StandsAt S.Store known world.old stand →
-        Served S.Store known result stand world.old world.new (traffic R.Read W.Write reader.old reader.new writer.old writer.new) }
+    // Wherever the World was, the answer to the bytes that the reader gave is written, and nothing else, and the World is where that leads;
+    // by the result.
+    ensures served { MovesBy S.Store world.old world.new (λ from to.
+        Exchanged result from to (traffic R.Read W.Write reader.old reader.new writer.old writer.new)) }
+    // Unless a batch was accepted, or the store failed in it, it is the very World.
+    ensures still { IsStillOrAdvanced S.Store world.old world.new }
     ensures unwritten { IfErr result (λ fault. fault ≢ ServeFault.Write → writer.new ≡ writer.old) }
     ensures unread { IfErr result (λ fault. fault ≡ ServeFault.Read → world.new ≡ world.old) }
     // The reader did fail, at the last read.
     ensures cause { IfErr result (λ fault. fault ≡ ServeFault.Read → HasFailed R.fails reader.new) }
-    // Whatever comes of it, the World was moved by accepted batches, and by nothing else: each wrote only rows that differ, and kept all
-    // numbers.
-    ensures moved { (batches lost : List Batch) × IsMovedBy S.Store world.old world.new batches lost }
-    // A disk that returns what was written did so before.
-    ensures clean { HasCleanDisk (store_of S.Store world.new) → HasCleanDisk (store_of S.Store world.old) }
     // After a refusal the note says that the connection is to be closed gently.
     ensures gentle { OnOk result (ClosesGently (R.remaining reader.old) (R.remaining reader.new) note.new.closing) }
 {
-    world.leaves();
     let mut wrong = None;
     match read_request(means.alloc, means.routes, reader, &mut wrong)? {
         Received::Nothing => Ok(()),

@@ -1,14 +1,12 @@
 //! The service on a port of this machine, from binding to its last line.
 
-ghost use Rattle.std.specs.Prelude.{◌≡◌, ◌≢◌, IfOk, IfErr, OnOk, OnErr, List, string_bytes};
-ghost use Rattle.sqlite.specs.State.{HasCleanDisk};
-ghost use Rattle.moo_world.specs.declared.call.Batch.{Batch};
-ghost use Rattle.moo_store.specs.Untouched.{IsMovedBy};
-ghost use Rattle.moo_store.specs.World.{store_of};
+ghost use Rattle.std.specs.Prelude.{◌≡◌, ◌≢◌, IfOk, IfErr, OnOk, OnErr, string_bytes};
+ghost use Rattle.moo_store.specs.Moves.{MovesBy};
+ghost use Rattle.moo_http.specs.Advanced.{IsStillOrAdvanced};
 ghost use Rattle.moo_http.specs.declared.service.ServiceFault.TheVariants.{OutOfMemory};
 ghost use Rattle.std.specs.Io.KnownBytes.{Appends};
 ghost use Rattle.moo_http.specs.Lines.{listening_line, served_line};
-ghost use Rattle.moo_http.specs.Connections.{ConveysBy, WritesFront};
+ghost use Rattle.moo_http.specs.Connections.{WritesFront};
 ghost use Rattle.moo_http.specs.Turns.{ServesFrom, attended_between, ServesOn};
 
 use crate::listen::{Served, serve_on};
@@ -115,15 +113,12 @@ pub fn serve_from<S: Alter + Drop, A: Arrivals, C: Clock + Eprint, W: Write>(
     duty: Duty,
     output: &mut W,
 ) -> Result<(), ServiceFault>
-    ensures serves { ConveysBy S.Store world.old world.new (λ ledger stand end.
-        ServesFrom A.Arrivals A.Reader.Read A.Reader.fails A.Writer.Write result duty.port duty.count ledger
-        arrivals.old stand arrivals.new end (W.contents output.old) (W.contents output.new)) }
+    ensures serves { MovesBy S.Store world.old world.new (λ from to.
+        ServesFrom A.Arrivals A.Reader.Read A.Reader.fails A.Writer.Write result duty.port duty.count
+        arrivals.old from arrivals.new to (W.contents output.old) (W.contents output.new)) }
     ensures fault { IfErr result (λ fault. fault ≢ ServiceFault.Port) }
-    ensures clean { HasCleanDisk (store_of S.Store world.new) → HasCleanDisk (store_of S.Store world.old) }
-    // It moved by accepted batches, one after another: each wrote only rows that differ, and kept all numbers.
-    ensures moved { (batches lost : List Batch) × IsMovedBy S.Store world.old world.new batches lost }
+    ensures still { IsStillOrAdvanced S.Store world.old world.new }
 {
-    world.leaves();
     let routes = Routes::new(tools.alloc)?;
     say_listening(tools.alloc, output, duty.port)?;
     let mut log = Log::new(tools.console);
@@ -148,17 +143,14 @@ pub fn serve_port<S: Alter + Drop, P: Ports, C: Clock + Eprint, W: Write>(
     duty: Duty,
     output: &mut W,
 ) -> Result<(), ServiceFault>
-    // The World moved by what the connections asked that came to this port, as `serve_from` says it, and by nothing else: just the batches
-    // that they asked wrote to the tables. No other port was listened on, and none was taken after the last of them.
-    ensures serves { ConveysBy S.Store world.old world.new (λ ledger stand end. ServesOn
+    // The World was led on by what the connections asked that came to this port, as `serve_from` says it, and by nothing else: just the
+    // batches that they asked wrote to the tables. No other port was listened on, and none was taken after the last of them.
+    ensures serves { MovesBy S.Store world.old world.new (λ from to. ServesOn
         (attended_between P.Source.Arrivals P.Source.Reader.Read P.Source.Reader.fails P.Source.Writer.Write P.Ports ports.old ports.new)
-        result duty.port duty.count ledger stand end (W.contents output.old) (W.contents output.new)) }
-    // A disk that returns what was written did so before.
-    ensures clean { HasCleanDisk (store_of S.Store world.new) → HasCleanDisk (store_of S.Store world.old) }
-    // It moved by accepted batches, one after another: each wrote only rows that differ, and kept all numbers.
-    ensures moved { (batches lost : List Batch) × IsMovedBy S.Store world.old world.new batches lost }
+        result duty.port duty.count from to (W.contents output.old) (W.contents output.new)) }
+    // Unless a batch was accepted, or the store failed in it, it is the very World.
+    ensures still { IsStillOrAdvanced S.Store world.old world.new }
 {
-    world.leaves();
     let Some(mut source) = ports.listen(duty.port) else {
         return Err(ServiceFault::Port);
     };

@@ -10,23 +10,22 @@ use Rattle.sqlite.specs.Held.{Held}
 use Rattle.sqlite.specs.Files.{IsNothing, file_state}
 use Rattle.moo_rows.specs.Maps.{Maps}
 use Rattle.moo_world.specs.Rows.{IsGood}
-use Rattle.moo_world.specs.Judge.{State, state_of}
+use Rattle.moo_world.specs.Judge.{State}
 use Rattle.moo_tables_rows.specs.Tables.{Tables}
 use Rattle.moo_cells.specs.Shows.{ShowsRows}
 use Rattle.moo_store_rows.specs.Opening.{SaysOr, AreMigrated, IsOfStore}
-use Rattle.moo_store_rows.specs.States.{LeavesRows, LeavesState}
+use Rattle.moo_store_rows.specs.Moment.{Moment, rows_alone, AreTreesOf, BecomesPresent, IsSpared}
+use Rattle.moo_store_rows.specs.NewTables.{LeavesAsMade}
+use Rattle.moo_store_rows.specs.States.{LeavesState}
 use Rattle.moo_tables_rows.specs.Inside.{Leaves}
 use Rattle.moo_files.specs.Opened.{Contents, Nothing, Database, Unfit, Hold}
-use Rattle.moo_store_rows.specs.Current.{BecomesCurrent, unread_from}
-use Rattle.moo_store.specs.Led.{LeavesLed}
-use Rattle.moo_store.specs.Untouched.{LeavesWritten}
-use Rattle.moo_store.specs.World.{CrashLeaves}
 use Rattle.moo_store_rows.specs.declared.fault.StoreFault.{StoreFault}
-use Rattle.moo_files.specs.Contents.{HoldsSuch, HoldsTrees, HoldsTables, HoldsState, HoldsEarlier, HoldsNoTable}
+use Rattle.moo_files.specs.Contents.{HoldsTrees, HoldsTables, HoldsMoment, HoldsEarlier, HoldsNoTable}
 use Rattle.moo_files.specs.Contents.{HasOtherTables, HasAnyTable, IsKept, ReadsAsOurs}
-use Rattle.moo_files.specs.Remains.{IsCleanRemains, MayStopAs, Spares, KeepsSuch, KeepsNothingBut, StillHolds, StillHoldsTrees}
+use Rattle.moo_files.specs.Remains.{IsCleanRemains, MayStopAs, Spares, KeepsSuch, KeepsNothingBut, StillHoldsTrees}
 use Rattle.moo_files.specs.Blank.{IsBlank}
-use Rattle.moo_files.specs.Causes.{HasCauseOver, IsDenied}
+use Rattle.moo_files.specs.Causes.{HasCauseOr, HasCauseOver, IsDenied, IsOpenable}
+use Rattle.moo_files.specs.Making.{StopsMaking}
 use Rattle.moo_files.specs.Closing.{IsClosedFrom}
 use Rattle.moo_files.specs.declared.remains.Remains.{Remains}
 use Rattle.moo_files.specs.declared.remains.Remains.TheVariants as remains
@@ -34,49 +33,23 @@ use Rattle.moo_cli.specs.declared.task.Task.{Task}
 use Rattle.moo_cli.specs.Tasks.{NamesTask, NamesAlone}
 use Rattle.moo_run_lines.specs.Lines.{Reports, store_failure}
 use Rattle.moo_run.specs.Given.{Run}
-use Rattle.moo_run.specs.Run.{begins_anew, only_reads, is_load, RefusesTask, BeginsWith, BeginsFrom, FailsToBegin}
-use Rattle.moo_run.specs.Run.{RunsFrom, RunsUnseen, RunsTask, FailsAtOnce, RefusesFile, EndsUsage}
+use Rattle.moo_run.specs.Run.{begins_anew, only_reads, is_load, RefusesTask, BeginsFrom, FailsToBegin}
+use Rattle.moo_run.specs.Run.{RunsIn, RunsMade, RunsUnseen, RunsTask, FailsAtOnce, RefusesFile, EndsUsage}
 use Rattle.moo_run_lines.specs.declared.failure.Failure.{Failure}
 use Rattle.moo_run.specs.declared.ends.Ends.{Ends}
 use Rattle.moo_run.specs.declared.ends.Ends.TheVariants as variant
 
--- a log and its file hold a database whose tables show these good rows
-abbrev pub HoldsRows : Image → Maps → Type 0
-HoldsRows image rows = IsGood rows × HoldsSuch (λ trees. LeavesRows trees rows) image
-
--- a database of the new world that the task begins with
+-- a database of the new world that the task begins with, each row in its printed cells
 abbrev pub LeavesNew : Task → Run → Trees → Type 0
-LeavesNew task run trees = (s : State) × BeginsWith task.action run.given s × LeavesState trees s
+LeavesNew task run trees = (rows : Maps) × BeginsFrom task.action run.given rows × LeavesAsMade trees rows
 
 module _ {D : Type 0} {g : Ghosts D} where
-  -- A task ran over its file from these rows. If the disk is clean, a crash leaves rows to which its batches lead, with all numbers kept.
-  abbrev pub RunsRows : Task → Maps → Held (FileStore D g) → Run → Type 0
-  RunsRows task rows conn run = RunsFrom task (state_of rows) run (HasCleanDisk (file_state conn)) (CrashLeaves (file_state conn))
-      (LeavesLed (file_state conn) rows) ⊤
-
-  -- the task ran over its file from s, with what a crash then leaves
-  abbrev pub RanFrom : Task → State → Held (FileStore D g) → Run → Type 0
-  RanFrom task s conn run = RunsFrom task s run (HasCleanDisk (file_state conn)) (CrashLeaves (file_state conn)) (λ _ _. ⊤) ⊤
-
-  -- A task ran over its file from these rows, which these tables of these trees showed, or those that they were migrated to. If the disk is
-  -- clean, a crash leaves tables to which its batches lead, each with the cells kept of every row and column that it leaves as it is; and the
-  -- table that isn't read has the rows that it had, or none after a migration.
-  abbrev pub RunsCells : Task → Trees → Tables → Maps → Held (FileStore D g) → Run → Type 0
-  RunsCells task trees tables rows conn run = (current : Tables) × BecomesCurrent tables current
-      × RunsFrom task (state_of rows) run (HasCleanDisk (file_state conn)) (CrashLeaves (file_state conn))
-      (LeavesWritten (file_state conn) rows current (unread_from tables.version trees)) ⊤
-
-module _ {D : Type 0} {g : Ghosts D} where
-  -- A task ran over this database: its tables are ours, and it ran from the state, the rows, the cells and the world that they show. After
-  -- one that only reads, a crash leaves the database, each cell as it was; or what that was migrated to.
+  -- A task ran over this database: its tables are ours, and show good rows. It ran from the moment that they show, brought to the present
+  -- version. After one that only reads, a crash leaves the database, each cell as it was; or what that was migrated to.
   pub record RanOn (task : Task) (trees : Trees) (conn : Held (FileStore D g)) (run : Run) : Type 0 where
     pub ours : ¬ HasOtherTables trees
-    pub state : (s : State) → LeavesState trees s → RanFrom task s conn run
-    pub rows : (rows : Maps) → IsGood rows → LeavesRows trees rows → RunsRows task rows conn run
-    pub cells : (tables : Tables) (rows : Maps) → Leaves trees tables → IsGood rows → ShowsRows tables rows →
-        RunsCells task trees tables rows conn run
-    pub tables : (tables : Tables) → Leaves trees tables →
-        (rows : Maps) × IsGood rows × ShowsRows tables rows × RunsUnseen task (state_of rows) run
+    pub sound : (tables : Tables) → Leaves trees tables → (rows : Maps) × IsGood rows × ShowsRows tables rows
+    pub runs : (m : Moment) → AreTreesOf m trees → (now : Moment) × BecomesPresent m now × RunsIn (file_state conn) task now run
     pub still : only_reads task.action ≡ true → (found : Trees) → (file_state conn).may_leave found → IsKept trees found
 
   -- a task that takes up its file runs over a database of ours, and over nothing else
@@ -88,15 +61,15 @@ module _ {D : Type 0} {g : Ghosts D} where
   -- the task ran over the file that held this image
   pub record RanOver (task : Task) (image : Image) (conn : Held (FileStore D g)) (run : Run) : Type 0 where
     -- it begins with a new world, and runs from that, which is made only if the files have room for it: never over a world or a table
-    pub anew : begins_anew task ≡ true → (rows : Maps) × BeginsFrom task.action run.given rows × RunsRows task rows conn run
+    pub anew : begins_anew task ≡ true →
+        (rows : Maps) × BeginsFrom task.action run.given rows × RunsMade (file_state conn) task rows run
     pub room : begins_anew task ≡ true → HasCleanDisk (file_state conn) → HoldsNoTable image
-    pub taken : (s : State) → begins_anew task ≡ true → HoldsState image s → HasCleanDisk (file_state conn) → ⊥
     pub occupied : (trees : Trees) → begins_anew task ≡ true → HoldsTrees image trees → HasAnyTable trees →
         HasCleanDisk (file_state conn) → ⊥
-    -- or it takes up what the file holds, and runs from a well formed world whatever that is
+    -- or it takes up what the file holds, and runs from good rows whatever that is
     pub over : begins_anew task ≡ false → (held : Contents) → Hold image held → HasCleanDisk (file_state conn) → RanOnto task held conn run
     pub sound : begins_anew task ≡ false → HasCleanDisk (file_state conn) → ReadsAsOurs image
-    pub opened : begins_anew task ≡ false → (rows : Maps) × IsGood rows × RunsUnseen task (state_of rows) run
+    pub opened : begins_anew task ≡ false → (rows : Maps) × IsGood rows × RunsUnseen task (rows_alone rows) run
 
 module _ {T D : Type 0} {g : Ghosts D} where
   -- there is a file: the task ran over its world, or no world was opened or made
@@ -127,6 +100,20 @@ module _ {T D : Type 0} {g : Ghosts D} where
   abbrev pub IsUntouched : Remains T D g → Type 0
   IsUntouched left = (start : T) × (left ≡ remains.Untouched start)
 
+  -- the dump of the task gives no world, and no file was opened
+  abbrev pub GivesNoWorld : Task → Remains T D g → Run → Type 0
+  GivesNoWorld task rest run = IsTrue (is_load task.action) × IsUntouched rest × (failure : Failure)
+      × RefusesTask run.given task.action failure × Reports failure run.before run.after run.status
+
+  -- The dump of the task gives no world. Or none was made in the file, which held this image, for a cause: the host denied it, its disk
+  -- failed or refused, or memory ran out; or a row of the world is too big or has no number left. Over a connection that is open nothing
+  -- is said of files without room for a world.
+  abbrev pub FailsToMake : Task → Image → Remains T D g → Run → Type 0
+  FailsToMake task image rest run =
+      ((fault : StoreFault) × HasCauseOr (StopsMaking image fault) (IsDenied run.given.denies task.file.now) fault rest
+      × Reports (store_failure fault) run.before run.after run.status)
+      ⊎ GivesNoWorld task rest run
+
   -- This database is refused, and no damage is told of a state or of other tables. It is kept, damaged or of other tables as it is, or
   -- migrated.
   pub record RefusedOn (trees : Trees) (image : Image) (rest : Remains T D g) (run : Run) : Type 0 where
@@ -142,13 +129,16 @@ module _ {T D : Type 0} {g : Ghosts D} where
 
   -- no world was opened or made of the file that held this image, and this is what is left of it
   pub record RefusedOver (task : Task) (image : Image) (rest : Remains T D g) (run : Run) : Type 0 where
-    -- a new world can't be made
+    -- a new world can't be made, and if the files held nothing or a database, that has a cause
     pub anew : begins_anew task ≡ true → FailsToBegin task run
+    pub unfit : begins_anew task ≡ true → IsOpenable image → IsCleanRemains rest → FailsToMake task image rest run
     -- or what the file holds isn't taken up
     pub over : begins_anew task ≡ false → (held : Contents) → Hold image held → IsCleanRemains rest → RefusedOnto held image rest run
     pub opened : begins_anew task ≡ false → RefusesFile run
-    -- it holds its state still, and so does what a crash leaves of it; and if it held anything, sound or not, it is spared
-    pub left : (s : State) → HoldsState image s → IsCleanRemains rest → StillHolds image rest s
+    -- It holds its moment still, or that to which it was migrated, and so does what a crash leaves of it; and if it held anything, sound or
+    -- not, it is spared.
+    pub left : (m : Moment) → HoldsMoment image m → IsCleanRemains rest →
+        KeepsSuch (λ trees. (end : Moment) × IsSpared m end × AreTreesOf end trees) image rest
     pub spares : ¬ IsNothing image → (begins_anew task ≡ true → ¬ IsBlank image) → IsCleanRemains rest → Spares image rest
     -- No new world is put in place of a table, but into a database without any, and then whole or not at all.
     pub spared : (trees : Trees) → begins_anew task ≡ true → HoldsTrees image trees → HasAnyTable trees → IsCleanRemains rest →
@@ -163,8 +153,7 @@ module _ {T D : Type 0} {g : Ghosts D} where
     pub rests : run.given.ports.rests
     -- if no file was opened, the line tells why; or the start is unspent, and the line tells why a dump gives no world
     pub told : ((fault : StoreFault) × MayStopAs fault rest × Reports (store_failure fault) run.before run.after run.status)
-        ⊎ (IsTrue (is_load task.action) × IsUntouched rest × (failure : Failure)
-        × RefusesTask run.given task.action failure × Reports failure run.before run.after run.status)
+        ⊎ GivesNoWorld task rest run
     -- Tables are refused for what is wrong with them. Else the host denied the file, its disk failed or refused, or memory ran out; only
     -- those of an earlier version that show a world may also be refused because they can't be migrated.
     pub cause : begins_anew task ≡ false → (tables : Tables) → HoldsTables image tables → IsCleanRemains rest →

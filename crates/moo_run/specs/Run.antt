@@ -1,17 +1,17 @@
--- What a run of the program writes, the status that it ends with, and what a crash then leaves.
+-- What a run of the program writes, the status that it ends with, and the place to which it leads.
 use Rattle.std.specs.Prelude.{◌≡◌, ◌<◌, ◌≤◌, ◌⊎◌, ◌==◌, ◌||◌, ℕ, Bool, true, false, IsTrue, ⊤, if◌then◌else◌}
-use Rattle.std.specs.Prelude.{List, [], ◌++◌, take, length, Option, Some, None, IfSome, Result, MatchResult, codes}
+use Rattle.std.specs.Prelude.{List, [], take, length, Option, Some, None, IfSome, IsSome, Result, MatchResult, codes}
 use Rattle.std.specs.Str.{bytes_eq}
 use Rattle.std.specs.Io.KnownBytes.{Appends}
 use Rattle.clap.specs.Kinds.{IsAmong}
 use Rattle.clap.specs.declared.error.kind.ErrorKind.{ErrorKind}
 use Rattle.clap.specs.declared.error.kind.ErrorKind.TheVariants.{DisplayHelp, DisplayVersion}
 use Rattle.sqlite.specs.State.{State as Database, HasCleanDisk}
-use Rattle.sqlite.specs.Held.{Held, state}
 use Rattle.sqlite.specs.Tree.{Trees}
 use Rattle.sqlite.specs.Store.{Ghosts}
 use Rattle.moo_world.specs.declared.call.Batch.{Batch}
-use Rattle.moo_rows.specs.Maps.{Maps}
+use Rattle.moo_rows.specs.Maps.{Maps, Held as Rows}
+use Rattle.moo_files.specs.Making.{rows_made}
 use Rattle.moo_rows.specs.Opening.{opening_maps}
 use Rattle.moo_world.specs.Rows.{IsGood}
 use Rattle.moo_world.specs.Judge.{State, state_of}
@@ -19,32 +19,29 @@ use Rattle.moo_world.specs.ObjectLists.{objects_of}
 use Rattle.moo_tables_rows.specs.Tables.{Tables}
 use Rattle.moo_tables_rows.specs.Inside.{Rests}
 use Rattle.moo_cells.specs.Shows.{ShowsRows}
-use Rattle.moo_text.specs.Items.{items}
 use Rattle.moo_text.specs.declared.fault.TextFault.{TextFault}
 use Rattle.moo_dump.specs.Dump.{dump as dump_of}
 use Rattle.moo_load.specs.OneState.{IsHeld}
 use Rattle.moo_load.specs.RowsOf.{AreRowsOf}
 use Rattle.moo_store_rows.specs.declared.fault.StoreFault.{StoreFault}
 use Rattle.moo_store.specs.declared.course.Course.{Course}
-use Rattle.moo_store.specs.Stand.{Stand, Works, RunsBatch, AsksBatch}
 use Rattle.moo_text.specs.declared.reply.Answer.{Answer}
-use Rattle.moo_store.specs.Turns.{Completes, Halts}
-use Rattle.moo_store.specs.Stopping.{CompletesUntil, HaltsUntil, EndsEarly}
-use Rattle.moo_store.specs.Rehearsed.{RehearsesBatch}
-use Rattle.moo_store.specs.Text.{accepted, faulted}
-use Rattle.moo_store_rows.specs.Current.{unread_of}
-use Rattle.moo_store.specs.Led.{LeavesLed}
-use Rattle.moo_store.specs.Untouched.{LeavesWritten}
+use Rattle.moo_store.specs.Stopping.{CompletesUntil, HaltsUntil, EndsEarly, AnswersBy}
+use Rattle.moo_store.specs.Rehearsed.{RehearsesAt}
+use Rattle.moo_store_rows.specs.Moment.{Moment, state_of_moment, rows_alone}
+use Rattle.moo_store_rows.specs.NewTables.{IsMadeOf}
 use Rattle.moo_store_rows.specs.Opening.{IsOfStore}
+use Rattle.moo_store_rows.specs.Place.{Place, Works, MayBeLeft, LeavesJust, CrashLeavesAt}
 use Rattle.moo_store.specs.Kept.{World}
-use Rattle.moo_store.specs.World.{store_of, CrashLeaves}
+use Rattle.moo_store.specs.Moves.{Stands, RunsAt, AsksAt}
+use Rattle.moo_store.specs.World.{store_of}
 use Rattle.moo_cli.specs.declared.task.Task.{Task}
 use Rattle.moo_cli.specs.declared.task.Action.{Action}
 use Rattle.moo_cli.specs.declared.task.Action.TheVariants.{Init, Apply, Rehearse, Ask, Dump, Load, Check, Serve}
 use Rattle.moo_run.specs.declared.texts.Manner.{Manner}
 use Rattle.moo_run.specs.declared.texts.Manner.TheVariants as manner
-use Rattle.moo_http.specs.Ledger.{Ledger, no_batches}
 use Rattle.moo_http.specs.Lines.{listening_line}
+use Rattle.moo_http.specs.Leading.{LeadsTo}
 use Rattle.moo_http.specs.Turns.{Attendance, SaysAttended}
 use Rattle.moo_run.specs.Given.{Given, Run}
 use Rattle.moo_cli.specs.Tasks.{NamesTask, NamesAlone, NamesNone, text_word, mistakes}
@@ -134,59 +131,40 @@ course_status course = if course.stopped then 1 else lost_status course.tally.lo
 
 -- ---- a task over a world
 
--- what is said of the batches that were acknowledged, and of those in which the store failed
-abbrev pub Leads : Type 1
-Leads = List Batch → List Batch → Type 0
-
 -- what is said of one batch: where it began, its answer, and where it left off
 abbrev pub Steps : Type 1
-Steps = Stand → Batch → Answer → Stand → Type 0
+Steps = Place → Batch → Answer → Place → Type 0
 
 -- A text of batches is answered to its end. Or it ends after the first answer that isn't `accepted`, if it was to stop there, and the
 -- status is 1.
-abbrev pub AnswersText : Steps → Leads → Bool → State → Stand → Option (List ℕ) → Option (List ℕ) → Option (List ℕ) → ℕ → Type 0
-AnswersText step Led stop s end text old new status =
-    ((batches lost : ℕ) × (run : CompletesUntil step stop (Works s) end text old new batches lost) × (status ≡ lost_status lost)
-    × Led (accepted (items run.0.given) run.0.answers) (faulted (items run.0.given) run.0.answers))
-    ⊎ ((stop ≡ true) × (batches lost : ℕ) × (run : EndsEarly step (Works s) end text old new batches lost) × (status ≡ 1)
-    × Led (accepted run.done run.answers) (faulted run.done run.answers))
+abbrev pub AnswersText : Steps → Bool → Moment → Place → Option (List ℕ) → Option (List ℕ) → Option (List ℕ) → ℕ → Type 0
+AnswersText step stop m end text old new status =
+    ((batches lost : ℕ) × CompletesUntil step stop (Works m) end text old new batches lost × (status ≡ lost_status lost))
+    ⊎ ((stop ≡ true) × (batches lost : ℕ) × EndsEarly step (Works m) end text old new batches lost × (status ≡ 1))
 
 -- if the failure is that a file of batches or a dump can't be opened, it is this one
 abbrev pub TellsLack : (List ℕ → Type 0) → List ℕ → Failure → Type 0
 TellsLack lacks path failure = failure ≡ NoBatches → lacks path
 
 -- a fault stops it; or its file can't be opened, and nothing is done
-abbrev pub StopsText : Steps → Leads → Bool → State → Stand → Failure → Option (List ℕ) → Option (List ℕ) → Option (List ℕ) → Type 0
-StopsText step Led stop s end failure text old new =
-    ((fault : TextFault) × (failure ≡ text_failure fault) × (run : HaltsUntil step stop (Works s) end text old new fault)
-    × Led (accepted run.0.done run.0.answers ++ accepted run.0.hand run.0.last)
-    (faulted run.0.done run.0.answers ++ faulted run.0.hand run.0.last))
-    ⊎ ((failure ≡ NoBatches) × (end ≡ Works s) × (new ≡ old) × Led [] [])
+abbrev pub StopsText : Steps → Bool → Moment → Place → Failure → Option (List ℕ) → Option (List ℕ) → Option (List ℕ) → Type 0
+StopsText step stop m end failure text old new =
+    ((fault : TextFault) × (failure ≡ text_failure fault) × HaltsUntil step stop (Works m) end text old new fault)
+    ⊎ ((failure ≡ NoBatches) × (end ≡ Works m) × (new ≡ old))
 
--- a text of batches is run
-abbrev pub AppliesText : Leads → Bool → State → Stand → Option (List ℕ) → Option (List ℕ) → Option (List ℕ) → ℕ → Type 0
-AppliesText Led = AnswersText RunsBatch Led
+-- A text of batches is rehearsed over the rows alone: what is written and the status are those of a run of it, which ends somewhere.
+abbrev pub RehearsesText : Bool → Moment → Option (List ℕ) → Option (List ℕ) → Option (List ℕ) → ℕ → Type 0
+RehearsesText stop m text old new status = (end : Place) × AnswersText RehearsesAt stop (rows_alone m.rows) end text old new status
 
-abbrev pub StopsApplying : Leads → Bool → State → Stand → Failure → Option (List ℕ) → Option (List ℕ) → Option (List ℕ) → Type 0
-StopsApplying Led = StopsText RunsBatch Led
+abbrev pub StopsRehearsing : Bool → Moment → Failure → Option (List ℕ) → Option (List ℕ) → Option (List ℕ) → Type 0
+StopsRehearsing stop m failure text old new = (end : Place) × StopsText RehearsesAt stop (rows_alone m.rows) end failure text old new
 
--- A text of batches is rehearsed: what is written and the status are those of a run of it, which ends somewhere.
-abbrev pub RehearsesText : Bool → State → Option (List ℕ) → Option (List ℕ) → Option (List ℕ) → ℕ → Type 0
-RehearsesText stop s text old new status = (end : Stand) × AnswersText RehearsesBatch (λ _ _. ⊤) stop s end text old new status
+-- a text of batches is asked, to its end
+abbrev pub AsksText : Moment → Option (List ℕ) → Option (List ℕ) → Option (List ℕ) → ℕ → Type 0
+AsksText m = AnswersText AsksAt false m (Works m)
 
-abbrev pub StopsRehearsing : Bool → State → Failure → Option (List ℕ) → Option (List ℕ) → Option (List ℕ) → Type 0
-StopsRehearsing stop s failure text old new = (end : Stand) × StopsText RehearsesBatch (λ _ _. ⊤) stop s end failure text old new
-
--- a text of batches is asked to its end
-abbrev pub AsksText : State → Option (List ℕ) → Option (List ℕ) → Option (List ℕ) → ℕ → Type 0
-AsksText s text old new status =
-    (batches lost : ℕ) × Completes AsksBatch (Works s) (Works s) text old new batches lost × (status ≡ lost_status lost)
-
--- it stops; or its file can't be opened, and nothing is done
-abbrev pub StopsAsking : State → Failure → Option (List ℕ) → Option (List ℕ) → Option (List ℕ) → Type 0
-StopsAsking s failure text old new =
-    ((fault : TextFault) × (failure ≡ text_failure fault) × Halts AsksBatch (Works s) (Works s) text old new fault)
-    ⊎ ((failure ≡ NoBatches) × (new ≡ old))
+abbrev pub StopsAsking : Moment → Failure → Option (List ℕ) → Option (List ℕ) → Option (List ℕ) → Type 0
+StopsAsking m = StopsText AsksAt false m (Works m)
 
 -- ---- what is done with a text of batches
 
@@ -195,41 +173,52 @@ abbrev pub changes_world : Manner → Bool
 changes_world (manner.Apply options) = true
 changes_world other = false
 
--- A text of batches is answered in a manner. The world moves from a state to an end.
-abbrev pub AnswersAs : Manner → Leads → State → Stand → Option (List ℕ) → Option (List ℕ) → Option (List ℕ) → ℕ → Type 0
-AnswersAs (manner.Apply options) Led s end text old new status = AppliesText Led options.stop s end text old new status
-AnswersAs (manner.Rehearse options) Led s end text old new status = (end ≡ Works s) × RehearsesText options.stop s text old new status
-AnswersAs manner.Ask Led s end text old new status = (end ≡ Works s) × AsksText s text old new status
+-- A text of batches is answered in a manner, from a moment to an end. Only a text that is run leads to another moment.
+abbrev pub AnswersAs : Manner → Moment → Place → Option (List ℕ) → Option (List ℕ) → Option (List ℕ) → ℕ → Type 0
+AnswersAs (manner.Apply options) m end text old new status = AnswersText RunsAt options.stop m end text old new status
+AnswersAs (manner.Rehearse options) m end text old new status = LeavesJust m end × RehearsesText options.stop m text old new status
+AnswersAs manner.Ask m end text old new status = LeavesJust m end × AsksText m text old new status
+
+-- what comes of the text of a manner, by the result of answering it
+abbrev pub ComesOf : Manner → Moment → Place → Option (List ℕ) → Option (List ℕ) → Option (List ℕ) → Result Course TextFault → Type 0
+ComesOf (manner.Apply options) m end text old new r = AnswersBy RunsAt options.stop (Works m) end text old new r
+ComesOf (manner.Rehearse options) m end text old new r =
+    LeavesJust m end × ((last : Place) × AnswersBy RehearsesAt options.stop (Works (rows_alone m.rows)) last text old new r)
+ComesOf manner.Ask m end text old new r = LeavesJust m end × AnswersBy AsksAt false (Works m) (Works m) text old new r
 
 -- The answering of a text stops, or its file can't be opened.
-abbrev pub StopsAs : Manner → Leads → State → Stand → Failure → Option (List ℕ) → Option (List ℕ) → Option (List ℕ) → Type 0
-StopsAs (manner.Apply options) Led s end failure text old new = StopsApplying Led options.stop s end failure text old new
-StopsAs (manner.Rehearse options) Led s end failure text old new =
-    (end ≡ Works s) × StopsRehearsing options.stop s failure text old new
-StopsAs manner.Ask Led s end failure text old new = (end ≡ Works s) × StopsAsking s failure text old new
+abbrev pub StopsAs : Manner → Moment → Place → Failure → Option (List ℕ) → Option (List ℕ) → Option (List ℕ) → Type 0
+StopsAs (manner.Apply options) m end failure text old new = StopsText RunsAt options.stop m end failure text old new
+StopsAs (manner.Rehearse options) m end failure text old new = LeavesJust m end × StopsRehearsing options.stop m failure text old new
+StopsAs manner.Ask m end failure text old new = LeavesJust m end × StopsAsking m failure text old new
 
--- The connections that came to a port were served, so many of them, and what is said of them is written. The world moved by what they
--- asked, and by nothing else: the ledger has just the batches that they asked and that were run.
-abbrev pub Serving : Attendance → ℕ → ℕ → Ledger → State → Stand → Option (List ℕ) → Option (List ℕ) → ℕ → Type 0
-Serving ports port count ledger s end old new status =
-    (text : List ℕ) × SaysAttended ports port count ledger (Works s) end text × Appends old new text × (status ≡ 0)
+-- a line of the number of a state and of how many objects it has
+abbrev pub line_of : (ℕ → ℕ → List ℕ) → State → List ℕ
+line_of line s = line s.seq (length (objects_of s.world))
 
--- The task is done, and this is its run. `Led` is true of the batches that it ran, and a check found the tables as `Shown` says.
-abbrev pub Done : Action → State → Stand → Leads → Type 0 → Run → Type 0
-Done Init s end Led Shown run = (end ≡ Works s) × Appends run.before run.after created_line × (run.status ≡ 0)
-Done (Apply batches) s end Led Shown run =
-    AppliesText Led batches.options.stop s end (run.given.text batches.path.now) run.before run.after run.status
-Done (Rehearse batches) s end Led Shown run =
-    (end ≡ Works s) × RehearsesText batches.options.stop s (run.given.text batches.path.now) run.before run.after run.status
-Done (Ask batches) s end Led Shown run = (end ≡ Works s) × AsksText s (run.given.text batches.now) run.before run.after run.status
-Done Dump s end Led Shown run = (end ≡ Works s) × Appends run.before run.after (dump_of s) × (run.status ≡ 0)
-Done (Load dump) s end Led Shown run =
-    (end ≡ Works s) × Appends run.before run.after (loaded_line s.seq (length (objects_of s.world))) × (run.status ≡ 0)
-Done Check s end Led Shown run =
-    (end ≡ Works s) × Shown × Appends run.before run.after (checked_line s.seq (length (objects_of s.world))) × (run.status ≡ 0)
-Done (Serve service) s end Led Shown run =
-    (ledger : Ledger) × Serving run.given.ports service.port service.count ledger s end run.before run.after run.status
-    × Led ledger.taken ledger.lost
+-- The connections that came to a port were served, so many of them, and what is said of them is written. Their turns led to the end.
+abbrev pub Serving : Attendance → ℕ → ℕ → Moment → Place → Option (List ℕ) → Option (List ℕ) → ℕ → Type 0
+Serving ports port count m end old new status =
+    (text : List ℕ) × SaysAttended ports port count (Works m) end text × Appends old new text × (status ≡ 0)
+
+-- the tables show what a moment has, and how much that is was written
+abbrev pub SaysChecked : Moment → Place → Option (List ℕ) → Option (List ℕ) → ℕ → Type 0
+SaysChecked m end old new status =
+    LeavesJust m end × Appends old new (line_of checked_line (state_of_moment m)) × (status ≡ 0)
+
+-- The task is done, and this is its run. All but `apply` and `serve` leave what was there.
+abbrev pub Done : Action → Moment → Place → Run → Type 0
+Done Init m end run = LeavesJust m end × Appends run.before run.after created_line × (run.status ≡ 0)
+Done (Apply batches) m end run =
+    AnswersText RunsAt batches.options.stop m end (run.given.text batches.path.now) run.before run.after run.status
+Done (Rehearse batches) m end run =
+    LeavesJust m end × RehearsesText batches.options.stop m (run.given.text batches.path.now) run.before run.after run.status
+Done (Ask batches) m end run = LeavesJust m end × AsksText m (run.given.text batches.now) run.before run.after run.status
+Done Dump m end run = LeavesJust m end × Appends run.before run.after (dump_of (state_of_moment m)) × (run.status ≡ 0)
+Done (Load dump) m end run =
+    LeavesJust m end × Appends run.before run.after (line_of loaded_line (state_of_moment m)) × (run.status ≡ 0)
+Done Check m end run = SaysChecked m end run.before run.after run.status
+Done (Serve service) m end run = Serving run.given.ports service.port service.count m end run.before run.after run.status
 
 -- a front of a text is written, since the writer failed or memory ran out
 abbrev pub StopsIn : List ℕ → Failure → Option (List ℕ) → Option (List ℕ) → Type 0
@@ -237,110 +226,95 @@ StopsIn text failure old new = ((failure ≡ Write) ⊎ (failure ≡ NoMemory)) 
 
 -- The port can't be listened on, and nothing is done. Or what is said of the service stops in its first line, and no connection is taken
 -- from the port; or after the last one.
-abbrev pub StopsServing : Attendance → ℕ → ℕ → Ledger → State → Stand → Failure → Option (List ℕ) → Option (List ℕ) → Type 0
-StopsServing ports port count ledger s end failure old new =
-    ((failure ≡ Port) × (end ≡ Works s) × (ledger ≡ no_batches) × ports.refuses port × (new ≡ old))
-    ⊎ ((end ≡ Works s) × (ledger ≡ no_batches) × ports.attends port 0 0 ledger (Works s) end
-    × StopsIn (listening_line port) failure old new)
-    ⊎ ((text : List ℕ) × SaysAttended ports port count ledger (Works s) end text × StopsIn text failure old new)
+abbrev pub StopsServing : Attendance → ℕ → ℕ → Moment → Place → Failure → Option (List ℕ) → Option (List ℕ) → Type 0
+StopsServing ports port count m end failure old new =
+    ((failure ≡ Port) × (end ≡ Works m) × ports.refuses port × (new ≡ old))
+    ⊎ ((end ≡ Works m) × ports.attends port 0 0 (Works m) end × StopsIn (listening_line port) failure old new)
+    ⊎ ((text : List ℕ) × SaysAttended ports port count (Works m) end text × StopsIn text failure old new)
 
--- It stops with this failure, and so much is written. On a clean disk no check of a World that stands for a state finds a damage.
-abbrev pub StopsTask : Action → State → Stand → Failure → Leads → Type 0 → Run → Type 0
-StopsTask Init s end failure Led Clean run = (end ≡ Works s) × StopsIn created_line failure run.before run.after
-StopsTask (Apply batches) s end failure Led Clean run =
-    StopsApplying Led batches.options.stop s end failure (run.given.text batches.path.now) run.before run.after
+-- A check found a fault; or the line stops. On a clean disk no check of known cells finds a damage.
+abbrev pub StopsChecking : Moment → Place → Failure → Type 0 → Option (List ℕ) → Option (List ℕ) → Type 0
+StopsChecking m end failure Clean old new = LeavesJust m end
+    × (((fault : StoreFault) × (failure ≡ store_failure fault) × (IsSome m.cells → Clean → IsOfStore fault) × (new ≡ old))
+    ⊎ StopsIn (line_of checked_line (state_of_moment m)) failure old new)
+
+-- It stops with this failure, and so much is written.
+abbrev pub StopsTask : Action → Moment → Place → Failure → Type 0 → Run → Type 0
+StopsTask Init m end failure Clean run = LeavesJust m end × StopsIn created_line failure run.before run.after
+StopsTask (Apply batches) m end failure Clean run =
+    StopsText RunsAt batches.options.stop m end failure (run.given.text batches.path.now) run.before run.after
     × TellsLack run.given.lacks batches.path.now failure
-StopsTask (Rehearse batches) s end failure Led Clean run =
-    (end ≡ Works s) × StopsRehearsing batches.options.stop s failure (run.given.text batches.path.now) run.before run.after
+StopsTask (Rehearse batches) m end failure Clean run =
+    LeavesJust m end × StopsRehearsing batches.options.stop m failure (run.given.text batches.path.now) run.before run.after
     × TellsLack run.given.lacks batches.path.now failure
-StopsTask (Ask batches) s end failure Led Clean run =
-    (end ≡ Works s) × StopsAsking s failure (run.given.text batches.now) run.before run.after
+StopsTask (Ask batches) m end failure Clean run =
+    LeavesJust m end × StopsAsking m failure (run.given.text batches.now) run.before run.after
     × TellsLack run.given.lacks batches.now failure
-StopsTask Dump s end failure Led Clean run = (end ≡ Works s) × StopsIn (dump_of s) failure run.before run.after
-StopsTask (Load dump) s end failure Led Clean run =
-    (end ≡ Works s) × StopsIn (loaded_line s.seq (length (objects_of s.world))) failure run.before run.after
-StopsTask Check s end failure Led Clean run =
-    (end ≡ Works s)
-    × (((fault : StoreFault) × (failure ≡ store_failure fault) × (Clean → IsOfStore fault) × (run.after ≡ run.before))
-    ⊎ StopsIn (checked_line s.seq (length (objects_of s.world))) failure run.before run.after)
-StopsTask (Serve service) s end failure Led Clean run =
-    (ledger : Ledger) × StopsServing run.given.ports service.port service.count ledger s end failure run.before run.after
-    × Led ledger.taken ledger.lost
+StopsTask Dump m end failure Clean run = LeavesJust m end × StopsIn (dump_of (state_of_moment m)) failure run.before run.after
+StopsTask (Load dump) m end failure Clean run =
+    LeavesJust m end × StopsIn (line_of loaded_line (state_of_moment m)) failure run.before run.after
+StopsTask Check m end failure Clean run = StopsChecking m end failure Clean run.before run.after
+StopsTask (Serve service) m end failure Clean run =
+    StopsServing run.given.ports service.port service.count m end failure run.before run.after
 
 -- a crash leaves nothing that it couldn't leave before
 abbrev pub LeavesNothingNew : Database → Database → Type 0
 LeavesNothingNew old new = HasCleanDisk new → (trees : Trees) → new.may_leave trees → old.may_leave trees
 
--- What was done to a World leaves it so: if the disk returns what was written, it did so before, and what a crash leaves is known.
-pub record EndsTask {S : Type 0} (g : Ghosts S) (known : Bool) (was world : World S) (End : Stand → Type 0) : Type 0 where
-  pub end : Stand
+-- What was done to a World at a moment leaves it at a place, to which accepted batches lead. If the disk returns what was written, it did so
+-- before.
+pub record EndsTask {S : Type 0} (g : Ghosts S) (was world : World S) (m : Moment) (End : Place → Type 0) : Type 0 where
+  pub end : Place
+  pub leads : LeadsTo m end
   pub clean : HasCleanDisk (store_of g world) → HasCleanDisk (store_of g was)
-  pub crash : IsTrue known → HasCleanDisk (store_of g world) → CrashLeaves (store_of g world) end
+  pub stands : Stands g world end
   pub ends : End end
-
--- Whatever a crash leaves shows rows that these batches lead to from those before, or these and one of the others. Of any tables that were
--- in the store before, it has the cells kept of all that they leave as it is, and the table that isn't read as it was.
-abbrev pub LeadsFrom : Database → Database → Maps → Leads
-LeadsFrom was store rows batches others =
-    LeavesLed store rows batches others
-    × ((tables : Tables) → Rests was tables → LeavesWritten store rows tables (unread_of was.now.trees) batches others)
-
--- so these batches lead on from the rows and the tables of the World before
-abbrev pub MayLead : {S : Type 0} → Ghosts S → Bool → World S → World S → Leads
-MayLead g known was world batches others =
-    IsTrue known × HasCleanDisk (store_of g world) → LeadsFrom (store_of g was) (store_of g world) was.rows.maps batches others
 
 -- If the disk returned what was written, any tables that were at rest in the store of this World show its rows.
 abbrev pub ShowsTables : {S : Type 0} → Ghosts S → World S → Database → Type 0
 ShowsTables g world after = HasCleanDisk after → (tables : Tables) → Rests (store_of g world) tables → ShowsRows tables world.rows.maps
 
-module _ {S : Type 0} (g : Ghosts S) (known : Bool) (was world : World S) where
-  -- A text of batches was answered over the World, which stood for a state, to its end or until it stopped; by its status.
-  abbrev pub AnswersBy : Manner → State → Option (List ℕ) → Option (List ℕ) → Option (List ℕ) → Result ℕ Failure → Type 0
-  AnswersBy how s text old new r = MatchResult r
-      (λ status. EndsTask g known was world (λ end. AnswersAs how (MayLead g known was world) s end text old new status))
-      (λ failure. EndsTask g known was world (λ end. StopsAs how (MayLead g known was world) s end failure text old new))
+module _ {S : Type 0} (g : Ghosts S) (was world : World S) where
+  -- A text of batches was answered over the World, from a moment, to its end or until it stopped; by its status.
+  abbrev pub EndsText : Manner → Moment → Option (List ℕ) → Option (List ℕ) → Option (List ℕ) → Result ℕ Failure → Type 0
+  EndsText how m text old new r = MatchResult r
+      (λ status. EndsTask g was world m (λ end. AnswersAs how m end text old new status))
+      (λ failure. EndsTask g was world m (λ end. StopsAs how m end failure text old new))
 
-  -- A task was done over the World, which stood for a state, or it stopped; by its status.
-  abbrev pub RunsAction : Action → State → Run → Result ℕ Failure → Type 0
-  RunsAction action s run r = MatchResult r
-      (λ status. EndsTask g known was world (λ end.
-      Done action s end (MayLead g known was world) (ShowsTables g was (store_of g world)) (record run { status = status })))
-      (λ failure. EndsTask g known was world (λ end.
-      StopsTask action s end failure (MayLead g known was world) (IsTrue known × HasCleanDisk (store_of g world)) run))
+  -- The tables were tested over the World, from a moment, and a line was written; or that stopped.
+  abbrev pub EndsCheck : Moment → Option (List ℕ) → Option (List ℕ) → Result ℕ Failure → Type 0
+  EndsCheck m old new r = MatchResult r
+      (λ status. EndsTask g was world m (λ end. SaysChecked m end old new status))
+      (λ failure. EndsTask g was world m (λ end. StopsChecking m end failure (HasCleanDisk (store_of g world)) old new))
+
+  -- A task was done over the World, from a moment, or it stopped; by its status.
+  abbrev pub RunsAction : Action → Moment → Run → Result ℕ Failure → Type 0
+  RunsAction action m run r = MatchResult r
+      (λ status. EndsTask g was world m (λ end. Done action m end (record run { status = status })))
+      (λ failure. EndsTask g was world m (λ end. StopsTask action m end failure (HasCleanDisk (store_of g world)) run))
 
 -- ---- a task over a connection
 
--- A task runs from a world of this state: it is done, or stops and the failure is reported. If the disk is clean, a crash then
--- leaves what its end tells: the state after the last acknowledged batch, or if the store failed in a batch, that or the one after it.
--- And `Led` is true of the batches that it ran: a task that only reads runs none. If it is a check that is done, it found the tables as
--- `Shown` says.
-pub record RunsFrom (task : Task) (s : State) (run : Run) (Clean : Type 0) (Crash : Stand → Type 0) (Led : Leads) (Shown : Type 0)
-    : Type 0 where
-  pub end : Stand
-  pub crash : Clean → Crash end
-  pub still : only_reads task.action ≡ true → Clean → Led [] []
+-- A task runs from a moment to an end: it is done, or stops and the failure is reported. The rows that a crash may leave are good.
+pub record RunsFrom (task : Task) (m : Moment) (run : Run) (Clean : Type 0) : Type 0 where
+  pub end : Place
+  pub good : (t : Moment) → MayBeLeft end t → IsGood t.rows
+  -- accepted batches, one after another, lead from the moment to whatever may be left
+  pub leads : LeadsTo m end
   -- only a task that serves asks anything of the ports
   pub rests : serves task.action ≡ false → run.given.ports.rests
   pub writes :
-      Done task.action s end (λ batches others. Clean → Led batches others) Shown run
-      ⊎ ((failure : Failure) × (between : Option (List ℕ))
-      × StopsTask task.action s end failure (λ batches others. Clean → Led batches others) Clean (record run { after = between })
+      Done task.action m end run
+      ⊎ ((failure : Failure) × (between : Option (List ℕ)) × StopsTask task.action m end failure Clean (record run { after = between })
       × Reports failure between run.after run.status)
 
--- the same, if nothing is known of the disk and the tables
-abbrev pub RunsUnseen : Task → State → Run → Type 0
-RunsUnseen task s run = RunsFrom task s run ⊥ (λ _. ⊥) (λ _ _. ⊥) ⊤
+-- the same, and a crash of this store leaves what the end tells, on a disk that returns what was written
+abbrev pub RunsIn : Database → Task → Moment → Run → Type 0
+RunsIn store task m run = (ran : RunsFrom task m run (HasCleanDisk store)) × (HasCleanDisk store → CrashLeavesAt store ran.end)
 
-module _ {S : Type 0} (g : Ghosts S) where
-  -- A task ran over this World from a state, and left this connection. Its batches led on from the rows and the tables of the World.
-  abbrev pub RunsIn : Bool → World S → Held S → Task → State → Run → Type 0
-  RunsIn known world conn task s run = RunsFrom task s run (IsTrue known × HasCleanDisk (state g conn)) (CrashLeaves (state g conn))
-      (LeadsFrom (store_of g world) (state g conn) world.rows.maps) (ShowsTables g world (state g conn))
-
-  -- A task ran from a state, and left this connection. Nothing is said of the rows.
-  abbrev pub RunsOn : Held S → Task → State → Run → Type 0
-  RunsOn conn task s run = RunsFrom task s run (HasCleanDisk (state g conn)) (CrashLeaves (state g conn)) (λ _ _. ⊤) ⊤
+-- if nothing is known of the store
+abbrev pub RunsUnseen : Task → Moment → Run → Type 0
+RunsUnseen task m run = RunsFrom task m run ⊥
 
 -- a failure of the store, or memory ran out
 abbrev pub IsOpening : Failure → Type 0
@@ -399,17 +373,27 @@ MayNotBegin task given failure =
 abbrev pub FailsToBegin : Task → Run → Type 0
 FailsToBegin task run = (failure : Failure) × MayNotBegin task run.given failure × Reports failure run.before run.after run.status
 
--- a new world can't be made, and nothing is asked of the ports; or the task runs from the one that it begins with
-abbrev pub RunsNew : Task → Run → Type 0
-RunsNew task run =
-    (run.given.ports.rests × FailsToBegin task run) ⊎ ((s : State) × BeginsWith task.action run.given s × RunsUnseen task s run)
+-- The rows of the new world that a task begins with were found: those of its dump, or none in place of the opening ones. Or its dump gives
+-- none.
+abbrev pub FindsRows : Action → Given → Result (Option Rows) Failure → Type 0
+FindsRows action given r = MatchResult r (λ rows. BeginsFrom action given (rows_made rows))
+    (λ failure. IsTrue (is_load action) × RefusesTask given action failure)
 
-module _ {S : Type 0} (g : Ghosts S) (task : Task) (run : Run) where
-  -- A new world can't be made, and nothing is asked of the ports; or the task runs from the one that it begins with, and leaves this
-  -- connection.
-  abbrev pub RunsAnew : Held S → Type 0
-  RunsAnew conn =
-      (run.given.ports.rests × FailsToBegin task run) ⊎ ((s : State) × BeginsWith task.action run.given s × RunsOn g conn task s run)
+-- a new world can't be made, and nothing is asked of the ports; or the task runs from the rows of the one that it begins with
+abbrev pub RunsNew : Task → Run → Type 0
+RunsNew task run = (run.given.ports.rests × FailsToBegin task run)
+    ⊎ ((rows : Maps) × BeginsFrom task.action run.given rows × RunsUnseen task (rows_alone rows) run)
+
+-- A task ran from a new world of these rows, whatever the disk did. If it returned what was written, it ran from a moment that has each row
+-- in its printed cells, and a crash leaves what the end tells.
+abbrev pub RunsMade : Database → Task → Maps → Run → Type 0
+RunsMade store task rows run = RunsUnseen task (rows_alone rows) run
+    × (HasCleanDisk store → (m : Moment) × IsMadeOf rows m × RunsIn store task m run)
+
+-- A new world can't be made, and nothing is asked of the ports; or the task runs from the one that it begins with, and leaves this store.
+abbrev pub RunsAnew : Task → Run → Database → Type 0
+RunsAnew task run store = (run.given.ports.rests × FailsToBegin task run)
+    ⊎ ((rows : Maps) × BeginsFrom task.action run.given rows × RunsMade store task rows run)
 
 -- the status of a mistake in the words; asking for help or the version is 0
 abbrev pub mistake_status : ErrorKind → ℕ
@@ -425,9 +409,10 @@ EndsUsage words old new status =
     ⊎ Reports NoMemory old new status
     ⊎ (NamesNone words × Reports Usage old new status)
 
--- a file is refused, and nothing is asked of the ports; or the task runs from a well formed world
+-- a file is refused, and nothing is asked of the ports; or the task runs from good rows
 abbrev pub RunsOpened : Task → Run → Type 0
-RunsOpened task run = (run.given.ports.rests × RefusesFile run) ⊎ ((rows : Maps) × IsGood rows × RunsUnseen task (state_of rows) run)
+RunsOpened task run = (run.given.ports.rests × RefusesFile run)
+    ⊎ ((rows : Maps) × IsGood rows × RunsUnseen task (rows_alone rows) run)
 
 -- The outcome of a task, whatever its file holds. If it begins with a new world, it runs from that, or it can't be made. Any
 -- other runs from the world that was found in its file, or the file is refused. (That it is the world which the file's tables

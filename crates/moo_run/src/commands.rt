@@ -1,16 +1,14 @@
 //! What each command does over a world.
 
-ghost use Rattle.std.specs.Prelude.{◌≡◌, ◌⊎◌, ℕ, List, true, false, length, IfOk, IfErr, OnOk, Bool, IsTrue};
+ghost use Rattle.std.specs.Prelude.{◌≡◌, ℕ, List, true, false, IfOk, IfErr, OnOk};
 ghost use Rattle.std.specs.Io.KnownBytes.{Appends};
-ghost use Rattle.sqlite.specs.State.{HasCleanDisk, Survives};
-ghost use Rattle.moo_world.specs.Judge.{State};
-ghost use Rattle.moo_world.specs.ObjectLists.{objects_of};
 ghost use Rattle.moo_dump.specs.Dump.{dump};
-ghost use Rattle.moo_store_rows.specs.declared.fault.StoreFault.{StoreFault};
-ghost use Rattle.moo_store_rows.specs.Opening.{IsOfStore};
-ghost use Rattle.moo_store.specs.World.{store_of, StandsFor};
-ghost use Rattle.moo_run_lines.specs.Lines.{store_failure, checked_line, loaded_line};
-ghost use Rattle.moo_run.specs.Run.{RunsAction, StopsIn, ShowsTables, LeavesNothingNew};
+ghost use Rattle.moo_store_rows.specs.Moment.{Moment};
+ghost use Rattle.moo_store_rows.specs.Place.{Works};
+ghost use Rattle.moo_store.specs.Moves.{Stands};
+ghost use Rattle.moo_store.specs.World.{store_of, state_in};
+ghost use Rattle.moo_run_lines.specs.Lines.{loaded_line};
+ghost use Rattle.moo_run.specs.Run.{RunsAction, EndsCheck, line_of, StopsIn, ShowsTables, LeavesNothingNew};
 ghost use Rattle.moo_run.specs.Run.{only_reads, serves, reads_input, ReadsFile};
 
 use crate::host::BatchFiles;
@@ -27,10 +25,10 @@ use std::io::Write;
 
 /// Writes what the world holds.
 fn show<W: Write, B: Alter + Drop>(world: &World<B>, output: &mut W) -> Result<u8, Failure>
-    ensures done { (known : Bool) (s : State) → StandsFor B.Store known world.now s →
-        IfOk result (λ status. Appends (W.contents output.old) (W.contents output.new) (dump s) × (status ≡ 0)) }
-    ensures stops { (known : Bool) (s : State) → StandsFor B.Store known world.now s →
-        IfErr result (λ failure. StopsIn (dump s) failure (W.contents output.old) (W.contents output.new)) }
+    ensures done { world.now.failed ≡ false →
+        IfOk result (λ status. Appends (W.contents output.old) (W.contents output.new) (dump (state_in world.now)) × (status ≡ 0)) }
+    ensures stops { world.now.failed ≡ false →
+        IfErr result (λ failure. StopsIn (dump (state_in world.now)) failure (W.contents output.old) (W.contents output.new)) }
 {
     world.dump(output)?;
     Ok(0)
@@ -54,16 +52,11 @@ fn check<W: Write, B: Alter + Drop>(
     world: &mut World<B>,
     output: &mut W,
 ) -> Result<u8, Failure>
-    ensures done { (known : Bool) (s : State) → StandsFor B.Store known world.old s →
-        let line = checked_line s.seq (length (objects_of s.world)) in
-        IfOk result (λ status. Appends (W.contents output.old) (W.contents output.new) line × (status ≡ 0)) }
-    ensures stops { (known : Bool) (s : State) → StandsFor B.Store known world.old s → IfErr result (λ failure.
-        ((fault : StoreFault) × (failure ≡ store_failure fault)
-        × (IsTrue known × HasCleanDisk (store_of B.Store world.new) → IsOfStore fault) × (W.contents output.new ≡ W.contents output.old))
-        ⊎ StopsIn (checked_line s.seq (length (objects_of s.world))) failure (W.contents output.old) (W.contents output.new)) }
+    ensures checks { (m : Moment) → Stands B.Store world.old (Works m) →
+        EndsCheck B.Store world.old world.new m (W.contents output.old) (W.contents output.new) result }
     // It is done only if the tables show the rows of the World.
     ensures shown { OnOk result (ShowsTables B.Store world.old (store_of B.Store world.new)) }
-    ensures crash { Survives (store_of B.Store world.old) (store_of B.Store world.new) (λ _. ⊥) }
+    ensures still { LeavesNothingNew (store_of B.Store world.old) (store_of B.Store world.new) }
 {
     let seq = world.seq()?;
     let objects = world.check()?;
@@ -97,11 +90,11 @@ fn show_loaded<W: Write, B: Alter + Drop>(
     world: &World<B>,
     output: &mut W,
 ) -> Result<u8, Failure>
-    ensures done { (known : Bool) (s : State) → StandsFor B.Store known world.now s →
-        let line = loaded_line s.seq (length (objects_of s.world)) in
+    ensures done { world.now.failed ≡ false →
+        let line = line_of loaded_line (state_in world.now) in
         IfOk result (λ status. Appends (W.contents output.old) (W.contents output.new) line × (status ≡ 0)) }
-    ensures stops { (known : Bool) (s : State) → StandsFor B.Store known world.now s →
-        let line = loaded_line s.seq (length (objects_of s.world)) in
+    ensures stops { world.now.failed ≡ false →
+        let line = line_of loaded_line (state_in world.now) in
         IfErr result (λ failure. StopsIn line failure (W.contents output.old) (W.contents output.new)) }
 {
     let seq = world.seq()?;
@@ -115,13 +108,12 @@ fn serve<'s, S: Streams, B: Alter + Drop>(
     world: &mut World<B>,
     service: Service,
 ) -> Result<u8, Failure>
-    ensures serves { (known : Bool) (s : State) → StandsFor B.Store known world.old s →
+    ensures serves { (m : Moment) → Stands B.Store world.old (Works m) →
         let run = ⟦<Session<'s, S> as Runs>⟧.run session.old session.new in
-        RunsAction B.Store known world.old world.new (Action.Serve service) s run result }
+        RunsAction B.Store world.old world.new (Action.Serve service) m run result }
     ensures input { session.new.input ≡ session.old.input }
 {
     let Service { port, count, ticks } = service;
-    world.has_good_rows();
     let tools = Tools {
         alloc: session.alloc,
         console: session.console,
@@ -140,9 +132,11 @@ pub(crate) fn do_task<'s, S: Streams, B: Alter + Drop>(
     task: Task<'_>,
 ) -> Result<u8, Failure>
     requires read { (path : List ℕ) → ReadsFile task path → S.Host.may_read session.old.host path }
-    ensures ends { (known : Bool) (s : State) → StandsFor B.Store known world.old s →
+    ensures ends { (m : Moment) → Stands B.Store world.old (Works m) →
         let run = ⟦<Session<'s, S> as Runs>⟧.run session.old session.new in
-        RunsAction B.Store known world.old world.new task.entry.action s run result }
+        RunsAction B.Store world.old world.new task.entry.action m run result }
+    // A check is done only if the tables show the rows of the World.
+    ensures shown { task.entry.action ≡ Action.Check → OnOk result (ShowsTables B.Store world.old (store_of B.Store world.new)) }
     // Only a task that serves asks anything of the ports.
     ensures rests { serves task.entry.action ≡ false → session.new.host ≡ session.old.host }
     // A task that only reads commits nothing.
@@ -150,7 +144,6 @@ pub(crate) fn do_task<'s, S: Streams, B: Alter + Drop>(
     // Only a task whose text is `-` reads the input.
     ensures input { reads_input task.entry ≡ false → session.new.input ≡ session.old.input }
 {
-    world.leaves();
     match task.action {
         Action::Init => put_text("created\n", &mut session.output),
         Action::Apply(batches) => {

@@ -1,20 +1,22 @@
 //! A task over a connection.
 
-ghost use Rattle.std.specs.Prelude.{◌≡◌, ℕ, List, true, false, Bool};
+ghost use Rattle.std.specs.Prelude.{◌≡◌, ℕ, List, true, false};
 ghost use Rattle.sqlite.specs.State.{HasCleanDisk};
 ghost use Rattle.sqlite.specs.Held.{state};
-ghost use Rattle.moo_world.specs.Rows.{IsGood};
-ghost use Rattle.moo_world.specs.Judge.{State};
-ghost use Rattle.moo_store.specs.World.{store_of, StandsFor};
-ghost use Rattle.moo_run.specs.Run.{is_load, dump_word, RunsIn, RunsAnew};
-ghost use Rattle.moo_run.specs.Run.{LeavesNothingNew, only_reads, reads_input, ReadsFile};
+ghost use Rattle.moo_store_rows.specs.Moment.{Moment};
+ghost use Rattle.moo_store_rows.specs.Place.{Works};
+ghost use Rattle.moo_store.specs.Moves.{Stands};
+ghost use Rattle.moo_store.specs.World.{store_of};
+ghost use Rattle.moo_run.specs.Run.{RunsIn, RunsAnew};
+ghost use Rattle.moo_run.specs.Run.{LeavesNothingNew, ShowsTables, only_reads, reads_input, ReadsFile};
 
 use crate::commands::do_task;
-use crate::loading::{dump_word, read_world};
+use crate::loading::find_rows;
 use crate::session::{Runs, Session, Streams};
-use moo_cli::Task;
+use moo_cli::{Action, Task};
+use moo_files::make_in;
 use moo_run_lines::Failure;
-use moo_store::{World, create_in, load_in};
+use moo_store::World;
 use sqlite::{Alter, Connection};
 
 /// Does what a task says over a World, writes the line of a failure, and hands the connection back. The status is that of
@@ -27,79 +29,20 @@ pub fn run_in<'s, S: Streams, B: Alter + Drop>(
     task: Task<'_>,
 ) -> Connection<B>
     requires read { (path : List ℕ) → ReadsFile task path → S.Host.may_read session.old.host path }
-    // The task runs from the state that the World stands for, and its batches lead on from the World's rows. A check that is done found
-    // that the tables show the World's rows.
-    ensures runs { (known : Bool) (s : State) → StandsFor B.Store known world s →
-        RunsIn B.Store known world result task.entry s (⟦<Session<'s, S> as Runs>⟧.run session.old session.new) }
-    ensures clean { (known : Bool) (s : State) → StandsFor B.Store known world s →
+    // The task runs from the moment at which the World works.
+    ensures runs { (m : Moment) → Stands B.Store world (Works m) →
+        RunsIn (state B.Store result) task.entry m (⟦<Session<'s, S> as Runs>⟧.run session.old session.new) }
+    ensures clean { (m : Moment) → Stands B.Store world (Works m) →
         HasCleanDisk (state B.Store result) → HasCleanDisk (store_of B.Store world) }
-    // The rows of a World that works are good.
-    ensures good { world.failed ≡ false → IsGood world.rows.maps }
+    // A check that is done found that the tables show the World's rows.
+    ensures shown { task.entry.action ≡ Action.Check → session.new.status ≡ 0 → ShowsTables B.Store world (state B.Store result) }
     // A task that only reads commits nothing.
     ensures still { only_reads task.entry.action ≡ true → LeavesNothingNew (store_of B.Store world) (state B.Store result) }
     ensures input { reads_input task.entry ≡ false → session.new.input ≡ session.old.input }
 {
-    world.has_good_rows();
     let done = do_task(session, &mut world, task);
     session.finish(done);
     world.into_connection()
-}
-
-/// Makes the opening world in a connection that has no tables, and does what a task says over it.
-fn run_anew<'s, S: Streams, B: Alter + Drop>(
-    session: &mut Session<'s, S>,
-    conn: Connection<B>,
-    task: Task<'_>,
-) -> Connection<B>
-    requires read { (path : List ℕ) → ReadsFile task path → S.Host.may_read session.old.host path }
-    requires outside { conn.in_transaction ≡ false }
-    requires load { is_load task.action ≡ false }
-    ensures runs { RunsAnew B.Store task.entry (⟦<Session<'s, S> as Runs>⟧.run session.old session.new) result }
-    ensures input { reads_input task.entry ≡ false → session.new.input ≡ session.old.input }
-{
-    match create_in(session.alloc, conn) {
-        Ok(world) => run_in(session, world, task),
-        Err((fault, conn)) => {
-            session.fail(Failure::from(fault));
-            conn
-        }
-    }
-}
-
-/// Makes the world of a dump in a connection that has no tables, and does what the task says over it.
-fn run_loaded<'s, S: Streams, B: Alter + Drop>(
-    session: &mut Session<'s, S>,
-    conn: Connection<B>,
-    dump: &str,
-    task: Task<'_>,
-) -> Connection<B>
-    requires read { (path : List ℕ) → ReadsFile task path → S.Host.may_read session.old.host path }
-    requires outside { conn.in_transaction ≡ false }
-    requires load { is_load task.action ≡ true }
-    requires word { dump_word task.action ≡ dump.now }
-    ensures runs { RunsAnew B.Store task.entry (⟦<Session<'s, S> as Runs>⟧.run session.old session.new) result }
-    ensures input { reads_input task.entry ≡ false → session.new.input ≡ session.old.input }
-{
-    let rows = match read_world(
-        session.alloc,
-        session.console,
-        dump,
-        &session.host,
-        &mut session.input,
-    ) {
-        Ok(rows) => rows,
-        Err(failure) => {
-            session.fail(failure);
-            return conn;
-        }
-    };
-    match load_in(session.alloc, conn, rows) {
-        Ok(world) => run_in(session, world, task),
-        Err((fault, conn)) => {
-            session.fail(Failure::from(fault));
-            conn
-        }
-    }
 }
 
 /// Makes a new world in a connection to any store, which must have no tables, does what a task says over it, writes the line of a failure,
@@ -113,11 +56,21 @@ pub fn run_over<'s, S: Streams, B: Alter + Drop>(
 ) -> Connection<B>
     requires read { (path : List ℕ) → ReadsFile task path → S.Host.may_read session.old.host path }
     requires outside { conn.in_transaction ≡ false }
-    ensures runs { RunsAnew B.Store task.entry (⟦<Session<'s, S> as Runs>⟧.run session.old session.new) result }
+    ensures runs { RunsAnew task.entry (⟦<Session<'s, S> as Runs>⟧.run session.old session.new) (state B.Store result) }
     ensures input { reads_input task.entry ≡ false → session.new.input ≡ session.old.input }
 {
-    match dump_word(task) {
-        Some(dump) => run_loaded(session, conn, dump, task),
-        None => run_anew(session, conn, task),
+    let rows = match find_rows(session, task) {
+        Ok(rows) => rows,
+        Err(failure) => {
+            session.fail(failure);
+            return conn;
+        }
+    };
+    match make_in(session.alloc, conn, rows) {
+        Ok(world) => run_in(session, world, task),
+        Err((fault, conn)) => {
+            session.fail(Failure::from(fault));
+            conn
+        }
     }
 }

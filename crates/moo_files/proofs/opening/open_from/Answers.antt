@@ -1,15 +1,12 @@
-use Rattle.moo_files.{specs.Causes.{StopsOver}, proofs.Words.{inl, inr, refl, subst, over_files, file_state, image_at, Adopts, store_of}, specs.Contents.{HoldsState}, specs.Opened.{Nothing, Database, Unfit}, proofs.ContentsLemmas.{was_clean, rests_held, shows_held, shows_trees, left_held, left_none, empty_other, foreign_other, unsound_other, reads_ours, reads_something, own_tables, kept_or_migrated}, proofs.RefusalLemmas.{unfit_sound, unfit_of_store, refuses_unconnected, unconnected_cause, stops_over}}
-use Rattle.moo_store.proofs.AdoptLemmas.{left_still}
-use Rattle.moo_store_rows.{specs.Current.{RestsCurrent}, specs.Opening.{AreMigrated, StopsOpening}, proofs.Causes.{says_more, says_of_store}, proofs.OpenLemmas.{refused_of_store}}
+use Rattle.moo_files.{specs.Causes.{StopsOver}, proofs.Words.{inl, inr, refl, subst, over_files, file_state, image_at, Adopts, store_of}, specs.Opened.{Nothing, Database, Unfit}, proofs.PresentLemmas.{sound_at, opens_at}, proofs.ContentsLemmas.{was_clean, rests_held, shows_held, left_none, empty_other, foreign_other, unsound_other, reads_ours, reads_something, own_tables, kept_or_migrated}, proofs.RefusalLemmas.{unfit_sound, unfit_of_store, refuses_unconnected, unconnected_cause, stops_over}}
+use Rattle.moo_store_rows.{specs.Opening.{AreMigrated, StopsOpening}, proofs.Causes.{says_more, says_of_store}, proofs.OpenLemmas.{refused_of_store}}
 use Rattle.moo_files.proofs.opening.open_from.Goals as goal
 
 -- ---- a World was opened
 
 pub returns-in-Ok-adopt_files-clause-opened : goal.returns-in-Ok-adopt_files-clause-opened
 returns-in-Ok-adopt_files-clause-opened g c = record {
-  good = c.in-Ok-adopt_files.ensures.adopts.good;
-  stands = c.in-Ok-adopt_files.ensures.adopts.stands;
-  works = c.in-Ok-adopt_files.ensures.adopts.works;
+  unseen = c.in-Ok-adopt_files.ensures.adopts.unseen;
   sound = λ clean.
       let conn = c.in-Ok.conn in
       let early = was_clean (file_state conn) (store_of over_files c.in-Ok-adopt_files.world) (Adopts (file_state conn)) c.in-Ok-adopt_files.ensures.adopts.crash clean in
@@ -32,13 +29,8 @@ returns-in-Ok-adopt_files-clause-opens g c (Database trees) holds clean =
     let found = c.in-Ok.ensures.connects.found early in
     record {
       ours = λ others. c.in-Ok-adopt_files.ensures.adopts.ours (foreign_other image (file_state conn) trees opened.0 opened.1 found holds others);
-      state = λ s leaves.
-          let held : HoldsState image s = record { trees = trees; holds = holds; such = leaves } in
-          let shows = shows_held image (file_state conn) s opened.0 opened.1 found held in
-          (c.in-Ok-adopt_files.ensures.adopts.state s shows clean, left_still (file_state conn) store s c.in-Ok-adopt_files.ensures.adopts.crash shows (left_held image (file_state conn) s opened.0 found c.in-Ok.ensures.connects.left held) clean);
-      tables = λ tables leaves.
-          let rests = rests_held image (file_state conn) tables opened.0 opened.1 found (record { trees = trees; holds = holds; such = leaves }) in
-          (c.in-Ok-adopt_files.ensures.adopts.shown tables rests clean, subst (λ trees. RestsCurrent store trees tables c.in-Ok-adopt_files.world.rows.maps) (shows_trees image (file_state conn) trees opened.0 found holds) (c.in-Ok-adopt_files.ensures.adopts.rests tables rests clean));
+      sound = sound_at image (file_state conn) trees c.in-Ok-adopt_files.world opened.0 opened.1 found holds (λ tables rests. c.in-Ok-adopt_files.ensures.adopts.seen tables rests clean);
+      present = opens_at image (file_state conn) trees c.in-Ok-adopt_files.world opened.0 opened.1 found holds (λ tables rests. c.in-Ok-adopt_files.ensures.adopts.seen tables rests clean);
       kept = kept_or_migrated image (file_state conn) store trees opened.0 opened.1 found c.in-Ok.ensures.connects.left holds clean c.in-Ok-adopt_files.ensures.adopts.crash;
     }
 returns-in-Ok-adopt_files-clause-opens g c Unfit none clean = none ((returns-in-Ok-adopt_files-clause-opened g c).sound clean)

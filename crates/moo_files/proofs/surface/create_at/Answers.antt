@@ -1,10 +1,10 @@
 use Rattle.moo_files.proofs.surface.create_at.Goals as goal
 
-pub returns-in-Ok-clause-stands : goal.returns-in-Ok-clause-stands
-returns-in-Ok-clause-stands g c = c.in-Ok.ensures.makes.stands
+pub returns-in-Ok-clause-unseen : goal.returns-in-Ok-clause-unseen
+returns-in-Ok-clause-unseen g c = c.in-Ok.ensures.makes.unseen
 
-pub returns-in-Ok-clause-rows : goal.returns-in-Ok-clause-rows
-returns-in-Ok-clause-rows g c = c.in-Ok.ensures.makes.same
+pub returns-in-Ok-clause-seen : goal.returns-in-Ok-clause-seen
+returns-in-Ok-clause-seen g c = c.in-Ok.ensures.makes.seen
 
 pub returns-in-Err-clause-fault : goal.returns-in-Err-clause-fault
 returns-in-Err-clause-fault g c = c.in-Err.ensures.makes.of_store

@@ -4,13 +4,13 @@ use Rattle.moo_http_request.specs.declared.asked.Asked.TheVariants.{Each}
 use Rattle.moo_http.proofs.consult.ask_each.Goals as goal
 
 pub returns-in-Ok-clause-comes : goal.returns-in-Ok-clause-comes
-returns-in-Ok-clause-comes g c known stand at =
-    each_at g.S.Store known c.args.world.now c.args.each.now c.ask_each_at.result c.seq.result c.in-Ok.seq c.in-Ok.is c.seq.ensures.number c.seq.ensures.closed c.ask_each_at.ensures.comes stand at
+returns-in-Ok-clause-comes g c place at =
+    each_at g.S.Store c.args.world.now c.args.each.now c.ask_each_at.result c.seq.result c.in-Ok.seq c.in-Ok.is c.seq.ensures.number c.seq.ensures.closed c.ask_each_at.ensures.comes place at
 
 pub returns-in-Err-clause-comes : goal.returns-in-Err-clause-comes
-returns-in-Err-clause-comes g c known stand at =
-    subst (λ o. MayAnswer stand (Each c.args.each.now) o stand) (sym c.lost.ensures)
-    (each_closed g.S.Store known c.args.world.now c.args.each.now c.seq.result c.in-Err.fault c.in-Err.is c.seq.ensures.number c.seq.ensures.closed stand at)
+returns-in-Err-clause-comes g c place at =
+    subst (λ o. MayAnswer place (Each c.args.each.now) o place) (sym c.lost.ensures)
+    (each_closed g.S.Store c.args.world.now c.args.each.now c.seq.result c.in-Err.fault c.in-Err.is c.seq.ensures.number c.seq.ensures.closed place at)
 
 pub returns-in-Err-clause-seen : goal.returns-in-Err-clause-seen
 returns-in-Err-clause-seen g c = seen_lost c.args.world.now.rows.maps (seen_by c.args.whys.now) (seen_by c.args.whys.now) c.args.each.now c.in-Err.fault c.lost.result c.lost.ensures

@@ -1,4 +1,4 @@
-use Rattle.moo_http.{proofs.Words.{◌≡◌, ap, sym, subst, rules, true, false, ◌∙◌, Works, MayAnswer}, proofs.Apart.{each_stale, each_due, each_lost}, proofs.SeenAsked.{seen_lost}}
+use Rattle.moo_http.{proofs.Words.{◌≡◌, ap, sym, subst, rules, true, false, ◌∙◌, Works, state_of_moment, MayAnswer}, proofs.Apart.{each_stale, each_due, each_lost}, proofs.Consulting.{at_moment}, proofs.SeenAsked.{seen_lost}}
 use Rattle.moo_store.specs.Seeing.{HasSeenEach}
 use Rattle.moo_reasons.specs.Seen.{SeesRefusal, seen_by}
 use Rattle.moo_world.specs.Judge.{is_due}
@@ -7,18 +7,19 @@ use Rattle.moo_http_request.specs.declared.asked.Asked.TheVariants.{Each}
 use Rattle.moo_http.proofs.consult.ask_each_at.Goals as goal
 
 pub returns-then-not-is_due-clause-comes : goal.returns-then-not-is_due-clause-comes
-returns-then-not-is_due-clause-comes g c known s at same =
+returns-then-not-is_due-clause-comes g c m at same =
     let other : is_due c.args.each.now.at c.args.seq ≡ false = search rules in
-    each_stale c.args.each.now s c.args.seq other same
+    each_stale c.args.each.now m c.args.seq other same
 
 pub returns-in-Ok-clause-comes : goal.returns-in-Ok-clause-comes
-returns-in-Ok-clause-comes g c known s at same =
+returns-in-Ok-clause-comes g c m at same =
     let due : is_due c.args.each.now.at c.args.seq ≡ true = search rules in
-    each_due c.args.each.now s c.args.seq c.from_vec.result due same (c.from_vec.ensures ∙ c.in-Ok.ensures.replies known s at ∙ ap (answers_alone s) c.items.ensures)
+    each_due c.args.each.now m c.args.seq c.from_vec.result due same
+    (c.from_vec.ensures ∙ c.in-Ok.ensures.replies at.failed ∙ ap (λ s. answers_alone s c.items.result.now) (at_moment g.S.Store c.args.world.now m at) ∙ ap (answers_alone (state_of_moment m)) c.items.ensures)
 
 pub returns-in-Err-clause-comes : goal.returns-in-Err-clause-comes
-returns-in-Err-clause-comes g c known s at same =
-    subst (λ o. MayAnswer (Works s) (Each c.args.each.now) o (Works s)) (sym c.lost.ensures) (each_lost c.args.each.now s c.in-Err.fault (c.in-Err.ensures.fault at.works))
+returns-in-Err-clause-comes g c m at same =
+    subst (λ o. MayAnswer (Works m) (Each c.args.each.now) o (Works m)) (sym c.lost.ensures) (each_lost c.args.each.now m c.in-Err.fault (c.in-Err.ensures.replies at.failed))
 
 pub returns-in-Ok-clause-seen : goal.returns-in-Ok-clause-seen
 returns-in-Ok-clause-seen g c =

@@ -1,9 +1,37 @@
+use Rattle.moo_http.proofs.Words.{refl, inl, Refused, MayAnswer}
+use Rattle.moo_http.proofs.Going.{moves_none, still_none}
+use Rattle.moo_http_request.specs.declared.asked.Asked.TheVariants.{Each, Question}
+use Rattle.moo_http_response.specs.declared.outcome.RequestOutcome.TheVariants as outcome
 use Rattle.moo_http.proofs.consult.consult.Goals as goal
 
-pub returns-clause-comes : goal.returns-clause-comes
-returns-clause-comes g c known stand at =
-    let done = c.answer-outcome.ensures.comes known stand at in
-    record { new = done.0; stands = done.1; answers = done.2; crash = c.leaves.ensures known done.0 done.1 }
+pub returns-in-Refused-clause-moves : goal.returns-in-Refused-clause-moves
+returns-in-Refused-clause-moves g c =
+    rw c.in-Refused.is (moves_none g.S.Store c.args.world.now (λ from to. MayAnswer from (Refused c.in-Refused.refusal) (outcome.Refused c.in-Refused.refusal) to) (λ from at. inl (refl, refl)))
 
-pub returns-clause-moved : goal.returns-clause-moved
-returns-clause-moved g c = c.answer-outcome.ensures.moved
+pub returns-in-Calls-clause-moves : goal.returns-in-Calls-clause-moves
+returns-in-Calls-clause-moves g c = rw c.in-Calls.is c.take_batch.ensures.moves
+
+pub returns-in-Each-clause-moves : goal.returns-in-Each-clause-moves
+returns-in-Each-clause-moves g c = rw c.in-Each.is (moves_none g.S.Store c.args.world.now (λ from to. MayAnswer from (Each c.in-Each.each) c.ask_each.result to) c.ask_each.ensures.comes)
+
+pub returns-in-Question-clause-moves : goal.returns-in-Question-clause-moves
+returns-in-Question-clause-moves g c =
+    rw c.in-Question.is (moves_none g.S.Store c.args.world.now (λ from to. MayAnswer from (Question c.in-Question.question) c.ask_question.result to) c.ask_question.ensures)
+
+pub returns-in-Refused-clause-still : goal.returns-in-Refused-clause-still
+returns-in-Refused-clause-still g c = still_none g.S.Store c.args.world.now
+
+pub returns-in-Each-clause-still : goal.returns-in-Each-clause-still
+returns-in-Each-clause-still g c = still_none g.S.Store c.args.world.now
+
+pub returns-in-Question-clause-still : goal.returns-in-Question-clause-still
+returns-in-Question-clause-still g c = still_none g.S.Store c.args.world.now
+
+pub returns-in-Refused-clause-seen : goal.returns-in-Refused-clause-seen
+returns-in-Refused-clause-seen g c = rw c.in-Refused.is tt
+
+pub returns-in-Calls-clause-seen : goal.returns-in-Calls-clause-seen
+returns-in-Calls-clause-seen g c = rw c.in-Calls.is c.take_batch.ensures.seen
+
+pub returns-in-Each-clause-seen : goal.returns-in-Each-clause-seen
+returns-in-Each-clause-seen g c = rw c.in-Each.is c.ask_each.ensures.seen

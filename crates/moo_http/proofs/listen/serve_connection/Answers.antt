@@ -1,22 +1,22 @@
-use Rattle.moo_http.{proofs.Words.{◌≡◌, ◌⊎◌, inr, [], false, refl, rules, HasFailed, Traffic, traffic, traffic_of, IsLeftUnread, Visited, written_none}, proofs.Turns.{stays, is_unread, visited, unvisited}}
+use Rattle.moo_http.{proofs.Words.{◌≡◌, ◌⊎◌, inr, false, refl, rules, HasFailed, traffic, traffic_of, IsLeftUnread, Exchanged, Visited}, proofs.Going.{moves_as, moves_none, still_none}, proofs.Turns.{is_unread, visited, unvisited}}
 use Rattle.moo_http.proofs.listen.serve_connection.Goals as goal
 
 pub returns-clause-visited : goal.returns-clause-visited
-returns-clause-visited g c known stand at =
-    visited g.S.Store known stand c.args.world.now c.serve_one-served.new.world (g.met.S.Store.settled c.args.world.now.connection.store)
-    (traffic g.R.Read g.W.Write c.args.connection.now.reader c.serve_one-served.new.reader c.args.connection.now.writer c.serve_one-served.new.writer)
-    (HasFailed g.R.Incoming.fails c.serve_one-served.new.reader ⊎ (c.args.connection.now.is_limited ≡ false)) c.serve_one-served.result c.ends.result c.ends.ensures.answered at
-    (is_unread _ _ c.serve_one-served.result c.serve_one-served.ensures.cause) (c.serve_one-served.ensures.served known stand at)
+returns-clause-visited g c =
+    let one = c.serve_one-served in
+    let was = c.args.connection.now in
+    let bytes = traffic g.R.Read g.W.Write was.reader one.new.reader was.writer one.new.writer in
+    let Unread = HasFailed g.R.Incoming.fails one.new.reader ⊎ (was.is_limited ≡ false) in
+    moves_as g.S.Store c.args.world.now one.new.world (λ from to. Exchanged one.result from to bytes) (λ from to. Visited Unread c.ends.result from to bytes)
+    (λ from to it. visited Unread one.result c.ends.result from to bytes c.ends.ensures.answered (is_unread _ _ one.result one.ensures.cause) it) one.ensures.served
 
--- a connection that isn't read leaves the World where it stood
+-- a connection that isn't read leaves the World where it was
 pub returns-then-not-is_limited-clause-visited : goal.returns-then-not-is_limited-clause-visited
-returns-then-not-is_limited-clause-visited g c known stand at =
-    let bytes : Traffic = traffic_of g.R.Read g.W.Write c.args.connection.now c.args.connection.now in
-    stays g.S.Store known c.args.world.now stand (λ ledger end. Visited (IsLeftUnread g.R.Incoming.fails c.args.connection.now c.args.connection.now) false stand end bytes ledger) (g.met.S.Store.settled c.args.world.now.connection.store) at
-    (c.leaves.ensures known stand at) (unvisited (IsLeftUnread g.R.Incoming.fails c.args.connection.now c.args.connection.now) stand bytes (inr (search rules)) refl)
+returns-then-not-is_limited-clause-visited g c =
+    let was = c.args.connection.now in
+    let bytes = traffic_of g.R.Read g.W.Write was was in
+    moves_none g.S.Store c.args.world.now (λ from to. Visited (IsLeftUnread g.R.Incoming.fails was was) false from to bytes)
+    (λ from at. unvisited (IsLeftUnread g.R.Incoming.fails was was) from bytes (inr (search rules)) refl)
 
-pub returns-clause-moved : goal.returns-clause-moved
-returns-clause-moved g c = c.serve_one-served.ensures.moved
-
-pub returns-then-not-is_limited-clause-moved : goal.returns-then-not-is_limited-clause-moved
-returns-then-not-is_limited-clause-moved g c = ([], [], written_none g.S.Store c.args.world.now (g.met.S.Store.settled c.args.world.now.connection.store))
+pub returns-then-not-is_limited-clause-still : goal.returns-then-not-is_limited-clause-still
+returns-then-not-is_limited-clause-still g c = still_none g.S.Store c.args.world.now

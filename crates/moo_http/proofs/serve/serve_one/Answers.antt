@@ -1,29 +1,32 @@
-use Rattle.moo_http.{proofs.Words.{[], refl, subst, Takes, traffic, written_none}, proofs.Serving.{unread_at, unread_cause, cause_none, nothing, served}}
+use Rattle.moo_http.{proofs.Words.{Ok, refl, subst, Takes, traffic, AnswersAsked, Exchanged}, proofs.Going.{moves_as, moves_none, still_none}, proofs.Serving.{unread_at, unread_cause, cause_none, nothing, served}}
 use Rattle.moo_http.proofs.serve.serve_one.Goals as goal
 
 pub returns-in_err-read_request-clause-served : goal.returns-in_err-read_request-clause-served
-returns-in_err-read_request-clause-served g c known stand at =
-    unread_at g.S.Store known c.from_residual.result c.in_err-read_request.field-0.0 stand c.args.world.now
-    (traffic g.R.Read g.W.Write c.args.reader.now c.read_request.new.reader c.args.writer.now c.args.writer.now) c.from_residual.ensures.1 refl (record { same = refl; crash = c.leaves.ensures known stand at })
+returns-in_err-read_request-clause-served g c =
+    let bytes = traffic g.R.Read g.W.Write c.args.reader.now c.read_request.new.reader c.args.writer.now c.args.writer.now in
+    moves_none g.S.Store c.args.world.now (λ from to. Exchanged c.from_residual.result from to bytes)
+    (λ from at. unread_at c.from_residual.result c.in_err-read_request.field-0.0 from bytes c.from_residual.ensures.1 refl)
 
 pub returns-in-Nothing-clause-served : goal.returns-in-Nothing-clause-served
-returns-in-Nothing-clause-served g c known stand at =
-    nothing g.S.Store known stand c.args.world.now (traffic g.R.Read g.W.Write c.args.reader.now c.read_request.new.reader c.args.writer.now c.args.writer.now) tt refl
-    (subst (λ r. Takes (g.R.Read.remaining c.args.reader.now) (g.R.Read.remaining c.read_request.new.reader) r) c.in-Nothing.is c.in_ok-read_request.ensures.takes) at
-    (record { same = refl; crash = c.leaves.ensures known stand at })
+returns-in-Nothing-clause-served g c =
+    let bytes = traffic g.R.Read g.W.Write c.args.reader.now c.read_request.new.reader c.args.writer.now c.args.writer.now in
+    let takes = subst (λ r. Takes (g.R.Read.remaining c.args.reader.now) (g.R.Read.remaining c.read_request.new.reader) r) c.in-Nothing.is c.in_ok-read_request.ensures.takes in
+    moves_none g.S.Store c.args.world.now (λ from to. Exchanged (Ok tt) from to bytes) (λ from at. nothing from bytes tt refl takes)
 
 pub returns-in-Request-clause-served : goal.returns-in-Request-clause-served
-returns-in-Request-clause-served g c known stand at =
-    served g.S.Store known c.serve_asked.result stand c.args.world.now c.serve_asked.new.world
-    (traffic g.R.Read g.W.Write c.args.reader.now c.read_request.new.reader c.args.writer.now c.serve_asked.new.writer) c.in-Request.is_head c.in-Request.asks_why c.in-Request.asked
-    (subst (λ r. Takes (g.R.Read.remaining c.args.reader.now) (g.R.Read.remaining c.read_request.new.reader) r) c.in-Request.is c.in_ok-read_request.ensures.takes)
-    (c.serve_asked.ensures.answered known stand at) c.serve_asked.ensures.fault
+returns-in-Request-clause-served g c =
+    let bytes = traffic g.R.Read g.W.Write c.args.reader.now c.read_request.new.reader c.args.writer.now c.serve_asked.new.writer in
+    let asks = c.in-Request in
+    let takes = subst (λ r. Takes (g.R.Read.remaining c.args.reader.now) (g.R.Read.remaining c.read_request.new.reader) r) c.in-Request.is c.in_ok-read_request.ensures.takes in
+    moves_as g.S.Store c.args.world.now c.serve_asked.new.world (λ from to. AnswersAsked asks.is_head asks.asks_why asks.asked c.serve_asked.result from to bytes.before bytes.after)
+    (λ from to. Exchanged c.serve_asked.result from to bytes) (λ from to it. served c.serve_asked.result from to bytes asks.is_head asks.asks_why asks.asked takes c.serve_asked.ensures.fault it)
+    c.serve_asked.ensures.answered
 
-pub returns-in_err-read_request-clause-moved : goal.returns-in_err-read_request-clause-moved
-returns-in_err-read_request-clause-moved g c = ([], [], written_none g.S.Store c.args.world.now (g.met.S.Store.settled c.args.world.now.connection.store))
+pub returns-in_err-read_request-clause-still : goal.returns-in_err-read_request-clause-still
+returns-in_err-read_request-clause-still g c = still_none g.S.Store c.args.world.now
 
-pub returns-in-Nothing-clause-moved : goal.returns-in-Nothing-clause-moved
-returns-in-Nothing-clause-moved g c = ([], [], written_none g.S.Store c.args.world.now (g.met.S.Store.settled c.args.world.now.connection.store))
+pub returns-in-Nothing-clause-still : goal.returns-in-Nothing-clause-still
+returns-in-Nothing-clause-still g c = still_none g.S.Store c.args.world.now
 
 pub returns-in_err-read_request-clause-cause : goal.returns-in_err-read_request-clause-cause
 returns-in_err-read_request-clause-cause g c = unread_cause c.from_residual.result c.in_err-read_request.field-0.0 c.from_residual.ensures.1 c.in_err-read_request.ensures.cause
