@@ -1,7 +1,13 @@
 -- What the service says of its connections.
-use Rattle.moo_http.{proofs.Words.{◌≡◌, ◌≢◌, inl, inr, ℕ, ◌+◌, List, ◌++◌, length, take, Option, Some, None, refl, sym, subst, ◌∙◌, Result, Ok, Err, OnOk, OnErr, IfErr, IsErrAnd, Appends, Keeps, ServiceFault, WritesFront, SaysByResult, listening_line, served_line}, proofs.Serving.{appends_nothing, appends_both}}
+use Rattle.moo_http.{proofs.Words.{◌≡◌, ◌≢◌, false, inl, inr, ℕ, ◌+◌, List, ◌++◌, length, take, Option, Some, None, refl, sym, subst, ◌∙◌, Result, Ok, Err, OnOk, OnErr, IfErr, IsErrAnd, Appends, Keeps, ServiceFault, WritesFront, SaysByResult, listening_line, served_line}, proofs.Serving.{appends_nothing, appends_both}}
 use Rattle.moo_http.specs.declared.service.ServiceFault.TheVariants as service
+use Rattle.std.specs.Prelude.{is_err}
 use Rattle.std.proofs.Math.Seq.{take-append-add, take-length}
+
+-- what holds of a call that went well
+pub when_ok : {T E P : Type 0} (r : Result T E) → false ≡ is_err r → OnOk r P → P
+when_ok (Ok x) well holds = holds
+when_ok (Err x) well holds = absurd cc
 
 -- known bytes that grew and then stayed
 pub appends_kept : (a b c : Option (List ℕ)) (bs : List ℕ) → Appends a b bs → Keeps b c → Appends a c bs

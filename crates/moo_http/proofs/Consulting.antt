@@ -1,10 +1,10 @@
 -- What a batch that is run or asked, and a question, say of a World at whatever place.
-use Rattle.moo_http.{proofs.Words.{◌≡◌, ◌⊎◌, inl, inr, refl, sym, ap, subst, arith, ◌∙◌, true, false, Result, Ok, Err, IsTrue, IfOk, IfErr, Ghosts, Batch, State, state_of, judge, World, state_in, Stands, MovesBy, RunsAt, VerdictLeads, StopsStore, Moment, LeadsBy, rows_alone, state_of_moment, Place, Works, Failed, Between, Calls, Run, Ask, RequestOutcome, MayAnswer, HasAdvanced, IsStillOrAdvanced}, proofs.Going.{moves_as}, specs.Settled.{came_of}}
+use Rattle.moo_http.{proofs.Words.{◌≡◌, ◌⊎◌, inl, inr, refl, ap, subst, arith, ◌∙◌, true, false, Result, Ok, Err, IsTrue, IfOk, IfErr, Ghosts, Batch, state_of, judge, World, state_in, Stands, MovesBy, RunsAt, VerdictLeads, StopsStore, Moment, LeadsBy, rows_alone, state_of_moment, Place, Works, Failed, Between, Calls, Run, Ask, RequestOutcome, MayAnswer, HasAdvanced, IsStillOrAdvanced}, proofs.Going.{moves_as}, specs.Settled.{came_of}}
 use Rattle.std.specs.Result.{IsOkAnd}
 use Rattle.sqlite.specs.declared.error.Error.{Error}
 use Rattle.moo_rows.specs.Maps.{Maps}
 use Rattle.moo_world.specs.Judge as model
-use Rattle.moo_text.{specs.declared.reply.Reply.{Reply}, specs.declared.reply.Reply.TheVariants.{Accepted, Refused, Full, Stale, NoMemory}, specs.declared.reply.Answer.{Answer}}
+use Rattle.moo_text.{specs.declared.reply.Reply.{Reply}, specs.declared.reply.Reply.TheVariants.{Accepted, Refused, Full, Stale, NoMemory}}
 use Rattle.moo_text.specs.declared.reply.Answer.TheVariants as answered
 use Rattle.moo_store.{specs.Answered.{reply_of}, specs.Moves.{FailsRun, MayReplyAsked}, specs.Stopping.{says_accepted}, specs.Text.{answer_to}}
 use Rattle.moo_store_rows.{specs.declared.fault.StoreFault.{StoreFault}, specs.declared.fault.StoreFault.TheVariants.{Store, Damaged, NewerVersion, OutOfMemory, Closed}}

@@ -1,5 +1,5 @@
 -- What a World that works answers, beside the defined answer.
-use Rattle.moo_http.proofs.Words.{◌≡◌, ◌≢◌, inl, inr, refl, ap, ◌∙◌, Batch, State, judge, left_by, Moment, Place, Works, state_at, state_of_moment, VerdictLeads, RunsAt, AsksAt, Asked, Refused, Calls, Run, Ask, RequestOutcome, response_of, MayAnswer, Comes, answer}
+use Rattle.moo_http.proofs.Words.{◌≡◌, ◌≢◌, inl, inr, refl, ap, ◌∙◌, Batch, judge, left_by, Moment, Place, Works, state_at, state_of_moment, VerdictLeads, RunsAt, AsksAt, Asked, Refused, Calls, Run, Ask, RequestOutcome, response_of, MayAnswer, Comes, answer}
 use Rattle.moo_world.specs.Judge as model
 use Rattle.moo_text.specs.declared.reply.Answer.{Answer}
 use Rattle.moo_text.specs.declared.reply.Answer.TheVariants as answered

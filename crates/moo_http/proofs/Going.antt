@@ -1,5 +1,5 @@
 -- How moves of a World join, and whether it is still the very World.
-use Rattle.moo_http.proofs.Words.{◌≡◌, ◌⊎◌, ◌∙◌, inl, inr, ◌+◌, refl, sym, subst, arith, IsTrue, Ghosts, World, Stands, MovesBy, Place, HasAdvanced, IsStillOrAdvanced}
+use Rattle.moo_http.proofs.Words.{◌≡◌, ◌⊎◌, ◌∙◌, inl, inr, refl, sym, subst, arith, IsTrue, Ghosts, World, Stands, MovesBy, Place, HasAdvanced, IsStillOrAdvanced}
 
 -- where it was it is
 pub moves_none : {S : Type 0} (g : Ghosts S) (world : World S) (Way : Place → Place → Type 0) → ((from : Place) → Stands g world from → Way from from) → MovesBy g world world Way
@@ -20,9 +20,9 @@ moves_then g old mid new First Second Way both first second = record {
   clean = λ clean. first.clean (second.clean clean);
   closed = λ failed. (let same = first.closed failed in second.closed (subst (λ (w : World _). IsTrue w.failed) (sym same) failed) ∙ same);
   goes = λ from at. (
-    let one = first.goes from at in
-    let other = second.goes one.0 one.1 in
-    (other.0, other.1, both from one.0 other.0 one.2 other.2));
+      let one = first.goes from at in
+      let other = second.goes one.0 one.1 in
+      (other.0, other.1, both from one.0 other.0 one.2 other.2));
 }
 
 pub still_none : {S : Type 0} (g : Ghosts S) (world : World S) → IsStillOrAdvanced g world world
@@ -37,9 +37,9 @@ pub still_then : {S : Type 0} (g : Ghosts S) (old mid new : World S) (First : Pl
 still_then g old mid new First moves first second place at = elim (first place at) [
   | inl same ↦ subst (λ (w : World _). (new ≡ w) ⊎ HasAdvanced w new) same (second place (subst (λ (w : World _). Stands g w place) (sym same) at))
   | inr advanced ↦ (
-    let between = moves.goes place at in
-    elim (second between.0 between.1) [
-      | inl same ↦ inr (subst (λ (w : World _). HasAdvanced old w) (sym same) advanced)
-      | inr further ↦ inr (advanced_then old mid new advanced further)
-    ])
+      let between = moves.goes place at in
+      elim (second between.0 between.1) [
+        | inl same ↦ inr (subst (λ (w : World _). HasAdvanced old w) (sym same) advanced)
+        | inr further ↦ inr (advanced_then old mid new advanced further)
+      ])
 ]

@@ -4,6 +4,7 @@ pub mod Consulting
 pub mod Serving
 pub mod Connections
 pub mod Turns
+pub mod Leading
 pub mod Defined
 pub mod Apart
 pub mod Passing

@@ -2,6 +2,7 @@ pub mod Faults
 pub mod Traffic
 pub mod Answers
 pub mod Advanced
+pub mod Leading
 pub mod Settled
 pub mod Serves
 pub mod Lines

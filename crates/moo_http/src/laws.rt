@@ -1,13 +1,17 @@
 //! What holds of answers.
 
-ghost use Rattle.std.specs.Prelude.{◌≡◌, ◌≢◌};
+ghost use Rattle.std.specs.Prelude.{◌≡◌, ◌≢◌, ℕ};
 ghost use Rattle.moo_store_rows.specs.Moment.{Moment, state_of_moment};
 ghost use Rattle.moo_store_rows.specs.Place.{Place, Works, moment_of};
 ghost use Rattle.moo_http_request.specs.declared.asked.Asked.{Asked};
 ghost use Rattle.moo_http_response.specs.declared.outcome.RequestOutcome.{RequestOutcome};
 ghost use Rattle.moo_http.specs.Answers.{MayAnswer, answer};
 ghost use Rattle.moo_http_response.specs.Responses.{response_of};
+ghost use Rattle.moo_http.specs.Leading.{LeadsTo};
 ghost use Rattle.moo_http.specs.Through.{AnswersPass, FrontsPass, FaultsPass};
+ghost use Rattle.moo_http.specs.Turns.{Attended};
+
+use moo_arrivals::Arrivals;
 
 /// Whatever a World that works answers but 503, is the defined answer at its state, and leads to the defined next state.
 pub fn answers_are_defined()
@@ -21,4 +25,10 @@ pub fn exchanges_pass_through()
     ensures sent { AnswersPass }
     ensures lost { FrontsPass }
     ensures failed { FaultsPass }
+{}
+
+/// The turns of connections lead on by accepted batches, and by nothing else: to whatever may be left where they end.
+pub fn connections_lead_on<A: Arrivals>()
+    ensures leads { (m : Moment) (answered failed : ℕ) (old new : A) (from to : Place) →
+        Attended A.Arrivals A.Reader.Read A.Reader.fails A.Writer.Write answered failed old from new to → LeadsTo m from → LeadsTo m to }
 {}

@@ -15,7 +15,7 @@ mod why;
 mod write;
 
 pub use fault::ServeFault;
-pub use laws::{answers_are_defined, exchanges_pass_through};
+pub use laws::{answers_are_defined, connections_lead_on, exchanges_pass_through};
 pub use listen::{Served, serve_connection, serve_next, serve_on};
 pub use log::Log;
 pub use note::{Note, Trouble};

@@ -1,9 +1,10 @@
 -- The world that a task begins with.
-use Rattle.moo_run.{proofs.Words.{◌≡◌, ◌⊎◌, inl, inr, ℕ, Bool, List, Some, Bor, codes, refl, sym, ap, subst, ◌∙◌, ◌<◌, ◌^◌, true, false, ◌||◌, bytes_eq, true≢false, Maps, opening_maps, IsGood, State, state_of, Ghosts, Image, IsHeld, Stand, LeavesState, Task, Given, Run, Leads, makes_world, begins_anew, is_load, dump_word, is_input, reads_input, ReadsFile, IsDumpedAs, BeginsWith, BeginsNumbered, RunsFrom, FailsAtOnce, RefusesDump, FailsToBegin, RunsNew, Failure}, proofs.Connections.{unseen}, specs.Run.{RefusesTask, TellsLack}}
+use Rattle.moo_run.{proofs.Words.{◌≡◌, ◌⊎◌, inl, inr, ℕ, Bool, List, Some, Bor, codes, refl, sym, ap, subst, ◌∙◌, ◌<◌, ◌^◌, true, false, ◌||◌, bytes_eq, true≢false, cases_Bool, HasCleanDisk, Maps, opening_maps, IsGood, State, state_of, Ghosts, Image, IsHeld, Moment, rows_alone, LeavesAsMade, Task, Given, Run, Texts, makes_world, begins_anew, is_load, dump_word, is_input, reads_input, ReadsFile, IsDumpedAs, BeginsFrom, BeginsWith, BeginsNumbered, RunsFrom, RunsIn, RunsMade, RunsAnew, FailsAtOnce, RefusesDump, FailsToBegin, RunsNew, Failure}, specs.Run.{RefusesTask, TellsLack}}
+use Rattle.sqlite.specs.State.{State as Database}
 use Rattle.sqlite.specs.Tree.{Trees}
 use Rattle.moo_load.specs.RowsOf.{AreRowsOf}
 use Rattle.moo_files.{specs.Remains.{KeepsSuch, KeepsNothingBut}, specs.declared.remains.Remains.{Remains}, proofs.RemainsLemmas.{keeps_more, blank_more}}
-use Rattle.moo_cli.{specs.declared.task.Action.{Action}, specs.declared.task.Action.TheVariants.{Load}, specs.Tasks.{text_word}}
+use Rattle.moo_cli.{specs.declared.task.Action.{Action}, specs.declared.task.Action.TheVariants.{Init, Apply, Rehearse, Ask, Dump, Load, Check, Serve}, specs.Tasks.{text_word}}
 
 pub begins_opening : (action : Action) (given : Given) → is_load action ≡ false → BeginsWith action given (state_of opening_maps)
 begins_opening (Load dump) given other = absurd (true≢false other)
@@ -57,36 +58,66 @@ pub keeps_input : (task : Task) (dump : List ℕ) → is_load task.action ≡ tr
 keeps_input task dump loads is other = subst (λ word. is_input word ≡ false) (load_reads task.action dump loads is) other
 
 -- what comes after a load reads no text
-of_others : (file : Bor (List ℕ)) (action : Action) → is_load action ≡ true → (s : State) (run : Run) (others : Given) (Clean : Type 0) (Crash : Stand → Type 0) (Led : Leads) (Shown : Type 0)
-    → RunsFrom (record { file = file; action = action }) s run Clean Crash Led Shown → (run.given.ports.rests → others.ports.rests) → RunsFrom (record { file = file; action = action }) s (record run { given = others }) Clean Crash Led Shown
-of_others file (Load dump) loads s run others Clean Crash Led Shown it on = record { end = it.end; crash = it.crash; still = it.still; rests = λ other. on (it.rests other); writes = it.writes }
-of_others file action loads s run others Clean Crash Led Shown it on = absurd (true≢false (sym loads))
+of_others : (file : Bor (List ℕ)) (action : Action) → is_load action ≡ true → (m : Moment) (run : Run) (others : Given) (Clean : Type 0) → RunsFrom (record { file = file; action = action }) m run Clean → (run.given.ports.rests → others.ports.rests)
+    → RunsFrom (record { file = file; action = action }) m (record run { given = others }) Clean
+of_others file (Load dump) loads m run others Clean it on = record { end = it.end; good = it.good; rests = λ other. on (it.rests other); writes = it.writes }
+of_others file action loads m run others Clean it on = absurd (true≢false (sym loads))
 
-pub of_other_texts : (task : Task) → is_load task.action ≡ true → (s : State) (run : Run) (others : Given) (Clean : Type 0) (Crash : Stand → Type 0) (Led : Leads) (Shown : Type 0)
-    → RunsFrom task s run Clean Crash Led Shown → (run.given.ports.rests → others.ports.rests) → RunsFrom task s (record run { given = others }) Clean Crash Led Shown
+of_other_texts : (task : Task) → is_load task.action ≡ true → (m : Moment) (run : Run) (others : Given) (Clean : Type 0) → RunsFrom task m run Clean → (run.given.ports.rests → others.ports.rests) → RunsFrom task m (record run { given = others }) Clean
 of_other_texts task = of_others task.file task.action
+
+of_others_in : (file : Bor (List ℕ)) (action : Action) → is_load action ≡ true → (store : Database) (m : Moment) (run : Run) (others : Given) → RunsIn store (record { file = file; action = action }) m run → (run.given.ports.rests → others.ports.rests)
+    → RunsIn store (record { file = file; action = action }) m (record run { given = others })
+of_others_in file (Load dump) loads store m run others it on = (of_others file (Load dump) loads m run others (HasCleanDisk store) it.0 on, it.1)
+of_others_in file action loads store m run others it on = absurd (true≢false (sym loads))
+
+-- after a new world's rows were found, the input is as it was, or the task reads no text
+pub made_with : (store : Database) (task : Task) (rows : Maps) (run : Run) (others : Given) → (is_load task.action ≡ false → RunsMade store task rows run → RunsMade store task rows (record run { given = others })) → (run.given.ports.rests → others.ports.rests)
+    → RunsMade store task rows run → RunsMade store task rows (record run { given = others })
+made_with store task rows run others same on it = elim (cases_Bool (is_load task.action)) [
+  | inl loads ↦ (
+    of_other_texts task loads (rows_alone rows) run others ⊥ it.0 on,
+    λ clean.
+        let ran = it.1 clean in
+        (ran.0, ran.1, of_others_in task.file task.action loads store ran.0 run others ran.2 on),
+  )
+  | inr other ↦ same other it
+]
+
+-- what a task begins with is said of the texts that it is given
+begins_given : (action : Action) (one other : Given) (s : State) → one.text ≡ other.text → BeginsWith action one s → BeginsWith action other s
+begins_given (Load dump) one other s same it = subst (λ (text : Texts). IsDumpedAs (text dump.now) s × IsHeld s) same it
+begins_given Init one other s same it = it
+begins_given (Apply texts) one other s same it = it
+begins_given (Rehearse texts) one other s same it = it
+begins_given (Ask texts) one other s same it = it
+begins_given Dump one other s same it = it
+begins_given Check one other s same it = it
+begins_given (Serve service) one other s same it = it
+
+pub begins_from : (action : Action) (one other : Given) (rows : Maps) → one.text ≡ other.text → BeginsFrom action one rows → BeginsFrom action other rows
+begins_from action one other rows same it = record { good = it.good; world = begins_given action one other (state_of rows) same it.world; numbers = it.numbers }
 
 pub fails_to_begin : (task : Task) (run : Run) → FailsAtOnce run → FailsToBegin task run
 fails_to_begin task run (failure, opening, reports) = (failure, inl opening, reports)
 
 -- a run from the world that a task begins with, of which nothing more is said than what is written
-pub new_unseen : (task : Task) (run : Run) (Clean : Type 0) (Crash : Stand → Type 0) (Led : Leads) (Shown : Type 0)
-    → (run.given.ports.rests × FailsToBegin task run) ⊎ ((s : State) × BeginsWith task.action run.given s × RunsFrom task s run Clean Crash Led Shown) → RunsNew task run
-new_unseen task run Clean Crash Led Shown (inl fails) = inl fails
-new_unseen task run Clean Crash Led Shown (inr (s, begins, it)) = inr (s, begins, unseen task s run Clean Crash Led Shown it)
+pub new_unseen : (task : Task) (run : Run) (store : Database) → RunsAnew task run store → RunsNew task run
+new_unseen task run store (inl fails) = inl fails
+new_unseen task run store (inr (rows, begins, made)) = inr (rows, begins, made.0)
 
 -- what a refused making of that world leaves
-pub unmade_begins : {T D : Type 0} {g : Ghosts D} (action : Action) (given : Given) (s : State) → BeginsWith action given s → (trees : Trees) (image : Image) (remains : Remains T D g)
-    → KeepsSuch (λ found. (found ≡ trees) ⊎ LeavesState found s) image remains → KeepsSuch (λ found. (found ≡ trees) ⊎ ((t : State) × BeginsWith action given t × LeavesState found t)) image remains
-unmade_begins action given s begins trees image remains =
-    keeps_more (λ found. (found ≡ trees) ⊎ LeavesState found s) (λ found. (found ≡ trees) ⊎ ((t : State) × BeginsWith action given t × LeavesState found t))
-    (λ found kept. elim kept [ inl same ↦ inl same | inr leaves ↦ inr (s, begins, leaves) ]) image remains
+pub unmade_begins : {T D : Type 0} {g : Ghosts D} (action : Action) (given : Given) (rows : Maps) → BeginsFrom action given rows → (trees : Trees) (image : Image) (remains : Remains T D g)
+    → KeepsSuch (λ found. (found ≡ trees) ⊎ LeavesAsMade found rows) image remains → KeepsSuch (λ found. (found ≡ trees) ⊎ ((m : Maps) × BeginsFrom action given m × LeavesAsMade found m)) image remains
+unmade_begins action given rows begins trees image remains =
+    keeps_more (λ found. (found ≡ trees) ⊎ LeavesAsMade found rows) (λ found. (found ≡ trees) ⊎ ((m : Maps) × BeginsFrom action given m × LeavesAsMade found m))
+    (λ found kept. elim kept [ inl same ↦ inl same | inr leaves ↦ inr (rows, begins, leaves) ]) image remains
 
 -- and of files that held nothing
-pub fresh_begins : {T D : Type 0} {g : Ghosts D} (action : Action) (given : Given) (s : State) → BeginsWith action given s → (image : Image) (remains : Remains T D g)
-    → KeepsNothingBut (λ found. LeavesState found s) image remains → KeepsNothingBut (λ found. (t : State) × BeginsWith action given t × LeavesState found t) image remains
-fresh_begins action given s begins image remains =
-    blank_more (λ found. LeavesState found s) (λ found. (t : State) × BeginsWith action given t × LeavesState found t) (λ found leaves. (s, begins, leaves)) image remains
+pub fresh_begins : {T D : Type 0} {g : Ghosts D} (action : Action) (given : Given) (rows : Maps) → BeginsFrom action given rows → (image : Image) (remains : Remains T D g)
+    → KeepsNothingBut (λ found. LeavesAsMade found rows) image remains → KeepsNothingBut (λ found. (m : Maps) × BeginsFrom action given m × LeavesAsMade found m) image remains
+fresh_begins action given rows begins image remains =
+    blank_more (λ found. LeavesAsMade found rows) (λ found. (m : Maps) × BeginsFrom action given m × LeavesAsMade found m) (λ found leaves. (rows, begins, leaves)) image remains
 
 -- a task that begins with a new world isn't one that takes up its file
 pub never_other : {A : Type 0} (task : Task) → is_load task.action ≡ true → begins_anew task ≡ false → A

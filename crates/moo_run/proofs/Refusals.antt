@@ -1,7 +1,7 @@
 -- What is reported of a file that is refused.
-use Rattle.moo_run.{proofs.Words.{◌≡◌, inl, inr, ℕ, List, Err, true, false, true≢false, ◌∙◌, State, begins_anew, Option, refl, sym, subst, Ghosts, Image, state_of, Task, Reports, Tells, store_failure, Run, RunsTask, FailsAtOnce, RefusesFile, RunsFile, Failure}, specs.declared.ends.Ends.{Ends}, proofs.Connections.{of_opening, of_refusal, unseen}, specs.Ends.{RefusedOnto}}
+use Rattle.moo_run.{proofs.Words.{◌≡◌, inl, inr, ℕ, List, Err, true, false, true≢false, ◌∙◌, State, begins_anew, Option, refl, sym, subst, Ghosts, Image, Moment, IsSpared, AreTreesOf, Task, Reports, Tells, store_failure, Run, RunsTask, FailsAtOnce, RefusesFile, RunsFile, Failure}, specs.declared.ends.Ends.{Ends}, proofs.Connections.{of_opening, of_refusal}, specs.Ends.{RefusedOnto}}
 use Rattle.moo_run.specs.declared.ends.Ends.TheVariants as variant
-use Rattle.moo_files.{specs.Opened.{Contents, Nothing, Database, Unfit, Hold, Refuses}, specs.Contents.{HoldsState}, specs.Remains.{IsCleanRemains, StillHolds}, specs.declared.remains.Remains.{Remains}, proofs.OpenedLemmas.{still_holds}}
+use Rattle.moo_files.{specs.Opened.{Contents, Nothing, Database, Unfit, Hold, Refuses}, specs.Contents.{HoldsMoment}, specs.Remains.{IsCleanRemains, KeepsSuch}, specs.declared.remains.Remains.{Remains}, proofs.OpenedLemmas.{still_holds}}
 use Rattle.moo_store_rows.{specs.Opening.{IsOfStore}, specs.declared.fault.StoreFault.{StoreFault}}
 
 module _ (fault : StoreFault) where
@@ -20,7 +20,7 @@ module _ (fault : StoreFault) where
 module _ {T D : Type 0} {g : Ghosts D} (task : Task) (image : Image) where
   -- what a run over a file writes, whatever the file holds
   pub runs_task : (end : Ends T D g) (run : Run) → RunsFile task image end run → RunsTask task run
-  runs_task (variant.Ran conn) run it = record { anew = λ anew. let ran = it.anew anew in inr (state_of ran.0, ran.1.world, unseen _ _ _ _ _ _ _ ran.2); opened = λ other. inr (it.opened other) }
+  runs_task (variant.Ran conn) run it = record { anew = λ anew. let ran = it.anew anew in inr (ran.0, ran.1, ran.2.0); opened = λ other. inr (it.opened other) }
   runs_task (variant.Refused remains) run it = record { anew = λ anew. inl (it.rests, it.anew anew); opened = λ other. inl (it.rests, it.opened other) }
   runs_task (variant.NoFile start) run it = absurd it
 
@@ -34,10 +34,10 @@ refused_onto image fault rest run (Database trees) it reports = record {
 }
 refused_onto image fault rest run Unfit it reports = fails_at_once fault run it reports
 
--- and a state that the files held is there still
+-- and a moment that the files held is there still, or it was migrated
 pub still_held : {T D : Type 0} {g : Ghosts D} (image : Image) (fault : StoreFault) (rest : Remains T D g)
-    → ((held : Contents) → Hold image held → IsCleanRemains rest → Refuses held image fault rest) → (s : State) → HoldsState image s → IsCleanRemains rest → StillHolds image rest s
-still_held image fault rest it s holds = still_holds image (Err (fault, rest)) it s holds
+    → ((held : Contents) → Hold image held → IsCleanRemains rest → Refuses held image fault rest) → (m : Moment) → HoldsMoment image m → IsCleanRemains rest → KeepsSuch (λ trees. (end : Moment) × IsSpared m end × AreTreesOf end trees) image rest
+still_held image fault rest it m holds = still_holds image (Err (fault, rest)) it m holds
 
 -- a task that takes up its file isn't one that begins with a new world
 pub never_anew : {A : Type 0} (task : Task) → begins_anew task ≡ false → begins_anew task ≡ true → A

@@ -1,12 +1,13 @@
 -- From what was done to a World to how a task ends.
-use Rattle.moo_run.{proofs.Words.{◌≡◌, ◌≢◌, NoBatches, NoMemory, Read, Write, TooLong, inl, inr, ℕ, ◌≤◌, Bool, true, false, List, [], Option, Result, Ok, Err, IfOk, IfErr, OnOk, MatchResult, refl, sym, ap, subst, arith, IsTrue, if◌then◌else◌, codes, bytes_eq, HasCleanDisk, Survives, Batch, IsGood, State, World, Stand, Works, store_of, StandsFor, CrashLeaves, text_failure, Texts, texts_by, None, Some, true≢false, ◌∙◌, lost_status, course_status, AppliesText, RehearsesText, StopsRehearsing, StopsApplying, MayLead, EndsTask, Failure}, specs.Texts.{OpenedBy, LacksBy}, specs.Run.{TellsLack, StopsAs}, specs.declared.texts.Manner.{Manner}}
+use Rattle.moo_run.{proofs.Words.{◌≡◌, ◌≢◌, NoBatches, NoMemory, Read, Write, TooLong, inl, inr, ℕ, Bool, true, false, List, Option, Result, Ok, Err, IfOk, IfErr, OnOk, MatchResult, refl, sym, ap, subst, if◌then◌else◌, codes, bytes_eq, HasCleanDisk, Moment, Place, Works, Failed, LeavesJust, rows_alone, World, store_of, Stands, MovesBy, RunsAt, AsksAt, RehearsesAt, text_failure, Texts, texts_by, None, Some, true≢false, ◌∙◌, lost_status, course_status, AnswersText, AnswersAs, StopsAs, ComesOf, EndsTask, Failure}, specs.Texts.{OpenedBy, LacksBy}, specs.Run.{Steps, TellsLack}, specs.declared.texts.Manner.{Manner}}
 use Rattle.moo_run.specs.declared.texts.Manner.TheVariants as manner
-use Rattle.sqlite.{specs.State.{State as Database}, specs.Store.{Ghosts}, specs.Held.{state}}
+use Rattle.sqlite.{specs.Store.{Ghosts}, specs.Held.{state}}
 use Rattle.moo_text.specs.declared.fault.TextFault.{TextFault}
 use Rattle.std.specs.Prelude.{IsErr}
 use Rattle.moo_text.specs.declared.fault.TextFault.TheVariants as text_fault
-use Rattle.moo_store.{specs.declared.course.Course.{Course}, specs.Stopping.{AreAccepted, AppliesFirst, CompletesUntil, HaltsUntil, EndsEarly}, specs.Rehearsed.{RehearsesBatch}, specs.Untouched.{IsMovedBy}, proofs.Untouched.{is_over, written_none}, specs.Text.{Applies, StopsRun}}
-use Rattle.moo_store_rows.proofs.Committed.{IsSettled}
+use Rattle.moo_store.{specs.declared.course.Course.{Course}, specs.Stopping.{EndsAs}, specs.Runs.{LeavesChecked}}
+use Rattle.moo_store_rows.specs.declared.fault.StoreFault.{StoreFault}
+use Rattle.moo_store_rows.specs.declared.fault.StoreFault.TheVariants as store_fault
 
 pub given_input : (batches : List ℕ) (input : Option (List ℕ)) (files : Texts) → bytes_eq batches (codes "-") ≡ true → texts_by input files batches ≡ input
 given_input batches input files e = ap (λ (b : Bool). if b then input else files batches) e
@@ -28,68 +29,59 @@ some_opened remaining files word input opened r file is ok by =
 pub never_input : {A F E : Type 0} (remaining : F → Option (List ℕ)) (files : Texts) (word : List ℕ) (opened : Option (Result F E)) → opened ≡ None → OpenedBy remaining files word opened → bytes_eq word (codes "-") ≡ false → A
 never_input remaining files word opened is by other = absurd (true≢false (sym (subst (OpenedBy remaining files word) is by) ∙ other))
 
-none_below : (n m : ℕ) → n ≤ m → m ≡ 0 → n ≡ 0
-none_below n m le e = omega (arith, le, e)
+-- ---- what comes of a text
 
-pub was_clean : (old new : Database) (Commits : _) → Survives old new Commits → HasCleanDisk new → HasCleanDisk old
-was_clean old new Commits it clean = none_below _ _ it.clean clean
+done_by : (step : Steps) (stop : Bool) (m : Moment) (end : Place) (text old new : Option (List ℕ)) (stopped : Bool) (batches lost : ℕ) → EndsAs step stop (Works m) end text old new stopped batches lost
+    → AnswersText step stop m end text old new (if stopped then 1 else lost_status lost)
+done_by step stop m end text old new true batches lost (is, early) = inr (is, batches, lost, early, refl)
+done_by step stop m end text old new false batches lost whole = inl (batches, lost, whole, refl)
 
-module _ {S : Type 0} (g : Ghosts S) (known : Bool) (was world : World S) where
-  -- a text came to its end, or it ended after the first answer that isn't `accepted`
-  pub done_text : (stop : Bool) (s : State) (text old new : Option (List ℕ)) (course : Course) → was.failed ≡ false
-      → (course.stopped ≡ false → (run : Applies g known (Works s) text old new was world course.tally.batches course.tally.lost) × (stop ≡ true → AreAccepted run.completes.answers))
-      → (course.stopped ≡ true → (stop ≡ true) × AppliesFirst g known (Works s) text old new was world course.tally.batches course.tally.lost)
-      → EndsTask g known was world (λ end. AppliesText (MayLead g known was world) stop s end text old new (course_status course))
-  done_text stop s text old new course works whole early = by course.stopped refl
-    where
-      by : (b : Bool) → course.stopped ≡ b → EndsTask g known was world (λ end. AppliesText (MayLead g known was world) stop s end text old new (course_status course))
-      by false e =
-          let it = whole e in
-          record { end = it.0.new; clean = it.0.clean; crash = it.0.crash; ends = inl (course.tally.batches, course.tally.lost, (it.0.completes, it.1), ap (λ (b : Bool). if b then 1 else lost_status course.tally.lost) e, λ both. (it.0.led both.0 both.1 works, it.0.left both.0 both.1)) }
-      by true e =
-          let it = early e in
-          record { end = it.1.new; clean = it.1.clean; crash = it.1.crash; ends = inr (it.0, course.tally.batches, course.tally.lost, it.1.early, ap (λ (b : Bool). if b then 1 else lost_status course.tally.lost) e, λ both. (it.1.led both.0 both.1 works, it.1.left both.0 both.1)) }
+-- by the manner: it came to its end, or to the first answer that isn't `accepted`
+pub comes_done : (how : Manner) (m : Moment) (end : Place) (text old new : Option (List ℕ)) (course : Course) → ComesOf how m end text old new (Ok course) → AnswersAs how m end text old new (course_status course)
+comes_done (manner.Apply options) m end text old new course it = done_by RunsAt options.stop m end text old new course.stopped course.tally.batches course.tally.lost it
+comes_done (manner.Rehearse options) m end text old new course (just, last, it) = (just, last, done_by RehearsesAt options.stop (rows_alone m.rows) last text old new course.stopped course.tally.batches course.tally.lost it)
+comes_done manner.Ask m end text old new course (just, it) = (just, done_by AsksAt false m (Works m) text old new course.stopped course.tally.batches course.tally.lost it)
 
-  pub stops_text : (stop : Bool) (s : State) (text old new : Option (List ℕ)) (fault : TextFault) (failure : Failure) → was.failed ≡ false → failure ≡ text_failure fault
-      → (run : StopsRun g known (Works s) text old new was world fault) × (stop ≡ true → AreAccepted run.halts.answers)
-      → EndsTask g known was world (λ end. StopsApplying (MayLead g known was world) stop s end failure text old new)
-  stops_text stop s text old new fault failure works is it =
-      record { end = it.0.new; clean = it.0.clean; crash = it.0.crash; ends = inl (fault, is, (it.0.halts, it.1), λ both. (it.0.led both.0 both.1 works, it.0.left both.0 both.1)) }
-
-  -- batches that moved the World lead on from its rows
-  pub moved_led : (s : State) → (was.failed ≡ false → IsGood was.rows.maps) → StandsFor g known was s → (batches lost : List Batch) → IsMovedBy g was world batches lost → MayLead g known was world batches lost
-  moved_led s good stands batches lost moved both = (
-    moved.led both.1 (stands.is_at.shown both.0 stands.works) (good stands.works),
-    λ tables rests. moved.left both.1 tables (is_over g known was s tables both.0 stands.is_at (moved.clean both.1) rests),
-  )
-
-  pub ends_map : (P Q : Stand → Type 0) → ((end : Stand) → P end → Q end) → EndsTask g known was world P → EndsTask g known was world Q
-  ends_map P Q f it = record { end = it.end; clean = it.clean; crash = it.crash; ends = f it.end it.ends }
-
-  -- a call that commits nothing leaves what a crash could leave before
-  pub stays_at : (s : State) (P : Stand → Type 0) → Survives (store_of g was) (store_of g world) (λ _. ⊥) → (IsTrue known → HasCleanDisk (store_of g was) → CrashLeaves (store_of g was) (Works s)) → P (Works s) → EndsTask g known was world P
-  stays_at s P it leaves p =
-      let clean = was_clean (store_of g was) (store_of g world) (λ _. ⊥) it in
-      record {
-        end = Works s;
-        clean = clean;
-        crash = λ sure now trees may. elim (it.crash now trees may) [ inl before ↦ leaves sure (clean now) trees before | inr none ↦ absurd none ];
-        ends = p;
-      }
-
--- a World that is as it was
-pub unchanged : {S : Type 0} (g : Ghosts S) (known : Bool) (world : World S) (s : State) (P : Stand → Type 0) → (IsTrue known → HasCleanDisk (store_of g world) → CrashLeaves (store_of g world) (Works s)) → P (Works s) → EndsTask g known world world P
-unchanged g known world s P leaves p = record { end = Works s; clean = λ clean. clean; crash = leaves; ends = p }
-
--- no batches lead to its own rows
-pub unmoved : {S : Type 0} (g : Ghosts S) (known : Bool) (world : World S) (s : State) → IsSettled (store_of g world) → (world.failed ≡ false → IsGood world.rows.maps) → StandsFor g known world s → MayLead g known world world [] []
-unmoved g known world s settled good stands = moved_led g known world world s good stands [] [] (written_none g world settled)
+-- or a fault came
+pub comes_stops : (how : Manner) (m : Moment) (end : Place) (text old new : Option (List ℕ)) (fault : TextFault) (failure : Failure) → failure ≡ text_failure fault → ComesOf how m end text old new (Err fault) → StopsAs how m end failure text old new
+comes_stops (manner.Apply options) m end text old new fault failure is it = inl (fault, is, it)
+comes_stops (manner.Rehearse options) m end text old new fault failure is (just, last, it) = (just, last, inl (fault, is, it))
+comes_stops manner.Ask m end text old new fault failure is (just, it) = (just, inl (fault, is, it))
 
 -- nothing is done with a text whose file can't be opened
-pub never_opened : {S : Type 0} (g : Ghosts S) (known : Bool) (world : World S) (how : Manner) (s : State) (text old : Option (List ℕ)) → MayLead g known world world [] [] → StopsAs how (MayLead g known world world) s (Works s) NoBatches text old old
-never_opened g known world (manner.Apply options) s text old led = inr (refl, refl, refl, led)
-never_opened g known world (manner.Rehearse options) s text old led = (refl, (Works s, inr (refl, refl, refl, tt)))
-never_opened g known world manner.Ask s text old led = (refl, inr (refl, refl))
+pub never_opened : (how : Manner) (m : Moment) (text old : Option (List ℕ)) → StopsAs how m (Works m) NoBatches text old old
+never_opened (manner.Apply options) m text old = inr (refl, refl, refl)
+never_opened (manner.Rehearse options) m text old = (λ t is. is, Works (rows_alone m.rows), inr (refl, refl, refl))
+never_opened manner.Ask m text old = (λ t is. is, inr (refl, refl, refl))
+
+-- ---- what was done to a World
+
+module _ {S : Type 0} (g : Ghosts S) (was world : World S) where
+  pub ends_map : (P Q : Place → Type 0) → ((end : Place) → P end → Q end) → EndsTask g was world P → EndsTask g was world Q
+  ends_map P Q f it = record { end = it.end; clean = it.clean; stands = it.stands; ends = f it.end it.ends }
+
+  -- it was moved
+  pub moved : (m : Moment) (Way : Place → Place → Type 0) → Stands g was (Works m) → MovesBy g was world Way → EndsTask g was world (Way (Works m))
+  moved m Way stands moves =
+      let it = moves.goes (Works m) stands in
+      record { end = it.0; clean = moves.clean; stands = it.1; ends = it.2 }
+
+  -- it failed where it was, with the connection as it was
+  pub failed_there : (m : Moment) (P : Place → Type 0) → world.connection ≡ was.connection → Stands g world (Failed m) → P (Failed m) → EndsTask g was world P
+  failed_there m P same stands p = record { end = Failed m; clean = subst (λ conn. HasCleanDisk (state g conn) → HasCleanDisk (store_of g was)) (sym same) (λ clean. clean); stands = stands; ends = p }
+
+-- it is as it was
+pub unchanged : {S : Type 0} (g : Ghosts S) (world : World S) (m : Moment) (P : Place → Type 0) → Stands g world (Works m) → P (Works m) → EndsTask g world world P
+unchanged g world m P stands p = record { end = Works m; clean = λ clean. clean; stands = stands; ends = p }
+
+-- a check leaves the moment
+pub checked_just : (m : Moment) (r : Result ℕ StoreFault) (to : Place) → LeavesChecked (Works m) r to → LeavesJust m to
+checked_just m (Ok count) to is = subst (LeavesJust m) (sym is) (λ t it. it)
+checked_just m (Err store_fault.OutOfMemory) to is = subst (LeavesJust m) (sym is) (λ t it. it)
+checked_just m (Err (store_fault.Store error)) to is = subst (LeavesJust m) (sym is.1) (λ t it. elim it [ inl same ↦ same | inr same ↦ same ])
+checked_just m (Err (store_fault.Damaged kind key)) to is = subst (LeavesJust m) (sym is.1) (λ t it. elim it [ inl same ↦ same | inr same ↦ same ])
+checked_just m (Err store_fault.NewerVersion) to is = subst (LeavesJust m) (sym is.1) (λ t it. elim it [ inl same ↦ same | inr same ↦ same ])
+checked_just m (Err store_fault.Closed) to is = subst (LeavesJust m) (sym is.1) (λ t it. elim it [ inl same ↦ same | inr same ↦ same ])
 
 -- by the result, more of what is known of either
 pub by_result : {A E : Type 0} (P Q : A → Type 0) (R T : E → Type 0) (r : Result A E) → ((a : A) → P a → Q a) → ((e : E) → R e → T e) → IfOk r P → IfErr r R → MatchResult r Q T
@@ -103,36 +95,6 @@ by_either P Q R T (Err e) on_ok on_err p = on_err e p
 pub both_ok : {A E : Type 0} (r : Result A E) (P : A → Type 0) (Q : Type 0) → IfOk r P → OnOk r Q → IfOk r (λ a. P a × Q)
 both_ok (Ok a) P Q p q = (p, q)
 both_ok (Err e) P Q p q = tt
-
--- ---- rehearsals
-
-pub done_rehearsal : (stop : Bool) (s : State) (text old new : Option (List ℕ)) (course : Course)
-    → (course.stopped ≡ false → (end : Stand) × CompletesUntil RehearsesBatch stop (Works s) end text old new course.tally.batches course.tally.lost)
-    → (course.stopped ≡ true → (stop ≡ true) × ((end : Stand) × EndsEarly RehearsesBatch (Works s) end text old new course.tally.batches course.tally.lost))
-    → RehearsesText stop s text old new (course_status course)
-done_rehearsal stop s text old new course whole early = by course.stopped refl
-  where
-    by : (b : Bool) → course.stopped ≡ b → RehearsesText stop s text old new (course_status course)
-    by false e =
-        let it = whole e in
-        (it.0, inl (course.tally.batches, course.tally.lost, it.1, ap (λ (b : Bool). if b then 1 else lost_status course.tally.lost) e, tt))
-    by true e =
-        let it = early e in
-        (it.1.0, inr (it.0, course.tally.batches, course.tally.lost, it.1.1, ap (λ (b : Bool). if b then 1 else lost_status course.tally.lost) e, tt))
-
-pub stops_rehearsal : (stop : Bool) (s : State) (text old new : Option (List ℕ)) (fault : TextFault) (failure : Failure) → failure ≡ text_failure fault
-    → ((end : Stand) × HaltsUntil RehearsesBatch stop (Works s) end text old new fault) → StopsRehearsing stop s failure text old new
-stops_rehearsal stop s text old new fault failure is it = (it.0, inl (fault, is, it.1, tt))
-
--- a World whose connection is as it was
-pub still_there : {S : Type 0} (g : Ghosts S) (known : Bool) (was world : World S) (s : State) (P : Stand → Type 0) → world.connection ≡ was.connection
-    → (IsTrue known → HasCleanDisk (store_of g was) → CrashLeaves (store_of g was) (Works s)) → P (Works s) → EndsTask g known was world P
-still_there g known was world s P same leaves p = record {
-  end = Works s;
-  clean = subst (λ conn. HasCleanDisk (state g conn) → HasCleanDisk (store_of g was)) (sym same) (λ clean. clean);
-  crash = subst (λ conn. IsTrue known → HasCleanDisk (state g conn) → CrashLeaves (state g conn) (Works s)) (sym same) leaves;
-  ends = p;
-}
 
 -- ---- a file that can't be opened
 

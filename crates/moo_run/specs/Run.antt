@@ -1,6 +1,6 @@
 -- What a run of the program writes, the status that it ends with, and the place to which it leads.
 use Rattle.std.specs.Prelude.{◌≡◌, ◌<◌, ◌≤◌, ◌⊎◌, ◌==◌, ◌||◌, ℕ, Bool, true, false, IsTrue, ⊤, if◌then◌else◌}
-use Rattle.std.specs.Prelude.{List, take, length, Option, Some, None, IfSome, IsSome, Result, MatchResult, codes}
+use Rattle.std.specs.Prelude.{List, [], take, length, Option, Some, None, IfSome, IsSome, Result, MatchResult, codes}
 use Rattle.std.specs.Str.{bytes_eq}
 use Rattle.std.specs.Io.KnownBytes.{Appends}
 use Rattle.clap.specs.Kinds.{IsAmong}
@@ -10,7 +10,8 @@ use Rattle.sqlite.specs.State.{State as Database, HasCleanDisk}
 use Rattle.sqlite.specs.Tree.{Trees}
 use Rattle.sqlite.specs.Store.{Ghosts}
 use Rattle.moo_world.specs.declared.call.Batch.{Batch}
-use Rattle.moo_rows.specs.Maps.{Maps}
+use Rattle.moo_rows.specs.Maps.{Maps, Held as Rows}
+use Rattle.moo_files.specs.Making.{rows_made}
 use Rattle.moo_rows.specs.Opening.{opening_maps}
 use Rattle.moo_world.specs.Rows.{IsGood}
 use Rattle.moo_world.specs.Judge.{State, state_of}
@@ -25,7 +26,7 @@ use Rattle.moo_load.specs.RowsOf.{AreRowsOf}
 use Rattle.moo_store_rows.specs.declared.fault.StoreFault.{StoreFault}
 use Rattle.moo_store.specs.declared.course.Course.{Course}
 use Rattle.moo_text.specs.declared.reply.Answer.{Answer}
-use Rattle.moo_store.specs.Stopping.{CompletesUntil, HaltsUntil, EndsEarly}
+use Rattle.moo_store.specs.Stopping.{CompletesUntil, HaltsUntil, EndsEarly, AnswersBy}
 use Rattle.moo_store.specs.Rehearsed.{RehearsesAt}
 use Rattle.moo_store_rows.specs.Moment.{Moment, state_of_moment, rows_alone}
 use Rattle.moo_store_rows.specs.NewTables.{IsMadeOf}
@@ -40,6 +41,7 @@ use Rattle.moo_cli.specs.declared.task.Action.TheVariants.{Init, Apply, Rehearse
 use Rattle.moo_run.specs.declared.texts.Manner.{Manner}
 use Rattle.moo_run.specs.declared.texts.Manner.TheVariants as manner
 use Rattle.moo_http.specs.Lines.{listening_line}
+use Rattle.moo_http.specs.Leading.{LeadsTo}
 use Rattle.moo_http.specs.Turns.{Attendance, SaysAttended}
 use Rattle.moo_run.specs.Given.{Given, Run}
 use Rattle.moo_cli.specs.Tasks.{NamesTask, NamesAlone, NamesNone, text_word, mistakes}
@@ -177,6 +179,13 @@ AnswersAs (manner.Apply options) m end text old new status = AnswersText RunsAt 
 AnswersAs (manner.Rehearse options) m end text old new status = LeavesJust m end × RehearsesText options.stop m text old new status
 AnswersAs manner.Ask m end text old new status = LeavesJust m end × AsksText m text old new status
 
+-- what comes of the text of a manner, by the result of answering it
+abbrev pub ComesOf : Manner → Moment → Place → Option (List ℕ) → Option (List ℕ) → Option (List ℕ) → Result Course TextFault → Type 0
+ComesOf (manner.Apply options) m end text old new r = AnswersBy RunsAt options.stop (Works m) end text old new r
+ComesOf (manner.Rehearse options) m end text old new r =
+    LeavesJust m end × ((last : Place) × AnswersBy RehearsesAt options.stop (Works (rows_alone m.rows)) last text old new r)
+ComesOf manner.Ask m end text old new r = LeavesJust m end × AnswersBy AsksAt false (Works m) (Works m) text old new r
+
 -- The answering of a text stops, or its file can't be opened.
 abbrev pub StopsAs : Manner → Moment → Place → Failure → Option (List ℕ) → Option (List ℕ) → Option (List ℕ) → Type 0
 StopsAs (manner.Apply options) m end failure text old new = StopsText RunsAt options.stop m end failure text old new
@@ -288,6 +297,8 @@ module _ {S : Type 0} (g : Ghosts S) (was world : World S) where
 pub record RunsFrom (task : Task) (m : Moment) (run : Run) (Clean : Type 0) : Type 0 where
   pub end : Place
   pub good : (t : Moment) → MayBeLeft end t → IsGood t.rows
+  -- accepted batches, one after another, lead from the moment to whatever may be left
+  pub leads : LeadsTo m end
   -- only a task that serves asks anything of the ports
   pub rests : serves task.action ≡ false → run.given.ports.rests
   pub writes :
@@ -359,6 +370,12 @@ MayNotBegin task given failure =
 
 abbrev pub FailsToBegin : Task → Run → Type 0
 FailsToBegin task run = (failure : Failure) × MayNotBegin task run.given failure × Reports failure run.before run.after run.status
+
+-- The rows of the new world that a task begins with were found: those of its dump, or none in place of the opening ones. Or its dump gives
+-- none.
+abbrev pub FindsRows : Action → Given → Result (Option Rows) Failure → Type 0
+FindsRows action given r = MatchResult r (λ rows. BeginsFrom action given (rows_made rows))
+    (λ failure. IsTrue (is_load action) × RefusesTask given action failure)
 
 -- a new world can't be made, and nothing is asked of the ports; or the task runs from the rows of the one that it begins with
 abbrev pub RunsNew : Task → Run → Type 0

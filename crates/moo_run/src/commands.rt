@@ -1,18 +1,14 @@
 //! What each command does over a world.
 
-ghost use Rattle.std.specs.Prelude.{◌≡◌, ◌⊎◌, ℕ, List, true, false, length, IfOk, IfErr, OnOk, IsSome};
+ghost use Rattle.std.specs.Prelude.{◌≡◌, ℕ, List, true, false, IfOk, IfErr, OnOk};
 ghost use Rattle.std.specs.Io.KnownBytes.{Appends};
-ghost use Rattle.sqlite.specs.State.{HasCleanDisk};
-ghost use Rattle.moo_world.specs.ObjectLists.{objects_of};
 ghost use Rattle.moo_dump.specs.Dump.{dump};
-ghost use Rattle.moo_store_rows.specs.declared.fault.StoreFault.{StoreFault};
-ghost use Rattle.moo_store_rows.specs.Opening.{IsOfStore};
-ghost use Rattle.moo_store_rows.specs.Moment.{Moment, state_of_moment};
+ghost use Rattle.moo_store_rows.specs.Moment.{Moment};
 ghost use Rattle.moo_store_rows.specs.Place.{Works};
 ghost use Rattle.moo_store.specs.Moves.{Stands};
 ghost use Rattle.moo_store.specs.World.{store_of, state_in};
-ghost use Rattle.moo_run_lines.specs.Lines.{store_failure, checked_line, loaded_line};
-ghost use Rattle.moo_run.specs.Run.{RunsAction, EndsCheck, StopsIn, ShowsTables, LeavesNothingNew};
+ghost use Rattle.moo_run_lines.specs.Lines.{loaded_line};
+ghost use Rattle.moo_run.specs.Run.{RunsAction, EndsCheck, line_of, StopsIn, ShowsTables, LeavesNothingNew};
 ghost use Rattle.moo_run.specs.Run.{only_reads, serves, reads_input, ReadsFile};
 
 use crate::host::BatchFiles;

@@ -9,17 +9,17 @@ ghost use Rattle.moo_store_rows.specs.Place.{Works};
 ghost use Rattle.moo_store.specs.Moves.{Stands};
 ghost use Rattle.moo_store.specs.World.{store_of};
 ghost use Rattle.moo_run_lines.specs.Lines.{Tells, store_failure};
-ghost use Rattle.moo_run.specs.Run.{begins_anew, is_load, dump_word, reads_input, ReadsFile, only_reads};
+ghost use Rattle.moo_run.specs.Run.{begins_anew, reads_input, ReadsFile, only_reads};
 ghost use Rattle.moo_run.specs.Run.{LeavesNothingNew, RunsIn, RunsTask};
 ghost use Rattle.moo_run.specs.Ends.{RunsFile, EndsWith};
 
 use crate::ends::Ends;
 use crate::host::Advice;
-use crate::loading::{dump_word, read_world};
+use crate::loading::find_rows;
 use crate::over::{run_in, run_over};
 use crate::session::{Runs, Session, Streams};
 use moo_cli::{Action, Task};
-use moo_files::{Remains, WorldFiles, create_from, load_from, open_from};
+use moo_files::{Remains, WorldFiles, make_from, open_from};
 use moo_run_lines::Failure;
 use moo_store::{StoreFault, World};
 use sqlite::{Connection, Error, ErrorCode, FileStore, Start};
@@ -73,61 +73,29 @@ fn refusal_of<T: Start, H: WorldFiles<T>>(host: &H, file: &str, fault: StoreFaul
     failure
 }
 
-/// Makes the world of a dump in a file, does what the task says over it, and hands back what is left of the file.
-fn run_loaded<'s, S: Streams>(
+/// Makes the new world that a task begins with in its file, does what the task says over it, and hands back what is left of the file.
+fn run_made<'s, S: Streams>(
     session: &mut Session<'s, S>,
-    file: &str,
     start: S::File,
-    dump: &str,
     task: Task<'_>,
 ) -> Ends<S::File, <S::Host as WorldFiles<S::File>>::Disk>
-    requires may { S.Host.may_open session.old.host file.now }
+    requires may { S.Host.may_open session.old.host task.file.now }
     requires read { (path : List ℕ) → ReadsFile task path → S.Host.may_read session.old.host path }
-    requires load { is_load task.action ≡ true }
-    requires word { dump_word task.action ≡ dump.now }
+    requires anew { begins_anew task ≡ true }
     ensures runs { RunsFile task.entry (image_at S.File.Start) result (⟦<Session<'s, S> as Runs>⟧.run session.old session.new) }
     ensures input { reads_input task.entry ≡ false → session.new.input ≡ session.old.input }
 {
-    let rows = match read_world(
-        session.alloc,
-        session.console,
-        dump,
-        &session.host,
-        &mut session.input,
-    ) {
+    let rows = match find_rows(session, task) {
         Ok(rows) => rows,
         Err(failure) => {
             session.fail(failure);
             return Ends::Refused(Remains::Untouched(start));
         }
     };
-    match load_from(session.alloc, &session.host, file, start, rows) {
+    match make_from(session.alloc, &session.host, task.file, start, rows) {
         Ok(world) => Ends::Ran(run_in_files(session, world, task)),
         Err((fault, remains)) => {
-            session.fail_to_open(file, refusal(fault));
-            Ends::Refused(remains)
-        }
-    }
-}
-
-/// Makes the opening world in a file, does what the task says over it, and hands back what is left of the file.
-fn run_created<'s, S: Streams>(
-    session: &mut Session<'s, S>,
-    file: &str,
-    start: S::File,
-    task: Task<'_>,
-) -> Ends<S::File, <S::Host as WorldFiles<S::File>>::Disk>
-    requires may { S.Host.may_open session.old.host file.now }
-    requires read { (path : List ℕ) → ReadsFile task path → S.Host.may_read session.old.host path }
-    requires load { is_load task.action ≡ false }
-    requires anew { begins_anew task ≡ true }
-    ensures runs { RunsFile task.entry (image_at S.File.Start) result (⟦<Session<'s, S> as Runs>⟧.run session.old session.new) }
-    ensures input { reads_input task.entry ≡ false → session.new.input ≡ session.old.input }
-{
-    match create_from(session.alloc, &session.host, file, start) {
-        Ok(world) => Ends::Ran(run_in_files(session, world, task)),
-        Err((fault, remains)) => {
-            session.fail_to_open(file, refusal(fault));
+            session.fail_to_open(task.file, refusal(fault));
             Ends::Refused(remains)
         }
     }
@@ -182,15 +150,10 @@ pub fn run_from<'s, S: Streams>(
     ensures runs { RunsFile task.entry (image_at S.File.Start) result (⟦<Session<'s, S> as Runs>⟧.run session.old session.new) }
     ensures input { reads_input task.entry ≡ false → session.new.input ≡ session.old.input }
 {
-    match dump_word(task) {
-        Some(dump) => run_loaded(session, task.file, start, dump, task),
-        None => {
-            if begins_anew(task) {
-                run_created(session, task.file, start, task)
-            } else {
-                run_found(session, start, task)
-            }
-        }
+    if begins_anew(task) {
+        run_made(session, start, task)
+    } else {
+        run_found(session, start, task)
     }
 }
 

@@ -1,6 +1,6 @@
 //! The world of a dump.
 
-ghost use Rattle.std.specs.Prelude.{◌≡◌, ◌≢◌, ◌<◌, ◌^◌, true, false, length, codes, IfOk, IfErr, MatchOption};
+ghost use Rattle.std.specs.Prelude.{◌≡◌, ◌≢◌, ◌<◌, ◌^◌, ℕ, List, false, length, codes, IfOk, IfErr, IfSome};
 ghost use Rattle.std.specs.Str.{bytes_eq};
 ghost use Rattle.moo_world.specs.Rows.{IsGood};
 ghost use Rattle.moo_world.specs.Judge.{State, state_of};
@@ -9,9 +9,10 @@ ghost use Rattle.moo_load.specs.OneState.{IsHeld};
 ghost use Rattle.moo_load.specs.RowsOf.{AreRowsOf};
 ghost use Rattle.moo_load.specs.declared.fault.LoadFault.TheVariants.{OutOfMemory};
 ghost use Rattle.moo_run.specs.Given.{texts_by};
-ghost use Rattle.moo_run.specs.Run.{IsDumpedAs, RefusesDump, TellsLack, is_load, dump_word};
+ghost use Rattle.moo_run.specs.Run.{IsDumpedAs, RefusesDump, TellsLack, FindsRows, ReadsFile, is_load, reads_input};
 
 use crate::host::BatchFiles;
+use crate::session::{Runs, Session, Streams};
 use moo_cli::{Action, Task};
 use moo_load::{LoadFault, read_dump, read_text};
 use moo_load_reasons::{WHAT_TO_DO, is_lambdamoo, told};
@@ -19,18 +20,6 @@ use moo_memory::Flat;
 use moo_run_lines::Failure;
 use std::alloc::Global;
 use std::io::{Eprint, Read};
-
-/// The word for the dump of a task, if it begins with the world of one.
-pub(crate) fn dump_word<'a>(task: Task<'a>) -> Option<&'a str>
-    ensures { MatchOption result
-        (is_load task.entry.action ≡ false)
-        (λ dump. (is_load task.entry.action ≡ true) × (dump_word task.entry.action ≡ dump.now)) }
-{
-    match task.action {
-        Action::Load { dump } => Some(dump),
-        _ => None,
-    }
-}
 
 /// Says a sentence about a text on standard error. The path is that of the text, if it isn't standard input.
 fn say<C: Eprint>(console: &C, path: Option<&str>, why: &str) {
@@ -123,5 +112,36 @@ pub(crate) fn read_world<C: Eprint, H: BatchFiles, R: Read + Drop>(
     match host.open(dump) {
         Ok(text) => rows_of(alloc, console, Some(dump), text),
         Err(_) => Err(Failure::NoBatches),
+    }
+}
+
+/// The rows of the new world that a task begins with: those of its dump, or none in place of the opening ones. If it isn't a dump, standard
+/// error says why.
+pub(crate) fn find_rows<'s, S: Streams>(
+    session: &mut Session<'s, S>,
+    task: Task<'_>,
+) -> Result<Option<Flat>, Failure>
+    requires read { (path : List ℕ) → ReadsFile task path → S.Host.may_read session.old.host path }
+    ensures finds { FindsRows task.entry.action (⟦<Session<'s, S> as Runs>⟧.run session.old session.new).given result }
+    ensures limit { IfOk result (λ rows. IfSome rows (λ r. r.maps.head.seq < 2 ^ 63)) }
+    ensures good { IfOk result (λ rows. IfSome rows (λ r. IsGood r.maps)) }
+    ensures rests { session.new.host ≡ session.old.host }
+    ensures unwritten { session.new.output ≡ session.old.output }
+    // Only a dump that is `-` is read from the input.
+    ensures other { is_load task.entry.action ≡ false → session.new.input ≡ session.old.input }
+    ensures input { reads_input task.entry ≡ false → session.new.input ≡ session.old.input }
+{
+    match task.action {
+        Action::Load { dump } => {
+            let rows = read_world(
+                session.alloc,
+                session.console,
+                dump,
+                &session.host,
+                &mut session.input,
+            )?;
+            Ok(Some(rows))
+        }
+        _ => Ok(None),
     }
 }

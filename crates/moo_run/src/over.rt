@@ -7,15 +7,16 @@ ghost use Rattle.moo_store_rows.specs.Moment.{Moment};
 ghost use Rattle.moo_store_rows.specs.Place.{Works};
 ghost use Rattle.moo_store.specs.Moves.{Stands};
 ghost use Rattle.moo_store.specs.World.{store_of};
-ghost use Rattle.moo_run.specs.Run.{is_load, dump_word, RunsIn, RunsAnew};
+ghost use Rattle.moo_run.specs.Run.{RunsIn, RunsAnew};
 ghost use Rattle.moo_run.specs.Run.{LeavesNothingNew, ShowsTables, only_reads, reads_input, ReadsFile};
 
 use crate::commands::do_task;
-use crate::loading::{dump_word, read_world};
+use crate::loading::find_rows;
 use crate::session::{Runs, Session, Streams};
 use moo_cli::{Action, Task};
+use moo_files::make_in;
 use moo_run_lines::Failure;
-use moo_store::{World, create_in, load_in};
+use moo_store::World;
 use sqlite::{Alter, Connection};
 
 /// Does what a task says over a World, writes the line of a failure, and hands the connection back. The status is that of
@@ -44,63 +45,6 @@ pub fn run_in<'s, S: Streams, B: Alter + Drop>(
     world.into_connection()
 }
 
-/// Makes the opening world in a connection that has no tables, and does what a task says over it.
-fn run_anew<'s, S: Streams, B: Alter + Drop>(
-    session: &mut Session<'s, S>,
-    conn: Connection<B>,
-    task: Task<'_>,
-) -> Connection<B>
-    requires read { (path : List ℕ) → ReadsFile task path → S.Host.may_read session.old.host path }
-    requires outside { conn.in_transaction ≡ false }
-    requires load { is_load task.action ≡ false }
-    ensures runs { RunsAnew task.entry (⟦<Session<'s, S> as Runs>⟧.run session.old session.new) (state B.Store result) }
-    ensures input { reads_input task.entry ≡ false → session.new.input ≡ session.old.input }
-{
-    match create_in(session.alloc, conn) {
-        Ok(world) => run_in(session, world, task),
-        Err((fault, conn)) => {
-            session.fail(Failure::from(fault));
-            conn
-        }
-    }
-}
-
-/// Makes the world of a dump in a connection that has no tables, and does what the task says over it.
-fn run_loaded<'s, S: Streams, B: Alter + Drop>(
-    session: &mut Session<'s, S>,
-    conn: Connection<B>,
-    dump: &str,
-    task: Task<'_>,
-) -> Connection<B>
-    requires read { (path : List ℕ) → ReadsFile task path → S.Host.may_read session.old.host path }
-    requires outside { conn.in_transaction ≡ false }
-    requires load { is_load task.action ≡ true }
-    requires word { dump_word task.action ≡ dump.now }
-    ensures runs { RunsAnew task.entry (⟦<Session<'s, S> as Runs>⟧.run session.old session.new) (state B.Store result) }
-    ensures input { reads_input task.entry ≡ false → session.new.input ≡ session.old.input }
-{
-    let rows = match read_world(
-        session.alloc,
-        session.console,
-        dump,
-        &session.host,
-        &mut session.input,
-    ) {
-        Ok(rows) => rows,
-        Err(failure) => {
-            session.fail(failure);
-            return conn;
-        }
-    };
-    match load_in(session.alloc, conn, rows) {
-        Ok(world) => run_in(session, world, task),
-        Err((fault, conn)) => {
-            session.fail(Failure::from(fault));
-            conn
-        }
-    }
-}
-
 /// Makes a new world in a connection to any store, which must have no tables, does what a task says over it, writes the line of a failure,
 /// and hands the connection back. The status is that of `run_words`.
 ///
@@ -115,8 +59,18 @@ pub fn run_over<'s, S: Streams, B: Alter + Drop>(
     ensures runs { RunsAnew task.entry (⟦<Session<'s, S> as Runs>⟧.run session.old session.new) (state B.Store result) }
     ensures input { reads_input task.entry ≡ false → session.new.input ≡ session.old.input }
 {
-    match dump_word(task) {
-        Some(dump) => run_loaded(session, conn, dump, task),
-        None => run_anew(session, conn, task),
+    let rows = match find_rows(session, task) {
+        Ok(rows) => rows,
+        Err(failure) => {
+            session.fail(failure);
+            return conn;
+        }
+    };
+    match make_in(session.alloc, conn, rows) {
+        Ok(world) => run_in(session, world, task),
+        Err((fault, conn)) => {
+            session.fail(Failure::from(fault));
+            conn
+        }
     }
 }

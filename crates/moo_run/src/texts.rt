@@ -6,8 +6,7 @@ ghost use Rattle.moo_store_rows.specs.Moment.{Moment};
 ghost use Rattle.moo_store_rows.specs.Place.{Works};
 ghost use Rattle.moo_store.specs.Moves.{Stands};
 ghost use Rattle.moo_run.specs.Texts.{OpenedBy, LacksBy};
-ghost use Rattle.moo_run.specs.Run.{lost_status, course_status, changes_world, EndsText, TellsLack};
-ghost use Rattle.moo_run.specs.declared.texts.Manner.TheVariants.{Apply, Rehearse, Ask};
+ghost use Rattle.moo_run.specs.Run.{lost_status, course_status, changes_world, ComesOf, EndsTask, EndsText, TellsLack};
 
 use crate::host::BatchFiles;
 use crate::session::{Runs, Session, Streams};
@@ -15,6 +14,7 @@ use moo_cli::Options;
 use moo_reasons::StandardNotes;
 use moo_run_lines::{Failure, explain_lost};
 use moo_store::{Course, Tally, World, apply_until, ask_text, rehearse_text};
+use moo_text::TextFault;
 use sqlite::Alter;
 use std::io::{self, Eprint, Read, Write};
 
@@ -47,89 +47,56 @@ fn course_status(course: Course) -> u8
     }
 }
 
-/// Runs the batches of a text. The notes say on standard error why a batch isn't accepted, and the console what to do if the store failed in
-/// one.
-fn apply<C: Eprint, R: Read + Drop, W: Write, B: Alter + Drop>(
+/// Answers the batches of a text in a manner. The notes say on standard error why a batch isn't accepted.
+fn answer_by<C: Eprint, R: Read + Drop, W: Write, B: Alter + Drop>(
     world: &mut World<B>,
     text: R,
-    options: Options,
+    manner: Manner,
     output: &mut W,
-    console: &C,
-    mut notes: StandardNotes<'_, C>,
-) -> Result<u8, Failure>
-    ensures applies { (m : Moment) → Stands B.Store world.old (Works m) → EndsText B.Store world.old world.new
-        (Apply options) m (R.remaining text) (W.contents output.old) (W.contents output.new) result }
-    ensures opened { IfErr result (λ failure. failure ≢ Failure.NoBatches) }
+    notes: &mut StandardNotes<'_, C>,
+) -> Result<Course, TextFault>
+    ensures answers { (m : Moment) → Stands B.Store world.old (Works m) → EndsTask B.Store world.old world.new (λ end.
+        ComesOf manner m end (R.remaining text) (W.contents output.old) (W.contents output.new) result) }
+    ensures still { changes_world manner ≡ false → world.new.connection ≡ world.old.connection }
 {
-    let done = apply_until(text, output, world, options.stop, &mut notes);
-    notes.finish();
-    match done {
-        Ok(course) => {
-            explain_lost(console, course.tally);
-            Ok(course_status(course))
-        }
-        Err(fault) => Err(Failure::from(fault)),
+    match manner {
+        Manner::Apply(options) => apply_until(text, output, world, options.stop, notes),
+        Manner::Rehearse(options) => rehearse_text(text, output, world, options.stop, notes),
+        Manner::Ask => match ask_text(text, output, world, notes) {
+            Ok(tally) => Ok(Course {
+                tally,
+                stopped: false,
+            }),
+            Err(fault) => Err(fault),
+        },
     }
 }
 
-/// Rehearses the batches of a text. The notes say on standard error why a batch isn't accepted.
-fn rehearse<C: Eprint, R: Read + Drop, W: Write, B: Alter + Drop>(
-    world: &mut World<B>,
-    text: R,
-    options: Options,
-    output: &mut W,
-    mut notes: StandardNotes<'_, C>,
-) -> Result<u8, Failure>
-    ensures rehearses { (m : Moment) → Stands B.Store world.old (Works m) → EndsText B.Store world.old world.new
-        (Rehearse options) m (R.remaining text) (W.contents output.old) (W.contents output.new) result }
-    ensures opened { IfErr result (λ failure. failure ≢ Failure.NoBatches) }
-    ensures still { world.new.connection ≡ world.old.connection }
-{
-    let done = rehearse_text(text, output, world, options.stop, &mut notes);
-    notes.finish();
-    match done {
-        Ok(course) => Ok(course_status(course)),
-        Err(fault) => Err(Failure::from(fault)),
-    }
-}
-
-/// Says what the batches of a text would answer. The notes say on standard error why a batch isn't accepted.
-fn ask<C: Eprint, R: Read + Drop, W: Write, B: Alter + Drop>(
-    world: &World<B>,
-    text: R,
-    output: &mut W,
-    mut notes: StandardNotes<'_, C>,
-) -> Result<u8, Failure>
-    ensures asks { (m : Moment) → Stands B.Store world.now (Works m) → EndsText B.Store world.now world.now
-        Ask m (R.remaining text) (W.contents output.old) (W.contents output.new) result }
-    ensures opened { IfErr result (λ failure. failure ≢ Failure.NoBatches) }
-{
-    let done = ask_text(text, output, world, &mut notes);
-    notes.finish();
-    match done {
-        Ok(tally) => Ok(status_after(tally)),
-        Err(fault) => Err(Failure::from(fault)),
-    }
-}
-
-/// Does with the batches of a text what the manner says. The notes say on standard error why a batch isn't accepted.
+/// Does with the batches of a text what the manner says. The notes say on standard error why a batch isn't accepted, and the console what to
+/// do if the store failed in one that was run.
 fn answer_text<C: Eprint, R: Read + Drop, W: Write, B: Alter + Drop>(
     world: &mut World<B>,
     text: R,
     manner: Manner,
     output: &mut W,
     console: &C,
-    notes: StandardNotes<'_, C>,
+    mut notes: StandardNotes<'_, C>,
 ) -> Result<u8, Failure>
     ensures answers { (m : Moment) → Stands B.Store world.old (Works m) → EndsText B.Store world.old world.new
         manner m (R.remaining text) (W.contents output.old) (W.contents output.new) result }
     ensures opened { IfErr result (λ failure. failure ≢ Failure.NoBatches) }
     ensures still { changes_world manner ≡ false → world.new.connection ≡ world.old.connection }
 {
-    match manner {
-        Manner::Apply(options) => apply(world, text, options, output, console, notes),
-        Manner::Rehearse(options) => rehearse(world, text, options, output, notes),
-        Manner::Ask => ask(world, text, output, notes),
+    let done = answer_by(world, text, manner, output, &mut notes);
+    notes.finish();
+    match done {
+        Ok(course) => {
+            if matches!(manner, Manner::Apply(_)) {
+                explain_lost(console, course.tally);
+            }
+            Ok(course_status(course))
+        }
+        Err(fault) => Err(Failure::from(fault)),
     }
 }
 

@@ -1,4 +1,4 @@
-use Rattle.moo_http.{proofs.Words.{◌≡◌, ◌∙◌, Bool, true, false, true≢false, inl, inr, refl, sym, subst, IsLeftUnread, Visited, Visit, MovesBy, traffic_of}, proofs.Going.{moves_as, moves_none, still_none}, proofs.Turns.{unvisited}}
+use Rattle.moo_http.{proofs.Words.{◌≡◌, ◌∙◌, Bool, true, false, true≢false, inl, inr, refl, sym, subst, IsLeftUnread, Visited, Visit, MovesBy, Place, traffic_of}, proofs.Going.{moves_as, moves_none, still_none}, proofs.Turns.{unvisited}}
 use Rattle.moo_http.proofs.listen.serve_next.Goals as goal
 
 by_test : {X : Type 0} (b : Bool) → (b ≡ true → X) → (b ≡ false → X) → X
@@ -11,8 +11,8 @@ returns-clause-turn g c =
     let opened = c.in-Some.connection in
     let was = c.args.world.now in
     let fails = g.A.Reader.Incoming.fails in
-    let Seen = λ from to. Visited (IsLeftUnread fails opened served.new.connection) served.result from to (traffic_of g.A.Reader.Read g.A.Writer.Write opened served.new.connection) in
-    let Turn = λ from to. Visit g.A.Arrivals g.A.Reader.Read fails g.A.Writer.Write served.result c.args.arrivals.now from c.close.new.self to in
+    let Seen = λ (from to : Place). Visited (IsLeftUnread fails opened served.new.connection) served.result from to (traffic_of g.A.Reader.Read g.A.Writer.Write opened served.new.connection) in
+    let Turn = λ (from to : Place). Visit g.A.Arrivals g.A.Reader.Read fails g.A.Writer.Write served.result c.args.arrivals.now from c.close.new.self to in
     by_test opened.is_limited
     (λ is. moves_as g.S.Store was served.new.world Seen Turn
     (λ from to visit. inl (opened, served.new.connection, c.accept.new.self, c.in-Some.ensures, visit, c.close.ensures, (λ none. absurd (true≢false (sym is ∙ none))))) served.ensures.visited)

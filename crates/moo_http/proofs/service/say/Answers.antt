@@ -1,6 +1,5 @@
-use Rattle.moo_http.{proofs.Words.{subst, Appends}, proofs.Connections.{appends_kept, whole_front}}
+use Rattle.moo_http.{proofs.Words.{subst, Appends}, proofs.Connections.{appends_kept, when_ok, whole_front}}
 use Rattle.moo_http.proofs.service.say.Goals as goal
-use Rattle.moo_store.proofs.Running.{when_ok}
 
 pub returns-then-is_err-2-clause-err : goal.returns-then-is_err-2-clause-err
 returns-then-is_err-2-clause-err g c =

@@ -1,6 +1,5 @@
-use Rattle.moo_http.proofs.Words.{[], inl, refl, sym, true≢false, ◌∙◌}
+use Rattle.moo_http.proofs.Words.{[], inl, refl}
 use Rattle.std.proofs.lemmas.Result.{IfOk-weaker}
-use Rattle.moo_http_response.specs.Whys.{whys_shown}
 use Rattle.moo_http.proofs.why.told_answer.Goals as goal
 
 pub returns-then-not-asks_why : goal.returns-then-not-asks_why

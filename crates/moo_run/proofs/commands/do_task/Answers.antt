@@ -4,7 +4,7 @@ use Rattle.moo_run.proofs.commands.do_task.Goals as goal
 
 pub returns-in-Init : goal.returns-in-Init
 returns-in-Init g c = record {
-  ends = λ known s stands. rw c.in-Init.is (by_result _ _ _ _ c.put_text.result (λ status it. unchanged g.B.Store known c.args.world.now s _ (c.leaves.ensures known (Works s) stands) (refl, it.0, it.1)) (λ failure it. unchanged g.B.Store known c.args.world.now s _ (c.leaves.ensures known (Works s) stands) (refl, it)) c.put_text.ensures.done c.put_text.ensures.stops);
+  ends = λ m stands. rw c.in-Init.is (by_result _ _ _ _ c.put_text.result (λ status it. unchanged g.B.Store c.args.world.now m _ stands (λ t is. is, it.0, it.1)) (λ failure it. unchanged g.B.Store c.args.world.now m _ stands (λ t is. is, it)) c.put_text.ensures.done c.put_text.ensures.stops);
   rests = λ other. refl;
   still = λ reads clean trees may. may;
   input = λ other. refl;
@@ -12,9 +12,9 @@ returns-in-Init g c = record {
 
 pub returns-in-Apply : goal.returns-in-Apply
 returns-in-Apply g c = record {
-  ends = λ known s stands.
-      rw c.in-Apply.is (by_either _ _ _ _ c.answer_batches.result (λ status it. it) (λ failure it. ends_map g.B.Store known c.args.world.now c.answer_batches.new.world _ _ (λ end stops. (stops, it.1)) it.0)
-      (with_failure c.answer_batches.result _ _ _ (c.answer_batches.ensures.answers c.open_batches-text.ensures.opened known s stands) (c.answer_batches.ensures.lacks c.open_batches-text.ensures.lacks)));
+  ends = λ m stands.
+      rw c.in-Apply.is (by_either _ _ _ _ c.answer_batches.result (λ status it. it) (λ failure it. ends_map g.B.Store c.args.world.now c.answer_batches.new.world _ _ (λ end stops. (stops, it.1)) it.0)
+      (with_failure c.answer_batches.result _ _ _ (c.answer_batches.ensures.answers c.open_batches-text.ensures.opened m stands) (c.answer_batches.ensures.lacks c.open_batches-text.ensures.lacks)));
   rests = λ other. c.answer_batches.ensures.rests;
   still = rw c.in-Apply.is (λ reads. absurd (true≢false (sym reads)));
   input = rw c.in-Apply.is (c.answer_batches.ensures.input c.open_batches-text.ensures.opened);
@@ -22,9 +22,9 @@ returns-in-Apply g c = record {
 
 pub returns-in-Rehearse : goal.returns-in-Rehearse
 returns-in-Rehearse g c = record {
-  ends = λ known s stands.
-      rw c.in-Rehearse.is (by_either _ _ _ _ c.answer_batches-in-Rehearse.result (λ status it. it) (λ failure it. ends_map g.B.Store known c.args.world.now c.answer_batches-in-Rehearse.new.world _ _ (λ end stops. (stops.0, stops.1, it.1)) it.0)
-      (with_failure c.answer_batches-in-Rehearse.result _ _ _ (c.answer_batches-in-Rehearse.ensures.answers c.open_batches-text-in-Rehearse.ensures.opened known s stands) (c.answer_batches-in-Rehearse.ensures.lacks c.open_batches-text-in-Rehearse.ensures.lacks)));
+  ends = λ m stands.
+      rw c.in-Rehearse.is (by_either _ _ _ _ c.answer_batches-in-Rehearse.result (λ status it. it) (λ failure it. ends_map g.B.Store c.args.world.now c.answer_batches-in-Rehearse.new.world _ _ (λ end stops. (stops.0, stops.1, it.1)) it.0)
+      (with_failure c.answer_batches-in-Rehearse.result _ _ _ (c.answer_batches-in-Rehearse.ensures.answers c.open_batches-text-in-Rehearse.ensures.opened m stands) (c.answer_batches-in-Rehearse.ensures.lacks c.open_batches-text-in-Rehearse.ensures.lacks)));
   rests = λ other. c.answer_batches-in-Rehearse.ensures.rests;
   still = λ reads. subst (λ conn. LeavesNothingNew (store_of g.B.Store c.args.world.now) (state g.B.Store conn)) (sym (c.answer_batches-in-Rehearse.ensures.still refl)) (λ clean trees may. may);
   input = rw c.in-Rehearse.is (c.answer_batches-in-Rehearse.ensures.input c.open_batches-text-in-Rehearse.ensures.opened);
@@ -32,9 +32,9 @@ returns-in-Rehearse g c = record {
 
 pub returns-in-Ask : goal.returns-in-Ask
 returns-in-Ask g c = record {
-  ends = λ known s stands.
-      rw c.in-Ask.is (by_either _ _ _ _ c.answer_batches-in-Ask.result (λ status it. it) (λ failure it. ends_map g.B.Store known c.args.world.now c.answer_batches-in-Ask.new.world _ _ (λ end stops. (stops.0, stops.1, it.1)) it.0)
-      (with_failure c.answer_batches-in-Ask.result _ _ _ (c.answer_batches-in-Ask.ensures.answers c.open_batches-text-in-Ask.ensures.opened known s stands) (c.answer_batches-in-Ask.ensures.lacks c.open_batches-text-in-Ask.ensures.lacks)));
+  ends = λ m stands.
+      rw c.in-Ask.is (by_either _ _ _ _ c.answer_batches-in-Ask.result (λ status it. it) (λ failure it. ends_map g.B.Store c.args.world.now c.answer_batches-in-Ask.new.world _ _ (λ end stops. (stops.0, stops.1, it.1)) it.0)
+      (with_failure c.answer_batches-in-Ask.result _ _ _ (c.answer_batches-in-Ask.ensures.answers c.open_batches-text-in-Ask.ensures.opened m stands) (c.answer_batches-in-Ask.ensures.lacks c.open_batches-text-in-Ask.ensures.lacks)));
   rests = λ other. c.answer_batches-in-Ask.ensures.rests;
   still = λ reads. subst (λ conn. LeavesNothingNew (store_of g.B.Store c.args.world.now) (state g.B.Store conn)) (sym (c.answer_batches-in-Ask.ensures.still refl)) (λ clean trees may. may);
   input = rw c.in-Ask.is (c.answer_batches-in-Ask.ensures.input c.open_batches-text-in-Ask.ensures.opened);
@@ -42,7 +42,7 @@ returns-in-Ask g c = record {
 
 pub returns-in-Dump : goal.returns-in-Dump
 returns-in-Dump g c = record {
-  ends = λ known s stands. rw c.in-Dump.is (by_result _ _ _ _ c.show.result (λ status it. unchanged g.B.Store known c.args.world.now s _ (c.leaves.ensures known (Works s) stands) (refl, it.0, it.1)) (λ failure it. unchanged g.B.Store known c.args.world.now s _ (c.leaves.ensures known (Works s) stands) (refl, it)) (c.show.ensures.done known s stands) (c.show.ensures.stops known s stands));
+  ends = λ m stands. rw c.in-Dump.is (by_result _ _ _ _ c.show.result (λ status it. unchanged g.B.Store c.args.world.now m _ stands (λ t is. is, it.0, it.1)) (λ failure it. unchanged g.B.Store c.args.world.now m _ stands (λ t is. is, it)) (rows_done c m stands) (rows_stops c m stands));
   rests = λ other. refl;
   still = λ reads clean trees may. may;
   input = λ other. refl;
@@ -50,7 +50,7 @@ returns-in-Dump g c = record {
 
 pub returns-in-Load : goal.returns-in-Load
 returns-in-Load g c = record {
-  ends = λ known s stands. rw c.in-Load.is (by_result _ _ _ _ c.show_loaded.result (λ status it. unchanged g.B.Store known c.args.world.now s _ (c.leaves.ensures known (Works s) stands) (refl, it.0, it.1)) (λ failure it. unchanged g.B.Store known c.args.world.now s _ (c.leaves.ensures known (Works s) stands) (refl, it)) (c.show_loaded.ensures.done known s stands) (c.show_loaded.ensures.stops known s stands));
+  ends = λ m stands. rw c.in-Load.is (by_result _ _ _ _ c.show_loaded.result (λ status it. unchanged g.B.Store c.args.world.now m _ stands (λ t is. is, it.0, it.1)) (λ failure it. unchanged g.B.Store c.args.world.now m _ stands (λ t is. is, it)) (loaded_done c m stands) (loaded_stops c m stands));
   rests = λ other. refl;
   still = λ reads clean trees may. may;
   input = λ other. refl;
@@ -58,15 +58,16 @@ returns-in-Load g c = record {
 
 pub returns-in-Check : goal.returns-in-Check
 returns-in-Check g c = record {
-  ends = λ known s stands. rw c.in-Check.is (by_result _ _ _ _ c.check.result (λ status it. stays_at g.B.Store known c.args.world.now c.check.new.world s _ c.check.ensures.crash (c.leaves.ensures known (Works s) stands) (refl, it.1, it.0.0, it.0.1)) (λ failure it. stays_at g.B.Store known c.args.world.now c.check.new.world s _ c.check.ensures.crash (c.leaves.ensures known (Works s) stands) (refl, it)) (both_ok c.check.result _ _ (c.check.ensures.done known s stands) c.check.ensures.shown) (c.check.ensures.stops known s stands));
+  ends = λ m stands. rw c.in-Check.is (c.check.ensures.checks m stands);
+  shown = λ checks. c.check.ensures.shown;
   rests = λ other. refl;
-  still = λ reads clean trees may. elim (c.check.ensures.crash.crash clean trees may) [ inl before ↦ before | inr none ↦ absurd none ];
+  still = λ reads. c.check.ensures.still;
   input = λ other. refl;
 }
 
 pub returns-in-Serve : goal.returns-in-Serve
 returns-in-Serve g c = record {
-  ends = λ known s stands. rw c.in-Serve.is (c.serve.ensures.serves known s stands);
+  ends = λ m stands. rw c.in-Serve.is (c.serve.ensures.serves m stands);
   rests = rw c.in-Serve.is (λ other. absurd (true≢false other));
   still = rw c.in-Serve.is (λ reads. absurd (true≢false (sym reads)));
   input = λ other. c.serve.ensures.input;

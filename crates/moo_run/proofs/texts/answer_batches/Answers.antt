@@ -1,26 +1,24 @@
-use Rattle.moo_run.{proofs.Words.{sym, subst, Works, texts_by, AnswersBy, MayLead, NoBatches}, specs.Run.{StopsAs}, proofs.Tasks.{none_opened, some_opened, never_input, never_lacks, lacks_file, never_opened, unchanged, unmoved}}
+use Rattle.moo_run.{proofs.Words.{sym, subst, texts_by, EndsText, StopsAs, NoBatches}, proofs.Tasks.{none_opened, some_opened, never_input, never_lacks, lacks_file, never_opened, unchanged}}
 use Rattle.moo_run.proofs.texts.answer_batches.Goals as goal
 
 pub returns-in-None-clause-answers : goal.returns-in-None-clause-answers
-returns-in-None-clause-answers g c opened known s stands =
+returns-in-None-clause-answers g c opened m stands =
     let input = g.S.Input.Read.remaining c.args.session.now.input in
-    subst (λ text. AnswersBy g.B.Store known c.args.world.now c.answer_text.new.world c.args.manner s text (g.S.Output.Write.contents c.args.session.now.output) (g.S.Output.Write.contents c.answer_text.new.output) c.answer_text.result)
-    (sym (none_opened g.S.Host.Text.Read.remaining (g.S.Host.BatchFiles.text c.args.session.now.host) c.args.path.now input c.args.text c.in-None.is opened)) (c.answer_text.ensures.answers known s stands)
+    subst (λ text. EndsText g.B.Store c.args.world.now c.answer_text.new.world c.args.manner m text (g.S.Output.Write.contents c.args.session.now.output) (g.S.Output.Write.contents c.answer_text.new.output) c.answer_text.result)
+    (sym (none_opened g.S.Host.Text.Read.remaining (g.S.Host.BatchFiles.text c.args.session.now.host) c.args.path.now input c.args.text c.in-None.is opened)) (c.answer_text.ensures.answers m stands)
 
 pub returns-in-Ok-clause-answers : goal.returns-in-Ok-clause-answers
-returns-in-Ok-clause-answers g c opened known s stands =
+returns-in-Ok-clause-answers g c opened m stands =
     let input = g.S.Input.Read.remaining c.args.session.now.input in
-    subst (λ text. AnswersBy g.B.Store known c.args.world.now c.answer_text-in-Ok.new.world c.args.manner s text (g.S.Output.Write.contents c.args.session.now.output) (g.S.Output.Write.contents c.answer_text-in-Ok.new.output) c.answer_text-in-Ok.result)
-    (sym (some_opened g.S.Host.Text.Read.remaining (g.S.Host.BatchFiles.text c.args.session.now.host) c.args.path.now input c.args.text c.in-Some.opened c.in-Ok.file c.in-Some.is c.in-Ok.is opened)) (c.answer_text-in-Ok.ensures.answers known s stands)
+    subst (λ text. EndsText g.B.Store c.args.world.now c.answer_text-in-Ok.new.world c.args.manner m text (g.S.Output.Write.contents c.args.session.now.output) (g.S.Output.Write.contents c.answer_text-in-Ok.new.output) c.answer_text-in-Ok.result)
+    (sym (some_opened g.S.Host.Text.Read.remaining (g.S.Host.BatchFiles.text c.args.session.now.host) c.args.path.now input c.args.text c.in-Some.opened c.in-Ok.file c.in-Some.is c.in-Ok.is opened)) (c.answer_text-in-Ok.ensures.answers m stands)
 
 pub returns-in-Err-clause-answers : goal.returns-in-Err-clause-answers
-returns-in-Err-clause-answers g c opened known s stands =
+returns-in-Err-clause-answers g c opened m stands =
     let world = c.args.world.now in
     let output = g.S.Output.Write.contents c.args.session.now.output in
     let text = texts_by (g.S.Input.Read.remaining c.args.session.now.input) (g.S.Host.BatchFiles.text c.args.session.now.host) c.args.path.now in
-    unchanged g.B.Store known world s (λ end. StopsAs c.args.manner (MayLead g.B.Store known world world) s end NoBatches text output output) (c.leaves.ensures known (Works s) stands)
-    (never_opened g.B.Store known world c.args.manner s text output
-    (unmoved g.B.Store known world s (g.met.B.Store.settled world.connection.store) c.has_good_rows.ensures stands))
+    unchanged g.B.Store world m (λ end. StopsAs c.args.manner m end NoBatches text output output) stands (never_opened c.args.manner m text output)
 
 pub returns-in-None-clause-input : goal.returns-in-None-clause-input
 returns-in-None-clause-input g c opened other = never_input g.S.Host.Text.Read.remaining (g.S.Host.BatchFiles.text c.args.session.now.host) c.args.path.now c.args.text c.in-None.is opened other

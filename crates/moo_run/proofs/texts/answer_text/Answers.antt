@@ -1,23 +1,23 @@
-use Rattle.moo_run.proofs.Words.{refl, true≢false}
+use Rattle.moo_run.{proofs.Words.{sym, subst, EndsTask, AnswersAs}, proofs.Tasks.{comes_done, comes_stops, ends_map, text_opened}}
 use Rattle.moo_run.proofs.texts.answer_text.Goals as goal
 
-pub returns-in-Apply : goal.returns-in-Apply
-returns-in-Apply g c = record {
-  answers = λ known s stands. rw c.in-Apply.is (c.apply.ensures.applies known s stands);
-  opened = c.apply.ensures.opened;
-  still = rw c.in-Apply.is (λ reads. absurd (true≢false reads));
+pub returns-in-Ok : goal.returns-in-Ok
+returns-in-Ok g c = record {
+  answers = λ m stands.
+      let text = g.R.Read.remaining c.args.text in
+      let old = g.W.Write.contents c.args.output.now in
+      let new = g.W.Write.contents c.answer_by-done.new.output in
+      subst (λ status. EndsTask g.B.Store c.args.world.now c.answer_by-done.new.world (λ end. AnswersAs c.args.manner m end text old new status)) (sym c.course_status.ensures)
+      (ends_map g.B.Store c.args.world.now c.answer_by-done.new.world _ _ (λ end it. comes_done c.args.manner m end text old new c.in-Ok.course it) (c.in-Ok.ensures.answers m stands));
+  opened = tt;
+  still = c.answer_by-done.ensures.still;
 }
 
-pub returns-in-Rehearse : goal.returns-in-Rehearse
-returns-in-Rehearse g c = record {
-  answers = λ known s stands. rw c.in-Rehearse.is (c.rehearse.ensures.rehearses known s stands);
-  opened = c.rehearse.ensures.opened;
-  still = λ reads. c.rehearse.ensures.still;
-}
-
-pub returns-in-Ask : goal.returns-in-Ask
-returns-in-Ask g c = record {
-  answers = λ known s stands. rw c.in-Ask.is (c.ask.ensures.asks known s stands);
-  opened = c.ask.ensures.opened;
-  still = λ reads. refl;
+pub returns-in-Err : goal.returns-in-Err
+returns-in-Err g c = record {
+  answers = λ m stands.
+      ends_map g.B.Store c.args.world.now c.answer_by-done.new.world _ _
+      (λ end it. comes_stops c.args.manner m end (g.R.Read.remaining c.args.text) (g.W.Write.contents c.args.output.now) (g.W.Write.contents c.answer_by-done.new.output) c.in-Err.fault c.from.result c.from.ensures it) (c.in-Err.ensures.answers m stands);
+  opened = text_opened c.in-Err.fault c.from.result c.from.ensures;
+  still = c.answer_by-done.ensures.still;
 }
