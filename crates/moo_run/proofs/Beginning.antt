@@ -60,7 +60,7 @@ keeps_input task dump loads is other = subst (λ word. is_input word ≡ false) 
 -- what comes after a load reads no text
 of_others : (file : Bor (List ℕ)) (action : Action) → is_load action ≡ true → (m : Moment) (run : Run) (others : Given) (Clean : Type 0) → RunsFrom (record { file = file; action = action }) m run Clean → (run.given.ports.rests → others.ports.rests)
     → RunsFrom (record { file = file; action = action }) m (record run { given = others }) Clean
-of_others file (Load dump) loads m run others Clean it on = record { end = it.end; good = it.good; rests = λ other. on (it.rests other); writes = it.writes }
+of_others file (Load dump) loads m run others Clean it on = record { end = it.end; good = it.good; leads = it.leads; rests = λ other. on (it.rests other); writes = it.writes }
 of_others file action loads m run others Clean it on = absurd (true≢false (sym loads))
 
 of_other_texts : (task : Task) → is_load task.action ≡ true → (m : Moment) (run : Run) (others : Given) (Clean : Type 0) → RunsFrom task m run Clean → (run.given.ports.rests → others.ports.rests) → RunsFrom task m (record run { given = others }) Clean

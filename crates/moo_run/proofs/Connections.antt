@@ -52,7 +52,7 @@ module _ {S : Type 0} (g : Ghosts S) (was world : World S) (conn : Held S) (is :
   abbrev pub RunsTo : Option (List ℕ) → ℕ → Type 0
   RunsTo new status = RunsIn (state g conn) task m (Wrote new status)
 
-  pub late_clean : (End : Place → Type 0) → EndsTask g was world End → HasCleanDisk (state g conn) → HasCleanDisk (store_of g was)
+  pub late_clean : (End : Place → Type 0) → EndsTask g was world m End → HasCleanDisk (state g conn) → HasCleanDisk (store_of g was)
   late_clean End it clean = it.clean (subst (λ h. HasCleanDisk (state g h)) is clean)
 
   abbrev pub IsDone : Option (List ℕ) → ℕ → Place → Type 0
@@ -61,15 +61,16 @@ module _ {S : Type 0} (g : Ghosts S) (was world : World S) (conn : Held S) (is :
   abbrev pub IsStopped : Option (List ℕ) → ℕ → Failure → Place → Type 0
   IsStopped new status failure end = StopsTask task.action m end failure (HasCleanDisk (store_of g world)) (Wrote new status)
 
-  pub runs_done : (new : Option (List ℕ)) (status : ℕ) → (serves task.action ≡ false → given.ports.rests) → EndsTask g was world (IsDone new status) → RunsTo new status
-  runs_done new status rests it = subst (λ h. RunsIn (state g h) task m (Wrote new status)) (sym is) (record { end = it.end; good = it.stands.good; rests = rests; writes = inl it.ends }, it.stands.crash)
+  pub runs_done : (new : Option (List ℕ)) (status : ℕ) → (serves task.action ≡ false → given.ports.rests) → EndsTask g was world m (IsDone new status) → RunsTo new status
+  runs_done new status rests it = subst (λ h. RunsIn (state g h) task m (Wrote new status)) (sym is) (record { end = it.end; good = it.stands.good; leads = it.leads; rests = rests; writes = inl it.ends }, it.stands.crash)
 
-  pub runs_stops : (between new : Option (List ℕ)) (failure : Failure) (first status : ℕ) → (serves task.action ≡ false → given.ports.rests) → EndsTask g was world (IsStopped between first failure) → Reports failure between new status
+  pub runs_stops : (between new : Option (List ℕ)) (failure : Failure) (first status : ℕ) → (serves task.action ≡ false → given.ports.rests) → EndsTask g was world m (IsStopped between first failure) → Reports failure between new status
       → RunsTo new status
   runs_stops between new failure first status rests it reports = subst (λ h. RunsIn (state g h) task m (Wrote new status)) (sym is) (
     record {
       end = it.end;
       good = it.stands.good;
+      leads = it.leads;
       rests = rests;
       writes = inr (failure, between, stops_as task.action m it.end failure (HasCleanDisk (store_of g world)) (Wrote between first) status it.ends, reports);
     },
@@ -132,6 +133,7 @@ pub unseen : (task : Task) (m : Moment) (run : Run) (Clean : Type 0) → RunsFro
 unseen task m run Clean it = record {
   end = it.end;
   good = it.good;
+  leads = it.leads;
   rests = it.rests;
   writes = elim it.writes [
     | inl done ↦ inl done

@@ -1,12 +1,16 @@
 -- From what was done to a World to how a task ends.
-use Rattle.moo_run.{proofs.Words.{◌≡◌, ◌≢◌, NoBatches, NoMemory, Read, Write, TooLong, inl, inr, ℕ, Bool, true, false, List, Option, Result, Ok, Err, IfOk, IfErr, OnOk, MatchResult, refl, sym, ap, subst, if◌then◌else◌, codes, bytes_eq, HasCleanDisk, Moment, Place, Works, Failed, LeavesJust, rows_alone, World, store_of, Stands, MovesBy, RunsAt, AsksAt, RehearsesAt, text_failure, Texts, texts_by, None, Some, true≢false, ◌∙◌, lost_status, course_status, AnswersText, AnswersAs, StopsAs, ComesOf, EndsTask, Failure}, specs.Texts.{OpenedBy, LacksBy}, specs.Run.{Steps, TellsLack}, specs.declared.texts.Manner.{Manner}}
+use Rattle.moo_run.{proofs.Words.{◌≡◌, ◌≢◌, NoBatches, NoMemory, Read, Write, TooLong, inl, inr, ℕ, Bool, true, false, List, Option, Result, Ok, Err, IfOk, IfErr, IfSome, IsSome, MatchResult, refl, sym, ap, ap₂, subst, if◌then◌else◌, codes, bytes_eq, HasCleanDisk, State, state_of, Moment, Place, Works, Failed, LeavesJust, rows_alone, state_of_moment, World, store_of, state_in, Stands, MovesBy, RunsAt, AsksAt, RehearsesAt, text_failure, store_failure, checked_line, Texts, texts_by, None, Some, true≢false, ◌∙◌, lost_status, course_status, line_of, AnswersText, AnswersAs, StopsAs, StopsIn, SaysChecked, StopsChecking, ComesOf, EndsTask, Failure}, specs.Texts.{OpenedBy, LacksBy}, specs.Run.{Steps, TellsLack}, specs.declared.texts.Manner.{Manner}}
 use Rattle.moo_run.specs.declared.texts.Manner.TheVariants as manner
 use Rattle.sqlite.{specs.Store.{Ghosts}, specs.Held.{state}}
 use Rattle.moo_text.specs.declared.fault.TextFault.{TextFault}
 use Rattle.std.specs.Prelude.{IsErr}
+use Rattle.std.specs.Io.KnownBytes.{Appends}
 use Rattle.moo_text.specs.declared.fault.TextFault.TheVariants as text_fault
+use Rattle.moo_cells.specs.Shows.{ShowsRows}
+use Rattle.moo_tables_rows.specs.Inside.{Rests, IsCurrent}
+use Rattle.moo_http.{specs.Leading.{LeadsTo}, proofs.Leading.{leads_start, leads_just}}
 use Rattle.moo_store.{specs.declared.course.Course.{Course}, specs.Stopping.{EndsAs}, specs.Runs.{LeavesChecked}}
-use Rattle.moo_store_rows.specs.declared.fault.StoreFault.{StoreFault}
+use Rattle.moo_store_rows.{specs.Checked.{Checks, IsUnchecked}, specs.Current.{unread_of}, specs.Moment.{AllCells}, specs.Opening.{IsOfStore}, specs.declared.fault.StoreFault.{StoreFault}}
 use Rattle.moo_store_rows.specs.declared.fault.StoreFault.TheVariants as store_fault
 
 pub given_input : (batches : List ℕ) (input : Option (List ℕ)) (files : Texts) → bytes_eq batches (codes "-") ≡ true → texts_by input files batches ≡ input
@@ -56,32 +60,97 @@ never_opened manner.Ask m text old = (λ t is. is, inr (refl, refl, refl))
 
 -- ---- what was done to a World
 
-module _ {S : Type 0} (g : Ghosts S) (was world : World S) where
-  pub ends_map : (P Q : Place → Type 0) → ((end : Place) → P end → Q end) → EndsTask g was world P → EndsTask g was world Q
-  ends_map P Q f it = record { end = it.end; clean = it.clean; stands = it.stands; ends = f it.end it.ends }
+module _ {S : Type 0} (g : Ghosts S) (was world : World S) (m : Moment) where
+  pub ends_map : (P Q : Place → Type 0) → ((end : Place) → P end → Q end) → EndsTask g was world m P → EndsTask g was world m Q
+  ends_map P Q f it = record { end = it.end; leads = it.leads; clean = it.clean; stands = it.stands; ends = f it.end it.ends }
 
   -- it was moved
-  pub moved : (m : Moment) (Way : Place → Place → Type 0) → Stands g was (Works m) → MovesBy g was world Way → EndsTask g was world (Way (Works m))
-  moved m Way stands moves =
+  pub moved : (Way : Place → Place → Type 0) → ((to : Place) → Way (Works m) to → LeadsTo m to) → Stands g was (Works m) → MovesBy g was world Way → EndsTask g was world m (Way (Works m))
+  moved Way leads stands moves =
       let it = moves.goes (Works m) stands in
-      record { end = it.0; clean = moves.clean; stands = it.1; ends = it.2 }
+      record { end = it.0; leads = leads it.0 it.2; clean = moves.clean; stands = it.1; ends = it.2 }
 
   -- it failed where it was, with the connection as it was
-  pub failed_there : (m : Moment) (P : Place → Type 0) → world.connection ≡ was.connection → Stands g world (Failed m) → P (Failed m) → EndsTask g was world P
-  failed_there m P same stands p = record { end = Failed m; clean = subst (λ conn. HasCleanDisk (state g conn) → HasCleanDisk (store_of g was)) (sym same) (λ clean. clean); stands = stands; ends = p }
+  pub failed_there : (P : Place → Type 0) → world.connection ≡ was.connection → Stands g world (Failed m) → P (Failed m) → EndsTask g was world m P
+  failed_there P same stands p = record {
+    end = Failed m;
+    leads = leads_just m (Failed m) (λ t is. is);
+    clean = subst (λ conn. HasCleanDisk (state g conn) → HasCleanDisk (store_of g was)) (sym same) (λ clean. clean);
+    stands = stands;
+    ends = p;
+  }
 
 -- it is as it was
-pub unchanged : {S : Type 0} (g : Ghosts S) (world : World S) (m : Moment) (P : Place → Type 0) → Stands g world (Works m) → P (Works m) → EndsTask g world world P
-unchanged g world m P stands p = record { end = Works m; clean = λ clean. clean; stands = stands; ends = p }
+pub unchanged : {S : Type 0} (g : Ghosts S) (world : World S) (m : Moment) (P : Place → Type 0) → Stands g world (Works m) → P (Works m) → EndsTask g world world m P
+unchanged g world m P stands p = record { end = Works m; leads = leads_start m; clean = λ clean. clean; stands = stands; ends = p }
+
+-- its own rows are those of the moment
+at_rows : {S : Type 0} (g : Ghosts S) (world : World S) (m : Moment) → Stands g world (Works m) → state_in world ≡ state_of_moment m
+at_rows g world m stands = ap state_of (stands.rows stands.failed)
+
+-- what was said of its own state is said of the moment
+pub said_by : {S : Type 0} (g : Ghosts S) (world : World S) (m : Moment) (line : State → List ℕ) (old new : Option (List ℕ)) (status : ℕ) → Stands g world (Works m) → Appends old new (line (state_in world)) × (status ≡ 0)
+    → EndsTask g world world m (λ end. LeavesJust m end × Appends old new (line (state_of_moment m)) × (status ≡ 0))
+said_by g world m line old new status stands it = unchanged g world m _ stands (λ t is. is, subst (λ s. Appends old new (line s)) (at_rows g world m stands) it.0, it.1)
+
+pub unsaid_by : {S : Type 0} (g : Ghosts S) (world : World S) (m : Moment) (line : State → List ℕ) (old new : Option (List ℕ)) (failure : Failure) → Stands g world (Works m) → StopsIn (line (state_in world)) failure old new
+    → EndsTask g world world m (λ end. LeavesJust m end × StopsIn (line (state_of_moment m)) failure old new)
+unsaid_by g world m line old new failure stands it = unchanged g world m _ stands (λ t is. is, subst (λ s. StopsIn (line s) failure old new) (at_rows g world m stands) it)
 
 -- a check leaves the moment
-pub checked_just : (m : Moment) (r : Result ℕ StoreFault) (to : Place) → LeavesChecked (Works m) r to → LeavesJust m to
+checked_just : (m : Moment) (r : Result ℕ StoreFault) (to : Place) → LeavesChecked (Works m) r to → LeavesJust m to
 checked_just m (Ok count) to is = subst (LeavesJust m) (sym is) (λ t it. it)
 checked_just m (Err store_fault.OutOfMemory) to is = subst (LeavesJust m) (sym is) (λ t it. it)
 checked_just m (Err (store_fault.Store error)) to is = subst (LeavesJust m) (sym is.1) (λ t it. elim it [ inl same ↦ same | inr same ↦ same ])
 checked_just m (Err (store_fault.Damaged kind key)) to is = subst (LeavesJust m) (sym is.1) (λ t it. elim it [ inl same ↦ same | inr same ↦ same ])
 checked_just m (Err store_fault.NewerVersion) to is = subst (LeavesJust m) (sym is.1) (λ t it. elim it [ inl same ↦ same | inr same ↦ same ])
 checked_just m (Err store_fault.Closed) to is = subst (LeavesJust m) (sym is.1) (λ t it. elim it [ inl same ↦ same | inr same ↦ same ])
+
+some_cells : (m : Moment) → IsSome m.cells → (c : AllCells) × (m.cells ≡ Some c)
+some_cells m some = by m.cells refl some
+  where
+    by : (o : Option AllCells) → m.cells ≡ o → IsSome o → (c : AllCells) × (m.cells ≡ Some c)
+    by None is none = absurd none
+    by (Some c) is some = (c, is)
+
+-- and on a clean disk it finds no damage of known cells
+checked_cause : {S : Type 0} (g : Ghosts S) (was world : World S) (m : Moment) (fault : StoreFault) (to : Place) → Stands g was (Works m) → LeavesChecked (Works m) (Err fault) to → IsUnchecked was.rows.maps (store_of g was) (store_of g world) fault
+    → (HasCleanDisk (store_of g world) → HasCleanDisk (store_of g was)) → IsSome m.cells → HasCleanDisk (store_of g world) → IsOfStore fault
+checked_cause g was world m store_fault.OutOfMemory to stands way checks early some clean = tt
+checked_cause g was world m (store_fault.Store error) to stands way checks early some clean = tt
+checked_cause g was world m fault to stands way checks early some clean =
+    let cells = some_cells m some in
+    let rests = subst (λ o. IfSome o (λ (c : AllCells). Rests (store_of g was) c.tables × IsCurrent c.tables × ShowsRows c.tables m.rows × (unread_of (store_of g was).now.trees ≡ c.unread))) cells.1 (stands.rests (early clean) tt) in
+    checks.whole way.0 clean cells.0.tables rests.0 (subst (ShowsRows cells.0.tables) (sym (stands.rows stands.failed)) rests.2)
+
+module _ {S : Type 0} (g : Ghosts S) (was world : World S) (m : Moment) (stands : Stands g was (Works m)) where
+  -- the line is that of the moment
+  told : (count seq : ℕ) → Checks was.rows.maps (store_of g was) (store_of g world) (Ok count) → seq ≡ (state_in was).seq → checked_line seq count ≡ line_of checked_line (state_of_moment m)
+  told count seq checks number = ap₂ checked_line number checks.count ∙ ap (line_of checked_line) (at_rows g was m stands)
+
+  -- a check was done, and something is said of what it leaves
+  pub after_check : (r : Result ℕ StoreFault) (P : Place → Type 0) → MovesBy g was world (λ from to. LeavesChecked from r to) → ((to : Place) → LeavesChecked (Works m) r to → LeavesJust m to → P to) → EndsTask g was world m P
+  after_check r P moves says =
+      let it = moves.goes (Works m) stands in
+      let just = checked_just m r it.0 it.2 in
+      record { end = it.0; leads = leads_just m it.0 just; clean = moves.clean; stands = it.1; ends = says it.0 it.2 just }
+
+  -- it found a fault
+  pub check_stops : (fault : StoreFault) (failure : Failure) (old : Option (List ℕ)) → failure ≡ store_failure fault → MovesBy g was world (λ from to. LeavesChecked from (Err fault) to) → Checks was.rows.maps (store_of g was) (store_of g world) (Err fault)
+      → EndsTask g was world m (λ end. StopsChecking m end failure (HasCleanDisk (store_of g world)) old old)
+  check_stops fault failure old is moves checks =
+      after_check (Err fault) _ moves (λ to way just. (just, inl (fault, is, checked_cause g was world m fault to stands way checks moves.clean, refl)))
+
+  -- it found none, and the line tells how much there is
+  pub check_says : (count seq : ℕ) (old new : Option (List ℕ)) (status : ℕ) → MovesBy g was world (λ from to. LeavesChecked from (Ok count) to) → Checks was.rows.maps (store_of g was) (store_of g world) (Ok count)
+      → seq ≡ (state_in was).seq → Appends old new (checked_line seq count) × (status ≡ 0) → EndsTask g was world m (λ end. SaysChecked m end old new status)
+  check_says count seq old new status moves checks number said =
+      after_check (Ok count) _ moves (λ to way just. (just, subst (λ line. Appends old new line) (told count seq checks number) said.0, said.1))
+
+  pub check_unsaid : (count seq : ℕ) (old new : Option (List ℕ)) (failure : Failure) → MovesBy g was world (λ from to. LeavesChecked from (Ok count) to) → Checks was.rows.maps (store_of g was) (store_of g world) (Ok count)
+      → seq ≡ (state_in was).seq → StopsIn (checked_line seq count) failure old new → EndsTask g was world m (λ end. StopsChecking m end failure (HasCleanDisk (store_of g world)) old new)
+  check_unsaid count seq old new failure moves checks number said =
+      after_check (Ok count) _ moves (λ to way just. (just, inr (subst (λ line. StopsIn line failure old new) (told count seq checks number) said)))
 
 -- by the result, more of what is known of either
 pub by_result : {A E : Type 0} (P Q : A → Type 0) (R T : E → Type 0) (r : Result A E) → ((a : A) → P a → Q a) → ((e : E) → R e → T e) → IfOk r P → IfErr r R → MatchResult r Q T

@@ -1,5 +1,5 @@
 -- The words that most proofs of this crate share.
-pub use Rattle.std.proofs.Common.{Bool, Bor, Err, IfErr, IfOk, IfSome, IsTrue, List, None, Ok, OnOk, Option, Result, Some, [], ap, arith, codes, false, inl, inr, length, map, refl, string_bytes, subst, subst₂, suc, sym, take, true, zero, ℕ, ◌<◌, ◌^◌, ◌∙◌, ◌≡◌, ◌≢◌, ◌≤◌, ◌⊎◌}
+pub use Rattle.std.proofs.Common.{Bool, Bor, Err, IfErr, IfOk, IfSome, IsTrue, List, None, Ok, OnOk, Option, Result, Some, [], ap, ap₂, arith, codes, false, inl, inr, length, map, refl, string_bytes, subst, subst₂, suc, sym, take, true, zero, ℕ, ◌<◌, ◌^◌, ◌∙◌, ◌≡◌, ◌≢◌, ◌≤◌, ◌⊎◌}
 pub use Rattle.std.proofs.lemmas.Bool.{cases_Bool, false_from_ne_true, true≢false}
 pub use Rattle.std.specs.Prelude.{IsSome, MatchResult, if◌then◌else◌, ⊤, ◌||◌}
 pub use Rattle.std.specs.Str.{bytes_eq}
@@ -25,7 +25,7 @@ pub use Rattle.sqlite_disk.specs.declared.Disk.{Ghosts}
 pub use Rattle.sqlite_wal.specs.Recovery.{Image}
 pub use Rattle.moo_run.specs.Ends.{EndsWith, IsClosedEnd, RanOver, RefusedOver, RunsClosed, RunsFile, RunsOver}
 pub use Rattle.moo_run.specs.Given.{Given, Run, Texts, attended, given_to, texts_by}
-pub use Rattle.moo_run_lines.specs.Lines.{Reports, Tells, load_failure, loaded_line, read_failure, service_failure, store_failure, text_failure}
+pub use Rattle.moo_run_lines.specs.Lines.{Reports, Tells, checked_line, load_failure, loaded_line, read_failure, service_failure, store_failure, text_failure}
 pub use Rattle.moo_run.specs.Run.{AnswersAs, AnswersText, BeginsFrom, BeginsNumbered, BeginsWith, ComesOf, Done, EndsTask, EndsText, FailsAtOnce, FailsToBegin, FindsRows, IsDumpedAs, IsOpening, KeepsInput, LeavesNothingNew, MayRefuse, ReadsFile, RefusesDump, RefusesFile, RunsAction, RunsAnew, RunsFrom, RunsIn, RunsMade, RunsNew, RunsTask, RunsUnseen, SaysChecked, Serving, ShowsTables, StopsAs, StopsChecking, StopsIn, StopsServing, StopsTask, StopsText, course_status, line_of, begins_anew, dump_word, is_input, is_load, lost_status, makes_world, only_reads, reads_input, serves}
 pub use Rattle.moo_run_lines.specs.declared.failure.Failure.{Failure}
 pub use Rattle.moo_run_lines.specs.declared.failure.Failure.TheVariants.{Damaged, NewerVersion, NoBatches, NoMemory, NotADump, Read, Store, TooLong, Write}

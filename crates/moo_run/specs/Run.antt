@@ -261,9 +261,11 @@ StopsTask (Serve service) m end failure Clean run =
 abbrev pub LeavesNothingNew : Database → Database → Type 0
 LeavesNothingNew old new = HasCleanDisk new → (trees : Trees) → new.may_leave trees → old.may_leave trees
 
--- What was done to a World leaves it at a place. If the disk returns what was written, it did so before.
-pub record EndsTask {S : Type 0} (g : Ghosts S) (was world : World S) (End : Place → Type 0) : Type 0 where
+-- What was done to a World at a moment leaves it at a place, to which accepted batches lead. If the disk returns what was written, it did so
+-- before.
+pub record EndsTask {S : Type 0} (g : Ghosts S) (was world : World S) (m : Moment) (End : Place → Type 0) : Type 0 where
   pub end : Place
+  pub leads : LeadsTo m end
   pub clean : HasCleanDisk (store_of g world) → HasCleanDisk (store_of g was)
   pub stands : Stands g world end
   pub ends : End end
@@ -276,20 +278,20 @@ module _ {S : Type 0} (g : Ghosts S) (was world : World S) where
   -- A text of batches was answered over the World, from a moment, to its end or until it stopped; by its status.
   abbrev pub EndsText : Manner → Moment → Option (List ℕ) → Option (List ℕ) → Option (List ℕ) → Result ℕ Failure → Type 0
   EndsText how m text old new r = MatchResult r
-      (λ status. EndsTask g was world (λ end. AnswersAs how m end text old new status))
-      (λ failure. EndsTask g was world (λ end. StopsAs how m end failure text old new))
+      (λ status. EndsTask g was world m (λ end. AnswersAs how m end text old new status))
+      (λ failure. EndsTask g was world m (λ end. StopsAs how m end failure text old new))
 
   -- The tables were tested over the World, from a moment, and a line was written; or that stopped.
   abbrev pub EndsCheck : Moment → Option (List ℕ) → Option (List ℕ) → Result ℕ Failure → Type 0
   EndsCheck m old new r = MatchResult r
-      (λ status. EndsTask g was world (λ end. SaysChecked m end old new status))
-      (λ failure. EndsTask g was world (λ end. StopsChecking m end failure (HasCleanDisk (store_of g world)) old new))
+      (λ status. EndsTask g was world m (λ end. SaysChecked m end old new status))
+      (λ failure. EndsTask g was world m (λ end. StopsChecking m end failure (HasCleanDisk (store_of g world)) old new))
 
   -- A task was done over the World, from a moment, or it stopped; by its status.
   abbrev pub RunsAction : Action → Moment → Run → Result ℕ Failure → Type 0
   RunsAction action m run r = MatchResult r
-      (λ status. EndsTask g was world (λ end. Done action m end (record run { status = status })))
-      (λ failure. EndsTask g was world (λ end. StopsTask action m end failure (HasCleanDisk (store_of g world)) run))
+      (λ status. EndsTask g was world m (λ end. Done action m end (record run { status = status })))
+      (λ failure. EndsTask g was world m (λ end. StopsTask action m end failure (HasCleanDisk (store_of g world)) run))
 
 -- ---- a task over a connection
 

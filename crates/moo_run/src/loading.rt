@@ -1,6 +1,6 @@
 //! The world of a dump.
 
-ghost use Rattle.std.specs.Prelude.{◌≡◌, ◌≢◌, ◌<◌, ◌^◌, ℕ, List, false, length, codes, IfOk, IfErr, IfSome};
+ghost use Rattle.std.specs.Prelude.{◌≡◌, ◌≢◌, ◌<◌, ◌^◌, ℕ, List, true, false, length, codes, IfOk, IfErr, IfSome, MatchOption};
 ghost use Rattle.std.specs.Str.{bytes_eq};
 ghost use Rattle.moo_world.specs.Rows.{IsGood};
 ghost use Rattle.moo_world.specs.Judge.{State, state_of};
@@ -9,7 +9,7 @@ ghost use Rattle.moo_load.specs.OneState.{IsHeld};
 ghost use Rattle.moo_load.specs.RowsOf.{AreRowsOf};
 ghost use Rattle.moo_load.specs.declared.fault.LoadFault.TheVariants.{OutOfMemory};
 ghost use Rattle.moo_run.specs.Given.{texts_by};
-ghost use Rattle.moo_run.specs.Run.{IsDumpedAs, RefusesDump, TellsLack, FindsRows, ReadsFile, is_load, reads_input};
+ghost use Rattle.moo_run.specs.Run.{IsDumpedAs, RefusesDump, TellsLack, FindsRows, ReadsFile, dump_word, is_load, reads_input};
 
 use crate::host::BatchFiles;
 use crate::session::{Runs, Session, Streams};
@@ -20,6 +20,18 @@ use moo_memory::Flat;
 use moo_run_lines::Failure;
 use std::alloc::Global;
 use std::io::{Eprint, Read};
+
+/// The word for the dump of a task, if it begins with the world of one.
+fn dump_word<'a>(task: Task<'a>) -> Option<&'a str>
+    ensures { MatchOption result
+        (is_load task.entry.action ≡ false)
+        (λ dump. (is_load task.entry.action ≡ true) × (dump_word task.entry.action ≡ dump.now)) }
+{
+    match task.action {
+        Action::Load { dump } => Some(dump),
+        _ => None,
+    }
+}
 
 /// Says a sentence about a text on standard error. The path is that of the text, if it isn't standard input.
 fn say<C: Eprint>(console: &C, path: Option<&str>, why: &str) {
@@ -131,17 +143,17 @@ pub(crate) fn find_rows<'s, S: Streams>(
     ensures other { is_load task.entry.action ≡ false → session.new.input ≡ session.old.input }
     ensures input { reads_input task.entry ≡ false → session.new.input ≡ session.old.input }
 {
-    match task.action {
-        Action::Load { dump } => {
-            let rows = read_world(
-                session.alloc,
-                session.console,
-                dump,
-                &session.host,
-                &mut session.input,
-            )?;
-            Ok(Some(rows))
-        }
-        _ => Ok(None),
+    let Some(dump) = dump_word(task) else {
+        return Ok(None);
+    };
+    match read_world(
+        session.alloc,
+        session.console,
+        dump,
+        &session.host,
+        &mut session.input,
+    ) {
+        Ok(rows) => Ok(Some(rows)),
+        Err(failure) => Err(failure),
     }
 }

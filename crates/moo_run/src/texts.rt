@@ -55,7 +55,7 @@ fn answer_by<C: Eprint, R: Read + Drop, W: Write, B: Alter + Drop>(
     output: &mut W,
     notes: &mut StandardNotes<'_, C>,
 ) -> Result<Course, TextFault>
-    ensures answers { (m : Moment) → Stands B.Store world.old (Works m) → EndsTask B.Store world.old world.new (λ end.
+    ensures answers { (m : Moment) → Stands B.Store world.old (Works m) → EndsTask B.Store world.old world.new m (λ end.
         ComesOf manner m end (R.remaining text) (W.contents output.old) (W.contents output.new) result) }
     ensures still { changes_world manner ≡ false → world.new.connection ≡ world.old.connection }
 {

@@ -1,22 +1,19 @@
-use Rattle.moo_run.{proofs.Words.{inl, true, false, image_at, state_of, Run, given_to}, proofs.Held.{ran_onto}, proofs.Connections.{surely, unseen}, proofs.Refusals.{refuses_file, tells_fault, refused_onto, still_held, never_anew}}
+use Rattle.moo_run.{proofs.Words.{inl, refl, image_at, rows_alone, Run, given_to}, proofs.Held.{ran_onto}, proofs.Connections.{unseen}, proofs.Refusals.{refuses_file, tells_fault, refused_onto, still_held, never_anew}}
 use Rattle.moo_run.proofs.files.run_found.Goals as goal
 
 pub returns-in-Ok-clause-runs : goal.returns-in-Ok-clause-runs
 returns-in-Ok-clause-runs g c =
     let world = c.in-Ok.world in
-    let here = state_of world.rows.maps in
     let found = c.in-Ok.ensures.opened in
+    let here = rows_alone world.rows.maps in
     let ran = c.run_in_files.ensures in
     record {
       anew = λ anew. never_anew c.args.task c.requires.other anew;
-      taken = λ s anew. never_anew c.args.task c.requires.other anew;
-      over = λ other held holds clean.
-          ran_onto c.args.task (image_at g.S.File.Start) world c.run_in_files.result _ held holds found.good (c.in-Ok.ensures.opens held holds (ran.clean false here found.stands clean))
-          (λ s stands. surely _ _ _ _ _ _ _ (ran.runs true s stands)) (unseen _ _ _ _ _ _ _ (ran.runs false here found.stands)) (λ reads. ran.still reads clean);
-      sound = λ other clean. found.sound (ran.clean false here found.stands clean);
+      over = λ other held holds clean. ran_onto c.args.task world c.run_in_files.result _ held (c.in-Ok.ensures.opens held holds (ran.clean here found.unseen clean)) ran.runs (λ reads. ran.still reads clean);
+      sound = λ other clean. found.sound (ran.clean here found.unseen clean);
       room = λ anew. never_anew c.args.task c.requires.other anew;
       occupied = λ trees anew. never_anew c.args.task c.requires.other anew;
-      opened = λ other. (world.rows.maps, found.good, unseen _ _ _ _ _ _ _ (ran.runs false here found.stands));
+      opened = λ other. (world.rows.maps, found.unseen.good here refl, unseen c.args.task here _ _ (ran.runs here found.unseen).0);
     }
 
 pub returns-in-Err-clause-runs : goal.returns-in-Err-clause-runs
@@ -29,6 +26,7 @@ returns-in-Err-clause-runs g c =
     let reports = tells_fault fault c.refusal_of-failure.result old new c.fail_to_open.new.self.status c.refusal_of-failure.ensures c.fail_to_open.ensures.reports in
     record {
       anew = λ anew. never_anew c.args.task c.requires.other anew;
+      unfit = λ anew. never_anew c.args.task c.requires.other anew;
       over = λ other held holds clean. refused_onto (image_at g.S.File.Start) fault c.in-Err.remains run held (c.in-Err.ensures.refuses held holds clean) reports;
       opened = λ other. refuses_file fault run reports;
       left = still_held (image_at g.S.File.Start) fault c.in-Err.remains c.in-Err.ensures.refuses;

@@ -9,6 +9,6 @@ returns-in_default-clause-runs g c = record {
 
 pub returns-clause-runs : goal.returns-clause-runs
 returns-clause-runs g c = record {
-  anew = λ anew. new_unseen c.args.task _ _ _ _ _ c.run_over-conn.ensures.runs;
+  anew = λ anew. new_unseen c.args.task _ _ c.run_over-conn.ensures.runs;
   opened = λ other. never_anew c.args.task other c.requires.anew;
 }

@@ -7,8 +7,8 @@ returns-in-Ok g c = record {
       let text = g.R.Read.remaining c.args.text in
       let old = g.W.Write.contents c.args.output.now in
       let new = g.W.Write.contents c.answer_by-done.new.output in
-      subst (λ status. EndsTask g.B.Store c.args.world.now c.answer_by-done.new.world (λ end. AnswersAs c.args.manner m end text old new status)) (sym c.course_status.ensures)
-      (ends_map g.B.Store c.args.world.now c.answer_by-done.new.world _ _ (λ end it. comes_done c.args.manner m end text old new c.in-Ok.course it) (c.in-Ok.ensures.answers m stands));
+      subst (λ status. EndsTask g.B.Store c.args.world.now c.answer_by-done.new.world m (λ end. AnswersAs c.args.manner m end text old new status)) (sym c.course_status.ensures)
+      (ends_map g.B.Store c.args.world.now c.answer_by-done.new.world m _ _ (λ end it. comes_done c.args.manner m end text old new c.in-Ok.course it) (c.in-Ok.ensures.answers m stands));
   opened = tt;
   still = c.answer_by-done.ensures.still;
 }
@@ -16,7 +16,7 @@ returns-in-Ok g c = record {
 pub returns-in-Err : goal.returns-in-Err
 returns-in-Err g c = record {
   answers = λ m stands.
-      ends_map g.B.Store c.args.world.now c.answer_by-done.new.world _ _
+      ends_map g.B.Store c.args.world.now c.answer_by-done.new.world m _ _
       (λ end it. comes_stops c.args.manner m end (g.R.Read.remaining c.args.text) (g.W.Write.contents c.args.output.now) (g.W.Write.contents c.answer_by-done.new.output) c.in-Err.fault c.from.result c.from.ensures it) (c.in-Err.ensures.answers m stands);
   opened = text_opened c.in-Err.fault c.from.result c.from.ensures;
   still = c.answer_by-done.ensures.still;
