@@ -1,6 +1,6 @@
 -- What the answers to a text are, if it stops, and if it is rehearsed.
-use Rattle.moo_store.{proofs.Words.{◌≡◌, Bool, true, false, if◌then◌else◌, List, [], ◌∷◌, ◌++◌, refl, sym, ap, subst, ◌∙◌, Next, Answer, judge, state_behind, reply_of, State, state_of, Maps, Turns, is_plain, says_accepted, AreAccepted, EndAtFirst, up_to_first, replies}, specs.Moves.{RunsAt, state_at}, specs.Rehearsed.{RehearsesAt}, proofs.Following.{turns-follow}, proofs.Standing.{plain_run}}
-use Rattle.moo_store_rows.{specs.Place.{Place, moment_of}}
+use Rattle.moo_store.{proofs.Words.{◌≡◌, Bool, true, false, if◌then◌else◌, List, [], ◌∷◌, ◌++◌, refl, sym, ap, subst, ◌∙◌, Next, Answer, judge, state_behind, reply_of, State, Turns, is_plain, says_accepted, AreAccepted, EndAtFirst, up_to_first, replies}, specs.Moves.{RunsAt, state_at}, specs.Rehearsed.{RehearsesAt}, proofs.Following.{turns-follow}, proofs.Standing.{plain_run}}
+use Rattle.moo_store_rows.specs.Place.{Place}
 use Rattle.std.specs.List.{AllByRecursion}
 use Rattle.moo_text.{specs.declared.next.Next.TheVariants.{Batch as Whole, Malformed, Truncated, End}, specs.declared.reply.Reply.TheVariants.{Accepted, Refused, Full, Stale, NoMemory}}
 use Rattle.moo_text.specs.declared.reply.Answer.TheVariants as answer
@@ -76,6 +76,6 @@ rehearsed_run from to items answers turns =
     let run = turns-follow RehearsesAt RunsAt (λ a b. a ≡ b) (λ was next place batch a same one. (next, refl, subst (λ x. RunsAt x batch a next) same one.0)) from to from items answers refl turns in
     subst (λ end. Turns RunsAt from items answers end) (sym run.1) run.2
 
-pub told_run : (here told from to : Place) (items : List Next) (rehearsed answers : List Answer) → (moment_of here).rows ≡ (moment_of from).rows → Turns RehearsesAt here items rehearsed told → Turns RunsAt from items answers to → ArePlain rehearsed → ArePlain answers → rehearsed ≡ answers
+pub told_run : (here told from to : Place) (items : List Next) (rehearsed answers : List Answer) → state_at here ≡ state_at from → Turns RehearsesAt here items rehearsed told → Turns RunsAt from items answers to → ArePlain rehearsed → ArePlain answers → rehearsed ≡ answers
 told_run here told from to items rehearsed answers same turns run plain also =
-    (plain_run here told items rehearsed (rehearsed_run here told items rehearsed turns) plain).0 ∙ ap (λ (rows : Maps). replies (state_of rows) items) same ∙ sym (plain_run from to items answers run also).0
+    (plain_run here told items rehearsed (rehearsed_run here told items rehearsed turns) plain).0 ∙ ap (λ s. replies s items) same ∙ sym (plain_run from to items answers run also).0
