@@ -23,19 +23,8 @@ CRATES_ARE_TESTED = True
 # A file, and words in it that are right as they are.
 ALLOWED = {
     (".ci/lint/plain_english.py", ""),
-    # How far a World got is its `Stand`.
-    *((f"crates/{file}", word) for word in ("stands", "stood") for file in (
-        "moo_http/specs/Answers.antt",
-        "moo_http/specs/Connections.antt",
-        "moo_http/specs/Serves.antt",
-        "moo_http/src/listen.rt",
-        "moo_http/src/serve.rt",
-        "moo_store/specs/Stand.antt",
-        "moo_store/specs/Text.antt",
-        "moo_store/specs/World.antt",
-        "moo_store/src/world.rt",
-    )),
-    ("crates/moo_run/specs/Run.antt", "a world that stands"),
+    # A World is at a place: it `Stands` there.
+    *(("crates/moo_store/src/world.rt", word) for word in ("stands", "stood")),
 }
 
 PLACES = r"(?:in|at|on|beside|there|here|below|above|under|over|between|round|inside|within)"
