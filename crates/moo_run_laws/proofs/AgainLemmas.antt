@@ -1,5 +1,5 @@
 -- From what a crash left of a run to the next run.
-use Rattle.std.proofs.Common.{◌≡◌, ◌≢◌, ◌⊎◌, ◌∙◌, inl, inr, ℕ, zero, suc, Bool, true, false, List, length, Option, Some, None, IfSome, codes, refl, sym, ap, subst}
+use Rattle.std.proofs.Common.{◌≡◌, ◌≢◌, ◌⊎◌, inl, inr, ℕ, zero, suc, Bool, true, false, List, length, Option, Some, IfSome, codes, refl, sym, ap, subst}
 use Rattle.std.proofs.lemmas.Bool.{true≢false, false_from_ne_true}
 use Rattle.std.specs.Prelude.{◌||◌, IsSome}
 use Rattle.std.specs.Str.{bytes_eq}
@@ -8,14 +8,15 @@ use Rattle.sqlite_wal.specs.Recovery.{Image}
 use Rattle.sqlite_store.specs.declared.store.FileStore.{FileStore}
 use Rattle.sqlite.{specs.State.{State as Database, HasCleanDisk}, specs.Schema.{Schema}, specs.Tree.{Trees}, specs.Held.{Held, AreDatabases}, specs.Files.{IsCleanLeft, file_state}, specs.declared.file.Leftover.{Leftover}}
 use Rattle.sqlite.specs.declared.file.Leftover.TheVariants as left
+use Rattle.moo_rows.specs.Maps.{Maps}
 use Rattle.moo_tables.proofs.SchemaLemmas.{one_schema}
-use Rattle.moo_tables_rows.{specs.declared.version.Version.{Version}, specs.declared.version.Version.TheVariants.{First, Second}, specs.Tables.{schema_of, no_schema}, specs.Inside.{Leaves}}
-use Rattle.moo_store_rows.{specs.Moment.{Moment, AllCells, AreTreesOf, BecomesPresent, IsSpared}, specs.NewTables.{IsMadeOf}, specs.Opening.{AreMigrated}, proofs.Causes.{of_store, says_nothing}}
+use Rattle.moo_tables_rows.{specs.declared.version.Version.{Version}, specs.declared.version.Version.TheVariants.{First, Second}, specs.Tables.{schema_of, no_schema}}
+use Rattle.moo_store_rows.{specs.Moment.{Moment, AllCells, AreTreesOf, BecomesPresent, IsSpared}, specs.Opening.{AreMigrated}, proofs.Causes.{of_store, says_nothing}}
 use Rattle.moo_files.{specs.Contents.{HoldsSuch, HoldsMoment, HoldsEarlier, HasAnyTable, IsLeftBy}, specs.Causes.{HasCauseOver, IsDenied}, specs.Remains.{IsCleanRemains, KeepsSuch}, specs.Closing.{IsLeftOf, IsClosedFrom}, specs.declared.remains.Remains.{Remains}, specs.Stop.{AreNumbered}, specs.Opened.{Database as a_database}}
 use Rattle.moo_files.{proofs.OpenedLemmas.{over_more}, proofs.StopLemmas.{left_by_store, such_by_bytes}}
 use Rattle.moo_files.specs.declared.remains.Remains.TheVariants as remains
 use Rattle.moo_cli.specs.declared.task.Task.{Task}
-use Rattle.moo_run.{specs.Given.{Run}, specs.Run.{makes_world, begins_anew, RunsIn}, specs.Ends.{RefusesTables, FailsFor, RanOver, RefusedOver, EndsWith, RunsOver}, specs.declared.ends.Ends.{Ends}}
+use Rattle.moo_run.{specs.Given.{Run}, specs.Run.{makes_world, begins_anew, BeginsFrom, RunsIn}, specs.Ends.{RefusesTables, FailsFor, RanOver, RefusedOver, EndsWith, RunsOver}, specs.declared.ends.Ends.{Ends}}
 use Rattle.moo_run.specs.declared.ends.Ends.TheVariants as variant
 use Rattle.moo_run_laws.specs.Again.{StartsFrom, TakesUp, IsLeftAfter, IsFoundOf, IsFoundIn}
 
@@ -56,9 +57,12 @@ any_at_moment m trees it none = let c = it.1.0 in some_tables c.tables.version (
 pub known_of : (m : Moment) (c : AllCells) → m.cells ≡ Some c → IsSome m.cells
 known_of m c is = subst (λ (cells : Option AllCells). IsSome cells) (sym is) refl
 
+at_some : {A : Type 0} (P : A → Type 0) (it : Option A) (x : A) → it ≡ Some x → IfSome it P → P x
+at_some P it x is holds = subst (λ (o : Option _). IfSome o P) is holds
+
 pub known_present : (m now : Moment) (trees : Trees) → AreTreesOf m trees → BecomesPresent m now → IsSome now.cells
 known_present m now trees it becomes =
-    let there = subst (λ (cells : Option AllCells). IfSome cells (λ c. (d : AllCells) × (now.cells ≡ Some d) × _)) it.1.1 becomes.1 in
+    let there = at_some _ m.cells it.1.0 it.1.1 becomes.1 in
     known_of now there.0 there.1
 
 module _ {D : Type 0} {g : Ghosts D} where
@@ -67,13 +71,18 @@ module _ {D : Type 0} {g : Ghosts D} where
       → HasCleanDisk (file_state conn) → RanOver task image conn run → ((m : Moment) → IsSome m.cells → RunsIn (file_state conn) task m run → After m) → StartsFrom task image run.given After
   starts_from task image conn run After clean it after = (
     (λ other m holds.
-    let ran = (it.over other (a_database holds.trees) holds.holds clean).runs m holds.such in
-    (ran.0, ran.1, after ran.0 (known_present m ran.0 holds.trees holds.such ran.1) ran.2)),
+        let ran = (it.over other (a_database holds.trees) holds.holds clean).runs m holds.such in
+        (ran.0, ran.1, after ran.0 (known_present m ran.0 holds.trees holds.such ran.1) ran.2)),
     (λ anew.
-    let begun = it.anew anew in
-    let made = begun.2.1 clean in
-    (begun.0, begun.1, made.0, made.1, after made.0 (known_of made.0 _ made.1.are) made.2)),
+        let begun = it.anew anew in
+        let made = begun.2.1 clean in
+        let some = known_of made.0 _ made.1.are in
+        (made.0, some, subst (λ (rows : Maps). BeginsFrom task.action run.given rows) (sym made.1.same) begun.1, after made.0 some made.2)),
   )
+
+-- a database of the moment, or of that to which it was migrated
+abbrev pub KeepsMoment : Moment → Trees → Type 0
+KeepsMoment m trees = (end : Moment) × IsSpared m end × AreTreesOf end trees
 
 -- a moment that is refused was refused for a cause
 pub fails_for : {T D : Type 0} {g : Ghosts D} (path : List ℕ) (image : Image) (rest : Remains T D g) (run : Run) (m : Moment) (holds : HoldsMoment image m) → RefusesTables path holds.such.1.0.tables rest run → FailsFor path image rest run
@@ -142,10 +151,6 @@ module _ {T D : Type 0} {g : Ghosts D} where
   early_clean (remains.Leftover rest) now is clean = subst IsCleanRemains is clean
   early_clean (remains.Connection conn) now (rest, is, copied, closes) clean = (closes (subst IsCleanRemains is clean)).0
   early_clean was now is clean = tt
-
-  -- a database of the moment, or of that to which it was migrated
-  abbrev pub KeepsMoment : Moment → Trees → Type 0
-  KeepsMoment m trees = (end : Moment) × IsSpared m end × AreTreesOf end trees
 
   -- files whose words were refused keep their moment
   pub refused_left : (words : List (List ℕ)) (image : Image) (rest : Remains T D g) (run : Run)

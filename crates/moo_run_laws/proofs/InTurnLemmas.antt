@@ -1,5 +1,5 @@
 -- From one run to a list of runs.
-use Rattle.std.proofs.Common.{◌≡◌, ◌∙◌, inl, inr, ℕ, ◌≤◌, Bool, true, false, List, [], ◌∷◌, ◌++◌, length, refl, sym, ap, subst}
+use Rattle.std.proofs.Common.{◌≡◌, inl, inr, ℕ, ◌+◌, ◌≤◌, Bool, true, false, List, [], ◌∷◌, ◌++◌, length, refl, sym, ap, subst}
 use Rattle.std.specs.List.{filter}
 use Rattle.sqlite_disk.specs.declared.Disk.{Ghosts}
 use Rattle.sqlite_wal.specs.Recovery.{Image}
@@ -13,9 +13,13 @@ use Rattle.moo_laws.specs.NobodyRises.{NoWizardActs, KeepsRights}
 use Rattle.moo_run.{specs.Given.{Run}, specs.Run.{begins_anew, RunsIn}, specs.Ends.{RunsOver}, specs.declared.ends.Ends.{Ends}}
 use Rattle.moo_run.specs.declared.ends.Ends.TheVariants as variant
 use Rattle.moo_run.specs.declared.session.Runs as Runs
-use Rattle.moo_run_laws.{specs.Again.{IfRan}, specs.FileRuns.{FileRun, run_of}, specs.InTurn.{RunInTurn, LeadInTurn}, proofs.AgainLemmas.{any_at_moment, known_present, ran_file}, proofs.LawLemmas.{Found, found_clean, leads_found, goes_by}, proofs.LedLemmas.{led_after, led_alone, led_joins, once, moments_keep}}
+use Rattle.moo_run_laws.{specs.Again.{IfRan}, specs.FileRuns.{FileRun, run_of}, specs.InTurn.{RunInTurn, LeadInTurn}, proofs.AgainLemmas.{any_at_moment, known_present, ran_file}, proofs.LawLemmas.{Found, found_clean, leads_found, goes_by}, proofs.LedLemmas.{counts, led_after, led_alone, led_joins, once, moments_keep}}
 
 -- ---- one run
+
+spared_rows : (m next : Moment) (own : List Batch) → own ≡ [] → IsSpared m next → LeadsByEach (rows_alone m.rows) own (rows_alone next.rows)
+spared_rows m next own none (inl same) = subst (λ all. LeadsByEach (rows_alone m.rows) all (rows_alone next.rows)) (sym none) (ap (λ (x : Moment). rows_alone x.rows) same)
+spared_rows m next own none (inr (earlier, same)) = subst (λ all. LeadsByEach (rows_alone m.rows) all (rows_alone next.rows)) (sym none) (ap rows_alone same)
 
 module _ {T D : Type 0} {g : Ghosts D} where
   -- its batches lead from a moment to the next
@@ -50,10 +54,6 @@ module _ {T D : Type 0} {g : Ghosts D} where
       let it = goes_by words image (variant.NoFile start) closed run next (HoldsMoment next) over found (λ t held. held) m holds in
       (it.0, it.2, [], (refl, it.1))
 
-  spared_rows : (m next : Moment) (own : List Batch) → own ≡ [] → IsSpared m next → LeadsByEach (rows_alone m.rows) own (rows_alone next.rows)
-  spared_rows m next own none (inl same) = subst (λ all. LeadsByEach (rows_alone m.rows) all (rows_alone next.rows)) (sym none) (ap (λ (x : Moment). rows_alone x.rows) same)
-  spared_rows m next own none (inr (earlier, same)) = subst (λ all. LeadsByEach (rows_alone m.rows) all (rows_alone next.rows)) (sym none) (ap rows_alone same)
-
   -- what is said of rows alone doesn't ask for a version
   leads_alone : (words : List (List ℕ)) (ends : Ends T D g) (run : Run) (m : Moment) (own : List Batch) (next : Moment) → Leads words ends run m own next → LeadsByEach (rows_alone m.rows) own (rows_alone next.rows)
   leads_alone words (variant.Ran conn) run m own next (task, named, now, becomes, ran, may, led) = subst (λ (rows : Maps). LeadsByEach (rows_alone rows) own (rows_alone next.rows)) becomes.0 (led_alone now next own led)
@@ -79,6 +79,9 @@ module _ {S T D : Type 0} {g : Runs.Ghosts S T D} {disk : Ghosts D} where
 
   pub in_turn_after : (runs : List (FileRun g disk)) (m end : Moment) (batches : List Batch) → LeadInTurn m runs batches end → state_of_moment end ≡ after (state_of_moment m) batches
   in_turn_after runs m end batches it = led_after (rows_alone m.rows) (rows_alone end.rows) batches (led_in_turn runs m end batches it)
+
+  pub in_turn_counts : (runs : List (FileRun g disk)) (m end : Moment) (batches : List Batch) → LeadInTurn m runs batches end → (state_of_moment end).seq ≡ (state_of_moment m).seq + length batches
+  in_turn_counts runs m end batches it = counts (rows_alone m.rows) (rows_alone end.rows) batches (led_in_turn runs m end batches it)
 
   pub in_turn_once : (runs : List (FileRun g disk)) (m end : Moment) (batches : List Batch) (number : ℕ) → LeadInTurn m runs batches end → length (filter (is_for number) batches) ≤ 1
   in_turn_once runs m end batches number it = once (rows_alone m.rows) (rows_alone end.rows) batches number (led_in_turn runs m end batches it)

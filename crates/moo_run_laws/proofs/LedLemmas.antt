@@ -5,8 +5,9 @@ use Rattle.moo_world.specs.Between.{BatchLeads}
 use Rattle.moo_world.specs.Rows.{IsGood}
 use Rattle.moo_rows.specs.Maps.{Maps}
 use Rattle.moo_store_rows.{specs.Moment.{Moment, AllCells, KeepsCellsAt, state_of_moment, rows_alone, LeadsByEach}, specs.Place.{Place, Works, Failed, Between, MayBeLeft, moment_of}}
+use Rattle.std.proofs.Common.{inl}
 use Rattle.std.specs.List.{filter}
-use Rattle.std.specs.Prelude.{Option, Some, None, IsSome, false, inl, length, if◌then◌else◌}
+use Rattle.std.specs.Prelude.{Option, Some, None, IsSome, false, length, if◌then◌else◌}
 use Rattle.moo_http.specs.Leading.{LeadsTo}
 use Rattle.moo_laws.specs.NobodyRises.{NoWizardActs, KeepsRights}
 use Rattle.moo_laws.proofs.Ranks.{FormedAll, led_batch, rights_kept}
@@ -23,13 +24,20 @@ pub moments_keep : (m end : Moment) (batches : List Batch) → IsGood m.rows →
 moments_keep m end batches good it none =
     subst (λ s. KeepsRights (state_of_moment m) batches s) (sym (led_after m end batches it)) (rights_kept (state_of_moment m) batches (led_formed m end batches good it) none)
 
--- ---- each of them is accepted
+-- ---- each of them is counted, and accepted
 
 one_more : (n : ℕ) → n ≢ n + 1
 one_more n e = omega (arith, e)
 
 counted : (b : Batch) (old new : Maps) → BatchLeads b old new → (state_of new).seq ≡ (state_of old).seq + 1
 counted b old new it = ap (λ (rows : Maps). rows.head.seq) it.2
+
+pub counts : (m end : Moment) (batches : List Batch) → LeadsByEach m batches end → (state_of_moment end).seq ≡ (state_of_moment m).seq + length batches
+counts m end [] it = let same = ap (λ (x : Moment). (state_of_moment x).seq) it in omega (arith, same)
+counts m end (b ∷ bs) (next, one, rest) =
+    let later = counts next end bs rest in
+    let first = counted b m.rows next.rows one.rows in
+    omega (arith, later, first)
 
 led_accepted : (b : Batch) (old new : Maps) → BatchLeads b old new → state_of new ≡ left_by (state_of old) (judge (state_of old) b) → is_accepted (judge (state_of old) b) ≡ true
 led_accepted b old new it state = by (judge (state_of old) b) state

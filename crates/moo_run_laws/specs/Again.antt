@@ -1,5 +1,5 @@
 -- The start of a run over a file, what may be found of the file after the run, and how the next run takes that up.
-use Rattle.std.specs.Prelude.{◌≡◌, ◌<◌, ◌⊎◌, ℕ, true, false, List, length}
+use Rattle.std.specs.Prelude.{◌≡◌, ◌<◌, ◌⊎◌, ℕ, true, false, List, length, IsSome}
 use Rattle.sqlite_disk.specs.declared.Disk.{Ghosts}
 use Rattle.sqlite_store.specs.declared.store.FileStore.{FileStore}
 use Rattle.sqlite_store.specs.FileStore.{recovers}
@@ -10,9 +10,7 @@ use Rattle.sqlite.specs.State.{HasCleanDisk}
 use Rattle.sqlite.specs.Held.{Held}
 use Rattle.sqlite.specs.Files.{file_state, image_of}
 use Rattle.sqlite.specs.declared.file.Leftover.TheVariants as left
-use Rattle.moo_rows.specs.Maps.{Maps}
 use Rattle.moo_store_rows.specs.Moment.{Moment, BecomesPresent}
-use Rattle.moo_store_rows.specs.NewTables.{IsMadeOf}
 use Rattle.moo_files.specs.Contents.{HoldsSuch, HoldsMoment, HasNoSums, IsLeftBy}
 use Rattle.moo_files.specs.Remains.{IsCleanRemains}
 use Rattle.moo_files.specs.Stop.{LeftStoreLeaves, BytesLeave}
@@ -27,11 +25,11 @@ use Rattle.moo_run.specs.declared.ends.Ends.{Ends}
 use Rattle.moo_run.specs.declared.ends.Ends.TheVariants as variant
 
 -- The task starts from a moment of which this is true: from that which its file holds, brought to the present version, if it takes that up;
--- or from that of a new world that it may begin with, each row in its printed cells.
+-- or from that of a new world that it may begin with, whose cells are known.
 abbrev pub StartsFrom : Task → Image → Given → (Moment → Type 0) → Type 0
 StartsFrom task image given From =
     (begins_anew task ≡ false → (m : Moment) → HoldsMoment image m → (now : Moment) × BecomesPresent m now × From now)
-    × (begins_anew task ≡ true → (rows : Maps) × BeginsFrom task.action given rows × (m : Moment) × IsMadeOf rows m × From m)
+    × (begins_anew task ≡ true → (m : Moment) × IsSome m.cells × BeginsFrom task.action given m.rows × From m)
 
 module _ {T D : Type 0} {g : Ghosts D} where
   -- If words name a task that takes up its file, which held this image and this moment, on a clean disk it runs from the moment, brought to

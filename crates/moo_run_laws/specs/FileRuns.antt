@@ -83,5 +83,5 @@ module _ {S T D N U E : Type 0} {g : Runs.Ghosts S T D} {disk : Ghosts D} {h : R
   Follows first next = IsFileRun first × IsFileRun next × IsFoundOnCleanDisk first next.image
 
   -- The first run leads its file to a moment from which the next one goes on.
-  abbrev pub HandsOver : FileRun g disk → FileRun h other → Type 0
-  HandsOver first next = GoesTo first (GoesOnFrom next)
+  pub record HandsOver (first : FileRun g disk) (next : FileRun h other) : Type 0 where
+    pub goes : GoesTo first (GoesOnFrom next)

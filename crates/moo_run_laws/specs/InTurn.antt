@@ -22,7 +22,8 @@ module _ {S T D : Type 0} {g : Runs.Ghosts S T D} {disk : Ghosts D} where
       (run.image ≡ image) × IsFileRun run × (next : Image) × IsFoundOnCleanDisk run next × RunInTurn next runs found
 
   -- The run leads from a moment to the next by these batches, one after another: from that moment, brought to the present version, to one
-  -- that its end may leave. If no task ran over the file there are none, and its moment is kept, or migrated.
+  -- that its end may leave. The accepted batches of a text that it ran are such batches (`turns_lead`). If no task ran over the file there
+  -- are none, and its moment is kept, or migrated.
   abbrev pub LeadsOver : FileRun g disk → Moment → List Batch → Moment → Type 0
   LeadsOver run m batches next = IfRan run.ends
       (λ conn. (task : Task) × NamesTask run.words task × (now : Moment) × BecomesPresent m now

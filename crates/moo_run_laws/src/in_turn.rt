@@ -1,6 +1,6 @@
 //! The law of the program, of any list of runs.
 
-ghost use Rattle.std.specs.Prelude.{◌≡◌, ℕ, ◌≤◌, List, length};
+ghost use Rattle.std.specs.Prelude.{◌≡◌, ◌+◌, ℕ, ◌≤◌, List, length};
 ghost use Rattle.std.specs.List.{filter};
 ghost use Rattle.sqlite_wal.specs.Recovery.{Image};
 ghost use Rattle.moo_world.specs.declared.call.Batch.{Batch};
@@ -22,6 +22,9 @@ pub fn runs_in_turn<S: Runs>()
         HoldsMoment image m → (end : Moment) × HoldsMoment found end × (batches : List Batch) × LeadInTurn m runs batches end }
     ensures state { (runs : List (FileRun S.Runs S.Disk.Disk)) (m end : Moment) (batches : List Batch) →
         LeadInTurn m runs batches end → state_of_moment end ≡ after (state_of_moment m) batches }
+    // Each of these batches is counted.
+    ensures counts { (runs : List (FileRun S.Runs S.Disk.Disk)) (m end : Moment) (batches : List Batch) →
+        LeadInTurn m runs batches end → (state_of_moment end).seq ≡ (state_of_moment m).seq + length batches }
     // Of all batches that they ran, acknowledged or not, one at most is meant for a number: a batch with `at` acts once.
     ensures once { (runs : List (FileRun S.Runs S.Disk.Disk)) (m end : Moment) (batches : List Batch) (number : ℕ) →
         LeadInTurn m runs batches end → length (filter (is_for number) batches) ≤ 1 }

@@ -1,7 +1,9 @@
 //! The law of the program, of any two runs.
 
 ghost use Rattle.std.specs.Prelude.{◌≡◌};
-ghost use Rattle.sqlite.specs.State.{State as Database};
+ghost use Rattle.sqlite.specs.Files.{file_state};
+ghost use Rattle.sqlite.specs.Held.{Held};
+ghost use Rattle.sqlite_store.specs.declared.store.FileStore.{FileStore};
 ghost use Rattle.sqlite_wal.specs.Recovery.{Image};
 ghost use Rattle.moo_cli.specs.declared.task.Task.{Task};
 ghost use Rattle.moo_cli.specs.declared.task.Service.{Service};
@@ -9,9 +11,8 @@ ghost use Rattle.moo_cli.specs.declared.task.Action.TheVariants.{Serve};
 ghost use Rattle.moo_store_rows.specs.Moment.{Moment};
 ghost use Rattle.moo_files.specs.Remains.{IsCleanRemains};
 ghost use Rattle.moo_run.specs.Ends.{IsClosedEnd};
-ghost use Rattle.moo_run.specs.Given.{Run};
 ghost use Rattle.moo_run.specs.Run.{RunsIn};
-ghost use Rattle.moo_run_laws.specs.FileRuns.{FileRun, Follows, HandsOver, IsFoundAfter, ServedTo};
+ghost use Rattle.moo_run_laws.specs.FileRuns.{FileRun, Follows, HandsOver, IsFoundAfter, run_of, ServedTo};
 ghost use Rattle.moo_run_laws.specs.Halted.{EndLeaves};
 
 use moo_run::Runs;
@@ -35,7 +36,8 @@ pub fn ends_are_found<S: Runs>()
 {}
 
 /// A service that ran from a moment ended where its connections led: or its port was refused, and it is where it was.
-pub fn services_end_where_connections_led()
-    ensures served { (store : Database) (task : Task) (service : Service) (m : Moment) (run : Run) → task.action ≡ Serve service →
-        (ran : RunsIn store task m run) → ServedTo run.given.ports service.port m ran.0.end }
+pub fn services_end_where_connections_led<S: Runs>()
+    ensures served { (run : FileRun S.Runs S.Disk.Disk) (conn : Held (FileStore S.Disk S.Disk.Disk)) (task : Task) (service : Service)
+        (m : Moment) → task.action ≡ Serve service → (ran : RunsIn (file_state conn) task m (run_of run)) →
+        ServedTo (run_of run).given.ports service.port m ran.0.end }
 {}
