@@ -23,8 +23,8 @@ pub fn adopt<S: Alter + Drop>(
     mut conn: Connection<S>,
 ) -> Result<World<S>, (StoreFault, Connection<S>)>
     requires outside { (state S.Store conn).in_transaction ≡ false }
-    // Tables of any version that show a world and a number give a World that stands for these, unless the store fails or memory runs
-    // out. Nothing else is opened, and a damage that is answered is that of the tables. A refusal leaves the database as it was.
+    // Tables of any version that show a world and a number give a World that works at these, unless the store fails or memory runs out.
+    // Nothing else is opened, and a damage that is answered is that of the tables. A refusal leaves the database as it was.
     ensures adopts { Adopting S.Store conn result }
 {
     match open_rows(alloc, &mut conn) {

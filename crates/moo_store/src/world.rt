@@ -60,7 +60,7 @@ impl<S: Alter + Drop> World<S> {
     ghost use Rattle.moo_store.specs.World.{store_of, state_in};
     ghost use Rattle.moo_text.specs.declared.reply.Answer.TheVariants as answer;
 
-    /// The World of good rows, over a connection in no transaction. It stands at a moment of these rows that the connection has at rest.
+    /// The World of good rows, over a connection in no transaction. It works at a moment of these rows that the connection has at rest.
     /// `check` tests that: nothing is read or written here. `create_in`, `load_in` and `adopt` make Worlds whose tables do.
     pub fn over(alloc: Global, connection: Connection<S>, rows: Flat) -> World<S>
         requires outside { connection.in_transaction ≡ false }
@@ -113,7 +113,7 @@ impl<S: Alter + Drop> World<S> {
         batch: &Batch,
         witness: &mut N,
     ) -> Result<Reply, StoreFault>
-        // A reply is that of the moment where the World stood, and only an accepted batch leads on from it. If the store failed, it stands
+        // A reply is that of the moment where the World was, and only an accepted batch leads on from it. If the store failed, the World is
         // between two moments.
         ensures moves { MovesBy S.Store self.old self.new (λ from to. RunsAt from batch.now (answer_to result) to) }
         ensures still { IfOk result (λ reply. says_accepted (answer.Replied reply) ≡ false → self.new ≡ self.old) }
