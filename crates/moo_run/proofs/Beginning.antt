@@ -68,7 +68,7 @@ of_other_texts task = of_others task.file task.action
 
 of_others_in : (file : Bor (List ℕ)) (action : Action) → is_load action ≡ true → (store : Database) (m : Moment) (run : Run) (others : Given) → RunsIn store (record { file = file; action = action }) m run → (run.given.ports.rests → others.ports.rests)
     → RunsIn store (record { file = file; action = action }) m (record run { given = others })
-of_others_in file (Load dump) loads store m run others it on = (of_others file (Load dump) loads m run others (HasCleanDisk store) it.0 on, it.1)
+of_others_in file (Load dump) loads store m run others it on = (record { end = it.0.end; good = it.0.good; leads = it.0.leads; rests = λ other. on (it.0.rests other); writes = it.0.writes }, it.1)
 of_others_in file action loads store m run others it on = absurd (true≢false (sym loads))
 
 -- after a new world's rows were found, the input is as it was, or the task reads no text

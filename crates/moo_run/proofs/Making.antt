@@ -47,7 +47,7 @@ module _ {T D : Type 0} {g : Ghosts D} (task : Task) (image : Image) (run : Run)
 
   -- its dump gave none, and no file was opened
   pub ungiven_over : (start : T) (failure : Failure) → IsTrue (is_load task.action) × RefusesTask run.given task.action failure → run.given.ports.rests → Reports failure run.before run.after run.status
-      → RefusedOver {T} {D} {g} task image (remains.Untouched start) run
+      → RefusedOver {T = T} {D = D} {g = g} task image (remains.Untouched start) run
   ungiven_over start failure refused rests reports = record {
     anew = λ _. (failure, inr refused, reports);
     unfit = λ _ openable clean. inr (refused.0, (start, refl), failure, refused.1, reports);

@@ -43,19 +43,19 @@ done_by step stop m end text old new false batches lost whole = inl (batches, lo
 -- by the manner: it came to its end, or to the first answer that isn't `accepted`
 pub comes_done : (how : Manner) (m : Moment) (end : Place) (text old new : Option (List ℕ)) (course : Course) → ComesOf how m end text old new (Ok course) → AnswersAs how m end text old new (course_status course)
 comes_done (manner.Apply options) m end text old new course it = done_by RunsAt options.stop m end text old new course.stopped course.tally.batches course.tally.lost it
-comes_done (manner.Rehearse options) m end text old new course (just, last, it) = (just, last, done_by RehearsesAt options.stop (rows_alone m.rows) last text old new course.stopped course.tally.batches course.tally.lost it)
+comes_done (manner.Rehearse options) m end text old new course (just, (last, it)) = (just, (last, done_by RehearsesAt options.stop (rows_alone m.rows) last text old new course.stopped course.tally.batches course.tally.lost it))
 comes_done manner.Ask m end text old new course (just, it) = (just, done_by AsksAt false m (Works m) text old new course.stopped course.tally.batches course.tally.lost it)
 
 -- or a fault came
 pub comes_stops : (how : Manner) (m : Moment) (end : Place) (text old new : Option (List ℕ)) (fault : TextFault) (failure : Failure) → failure ≡ text_failure fault → ComesOf how m end text old new (Err fault) → StopsAs how m end failure text old new
 comes_stops (manner.Apply options) m end text old new fault failure is it = inl (fault, is, it)
-comes_stops (manner.Rehearse options) m end text old new fault failure is (just, last, it) = (just, last, inl (fault, is, it))
+comes_stops (manner.Rehearse options) m end text old new fault failure is (just, (last, it)) = (just, (last, inl (fault, is, it)))
 comes_stops manner.Ask m end text old new fault failure is (just, it) = (just, inl (fault, is, it))
 
 -- nothing is done with a text whose file can't be opened
 pub never_opened : (how : Manner) (m : Moment) (text old : Option (List ℕ)) → StopsAs how m (Works m) NoBatches text old old
 never_opened (manner.Apply options) m text old = inr (refl, refl, refl)
-never_opened (manner.Rehearse options) m text old = (λ t is. is, Works (rows_alone m.rows), inr (refl, refl, refl))
+never_opened (manner.Rehearse options) m text old = (λ t is. is, (Works (rows_alone m.rows), inr (refl, refl, refl)))
 never_opened manner.Ask m text old = (λ t is. is, inr (refl, refl, refl))
 
 -- ---- what was done to a World
@@ -110,7 +110,7 @@ some_cells : (m : Moment) → IsSome m.cells → (c : AllCells) × (m.cells ≡ 
 some_cells m some = by m.cells refl some
   where
     by : (o : Option AllCells) → m.cells ≡ o → IsSome o → (c : AllCells) × (m.cells ≡ Some c)
-    by None is none = absurd none
+    by None is none = absurd (true≢false (sym none))
     by (Some c) is some = (c, is)
 
 -- and on a clean disk it finds no damage of known cells
@@ -160,10 +160,6 @@ by_result P Q R T (Err e) on_ok on_err p q = on_err e q
 pub by_either : {A E : Type 0} (P Q : A → Type 0) (R T : E → Type 0) (r : Result A E) → ((a : A) → P a → Q a) → ((e : E) → R e → T e) → MatchResult r P R → MatchResult r Q T
 by_either P Q R T (Ok a) on_ok on_err p = on_ok a p
 by_either P Q R T (Err e) on_ok on_err p = on_err e p
-
-pub both_ok : {A E : Type 0} (r : Result A E) (P : A → Type 0) (Q : Type 0) → IfOk r P → OnOk r Q → IfOk r (λ a. P a × Q)
-both_ok (Ok a) P Q p q = (p, q)
-both_ok (Err e) P Q p q = tt
 
 -- ---- a file that can't be opened
 

@@ -1,10 +1,10 @@
 use Rattle.moo_run.{proofs.Words.{refl, sym, true≢false, Works, RunsAt}, proofs.Tasks.{moved, failed_there, unchanged}}
-use Rattle.moo_http.proofs.Leading.{text_leads_to}
+use Rattle.moo_http.proofs.Leading.{leads_start, text_leads_to}
 use Rattle.moo_run.proofs.texts.answer_by.Goals as goal
 
 pub returns-in-Apply : goal.returns-in-Apply
 returns-in-Apply g c = record {
-  answers = λ m stands. rw c.in-Apply.is (moved g.B.Store c.args.world.now c.apply_until.new.world m _ (λ to it. text_leads_to m to it) stands c.apply_until.ensures);
+  answers = λ m stands. rw c.in-Apply.is (moved g.B.Store c.args.world.now c.apply_until.new.world m _ (λ to it. text_leads_to m c.in-Apply.options.stop (Works m) to (g.R.Read.remaining c.args.text) (g.W.Write.contents c.args.output.now) (g.W.Write.contents c.apply_until.new.writer) c.apply_until.result it (leads_start m)) stands c.apply_until.ensures);
   still = rw c.in-Apply.is (λ reads. absurd (true≢false reads));
 }
 
