@@ -145,9 +145,8 @@ pub fn set_property_info<R: Rows>(
     new_name: Option<&MooStr>,
 ) -> Result<Value, Fault>
     requires { IsGood (R.held rows.old).maps }
-    ensures { Does
-        (set_property_info (world_in (R.held rows.old)) programmer x name.now (info_shown info.entry) (option_map (λ n. n.now) new_name.entry))
-        (R.held rows.old) (R.held rows.new) result }
+    ensures { Does (set_property_info (world_in (R.held rows.old)) programmer x name.now (info_shown info.entry)
+        (option_map (λ n. n.now) new_name.entry)) (R.held rows.old) (R.held rows.new) result }
 {
     let (id, bits) = property_to_change(rows, programmer, x, name, info, new_name)?;
     let new = copy_of(alloc, new_name)?;

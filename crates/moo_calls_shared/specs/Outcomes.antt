@@ -24,7 +24,8 @@ ComesTo outcome old new (Err (of_held place reason)) = ⊥
 ComesTo outcome old new (Err NoneLeft) = (outcome ≡ Full) × (new ≡ old)
 ComesTo outcome old new (Err OutOfMemory) = ⊤
 
--- what a call does whose outcome is this: it comes to it, and what it leaves, if it is done, keeps the rows good and all numbers
+-- What a call does whose outcome is this: its answer and its rows are those of the outcome. If it is done, the rows are good ones, what is
+-- beside the world is as it was, and what stays keeps its number.
 pub record Does (outcome : Outcome World) (old new : Held) (result : Result Value Fault) : Type 0 where
   pub comes : ComesTo outcome old new result
   pub kept : OnOk result (Keeps old new)
