@@ -1,13 +1,12 @@
 //! The calls `set_player_flag` and `set_accept`, each of which changes one field of an object.
 
-ghost use Rattle.std.specs.Prelude.{◌≡◌, true, OnOk, [], length, nat_le, unwrap_or};
+ghost use Rattle.std.specs.Prelude.{◌≡◌, true, [], length, nat_le, unwrap_or};
 ghost use Rattle.std.specs.List.{list_all};
 ghost use Rattle.moo_world.specs.Arguments.{fits, is_number};
 ghost use Rattle.moo_world.specs.Calls.{set_accept, set_player_flag, named_call};
 ghost use Rattle.moo_world.specs.declared.name.CallName.TheVariants.{SetPlayerFlag, SetAccept};
-ghost use Rattle.moo_world.specs.Keeps.{Keeps};
 ghost use Rattle.moo_world.specs.Rows.{IsGood};
-ghost use Rattle.moo_calls_shared.specs.Outcomes.{world_in, ComesTo};
+ghost use Rattle.moo_calls_shared.specs.Outcomes.{world_in, Does};
 
 use moo_calls_shared::{Fault, Reason, change_row, object_and_accept, object_and_value, rights};
 use moo_rows::{ObjList, Rows};
@@ -28,9 +27,7 @@ pub fn set_player_flag<R: Rows>(
     value: &Value,
 ) -> Result<Value, Fault>
     requires { IsGood (R.held rows.old).maps }
-    ensures comes { ComesTo (set_player_flag (world_in (R.held rows.old)) programmer x value.now)
-        (R.held rows.old) (R.held rows.new) result }
-    ensures kept { OnOk result (Keeps (R.held rows.old) (R.held rows.new)) }
+    ensures { Does (set_player_flag (world_in (R.held rows.old)) programmer x value.now) (R.held rows.old) (R.held rows.new) result }
 {
     if !valid(rows, x) {
         return Err(Fault::Moo(Reason::NoObject(x)));
@@ -66,8 +63,7 @@ pub fn set_accept<R: Rows>(
 ) -> Result<Value, Fault>
     requires good { IsGood (R.held rows.old).maps }
     requires numbers { list_all is_number (unwrap_or list []) ≡ true }
-    ensures comes { ComesTo (set_accept (world_in (R.held rows.old)) programmer x list) (R.held rows.old) (R.held rows.new) result }
-    ensures kept { OnOk result (Keeps (R.held rows.old) (R.held rows.new)) }
+    ensures { Does (set_accept (world_in (R.held rows.old)) programmer x list) (R.held rows.old) (R.held rows.new) result }
 {
     if !valid(rows, x) {
         return Err(Fault::Moo(Reason::NoObject(x)));
@@ -90,9 +86,7 @@ pub(crate) fn set_player_flag_given<R: Rows>(
     args: &[Value],
 ) -> Result<Value, Fault>
     requires { IsGood (R.held rows.old).maps }
-    ensures comes { ComesTo (named_call (world_in (R.held rows.old)) programmer SetPlayerFlag args.now)
-        (R.held rows.old) (R.held rows.new) result }
-    ensures kept { OnOk result (Keeps (R.held rows.old) (R.held rows.new)) }
+    ensures { Does (named_call (world_in (R.held rows.old)) programmer SetPlayerFlag args.now) (R.held rows.old) (R.held rows.new) result }
 {
     let (x, value) = object_and_value(args)?;
     set_player_flag(rows, alloc, programmer, x, value)
@@ -107,9 +101,7 @@ pub(crate) fn set_accept_given<R: Rows>(
 ) -> Result<Value, Fault>
     requires good { IsGood (R.held rows.old).maps }
     requires fit { list_all fits args.now ≡ true }
-    ensures comes { ComesTo (named_call (world_in (R.held rows.old)) programmer SetAccept args.now)
-        (R.held rows.old) (R.held rows.new) result }
-    ensures kept { OnOk result (Keeps (R.held rows.old) (R.held rows.new)) }
+    ensures { Does (named_call (world_in (R.held rows.old)) programmer SetAccept args.now) (R.held rows.old) (R.held rows.new) result }
 {
     let (x, list) = object_and_accept(alloc, args)?;
     set_accept(rows, alloc, programmer, x, list)

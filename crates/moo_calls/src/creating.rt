@@ -6,7 +6,7 @@ ghost use Rattle.moo_world.specs.Creation.{next_object, owner_or_self};
 ghost use Rattle.moo_world.specs.Quota.{may_afford, charged};
 ghost use Rattle.moo_world.specs.Calls.{create, named_call, unfit_parent};
 ghost use Rattle.moo_world.specs.declared.name.CallName.TheVariants.{Create};
-ghost use Rattle.moo_calls_shared.specs.Outcomes.{world_in, ComesTo};
+ghost use Rattle.moo_calls_shared.specs.Outcomes.{world_in, Does};
 ghost use Rattle.moo_world.specs.Keeps.{Keeps};
 ghost use Rattle.moo_world.specs.Numbers.{IsSameButSlots};
 ghost use Rattle.moo_calls.specs.Quotas.{has_one_left, quota_given};
@@ -99,8 +99,7 @@ pub fn create<R: Rows>(
     owner: ObjNo,
 ) -> Result<Value, Fault>
     requires { IsGood (R.held rows.old).maps }
-    ensures comes { ComesTo (create (world_in (R.held rows.old)) programmer parent owner) (R.held rows.old) (R.held rows.new) result }
-    ensures kept { OnOk result (Keeps (R.held rows.old) (R.held rows.new)) }
+    ensures { Does (create (world_in (R.held rows.old)) programmer parent owner) (R.held rows.old) (R.held rows.new) result }
 {
     if !rights::may_be_parent(rows, programmer, parent) {
         return Err(Fault::Moo(parent_fault(rows, parent)));
@@ -132,9 +131,7 @@ pub(crate) fn create_given<R: Rows>(
     args: &[Value],
 ) -> Result<Value, Fault>
     requires { IsGood (R.held rows.old).maps }
-    ensures comes { ComesTo (named_call (world_in (R.held rows.old)) programmer Create args.now)
-        (R.held rows.old) (R.held rows.new) result }
-    ensures kept { OnOk result (Keeps (R.held rows.old) (R.held rows.new)) }
+    ensures { Does (named_call (world_in (R.held rows.old)) programmer Create args.now) (R.held rows.old) (R.held rows.new) result }
 {
     let (parent, owner) = parent_and_owner(args, programmer)?;
     create(rows, alloc, programmer, parent, owner)

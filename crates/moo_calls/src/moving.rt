@@ -1,11 +1,9 @@
 //! Moving objects from place to place.
 
-ghost use Rattle.std.specs.Prelude.{OnOk};
 ghost use Rattle.moo_world.specs.Calls.{move, named_call};
 ghost use Rattle.moo_world.specs.declared.name.CallName.TheVariants.{Move};
-ghost use Rattle.moo_world.specs.Keeps.{Keeps};
 ghost use Rattle.moo_world.specs.Rows.{IsGood};
-ghost use Rattle.moo_calls_shared.specs.Outcomes.{world_in, ComesTo};
+ghost use Rattle.moo_calls_shared.specs.Outcomes.{world_in, Does};
 
 use moo_calls_shared::{Fault, Reason, accepts, change_row, rights, two_objects};
 use moo_rows::Rows;
@@ -28,8 +26,7 @@ pub fn move_into<R: Rows>(
     destination: ObjNo,
 ) -> Result<Value, Fault>
     requires { IsGood (R.held rows.old).maps }
-    ensures comes { ComesTo (move (world_in (R.held rows.old)) programmer x destination) (R.held rows.old) (R.held rows.new) result }
-    ensures kept { OnOk result (Keeps (R.held rows.old) (R.held rows.new)) }
+    ensures { Does (move (world_in (R.held rows.old)) programmer x destination) (R.held rows.old) (R.held rows.new) result }
 {
     if !valid(rows, x) {
         return Err(Fault::Moo(Reason::NoObject(x)));
@@ -58,8 +55,7 @@ pub(crate) fn move_given<R: Rows>(
     args: &[Value],
 ) -> Result<Value, Fault>
     requires { IsGood (R.held rows.old).maps }
-    ensures comes { ComesTo (named_call (world_in (R.held rows.old)) programmer Move args.now) (R.held rows.old) (R.held rows.new) result }
-    ensures kept { OnOk result (Keeps (R.held rows.old) (R.held rows.new)) }
+    ensures { Does (named_call (world_in (R.held rows.old)) programmer Move args.now) (R.held rows.old) (R.held rows.new) result }
 {
     let (x, destination) = two_objects(args)?;
     move_into(rows, alloc, programmer, x, destination)

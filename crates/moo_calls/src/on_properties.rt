@@ -1,11 +1,10 @@
 //! The calls on properties, by what they are given: a function each, since a proof grows with what a function holds where it may
 //! end early.
 
-ghost use Rattle.std.specs.Prelude.{◌≡◌, true, OnOk};
+ghost use Rattle.std.specs.Prelude.{◌≡◌, true};
 ghost use Rattle.std.specs.List.{list_all};
-ghost use Rattle.moo_calls_shared.specs.Outcomes.{world_in, ComesTo, Answers};
+ghost use Rattle.moo_calls_shared.specs.Outcomes.{world_in, Answers, Does};
 ghost use Rattle.moo_world.specs.Arguments.{fits};
-ghost use Rattle.moo_world.specs.Keeps.{Keeps};
 ghost use Rattle.moo_world.specs.Rows.{IsGood};
 ghost use Rattle.moo_world.specs.Calls.{named_call};
 ghost use Rattle.moo_world.specs.declared.name.CallName.TheVariants.{Get, Properties, PropertyInfo, IsClearProperty, Set};
@@ -82,8 +81,7 @@ pub(crate) fn set<R: Rows>(
 ) -> Result<Value, Fault>
     requires good { IsGood (R.held rows.old).maps }
     requires fit { list_all fits args.now ≡ true }
-    ensures comes { ComesTo (named_call (world_in (R.held rows.old)) programmer Set args.now) (R.held rows.old) (R.held rows.new) result }
-    ensures kept { OnOk result (Keeps (R.held rows.old) (R.held rows.new)) }
+    ensures { Does (named_call (world_in (R.held rows.old)) programmer Set args.now) (R.held rows.old) (R.held rows.new) result }
 {
     let (x, property, value) = object_text_and_value(args)?;
     values::set(rows, alloc, programmer, x, property, value)
@@ -98,9 +96,7 @@ pub(crate) fn add_property<R: Rows>(
 ) -> Result<Value, Fault>
     requires good { IsGood (R.held rows.old).maps }
     requires fit { list_all fits args.now ≡ true }
-    ensures comes { ComesTo (named_call (world_in (R.held rows.old)) programmer AddProperty args.now)
-        (R.held rows.old) (R.held rows.new) result }
-    ensures kept { OnOk result (Keeps (R.held rows.old) (R.held rows.new)) }
+    ensures { Does (named_call (world_in (R.held rows.old)) programmer AddProperty args.now) (R.held rows.old) (R.held rows.new) result }
 {
     let new = new_property(args)?;
     moo_calls_properties::add_property(
@@ -116,9 +112,8 @@ pub(crate) fn delete_property<R: Rows>(
     args: &[Value],
 ) -> Result<Value, Fault>
     requires { IsGood (R.held rows.old).maps }
-    ensures comes { ComesTo (named_call (world_in (R.held rows.old)) programmer DeleteProperty args.now)
+    ensures { Does (named_call (world_in (R.held rows.old)) programmer DeleteProperty args.now)
         (R.held rows.old) (R.held rows.new) result }
-    ensures kept { OnOk result (Keeps (R.held rows.old) (R.held rows.new)) }
 {
     let (x, property) = object_and_text(args)?;
     moo_calls_properties::delete_property(rows, alloc, programmer, x, property)
@@ -132,9 +127,8 @@ pub(crate) fn set_property_info<R: Rows>(
     args: &[Value],
 ) -> Result<Value, Fault>
     requires { IsGood (R.held rows.old).maps }
-    ensures comes { ComesTo (named_call (world_in (R.held rows.old)) programmer SetPropertyInfo args.now)
+    ensures { Does (named_call (world_in (R.held rows.old)) programmer SetPropertyInfo args.now)
         (R.held rows.old) (R.held rows.new) result }
-    ensures kept { OnOk result (Keeps (R.held rows.old) (R.held rows.new)) }
 {
     let new = new_property_info(args)?;
     moo_calls_properties::set_property_info(
@@ -155,9 +149,7 @@ pub(crate) fn clear_property<R: Rows>(
     args: &[Value],
 ) -> Result<Value, Fault>
     requires { IsGood (R.held rows.old).maps }
-    ensures comes { ComesTo (named_call (world_in (R.held rows.old)) programmer ClearProperty args.now)
-        (R.held rows.old) (R.held rows.new) result }
-    ensures kept { OnOk result (Keeps (R.held rows.old) (R.held rows.new)) }
+    ensures { Does (named_call (world_in (R.held rows.old)) programmer ClearProperty args.now) (R.held rows.old) (R.held rows.new) result }
 {
     let (x, property) = object_and_text(args)?;
     moo_calls_properties::clear_property(rows, programmer, x, property)

@@ -1,9 +1,7 @@
 //! The calls on verbs, by what they are given: a function each, since a proof grows with what a function holds where it may
 //! end early.
 
-ghost use Rattle.std.specs.Prelude.{OnOk};
-ghost use Rattle.moo_calls_shared.specs.Outcomes.{world_in, ComesTo, Answers};
-ghost use Rattle.moo_world.specs.Keeps.{Keeps};
+ghost use Rattle.moo_calls_shared.specs.Outcomes.{world_in, Answers, Does};
 ghost use Rattle.moo_world.specs.Rows.{IsGood};
 ghost use Rattle.moo_world.specs.Calls.{named_call};
 ghost use Rattle.moo_world.specs.declared.name.CallName.TheVariants.{Verbs, VerbInfo, VerbArgs, AddVerb};
@@ -65,9 +63,7 @@ pub(crate) fn add_verb<R: Rows>(
     args: &[Value],
 ) -> Result<Value, Fault>
     requires { IsGood (R.held rows.old).maps }
-    ensures comes { ComesTo (named_call (world_in (R.held rows.old)) programmer AddVerb args.now)
-        (R.held rows.old) (R.held rows.new) result }
-    ensures kept { OnOk result (Keeps (R.held rows.old) (R.held rows.new)) }
+    ensures { Does (named_call (world_in (R.held rows.old)) programmer AddVerb args.now) (R.held rows.old) (R.held rows.new) result }
 {
     let new = new_verb(args)?;
     moo_calls_verbs::add_verb(rows, alloc, programmer, new.object, new.verb, new.args)
@@ -81,9 +77,7 @@ pub(crate) fn delete_verb<R: Rows>(
     args: &[Value],
 ) -> Result<Value, Fault>
     requires { IsGood (R.held rows.old).maps }
-    ensures comes { ComesTo (named_call (world_in (R.held rows.old)) programmer DeleteVerb args.now)
-        (R.held rows.old) (R.held rows.new) result }
-    ensures kept { OnOk result (Keeps (R.held rows.old) (R.held rows.new)) }
+    ensures { Does (named_call (world_in (R.held rows.old)) programmer DeleteVerb args.now) (R.held rows.old) (R.held rows.new) result }
 {
     let (x, desc) = object_and_desc(alloc, args)?;
     moo_calls_verbs::delete_verb(rows, programmer, x, &desc)
@@ -97,9 +91,7 @@ pub(crate) fn set_verb_info<R: Rows>(
     args: &[Value],
 ) -> Result<Value, Fault>
     requires { IsGood (R.held rows.old).maps }
-    ensures comes { ComesTo (named_call (world_in (R.held rows.old)) programmer SetVerbInfo args.now)
-        (R.held rows.old) (R.held rows.new) result }
-    ensures kept { OnOk result (Keeps (R.held rows.old) (R.held rows.new)) }
+    ensures { Does (named_call (world_in (R.held rows.old)) programmer SetVerbInfo args.now) (R.held rows.old) (R.held rows.new) result }
 {
     let new = new_verb_info(alloc, args)?;
     moo_calls_verbs::set_verb_info(rows, alloc, programmer, new.object, &new.desc, new.verb)
@@ -113,9 +105,7 @@ pub(crate) fn set_verb_args<R: Rows>(
     args: &[Value],
 ) -> Result<Value, Fault>
     requires { IsGood (R.held rows.old).maps }
-    ensures comes { ComesTo (named_call (world_in (R.held rows.old)) programmer SetVerbArgs args.now)
-        (R.held rows.old) (R.held rows.new) result }
-    ensures kept { OnOk result (Keeps (R.held rows.old) (R.held rows.new)) }
+    ensures { Does (named_call (world_in (R.held rows.old)) programmer SetVerbArgs args.now) (R.held rows.old) (R.held rows.new) result }
 {
     let new = new_verb_args(alloc, args)?;
     moo_calls_verbs::set_verb_args(rows, alloc, programmer, new.object, &new.desc, new.args)

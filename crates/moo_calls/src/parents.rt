@@ -1,11 +1,9 @@
 //! Changes of parent.
 
-ghost use Rattle.std.specs.Prelude.{OnOk};
 ghost use Rattle.moo_world.specs.Calls.{chparent, named_call};
 ghost use Rattle.moo_world.specs.declared.name.CallName.TheVariants.{Chparent};
-ghost use Rattle.moo_world.specs.Keeps.{Keeps};
 ghost use Rattle.moo_world.specs.Rows.{IsGood};
-ghost use Rattle.moo_calls_shared.specs.Outcomes.{world_in, ComesTo};
+ghost use Rattle.moo_calls_shared.specs.Outcomes.{world_in, Does};
 
 use moo_calls_shared::{Fault, Reason, rights, two_objects};
 use moo_props::{reparent, shares_property_name};
@@ -29,8 +27,7 @@ pub fn chparent<R: Rows>(
     new: ObjNo,
 ) -> Result<Value, Fault>
     requires { IsGood (R.held rows.old).maps }
-    ensures comes { ComesTo (chparent (world_in (R.held rows.old)) programmer x new) (R.held rows.old) (R.held rows.new) result }
-    ensures kept { OnOk result (Keeps (R.held rows.old) (R.held rows.new)) }
+    ensures { Does (chparent (world_in (R.held rows.old)) programmer x new) (R.held rows.old) (R.held rows.new) result }
 {
     if !valid(rows, x) {
         return Err(Fault::Moo(Reason::NoObject(x)));
@@ -62,9 +59,7 @@ pub(crate) fn chparent_given<R: Rows>(
     args: &[Value],
 ) -> Result<Value, Fault>
     requires { IsGood (R.held rows.old).maps }
-    ensures comes { ComesTo (named_call (world_in (R.held rows.old)) programmer Chparent args.now)
-        (R.held rows.old) (R.held rows.new) result }
-    ensures kept { OnOk result (Keeps (R.held rows.old) (R.held rows.new)) }
+    ensures { Does (named_call (world_in (R.held rows.old)) programmer Chparent args.now) (R.held rows.old) (R.held rows.new) result }
 {
     let (x, new) = two_objects(args)?;
     chparent(rows, alloc, programmer, x, new)

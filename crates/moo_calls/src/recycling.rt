@@ -1,11 +1,9 @@
 //! The end of an object.
 
-ghost use Rattle.std.specs.Prelude.{OnOk};
 ghost use Rattle.moo_world.specs.Calls.{recycle, named_call};
 ghost use Rattle.moo_world.specs.declared.name.CallName.TheVariants.{Recycle};
-ghost use Rattle.moo_world.specs.Keeps.{Keeps};
 ghost use Rattle.moo_world.specs.Rows.{IsGood};
-ghost use Rattle.moo_calls_shared.specs.Outcomes.{world_in, ComesTo};
+ghost use Rattle.moo_calls_shared.specs.Outcomes.{world_in, Does};
 
 use moo_calls_shared::{Fault, Reason, one_object, rights};
 use moo_props::{drop_object, return_quota};
@@ -26,8 +24,7 @@ pub fn recycle<R: Rows>(
     x: ObjNo,
 ) -> Result<Value, Fault>
     requires { IsGood (R.held rows.old).maps }
-    ensures comes { ComesTo (recycle (world_in (R.held rows.old)) programmer x) (R.held rows.old) (R.held rows.new) result }
-    ensures kept { OnOk result (Keeps (R.held rows.old) (R.held rows.new)) }
+    ensures { Does (recycle (world_in (R.held rows.old)) programmer x) (R.held rows.old) (R.held rows.new) result }
 {
     let owner = match rows.object(x) {
         None => return Err(Fault::Moo(Reason::NoObject(x))),
@@ -49,9 +46,7 @@ pub(crate) fn recycle_given<R: Rows>(
     args: &[Value],
 ) -> Result<Value, Fault>
     requires { IsGood (R.held rows.old).maps }
-    ensures comes { ComesTo (named_call (world_in (R.held rows.old)) programmer Recycle args.now)
-        (R.held rows.old) (R.held rows.new) result }
-    ensures kept { OnOk result (Keeps (R.held rows.old) (R.held rows.new)) }
+    ensures { Does (named_call (world_in (R.held rows.old)) programmer Recycle args.now) (R.held rows.old) (R.held rows.new) result }
 {
     recycle(rows, alloc, programmer, one_object(args)?)
 }

@@ -1,13 +1,12 @@
 //! Setting built-in properties.
 
-ghost use Rattle.std.specs.Prelude.{◌≡◌, true, None, Some, OnOk, if◌then◌else◌};
+ghost use Rattle.std.specs.Prelude.{◌≡◌, true, None, Some, if◌then◌else◌};
 ghost use Rattle.moo_world.specs.Arguments.{fits};
-ghost use Rattle.moo_world.specs.Keeps.{Keeps};
 ghost use Rattle.moo_world.specs.declared.built_in.BuiltIn.TheVariants.{Name};
 ghost use Rattle.moo_world.specs.PropertyCalls.{change_of, may_set, owner_given, owner_is_object, set_built_in, unset_reason};
 ghost use Rattle.moo_world.specs.Rows.{IsGood};
 ghost use Rattle.moo_world.specs.World.{is_object};
-ghost use Rattle.moo_calls_shared.specs.Outcomes.{world_in, ComesTo, TakenOrNot};
+ghost use Rattle.moo_calls_shared.specs.Outcomes.{world_in, TakenOrNot, Does};
 
 use moo_calls_shared::{Fault, Reason, change_row, rights};
 use moo_rows::Rows;
@@ -94,9 +93,7 @@ pub fn set_built_in<R: Rows>(
     requires good { IsGood (R.held rows.old).maps }
     requires there { is_object (world_in (R.held rows.old)) x ≡ true }
     requires fit { fits value.now ≡ true }
-    ensures comes { ComesTo (set_built_in (world_in (R.held rows.old)) programmer x field value.now)
-        (R.held rows.old) (R.held rows.new) result }
-    ensures kept { OnOk result (Keeps (R.held rows.old) (R.held rows.new)) }
+    ensures { Does (set_built_in (world_in (R.held rows.old)) programmer x field value.now) (R.held rows.old) (R.held rows.new) result }
 {
     let change = change_of(alloc, field, value)?;
     if !may_set(rows, programmer, x, field) {

@@ -1,10 +1,9 @@
 //! One call.
 
-ghost use Rattle.std.specs.Prelude.{◌≡◌, true, OnOk};
+ghost use Rattle.std.specs.Prelude.{◌≡◌, true};
 ghost use Rattle.std.specs.List.{list_all};
-ghost use Rattle.moo_calls_shared.specs.Outcomes.{world_in, ComesTo};
+ghost use Rattle.moo_calls_shared.specs.Outcomes.{world_in, Does};
 ghost use Rattle.moo_world.specs.Arguments.{fits};
-ghost use Rattle.moo_world.specs.Keeps.{Keeps};
 ghost use Rattle.moo_world.specs.Rows.{IsGood};
 ghost use Rattle.moo_world.specs.Calls.{world_call, named_call};
 
@@ -26,8 +25,7 @@ fn named_call<R: Rows>(
 ) -> Result<Value, Fault>
     requires good { IsGood (R.held rows.old).maps }
     requires fit { list_all fits args.now ≡ true }
-    ensures comes { ComesTo (named_call (world_in (R.held rows.old)) programmer name args.now) (R.held rows.old) (R.held rows.new) result }
-    ensures kept { OnOk result (Keeps (R.held rows.old) (R.held rows.new)) }
+    ensures { Does (named_call (world_in (R.held rows.old)) programmer name args.now) (R.held rows.old) (R.held rows.new) result }
 {
     match name {
         CallName::Valid => reading::valid(rows, args),
@@ -78,8 +76,7 @@ pub fn step<R: Rows>(
     call: &Call,
 ) -> Result<Value, Fault>
     requires good { IsGood (R.held rows.old).maps }
-    ensures comes { ComesTo (world_call (world_in (R.held rows.old)) programmer call.now) (R.held rows.old) (R.held rows.new) result }
-    ensures kept { OnOk result (Keeps (R.held rows.old) (R.held rows.new)) }
+    ensures { Does (world_call (world_in (R.held rows.old)) programmer call.now) (R.held rows.old) (R.held rows.new) result }
 {
     step_named(rows, alloc, programmer, call.name, call.args.items())
 }
@@ -95,9 +92,8 @@ pub fn step_named<R: Rows>(
 ) -> Result<Value, Fault>
     requires good { IsGood (R.held rows.old).maps }
     requires fit { list_all fits args.now ≡ true }
-    ensures comes { ComesTo (world_call (world_in (R.held rows.old)) programmer (record { name = name; args = args.now }))
+    ensures { Does (world_call (world_in (R.held rows.old)) programmer (record { name = name; args = args.now }))
         (R.held rows.old) (R.held rows.new) result }
-    ensures kept { OnOk result (Keeps (R.held rows.old) (R.held rows.new)) }
 {
     if !valid(rows, programmer) {
         return Err(Fault::Moo(Reason::NoProgrammer));

@@ -1,9 +1,8 @@
 //! Reading and setting properties, built-in ones and others.
 
-ghost use Rattle.std.specs.Prelude.{◌≡◌, true, OnOk};
-ghost use Rattle.moo_calls_shared.specs.Outcomes.{world_in, Answers, ComesTo};
+ghost use Rattle.std.specs.Prelude.{◌≡◌, true};
+ghost use Rattle.moo_calls_shared.specs.Outcomes.{world_in, Answers, Does};
 ghost use Rattle.moo_world.specs.Arguments.{fits};
-ghost use Rattle.moo_world.specs.Keeps.{Keeps};
 ghost use Rattle.moo_world.specs.PropertyCalls.{get, set};
 ghost use Rattle.moo_world.specs.Rows.{IsGood};
 
@@ -52,8 +51,7 @@ pub fn set<R: Rows>(
 ) -> Result<Value, Fault>
     requires good { IsGood (R.held rows.old).maps }
     requires fit { fits value.now ≡ true }
-    ensures comes { ComesTo (set (world_in (R.held rows.old)) programmer x name.now value.now) (R.held rows.old) (R.held rows.new) result }
-    ensures kept { OnOk result (Keeps (R.held rows.old) (R.held rows.new)) }
+    ensures { Does (set (world_in (R.held rows.old)) programmer x name.now value.now) (R.held rows.old) (R.held rows.new) result }
 {
     if !valid(rows, x) {
         return Err(Fault::Moo(Reason::NoTarget(x)));

@@ -1,10 +1,9 @@
 //! Clear properties, which have no value of their own.
 
-ghost use Rattle.std.specs.Prelude.{◌≡◌, OnOk};
-ghost use Rattle.moo_world.specs.Keeps.{Keeps};
+ghost use Rattle.std.specs.Prelude.{◌≡◌};
 ghost use Rattle.moo_world.specs.PropertyCalls.{clear_property, is_clear, is_clear_property};
 ghost use Rattle.moo_world.specs.Rows.{IsGood};
-ghost use Rattle.moo_calls_shared.specs.Outcomes.{world_in, Answers, ComesTo};
+ghost use Rattle.moo_calls_shared.specs.Outcomes.{world_in, Answers, Does};
 
 use crate::slots::{readable_slot, writable_slot};
 use moo_calls_shared::{Fault, Reason};
@@ -55,8 +54,7 @@ pub fn clear_property<R: Rows>(
     name: &MooStr,
 ) -> Result<Value, Fault>
     requires { IsGood (R.held rows.old).maps }
-    ensures comes { ComesTo (clear_property (world_in (R.held rows.old)) programmer x name.now) (R.held rows.old) (R.held rows.new) result }
-    ensures kept { OnOk result (Keeps (R.held rows.old) (R.held rows.new)) }
+    ensures { Does (clear_property (world_in (R.held rows.old)) programmer x name.now) (R.held rows.old) (R.held rows.new) result }
 {
     if !valid(rows, x) {
         return Err(Fault::Moo(Reason::NoObject(x)));

@@ -6,7 +6,6 @@ ghost use Rattle.moo_rows.specs.declared.row.Bits.{Bits};
 ghost use Rattle.moo_rows.specs.declared.row.SlotState.TheVariants.{Set};
 ghost use Rattle.moo_value.specs.declared.value.Value.{Value};
 ghost use Rattle.moo_world.specs.Arguments.{fits};
-ghost use Rattle.moo_world.specs.Keeps.{Keeps};
 ghost use Rattle.moo_world.specs.PropertyCalls.{add_property, defines_name, may_define, undefined_reason};
 ghost use Rattle.moo_world.specs.Rows.{IsGood};
 ghost use Rattle.moo_world.specs.Objects.{folded};
@@ -15,7 +14,7 @@ ghost use Rattle.moo_world.specs.Outcomes.{Outcome, Done, fails};
 ghost use Rattle.moo_world.specs.Changes.{property_added};
 ghost use Rattle.moo_world.specs.World.{World, is_object, is_property_name};
 ghost use Rattle.moo_props.specs.Names.{defines as defines_property, name_of};
-ghost use Rattle.moo_calls_shared.specs.Outcomes.{world_in, ComesTo, Answers};
+ghost use Rattle.moo_calls_shared.specs.Outcomes.{world_in, Answers, Does};
 ghost use Rattle.moo_calls_properties.specs.Checks.{taking_property_info};
 ghost use Rattle.moo_calls_shared.specs.Shown.{info_shown};
 
@@ -158,9 +157,8 @@ pub fn add_property<R: Rows>(
 ) -> Result<Value, Fault>
     requires good { IsGood (R.held rows.old).maps }
     requires fit { fits value.now ≡ true }
-    ensures comes { ComesTo (add_property (world_in (R.held rows.old)) programmer x name.now value.now
-        (info_shown info.entry)) (R.held rows.old) (R.held rows.new) result }
-    ensures kept { OnOk result (Keeps (R.held rows.old) (R.held rows.new)) }
+    ensures { Does (add_property (world_in (R.held rows.old)) programmer x name.now value.now (info_shown info.entry))
+        (R.held rows.old) (R.held rows.new) result }
 {
     let bits = bits_to_define(rows, programmer, x, name, info)?;
     let name = name.copy(alloc)?;

@@ -1,10 +1,8 @@
 //! The end of a property.
 
-ghost use Rattle.std.specs.Prelude.{OnOk};
-ghost use Rattle.moo_world.specs.Keeps.{Keeps};
 ghost use Rattle.moo_world.specs.PropertyCalls.{delete_property};
 ghost use Rattle.moo_world.specs.Rows.{IsGood};
-ghost use Rattle.moo_calls_shared.specs.Outcomes.{world_in, ComesTo};
+ghost use Rattle.moo_calls_shared.specs.Outcomes.{world_in, Does};
 
 use crate::definitions::own_property;
 use moo_calls_shared::{Fault, Reason, rights};
@@ -27,9 +25,7 @@ pub fn delete_property<R: Rows>(
     name: &MooStr,
 ) -> Result<Value, Fault>
     requires { IsGood (R.held rows.old).maps }
-    ensures comes { ComesTo (delete_property (world_in (R.held rows.old)) programmer x name.now) (R.held rows.old)
-        (R.held rows.new) result }
-    ensures kept { OnOk result (Keeps (R.held rows.old) (R.held rows.new)) }
+    ensures { Does (delete_property (world_in (R.held rows.old)) programmer x name.now) (R.held rows.old) (R.held rows.new) result }
 {
     if !valid(rows, x) {
         return Err(Fault::Moo(Reason::NoObject(x)));

@@ -12,7 +12,7 @@ ghost use Rattle.moo_world.specs.PropertyCalls.{may_rename, renamed_to, set_prop
 ghost use Rattle.moo_world.specs.Rights.{is_wizard};
 ghost use Rattle.moo_world.specs.Rows.{world_of, IsGood};
 ghost use Rattle.moo_props.specs.Names.{name_of, spelling_of};
-ghost use Rattle.moo_calls_shared.specs.Outcomes.{world_in, ComesTo, Answers};
+ghost use Rattle.moo_calls_shared.specs.Outcomes.{world_in, Answers, Does};
 ghost use Rattle.moo_calls_shared.specs.Shown.{info_shown};
 
 use crate::definitions::{bits_taken, defines, may_define};
@@ -145,9 +145,8 @@ pub fn set_property_info<R: Rows>(
     new_name: Option<&MooStr>,
 ) -> Result<Value, Fault>
     requires { IsGood (R.held rows.old).maps }
-    ensures comes { ComesTo (set_property_info (world_in (R.held rows.old)) programmer x name.now (info_shown info.entry)
+    ensures { Does (set_property_info (world_in (R.held rows.old)) programmer x name.now (info_shown info.entry)
         (option_map (λ n. n.now) new_name.entry)) (R.held rows.old) (R.held rows.new) result }
-    ensures kept { OnOk result (Keeps (R.held rows.old) (R.held rows.new)) }
 {
     let (id, bits) = property_to_change(rows, programmer, x, name, info, new_name)?;
     let new = copy_of(alloc, new_name)?;

@@ -1,8 +1,9 @@
 -- What the outcome of a call is on rows.
-use Rattle.std.specs.Prelude.{◌≡◌, Result, Ok, Err, ⊤}
+use Rattle.std.specs.Prelude.{◌≡◌, Result, Ok, Err, OnOk, ⊤}
 use Rattle.moo_value.specs.declared.code.Code.{Code}
 use Rattle.moo_value.specs.declared.value.Value.{Value}
 use Rattle.moo_rows.specs.Maps.{Held}
+use Rattle.moo_world.specs.Keeps.{Keeps}
 use Rattle.moo_world.specs.World.{World}
 use Rattle.moo_world.specs.Rows.{world_of}
 use Rattle.moo_world.specs.declared.reason.Reason.{Reason}
@@ -23,7 +24,13 @@ ComesTo outcome old new (Err (of_held place reason)) = ⊥
 ComesTo outcome old new (Err NoneLeft) = (outcome ≡ Full) × (new ≡ old)
 ComesTo outcome old new (Err OutOfMemory) = ⊤
 
--- the same of a call that only reads
+-- What a call does whose outcome is this: its answer and its rows are those of the outcome. If it is done, the rows are good ones, what is
+-- beside the world is as it was, and what stays keeps its number.
+pub record Does (outcome : Outcome World) (old new : Held) (result : Result Value Fault) : Type 0 where
+  pub comes : ComesTo outcome old new result
+  pub kept : OnOk result (Keeps old new)
+
+-- what a call answers that only reads
 abbrev pub Answers : Outcome World → Held → Result Value Fault → Type 0
 Answers outcome rows result = ComesTo outcome rows rows result
 

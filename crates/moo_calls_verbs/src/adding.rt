@@ -10,8 +10,7 @@ ghost use Rattle.moo_world.specs.Directories.{verb_added};
 ghost use Rattle.moo_world.specs.Outcomes.{Outcome, Done, fails};
 ghost use Rattle.moo_world.specs.VerbReading.{args_of};
 ghost use Rattle.moo_world.specs.VerbCalls.{add_verb};
-ghost use Rattle.moo_world.specs.Keeps.{Keeps};
-ghost use Rattle.moo_calls_shared.specs.Outcomes.{world_in, ComesTo, Answers};
+ghost use Rattle.moo_calls_shared.specs.Outcomes.{world_in, Answers, Does};
 ghost use Rattle.moo_calls_verbs.specs.Checks.{taking_verb_info};
 ghost use Rattle.moo_calls_shared.specs.Shown.{info_shown, args_shown};
 
@@ -115,10 +114,9 @@ pub fn add_verb<R: Rows>(
     args: ArgTexts<'_>,
 ) -> Result<Value, Fault>
     requires { IsGood (R.held rows.old).maps }
-    ensures comes { ComesTo
+    ensures { Does
         (add_verb (world_in (R.held rows.old)) programmer x (info_shown verb.entry.info) verb.entry.names.now (args_shown args.entry))
         (R.held rows.old) (R.held rows.new) result }
-    ensures kept { OnOk result (Keeps (R.held rows.old) (R.held rows.new)) }
 {
     let (bits, args) = verb_taken(rows, programmer, x, verb, args)?;
     let row = VerbRow {

@@ -6,8 +6,7 @@ ghost use Rattle.moo_rows.specs.declared.row.VerbId.{VerbId};
 ghost use Rattle.moo_world.specs.Descriptors.{found_verb};
 ghost use Rattle.moo_world.specs.Rows.{IsGood};
 ghost use Rattle.moo_world.specs.VerbCalls.{delete_verb, set_verb_info, set_verb_args};
-ghost use Rattle.moo_world.specs.Keeps.{Keeps};
-ghost use Rattle.moo_calls_shared.specs.Outcomes.{world_in, ComesTo};
+ghost use Rattle.moo_calls_shared.specs.Outcomes.{world_in, Does};
 ghost use Rattle.moo_verbs.specs.Places.{verb_place};
 ghost use Rattle.moo_calls_shared.specs.Shown.{info_shown, args_shown};
 
@@ -31,8 +30,7 @@ pub fn delete_verb<R: Rows>(
     desc: &Desc,
 ) -> Result<Value, Fault>
     requires { IsGood (R.held rows.old).maps }
-    ensures comes { ComesTo (delete_verb (world_in (R.held rows.old)) programmer x desc.now) (R.held rows.old) (R.held rows.new) result }
-    ensures kept { OnOk result (Keeps (R.held rows.old) (R.held rows.new)) }
+    ensures does { Does (delete_verb (world_in (R.held rows.old)) programmer x desc.now) (R.held rows.old) (R.held rows.new) result }
     ensures gone { OnOk result
         ((id : VerbId)
         × (option_map (λ f. f.0) (found_verb (world_in (R.held rows.old)) x desc.now) ≡ Some (verb_place (R.held rows.old).maps x id))
@@ -66,10 +64,8 @@ pub fn set_verb_info<R: Rows>(
     verb: VerbInfo<'_>,
 ) -> Result<Value, Fault>
     requires { IsGood (R.held rows.old).maps }
-    ensures comes { ComesTo
-        (set_verb_info (world_in (R.held rows.old)) programmer x desc.now (info_shown verb.entry.info) verb.entry.names.now)
+    ensures { Does (set_verb_info (world_in (R.held rows.old)) programmer x desc.now (info_shown verb.entry.info) verb.entry.names.now)
         (R.held rows.old) (R.held rows.new) result }
-    ensures kept { OnOk result (Keeps (R.held rows.old) (R.held rows.new)) }
 {
     if !valid(rows, x) {
         return Err(Fault::Moo(Reason::NoObject(x)));
@@ -103,10 +99,8 @@ pub fn set_verb_args<R: Rows>(
     args: ArgTexts<'_>,
 ) -> Result<Value, Fault>
     requires { IsGood (R.held rows.old).maps }
-    ensures comes { ComesTo
-        (set_verb_args (world_in (R.held rows.old)) programmer x desc.now (args_shown args.entry))
+    ensures { Does (set_verb_args (world_in (R.held rows.old)) programmer x desc.now (args_shown args.entry))
         (R.held rows.old) (R.held rows.new) result }
-    ensures kept { OnOk result (Keeps (R.held rows.old) (R.held rows.new)) }
 {
     if !valid(rows, x) {
         return Err(Fault::Moo(Reason::NoObject(x)));

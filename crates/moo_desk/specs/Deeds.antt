@@ -55,14 +55,14 @@ module _ {R W : Type 0}
   abbrev pub IsFresh : Slot R W inward incoming reader outward writer → Type 0
   IsFresh slot = (slot.reader.bytes.items ≡ []) × (slot.writer.text.items ≡ [])
 
-  -- what a deed does to the book
-  abbrev pub Does : Deed (Slot R W inward incoming reader outward writer) R W
+  -- what happens to the book in a deed
+  abbrev pub Happens : Deed (Slot R W inward incoming reader outward writer) R W
       → Book (Slot R W inward incoming reader outward writer) R W → Book (Slot R W inward incoming reader outward writer) R W → Type 0
-  Does (takes slot) old new =
+  Happens (takes slot) old new =
       IsFresh slot × (new.slots ≡ old.slots ++ slot ∷ []) × (new.leaving ≡ old.leaving) × (new.losses ≡ old.losses)
-  Does steps old new =
+  Happens steps old new =
       Each IsGathered old.slots new.slots × Each (IsLater writer outward.peer) old.leaving new.leaving × (new.losses ≡ old.losses)
-  Does (ends it) old new =
+  Happens (ends it) old new =
       (new.slots ≡ old.slots) × TakesOut old.leaving it new.leaving × LetsGo it old.losses new.losses
 
   -- deeds one after another; the head of the list is the last one
@@ -70,7 +70,7 @@ module _ {R W : Type 0}
       → Book (Slot R W inward incoming reader outward writer) R W → Book (Slot R W inward incoming reader outward writer) R W → Type 0
   After [] old new = new ≡ old
   After (deed ∷ earlier) old new =
-      (between : Book (Slot R W inward incoming reader outward writer) R W) × After earlier old between × Does deed between new
+      (between : Book (Slot R W inward incoming reader outward writer) R W) × After earlier old between × Happens deed between new
 
   -- Nothing happens but deeds, in which so many connections come: each that came is held until it is handed out, and each that is given
   -- back until all of its answer was sent, or its loss is noted.

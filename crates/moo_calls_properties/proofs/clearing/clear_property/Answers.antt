@@ -13,17 +13,17 @@ clear-requires-clause-inherited g c =
     definer_found (g.R.Rows.held c.args.rows.now).maps c.requires.sound c.args.x c.in_ok-found.found.id (folded c.args.name.now) (slot_seen c.in_ok-found.found.definer c.in_ok-found.found.slot.now) found.held found.named (sym found.slot)
     ∙ sym c.eq.ensures ∙ c.if-eq.false
 
-pub returns-in_err-found-clause-comes : goal.returns-in_err-found-clause-comes
-returns-in_err-found-clause-comes g c =
+pub returns-in_err-found : goal.returns-in_err-found
+returns-in_err-found g c =
     let w = world_in (g.R.Rows.held c.args.rows.now) in
     let failed : clear_property w c.args.programmer c.args.x c.args.name.now ≡ fails c.in_err-found.field-0.0 =
     check_passed (is_object w c.args.x) _ _ (sym c.valid.ensures ∙ c.if-not-valid.false)
     ∙ c.in_err-found.ensures.err _
     in search rules
 
-pub returns-clause-comes : goal.returns-clause-comes
+pub returns : goal.returns
 unfolding same_object world_shown
-returns-clause-comes g c =
+returns g c =
     let m = (g.R.Rows.held c.args.rows.now).maps in
     let w = world_in (g.R.Rows.held c.args.rows.now) in
     let left : world_in (g.R.Rows.held c.clear.new.rows) ≡ cleared w c.args.x c.args.name.now =

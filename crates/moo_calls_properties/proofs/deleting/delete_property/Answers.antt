@@ -5,8 +5,8 @@ use Rattle.moo_props.{specs.Names.{spelling_of}, proofs.Quotas.{folded_spelling}
 use Rattle.moo_calls_properties.proofs.PropertyNames.{undefined_named}
 use Rattle.moo_calls_properties.proofs.deleting.delete_property.Goals as goal
 
-pub returns-clause-comes : goal.returns-clause-comes
-returns-clause-comes g c =
+pub returns : goal.returns
+returns g c =
     let m = (g.R.Rows.held c.args.rows.now).maps in
     let w = world_in (g.R.Rows.held c.args.rows.now) in
     let left : world_in (g.R.Rows.held c.undefine.new.rows) ≡ property_removed w c.args.x c.args.name.now =

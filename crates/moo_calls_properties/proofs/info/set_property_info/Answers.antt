@@ -13,9 +13,9 @@ change_info-requires-clause-may g c =
     ∙ may_rename_named w c.args.x (spelling_of m c.in_ok-id.id) c.args.name.now (folded_spelling m c.in_ok-id.id ∙ c.in_ok-id.ensures.named) (option_map (λ n. n.now) c.args.new_name)
     ∙ c.in_ok-id.ensures.may
 
-pub returns-clause-comes : goal.returns-clause-comes
+pub returns : goal.returns
 unfolding same_object world_shown
-returns-clause-comes g c =
+returns g c =
     let m = (g.R.Rows.held c.args.rows.now).maps in
     let w = world_in (g.R.Rows.held c.args.rows.now) in
     let left : world_in (g.R.Rows.held c.change_info.new.rows) ≡ renamed_to (info_set w c.args.x c.args.name.now c.args.info.owner c.in_ok-id.bits) c.args.x c.args.name.now (option_map (λ n. n.now) c.args.new_name) =

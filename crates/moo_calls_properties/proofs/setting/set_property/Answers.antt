@@ -6,14 +6,14 @@ use Rattle.moo_props.{specs.Names.{spelling_of}, proofs.Quotas.{folded_spelling}
 use Rattle.moo_calls_properties.proofs.PropertyNames.{slot_named}
 use Rattle.moo_calls_properties.proofs.setting.set_property.Goals as goal
 
-pub returns-in_err-found-clause-comes : goal.returns-in_err-found-clause-comes
-returns-in_err-found-clause-comes g c =
+pub returns-in_err-found : goal.returns-in_err-found
+returns-in_err-found g c =
     let failed : set_property (world_in (g.R.Rows.held c.args.rows.now)) c.args.programmer c.args.x c.args.name.now c.args.value.now ≡ fails c.in_err-found.field-0.0 =
     c.in_err-found.ensures.err _
     in search rules
 
-pub returns-clause-comes : goal.returns-clause-comes
-returns-clause-comes g c =
+pub returns : goal.returns
+returns g c =
     let m = (g.R.Rows.held c.args.rows.now).maps in
     let w = world_in (g.R.Rows.held c.args.rows.now) in
     let left : world_in (g.R.Rows.held c.set_value.new.rows) ≡ value_set w c.args.x c.args.name.now c.args.value.now =
