@@ -1,110 +1,90 @@
 -- From one run to a list of runs.
-use Rattle.moo_run.{proofs.Words.{◌≡◌, ◌⊎◌, inl, inr, ℕ, ◌≤◌, Bool, true, false, List, [], arith, refl, sym, subst, ⊤, Ghosts, Image, HasCleanDisk, file_state, Maps, Batch, IsGood, State, state_of, Stand, CrashLeaves, LeavesLed, Leads, Task, Run, begins_anew, only_reads, Done, StopsTask, Failure, Reports, HoldsRows, RunsFrom, RunsOver}, specs.declared.ends.Ends.{Ends}}
-use Rattle.std.proofs.lemmas.Bool.{false≢true}
-use Rattle.std.specs.Prelude.{Option, ◌∷◌, ◌++◌, take, length}
+use Rattle.std.proofs.Common.{◌≡◌, inl, inr, ℕ, ◌+◌, ◌≤◌, Bool, true, false, List, [], ◌∷◌, ◌++◌, length, refl, sym, ap, subst}
 use Rattle.std.specs.List.{filter}
+use Rattle.sqlite_disk.specs.declared.Disk.{Ghosts}
+use Rattle.sqlite_wal.specs.Recovery.{Image}
+use Rattle.sqlite.{specs.State.{HasCleanDisk}, specs.Files.{file_state}}
+use Rattle.moo_rows.specs.Maps.{Maps}
+use Rattle.moo_world.{specs.declared.call.Batch.{Batch}, specs.Rows.{IsGood}, specs.Judge.{after, is_for}}
+use Rattle.moo_store_rows.{specs.Moment.{Moment, BecomesPresent, IsSpared, LeadsByEach, rows_alone, state_of_moment}, specs.Place.{MayBeLeft}}
+use Rattle.moo_cli.{specs.Tasks.{NamesTask}, specs.declared.task.Task.{Task}}
+use Rattle.moo_files.{specs.Contents.{HoldsMoment}, specs.Opened.{Database as a_database}, specs.declared.remains.Remains.{Remains}}
+use Rattle.moo_laws.specs.NobodyRises.{NoWizardActs, KeepsRights}
+use Rattle.moo_run.{specs.Given.{Run}, specs.Run.{begins_anew, RunsIn}, specs.Ends.{RunsOver}, specs.declared.ends.Ends.{Ends}}
 use Rattle.moo_run.specs.declared.ends.Ends.TheVariants as variant
 use Rattle.moo_run.specs.declared.session.Runs as Runs
-use Rattle.moo_cli.{specs.Tasks.{NamesTask}, specs.declared.task.Action.{Action}, specs.declared.task.Action.TheVariants.{Init, Apply, Rehearse, Ask, Dump, Load, Check, Serve}}
-use Rattle.moo_files.{specs.Opened.{Database as a_database}, specs.declared.remains.Remains.{Remains}}
-use Rattle.moo_world.specs.Judge.{after, is_for}
-use Rattle.moo_store.specs.Led.{BatchesLead}
-use Rattle.moo_laws.specs.NobodyRises.{NoWizardActs, KeepsRights}
-use Rattle.moo_run_laws.{specs.Again.{IfRan, LeadTo}, specs.FileRuns.{FileRun, run_of}, specs.InTurn.{RunInTurn, LeadInTurn}, proofs.AgainLemmas.{any_of_ours, led_on, ran_file}, proofs.LawLemmas.{Found, found_clean, left_of, goes_by_rows}, proofs.LedLemmas.{led_after, led_joins, once, rows_keep}}
-
--- ---- the account of one run
-
--- what is written of a task
-abbrev Writes : Action → State → Stand → Leads → Type 0 → Run → Type 0
-Writes action s end Led Clean run =
-    Done action s end (λ batches others. Clean → Led batches others) ⊤ run
-    ⊎ ((failure : Failure) × (between : Option (List ℕ)) × StopsTask action s end failure (λ batches others. Clean → Led batches others) Clean (record run { after = between }) × Reports failure between run.after run.status)
-
--- just these batches
-abbrev Just : List Batch → List Batch → Leads
-Just batches others taken lost = (taken ≡ batches) × (lost ≡ others)
-
-abbrev Account : Action → State → Stand → Leads → Type 0 → Run → Type 0
-Account action s end Led Clean run =
-    (batches others : List Batch) × Writes action s end (Just batches others) Clean run × (only_reads action ≡ true → Just batches others [] []) × Led batches others
-
-accounted : (action : Action) (s : State) (end : Stand) (Led : Leads) (Clean : Type 0) (run : Run) → Clean → (only_reads action ≡ true → Led [] []) → Writes action s end Led Clean run → Account action s end Led Clean run
-accounted Init s end Led Clean run clean still it = ([], [], it, λ reads. (refl, refl), still refl)
-accounted (Rehearse texts) s end Led Clean run clean still it = ([], [], it, λ reads. (refl, refl), still refl)
-accounted (Ask texts) s end Led Clean run clean still it = ([], [], it, λ reads. (refl, refl), still refl)
-accounted Dump s end Led Clean run clean still it = ([], [], it, λ reads. (refl, refl), still refl)
-accounted (Load dump) s end Led Clean run clean still it = ([], [], it, λ reads. (refl, refl), still refl)
-accounted Check s end Led Clean run clean still it = ([], [], it, λ reads. (refl, refl), still refl)
-accounted (Apply texts) s end Led Clean run clean still (inl (inl (count, lost, answers, status, led))) = (_, _, inl (inl (count, lost, answers, status, λ clean. (refl, refl))), λ reads. absurd (false≢true reads), led clean)
-accounted (Apply texts) s end Led Clean run clean still (inl (inr (stop, count, lost, answers, status, led))) = (_, _, inl (inr (stop, count, lost, answers, status, λ clean. (refl, refl))), λ reads. absurd (false≢true reads), led clean)
-accounted (Apply texts) s end Led Clean run clean still (inr (failure, between, (inl (fault, is, answers, led), lack), told)) =
-    (_, _, inr (failure, between, (inl (fault, is, answers, λ clean. (refl, refl)), lack), told), λ reads. absurd (false≢true reads), led clean)
-accounted (Apply texts) s end Led Clean run clean still (inr (failure, between, (inr (is, stays, same, led), lack), told)) =
-    (_, _, inr (failure, between, (inr (is, stays, same, λ clean. (refl, refl)), lack), told), λ reads. absurd (false≢true reads), led clean)
-accounted (Serve service) s end Led Clean run clean still (inl (ledger, serving, led)) = (_, _, inl (ledger, serving, λ clean. (refl, refl)), λ reads. absurd (false≢true reads), led clean)
-accounted (Serve service) s end Led Clean run clean still (inr (failure, between, (ledger, stops, led), told)) =
-    (_, _, inr (failure, between, (ledger, stops, λ clean. (refl, refl)), told), λ reads. absurd (false≢true reads), led clean)
-
-account : (task : Task) (s : State) (run : Run) (Clean : Type 0) (Crash : Stand → Type 0) (Led : Leads) → Clean → RunsFrom task s run Clean Crash Led ⊤ → (batches others : List Batch) × RunsFrom task s run Clean Crash (Just batches others) ⊤ × Led batches others
-account task s run Clean Crash Led clean it =
-    let all = accounted task.action s it.end Led Clean run clean (λ reads. it.still reads clean) it.writes in
-    (all.0, all.1, record { end = it.end; crash = it.crash; still = λ reads clean. all.3 reads; rests = it.rests; writes = all.2 }, all.4)
+use Rattle.moo_run_laws.{specs.Again.{IfRan}, specs.FileRuns.{FileRun, run_of}, specs.InTurn.{RunInTurn, LeadInTurn}, proofs.AgainLemmas.{any_at_moment, known_present, ran_file}, proofs.LawLemmas.{Found, found_clean, leads_found, goes_by}, proofs.LedLemmas.{counts, led_after, led_alone, led_joins, once, moments_keep}}
 
 -- ---- one run
 
-module _ {T D : Type 0} {g : Ghosts D} where
-  -- its batches, and the rows that are found after it
-  abbrev GoesOn : List (List ℕ) → Ends T D g → Run → Maps → Image → Type 0
-  GoesOn words ends run rows next =
-      (own others : List Batch)
-      × IfRan ends
-      (λ conn. (task : Task) × NamesTask words task × RunsFrom task (state_of rows) run (HasCleanDisk (file_state conn)) (CrashLeaves (file_state conn)) (Just own others) ⊤)
-      (λ rest. (own ≡ []) × (others ≡ []))
-      × (end : Maps) × LeadTo rows end own others × HoldsRows next end
+spared_rows : (m next : Moment) (own : List Batch) → own ≡ [] → IsSpared m next → LeadsByEach (rows_alone m.rows) own (rows_alone next.rows)
+spared_rows m next own none (inl same) = subst (λ all. LeadsByEach (rows_alone m.rows) all (rows_alone next.rows)) (sym none) (ap (λ (x : Moment). rows_alone x.rows) same)
+spared_rows m next own none (inr (earlier, same)) = subst (λ all. LeadsByEach (rows_alone m.rows) all (rows_alone next.rows)) (sym none) (ap rows_alone same)
 
-  goes_on : (words : List (List ℕ)) (image : Image) (ends : Ends T D g) (closed : Remains T D g) (run : Run) (next : Image) (rows : Maps)
-      → RunsOver words image ends run → Found image ends closed next → HoldsRows image rows → GoesOn words ends run rows next
-  goes_on words image (variant.Ran conn) closed run next rows (inl (task, named, alone, runs, it)) found holds = by (begins_anew task) refl
+module _ {T D : Type 0} {g : Ghosts D} where
+  -- its batches lead from a moment to the next
+  abbrev Leads : List (List ℕ) → Ends T D g → Run → Moment → List Batch → Moment → Type 0
+  Leads words ends run m batches next = IfRan ends
+      (λ conn. (task : Task) × NamesTask words task × (now : Moment) × BecomesPresent m now × (ran : RunsIn (file_state conn) task now run) × MayBeLeft ran.0.end next × LeadsByEach now batches next)
+      (λ rest. (batches ≡ []) × IsSpared m next)
+
+  -- its batches, and the moment that is found after it
+  abbrev GoesOn : List (List ℕ) → Ends T D g → Run → Moment → Image → Type 0
+  GoesOn words ends run m next = (end : Moment) × HoldsMoment next end × (own : List Batch) × Leads words ends run m own end
+
+  goes_on : (words : List (List ℕ)) (image : Image) (ends : Ends T D g) (closed : Remains T D g) (run : Run) (next : Image) (m : Moment)
+      → RunsOver words image ends run → Found image ends closed next → HoldsMoment image m → GoesOn words ends run m next
+  goes_on words image (variant.Ran conn) closed run next m (inl (task, named, alone, runs, it)) found holds = by (begins_anew task) refl
     where
       early : HasCleanDisk (file_state conn)
       early = found_clean image conn closed next found
 
-      led : RunsFrom task (state_of rows) run (HasCleanDisk (file_state conn)) (CrashLeaves (file_state conn)) (LeavesLed (file_state conn) rows) ⊤ → GoesOn words (variant.Ran conn) run rows next
-      led ran =
-          let all = account task (state_of rows) run _ _ (LeavesLed (file_state conn) rows) early ran in
-          let on = led_on (file_state conn) rows next (HoldsRows next) (λ end held. held) all.0 all.1 all.3 (left_of image conn closed ran.end next (ran.crash early) found) in
-          (all.0, all.1, (task, named, all.2), on.0, on.1, on.2)
+      by : (b : Bool) → begins_anew task ≡ b → GoesOn words (variant.Ran conn) run m next
+      by false other =
+          let ran = ((ran_file task image conn run it).over other (a_database holds.trees) holds.holds early).runs m holds.such in
+          let lies = leads_found image conn closed task run next ran.0 (known_present m ran.0 holds.trees holds.such ran.1) ran.2 found in
+          let led = ran.2.0.leads lies.0 lies.1 in
+          (lies.0, lies.2, led.0, (task, named, ran.0, ran.1, ran.2, lies.1, led.1))
+      by true anew = absurd ((ran_file task image conn run it).occupied holds.trees anew holds.holds (any_at_moment m holds.trees holds.such) early)
+  goes_on words image (variant.Ran conn) closed run next m (inr (some, rests, usage, none)) found holds = absurd none
+  goes_on words image (variant.Refused was) closed run next m over found holds =
+      let it = goes_by words image (variant.Refused was) closed run next (HoldsMoment next) over found (λ t held. held) m holds in
+      (it.0, it.2, [], (refl, it.1))
+  goes_on words image (variant.NoFile start) closed run next m over found holds =
+      let it = goes_by words image (variant.NoFile start) closed run next (HoldsMoment next) over found (λ t held. held) m holds in
+      (it.0, it.2, [], (refl, it.1))
 
-      by : (b : Bool) → begins_anew task ≡ b → GoesOn words (variant.Ran conn) run rows next
-      by false other = led (((ran_file task image conn run it).over other (a_database holds.1.trees) holds.1.holds early).rows rows holds.0 holds.1.such)
-      by true anew = absurd ((ran_file task image conn run it).occupied holds.1.trees anew holds.1.holds (any_of_ours holds.1.trees holds.1.such.tables holds.1.such.leaves) early)
-  goes_on words image (variant.Ran conn) closed run next rows (inr (some, rests, usage, none)) found holds = absurd none
-  goes_on words image (variant.Refused was) closed run next rows over found holds =
-      ([], [], (refl, refl), rows, (0, omega arith, refl), goes_by_rows words image (variant.Refused was) closed run next (HoldsRows next) over found (λ end held. held) rows holds)
-  goes_on words image (variant.NoFile start) closed run next rows over found holds =
-      ([], [], (refl, refl), rows, (0, omega arith, refl), goes_by_rows words image (variant.NoFile start) closed run next (HoldsRows next) over found (λ end held. held) rows holds)
+  -- what is said of rows alone doesn't ask for a version
+  leads_alone : (words : List (List ℕ)) (ends : Ends T D g) (run : Run) (m : Moment) (own : List Batch) (next : Moment) → Leads words ends run m own next → LeadsByEach (rows_alone m.rows) own (rows_alone next.rows)
+  leads_alone words (variant.Ran conn) run m own next (task, named, now, becomes, ran, may, led) = subst (λ (rows : Maps). LeadsByEach (rows_alone rows) own (rows_alone next.rows)) becomes.0 (led_alone now next own led)
+  leads_alone words (variant.Refused rest) run m own next (none, spared) = spared_rows m next own none spared
+  leads_alone words (variant.NoFile start) run m own next (none, spared) = spared_rows m next own none spared
 
 -- ---- runs in turn
 
 module _ {S T D : Type 0} {g : Runs.Ghosts S T D} {disk : Ghosts D} where
-  pub history : (image found : Image) (runs : List (FileRun g disk)) (rows : Maps) → RunInTurn image runs found → HoldsRows image rows → (end : Maps) × HoldsRows found end × (batches : List Batch) × LeadInTurn rows runs batches end
-  history image found [] rows it holds = (rows, subst (λ i. HoldsRows i rows) (sym it) holds, [], (refl, refl))
-  history image found (run ∷ runs) rows (is, over, next, lies, rest) holds =
-      let one = goes_on run.words run.image run.ends run.closed (run_of run) next rows over lies (subst (λ i. HoldsRows i rows) (sym is) holds) in
-      let later = history next found runs one.3 rest one.5 in
-      (later.0, later.1, (one.0 ++ take one.4.0 one.1) ++ later.2, (one.0, one.1, later.2, one.2, one.4.0, one.4.1, one.3, one.4.2, later.3, refl))
+  pub history : (image found : Image) (runs : List (FileRun g disk)) (m : Moment) → RunInTurn image runs found → HoldsMoment image m → (end : Moment) × HoldsMoment found end × (batches : List Batch) × LeadInTurn m runs batches end
+  history image found [] m it holds = (m, subst (λ i. HoldsMoment i m) (sym it) holds, [], (refl, refl))
+  history image found (run ∷ runs) m (is, over, next, lies, rest) holds =
+      let one = goes_on run.words run.image run.ends run.closed (run_of run) next m over lies (subst (λ i. HoldsMoment i m) (sym is) holds) in
+      let later = history next found runs one.0 rest one.1 in
+      (later.0, later.1, one.2 ++ later.2, (one.2, later.2, one.0, one.3, later.3, refl))
 
   -- all their batches lead from the first rows to the last
-  led_in_turn : (runs : List (FileRun g disk)) (rows end : Maps) (batches : List Batch) → LeadInTurn rows runs batches end → BatchesLead batches rows end
-  led_in_turn [] rows end batches (none, same) = subst (λ all. BatchesLead all rows end) (sym none) same
-  led_in_turn (run ∷ runs) rows end batches (own, others, later, told, more, one, next, lead, on, is) =
-      subst (λ all. BatchesLead all rows end) (sym is) (led_joins rows next end (own ++ take more others) later lead (led_in_turn runs next end later on))
+  led_in_turn : (runs : List (FileRun g disk)) (m end : Moment) (batches : List Batch) → LeadInTurn m runs batches end → LeadsByEach (rows_alone m.rows) batches (rows_alone end.rows)
+  led_in_turn [] m end batches (none, same) = subst (λ all. LeadsByEach (rows_alone m.rows) all (rows_alone end.rows)) (sym none) (ap (λ (x : Moment). rows_alone x.rows) same)
+  led_in_turn (run ∷ runs) m end batches (own, later, next, leads, on, is) =
+      subst (λ all. LeadsByEach (rows_alone m.rows) all (rows_alone end.rows)) (sym is)
+      (led_joins (rows_alone m.rows) (rows_alone next.rows) (rows_alone end.rows) own later (leads_alone run.words run.ends (run_of run) m own next leads) (led_in_turn runs next end later on))
 
-  pub in_turn_after : (runs : List (FileRun g disk)) (rows end : Maps) (batches : List Batch) → LeadInTurn rows runs batches end → state_of end ≡ after (state_of rows) batches
-  in_turn_after runs rows end batches it = led_after rows end batches (led_in_turn runs rows end batches it)
+  pub in_turn_after : (runs : List (FileRun g disk)) (m end : Moment) (batches : List Batch) → LeadInTurn m runs batches end → state_of_moment end ≡ after (state_of_moment m) batches
+  in_turn_after runs m end batches it = led_after (rows_alone m.rows) (rows_alone end.rows) batches (led_in_turn runs m end batches it)
 
-  pub in_turn_once : (runs : List (FileRun g disk)) (rows end : Maps) (batches : List Batch) (number : ℕ) → LeadInTurn rows runs batches end → length (filter (is_for number) batches) ≤ 1
-  in_turn_once runs rows end batches number it = once rows end batches number (led_in_turn runs rows end batches it)
+  pub in_turn_counts : (runs : List (FileRun g disk)) (m end : Moment) (batches : List Batch) → LeadInTurn m runs batches end → (state_of_moment end).seq ≡ (state_of_moment m).seq + length batches
+  in_turn_counts runs m end batches it = counts (rows_alone m.rows) (rows_alone end.rows) batches (led_in_turn runs m end batches it)
 
-  pub in_turn_rises : (runs : List (FileRun g disk)) (rows end : Maps) (batches : List Batch) → IsGood rows → LeadInTurn rows runs batches end → NoWizardActs (state_of rows) batches → KeepsRights (state_of rows) batches (state_of end)
-  in_turn_rises runs rows end batches good it none = rows_keep rows end batches good (led_in_turn runs rows end batches it) none
+  pub in_turn_once : (runs : List (FileRun g disk)) (m end : Moment) (batches : List Batch) (number : ℕ) → LeadInTurn m runs batches end → length (filter (is_for number) batches) ≤ 1
+  in_turn_once runs m end batches number it = once (rows_alone m.rows) (rows_alone end.rows) batches number (led_in_turn runs m end batches it)
+
+  pub in_turn_rises : (runs : List (FileRun g disk)) (m end : Moment) (batches : List Batch) → IsGood m.rows → LeadInTurn m runs batches end → NoWizardActs (state_of_moment m) batches → KeepsRights (state_of_moment m) batches (state_of_moment end)
+  in_turn_rises runs m end batches good it none = moments_keep (rows_alone m.rows) (rows_alone end.rows) batches good (led_in_turn runs m end batches it) none

@@ -1,34 +1,43 @@
--- What holds of rows that batches lead to.
+-- What holds of moments and rows that batches lead to.
 use Rattle.moo_world.{proofs.Lemmas.{◌≡◌, ◌≢◌, ℕ, ◌+◌, ◌≤◌, ◌&&◌, Bool, true, cond, List, [], ◌∷◌, ◌++◌, arith, refl, sym, subst, ◌∙◌, ap, State}, proofs.Batches.Judging.{taken_once}, specs.declared.call.Batch.{Batch}}
 use Rattle.moo_world.specs.Judge.{Verdict, Accepted, Refused, NoRoom, Stale, judge, left_by, after, is_for, is_accepted, taken, state_of}
 use Rattle.moo_world.specs.Between.{BatchLeads}
 use Rattle.moo_world.specs.Rows.{IsGood}
 use Rattle.moo_rows.specs.Maps.{Maps}
-use Rattle.moo_store_rows.specs.Moment.{Moment, state_of_moment, LeadsByEach}
+use Rattle.moo_store_rows.{specs.Moment.{Moment, AllCells, KeepsCellsAt, state_of_moment, rows_alone, LeadsByEach}, specs.Place.{Place, Works, Failed, Between, MayBeLeft, moment_of}}
+use Rattle.std.proofs.Common.{inl}
 use Rattle.std.specs.List.{filter}
-use Rattle.std.specs.Prelude.{length, if◌then◌else◌}
-use Rattle.moo_store.specs.Led.{BatchesLead}
+use Rattle.std.specs.Prelude.{Option, Some, None, IsSome, false, length, if◌then◌else◌}
+use Rattle.moo_http.specs.Leading.{LeadsTo}
 use Rattle.moo_laws.specs.NobodyRises.{NoWizardActs, KeepsRights}
 use Rattle.moo_laws.proofs.Ranks.{FormedAll, led_batch, rights_kept}
 
-led_formed : (rows end : Maps) (batches : List Batch) → IsGood rows → BatchesLead batches rows end → FormedAll (state_of rows) batches
-led_formed rows end [] good it = tt
-led_formed rows end (b ∷ bs) good it = (good.formed, λ accepted. led_batch b rows it.0 good it.2, subst (λ s. FormedAll s bs) it.3 (led_formed it.0 end bs it.1 it.4))
+led_formed : (m end : Moment) (batches : List Batch) → IsGood m.rows → LeadsByEach m batches end → FormedAll (state_of_moment m) batches
+led_formed m end [] good it = tt
+led_formed m end (b ∷ bs) good (next, one, rest) = (good.formed, λ accepted. led_batch b m.rows next.rows good one.rows, subst (λ s. FormedAll s bs) one.state (led_formed next end bs one.good rest))
 
-pub led_after : (rows end : Maps) (batches : List Batch) → BatchesLead batches rows end → state_of end ≡ after (state_of rows) batches
-led_after rows end [] it = ap state_of it
-led_after rows end (b ∷ bs) it = led_after it.0 end bs it.4 ∙ ap (λ s. after s bs) it.3
+pub led_after : (m end : Moment) (batches : List Batch) → LeadsByEach m batches end → state_of_moment end ≡ after (state_of_moment m) batches
+led_after m end [] it = ap state_of_moment it
+led_after m end (b ∷ bs) (next, one, rest) = led_after next end bs rest ∙ ap (λ s. after s bs) one.state
 
-pub rows_keep : (rows end : Maps) (batches : List Batch) → IsGood rows → BatchesLead batches rows end → NoWizardActs (state_of rows) batches → KeepsRights (state_of rows) batches (state_of end)
-rows_keep rows end batches good it none = subst (λ s. KeepsRights (state_of rows) batches s) (sym (led_after rows end batches it)) (rights_kept (state_of rows) batches (led_formed rows end batches good it) none)
+pub moments_keep : (m end : Moment) (batches : List Batch) → IsGood m.rows → LeadsByEach m batches end → NoWizardActs (state_of_moment m) batches → KeepsRights (state_of_moment m) batches (state_of_moment end)
+moments_keep m end batches good it none =
+    subst (λ s. KeepsRights (state_of_moment m) batches s) (sym (led_after m end batches it)) (rights_kept (state_of_moment m) batches (led_formed m end batches good it) none)
 
--- ---- each of them is accepted
+-- ---- each of them is counted, and accepted
 
 one_more : (n : ℕ) → n ≢ n + 1
 one_more n e = omega (arith, e)
 
 counted : (b : Batch) (old new : Maps) → BatchLeads b old new → (state_of new).seq ≡ (state_of old).seq + 1
 counted b old new it = ap (λ (rows : Maps). rows.head.seq) it.2
+
+pub counts : (m end : Moment) (batches : List Batch) → LeadsByEach m batches end → (state_of_moment end).seq ≡ (state_of_moment m).seq + length batches
+counts m end [] it = let same = ap (λ (x : Moment). (state_of_moment x).seq) it in omega (arith, same)
+counts m end (b ∷ bs) (next, one, rest) =
+    let later = counts next end bs rest in
+    let first = counted b m.rows next.rows one.rows in
+    omega (arith, later, first)
 
 led_accepted : (b : Batch) (old new : Maps) → BatchLeads b old new → state_of new ≡ left_by (state_of old) (judge (state_of old) b) → is_accepted (judge (state_of old) b) ≡ true
 led_accepted b old new it state = by (judge (state_of old) b) state
@@ -46,26 +55,45 @@ with_one f b found = grind arith
 and_true : (f a : Bool) → a ≡ true → (n m : ℕ) → n ≡ m → cond (f && a) 1 0 + n ≡ cond f 1 0 + m
 and_true f a e n m h = grind arith
 
-all_taken : (rows end : Maps) (batches : List Batch) (number : ℕ) → BatchesLead batches rows end → taken number (state_of rows) batches ≡ length (filter (is_for number) batches)
-all_taken rows end [] number it = refl
-all_taken rows end (b ∷ bs) number it =
-    and_true (is_for number b) (is_accepted (judge (state_of rows) b)) (led_accepted b rows it.0 it.2 it.3) _ _ (subst (λ s. taken number s bs ≡ length (filter (is_for number) bs)) it.3 (all_taken it.0 end bs number it.4))
-    ∙ sym (with_one (is_for number b) b (filter (is_for number) bs))
+all_taken : (m end : Moment) (batches : List Batch) (number : ℕ) → LeadsByEach m batches end → taken number (state_of_moment m) batches ≡ length (filter (is_for number) batches)
+all_taken m end [] number it = refl
+all_taken m end (b ∷ bs) number (next, one, rest) =
+    and_true (is_for number b) (is_accepted (judge (state_of_moment m) b)) (led_accepted b m.rows next.rows one.rows one.state) _ _
+    (subst (λ s. taken number s bs ≡ length (filter (is_for number) bs)) one.state (all_taken next end bs number rest)) ∙ sym (with_one (is_for number b) b (filter (is_for number) bs))
 
-pub once : (rows end : Maps) (batches : List Batch) (number : ℕ) → BatchesLead batches rows end → length (filter (is_for number) batches) ≤ 1
-once rows end batches number it = subst (λ n. n ≤ 1) (all_taken rows end batches number it) (taken_once number (state_of rows) batches)
+pub once : (m end : Moment) (batches : List Batch) (number : ℕ) → LeadsByEach m batches end → length (filter (is_for number) batches) ≤ 1
+once m end batches number it = subst (λ n. n ≤ 1) (all_taken m end batches number it) (taken_once number (state_of_moment m) batches)
 
--- ---- lists of batches
+-- ---- rows alone
 
-pub led_joins : (rows mid end : Maps) (first second : List Batch) → BatchesLead first rows mid → BatchesLead second mid end → BatchesLead (first ++ second) rows end
-led_joins rows mid end [] second it on = subst (λ x. BatchesLead second x end) it on
-led_joins rows mid end (b ∷ bs) second it on = (it.0, it.1, it.2, it.3, led_joins it.0 mid end bs second it.4 on)
+-- of moments whose cells aren't looked at the same holds
+pub led_alone : (m end : Moment) (batches : List Batch) → LeadsByEach m batches end → LeadsByEach (rows_alone m.rows) batches (rows_alone end.rows)
+led_alone m end [] it = ap (λ (x : Moment). rows_alone x.rows) it
+led_alone m end (b ∷ bs) (next, one, rest) = (rows_alone next.rows, record { good = one.good; rows = one.rows; state = one.state; kept = tt }, led_alone next end bs rest)
 
--- ---- moments
+pub led_joins : (m mid end : Moment) (first second : List Batch) → LeadsByEach m first mid → LeadsByEach mid second end → LeadsByEach m (first ++ second) end
+led_joins m mid end [] second it on = subst (λ (x : Moment). LeadsByEach x second end) it on
+led_joins m mid end (b ∷ bs) second (next, one, rest) on = (next, one, led_joins next mid end bs second rest on)
 
-pub led_by_each : (m end : Moment) (batches : List Batch) → LeadsByEach m batches end → BatchesLead batches m.rows end.rows
-led_by_each m end [] it = ap (λ (x : Moment). x.rows) it
-led_by_each m end (b ∷ bs) it = (it.0.rows, it.1.good, it.1.rows, it.1.state, led_by_each it.0 end bs it.2)
+-- ---- cells
 
-pub moments_keep : (m end : Moment) (batches : List Batch) → IsGood m.rows → LeadsByEach m batches end → NoWizardActs (state_of_moment m) batches → KeepsRights (state_of_moment m) batches (state_of_moment end)
-moments_keep m end batches good it none = rows_keep m.rows end.rows batches good (led_by_each m end batches it) none
+not_some : {X : Type 0} → false ≡ true → X
+not_some none = absurd cc
+
+still_some : (rows next : Maps) (old new : Option AllCells) → KeepsCellsAt rows next old new → IsSome old → IsSome new
+still_some rows next (Some old) (Some new) kept some = refl
+still_some rows next (Some old) None kept some = absurd kept
+still_some rows next None new kept some = not_some some
+
+-- where the cells are known they stay so
+known_after : (m end : Moment) (batches : List Batch) → LeadsByEach m batches end → IsSome m.cells → IsSome end.cells
+known_after m end [] it some = subst (λ (x : Moment). IsSome x.cells) (sym it) some
+known_after m end (b ∷ bs) (next, one, rest) some = known_after next end bs rest (still_some m.rows next.rows m.cells next.cells one.kept some)
+
+may_stay : (place : Place) → MayBeLeft place (moment_of place)
+may_stay (Works m) = refl
+may_stay (Failed m) = refl
+may_stay (Between m next) = inl refl
+
+pub known_at : (m : Moment) (place : Place) → LeadsTo m place → IsSome m.cells → IsSome (moment_of place).cells
+known_at m place leads some = let it = leads (moment_of place) (may_stay place) in known_after m (moment_of place) it.0 it.1 some

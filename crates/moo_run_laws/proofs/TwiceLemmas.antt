@@ -1,5 +1,10 @@
 -- From the law of the program to two runs of it.
-use Rattle.moo_run.{proofs.Words.{◌≡◌, inl, inr, ℕ, Bool, true, false, List, codes, refl, false_from_ne_true, bytes_eq, Ghosts, Image, Run, RunsOver, IsClosedEnd}, specs.declared.ends.Ends.{Ends}}
+use Rattle.std.proofs.Common.{◌≡◌, inl, inr, ℕ, Bool, true, false, List, codes, refl}
+use Rattle.std.proofs.lemmas.Bool.{false_from_ne_true}
+use Rattle.std.specs.Str.{bytes_eq}
+use Rattle.sqlite_disk.specs.declared.Disk.{Ghosts}
+use Rattle.sqlite_wal.specs.Recovery.{Image}
+use Rattle.moo_run.{specs.Given.{Run}, specs.Ends.{RunsOver, IsClosedEnd}, specs.declared.ends.Ends.{Ends}}
 use Rattle.moo_run.specs.declared.ends.Ends.TheVariants as variant
 use Rattle.moo_run.specs.declared.session.Runs as Runs
 use Rattle.moo_run_lines.specs.Lines.{store_failure}

@@ -1,5 +1,5 @@
 -- The start of a run over a file, what may be found of the file after the run, and how the next run takes that up.
-use Rattle.std.specs.Prelude.{◌≡◌, ◌<◌, ◌⊎◌, ℕ, ◌≤◌, true, false, List, ◌++◌, take, length, ⊤}
+use Rattle.std.specs.Prelude.{◌≡◌, ◌<◌, ◌⊎◌, ℕ, true, false, List, length, IsSome}
 use Rattle.sqlite_disk.specs.declared.Disk.{Ghosts}
 use Rattle.sqlite_store.specs.declared.store.FileStore.{FileStore}
 use Rattle.sqlite_store.specs.FileStore.{recovers}
@@ -10,11 +10,8 @@ use Rattle.sqlite.specs.State.{HasCleanDisk}
 use Rattle.sqlite.specs.Held.{Held}
 use Rattle.sqlite.specs.Files.{file_state, image_of}
 use Rattle.sqlite.specs.declared.file.Leftover.TheVariants as left
-use Rattle.moo_rows.specs.Maps.{Maps}
-use Rattle.moo_world.specs.declared.call.Batch.{Batch}
-use Rattle.moo_world.specs.Judge.{State}
-use Rattle.moo_store.specs.Led.{BatchesLead}
-use Rattle.moo_files.specs.Contents.{HoldsSuch, HoldsState, HasNoSums, IsLeftBy}
+use Rattle.moo_store_rows.specs.Moment.{Moment, BecomesPresent}
+use Rattle.moo_files.specs.Contents.{HoldsSuch, HoldsMoment, HasNoSums, IsLeftBy}
 use Rattle.moo_files.specs.Remains.{IsCleanRemains}
 use Rattle.moo_files.specs.Stop.{LeftStoreLeaves, BytesLeave}
 use Rattle.moo_files.specs.declared.remains.Remains.{Remains}
@@ -22,44 +19,27 @@ use Rattle.moo_files.specs.declared.remains.Remains.TheVariants as remains
 use Rattle.moo_cli.specs.declared.task.Task.{Task}
 use Rattle.moo_cli.specs.Tasks.{NamesTask}
 use Rattle.moo_run.specs.Given.{Given, Run}
-use Rattle.moo_run.specs.Run.{begins_anew, BeginsWith, BeginsFrom, EndsUsage}
-use Rattle.moo_run.specs.Ends.{MatchFile, HasNoFile, HoldsRows, RunsRows, RanFrom, FailsFor}
+use Rattle.moo_run.specs.Run.{begins_anew, BeginsFrom, RunsIn, EndsUsage}
+use Rattle.moo_run.specs.Ends.{MatchFile, HasNoFile, FailsFor}
 use Rattle.moo_run.specs.declared.ends.Ends.{Ends}
 use Rattle.moo_run.specs.declared.ends.Ends.TheVariants as variant
 
--- The task started so: from the state that its file holds, if it takes it up; or from one that it may begin with.
-abbrev pub Started : Task → Image → Given → (State → Type 0) → Type 0
-Started task image given From =
-    (begins_anew task ≡ false → (s : State) → HoldsState image s → From s)
-    × (begins_anew task ≡ true → (s : State) × BeginsWith task.action given s × From s)
-
--- the same of rows: those that the tables of its file show, or those of the new world that it begins with
-abbrev pub StartedRows : Task → Image → Given → (Maps → Type 0) → Type 0
-StartedRows task image given From =
-    (begins_anew task ≡ false → (rows : Maps) → HoldsRows image rows → From rows)
-    × (begins_anew task ≡ true → (rows : Maps) × BeginsFrom task.action given rows × From rows)
-
--- these batches lead from rows to those, or these and one of the others
-abbrev pub LeadTo : Maps → Maps → List Batch → List Batch → Type 0
-LeadTo rows end batches others = (more : ℕ) × (more ≤ 1) × BatchesLead (batches ++ take more others) rows end
+-- The task starts from a moment of which this is true: from that which its file holds, brought to the present version, if it takes that up;
+-- or from that of a new world that it may begin with, whose cells are known.
+abbrev pub StartsFrom : Task → Image → Given → (Moment → Type 0) → Type 0
+StartsFrom task image given From =
+    (begins_anew task ≡ false → (m : Moment) → HoldsMoment image m → (now : Moment) × BecomesPresent m now × From now)
+    × (begins_anew task ≡ true → (m : Moment) × IsSome m.cells × BeginsFrom task.action given m.rows × From m)
 
 module _ {T D : Type 0} {g : Ghosts D} where
-  -- If words name a task that takes up its file, which held this image, on a clean disk it runs from s, or fails for a cause and tells no
-  -- damage. Or they have a mistake.
-  abbrev pub TakesUp : List (List ℕ) → Image → State → Ends T D g → Run → Type 0
-  TakesUp words image s ends run =
+  -- If words name a task that takes up its file, which held this image and this moment, on a clean disk it runs from the moment, brought to
+  -- the present version, or fails for a cause and tells no damage. Or they have a mistake.
+  abbrev pub TakesUp : List (List ℕ) → Image → Moment → Ends T D g → Run → Type 0
+  TakesUp words image m ends run =
       ((task : Task) × NamesTask words task × (begins_anew task ≡ false → MatchFile ends
-      (λ conn. HasCleanDisk (file_state conn) → RanFrom task s conn run)
+      (λ conn. HasCleanDisk (file_state conn) → (now : Moment) × BecomesPresent m now × RunsIn (file_state conn) task now run)
       (λ remains. IsCleanRemains remains → FailsFor task.file.now image remains run)))
       ⊎ ((1 < length words) × EndsUsage words run.before run.after run.status × HasNoFile ends)
-
-  -- As `TakesUp`: a task that takes up its file, on a clean disk, runs from these rows if it runs. Or the words have no file.
-  abbrev pub TakesRows : List (List ℕ) → Maps → Ends T D g → Run → Type 0
-  TakesRows words rows ends run =
-      ((task : Task) × NamesTask words task × (begins_anew task ≡ false → MatchFile ends
-      (λ conn. HasCleanDisk (file_state conn) → RunsRows task rows conn run)
-      (λ remains. ⊤)))
-      ⊎ ((1 < length words) × HasNoFile ends)
 
   -- This is true of the connection, if a task ran over the file. Otherwise that is true of what is left of the file, which is untouched
   -- if the words name none: they have a mistake, or run on `:memory:`.

@@ -19,9 +19,8 @@ use Rattle.moo_desk.specs.Deeds.{IsFresh}
 use Rattle.moo_desk.specs.Exchange.{Begins, IsHandedOut}
 use Rattle.moo_desk.specs.Later.{IsGathered, IsLater}
 use Rattle.moo_desk.specs.Read.{Gave}
-use Rattle.moo_store.specs.Stand.{Stand}
+use Rattle.moo_store_rows.specs.Place.{Place}
 use Rattle.moo_http.specs.Traffic.{Traffic, traffic_of}
-use Rattle.moo_http.specs.Ledger.{Ledger}
 use Rattle.moo_http.specs.Turns.{Exchanged}
 use Rattle.moo_http.specs.Through.{FailedThrough}
 use Rattle.moo_http.specs.declared.fault.ServeFault.{ServeFault}
@@ -69,23 +68,23 @@ module _ {R W : Type 0} (from : R → ℤ) (reads : R → Gave → R → Type 0)
 
   -- An answer that was sent whole is the answer to what its peer asked.
   abbrev pub DeskAnswers : Type 0
-  DeskAnswers = (old new : Stand) (ledger : Ledger) (came slot : PeerSlot) (opened closed : Connection (Gathered R) (Outgoing W)) →
+  DeskAnswers = (before after : Place) (came slot : PeerSlot) (opened closed : Connection (Gathered R) (Outgoing W)) →
       (back last : Leaving R W) → PassesDesk came slot opened closed back last → last.writer.sent ≡ length last.writer.text.items →
-      Exchanged (Ok tt) old new (traffic_of gathered outgoing opened closed) ledger →
-      Exchanged (Ok tt) old new (peer_of gathered came closed last) ledger × IsAsker came last
+      Exchanged (Ok tt) before after (traffic_of gathered outgoing opened closed) →
+      Exchanged (Ok tt) before after (peer_of gathered came closed last) × IsAsker came last
 
   -- Of another its peer has a front.
   abbrev pub DeskFronts : Type 0
-  DeskFronts = (old new : Stand) (ledger : Ledger) (came slot : PeerSlot) (opened closed : Connection (Gathered R) (Outgoing W)) →
+  DeskFronts = (before after : Place) (came slot : PeerSlot) (opened closed : Connection (Gathered R) (Outgoing W)) →
       (back last : Leaving R W) → PassesDesk came slot opened closed back last →
-      Exchanged (Ok tt) old new (traffic_of gathered outgoing opened closed) ledger →
-      Exchanged (Err Write) old new (peer_of gathered came closed last) ledger × IsAsker came last
+      Exchanged (Ok tt) before after (traffic_of gathered outgoing opened closed) →
+      Exchanged (Err Write) before after (peer_of gathered came closed last) × IsAsker came last
 
   abbrev pub DeskFaults : Type 0
-  DeskFaults = (fault : ServeFault) (old new : Stand) (ledger : Ledger) (came slot : PeerSlot) →
+  DeskFaults = (fault : ServeFault) (before after : Place) (came slot : PeerSlot) →
       (opened closed : Connection (Gathered R) (Outgoing W)) (back last : Leaving R W) → PassesDesk came slot opened closed back last →
-      Exchanged (Err fault) old new (traffic_of gathered outgoing opened closed) ledger →
-      FailedThrough fault old new (peer_of gathered came closed last) ledger × IsAsker came last
+      Exchanged (Err fault) before after (traffic_of gathered outgoing opened closed) →
+      FailedThrough fault before after (peer_of gathered came closed last) × IsAsker came last
 
 -- If the reader of a desk failed, that of its peer failed in it, or what comes of the peer isn't read any more.
 abbrev pub DeskCauses : {R : Type 0} → (R → R → Type 0) → (Gathered R → Gathered R → Type 0) → Type 0

@@ -1,27 +1,22 @@
 -- The law of the program: a run over a file, what is found of the file after it, and the run after that.
-use Rattle.std.specs.Prelude.{◌≡◌, ◌⊎◌, ℕ, List, ⊤}
+use Rattle.std.specs.Prelude.{◌≡◌, ◌⊎◌, ℕ, List}
 use Rattle.sqlite_disk.specs.declared.Disk.{Ghosts}
 use Rattle.sqlite_wal.specs.Recovery.{Image}
 use Rattle.sqlite.specs.State.{HasCleanDisk}
 use Rattle.sqlite.specs.Files.{file_state}
-use Rattle.moo_rows.specs.Maps.{Maps}
-use Rattle.moo_world.specs.Judge.{State, state_of}
-use Rattle.moo_store.specs.Stand.{Stand, Works, MayLeave}
-use Rattle.moo_store.specs.World.{CrashLeaves}
-use Rattle.moo_files.specs.Contents.{HoldsState, IsLeftBy}
+use Rattle.moo_store_rows.specs.Moment.{Moment, IsSpared}
+use Rattle.moo_store_rows.specs.Place.{Place, Works, MayBeLeft}
+use Rattle.moo_files.specs.Contents.{HoldsMoment, IsLeftBy}
 use Rattle.moo_files.specs.Remains.{IsCleanRemains}
 use Rattle.moo_files.specs.Stop.{DiskLeaves}
 use Rattle.moo_files.specs.declared.remains.Remains.{Remains}
 use Rattle.moo_cli.specs.declared.task.Task.{Task}
-use Rattle.moo_cli.specs.declared.task.Service.{Service}
-use Rattle.moo_cli.specs.declared.task.Action.TheVariants.{Serve}
 use Rattle.moo_cli.specs.Tasks.{NamesTask}
-use Rattle.moo_http.specs.Ledger.{Ledger}
 use Rattle.moo_http.specs.Turns.{Attendance}
 use Rattle.moo_run.specs.Given.{Run}
-use Rattle.moo_run.specs.Run.{RunsFrom}
-use Rattle.moo_run.specs.Ends.{HoldsRows, RanFrom, RunsOver, IsClosedEnd}
-use Rattle.moo_run_laws.specs.Again.{Started, StartedRows, LeadTo, IfRan, TakesUp, TakesRows, IsLeftAfter, IsFoundOf, IsFoundIn}
+use Rattle.moo_run.specs.Run.{RunsIn}
+use Rattle.moo_run.specs.Ends.{RunsOver, IsClosedEnd}
+use Rattle.moo_run_laws.specs.Again.{StartsFrom, IfRan, TakesUp, IsLeftAfter, IsFoundOf, IsFoundIn}
 use Rattle.moo_run.specs.declared.ends.Ends.{Ends}
 use Rattle.moo_run.specs.declared.session.Runs as Runs
 
@@ -35,12 +30,11 @@ pub record FileRun {S T D : Type 0} (g : Runs.Ghosts S T D) (disk : Ghosts D) : 
   pub ends : Ends T D disk
   pub closed : Remains T D disk
 
--- What came of a port that was served from a state: it was refused, or so many connections to it were answered and so many failed, which
+-- What came of a port that was served from a moment: it was refused, or so many connections to it were answered and so many failed, which
 -- led to this end.
-abbrev pub ServedTo : Attendance → ℕ → State → Stand → Type 0
-ServedTo ports port s end =
-    ((end ≡ Works s) × ports.refuses port)
-    ⊎ ((answered failed : ℕ) × (ledger : Ledger) × ports.attends port answered failed ledger (Works s) end)
+abbrev pub ServedTo : Attendance → ℕ → Moment → Place → Type 0
+ServedTo ports port m end =
+    ((end ≡ Works m) × ports.refuses port) ⊎ ((answered failed : ℕ) × ports.attends port answered failed (Works m) end)
 
 module _ {S T D : Type 0} {g : Runs.Ghosts S T D} {disk : Ghosts D} where
   -- what it was given, and what it wrote
@@ -70,48 +64,24 @@ module _ {S T D : Type 0} {g : Runs.Ghosts S T D} {disk : Ghosts D} where
   abbrev pub IsFoundOnCleanDisk : FileRun g disk → Image → Type 0
   IsFoundOnCleanDisk r next = IsLeftByCrash r next ⊎ (IsClosedEnd r.ends r.closed × IsCleanRemains r.closed × IsFoundAfter r next)
 
-  -- It leads its file to a state of which this is true: if a task ran over the file, from each state that this held, or from a new world,
-  -- to one that its end may leave; if none did, to each that the file held.
-  abbrev pub GoesTo : FileRun g disk → (State → Type 0) → Type 0
+  -- It leads its file to a moment of which this is true. If a task ran over the file: from the moment where it started to one that its end
+  -- may leave. If none did: to the moment that the file held, or, of an earlier version, that to which it was migrated.
+  abbrev pub GoesTo : FileRun g disk → (Moment → Type 0) → Type 0
   GoesTo r Then = IfRan r.ends
-      (λ conn. (task : Task) × NamesTask r.words task × Started task r.image (run_of r).given (λ s.
-      (ran : RanFrom task s conn (run_of r)) × (t : State) × MayLeave ran.end t × Then t))
-      (λ rest. (s : State) → HoldsState r.image s → Then s)
+      (λ conn. (task : Task) × NamesTask r.words task × StartsFrom task r.image (run_of r).given (λ m.
+      (ran : RunsIn (file_state conn) task m (run_of r)) × (end : Moment) × MayBeLeft ran.0.end end × Then end))
+      (λ rest. (m : Moment) → HoldsMoment r.image m → (end : Moment) × IsSpared m end × Then end)
 
-  -- The same of rows: it leads to rows to which its acknowledged batches lead from its first rows, or these and one in which the store
-  -- failed. What stays keeps its number; none is given again.
-  abbrev pub GoesToRows : FileRun g disk → (Maps → Type 0) → Type 0
-  GoesToRows r Then = IfRan r.ends
-      (λ conn. (task : Task) × NamesTask r.words task × StartedRows task r.image (run_of r).given (λ rows.
-      RunsFrom task (state_of rows) (run_of r) (HasCleanDisk (file_state conn)) (CrashLeaves (file_state conn))
-      (λ batches others. (end : Maps) × LeadTo rows end batches others × Then end) ⊤))
-      (λ rest. (rows : Maps) → HoldsRows r.image rows → Then rows)
-
-  -- The same if the words serve a file that holds a state: it leads to a state that may be left by an end to which the connections led.
-  abbrev pub ServesTo : FileRun g disk → (State → Type 0) → Type 0
-  ServesTo r Then = IfRan r.ends
-      (λ conn. (task : Task) × NamesTask r.words task
-      × ((service : Service) → task.action ≡ Serve service → (s : State) → HoldsState r.image s →
-      (end : Stand) × ServedTo (run_of r).given.ports service.port s end × (t : State) × MayLeave end t × Then t))
-      (λ rest. (s : State) → HoldsState r.image s → Then s)
-
-  -- It goes on from this state: its files hold it; and a task that takes up its file, on a clean disk, runs from it, or fails for a cause,
+  -- It goes on from this moment: its files hold it; and a task that takes up its file, on a clean disk, runs from it, or fails for a cause,
   -- and no damage is told.
-  abbrev pub GoesOnFrom : FileRun g disk → State → Type 0
-  GoesOnFrom r s = HoldsState r.image s × TakesUp r.words r.image s r.ends (run_of r)
-
-  -- The same of rows: its files hold them; and a task that takes up its file and runs, on a clean disk, runs from them.
-  abbrev pub GoesOnFromRows : FileRun g disk → Maps → Type 0
-  GoesOnFromRows r rows = HoldsRows r.image rows × TakesRows r.words rows r.ends (run_of r)
+  abbrev pub GoesOnFrom : FileRun g disk → Moment → Type 0
+  GoesOnFrom r m = HoldsMoment r.image m × TakesUp r.words r.image m r.ends (run_of r)
 
 module _ {S T D N U E : Type 0} {g : Runs.Ghosts S T D} {disk : Ghosts D} {h : Runs.Ghosts N U E} {other : Ghosts E} where
   -- two runs of the program, the second over what is found after the first
   abbrev pub Follows : FileRun g disk → FileRun h other → Type 0
   Follows first next = IsFileRun first × IsFileRun next × IsFoundOnCleanDisk first next.image
 
-  -- The first run leads its file to a state from which the next one goes on, and to such rows; and if it serves, to a state to which the
-  -- connections led.
+  -- The first run leads its file to a moment from which the next one goes on.
   pub record HandsOver (first : FileRun g disk) (next : FileRun h other) : Type 0 where
-    pub state : GoesTo first (GoesOnFrom next)
-    pub numbers : GoesToRows first (GoesOnFromRows next)
-    pub served : ServesTo first (GoesOnFrom next)
+    pub goes : GoesTo first (GoesOnFrom next)

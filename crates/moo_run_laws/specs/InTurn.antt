@@ -1,17 +1,14 @@
 -- Runs of the program in turn, each over what is found of the file after the one before it.
-use Rattle.std.specs.Prelude.{◌≡◌, ℕ, ◌≤◌, List, [], ◌∷◌, ◌++◌, take, ⊤}
+use Rattle.std.specs.Prelude.{◌≡◌, List, [], ◌∷◌, ◌++◌}
 use Rattle.sqlite_disk.specs.declared.Disk.{Ghosts}
 use Rattle.sqlite_wal.specs.Recovery.{Image}
-use Rattle.sqlite.specs.State.{HasCleanDisk}
 use Rattle.sqlite.specs.Files.{file_state}
-use Rattle.moo_rows.specs.Maps.{Maps}
 use Rattle.moo_world.specs.declared.call.Batch.{Batch}
-use Rattle.moo_world.specs.Judge.{state_of}
-use Rattle.moo_store.specs.Led.{BatchesLead}
-use Rattle.moo_store.specs.World.{CrashLeaves}
+use Rattle.moo_store_rows.specs.Moment.{Moment, BecomesPresent, IsSpared, LeadsByEach}
+use Rattle.moo_store_rows.specs.Place.{MayBeLeft}
 use Rattle.moo_cli.specs.declared.task.Task.{Task}
 use Rattle.moo_cli.specs.Tasks.{NamesTask}
-use Rattle.moo_run.specs.Run.{RunsFrom}
+use Rattle.moo_run.specs.Run.{RunsIn}
 use Rattle.moo_run_laws.specs.Again.{IfRan}
 use Rattle.moo_run_laws.specs.FileRuns.{FileRun, run_of, IsFileRun, IsFoundOnCleanDisk}
 use Rattle.moo_run.specs.declared.session.Runs as Runs
@@ -24,18 +21,17 @@ module _ {S T D : Type 0} {g : Runs.Ghosts S T D} {disk : Ghosts D} where
   RunInTurn image (run ∷ runs) found =
       (run.image ≡ image) × IsFileRun run × (next : Image) × IsFoundOnCleanDisk run next × RunInTurn next runs found
 
-  -- From these rows the run acknowledged these batches, by an account of what it wrote, and its store failed in these others. If no task ran
-  -- over the file, there are none.
-  abbrev pub Acknowledges : FileRun g disk → Maps → List Batch → List Batch → Type 0
-  Acknowledges run rows batches others = IfRan run.ends
-      (λ conn. (task : Task) × NamesTask run.words task
-      × RunsFrom task (state_of rows) (run_of run) (HasCleanDisk (file_state conn)) (CrashLeaves (file_state conn))
-      (λ taken lost. (taken ≡ batches) × (lost ≡ others)) ⊤)
-      (λ rest. (batches ≡ []) × (others ≡ []))
+  -- The run leads from a moment to the next by these batches, one after another: from that moment, brought to the present version, to one
+  -- that its end may leave. The accepted batches of a text that it ran are such batches (`turns_lead`). If no task ran over the file there
+  -- are none, and its moment is kept, or migrated.
+  abbrev pub LeadsOver : FileRun g disk → Moment → List Batch → Moment → Type 0
+  LeadsOver run m batches next = IfRan run.ends
+      (λ conn. (task : Task) × NamesTask run.words task × (now : Moment) × BecomesPresent m now
+      × (ran : RunsIn (file_state conn) task now (run_of run)) × MayBeLeft ran.0.end next × LeadsByEach now batches next)
+      (λ rest. (batches ≡ []) × IsSpared m next)
 
-  -- The runs lead from rows to rows by these batches: each by those that it acknowledged, and at most one in which its store failed.
-  abbrev pub LeadInTurn : Maps → List (FileRun g disk) → List Batch → Maps → Type 0
-  LeadInTurn rows [] batches end = (batches ≡ []) × (end ≡ rows)
-  LeadInTurn rows (run ∷ runs) batches end =
-      (own others later : List Batch) × Acknowledges run rows own others × (more : ℕ) × (more ≤ 1) × (next : Maps)
-      × BatchesLead (own ++ take more others) rows next × LeadInTurn next runs later end × (batches ≡ (own ++ take more others) ++ later)
+  -- so the runs do, one after another
+  abbrev pub LeadInTurn : Moment → List (FileRun g disk) → List Batch → Moment → Type 0
+  LeadInTurn m [] batches end = (batches ≡ []) × (end ≡ m)
+  LeadInTurn m (run ∷ runs) batches end =
+      (own later : List Batch) × (next : Moment) × LeadsOver run m own next × LeadInTurn next runs later end × (batches ≡ own ++ later)

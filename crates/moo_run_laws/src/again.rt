@@ -14,7 +14,7 @@ use moo_run::{Ends, Runs, Session, Streams, run_to_end, run_words};
 /// Runs words as the program does, by `run_to_end`, and then other words.
 ///
 /// The program runs over a file, and stops at the end of its words, before the file is closed or after that. It runs again over what is
-/// then found: it goes on from a state that the first run may leave. Any words, with any input, over any host. Both disks are honest, and
+/// then found: it goes on from a moment that the first run may leave. Any words, with any input, over any host. Both disks are honest, and
 /// may fail from any call on. What is found is any files of a database that a crash may leave, or any bytes that the disk leaves.
 pub fn run_and_run_again<'s, 'n, S: Streams, N: Streams>(
     session: &mut Session<'s, S>,
@@ -35,9 +35,9 @@ pub fn run_and_run_again<'s, 'n, S: Streams, N: Streams>(
         N.Host.may_open next.old.host task.file.now }
     requires next_read { (task : Task) (path : List ℕ) → NamesTask (map (λ word. word.now) next_words.now) task →
         ReadsFile task path → N.Host.may_read next.old.host path }
-    // From a state that the file held, or a new world: the state after the acknowledged batches, or with the one batch in hand. If no task
-    // ran, what the file held. What stays keeps its number, and no number is given again. A service acknowledges what connections asked,
-    // those too whose answer couldn't be sent.
+    // From the moment that the file held, or a new world: that after the acknowledged batches, or with the one batch in hand. If no task
+    // ran, what the file held. What stays keeps its number and its cells, and no number is given again. A service acknowledges what
+    // connections asked, those too whose answer couldn't be sent.
     ensures again { RunsTwice ⟦<Session<'s, S> as Runs>⟧ ⟦<Session<'n, N> as Runs>⟧
         (λ ends. record {
           words = map (λ word. word.now) words.now;

@@ -1,13 +1,13 @@
 //! The law of the program, of any list of runs.
 
-ghost use Rattle.std.specs.Prelude.{◌≡◌, ℕ, ◌≤◌, List, length};
+ghost use Rattle.std.specs.Prelude.{◌≡◌, ◌+◌, ℕ, ◌≤◌, List, length};
 ghost use Rattle.std.specs.List.{filter};
 ghost use Rattle.sqlite_wal.specs.Recovery.{Image};
-ghost use Rattle.moo_rows.specs.Maps.{Maps};
 ghost use Rattle.moo_world.specs.declared.call.Batch.{Batch};
-ghost use Rattle.moo_world.specs.Judge.{after, is_for, state_of};
+ghost use Rattle.moo_world.specs.Judge.{after, is_for};
 ghost use Rattle.moo_world.specs.Rows.{IsGood};
-ghost use Rattle.moo_run.specs.Ends.{HoldsRows};
+ghost use Rattle.moo_store_rows.specs.Moment.{Moment, state_of_moment};
+ghost use Rattle.moo_files.specs.Contents.{HoldsMoment};
 ghost use Rattle.moo_run_laws.specs.FileRuns.{FileRun};
 ghost use Rattle.moo_run_laws.specs.InTurn.{RunInTurn, LeadInTurn};
 ghost use Rattle.moo_laws.specs.NobodyRises.{NoWizardActs, KeepsRights};
@@ -17,15 +17,19 @@ use moo_run::Runs;
 /// The program runs over a file again and again, each time over what is found after the run before: any words, with any input, over any
 /// host. Each run may be stopped, or close its file, as in `runs_lead_on`, which is the law of two of them.
 pub fn runs_in_turn<S: Runs>()
-    // They have one history: batches lead from the rows that the file held to those that it holds in the end, run by run.
-    ensures history { (image found : Image) (runs : List (FileRun S.Runs S.Disk.Disk)) (rows : Maps) → RunInTurn image runs found →
-        HoldsRows image rows → (end : Maps) × HoldsRows found end × (batches : List Batch) × LeadInTurn rows runs batches end }
-    ensures state { (runs : List (FileRun S.Runs S.Disk.Disk)) (rows end : Maps) (batches : List Batch) →
-        LeadInTurn rows runs batches end → state_of end ≡ after (state_of rows) batches }
+    // They have one history: batches lead from the moment that the file held to that which it holds in the end, run by run, each cell of it.
+    ensures history { (image found : Image) (runs : List (FileRun S.Runs S.Disk.Disk)) (m : Moment) → RunInTurn image runs found →
+        HoldsMoment image m → (end : Moment) × HoldsMoment found end × (batches : List Batch) × LeadInTurn m runs batches end }
+    ensures state { (runs : List (FileRun S.Runs S.Disk.Disk)) (m end : Moment) (batches : List Batch) →
+        LeadInTurn m runs batches end → state_of_moment end ≡ after (state_of_moment m) batches }
+    // Each of these batches is counted.
+    ensures counts { (runs : List (FileRun S.Runs S.Disk.Disk)) (m end : Moment) (batches : List Batch) →
+        LeadInTurn m runs batches end → (state_of_moment end).seq ≡ (state_of_moment m).seq + length batches }
     // Of all batches that they ran, acknowledged or not, one at most is meant for a number: a batch with `at` acts once.
-    ensures once { (runs : List (FileRun S.Runs S.Disk.Disk)) (rows end : Maps) (batches : List Batch) (number : ℕ) →
-        LeadInTurn rows runs batches end → length (filter (is_for number) batches) ≤ 1 }
+    ensures once { (runs : List (FileRun S.Runs S.Disk.Disk)) (m end : Moment) (batches : List Batch) (number : ℕ) →
+        LeadInTurn m runs batches end → length (filter (is_for number) batches) ≤ 1 }
     // And if none of them is a wizard's at its turn, nobody rises.
-    ensures rises { (runs : List (FileRun S.Runs S.Disk.Disk)) (rows end : Maps) (batches : List Batch) → IsGood rows →
-        LeadInTurn rows runs batches end → NoWizardActs (state_of rows) batches → KeepsRights (state_of rows) batches (state_of end) }
+    ensures rises { (runs : List (FileRun S.Runs S.Disk.Disk)) (m end : Moment) (batches : List Batch) → IsGood m.rows →
+        LeadInTurn m runs batches end → NoWizardActs (state_of_moment m) batches →
+        KeepsRights (state_of_moment m) batches (state_of_moment end) }
 {}

@@ -1,15 +1,24 @@
 //! The law of the program, of any two runs.
 
+ghost use Rattle.std.specs.Prelude.{◌≡◌};
+ghost use Rattle.sqlite.specs.Files.{file_state};
+ghost use Rattle.sqlite.specs.Held.{Held};
+ghost use Rattle.sqlite_store.specs.declared.store.FileStore.{FileStore};
 ghost use Rattle.sqlite_wal.specs.Recovery.{Image};
+ghost use Rattle.moo_cli.specs.declared.task.Task.{Task};
+ghost use Rattle.moo_cli.specs.declared.task.Service.{Service};
+ghost use Rattle.moo_cli.specs.declared.task.Action.TheVariants.{Serve};
+ghost use Rattle.moo_store_rows.specs.Moment.{Moment};
 ghost use Rattle.moo_files.specs.Remains.{IsCleanRemains};
 ghost use Rattle.moo_run.specs.Ends.{IsClosedEnd};
-ghost use Rattle.moo_run_laws.specs.FileRuns.{FileRun, Follows, HandsOver, IsFoundAfter};
+ghost use Rattle.moo_run.specs.Run.{RunsIn};
+ghost use Rattle.moo_run_laws.specs.FileRuns.{FileRun, Follows, HandsOver, IsFoundAfter, run_of, ServedTo};
 ghost use Rattle.moo_run_laws.specs.Halted.{EndLeaves};
 
 use moo_run::Runs;
 
 /// The program runs over a file, on a disk that is honest, to the end of its words, and closes it or is stopped. It runs again over what
-/// is then found: it goes on from a state that the first run may leave.
+/// is then found: it goes on from a moment that the first run may leave, and has its state, all its numbers and each of its cells.
 ///
 /// A run is what the clause `over` of `run_words` says of it: any words, with any input, over any host. `run_to_end`, the call that the
 /// program makes, says it too, and closes the file after that. `run_and_run_again` makes two such calls, and says it of them;
@@ -24,4 +33,11 @@ pub fn runs_lead_on<S: Runs, N: Runs>()
 pub fn ends_are_found<S: Runs>()
     ensures found { (run : FileRun S.Runs S.Disk.Disk) (next : Image) → IsClosedEnd run.ends run.closed → IsCleanRemains run.closed →
         EndLeaves run.image run.ends run.closed next → IsFoundAfter run next }
+{}
+
+/// A service that ran from a moment ended where its connections led: or its port was refused, and it is where it was.
+pub fn services_end_where_connections_led<S: Runs>()
+    ensures served { (run : FileRun S.Runs S.Disk.Disk) (conn : Held (FileStore S.Disk S.Disk.Disk)) (task : Task) (service : Service)
+        (m : Moment) → task.action ≡ Serve service → (ran : RunsIn (file_state conn) task m (run_of run)) →
+        ServedTo (run_of run).given.ports service.port m ran.0.end }
 {}

@@ -21,7 +21,7 @@ pub use desk::exchanges_pass_the_desk;
 pub use halted::run_halted;
 pub use host::{Halt, HaltingHost, halting_files};
 pub use in_turn::runs_in_turn;
-pub use law::{ends_are_found, runs_lead_on};
+pub use law::{ends_are_found, runs_lead_on, services_end_where_connections_led};
 pub use ledger::desks_keep_a_ledger;
 pub use output::HaltingOutput;
 pub use rights::led_batches_keep_rights;

@@ -1,20 +1,14 @@
 //! Nobody rises: of the batches that a text, a service or a run of the program runs.
 
 ghost use Rattle.std.specs.Prelude.{List};
-ghost use Rattle.moo_rows.specs.Maps.{Maps};
 ghost use Rattle.moo_world.specs.declared.call.Batch.{Batch};
-ghost use Rattle.moo_world.specs.Judge.{state_of};
 ghost use Rattle.moo_world.specs.Rows.{IsGood};
-ghost use Rattle.moo_store.specs.Led.{BatchesLead};
 ghost use Rattle.moo_store_rows.specs.Moment.{Moment, state_of_moment, LeadsByEach};
 ghost use Rattle.moo_laws.specs.NobodyRises.{NoWizardActs, KeepsRights};
 
 /// If none of these batches is a wizard's at its turn, nobody rises by them. Nothing is asked of what they give.
 pub fn led_batches_keep_rights()
-    // From the rows where a run begins to those that are found after it, as `HandsOver` and `runs_in_turn` have them.
-    ensures rows { (rows end : Maps) (batches : List Batch) → IsGood rows → BatchesLead batches rows end →
-        NoWizardActs (state_of rows) batches → KeepsRights (state_of rows) batches (state_of end) }
-    // From one moment of a World to another, as `turns_lead` has them of a text.
+    // From one moment of a World to another, as `turns_lead` has them of a text, and each run of the program.
     ensures moments { (m end : Moment) (batches : List Batch) → IsGood m.rows → LeadsByEach m batches end →
         NoWizardActs (state_of_moment m) batches → KeepsRights (state_of_moment m) batches (state_of_moment end) }
 {}

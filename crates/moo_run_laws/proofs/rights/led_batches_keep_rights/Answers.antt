@@ -1,5 +1,5 @@
-use Rattle.moo_run_laws.proofs.LedLemmas.{rows_keep, moments_keep}
+use Rattle.moo_run_laws.proofs.LedLemmas.{moments_keep}
 use Rattle.moo_run_laws.proofs.rights.led_batches_keep_rights.Goals as goal
 
 pub returns : goal.returns
-returns c = record { rows = rows_keep; moments = moments_keep }
+returns c = record { moments = moments_keep }
