@@ -1,8 +1,8 @@
 -- A batch that is asked alone.
-use Rattle.moo_store.proofs.Words.{◌≡◌, ◌≢◌, ◌⊎◌, inl, inr, Reply}
+use Rattle.moo_store.proofs.Words.{◌≡◌, ◌≢◌, inl, inr, Batch, State, Reply, judge, answer_of, MayReplyAsked}
 use Rattle.moo_text.specs.declared.reply.Reply.TheVariants.{NoMemory}
 
 -- a reply that isn't a lack of memory is as the batch is judged
-pub judged_alone : (reply answer : Reply) → reply ≢ NoMemory → (reply ≡ NoMemory) ⊎ (reply ≡ answer) → reply ≡ answer
-judged_alone reply answer other (inl none) = absurd (other none)
-judged_alone reply answer other (inr is) = is
+pub judged_alone : (s : State) (batch : Batch) (reply : Reply) → reply ≢ NoMemory → MayReplyAsked s batch reply → reply ≡ answer_of s (judge s batch)
+judged_alone s batch reply other (inl none) = absurd (other none.0)
+judged_alone s batch reply other (inr is) = is

@@ -1,48 +1,38 @@
 -- What the asking of a text answers.
-use Rattle.moo_store.{proofs.Words.{◌≡◌, inl, inr, ℕ, List, Option, Result, Ok, Err, refl, ap, subst, sym, Bool, ◌⊎◌, IsTrue, IfOk, Ghosts, Batch, State, judge, TextFault, Answer, Reply, answer_of, IsRun, StandsFor, StandsAt, Stand, Works, AsksBatch, World, answer_to, Completes, Halts, StoreFault, Closed}, proofs.Following.{completes-follows, halts-follows}}
-use Rattle.std.specs.Result.{IsOkAnd}
-use Rattle.moo_text.specs.declared.reply.Reply.TheVariants.{NoMemory}
-use Rattle.moo_text.specs.declared.reply.Answer.TheVariants as answer
+use Rattle.moo_store.{proofs.Words.{◌≡◌, ℕ, Bool, List, Option, Result, Ok, Err, refl, ap, subst, sym, false, IsTrue, Ghosts, Batch, Maps, state_of, TextFault, Answer, Reply, World, answer_to, StoreFault, Closed}, specs.Moves.{Stands, MayReplyAsked, AsksAt}, specs.Stopping.{AnswersBy}, specs.World.{state_in}, specs.declared.course.Course.{Course}, proofs.Texts.{answers-follow}}
+use Rattle.moo_store_rows.{specs.Moment.{Moment, state_of_moment}, specs.Place.{Place, Works, Failed, Between}}
+use Rattle.std.specs.Result.{IsOkAnd, IsErrOf}
 
 -- ---- one batch
 
--- a reply is as the batch is judged
-abbrev IsJudged : State → Batch → Reply → Type 0
-IsJudged s batch reply = (reply ≡ NoMemory) ⊎ (reply ≡ answer_of s (judge s batch))
+replied_at : (m : Moment) (batch : Batch) (r : Result Reply StoreFault) → IsOkAnd r (MayReplyAsked (state_of_moment m) batch) → AsksAt (Works m) batch (answer_to r) (Works m)
+replied_at m batch (Ok reply) it = ((reply, refl, it), refl)
+replied_at m batch (Err fault) it = absurd it
 
-replies_judged : (s : State) (batch : Batch) (r : Result Reply StoreFault) → IsOkAnd r (IsJudged s batch) → IfOk r (λ reply. reply ≡ NoMemory → IsRun s batch) → AsksBatch (Works s) batch (answer_to r) (Works s)
-replies_judged s batch (Ok reply) it run = (elim it [ inl none ↦ inl (ap answer.Replied none, run none) | inr is ↦ inr (ap answer.Replied is) ], refl)
-replies_judged s batch (Err fault) it run = absurd it
-
--- what asking a batch says of a World, wherever it stands
-pub asked_one : {S : Type 0} (g : Ghosts S) (world : World S) (batch : Batch) (r : Result Reply StoreFault)
-    → ((known : Bool) (s : State) → StandsFor g known world s → IsOkAnd r (λ reply. (reply ≡ NoMemory) ⊎ (reply ≡ answer_of s (judge s batch)))) → ((known : Bool) (s : State) → StandsFor g known world s → IfOk r (λ reply. reply ≡ NoMemory → IsRun s batch))
-    → (IsTrue world.failed → r ≡ Err Closed) → (known : Bool) (stand : Stand) → StandsAt g known world stand → AsksBatch stand batch (answer_to r) stand
-asked_one g world batch r judged run closed known (Works s) at = replies_judged s batch r (judged known s at) (run known s at)
-asked_one g world batch r judged run closed known stand at = (ap answer_to (closed at.0), refl)
+-- what asking a batch says of a World, at whatever place it is
+pub asked_at : {S : Type 0} (g : Ghosts S) (world : World S) (batch : Batch) (r : Result Reply StoreFault) → (world.failed ≡ false → IsOkAnd r (MayReplyAsked (state_in world) batch)) → (IsTrue world.failed → IsErrOf r Closed)
+    → (place : Place) → Stands g world place → AsksAt place batch (answer_to r) place
+asked_at g world batch r asks closed (Works m) at = replied_at m batch r (subst (λ (rows : Maps). IsOkAnd r (MayReplyAsked (state_of rows) batch)) (at.rows at.failed) (asks at.failed))
+asked_at g world batch r asks closed (Failed m) at = (ap answer_to (closed at.failed), refl)
+asked_at g world batch r asks closed (Between m next) at = (ap answer_to (closed at.failed), refl)
 
 -- ---- a text
 
 -- what the answering of a batch says of one that stands here, and stays as it is
-abbrev pub AsksHere : {A : Type 0} → (A → Batch → Answer → A → Type 0) → A → Stand → Type 0
-AsksHere {A = A} P it stand = (batch : Batch) (a : Answer) (new : A) → P it batch a new → (new ≡ it) × AsksBatch stand batch a stand
+abbrev pub AsksHere : {A : Type 0} → (A → Batch → Answer → A → Type 0) → A → Place → Type 0
+AsksHere {A = A} P it place = (batch : Batch) (a : Answer) (new : A) → P it batch a new → (new ≡ it) × AsksAt place batch a place
 
-module _ {A : Type 0} (P : A → Batch → Answer → A → Type 0) (it : A) (stand : Stand) (asks : AsksHere P it stand) where
+module _ {A : Type 0} (P : A → Batch → Answer → A → Type 0) (it : A) (place : Place) (asks : AsksHere P it place) where
   -- it is as it was
-  abbrev Stays : A → Stand → Type 0
-  Stays now at = (now ≡ it) × (at ≡ stand)
+  abbrev Stays : A → Place → Type 0
+  Stays now at = (now ≡ it) × (at ≡ place)
 
-  step : (old new : A) (at : Stand) (batch : Batch) (a : Answer) → Stays old at → P old batch a new → (next : Stand) × Stays new next × AsksBatch at batch a next
+  step : (old new : A) (at : Place) (batch : Batch) (a : Answer) → Stays old at → P old batch a new → (next : Place) × Stays new next × AsksAt at batch a next
   step old new at batch a stays one =
       let asked = asks batch a new (subst (λ x. P x batch a new) stays.0 one) in
-      (stand, (asked.0, refl), subst (λ x. AsksBatch x batch a stand) (sym stays.1) asked.1)
+      (place, (asked.0, refl), subst (λ x. AsksAt x batch a place) (sym stays.1) asked.1)
 
-  pub asks_all : (new : A) (text before behind : Option (List ℕ)) (b l : ℕ) → Completes P it new text before behind b l → Completes AsksBatch stand stand text before behind b l
-  asks_all new text before behind b l c =
-      let done = completes-follows P AsksBatch Stays step it new stand text before behind b l (refl, refl) c in
-      subst (λ end. Completes AsksBatch stand end text before behind b l) done.1.1 done.2
-
-  pub stops_asking : (new : A) (text before behind : Option (List ℕ)) (fault : TextFault) → Halts P it new text before behind fault → Halts AsksBatch stand stand text before behind fault
-  stops_asking new text before behind fault h =
-      let done = halts-follows P AsksBatch Stays step it new stand text before behind fault (refl, refl) h in
-      subst (λ end. Halts AsksBatch stand end text before behind fault) done.1.1 done.2
+  pub asks_all : (stop : Bool) (new : A) (text before behind : Option (List ℕ)) (r : Result Course TextFault) → AnswersBy P stop it new text before behind r → AnswersBy AsksAt stop place place text before behind r
+  asks_all stop new text before behind r answers =
+      let done = answers-follow P AsksAt Stays step stop it new place text before behind r (refl, refl) answers in
+      subst (λ end. AnswersBy AsksAt stop place end text before behind r) done.1.1 done.2

@@ -1,6 +1,5 @@
 -- How far a text was answered that stops at the first answer that isn't `accepted`.
-use Rattle.moo_store.{proofs.Words.{◌≡◌, ◌&&◌, ◌∙◌, not, ℕ, Bool, true, false, List, [], ◌∷◌, ◌++◌, Option, refl, sym, arith, items, Ghosts, store_of, IsGood, Side, Answer, Batch, says_accepted, stops_after, AreAccepted, EndAtFirst, EndsEarly, StandsAt, Stand, RunsBatch, World, RunsAndAnswers, accepted, faulted, AppliesFirst}, proofs.Crashes.{crash_leaves}, proofs.Following.{early-follows}, proofs.Going.{Going, gives_front}, proofs.Items.{turns_written, keeps_rest, keeps_led, keeps_left}, proofs.Untouched.{written_none}}
-use Rattle.moo_store_rows.proofs.Committed.{IsSettled}
+use Rattle.moo_store.{proofs.Words.{◌≡◌, ◌&&◌, ◌∙◌, not, ℕ, Bool, true, false, List, [], ◌∷◌, ◌++◌, Option, refl, sym, arith, items, Side, Answer, Batch, says_accepted, stops_after, AreAccepted, EndAtFirst, EndsEarly}, proofs.Going.{Going, gives_front}}
 
 -- one answer more
 pub accepted_on : (answers : List Answer) (a : Answer) → AreAccepted answers → says_accepted a ≡ true → AreAccepted (answers ++ a ∷ [])
@@ -10,11 +9,6 @@ accepted_on (x ∷ xs) a all one = (all.0, accepted_on xs a all.1 one)
 -- the last answer isn't `accepted`
 pub at_first : (answers : List Answer) (a : Answer) → AreAccepted answers → says_accepted a ≡ false → EndAtFirst (answers ++ a ∷ [])
 at_first answers a all one = record { before = answers; last = a; are = refl; firsts = all; refused = one }
-
--- a text that wasn't to stop didn't
-pub not_stopped : (stopped : Bool) → (stopped ≡ true → false ≡ true) → stopped ≡ false
-not_stopped false stops = refl
-not_stopped true stops = sym (stops refl)
 
 -- a text stops after an answer only if it was to stop, and the answer isn't `accepted`
 stops_by : (stop accepted r : Bool) → r ≡ (stop && not accepted) → r ≡ true → (stop ≡ true) × (accepted ≡ false)
@@ -54,22 +48,3 @@ module _ {A : Type 0} (P : A → Batch → Answer → A → Type 0) (old : A) (t
     batches_are = p.batches_are;
     lost_are = p.lost_are;
   }
-
--- ---- a World
-
-module _ {S : Type 0} (g : Ghosts S) (settled : (w : World S) → IsSettled (store_of g w)) where
-  pub applies_first : (old new : World S) (text before behind : Option (List ℕ)) (b l : ℕ) → (old.failed ≡ false → IsGood old.rows.maps) → EndsEarly (RunsAndAnswers g) old new text before behind b l → (known : Bool) (stand : Stand) → StandsAt g known old stand
-      → AppliesFirst g known stand text before behind old new b l
-  applies_first old new text before behind b l good e known stand at =
-      let run = early-follows (RunsAndAnswers g) RunsBatch (StandsAt g known) (λ old new stand batch a it one. one.stands known stand it) old new stand text before behind b l at e in
-      let wrote = turns_written g old old new [] [] e.done e.answers (written_none g old (settled old)) e.turns in
-      record {
-        new = run.0;
-        stands = run.1;
-        early = run.2;
-        crash = crash_leaves g known new run.0 (settled new) run.1;
-        clean = wrote.clean;
-        cells = keeps_rest g known old new stand (accepted e.done e.answers) (faulted e.done e.answers) wrote at;
-        led = keeps_led g known old new stand (accepted e.done e.answers) (faulted e.done e.answers) wrote good at;
-        left = keeps_left g known old new stand (accepted e.done e.answers) (faulted e.done e.answers) wrote at;
-      }

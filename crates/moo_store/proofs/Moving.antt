@@ -1,5 +1,5 @@
 -- Where any World stands, and what moves and stays together come to.
-use Rattle.moo_store.proofs.Words.{◌≡◌, ◌∙◌, Bool, true, false, refl, sym, subst, Ghosts, HasCleanDisk, IsGood, World, store_of}
+use Rattle.moo_store.proofs.Words.{◌≡◌, ◌∙◌, Bool, true, false, IsTrue, refl, sym, subst, Ghosts, HasCleanDisk, IsGood, World, store_of}
 use Rattle.moo_store.specs.Moves.{Stands, MovesBy}
 use Rattle.moo_store_rows.{specs.Moment.{Moment, rows_alone}, specs.Place.{Place, Works, Failed, Between}}
 use Rattle.moo_rows.specs.Opening.{opening_maps}
@@ -57,4 +57,18 @@ moves_from g old new Way works clean it = record {
   clean = clean;
   closed = λ failed. (let no : true ≡ false = sym failed ∙ works in absurd cc);
   goes = works_at g old (λ from. (to : Place) × Stands g new to × Way from to) works it;
+}
+
+-- ---- moves joined
+
+-- nothing moved it
+pub moves_none : {S : Type 0} (g : Ghosts S) (world : World S) (Way : Place → Place → Type 0) → ((from : Place) → Way from from) → MovesBy g world world Way
+moves_none g world Way same = record { clean = λ c. c; closed = λ f. refl; goes = λ from at. (from, at, same from) }
+
+-- what moves a World, and then what moves it on
+pub moves_then : {S : Type 0} (g : Ghosts S) (old mid new : World S) (First Then : Place → Place → Type 0) → MovesBy g old mid First → MovesBy g mid new Then → MovesBy g old new (λ from to. (between : Place) × First from between × Then between to)
+moves_then g old mid new First Then one two = record {
+  clean = λ c. one.clean (two.clean c);
+  closed = λ f. two.closed (subst (λ (w : World _). IsTrue w.failed) (sym (one.closed f)) f) ∙ one.closed f;
+  goes = λ from at. (let a = one.goes from at in let b = two.goes a.0 a.1 in (b.0, b.1, (a.0, a.2, b.2)));
 }

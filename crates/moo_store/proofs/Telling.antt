@@ -1,5 +1,6 @@
 -- What the answers to a text are, if it stops, and if it is rehearsed.
-use Rattle.moo_store.{proofs.Words.{◌≡◌, Bool, true, false, if◌then◌else◌, List, [], ◌∷◌, ◌++◌, refl, sym, ap, subst, ◌∙◌, Next, Answer, judge, state_behind, reply_of, Stand, state_at, State, RunsBatch, RehearsesBatch, Turns, is_plain, says_accepted, AreAccepted, EndAtFirst, up_to_first, replies}, proofs.Following.{turns-follow}, proofs.Standing.{plain_run}}
+use Rattle.moo_store.{proofs.Words.{◌≡◌, Bool, true, false, if◌then◌else◌, List, [], ◌∷◌, ◌++◌, refl, sym, ap, subst, ◌∙◌, Next, Answer, judge, state_behind, reply_of, State, Turns, is_plain, says_accepted, AreAccepted, EndAtFirst, up_to_first, replies}, specs.Moves.{RunsAt, state_at}, specs.Rehearsed.{RehearsesAt}, proofs.Following.{turns-follow}, proofs.Standing.{plain_run}}
+use Rattle.moo_store_rows.specs.Place.{Place}
 use Rattle.std.specs.List.{AllByRecursion}
 use Rattle.moo_text.{specs.declared.next.Next.TheVariants.{Batch as Whole, Malformed, Truncated, End}, specs.declared.reply.Reply.TheVariants.{Accepted, Refused, Full, Stale, NoMemory}}
 use Rattle.moo_text.specs.declared.reply.Answer.TheVariants as answer
@@ -57,23 +58,24 @@ replies_on s (Truncated ∷ done) left =
     (on.0, ap (λ t. answer.Truncated ∷ t) on.1)
 replies_on s (End ∷ done) left = replies_on s done left
 
-pub early_front : (old new : Stand) (done left : List Next) (answers : List Answer) → Turns RunsBatch old done answers new → ArePlain answers → EndAtFirst answers → answers ≡ up_to_first (replies (state_at old) (done ++ left))
-early_front old new done left answers turns plain first =
-    let judged = (plain_run old new done answers turns plain).0 in
-    let on = replies_on (state_at old) done left in
+pub early_front : (from to : Place) (done left : List Next) (answers : List Answer) → Turns RunsAt from done answers to → ArePlain answers → EndAtFirst answers → answers ≡ up_to_first (replies (state_at from) (done ++ left))
+early_front from to done left answers turns plain first =
+    let judged = (plain_run from to done answers turns plain).0 in
+    let on = replies_on (state_at from) done left in
     let here : up_to_first (answers ++ on.0) ≡ answers = subst (λ t. up_to_first (t ++ on.0) ≡ t) (sym first.are) (up_to_last first.before first.last on.0 first.firsts first.refused) in
     sym (ap up_to_first (on.1 ∙ ap (λ t. t ++ on.0) (sym judged)) ∙ here)
 
-pub whole_front : (old new : Stand) (items : List Next) (answers : List Answer) → Turns RunsBatch old items answers new → AreAccepted answers → answers ≡ up_to_first (replies (state_at old) items)
-whole_front old new items answers turns all = sym (up_to_end answers all) ∙ ap up_to_first (plain_run old new items answers turns (are_plain answers all)).0
+pub whole_front : (from to : Place) (items : List Next) (answers : List Answer) → Turns RunsAt from items answers to → AreAccepted answers → answers ≡ up_to_first (replies (state_at from) items)
+whole_front from to items answers turns all = sym (up_to_end answers all) ∙ ap up_to_first (plain_run from to items answers turns (are_plain answers all)).0
 
 -- ---- a rehearsal
 
-pub rehearsed_run : (old new : Stand) (items : List Next) (answers : List Answer) → Turns RehearsesBatch old items answers new → Turns RunsBatch old items answers new
-rehearsed_run old new items answers turns =
-    let run = turns-follow RehearsesBatch RunsBatch (λ a b. a ≡ b) (λ was next stand batch a same one. (next, refl, subst (λ x. RunsBatch x batch a next) same one.0)) old new old items answers refl turns in
-    subst (λ end. Turns RunsBatch old items answers end) (sym run.1) run.2
+-- it runs
+pub rehearsed_run : (from to : Place) (items : List Next) (answers : List Answer) → Turns RehearsesAt from items answers to → Turns RunsAt from items answers to
+rehearsed_run from to items answers turns =
+    let run = turns-follow RehearsesAt RunsAt (λ a b. a ≡ b) (λ was next place batch a same one. (next, refl, subst (λ x. RunsAt x batch a next) same one.0)) from to from items answers refl turns in
+    subst (λ end. Turns RunsAt from items answers end) (sym run.1) run.2
 
-pub told_run : (old told new : Stand) (items : List Next) (rehearsed answers : List Answer) → Turns RehearsesBatch old items rehearsed told → Turns RunsBatch old items answers new → ArePlain rehearsed → ArePlain answers → rehearsed ≡ answers
-told_run old told new items rehearsed answers turns run plain also =
-    (plain_run old told items rehearsed (rehearsed_run old told items rehearsed turns) plain).0 ∙ sym (plain_run old new items answers run also).0
+pub told_run : (here told from to : Place) (items : List Next) (rehearsed answers : List Answer) → state_at here ≡ state_at from → Turns RehearsesAt here items rehearsed told → Turns RunsAt from items answers to → ArePlain rehearsed → ArePlain answers → rehearsed ≡ answers
+told_run here told from to items rehearsed answers same turns run plain also =
+    (plain_run here told items rehearsed (rehearsed_run here told items rehearsed turns) plain).0 ∙ ap (λ s. replies s items) same ∙ sym (plain_run from to items answers run also).0

@@ -1,26 +1,25 @@
 -- The words that most proofs of this crate share.
-pub use Rattle.std.proofs.Common.{Bool, Err, IfErr, IfOk, IsTrue, List, None, Ok, OnOk, Option, Result, Some, [], ap, append_assoc, arith, cond, drop, false, get_or, inl, inr, length, length-append, map, not, refl, rules, subst, subst₂, suc, sym, take, true, vec_capacity, vec_len, zero, zero-add, ℕ, ◌&&◌, ◌++◌, ◌+◌, ◌-◌, ◌<◌, ◌∙◌, ◌∷◌, ◌≡◌, ◌≢◌, ◌≤◌, ◌⊎◌}
+pub use Rattle.std.proofs.Common.{Bool, Err, IfErr, IfOk, IsTrue, List, None, Ok, OnOk, Option, Result, Some, [], ap, append_assoc, arith, cond, drop, false, get_or, inl, inr, length, length-append, map, not, refl, rules, subst, subst₂, suc, sym, take, true, vec_capacity, vec_len, zero-add, ℕ, ◌&&◌, ◌++◌, ◌+◌, ◌-◌, ◌<◌, ◌∙◌, ◌∷◌, ◌≡◌, ◌≢◌, ◌≤◌, ◌⊎◌}
 pub use Rattle.std.proofs.lemmas.List.{append-nil, take_more}
-pub use Rattle.std.specs.Prelude.{IfNone, MatchResult, if◌then◌else◌, is_err, nat_lt, ⊤}
+pub use Rattle.std.specs.Prelude.{IfNone, IsSome, MatchResult, if◌then◌else◌, is_err, nat_lt, ⊤}
 pub use Rattle.moo_cells.specs.Shows.{ShowsRows}
 pub use Rattle.moo_memory.specs.Changes.{AreChanges}
 pub use Rattle.moo_rows.specs.Maps.{Maps}
 pub use Rattle.moo_rows.specs.declared.row.Head.{Head}
-pub use Rattle.moo_store.specs.Answered.{Answered, AnsweredOne, IsRun, acknowledged, added, answer_of, reply_of, state_behind}
+pub use Rattle.moo_store.specs.Answered.{IsRun, acknowledged, added, answer_of, reply_of, state_behind}
 pub use Rattle.moo_store.specs.Kept.{World}
-pub use Rattle.moo_store.specs.Led.{BatchesLead, LeavesLed}
 pub use Rattle.moo_store_rows.specs.Opening.{Adopts, IsOfStore}
 pub use Rattle.moo_store_rows.specs.Printed.{Prints}
-pub use Rattle.moo_store.specs.Rehearsed.{Rehearsal, RehearsesAt, RehearsesBatch}
-pub use Rattle.moo_store.specs.Stand.{AsksBatch, Failed, ReachesStore, RunsBatch, Stand, StoreFailed, VerdictLeaves, Works, state_at}
-pub use Rattle.moo_store_rows.specs.States.{KeepsRows, KeepsState, LeavesRows, LeavesState, ShowsState}
+pub use Rattle.moo_store.specs.Rehearsed.{IsRehearsedAt, Rehearsal, RehearsesAt}
+pub use Rattle.moo_store.specs.Moves.{AsksAt, MayReplyAsked, MovesBy, RunsAt, Stands, VerdictLeads}
 pub use Rattle.moo_store_rows.specs.Stopped.{IsStopped, KeepsFaults}
-pub use Rattle.moo_store.specs.Stopping.{AppliesFirst, AreAccepted, CompletesUntil, EndAtFirst, EndsEarly, stops_after, HaltsUntil, says_accepted, up_to_first}
-pub use Rattle.moo_store.specs.Text.{Applies, KeepsLed, KeepsLeft, KeepsRest, RunsAll, RunsAndAnswers, StandsBehind, StopsRun, accepted, accepted_at, answer_to, answers_asked, batches_of, faulted, faulted_at, is_plain, replies}
+pub use Rattle.moo_store.specs.Stopping.{AnswersBy, AreAccepted, CompletesUntil, EndAtFirst, EndsEarly, says_accepted, stops_after, up_to_first}
+pub use Rattle.moo_store.specs.Text.{accepted, accepted_at, answer_to, answers_asked, batches_of, is_plain, replies}
 pub use Rattle.moo_store.specs.Turns.{Completes, GivesFrontOrAll, Halts, Turn, Turns, answers_text, is_batch, is_lost_answer}
-pub use Rattle.moo_store.specs.Untouched.{HasWritten, IsKnown, IsMovedBy, LeavesWritten, StandsOver, Writes, WritesOne, lost_of, taken_of}
 pub use Rattle.moo_store_rows.specs.Current.{unread_of}
-pub use Rattle.moo_store.specs.World.{CrashLeaves, IsAt, Left, LeftOrNext, MatchStore, ShowsItsRows, StandsAt, StandsFor, store_of}
+pub use Rattle.moo_store_rows.specs.Moment.{AllCells, BecomesPresent, Moment, rows_alone}
+pub use Rattle.moo_store_rows.specs.Place.{MayBeLeft, Place, Works, moment_of}
+pub use Rattle.moo_store.specs.World.{MatchStore, state_in, store_of}
 pub use Rattle.moo_store_rows.specs.declared.fault.StoreFault.{StoreFault}
 pub use Rattle.moo_store_rows.specs.declared.fault.StoreFault.TheVariants.{Closed, OutOfMemory, Store}
 pub use Rattle.moo_tables_rows.proofs.InsideLemmas.{clean_before, stays}
@@ -35,9 +34,8 @@ pub use Rattle.moo_text.specs.declared.reply.Reply.{Reply}
 pub use Rattle.moo_value.specs.declared.value.Value.{Value}
 pub use Rattle.moo_world.specs.Judge.{Accepted, FailedAt, FullAt, NoRoom, Ran, Refused, Stale, State, Through, Verdict, after, is_due, last_seq, left_by, run_calls, state_of, verdict_of}
 unfoldable pub use Rattle.moo_world.specs.Judge.{judge}
-pub use Rattle.moo_world.specs.Rows.{IsGood, world_of}
+pub use Rattle.moo_world.specs.Rows.{IsGood}
 pub use Rattle.moo_world.specs.declared.call.Batch.{Batch}
 pub use Rattle.sqlite.specs.Held.{Held, state}
 pub use Rattle.sqlite.specs.State.{HasCleanDisk, Survives}
 pub use Rattle.sqlite.specs.Store.{Ghosts}
-pub use Rattle.sqlite.specs.Tree.{Trees}

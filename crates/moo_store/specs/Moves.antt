@@ -67,10 +67,12 @@ MayReplyAsked s batch reply = ((reply ≡ NoMemory) × IsRun s batch) ⊎ (reply
 
 -- asked, a World that works replies so, and stays where it is
 abbrev pub AsksAt : Place → Batch → Answer → Place → Type 0
-AsksAt (Works m) batch a to = ((reply : Reply) × (a ≡ answer.Replied reply) × MayReplyAsked (state_of_moment m) batch reply) × (to ≡ Works m)
+AsksAt (Works m) batch a to =
+    ((reply : Reply) × (a ≡ answer.Replied reply) × MayReplyAsked (state_of_moment m) batch reply) × (to ≡ Works m)
 AsksAt place batch a to = (a ≡ answer.Closed) × (to ≡ place)
 
 -- Why a batch meets a fault: the World had failed; or its store failed, and if its cells are known, this is why.
 abbrev pub FailsRun : {S : Type 0} → Ghosts S → World S → World S → StoreFault → Type 0
 FailsRun g old new fault = (fault ≡ Closed) ⊎ ((error : Error) × (fault ≡ Store error)
-    × ((m : Moment) → Stands g old (Works m) → IsSome m.cells → HasCleanDisk (store_of g new) → IsStopped (store_of g old) (store_of g new) fault))
+    × ((m : Moment) → Stands g old (Works m) → IsSome m.cells → HasCleanDisk (store_of g new) →
+    IsStopped (store_of g old) (store_of g new) fault))

@@ -1,5 +1,5 @@
 -- How the answering of a text ends at the first answer that isn't `accepted`.
-use Rattle.std.specs.Prelude.{◌&&◌, not, ◌≡◌, ◌≤◌, ℕ, Bool, true, false, IsTrue, List, [], ◌∷◌, ◌++◌, length, Option, Result, Ok, Err, if◌then◌else◌}
+use Rattle.std.specs.Prelude.{◌&&◌, not, ◌≡◌, ◌≤◌, ℕ, Bool, true, false, List, [], ◌∷◌, ◌++◌, length, Option, Result, Ok, Err, if◌then◌else◌}
 use Rattle.std.specs.List.{AllByRecursion, count_by}
 use Rattle.std.specs.Io.KnownBytes.{Appends}
 use Rattle.moo_world.specs.declared.call.Batch.{Batch}

@@ -96,7 +96,8 @@ pub(crate) fn answer_until<R: Read + Drop, W: Write, A: Answering, N: Notes + Wi
     stop: bool,
     notes: &mut N,
 ) -> Result<Course, TextFault>
-    ensures { AnswersBy A.answered stop answering.old answering.new (R.remaining reader) (W.contents writer.old) (W.contents writer.new) result }
+    ensures { AnswersBy A.answered stop answering.old answering.new (R.remaining reader) (W.contents writer.old)
+        (W.contents writer.new) result }
 {
     let mut feed = Feed::new(answering.allocator(), reader);
     let mut tally = Tally::new();

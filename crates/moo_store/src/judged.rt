@@ -1,12 +1,11 @@
 //! What rows answer to a batch, before anything of it is kept.
 
-ghost use Rattle.std.specs.Prelude.{◌≡◌, [], ◌∷◌, IfOk, IfErr};
+ghost use Rattle.std.specs.Prelude.{◌≡◌, IfOk, IfErr};
 ghost use Rattle.moo_batch.specs.Judge.{IsVerdict};
 ghost use Rattle.moo_batch.specs.Ticks.{NoneComeBack};
 ghost use Rattle.moo_batch.specs.declared.judging.Verdict.TheVariants.{Accepted};
 ghost use Rattle.moo_world.specs.Judge.{state_of};
 ghost use Rattle.moo_world.specs.Rows.{IsGood};
-ghost use Rattle.moo_store.specs.Answered.{acknowledged};
 ghost use Rattle.moo_store.specs.Seeing.{HasSeenReply};
 ghost use Rattle.moo_store_rows.specs.Moment.{Moment};
 ghost use Rattle.moo_store_rows.specs.Place.{Works};
@@ -30,7 +29,6 @@ pub(crate) fn judged<N: Witness>(
     ensures accepted { IfOk result (λ taken. IsVerdict rows.now.maps batch.now (Accepted taken.0 taken.1)) }
     ensures stays { IfErr result (λ reply.
         (m : Moment) → m.rows ≡ rows.now.maps → RunsAt (Works m) batch.now (Answer.Replied reply) (Works m)) }
-    ensures none { IfErr result (λ reply. acknowledged (batch.now ∷ []) (reply ∷ []) ≡ []) }
     ensures asked { IfErr result (MayReplyAsked (state_of rows.now.maps) batch.now) }
     ensures ticks { NoneComeBack (N.left witness.old) (N.left witness.new) }
     ensures seen { IfErr result (λ reply. HasSeenReply N.sees rows.now.maps batch.now reply (N.kept witness.old) (N.kept witness.new)) }

@@ -46,7 +46,7 @@ pub fn stops_are_fronts()
 /// A rehearsal of a text answers what running the text answers, if memory doesn't run out and no fault comes.
 pub fn rehearsals_tell_runs()
     ensures { (first told old new : Place) (items : List Next) (rehearsed answers : List Answer) →
-        (moment_of first).rows ≡ (moment_of old).rows → Turns RehearsesAt first items rehearsed told → Turns RunsAt old items answers new →
+        state_at first ≡ state_at old → Turns RehearsesAt first items rehearsed told → Turns RunsAt old items answers new →
         AllByRecursion (λ answer. is_plain answer ≡ true) rehearsed → AllByRecursion (λ answer. is_plain answer ≡ true) answers →
         rehearsed ≡ answers }
 {}

@@ -81,7 +81,8 @@ impl Rehearsal {
 
     /// Answers a batch as if it was run.
     fn rehearse<N: Witness>(&mut self, batch: &Batch, witness: &mut N) -> Answer
-        ensures { (from : Place) → IsRehearsedAt self.old from → (to : Place) × IsRehearsedAt self.new to × RehearsesAt from batch.now result to }
+        ensures { (from : Place) → IsRehearsedAt self.old from → (to : Place) × IsRehearsedAt self.new to
+            × RehearsesAt from batch.now result to }
     {
         if self.failed {
             return Answer::Closed;
@@ -94,7 +95,8 @@ impl Rehearsal {
 }
 
 impl Answering for Rehearsal {
-    ghost answered = { λ old batch a new. (from : Place) → IsRehearsedAt old from → (to : Place) × IsRehearsedAt new to × RehearsesAt from batch a to };
+    ghost answered = { λ old batch a new. (from : Place) → IsRehearsedAt old from → (to : Place) × IsRehearsedAt new to
+        × RehearsesAt from batch a to };
 
     fn allocator(&self) -> Global {
         self.alloc

@@ -1,6 +1,6 @@
 //! A crash, and the opening of what it left.
 
-ghost use Rattle.std.specs.Prelude.{IfOk, IfErr};
+ghost use Rattle.std.specs.Prelude.{IfOk, IfErr, IsSome};
 ghost use Rattle.sqlite.specs.State.{HasCleanDisk};
 ghost use Rattle.sqlite.specs.Held.{Held, state};
 ghost use Rattle.moo_store_rows.specs.Moment.{Moment, BecomesPresent};
@@ -22,7 +22,7 @@ use sqlite::Alter;
 pub fn a_crash_is_taken_up<S: Alter, T: Alter>()
     ensures stands { (crashed : World S) (place : Place) (found : Held T) (opened : Adoption T) →
         IsOpenedAgain S.Store T.Store crashed place found opened → IfOk opened (λ world. HasCleanDisk (store_of T.Store world) →
-        (m now : Moment) × MayBeLeft place m × BecomesPresent m now × Stands T.Store world (Works now)) }
+        (m now : Moment) × MayBeLeft place m × IsSome m.cells × BecomesPresent m now × Stands T.Store world (Works now)) }
     // if none is opened, the store failed or memory ran out
     ensures refused { (crashed : World S) (place : Place) (found : Held T) (opened : Adoption T) →
         IsOpenedAgain S.Store T.Store crashed place found opened →

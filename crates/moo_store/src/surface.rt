@@ -35,7 +35,8 @@ impl<S: Alter + Drop> World<S> {
             (λ from to. RunsEach from batches.now (added replies.old.items replies.new.items) result to) }
         ensures stood { take (length replies.old.items) replies.new.items ≡ replies.old.items }
         // batches of which none is acknowledged change nothing, unless the store fails
-        ensures still { acknowledged batches.now (added replies.old.items replies.new.items) ≡ [] → MatchStore result (self.new ≡ self.old) ⊤ }
+        ensures still { acknowledged batches.now (added replies.old.items replies.new.items) ≡ [] →
+            MatchStore result (self.new ≡ self.old) ⊤ }
         ensures fault { IfErr result (λ fault. ((fault ≡ StoreFault.OutOfMemory) × (replies.new.items ≡ replies.old.items))
             ⊎ FailsRun S.Store self.old self.new fault) }
         ensures kept { KeepsFaults (store_of S.Store self.old) (store_of S.Store self.new) }

@@ -60,13 +60,14 @@ impl<S: Alter + Drop> World<S> {
     ghost use Rattle.moo_store.specs.World.{store_of, state_in};
     ghost use Rattle.moo_text.specs.declared.reply.Answer.TheVariants as answer;
 
-    /// The World of good rows, over a connection in no transaction. It stands at a moment of these rows that the connection has at rest. `check` tests that: nothing is read or written here. `create_in`, `load_in` and `adopt` make Worlds whose tables do.
+    /// The World of good rows, over a connection in no transaction. It stands at a moment of these rows that the connection has at rest.
+    /// `check` tests that: nothing is read or written here. `create_in`, `load_in` and `adopt` make Worlds whose tables do.
     pub fn over(alloc: Global, connection: Connection<S>, rows: Flat) -> World<S>
         requires outside { connection.in_transaction ≡ false }
         requires good { IsGood rows.maps }
         ensures is { result ≡ record { connection = connection; rows = rows; failed = false } }
-        ensures stands { (m : Moment) → m.rows ≡ rows.maps → (HasCleanDisk (state S.Store connection) → HasAtRest (state S.Store connection) m) →
-            Stands S.Store result (place.Works m) }
+        ensures stands { (m : Moment) → m.rows ≡ rows.maps →
+            (HasCleanDisk (state S.Store connection) → HasAtRest (state S.Store connection) m) → Stands S.Store result (place.Works m) }
     {
         World {
             alloc,
@@ -134,8 +135,8 @@ impl<S: Alter + Drop> World<S> {
         }
     }
 
-    /// What a batch would come to at present, with the present number. Nothing changes. If it would be refused, the witness sees why, once. The
-    /// only fault is Closed.
+    /// What a batch would come to at present, with the present number. Nothing changes. If it would be refused, the witness sees why, once.
+    /// The only fault is Closed.
     #[tactic(auto, using(moo_batch::proofs::Ticking::as_before))]
     pub fn ask<N: Witness>(&self, batch: &Batch, witness: &mut N) -> Result<Reply, StoreFault>
         ensures asks { self.now.failed ≡ false → IsOkAnd result (MayReplyAsked (state_in self.now) batch.now) }

@@ -63,8 +63,8 @@ loop-item-smaller g c =
     let it = rw c.in-Ok-Some.field-0-is at c.in-Ok-Some.ensures.answers in
     falls_at_turn g.A.Answering.answered c.loop-item.answering c.answer_and_note.new.answering c.in-Ok.item c.in-Ok-Some.answer (feed_room c.loop-item.feed) (feed_room c.next_batch.new.self) it.0 c.in-Ok.ensures.falls
 
-pub returns-in-Err-answer_and_note-clause-halts : goal.returns-in-Err-answer_and_note-clause-halts
-returns-in-Err-answer_and_note-clause-halts g c =
+pub returns-in-Err-answer_and_note : goal.returns-in-Err-answer_and_note
+returns-in-Err-answer_and_note g c =
     let it = c.in-Err-answer_and_note.ensures.halts in
     let was = c.loop-item.invariant.going in (
       halts_inside g.A.Answering.answered c.args.answering.now (g.R.Read.remaining c.args.reader) (g.W.Write.contents c.args.writer.now) c.loop-item.answering c.answer_and_note.new.answering
@@ -73,8 +73,8 @@ returns-in-Err-answer_and_note-clause-halts g c =
       was.1,
     )
 
-pub returns-in-Err-clause-halts : goal.returns-in-Err-clause-halts
-returns-in-Err-clause-halts g c =
+pub returns-in-Err : goal.returns-in-Err
+returns-in-Err g c =
     let side = feed_side g.R.Read.remaining c.loop-item.feed in
     let more = feed_side g.R.Read.remaining c.next_batch.new.self in
     let broke : BreaksOff side more c.in-Err.fault = subst (λ (f : Option TextFault). IfNone f (BreaksOff side more c.in-Err.fault)) c.loop-item.invariant.works c.in-Err.ensures.cause in
@@ -84,8 +84,8 @@ returns-in-Err-clause-halts g c =
       was.1,
     )
 
-pub returns-then-stops_after-clause-early : goal.returns-then-stops_after-clause-early
-returns-then-stops_after-clause-early g c e =
+pub returns-then-stops_after : goal.returns-then-stops_after
+returns-then-stops_after g c =
     let answer = c.in-Ok-Some.answer in
     let it = rw c.in-Ok-Some.field-0-is at c.in-Ok-Some.ensures.answers in
     let was = c.loop-item.invariant.going in
@@ -99,11 +99,8 @@ returns-then-stops_after-clause-early g c e =
           (g.W.Write.contents c.answer_and_note.new.writer) c.count.new.self.batches c.count.new.self.lost now (at_first was.0.answers answer (was.1 stops.0) stops.1),
     )
 
-pub returns-then-stops_after-clause-completes : goal.returns-then-stops_after-clause-completes
-returns-then-stops_after-clause-completes g c e = absurd cc
-
-pub returns-in-Ok-None-clause-completes : goal.returns-in-Ok-None-clause-completes
-returns-in-Ok-None-clause-completes g c e =
+pub returns-in-Ok-None : goal.returns-in-Ok-None
+returns-in-Ok-None g c =
     let text = g.R.Read.remaining c.args.reader in
     let before = g.W.Write.contents c.args.writer.now in
     let side = feed_side g.R.Read.remaining c.loop-item.feed in
@@ -117,6 +114,3 @@ returns-in-Ok-None-clause-completes g c e =
     ) in
     subst (λ w. CompletesUntil g.A.Answering.answered c.args.stop c.args.answering.now c.answer_and_note.new.answering text before (g.W.Write.contents w) c.loop-item.tally.batches c.loop-item.tally.lost) (sym none.2)
     (subst (λ now. CompletesUntil g.A.Answering.answered c.args.stop c.args.answering.now now text before (g.W.Write.contents c.loop-item.writer) c.loop-item.tally.batches c.loop-item.tally.lost) (sym none.1) here)
-
-pub returns-in-Ok-None-clause-early : goal.returns-in-Ok-None-clause-early
-returns-in-Ok-None-clause-early g c e = absurd cc

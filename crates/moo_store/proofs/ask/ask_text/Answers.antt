@@ -1,11 +1,10 @@
-use Rattle.moo_store.proofs.Asking.{asks_all, stops_asking}
+use Rattle.moo_store.{proofs.Words.{false, Ok, Err, AsksAt}, proofs.Asking.{asks_all}, proofs.Texts.{to_its_end}}
 use Rattle.moo_store.proofs.ask.ask_text.Goals as goal
-use Rattle.std.proofs.lemmas.Result.{IfErr-weaker, IfOk-weaker}
 
-pub returns-clause-asks : goal.returns-clause-asks
-returns-clause-asks g c =
-    IfOk-weaker c.answer_all.result _ _ (λ tally all known stand at. asks_all _ _ stand (λ batch a new p. (p.0, p.1 known stand at)) _ (g.R.Read.remaining c.args.reader) _ _ tally.batches tally.lost all) c.answer_all.ensures.completes
+pub returns-in-Ok : goal.returns-in-Ok
+returns-in-Ok g c place at =
+    to_its_end AsksAt place place (g.R.Read.remaining c.args.reader) (g.W.Write.contents c.args.writer.now) (g.W.Write.contents c.answer_until.new.writer) c.in-Ok.course.stopped c.in-Ok.course.tally.batches c.in-Ok.course.tally.lost
+    (asks_all _ _ place (λ batch a new p. (p.0, p.1 place at)) false _ (g.R.Read.remaining c.args.reader) _ _ (Ok c.in-Ok.course) c.in-Ok.ensures)
 
-pub returns-clause-stops : goal.returns-clause-stops
-returns-clause-stops g c =
-    IfErr-weaker c.answer_all.result _ _ (λ fault some known stand at. stops_asking _ _ stand (λ batch a new p. (p.0, p.1 known stand at)) _ (g.R.Read.remaining c.args.reader) _ _ fault some) c.answer_all.ensures.halts
+pub returns-in-Err : goal.returns-in-Err
+returns-in-Err g c place at = asks_all _ _ place (λ batch a new p. (p.0, p.1 place at)) false _ (g.R.Read.remaining c.args.reader) _ _ (Err c.in-Err.fault) c.in-Err.ensures

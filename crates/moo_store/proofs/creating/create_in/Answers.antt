@@ -21,7 +21,6 @@ returns-then-not-is_new g c =
         outside = c.requires.outside;
         undone = inl refl;
         crash = inl refl;
-        cells = inl refl;
       };
     }
 
@@ -33,6 +32,5 @@ returns-in_default g c = record {
     outside = c.requires.outside;
     undone = inl refl;
     crash = inl refl;
-    cells = inl refl;
   };
 }

@@ -1,19 +1,20 @@
 use Rattle.moo_store.proofs.SeenEach.{seen-more}
 use Rattle.moo_store.specs.Seeing.{HasSeenEach, HasSeenPlace}
-use Rattle.moo_store.proofs.Words.{◌+◌, get_or, subst, take, take_more, [], ◌∷◌, ◌++◌, ap, sym, ◌∙◌, judge, answer_of}
+use Rattle.moo_store.proofs.Words.{◌+◌, get_or, subst, take, take_more, [], ◌∷◌, ◌++◌, ap, sym, ◌∙◌, judge, answer_of, state_in}
 use Rattle.std.{proofs.Common.{rules}, specs.Prelude.{option_map}, proofs.lemmas.List.{map_more}}
 use Rattle.moo_batch.proofs.Ticking.{as_before, and_then}
 use Rattle.moo_store.proofs.each.ask_all.Goals as goal
 
 pub loop-batch-init : goal.loop-batch-init
-loop-batch-init g c = record { replies = λ known s at. search rules; seen = search rules; ticks = as_before (g.N.Witness.left c.args.witness.now) }
+loop-batch-init g c = record { replies = λ works. search rules; seen = search rules; ticks = as_before (g.N.Witness.left c.args.witness.now) }
 
 pub loop-batch-preserved : goal.loop-batch-preserved
 loop-batch-preserved g c = record {
-  replies = λ known s at.
+  replies = λ works.
+      let s = state_in c.args.world.now in
       let reply = option_map (λ batch. answer_of s (judge s batch)) in
       c.in_ok-push.ensures.items
-      ∙ (λ i. c.loop-batch.invariant.replies known s at i ++ (c.in_ok-ask_alone.ensures.reply known s at ∙ ap reply c.batch-item.is) i ∷ [])
+      ∙ (λ i. c.loop-batch.invariant.replies works i ++ (c.in_ok-ask_alone.ensures.reply works ∙ ap reply c.batch-item.is) i ∷ [])
       ∙ sym (map_more reply c.args.batches.now c.loop-batch.batch-index c.batch-item.result c.loop-batch-test.true);
   seen =
       let sees = g.N.Witness.sees in

@@ -1,7 +1,8 @@
-use Rattle.moo_store.{specs.Loading.{name_taken}, proofs.Words.{◌≡◌, ◌∙◌, IsTrue, true, inl, inr, rules, refl, sym, ap, subst, HasCleanDisk, Survives, state, state_of, KeepsRows, LeavesState, World, ShowsItsRows}, proofs.Adapters.{stands_for_rows}}
+use Rattle.moo_store.{specs.Loading.{SurvivesAsMade, name_taken}, proofs.Words.{◌≡◌, ◌∙◌, IsTrue, Some, [], inl, inr, rules, refl, sym, ap, subst, state, HasCleanDisk, World, Moment, rows_alone}}
 use Rattle.std.proofs.lemmas.Bool.{true≢false}
 use Rattle.sqlite.{specs.declared.error.Error.TheVariants.{SqliteFailure}, specs.declared.error.ErrorCode.TheVariants.{NameTaken}}
-use Rattle.moo_store_rows.{specs.NewTables.{RestsAsMade}, proofs.Opened.{has_no_tables, keeps_all, left_all, survives_all, survives_state}}
+use Rattle.moo_store_rows.{specs.NewTables.{RestsAsMade}, proofs.Opened.{has_no_tables, keeps_all, survives_all}, proofs.Committed.{shown_by}}
+use Rattle.moo_tables_rows.{specs.Cells.{tables_with}, specs.Inside.{no_tables}}
 use Rattle.moo_store.proofs.loading.load_in.Goals as goal
 
 pub over-requires-clause-outside : goal.over-requires-clause-outside
@@ -10,26 +11,24 @@ over-requires-clause-outside g c = c.in-Ok-create_tables.ensures.made.outside
 pub returns-in-Ok-create_tables : goal.returns-in-Ok-create_tables
 returns-in-Ok-create_tables g c =
     let new : IsTrue c.is_new.result = c.if-not-is_new.false in
+    let old = state g.S.Store c.args.conn in
     let conn = c.in-Ok-create_tables.connection in
     let rows = c.args.rows.maps in
-    let none = has_no_tables (state g.S.Store c.args.conn).now (c.is_new.ensures.0 new) in
+    let none = has_no_tables old.now (c.is_new.ensures.0 new) in
     let made : HasCleanDisk (state g.S.Store conn) → RestsAsMade (state g.S.Store conn) rows = λ clean.
     record { cells = c.in-Ok.cells; prints = c.in-Ok.ensures; rests = c.in-Ok-create_tables.ensures.made.made clean none; empty = c.in-Ok-create_tables.ensures.made.empty clean none } in
-    let is = c.over.ensures.is in
-    let connection = ap (λ (w : World _). w.connection) is in
-    let same = ap (λ (w : World _). w.rows.maps) is in
-    let store = state g.S.Store c.over.result.connection in
-    let rests : HasCleanDisk store → RestsAsMade store rows = subst (λ conn. HasCleanDisk (state g.S.Store conn) → RestsAsMade (state g.S.Store conn) rows) (sym connection) made in
-    let shown : ShowsItsRows g.S.Store c.over.result = λ clean. subst (KeepsRows store) (sym same) (keeps_all store rows (rests clean)) in
+    let connection = ap (λ (w : World _). w.connection) c.over.ensures.is in
+    let m : Moment = record { rows = rows; cells = Some (record { tables = tables_with c.in-Ok.cells no_tables; unread = [] }) } in
     record {
       loads = record {
         empty = λ taken. taken (c.is_new.ensures.0 new);
-        stands = stands_for_rows g.S.Store true c.over.result rows (ap (λ (w : World _). w.failed) is) same c.requires.good (λ _. shown);
-        same = same;
-        rests = rests;
-        left = λ clean. left_all store rows (g.met.S.Store.settled c.over.result.connection.store) c.requires.good (rests clean);
-        crash = subst (λ conn. Survives (state g.S.Store c.args.conn) (state g.S.Store conn) (λ trees. LeavesState trees (state_of rows))) (sym connection)
-            (survives_state (state g.S.Store c.args.conn) (state g.S.Store conn) rows (survives_all (state g.S.Store c.args.conn) (state g.S.Store conn) c.in-Ok.cells rows c.in-Ok.ensures c.requires.good (c.in-Ok-create_tables.ensures.made.crash (λ clean. none))));
+        unseen = c.over.ensures.stands (rows_alone rows) refl (λ clean. tt);
+        seen = λ clean. (
+          m,
+          record { same = refl; cells = c.in-Ok.cells; prints = c.in-Ok.ensures; are = refl },
+          c.over.ensures.stands m refl (λ clean. (let it = made clean in (it.rests, refl, shown_by (state g.S.Store conn) rows (tables_with c.in-Ok.cells no_tables) (keeps_all (state g.S.Store conn) rows it) it.rests, it.empty))),
+        );
+        crash = subst (λ conn. SurvivesAsMade rows old (state g.S.Store conn)) (sym connection) (survives_all old (state g.S.Store conn) c.in-Ok.cells rows c.in-Ok.ensures c.requires.good (c.in-Ok-create_tables.ensures.made.crash (λ clean. none)));
       };
     }
 
@@ -39,15 +38,13 @@ returns-in-Err g c =
     let none = has_no_tables (state g.S.Store c.args.conn).now (c.is_new.ensures.0 new) in
     let old = state g.S.Store c.args.conn in
     let last = state g.S.Store c.in-Err.conn in
-    let cells = survives_all old last c.in-Ok.cells c.args.rows.maps c.in-Ok.ensures c.requires.good (c.in-Err.ensures.refused.crash (λ clean. none)) in
     record {
       loads = record {
         taken = λ taken. absurd (taken (c.is_new.ensures.0 new));
         kind = inr (c.in-Err.error, refl, λ clean empty. c.in-Err.ensures.refused.cause clean none);
         outside = c.in-Err.ensures.refused.outside;
         undone = inr (λ clean opened. c.in-Err.ensures.refused.undone clean none opened);
-        crash = inr (survives_state old last c.args.rows.maps cells);
-        cells = inr cells;
+        crash = inr (survives_all old last c.in-Ok.cells c.args.rows.maps c.in-Ok.ensures c.requires.good (c.in-Err.ensures.refused.crash (λ clean. none)));
       };
     }
 
@@ -63,7 +60,6 @@ returns-then-not-is_new g c =
         outside = c.requires.outside;
         undone = inl refl;
         crash = inl refl;
-        cells = inl refl;
       };
     }
 
@@ -75,6 +71,5 @@ returns-in_default g c = record {
     outside = c.requires.outside;
     undone = inl refl;
     crash = inl refl;
-    cells = inl refl;
   };
 }

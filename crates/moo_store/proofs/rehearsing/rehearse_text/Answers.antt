@@ -1,17 +1,8 @@
-use Rattle.moo_store.proofs.Rehearsals.{completes_rehearsed, halts_rehearsed, early_rehearsed}
+use Rattle.moo_store.{proofs.Words.{Works, RehearsesAt, rows_alone, IsRehearsedAt}, proofs.Rehearsals.{Rehearses, taken_at, begins_at}, proofs.Texts.{answers-follow}}
 use Rattle.moo_store.proofs.rehearsing.rehearse_text.Goals as goal
-use Rattle.std.proofs.lemmas.Result.{IfErr-weaker, IfOk-weaker}
 
 pub returns-clause-rehearses : goal.returns-clause-rehearses
-returns-clause-rehearses g c =
-    IfOk-weaker c.answer_until.result _ _ (λ course all whole known s at. completes_rehearsed _ _ (g.R.Read.remaining c.args.reader) _ _ s (c.of-rehearsal.ensures.at known s at) c.args.stop course.tally.batches course.tally.lost (all whole)) c.answer_until.ensures.completes
-
-pub returns-clause-early : goal.returns-clause-early
-returns-clause-early g c =
-    IfOk-weaker c.answer_until.result _ _ (λ course all stopped.
-    let early = all stopped in
-    (early.0, λ known s at. early_rehearsed _ _ (g.R.Read.remaining c.args.reader) _ _ s (c.of-rehearsal.ensures.at known s at) course.tally.batches course.tally.lost early.1)) c.answer_until.ensures.early
-
-pub returns-clause-stops : goal.returns-clause-stops
-returns-clause-stops g c =
-    IfErr-weaker c.answer_until.result _ _ (λ fault some known s at. halts_rehearsed _ _ (g.R.Read.remaining c.args.reader) _ _ s (c.of-rehearsal.ensures.at known s at) c.args.stop fault some) c.answer_until.ensures.halts
+returns-clause-rehearses g c m at =
+    let run = answers-follow Rehearses RehearsesAt IsRehearsedAt (λ was next place batch a here one. one place here) c.args.stop _ _ (Works (rows_alone m.rows)) (g.R.Read.remaining c.args.reader) _ _ c.answer_until.result
+    (begins_at g.S.Store c.args.world.now c.of-rehearsal.result m c.of-rehearsal.ensures.rows.0 c.of-rehearsal.ensures.rows.1 at) c.answer_until.ensures in
+    (taken_at g.S.Store c.args.world.now c.of-rehearsal.new.world m c.of-rehearsal.ensures.still.0 c.of-rehearsal.ensures.still.1 at, (run.0, run.2))

@@ -1,11 +1,15 @@
-use Rattle.moo_store.proofs.Items.{applies, stops}
+use Rattle.moo_store.{proofs.Words.{Ok, Err, false, RunsAt, AnswersBy}, proofs.Moving.{moves_as}, proofs.Texts.{text_moves, to_its_end}}
 use Rattle.moo_store.proofs.surface.apply_text.Goals as goal
-use Rattle.std.proofs.lemmas.Result.{IfErr-weaker, IfOk-weaker}
 
-pub returns-clause-applies : goal.returns-clause-applies
-returns-clause-applies g c =
-    IfOk-weaker c.answer_all.result _ _ (λ tally all known stand at. applies g.S.Store (λ w. g.met.S.Store.settled w.connection.store) c.args.world.now c.answer_all.new.answering (g.R.Read.remaining c.args.reader) _ _ tally.batches tally.lost c.has_good_rows.ensures all known stand at) c.answer_all.ensures.completes
+pub returns-in-Ok : goal.returns-in-Ok
+returns-in-Ok g c =
+    let old = c.args.world.now in
+    let new = c.answer_until.new.answering in
+    let text = g.R.Read.remaining c.args.reader in
+    let before = g.W.Write.contents c.args.writer.now in
+    let behind = g.W.Write.contents c.answer_until.new.writer in
+    moves_as g.S.Store old new (λ from to. AnswersBy RunsAt false from to text before behind (Ok c.in-Ok.course)) _
+    (text_moves g.S.Store false old new text before behind (Ok c.in-Ok.course) c.in-Ok.ensures) (λ from to at here it. to_its_end RunsAt from to text before behind c.in-Ok.course.stopped c.in-Ok.course.tally.batches c.in-Ok.course.tally.lost it)
 
-pub returns-clause-stops : goal.returns-clause-stops
-returns-clause-stops g c =
-    IfErr-weaker c.answer_all.result _ _ (λ fault some known stand at. stops g.S.Store (λ w. g.met.S.Store.settled w.connection.store) c.args.world.now c.answer_all.new.answering (g.R.Read.remaining c.args.reader) _ _ fault c.has_good_rows.ensures some known stand at) c.answer_all.ensures.halts
+pub returns-in-Err : goal.returns-in-Err
+returns-in-Err g c = text_moves g.S.Store false c.args.world.now c.answer_until.new.answering (g.R.Read.remaining c.args.reader) (g.W.Write.contents c.args.writer.now) (g.W.Write.contents c.answer_until.new.writer) (Err c.in-Err.fault) c.in-Err.ensures

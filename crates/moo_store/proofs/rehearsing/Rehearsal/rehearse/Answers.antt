@@ -1,5 +1,6 @@
-use Rattle.moo_store.{proofs.Words.{◌≡◌, true, false, ap, subst, judge, state_of, Head, RunsBatch, Works, AreChanges, Rehearsal, Accepted}, proofs.Rehearsals.{closed_rehearsal, still_rehearsal, accepted_rehearsal}}
+use Rattle.moo_store.{proofs.Words.{◌≡◌, true, false, refl, ap, subst, judge, state_of, Head, AreChanges, Rehearsal, Accepted, RunsAt, Works, rows_alone}, proofs.Rehearsals.{closed_rehearsal, still_rehearsal, accepted_rehearsal}}
 use Rattle.moo_store.proofs.rehearsing.Rehearsal.rehearse.Goals as goal
+use Rattle.moo_world.specs.Between.{BatchLeads}
 use Rattle.moo_text.specs.declared.reply.Answer.TheVariants as answer
 
 pub accept-requires-clause-changes : goal.accept-requires-clause-changes
@@ -17,10 +18,12 @@ returns-in-Ok g c =
     let works = subst (λ (r : Rehearsal). r.failed ≡ false) c.self.view_is c.if-self.false in
     let exact = subst (λ (r : Rehearsal). AreChanges r.rows.maps next c.in-Ok.changes) c.self.view_is found.1 in
     let judged = subst (λ (r : Rehearsal). judge (state_of r.rows.maps) c.args.batch.now ≡ Accepted c.in-Ok.answers (state_of next)) c.self.view_is found.3 in
-    accepted_rehearsal c.args.self.now c.accept.new.self c.args.batch.now c.accept.result c.in-Ok.answers c.in-Ok.changes.head.seq next works judged (ap (λ (h : Head). h.seq) found.1.head) c.accept.ensures.answer (c.accept.ensures.rows next exact)
+    let leads = subst (λ (r : Rehearsal). BatchLeads c.args.batch.now r.rows.maps next) c.self.view_is found.4 in
+    accepted_rehearsal c.args.self.now c.accept.new.self c.args.batch.now c.accept.result c.in-Ok.answers c.in-Ok.changes.head.seq next works judged found.2 leads
+    (ap (λ (h : Head). h.seq) found.1.head) c.accept.ensures.answer (c.accept.ensures.rows next exact)
 
 pub returns-in-Err : goal.returns-in-Err
 returns-in-Err g c =
     let works = subst (λ (r : Rehearsal). r.failed ≡ false) c.self.view_is c.if-self.false in
     still_rehearsal c.args.self.now c.args.batch.now c.in-Err.reply works
-    (subst (λ (r : Rehearsal). RunsBatch (Works (state_of r.rows.maps)) c.args.batch.now (answer.Replied c.in-Err.reply) (Works (state_of r.rows.maps))) c.self.view_is c.in-Err.ensures.stays)
+    (subst (λ (r : Rehearsal). RunsAt (Works (rows_alone r.rows.maps)) c.args.batch.now (answer.Replied c.in-Err.reply) (Works (rows_alone r.rows.maps))) c.self.view_is (c.in-Err.ensures.stays (rows_alone c.self.inside.rows.maps) refl))

@@ -1,4 +1,4 @@
-use Rattle.moo_store.{proofs.Words.{◌≡◌, ◌<◌, Some, inl, refl, sym, ap, ◌∙◌, subst, true, false, Head, IsGood, Works, RunsBatch, state_of, judge, Accepted, AreChanges, World, Prints, IsRun, store_of}, proofs.Verdicts.{closed_moves, still_moves, plain_reply}, proofs.Running.{accepted_low, accepted_is_run}, proofs.Stopped.{faults_same}, proofs.Commits.{accepted_moves, accepted_still}}
+use Rattle.moo_store.{proofs.Words.{◌≡◌, ◌<◌, Some, sym, ap, ◌∙◌, subst, true, false, Head, IsGood, Moment, Works, RunsAt, state_of, judge, Accepted, AreChanges, World, Prints, IsRun, store_of}, proofs.Verdicts.{closed_moves, still_moves, no_room_stays}, proofs.Running.{accepted_low, accepted_is_run}, proofs.Stopped.{faults_same}, proofs.Commits.{accepted_moves, accepted_still}}
 use Rattle.moo_store.proofs.world.World.run_one.Goals as goal
 use Rattle.moo_world.specs.Between.{BatchLeads}
 use Rattle.moo_text.specs.declared.reply.Answer.TheVariants as answer
@@ -48,13 +48,12 @@ returns-in-Err-print_changes-clause-moves g c =
     let found = c.in-Ok.ensures.accepted in
     let run = accepted_is_run (state_of c.self.inside.rows.maps) (state_of found.0) c.args.batch.now c.in-Ok.answers found.3 in
     still_moves g.S.Store c.args.self.now c.args.batch.now reply.NoMemory (subst (λ (w : World _). w.failed ≡ false) c.self.view_is c.if-self.false)
-    (inl (refl, subst (λ (w : World _). IsRun (state_of w.rows.maps) c.args.batch.now) c.self.view_is run)) refl
+    (no_room_stays c.args.self.now.rows.maps c.args.batch.now (subst (λ (w : World _). IsRun (state_of w.rows.maps) c.args.batch.now) c.self.view_is run))
 
 pub returns-in-Err-clause-moves : goal.returns-in-Err-clause-moves
 returns-in-Err-clause-moves g c =
     still_moves g.S.Store c.args.self.now c.args.batch.now c.in-Err.reply (subst (λ (w : World _). w.failed ≡ false) c.self.view_is c.if-self.false)
-    (plain_reply (state_of c.args.self.now.rows.maps) c.args.batch.now c.in-Err.reply
-    (subst (λ (w : World _). RunsBatch (Works (state_of w.rows.maps)) c.args.batch.now (answer.Replied c.in-Err.reply) (Works (state_of w.rows.maps))) c.self.view_is c.in-Err.ensures.stays)) c.in-Err.ensures.none
+    (subst (λ (w : World _). (m : Moment) → m.rows ≡ w.rows.maps → RunsAt (Works m) c.args.batch.now (answer.Replied c.in-Err.reply) (Works m)) c.self.view_is c.in-Err.ensures.stays)
 
 pub returns-then-self-clause-kept : goal.returns-then-self-clause-kept
 returns-then-self-clause-kept g c = faults_same (store_of g.S.Store c.args.self.now)
