@@ -1,5 +1,5 @@
 -- The world that a task begins with.
-use Rattle.moo_run.{proofs.Words.{◌≡◌, ◌⊎◌, inl, inr, ℕ, Bool, List, Some, Bor, codes, refl, sym, ap, subst, ◌∙◌, ◌<◌, ◌^◌, true, false, ◌||◌, bytes_eq, true≢false, cases_Bool, HasCleanDisk, Maps, opening_maps, IsGood, State, state_of, Ghosts, Image, IsHeld, Moment, rows_alone, LeavesAsMade, Task, Given, Run, Texts, makes_world, begins_anew, is_load, dump_word, is_input, reads_input, ReadsFile, IsDumpedAs, BeginsFrom, BeginsWith, BeginsNumbered, RunsFrom, RunsIn, RunsMade, RunsAnew, FailsAtOnce, RefusesDump, FailsToBegin, RunsNew, Failure}, specs.Run.{RefusesTask, TellsLack}}
+use Rattle.moo_run.{proofs.Words.{◌≡◌, ◌⊎◌, inl, inr, ℕ, Bool, List, Some, Bor, codes, refl, sym, ap, subst, ◌∙◌, ◌<◌, ◌^◌, true, false, ◌||◌, bytes_eq, true≢false, cases_Bool, Maps, opening_maps, IsGood, State, state_of, Ghosts, Image, IsHeld, Moment, rows_alone, LeavesAsMade, Task, Given, Run, Texts, makes_world, begins_anew, is_load, dump_word, is_input, reads_input, ReadsFile, IsDumpedAs, BeginsFrom, BeginsWith, BeginsNumbered, RunsFrom, RunsIn, RunsMade, FailsAtOnce, RefusesDump, FailsToBegin, Failure}, specs.Run.{RefusesTask, TellsLack}}
 use Rattle.sqlite.specs.State.{State as Database}
 use Rattle.sqlite.specs.Tree.{Trees}
 use Rattle.moo_load.specs.RowsOf.{AreRowsOf}
@@ -31,14 +31,7 @@ numbered_dumped action rows loads numbered = absurd (true≢false (sym loads))
 pub refuses_dump : (action : Action) (given : Given) (dump : List ℕ) (failure : Failure) → dump_word action ≡ dump → RefusesDump (given.text dump) failure → TellsLack given.lacks dump failure → RefusesTask given action failure
 refuses_dump action given dump failure is it lack = subst (λ word. RefusesDump (given.text word) failure × TellsLack given.lacks word failure) (sym is) (it, lack)
 
-load_makes : (action : Action) → is_load action ≡ true → makes_world action ≡ true
-load_makes (Load dump) loads = refl
-load_makes action loads = absurd (true≢false (sym loads))
-
-pub load_begins : (task : Task) → is_load task.action ≡ true → begins_anew task ≡ true
-load_begins task loads = ap (λ makes. makes || bytes_eq task.file.now (codes ":memory:")) (load_makes task.action loads)
-
--- and so does a task on `:memory:`
+-- a task on `:memory:` begins with a new world
 or_true : (a b : Bool) → b ≡ true → (a || b) ≡ true
 or_true true b is = refl
 or_true false b is = is
@@ -53,6 +46,10 @@ load_reads action dump loads is = absurd (true≢false (sym loads))
 
 pub reads_dump : (task : Task) (dump : List ℕ) → is_load task.action ≡ true → dump_word task.action ≡ dump → bytes_eq dump (codes "-") ≡ false → ReadsFile task dump
 reads_dump task dump loads is other = (load_reads task.action dump loads is, other)
+
+-- its files may be read of a host that is as it was
+pub reads_on : {H : Type 0} (may : H → List ℕ → Type 0) (old new : H) → new ≡ old → (task : Task) → ((path : List ℕ) → ReadsFile task path → may old path) → (path : List ℕ) → ReadsFile task path → may new path
+reads_on may old new same task it path reads = subst (λ host. may host path) (sym same) (it path reads)
 
 pub keeps_input : (task : Task) (dump : List ℕ) → is_load task.action ≡ true → dump_word task.action ≡ dump → reads_input task ≡ false → bytes_eq dump (codes "-") ≡ false
 keeps_input task dump loads is other = subst (λ word. is_input word ≡ false) (load_reads task.action dump loads is) other
@@ -101,11 +98,6 @@ begins_from action one other rows same it = record { good = it.good; world = beg
 pub fails_to_begin : (task : Task) (run : Run) → FailsAtOnce run → FailsToBegin task run
 fails_to_begin task run (failure, opening, reports) = (failure, inl opening, reports)
 
--- a run from the world that a task begins with, of which nothing more is said than what is written
-pub new_unseen : (task : Task) (run : Run) (store : Database) → RunsAnew task run store → RunsNew task run
-new_unseen task run store (inl fails) = inl fails
-new_unseen task run store (inr (rows, begins, made)) = inr (rows, begins, made.0)
-
 -- what a refused making of that world leaves
 pub unmade_begins : {T D : Type 0} {g : Ghosts D} (action : Action) (given : Given) (rows : Maps) → BeginsFrom action given rows → (trees : Trees) (image : Image) (remains : Remains T D g)
     → KeepsSuch (λ found. (found ≡ trees) ⊎ LeavesAsMade found rows) image remains → KeepsSuch (λ found. (found ≡ trees) ⊎ ((m : Maps) × BeginsFrom action given m × LeavesAsMade found m)) image remains
@@ -118,7 +110,3 @@ pub fresh_begins : {T D : Type 0} {g : Ghosts D} (action : Action) (given : Give
     → KeepsNothingBut (λ found. LeavesAsMade found rows) image remains → KeepsNothingBut (λ found. (m : Maps) × BeginsFrom action given m × LeavesAsMade found m) image remains
 fresh_begins action given rows begins image remains =
     blank_more (λ found. LeavesAsMade found rows) (λ found. (m : Maps) × BeginsFrom action given m × LeavesAsMade found m) (λ found leaves. (rows, begins, leaves)) image remains
-
--- a task that begins with a new world isn't one that takes up its file
-pub never_other : {A : Type 0} (task : Task) → is_load task.action ≡ true → begins_anew task ≡ false → A
-never_other task loads other = absurd (true≢false (sym (load_begins task loads) ∙ other))
