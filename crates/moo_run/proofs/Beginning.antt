@@ -1,5 +1,5 @@
 -- The world that a task begins with.
-use Rattle.moo_run.{proofs.Words.{◌≡◌, ◌⊎◌, inl, inr, ℕ, Bool, List, Some, Bor, codes, refl, sym, ap, subst, ◌∙◌, ◌<◌, ◌^◌, true, false, ◌||◌, bytes_eq, true≢false, cases_Bool, HasCleanDisk, Maps, opening_maps, IsGood, State, state_of, Ghosts, Image, IsHeld, Moment, rows_alone, LeavesAsMade, Task, Given, Run, Texts, makes_world, begins_anew, is_load, dump_word, is_input, reads_input, ReadsFile, IsDumpedAs, BeginsFrom, BeginsWith, BeginsNumbered, RunsFrom, RunsIn, RunsMade, RunsAnew, FailsAtOnce, RefusesDump, FailsToBegin, RunsNew, Failure}, specs.Run.{RefusesTask, TellsLack}}
+use Rattle.moo_run.{proofs.Words.{◌≡◌, ◌⊎◌, inl, inr, ℕ, Bool, List, Some, Bor, codes, refl, sym, ap, subst, ◌∙◌, ◌<◌, ◌^◌, true, false, ◌||◌, bytes_eq, true≢false, cases_Bool, Maps, opening_maps, IsGood, State, state_of, Ghosts, Image, IsHeld, Moment, rows_alone, LeavesAsMade, Task, Given, Run, Texts, makes_world, begins_anew, is_load, dump_word, is_input, reads_input, ReadsFile, IsDumpedAs, BeginsFrom, BeginsWith, BeginsNumbered, RunsFrom, RunsIn, RunsMade, FailsAtOnce, RefusesDump, FailsToBegin, Failure}, specs.Run.{RefusesTask, TellsLack}}
 use Rattle.sqlite.specs.State.{State as Database}
 use Rattle.sqlite.specs.Tree.{Trees}
 use Rattle.moo_load.specs.RowsOf.{AreRowsOf}
@@ -54,6 +54,10 @@ load_reads action dump loads is = absurd (true≢false (sym loads))
 pub reads_dump : (task : Task) (dump : List ℕ) → is_load task.action ≡ true → dump_word task.action ≡ dump → bytes_eq dump (codes "-") ≡ false → ReadsFile task dump
 reads_dump task dump loads is other = (load_reads task.action dump loads is, other)
 
+-- its files may be read of a host that is as it was
+pub reads_on : {H : Type 0} (may : H → List ℕ → Type 0) (old new : H) → new ≡ old → (task : Task) → ((path : List ℕ) → ReadsFile task path → may old path) → (path : List ℕ) → ReadsFile task path → may new path
+reads_on may old new same task it path reads = subst (λ host. may host path) (sym same) (it path reads)
+
 pub keeps_input : (task : Task) (dump : List ℕ) → is_load task.action ≡ true → dump_word task.action ≡ dump → reads_input task ≡ false → bytes_eq dump (codes "-") ≡ false
 keeps_input task dump loads is other = subst (λ word. is_input word ≡ false) (load_reads task.action dump loads is) other
 
@@ -100,11 +104,6 @@ begins_from action one other rows same it = record { good = it.good; world = beg
 
 pub fails_to_begin : (task : Task) (run : Run) → FailsAtOnce run → FailsToBegin task run
 fails_to_begin task run (failure, opening, reports) = (failure, inl opening, reports)
-
--- a run from the world that a task begins with, of which nothing more is said than what is written
-pub new_unseen : (task : Task) (run : Run) (store : Database) → RunsAnew task run store → RunsNew task run
-new_unseen task run store (inl fails) = inl fails
-new_unseen task run store (inr (rows, begins, made)) = inr (rows, begins, made.0)
 
 -- what a refused making of that world leaves
 pub unmade_begins : {T D : Type 0} {g : Ghosts D} (action : Action) (given : Given) (rows : Maps) → BeginsFrom action given rows → (trees : Trees) (image : Image) (remains : Remains T D g)

@@ -1,13 +1,15 @@
 //! A task over a connection.
 
-ghost use Rattle.std.specs.Prelude.{◌≡◌, ℕ, List, true, false};
+ghost use Rattle.std.specs.Prelude.{◌≡◌, ◌⊎◌, ◌<◌, ◌^◌, ℕ, List, true, false, IfSome};
 ghost use Rattle.sqlite.specs.State.{HasCleanDisk};
 ghost use Rattle.sqlite.specs.Held.{state};
+ghost use Rattle.moo_world.specs.Rows.{IsGood};
 ghost use Rattle.moo_store_rows.specs.Moment.{Moment};
 ghost use Rattle.moo_store_rows.specs.Place.{Works};
 ghost use Rattle.moo_store.specs.Moves.{Stands};
 ghost use Rattle.moo_store.specs.World.{store_of};
-ghost use Rattle.moo_run.specs.Run.{RunsIn, RunsAnew};
+ghost use Rattle.moo_files.specs.Making.{rows_made};
+ghost use Rattle.moo_run.specs.Run.{FailsAtOnce, RunsIn, RunsMade, RunsAnew};
 ghost use Rattle.moo_run.specs.Run.{LeavesNothingNew, ShowsTables, only_reads, reads_input, ReadsFile};
 
 use crate::commands::do_task;
@@ -15,6 +17,7 @@ use crate::loading::find_rows;
 use crate::session::{Runs, Session, Streams};
 use moo_cli::{Action, Task};
 use moo_files::make_in;
+use moo_memory::Flat;
 use moo_run_lines::Failure;
 use moo_store::World;
 use sqlite::{Alter, Connection};
@@ -45,6 +48,31 @@ pub fn run_in<'s, S: Streams, B: Alter + Drop>(
     world.into_connection()
 }
 
+/// Makes the world of these rows, or without any the opening one, in a connection that has no tables, and does what a task says over it.
+fn run_new<'s, S: Streams, B: Alter + Drop>(
+    session: &mut Session<'s, S>,
+    conn: Connection<B>,
+    rows: Option<Flat>,
+    task: Task<'_>,
+) -> Connection<B>
+    requires read { (path : List ℕ) → ReadsFile task path → S.Host.may_read session.old.host path }
+    requires outside { conn.in_transaction ≡ false }
+    requires good { IfSome rows (λ r. IsGood r.maps) }
+    requires limit { IfSome rows (λ r. r.maps.head.seq < 2 ^ 63) }
+    // It can't be made, and nothing is asked of the ports; or the task runs from it.
+    ensures runs { let run = ⟦<Session<'s, S> as Runs>⟧.run session.old session.new in
+        (run.given.ports.rests × FailsAtOnce run) ⊎ RunsMade (state B.Store result) task.entry (rows_made rows) run }
+    ensures input { reads_input task.entry ≡ false → session.new.input ≡ session.old.input }
+{
+    match make_in(session.alloc, conn, rows) {
+        Ok(world) => run_in(session, world, task),
+        Err((fault, conn)) => {
+            session.fail(Failure::from(fault));
+            conn
+        }
+    }
+}
+
 /// Makes a new world in a connection to any store, which must have no tables, does what a task says over it, writes the line of a failure,
 /// and hands the connection back. The status is that of `run_words`.
 ///
@@ -59,17 +87,10 @@ pub fn run_over<'s, S: Streams, B: Alter + Drop>(
     ensures runs { RunsAnew task.entry (⟦<Session<'s, S> as Runs>⟧.run session.old session.new) (state B.Store result) }
     ensures input { reads_input task.entry ≡ false → session.new.input ≡ session.old.input }
 {
-    let rows = match find_rows(session, task) {
-        Ok(rows) => rows,
+    match find_rows(session, task) {
+        Ok(rows) => run_new(session, conn, rows, task),
         Err(failure) => {
             session.fail(failure);
-            return conn;
-        }
-    };
-    match make_in(session.alloc, conn, rows) {
-        Ok(world) => run_in(session, world, task),
-        Err((fault, conn)) => {
-            session.fail(Failure::from(fault));
             conn
         }
     }

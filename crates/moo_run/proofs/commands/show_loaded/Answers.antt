@@ -1,4 +1,4 @@
-use Rattle.moo_run.proofs.Words.{◌≡◌, Ok, IfErr, refl, subst, subst₂, loaded_line, StopsIn}
+use Rattle.moo_run.proofs.Words.{◌≡◌, IfErr, refl, subst, subst₂, loaded_line, StopsIn}
 use Rattle.moo_run.proofs.commands.show_loaded.Goals as goal
 use Rattle.std.specs.Prelude.{IfOk}
 

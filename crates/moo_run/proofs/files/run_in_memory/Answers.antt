@@ -1,4 +1,4 @@
-use Rattle.moo_run.{proofs.Words.{inl, NoMemory}, proofs.Beginning.{new_unseen}, proofs.Refusals.{never_anew}}
+use Rattle.moo_run.{proofs.Words.{inl, inr, NoMemory}, proofs.Refusals.{never_anew}}
 use Rattle.moo_run.proofs.files.run_in_memory.Goals as goal
 
 pub returns-in_default-clause-runs : goal.returns-in_default-clause-runs
@@ -9,6 +9,6 @@ returns-in_default-clause-runs g c = record {
 
 pub returns-clause-runs : goal.returns-clause-runs
 returns-clause-runs g c = record {
-  anew = λ anew. new_unseen c.args.task _ _ c.run_over-conn.ensures.runs;
+  anew = λ anew. elim c.run_over-conn.ensures.runs [ inl fails ↦ inl fails | inr made ↦ inr (made.0, made.1, made.2.0) ];
   opened = λ other. never_anew c.args.task other c.requires.anew;
 }

@@ -1,4 +1,4 @@
-use Rattle.moo_run.{proofs.Words.{inl, inr, sym, subst, subst₂, ◌∙◌, refl, file_state, over_files, image_at, given_to, Reports, Run, RunsMade}, proofs.Beginning.{begins_from, made_with}, proofs.Connections.{runs_made}, proofs.Refusals.{tells_fault}, proofs.Making.{made_over, unmade_over, ungiven_over}}
+use Rattle.moo_run.{proofs.Words.{inl, subst, subst₂, ◌∙◌, refl, file_state, over_files, image_at, given_to, Reports, Run, RunsMade}, proofs.Beginning.{begins_from, made_with, reads_on}, proofs.Connections.{runs_made}, proofs.Refusals.{tells_fault}, proofs.Making.{made_over, unmade_over, ungiven_over}}
 use Rattle.moo_files.{specs.Causes.{HasCauseOr, IsDenied, IsOpenable}, specs.Making.{rows_made, StopsMaking}, specs.Remains.{IsCleanRemains}, proofs.MakingLemmas.{occupied_never}}
 use Rattle.moo_run.proofs.files.run_made.Goals as goal
 
@@ -64,3 +64,6 @@ returns-in-Ok-make_from-clause-input g c other = c.run_in_files.ensures.input ot
 
 pub returns-in-Err-make_from-clause-input : goal.returns-in-Err-make_from-clause-input
 returns-in-Err-make_from-clause-input g c other = c.fail_to_open.ensures.input ∙ c.in-Ok.ensures.input other
+
+pub run_in_files-requires : goal.run_in_files-requires
+run_in_files-requires g c = record { read = reads_on g.S.Host.BatchFiles.may_read c.args.session.now.host c.find_rows.new.session.host c.in-Ok.ensures.rests c.args.task c.requires.read }

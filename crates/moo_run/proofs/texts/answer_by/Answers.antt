@@ -1,4 +1,4 @@
-use Rattle.moo_run.{proofs.Words.{refl, sym, true≢false, Works, RunsAt}, proofs.Tasks.{moved, failed_there, unchanged}}
+use Rattle.moo_run.{proofs.Words.{refl, true≢false, Works}, proofs.Tasks.{moved, failed_there, unchanged}}
 use Rattle.moo_http.proofs.Leading.{leads_start, text_leads_to}
 use Rattle.moo_run.proofs.texts.answer_by.Goals as goal
 

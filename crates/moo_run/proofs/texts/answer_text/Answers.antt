@@ -13,8 +13,8 @@ returns-in-Ok g c = record {
   still = c.answer_by-done.ensures.still;
 }
 
-pub returns-in-Err : goal.returns-in-Err
-returns-in-Err g c = record {
+pub returns : goal.returns
+returns g c = record {
   answers = λ m stands.
       ends_map g.B.Store c.args.world.now c.answer_by-done.new.world m _ _
       (λ end it. comes_stops c.args.manner m end (g.R.Read.remaining c.args.text) (g.W.Write.contents c.args.output.now) (g.W.Write.contents c.answer_by-done.new.output) c.in-Err.fault c.from.result c.from.ensures it) (c.in-Err.ensures.answers m stands);
