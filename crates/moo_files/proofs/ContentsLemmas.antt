@@ -158,7 +158,3 @@ kept_or_migrated image old new trees opens live found only holds clean it left l
   | inl was ↦ inl (left_only image old trees opens found only holds left was)
   | inr adopts ↦ inr (migrated image old trees left opens live found holds adopts)
 ]
-
-pub kept_state : (s : State) (trees left : Trees) → LeavesState trees s → IsKept trees left → LeavesState left s
-kept_state s trees left it (inl same) = subst (λ trees. LeavesState trees s) (sym same) it
-kept_state s trees left it (inr migrated) = migrated.state s it

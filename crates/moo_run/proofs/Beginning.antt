@@ -31,14 +31,7 @@ numbered_dumped action rows loads numbered = absurd (true≢false (sym loads))
 pub refuses_dump : (action : Action) (given : Given) (dump : List ℕ) (failure : Failure) → dump_word action ≡ dump → RefusesDump (given.text dump) failure → TellsLack given.lacks dump failure → RefusesTask given action failure
 refuses_dump action given dump failure is it lack = subst (λ word. RefusesDump (given.text word) failure × TellsLack given.lacks word failure) (sym is) (it, lack)
 
-load_makes : (action : Action) → is_load action ≡ true → makes_world action ≡ true
-load_makes (Load dump) loads = refl
-load_makes action loads = absurd (true≢false (sym loads))
-
-pub load_begins : (task : Task) → is_load task.action ≡ true → begins_anew task ≡ true
-load_begins task loads = ap (λ makes. makes || bytes_eq task.file.now (codes ":memory:")) (load_makes task.action loads)
-
--- and so does a task on `:memory:`
+-- a task on `:memory:` begins with a new world
 or_true : (a b : Bool) → b ≡ true → (a || b) ≡ true
 or_true true b is = refl
 or_true false b is = is
@@ -117,7 +110,3 @@ pub fresh_begins : {T D : Type 0} {g : Ghosts D} (action : Action) (given : Give
     → KeepsNothingBut (λ found. LeavesAsMade found rows) image remains → KeepsNothingBut (λ found. (m : Maps) × BeginsFrom action given m × LeavesAsMade found m) image remains
 fresh_begins action given rows begins image remains =
     blank_more (λ found. LeavesAsMade found rows) (λ found. (m : Maps) × BeginsFrom action given m × LeavesAsMade found m) (λ found leaves. (rows, begins, leaves)) image remains
-
--- a task that begins with a new world isn't one that takes up its file
-pub never_other : {A : Type 0} (task : Task) → is_load task.action ≡ true → begins_anew task ≡ false → A
-never_other task loads other = absurd (true≢false (sym (load_begins task loads) ∙ other))
