@@ -23,8 +23,6 @@ CRATES_ARE_TESTED = True
 # A file, and words in it that are right as they are.
 ALLOWED = {
     (".ci/lint/plain_english.py", ""),
-    # A World is at a place: it `Stands` there.
-    *(("crates/moo_store/src/world.rt", word) for word in ("stands", "stood")),
 }
 
 PLACES = r"(?:in|at|on|beside|there|here|below|above|under|over|between|round|inside|within)"
