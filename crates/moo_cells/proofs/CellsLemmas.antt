@@ -1,6 +1,6 @@
 -- Damage of tables, and damage of the rows that they show.
 use Rattle.moo_cells.{proofs.Words.{◌≡◌, ◌⊎◌, inl, inr, ◌<◌, pos, negsuc, Option, Some, None, refl, sym, subst, ◌∙◌, arith, get, Row, Maps, IsGood, Tables, head_cells, version_number, Kind, BadHead, BadCell, PastHead, NoParent, ParentLoop, NoPlace, PlaceLoop, NoDefiner, DoubleName, StrangeSlot, MissingSlot, ClearDefiner, StrangeVerb, Mismatch, Key, Object, Prop, Slot, Verb, Petition, rank, NoneBefore, IsLeast, IsFirstInRows, InRows, AreWithin, HeadIs, ReadsHead, IsRead, ObjectFits, PropFits, SlotFits, VerbFits, PetitionFits, ShowsOrNone, ShowsObject, ShowsProp, ShowsSlot, ShowsVerb, ShowsPetition, ShowsRows, IsNewer, IsBadHead, IsBadCell, IsMet, Damage, SaysOfCells, CellFault, Damaged, NewerVersion, OutOfMemory}, proofs.GoodRows.{head_limits, object_fits, prop_fits, slot_fits_here, verb_fits_here, counter_fits, petition_fits_here, good_within}, proofs.OneRows.{one_rows}, proofs.Ranks.{at_head, by_rank}}
-use Rattle.moo_cells_row.{proofs.HeadLemmas.{head_known, head_not_newer}, proofs.OneCells.{one_some}}
+use Rattle.moo_cells.{proofs.HeadLemmas.{head_known, head_not_newer}, proofs.OneCells.{one_some}}
 use Rattle.moo_damage.{specs.declared.kind.Key.TheVariants.{Head}, proofs.Clean.{clean}, proofs.Least.{none_met as none_in_rows}, proofs.Told.{none_told}}
 
 none_is : {A : Type 0} (o : Option A) (a : A) → o ≡ None → o ≡ Some a → ⊥

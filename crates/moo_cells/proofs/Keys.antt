@@ -2,8 +2,8 @@
 use Rattle.moo_cells.{proofs.Words.{◌≡◌, inl, inr, ℕ, ℤ, pos, negsuc, ◌<ℤ◌, true, refl, sym, ap, ◌∙◌, is_eq, int_cmp, ordering_then, int_ranked, tied_itself, Ordering, Less, Equal, Greater, and_parts, and_from, Value, Row, column, value_cmp, rowid, has_rowid, Version, has_key_pair, IsRowBelow, ReadsObject, ReadsProp, ReadsSlot, ReadsVerb, ReadsPetition, object_number, prop_number, slot_number, verb_number, petition_number, IsLess, IsPairLess}, proofs.Table.{Bears}}
 use Rattle.sqlite.specs.declared.types.Value.TheVariants.{Int}
 use Rattle.sqlite_value.proofs.OrderLemmas.{value_cmp_total}
-use Rattle.moo_cells_row.proofs.Numbers.{asymmetric, irreflexive, less_of, tied, ties}
-pub use Rattle.moo_cells_row.proofs.Numbers.{number_apart, rises, self_tied, tied_number}
+use Rattle.moo_cells.proofs.Numbers.{asymmetric, irreflexive, less_of, tied, ties}
+pub use Rattle.moo_cells.proofs.Numbers.{number_apart, rises, self_tied, tied_number}
 
 -- ---- one number
 

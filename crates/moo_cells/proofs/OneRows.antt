@@ -1,6 +1,6 @@
 -- Tables show one lot of rows within the limits at most.
 use Rattle.moo_cells.{proofs.Words.{◌≡◌, ℕ, ℤ, pos, true, Option, Some, None, refl, sym, ap, subst, ◌∙◌, same_map, and_parts, Row, column, ObjNo, Spells, one_spelled, Head, Maps, object_exact, prop_exact, slot_exact, verb_exact, petition_exact, object_total, prop_total, slot_total, verb_total, petition_total, is_number, petition_fits, row_fits, state_fits, Version, Tables, head_cells, petition_head_cells, AreWithin, calls_fit, ShowsOrNone, ShowsBits, ShowsSlotState, ShowsObject, ShowsProp, ShowsSlot, ShowsVerb, ShowsPetition, ShowsCounter, ShowsRows, Bool, false, has_petitions, ShowsNext}, proofs.Keys.{pos_inj}}
-use Rattle.moo_cells_row.{proofs.Texts.{int_inj, values_in, calls_within}, proofs.OneCells.{one_some, text_at, place_inj, prep_inj, bits_one, state_one}, proofs.ObjectLemmas.{object_one}}
+use Rattle.moo_cells.{proofs.Texts.{int_inj, values_in, calls_within}, proofs.OneCells.{one_some, text_at, place_inj, prep_inj, bits_one, state_one}, proofs.ObjectLemmas.{object_one}}
 use Rattle.moo_value.specs.declared.value.Value.TheVariants.{List as a_list}
 use Rattle.moo_rows.{specs.declared.row.PetitionId.{PetitionId}, specs.declared.row.PetitionRow.{PetitionRow}, specs.declared.row.PropId.{PropId}, specs.declared.row.PropRow.{PropRow}, specs.declared.row.SlotRow.{SlotRow}, specs.declared.row.VerbId.{VerbId}, specs.declared.row.VerbRow.{VerbRow}, specs.Bits.{verb_bits_of}}
 

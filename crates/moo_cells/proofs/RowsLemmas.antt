@@ -1,6 +1,6 @@
 -- The rows of all tables.
 use Rattle.moo_cells.{proofs.Words.{◌≡◌, ℕ, ℤ, Bool, List, pos, negsuc, ◌<◌, find, Option, Some, None, sym, ap, subst, ◌∙◌, arith, get, AllByRecursion, Row, has_rowid, Maps, and_from, Tables, tables_of, has_key_pair, version_number, Kind, BadHead, Key, rank, IsBelow, NoneBefore, AreWithin, HeadIs, ReadsHead, HasHead, by_rowid, ReadsCounter, HasCounter, SaysOfHead, IsRead, ReadsObject, ReadsProp, ReadsSlot, ReadsVerb, ReadsPetition, ShowsOrNone, ShowsObject, ShowsProp, ShowsSlot, ShowsVerb, ShowsPetition, ShowsRows, HoldsTable, SaysUnread, object_number, prop_number, slot_number, verb_number, petition_number, object_key, prop_key, slot_key, verb_key, petition_key, IsLess, IsPairLess, IsNewer, IsBadHead, IsBadCell, IsMet, SaysOfCells, CellFault, Damaged, NewerVersion, OutOfMemory}, proofs.Keys.{objects_bear, props_bear, slots_bear, verbs_bear, petitions_bear}, proofs.Table.{none_unread, no_other}, proofs.Ranks.{at_head, by_key, by_rank}, specs.Unread.{IsUnread, FirstUnread}}
-use Rattle.moo_cells_row.{proofs.HeadLemmas.{head_known, head_not_newer}, proofs.OneCells.{one_some}}
+use Rattle.moo_cells.{proofs.HeadLemmas.{head_known, head_not_newer}, proofs.OneCells.{one_some}}
 use Rattle.moo_rows.specs.declared.row.Head.{Head as HeadRow}
 use Rattle.moo_tables.specs.declared.reading.CellLists.{CellLists}
 use Rattle.moo_damage.specs.declared.kind.Key.TheVariants.{Head}

@@ -3,7 +3,7 @@ use Rattle.moo_cells.{proofs.Words.{◌≡◌, inl, inr, length, List, [], ◌�
 use Rattle.std.proofs.lemmas.List.Folds.{find-append}
 use Rattle.sqlite_rules.{specs.Lists.{Has}, proofs.ListLemmas.{all_has, has_found}}
 use Rattle.sqlite_trees.specs.Tree.{IsAscending}
-pub use Rattle.moo_cells_row.proofs.Numbers.{tied}
+pub use Rattle.moo_cells.proofs.Numbers.{tied}
 
 -- how rows in ascending order bear the keys of a table
 pub record Bears {J K X : Type 0} (has : J → Row → Bool) (number : K → J) (reads : K → Row → X → Type 0) (up : Row → Row → Type 0) (below : J → J → Type 0) : Type 0 where

@@ -1,6 +1,6 @@
 -- The words that most proofs of this crate share.
-pub use Rattle.std.proofs.Common.{Bool, Err, IsTrue, List, None, Ok, Option, Result, Some, [], add-one, ap, append-nil, append_assoc, arith, cond, drop, false, find, get_or, inl, inr, length, map, negsuc, not, pos, refl, rules, subst, subst₂, suc, sym, take, true, true≢false, w64, zero, ℕ, ℤ, ◌++◌, ◌+◌, ◌-◌, ◌<ℤ◌, ◌<◌, ◌∙◌, ◌∷◌, ◌≡◌, ◌≢◌, ◌≤ℤ◌, ◌≤◌, ◌⊎◌}
-pub use Rattle.std.proofs.lemmas.Bool.{and_from, and_parts, lt-ltb}
+pub use Rattle.std.proofs.Common.{Bool, Err, FitsSigned, IsTrue, List, None, Ok, Option, Result, Some, [], add-one, ap, append-nil, append_assoc, arith, cond, drop, false, find, get_or, inl, inr, length, map, negsuc, not, of_z, pos, refl, rules, subst, subst₂, suc, sym, take, to_z, true, true≢false, w32, w64, zero, ℕ, ℤ, ◌++◌, ◌+◌, ◌-◌, ◌<ℤ◌, ◌<◌, ◌∙◌, ◌∷◌, ◌≡◌, ◌≢◌, ◌≤ℤ◌, ◌≤◌, ◌⊎◌}
+pub use Rattle.std.proofs.lemmas.Bool.{and_from, and_parts, le-leb, leb-true, lt-ltb}
 pub use Rattle.std.proofs.lemmas.Int.{ints, to_z-of_z}
 pub use Rattle.std.proofs.lemmas.Result.{IfOk-weaker, err_from_is_err_and}
 pub use Rattle.std.specs.Cmp.{IsTotalOrder, alike_right, int_ranked, ranked, tied_itself}
@@ -8,18 +8,19 @@ pub use Rattle.std.specs.FinMap.{FinMap, IsAntisymmetric, empty, entries, get, g
 pub use Rattle.std.specs.List.{AllByRecursion, cons_option, filter_map, list_all}
 pub use Rattle.std.specs.Option.{option_and_then, option_map, option_or}
 pub use Rattle.std.specs.Ordering.{eq_by_cmp, int_cmp, is_eq, nat_cmp, ordering_then}
-pub use Rattle.std.specs.Prelude.{IfErr, IfOk, IfSome, OnOk, if◌then◌else◌, is_some, unwrap_or}
+pub use Rattle.std.specs.Prelude.{IfErr, IfOk, IfSome, OnOk, if◌then◌else◌, is_some, nat_le, unwrap_or, ◌&&◌, ◌==◌}
 pub use Rattle.std.specs.Vec.Iter.{into_iter_items, into_iter_len}
 pub use Rattle.std.specs.declared.cmp.Ordering.{Ordering}
 pub use Rattle.std.specs.declared.cmp.Ordering.TheVariants.{Equal, Greater, Less}
 pub use Rattle.moo_cells.specs.Damage.{Damage, IsBadCell, IsBadHead, IsMet, IsNewer, SaysOfCells}
 pub use Rattle.moo_cells.specs.Each.{ShowEach}
-pub use Rattle.moo_cells_row.specs.Head.{HasCounter, HasHead, HoldsHead, HeadFits, HeadIs, IsCounter, IsNewerThan, ReadsCounter, ReadsHead, SaysOfHead, by_rowid, greatest_version}
+pub use Rattle.moo_cells.specs.Head.{HasCounter, HasHead, HoldsHead, HeadFits, HeadIs, IsCounter, IsNewerThan, ReadsCounter, ReadsHead, SaysOfHead, by_rowid, greatest_version, ReadsKnown, ReadsNewer, head_row}
 pub use Rattle.moo_cells.specs.Holding.{HoldsTable, IsLess, IsPairLess, SaysUnread, TakesRow, object_key, object_number, petition_key, petition_number, prop_key, prop_number, slot_key, slot_number, verb_key, verb_number}
-pub use Rattle.moo_cells_row.specs.Reading.{IsRead, ObjectFits, PetitionFits, PropFits, ReadsObject, ReadsPetition, ReadsProp, ReadsSlot, ReadsVerb, SlotFits, VerbFits, calls_fit}
+pub use Rattle.moo_cells.specs.Reading.{IsRead, ObjectFits, PetitionFits, PropFits, ReadsObject, ReadsPetition, ReadsProp, ReadsSlot, ReadsVerb, SlotFits, VerbFits, calls_fit}
 pub use Rattle.moo_cells.specs.Shows.{ShowsBits, ShowsCounter, ShowsNext, ShowsObject, ShowsOrNone, ShowsPetition, ShowsProp, ShowsRows, ShowsSlot, ShowsSlotState, ShowsVerb}
-pub use Rattle.moo_cells_row.specs.declared.fault.CellFault.{CellFault}
-pub use Rattle.moo_cells_row.specs.declared.fault.CellFault.TheVariants.{Damaged, NewerVersion, OutOfMemory}
+pub use Rattle.moo_cells.specs.declared.fault.CellFault.{CellFault}
+pub use Rattle.moo_cells.specs.declared.fault.CellFault.TheVariants.{Damaged, NewerVersion, OutOfMemory}
+pub use Rattle.moo_cells.specs.RowCells.{ShowsAccept, ShowsRights}
 pub use Rattle.moo_damage.specs.Kinds.{InRows, IsBelow, IsFirstInRows, IsFirstMet, IsLeast, NoneBefore, rank}
 pub use Rattle.moo_damage.specs.Limits.{AreWithin}
 pub use Rattle.moo_damage.specs.declared.kind.Key.{Key}
@@ -30,19 +31,23 @@ pub use Rattle.moo_rows.proofs.Orders.{object_total, petition_total, prop_total,
 pub use Rattle.moo_rows.specs.Exact.{object_exact, petition_exact, prop_exact, slot_exact, verb_exact}
 pub use Rattle.moo_rows.specs.Maps.{Maps}
 pub use Rattle.moo_rows.specs.declared.row.Head.{Head}
-pub use Rattle.moo_tables_rows.specs.Cells.{head_cells, petition_head_cells}
+pub use Rattle.moo_tables_rows.specs.Cells.{flag_cell, head_cells, petition_head_cells}
 pub use Rattle.moo_tables.specs.Listing.{IsRowBelow, has_key_pair, tables_of}
 pub use Rattle.moo_tables_rows.specs.Tables.{Tables}
-pub use Rattle.moo_tables_rows.specs.Version.{has_petitions, version_number}
+pub use Rattle.moo_tables_rows.specs.Version.{has_lettered_bits, has_petitions, version_number}
 pub use Rattle.moo_tables_rows.specs.declared.version.Version.{Version}
-pub use Rattle.moo_value.proofs.Printed.{one_spelled}
-pub use Rattle.moo_value.specs.Literal.{Spells}
+pub use Rattle.moo_tables_rows.specs.declared.version.Version.TheVariants.{First, Second}
+pub use Rattle.moo_value.proofs.Printed.{one_spelled, whole}
+pub use Rattle.moo_value.specs.Literal.{Fits, HoldInside, InRange, Spells}
 pub use Rattle.moo_value.specs.declared.value.ObjNo.{ObjNo}
-pub use Rattle.moo_world.specs.Arguments.{in_range, is_number}
-pub use Rattle.moo_world.specs.Petitions.{petition_fits}
+pub use Rattle.moo_value.specs.Value.{gather, nesting, spread}
+pub use Rattle.moo_world.specs.Arguments.{all_within_limits, in_range, is_number, is_text}
+pub use Rattle.moo_world.specs.Petitions.{are_few, are_shallow, is_named, petition_fits}
 pub use Rattle.moo_world.specs.Rows.{IsGood, look_ups, name_on, numbers_below, object_shown, slot_seen, world_of}
 unfoldable pub use Rattle.moo_world.specs.Rows.{world_shown}
-pub use Rattle.moo_world.specs.World.{Climbs, KeepsLimits, WorldObject, is_object, is_property_name, row_fits, state_fits, verb_fits, without_slots}
+pub use Rattle.moo_world.specs.World.{Climbs, KeepsLimits, WorldObject, accept_fits, has_word, is_object, is_property_name, row_fits, state_fits, verb_fits, without_slots}
+pub use Rattle.moo_world.proofs.Form.Ranges.{fits_of, fits_signed, fits_tested, range_of, text_tested}
+pub use Rattle.moo_world.specs.Answers.{object_list}
 pub use Rattle.sqlite.specs.Order.{Row, column, value_cmp}
 pub use Rattle.sqlite.specs.Tree.{has_rowid, rowid}
 pub use Rattle.sqlite.specs.declared.types.Value.{Value}

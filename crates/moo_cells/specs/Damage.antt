@@ -9,12 +9,12 @@ use Rattle.moo_damage.specs.declared.kind.Key.{Key}
 use Rattle.moo_damage.specs.declared.kind.Key.TheVariants.{Head, Object, Prop, Slot, Verb, Petition}
 use Rattle.moo_damage.specs.Kinds.{InRows, IsFirstMet}
 use Rattle.moo_damage.specs.Limits.{AreWithin}
-use Rattle.moo_cells_row.specs.Head.{greatest_version, IsNewerThan, HasHead, HasCounter}
-use Rattle.moo_cells_row.specs.Reading.{ReadsObject, ReadsProp, ReadsSlot, ReadsVerb, ReadsPetition}
+use Rattle.moo_cells.specs.Head.{greatest_version, IsNewerThan, HasHead, HasCounter}
+use Rattle.moo_cells.specs.Reading.{ReadsObject, ReadsProp, ReadsSlot, ReadsVerb, ReadsPetition}
 use Rattle.moo_cells.specs.Shows.{ShowsRows}
 use Rattle.moo_cells.specs.Unread.{IsUnread}
-use Rattle.moo_cells_row.specs.declared.fault.CellFault.{CellFault}
-use Rattle.moo_cells_row.specs.declared.fault.CellFault.TheVariants.{Damaged, NewerVersion, OutOfMemory}
+use Rattle.moo_cells.specs.declared.fault.CellFault.{CellFault}
+use Rattle.moo_cells.specs.declared.fault.CellFault.TheVariants.{Damaged, NewerVersion, OutOfMemory}
 
 -- the head is that of a version later than the greatest that is known
 abbrev pub IsNewer : Tables → Type 0

@@ -13,11 +13,11 @@ use Rattle.moo_rows.specs.declared.row.VerbId.{VerbId}
 use Rattle.moo_damage.specs.declared.kind.Kind.TheVariants.{BadCell}
 use Rattle.moo_damage.specs.declared.kind.Key.{Key}
 use Rattle.moo_damage.specs.declared.kind.Key.TheVariants.{Object, Prop, Slot, Verb, Petition}
-use Rattle.moo_cells_row.specs.Reading.{IsRead}
+use Rattle.moo_cells.specs.Reading.{IsRead}
 use Rattle.moo_cells.specs.Shows.{ShowsOrNone}
 use Rattle.moo_cells.specs.Unread.{FirstUnread}
-use Rattle.moo_cells_row.specs.declared.fault.CellFault.{CellFault}
-use Rattle.moo_cells_row.specs.declared.fault.CellFault.TheVariants.{Damaged, NewerVersion, OutOfMemory}
+use Rattle.moo_cells.specs.declared.fault.CellFault.{CellFault}
+use Rattle.moo_cells.specs.declared.fault.CellFault.TheVariants.{Damaged, NewerVersion, OutOfMemory}
 
 abbrev pub object_number : ObjNo → ℤ
 object_number n = n.0

@@ -1,3 +1,9 @@
+pub mod Object
+pub mod RowCells
+pub mod Reading
+pub mod Columns
+pub mod Head
+pub mod HeadCells
 pub mod Shows
 pub mod Unread
 pub mod Holding

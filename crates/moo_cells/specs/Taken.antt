@@ -12,7 +12,7 @@ use Rattle.moo_tables_rows.specs.Inside.{Rests}
 use Rattle.moo_tables.specs.Listing.{ListsNumbers, ListsPairs, has_key_pair}
 use Rattle.moo_cells.specs.Apart.{HaveNumbers, HavePairs}
 use Rattle.moo_cells.specs.Holding.{FillsTable, HoldsEachRow, object_number, prop_number, slot_number, verb_number}
-use Rattle.moo_cells_row.specs.Reading.{ReadsObject, ReadsProp, ReadsSlot, ReadsVerb}
+use Rattle.moo_cells.specs.Reading.{ReadsObject, ReadsProp, ReadsSlot, ReadsVerb}
 
 -- the rows that list a table were read, and the other maps stay
 pub record TakesTable {K X : Type 0} {cmp : K → K → Ordering} (map_of : Maps → FinMap cmp X) (with_map : Maps → FinMap cmp X → Maps)

@@ -1,7 +1,7 @@
 -- Rows that can't be read.
 use Rattle.std.specs.Prelude.{◌≡◌, Option, Some}
 use Rattle.sqlite.specs.Order.{Row}
-use Rattle.moo_cells_row.specs.Reading.{IsRead}
+use Rattle.moo_cells.specs.Reading.{IsRead}
 
 -- there is such a row, and it can't be read
 abbrev pub IsUnread : {J K X : Type 0} → (K → Row → X → Type 0) → (J → Option Row) → J → Type 0

@@ -9,8 +9,8 @@ ghost use Rattle.moo_cells.specs.Damage.{IsMet, IsNewer, SaysOfCells};
 ghost use Rattle.moo_damage.specs.declared.kind.Kind.{Kind};
 ghost use Rattle.moo_damage.specs.declared.kind.Key.{Key};
 
+use crate::fault::CellFault;
 use crate::rows::read_rows;
-use moo_cells_row::CellFault;
 use moo_damage::damage_of;
 use moo_memory::Flat;
 use moo_tables::CellLists as Cells;

@@ -4,14 +4,15 @@ ghost use Rattle.std.specs.Prelude.{◌≡◌, true, IfOk, IfErr, IfSome, IfNone
 ghost use Rattle.moo_world.specs.Rows.{IsGood};
 ghost use Rattle.moo_tables_rows.specs.Inside.{AreKeyed};
 ghost use Rattle.moo_tables.specs.Listing.{AreListed, tables_of};
-ghost use Rattle.moo_cells_row.specs.Head.{by_rowid, HoldsHead, ReadsCounter};
+ghost use Rattle.moo_cells.specs.Head.{by_rowid, HoldsHead, ReadsCounter};
 ghost use Rattle.moo_cells.specs.Shows.{ShowsRows};
 ghost use Rattle.moo_cells.specs.Damage.{SaysOfCells};
 ghost use Rattle.moo_cells.specs.Compared.{IsMismatch};
 
 use crate::cells::read_cells;
+use crate::fault::CellFault;
+use crate::head::read_head;
 use crate::showing::show_each;
-use moo_cells_row::{CellFault, read_head};
 use moo_damage::{Key, first_difference};
 use moo_memory::Flat;
 use moo_rows::{Head, ObjRow, PetitionRow, PropRow, Rows, SlotRow, VerbRow};

@@ -17,9 +17,9 @@ ghost use Rattle.moo_cells.specs.Shows.{ShowsRows};
 ghost use Rattle.moo_cells.specs.Taken.{TakesObjects, TakesProps, TakesSlots, TakesVerbs, TakesTables};
 
 use crate::filled::Filling;
+use crate::head::read_head;
 use crate::rows::under;
 use crate::table_row::read_table;
-use moo_cells_row::read_head;
 use moo_damage::damage_of;
 use moo_memory::Flat;
 use moo_rows::{ObjRow, PetitionRow, PropRow, SlotRow, VerbRow};

@@ -5,12 +5,13 @@ ghost use Rattle.moo_rows.specs.Maps.{no_maps};
 ghost use Rattle.moo_tables.specs.Listing.{AreListed, tables_of};
 ghost use Rattle.moo_damage.specs.Kinds.{NoneBefore};
 ghost use Rattle.moo_damage.specs.Limits.{AreWithin};
-ghost use Rattle.moo_cells_row.specs.Head.{by_rowid, HoldsHead, ReadsCounter};
+ghost use Rattle.moo_cells.specs.Head.{by_rowid, HoldsHead, ReadsCounter};
 ghost use Rattle.moo_cells.specs.Shows.{ShowsRows};
 ghost use Rattle.moo_cells.specs.Damage.{IsMet, IsNewer, SaysOfCells};
 
+use crate::fault::CellFault;
+use crate::head::read_head;
 use crate::table_row::read_table;
-use moo_cells_row::{CellFault, read_head};
 use moo_memory::Flat;
 use moo_rows::{Head, ObjRow, PetitionRow, PropRow, Rows, SlotRow, VerbRow};
 use moo_tables::CellLists as Cells;

@@ -4,8 +4,8 @@ ghost use Rattle.std.specs.Prelude.{◌≡◌, true, None, IfOk};
 ghost use Rattle.std.specs.FinMap.{entries};
 ghost use Rattle.moo_cells.specs.Each.{ShowEach};
 
+use crate::fault::RowFault;
 use crate::table_row::ReadRow;
-use moo_cells_row::RowFault;
 use moo_memory::Flat;
 use moo_rows::Row as _;
 use moo_tables::Version;

@@ -5,13 +5,13 @@ ghost use Rattle.std.specs.FinMap.{empty, get};
 ghost use Rattle.sqlite.specs.Order.{Row as Cells};
 ghost use Rattle.moo_tables_rows.specs.declared.version.Version.{Version};
 ghost use Rattle.moo_damage.specs.declared.kind.Key.{Key};
-ghost use Rattle.moo_cells_row.specs.Reading.{IsRead};
+ghost use Rattle.moo_cells.specs.Reading.{IsRead};
 ghost use Rattle.moo_cells.specs.Holding.{KeepsTable, TakesRow};
-ghost use Rattle.moo_cells_row.specs.declared.fault.CellFault.{CellFault};
-ghost use Rattle.moo_cells_row.specs.declared.fault.RowFault.TheVariants.{Unreadable};
+ghost use Rattle.moo_cells.specs.declared.fault.CellFault.{CellFault};
+ghost use Rattle.moo_cells.specs.declared.fault.RowFault.TheVariants.{Unreadable};
 
+use crate::fault::{CellFault, RowFault};
 use crate::spent::Spent;
-use moo_cells_row::{CellFault, RowFault};
 use moo_damage::{Key, Kind};
 use moo_memory::Flat;
 use moo_rows::KeyedRow;

@@ -1,13 +1,13 @@
 -- The words that most proofs of this crate share.
-pub use Rattle.std.proofs.Common.{Bool, Bor, List, None, Option, Some, [], add-one, ap, append-nil, append_assoc, arith, codes, drop, drop-cons, false, get_or, inl, inr, length, length-append, length-drop, map, nat_le, option_map, refl, rules, subst, sym, take, take-append-drop, true, ℕ, ◌&&◌, ◌++◌, ◌+◌, ◌-◌, ◌<◌, ◌∙◌, ◌∷◌, ◌≡◌, ◌≢◌, ◌≤◌, ◌⊎◌}
+pub use Rattle.std.proofs.Common.{Bool, Bor, List, None, Option, Some, [], add-one, ap, append-nil, append_assoc, arith, bytes_eq, codes, drop, drop-cons, false, get_or, inl, inr, length, length-append, length-drop, map, nat_le, option_map, refl, rules, subst, sym, take, take-append-drop, true, ℕ, ◌&&◌, ◌*◌, ◌++◌, ◌+◌, ◌-◌, ◌<◌, ◌∙◌, ◌∷◌, ◌≡◌, ◌≢◌, ◌≤◌, ◌⊎◌}
 pub use Rattle.std.proofs.lemmas.Bool.Decides.{nat_tests}
-pub use Rattle.std.proofs.lemmas.List.{drop-append-le, drop_all, get_or-map, length-map, take-append-le, take-map, take_all, take_at}
+pub use Rattle.std.proofs.lemmas.List.{drop-append-le, drop_all, get_or-map, length-map, take-append-le, take-map, take_all, take_at, take_more}
 pub use Rattle.std.specs.Io.KnownBytes.{Consumes, IsAtEnd}
 pub use Rattle.std.specs.List.{list_all}
-pub use Rattle.std.specs.Prelude.{Err, IfOk, IsUtf8, Ok, OnErr, Result, max, option_and_then, slice_range}
+pub use Rattle.std.specs.Prelude.{Err, IfOk, IsTrue, IsUtf8, Ok, OnErr, Result, max, option_and_then, slice_range, ◌↔◌}
 pub use Rattle.httparse.proofs.GrammarLemmas.{print_request-append, request_unique}
 pub use Rattle.httparse.specs.Grammar.{HasNoRequest, ReadsRequest, RequestHead, print_blank, print_request}
-pub use Rattle.httparse.specs.Spans.{RequestOverflows}
+pub use Rattle.httparse.specs.Spans.{RequestOverflows, header_bytes}
 pub use Rattle.moo_text.specs.LineReading.{call_of}
 pub use Rattle.serde_json.specs.Data.{Data, string}
 pub use Rattle.serde_json.specs.Find.{as_str}
@@ -29,3 +29,4 @@ pub use Rattle.moo_http_request.specs.declared.head.HeadSpans.{HeadSpans}
 pub use Rattle.moo_http_request.specs.declared.plan.Plan.{Plan}
 pub use Rattle.moo_http_request.specs.declared.plan.Plan.TheVariants.{Body, Decided}
 pub use Rattle.moo_http_request.specs.declared.request.Received.TheVariants.{Request}
+pub use Rattle.moo_value.specs.Literal.{is_digit, value_after}

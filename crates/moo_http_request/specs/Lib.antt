@@ -4,6 +4,9 @@ pub mod Calls
 pub mod Found
 pub mod Given
 pub mod Head
+pub mod Hosts
+pub mod Lines
+pub mod Numbers
 pub mod Plan
 pub mod Planned
 pub mod Questions

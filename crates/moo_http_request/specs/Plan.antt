@@ -17,9 +17,9 @@ use Rattle.moo_http_request.specs.declared.plan.Plan.{Plan}
 use Rattle.moo_http_request.specs.declared.plan.Plan.TheVariants.{Decided, Body}
 use Rattle.moo_http_request.specs.declared.question.Topic.{Topic}
 use Rattle.moo_http_request.specs.declared.question.Topic.TheVariants.{Seq, Object, Objects, Dump}
-use Rattle.moo_http_lines.specs.Hosts.{is_own_line}
-use Rattle.moo_http_lines.specs.Lines.{Line, is_from_page, is_coded, length_text}
-use Rattle.moo_http_lines.specs.Numbers.{bounded_of}
+use Rattle.moo_http_request.specs.Hosts.{is_own_line}
+use Rattle.moo_http_request.specs.Lines.{Line, is_from_page, is_coded, length_text}
+use Rattle.moo_http_request.specs.Numbers.{bounded_of}
 use Rattle.moo_http_request.specs.Questions.{question_of}
 use Rattle.moo_http_request.specs.Routes.{endpoint_of}
 

@@ -4,7 +4,7 @@ use Rattle.moo_http_request.specs.declared.question.Question.{Question}
 use Rattle.moo_http_request.specs.declared.question.Question.TheVariants as ask
 use Rattle.moo_http_request.specs.declared.question.Topic.{Topic}
 use Rattle.moo_http_request.specs.declared.question.Topic.TheVariants.{Seq, Object, Objects, Dump}
-use Rattle.moo_http_lines.specs.Numbers.{number_of}
+use Rattle.moo_http_request.specs.Numbers.{number_of}
 
 abbrev pub all_topics : List Topic
 all_topics = Seq ∷ Object ∷ Objects ∷ Dump ∷ []

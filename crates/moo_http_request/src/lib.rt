@@ -1,4 +1,6 @@
 //! What a request asks, from the bytes of a connection: its head, read in pieces, its route, and its body only if the head asks for one.
+//!
+//! The lines of a head say who sent it, which machine it is for, and the length of its body.
 #![tactic(auto)]
 
 mod asked;
@@ -6,9 +8,12 @@ mod body;
 mod each;
 mod fault;
 mod head;
+mod host;
 mod incoming;
 mod input;
 mod laws;
+mod lines;
+mod numbers;
 mod plan;
 mod question;
 mod request;

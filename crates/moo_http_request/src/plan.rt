@@ -6,10 +6,12 @@ ghost use Rattle.moo_http_request.specs.Plan.{path_of, is_why_query, is_why, met
 ghost use Rattle.moo_http_request.specs.Planned.{IsBounded};
 
 use crate::asked::{Asked, Form, Method, Refusal};
+use crate::host::is_for_us;
+use crate::lines::{is_coded, is_from_page, stated_length};
+use crate::numbers::bounded;
 use crate::question::{Question, Topic};
 use crate::routes::{Endpoint, Routes};
 use httparse::spans::HeaderSpan;
-use moo_http_lines::{bounded, is_coded, is_for_us, is_from_page, stated_length};
 use std::str;
 
 const MAX_BODY: u64 = 1_048_576;

@@ -1,10 +1,10 @@
 //! What a GET asks: the topics, each with its route, and the questions about them.
 
 ghost use Rattle.std.specs.Prelude.{◌≡◌, drop};
-ghost use Rattle.moo_http_lines.specs.Numbers.{number_of};
+ghost use Rattle.moo_http_request.specs.Numbers.{number_of};
 ghost use Rattle.moo_http_request.specs.Questions.{all_topics, pattern as pattern_of, question_of};
 
-use moo_http_lines::number_in;
+use crate::numbers::number_in;
 use moo_value::ObjNo;
 use std::fmt::{self, Display, Formatter};
 

@@ -2,12 +2,14 @@
 
 ghost use Rattle.sqlite.specs.Tree.{has_rowid};
 ghost use Rattle.moo_tables_rows.specs.Inside.{AreKeyed};
-ghost use Rattle.moo_cells_row.specs.Reading.{ReadsObject};
+ghost use Rattle.moo_cells.specs.Reading.{ReadsObject};
 ghost use Rattle.moo_cells.specs.Apart.{HaveNumbers};
 ghost use Rattle.moo_cells.specs.Holding.{object_number, object_key, IsLess, HasWholeNumber, HoldsEachRow, SaysUnread, TellsKey};
 
+use crate::cell::int_in;
+use crate::fault::RowFault;
+use crate::object::read_object;
 use crate::table_row::ReadRow;
-use moo_cells_row::{RowFault, int_in, read_object};
 use moo_damage::Key;
 use moo_rows::ObjRow;
 use moo_tables::Version;

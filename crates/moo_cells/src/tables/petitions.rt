@@ -2,12 +2,14 @@
 
 ghost use Rattle.sqlite.specs.Tree.{has_rowid};
 ghost use Rattle.moo_tables_rows.specs.Inside.{AreKeyed};
-ghost use Rattle.moo_cells_row.specs.Reading.{ReadsPetition};
+ghost use Rattle.moo_cells.specs.Reading.{ReadsPetition};
 ghost use Rattle.moo_cells.specs.Apart.{HaveNumbers};
 ghost use Rattle.moo_cells.specs.Holding.{petition_number, petition_key, IsLess, HasWholeNumber, HoldsEachRow, SaysUnread, TellsKey};
 
+use crate::cell::int_in;
+use crate::fault::RowFault;
+use crate::petition::read_petition;
 use crate::table_row::ReadRow;
-use moo_cells_row::{RowFault, int_in, read_petition};
 use moo_damage::Key;
 use moo_rows::{PetitionId, PetitionRow};
 use moo_tables::Version;

@@ -2,12 +2,14 @@
 
 ghost use Rattle.sqlite.specs.Tree.{has_rowid};
 ghost use Rattle.moo_tables_rows.specs.Inside.{AreKeyed};
-ghost use Rattle.moo_cells_row.specs.Reading.{ReadsProp};
+ghost use Rattle.moo_cells.specs.Reading.{ReadsProp};
 ghost use Rattle.moo_cells.specs.Apart.{HaveNumbers};
 ghost use Rattle.moo_cells.specs.Holding.{prop_number, prop_key, IsLess, HasWholeNumber, HoldsEachRow, SaysUnread, TellsKey};
 
+use crate::cell::int_in;
+use crate::fault::RowFault;
+use crate::prop::read_prop;
 use crate::table_row::ReadRow;
-use moo_cells_row::{RowFault, int_in, read_prop};
 use moo_damage::Key;
 use moo_rows::{PropId, PropRow};
 use moo_tables::Version;

@@ -1,12 +1,14 @@
 //! The table of slots.
 
 ghost use Rattle.moo_tables.specs.Listing.{has_key_pair, ArePaired};
-ghost use Rattle.moo_cells_row.specs.Reading.{ReadsSlot};
+ghost use Rattle.moo_cells.specs.Reading.{ReadsSlot};
 ghost use Rattle.moo_cells.specs.Apart.{HavePairs};
 ghost use Rattle.moo_cells.specs.Holding.{slot_number, slot_key, IsPairLess, HasWholePair, HoldsEachRow, SaysUnread, TellsKey};
 
+use crate::cell::int_in;
+use crate::fault::RowFault;
+use crate::slot::read_slot;
 use crate::table_row::ReadRow;
-use moo_cells_row::{RowFault, int_in, read_slot};
 use moo_damage::Key;
 use moo_rows::{PropId, SlotRow};
 use moo_tables::Version;

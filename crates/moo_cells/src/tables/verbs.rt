@@ -1,12 +1,14 @@
 //! The table of verbs.
 
 ghost use Rattle.moo_tables.specs.Listing.{has_key_pair, ArePaired};
-ghost use Rattle.moo_cells_row.specs.Reading.{ReadsVerb};
+ghost use Rattle.moo_cells.specs.Reading.{ReadsVerb};
 ghost use Rattle.moo_cells.specs.Apart.{HavePairs};
 ghost use Rattle.moo_cells.specs.Holding.{verb_number, verb_key, IsPairLess, HasWholePair, HoldsEachRow, SaysUnread, TellsKey};
 
+use crate::cell::int_in;
+use crate::fault::RowFault;
 use crate::table_row::ReadRow;
-use moo_cells_row::{RowFault, int_in, read_verb};
+use crate::verb::read_verb;
 use moo_damage::Key;
 use moo_rows::{VerbId, VerbRow};
 use moo_tables::Version;

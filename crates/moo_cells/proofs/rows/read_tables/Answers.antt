@@ -1,5 +1,5 @@
 use Rattle.moo_cells.{proofs.Words.{◌∙◌, sym, ap, subst, err_from_is_err_and, Maps, tables_of, has_rowid, ReadsPetition, HoldsTable, SaysUnread, IsLess, petition_key, petition_number, SaysOfCells}, proofs.Apart.{numbered, paired}, proofs.FillLemmas.{objects_keep, props_keep, slots_keep, verbs_keep, petitions_keep}, proofs.RowsLemmas.{read_all, rows_shown, rows_within, says_object, says_prop, says_slot, says_verb, says_petition, none_met}}
-use Rattle.moo_cells_row.proofs.Exits.{err_then}
+use Rattle.moo_cells.proofs.Exits.{err_then}
 use Rattle.moo_tables_rows.specs.Inside.{AreKeyed}
 use Rattle.moo_cells.proofs.rows.read_tables.Goals as goal
 use Rattle.std.proofs.lemmas.Result.{on_ok_weaker}

@@ -1,0 +1,166 @@
+//! The head: its table, and that of the number of the next petition.
+
+ghost use Rattle.std.specs.Prelude.{◌≡◌, ◌≢◌, ℕ, ◌<◌, ◌≤◌, ◌^◌, pos, negsuc, ◌≤ℤ◌, FitsSigned, IfOk, IfErr, IfSome, IfNone};
+ghost use Rattle.std.specs.Int.{w32};
+ghost use Rattle.moo_rows.specs.declared.row.Head.{Head};
+ghost use Rattle.moo_tables_rows.specs.Inside.{AreKeyed};
+ghost use Rattle.moo_tables_rows.specs.Version.{version_number};
+ghost use Rattle.moo_cells.specs.Head.{greatest_version, by_rowid, HoldsHead, ReadsHead, ReadsNewer, ReadsKnown, IsNewerThan, HasHead, ReadsCounter, HasCounter, SaysOfHead};
+ghost use Rattle.moo_cells.specs.HeadCells.{cells_of, AreWords, IsHead};
+ghost use Rattle.moo_cells.specs.declared.head.HeadCells.{HeadCells};
+
+use crate::cell::int_at;
+use crate::counter::{FIRST_PETITION, counter_in, read_counter};
+use crate::fault::{CellFault, RowFault};
+use moo_damage::{Key, Kind};
+use moo_rows::Head;
+use moo_tables::Version;
+use sqlite::Row;
+
+/// How many columns the table of the head has.
+const COLUMNS: usize = 6;
+
+const BAD_HEAD: CellFault = CellFault::Damaged(Kind::BadHead, Key::Head);
+
+/// The numbers in the cells of the head.
+#[derive(Clone, Copy)]
+struct HeadCells {
+    id: i64,
+    version: i64,
+    seq: i64,
+    top: i64,
+    next_prop: i64,
+    next_verb: i64,
+}
+
+/// The numbers in these cells.
+fn numbers_of(cells: &Row) -> Result<HeadCells, RowFault>
+    ensures ok { IfOk result (λ numbers. cells.now ≡ cells_of numbers) }
+    ensures words { IfOk result (λ numbers. AreWords numbers) }
+    ensures err { IfErr result (λ _. (numbers : HeadCells) → ¬ (cells.now ≡ cells_of numbers)) }
+{
+    if cells.column_count() != COLUMNS {
+        return Err(RowFault::Unreadable);
+    }
+    let id = int_at(cells, 0)?;
+    let version = int_at(cells, 1)?;
+    let seq = int_at(cells, 2)?;
+    let top = int_at(cells, 3)?;
+    let next_prop = int_at(cells, 4)?;
+    let next_verb = int_at(cells, 5)?;
+    Ok(HeadCells {
+        id,
+        version,
+        seq,
+        top,
+        next_prop,
+        next_verb,
+    })
+}
+
+/// How many batches were accepted.
+fn seq_in(number: i64) -> Option<u64>
+    ensures some { IfSome result (λ seq. number ≡ pos seq) }
+    ensures limit { IfSome result (λ seq. seq < 2 ^ 63) }
+    ensures none { IfNone result ((seq : ℕ) → number ≢ pos seq) }
+{
+    u64::try_from(number).ok()
+}
+
+/// The greatest number of an object.
+fn top_in(number: i64) -> Option<i32>
+    ensures some { IfSome result (λ top. number ≡ top) }
+    ensures within { IfSome result (λ top. (negsuc 0 ≤ℤ top) × (top ≤ℤ pos 2147483647)) }
+    ensures fits { IfSome result (λ top. FitsSigned w32 top) }
+    ensures none { IfNone result (((negsuc 0 ≤ℤ number) × (number ≤ℤ pos 2147483647)) → ⊥) }
+{
+    match i32::try_from(number) {
+        Ok(top) if -1 <= top => Some(top),
+        _ => None,
+    }
+}
+
+/// The head of these numbers, if they are within its limits. The number of the next petition, which isn't among them, is
+/// that of the first.
+fn head_within(numbers: HeadCells) -> Option<Head>
+    requires { AreWords numbers }
+    ensures some { IfSome result (λ head. IsHead numbers head) }
+    ensures limit { IfSome result (λ head. head.seq < 2 ^ 63) }
+    ensures none { IfNone result ((head : Head) → ¬ (IsHead numbers head)) }
+{
+    let seq = seq_in(numbers.seq)?;
+    let top = top_in(numbers.top)?;
+    let next_prop = counter_in(numbers.next_prop)?;
+    let next_verb = counter_in(numbers.next_verb)?;
+    Some(Head {
+        top,
+        next_prop,
+        next_verb,
+        next_petition: FIRST_PETITION,
+        seq,
+    })
+}
+
+/// The head that these cells show in tables of this version.
+fn head_of(version: Version, cells: &Row) -> Result<Head, CellFault>
+    ensures ok { IfOk result (λ head. ReadsHead (version_number version) head cells.now) }
+    ensures limit { IfOk result (λ head. head.seq < 2 ^ 63) }
+    ensures err { IfErr result (SaysOfHead (ReadsKnown (version_number version) cells.now) (ReadsNewer greatest_version cells.now)) }
+{
+    let Ok(numbers) = numbers_of(cells) else {
+        return Err(BAD_HEAD);
+    };
+    if numbers.id != 1 {
+        return Err(BAD_HEAD);
+    }
+    if Version::PRESENT.number() < numbers.version {
+        return Err(CellFault::NewerVersion);
+    }
+    if numbers.version != version.number() {
+        return Err(BAD_HEAD);
+    }
+    match head_within(numbers) {
+        Some(head) => Ok(head),
+        None => Err(BAD_HEAD),
+    }
+}
+
+/// The head of tables of this version, from the rows of its own table.
+fn head_in(version: Version, rows: &[Row]) -> Result<Head, CellFault>
+    requires { AreKeyed rows.now }
+    ensures ok { IfOk result (HoldsHead version rows.now) }
+    ensures limit { IfOk result (λ head. head.seq < 2 ^ 63) }
+    ensures err { IfErr result (SaysOfHead
+        (HasHead (version_number version) (by_rowid rows.now)) (IsNewerThan greatest_version (by_rowid rows.now))) }
+{
+    if rows.len() != 1 {
+        return Err(BAD_HEAD);
+    }
+    head_of(version, &rows[0])
+}
+
+/// The head of tables of this version, from the rows of its table, with the number of the next petition from the rows of
+/// `petition_head`: if the version has no petitions, it is 1.
+///
+/// Errors: `Damaged(BadHead, Head)` if the table of the head isn't one row of id 1 with the number of the version and with
+/// counters within their limits, or in a version with petitions `petition_head` isn't one row of id 1 with a counter within its
+/// limits; `NewerVersion` if the table of the head is one row of id 1 with whole numbers, the version above the present one.
+pub(crate) fn read_head(version: Version, rows: &[Row], counters: &[Row]) -> Result<Head, CellFault>
+    requires head { AreKeyed rows.now }
+    requires counter { AreKeyed counters.now }
+    ensures ok { IfOk result (HoldsHead version rows.now) }
+    ensures counter { IfOk result (λ head. ReadsCounter version (by_rowid counters.now) head.next_petition) }
+    ensures limit { IfOk result (λ head. head.seq < 2 ^ 63) }
+    ensures err { IfErr result (SaysOfHead
+        (HasHead (version_number version) (by_rowid rows.now) × HasCounter version (by_rowid counters.now))
+        (IsNewerThan greatest_version (by_rowid rows.now))) }
+{
+    let mut head = head_in(version, rows)?;
+    match read_counter(version, counters) {
+        Some(next_petition) => {
+            head.next_petition = next_petition;
+            Ok(head)
+        }
+        None => Err(BAD_HEAD),
+    }
+}

@@ -1,8 +1,0 @@
-pub mod Words
-pub mod Numbers
-pub mod Columns
-pub mod Texts
-pub mod Exits
-pub mod HeadLemmas
-pub mod OneCells
-pub mod ObjectLemmas

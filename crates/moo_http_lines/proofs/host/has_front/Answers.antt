@@ -1,5 +1,0 @@
-use Rattle.moo_http_lines.{proofs.LineLemmas.{same_test}}
-use Rattle.moo_http_lines.proofs.host.has_front.Goals as goal
-
-pub returns : goal.returns
-returns c = same_test c.eq_ignore_ascii_case.result _ _ c.eq_ignore_ascii_case.ensures.test

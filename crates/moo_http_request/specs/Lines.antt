@@ -1,0 +1,48 @@
+-- What the lines of a head say of who sent it, and of the length of a body.
+use Rattle.std.specs.Prelude.{◌≡◌, ◌<◌, ℕ, List, [], ◌∷◌, Bool, Option, Some, None, map, codes, bytes_eq, nat_lt, length}
+use Rattle.std.specs.List.{filter}
+use Rattle.std.specs.Char.{to_ascii_lowercase}
+use Rattle.moo_http_request.specs.declared.lines.FoundLine.{FoundLine}
+use Rattle.moo_http_request.specs.declared.lines.FoundLine.TheVariants.{Nothing, One, Several}
+
+-- a line of a head: its name and its value
+abbrev pub Line : Type 0
+Line = List ℕ × List ℕ
+
+-- the line has that name, in any case
+abbrev pub is_line_of : List ℕ → Line → Bool
+is_line_of name line = bytes_eq (map to_ascii_lowercase line.0) (map to_ascii_lowercase name)
+
+-- the values of the lines of that name
+abbrev pub values_of : List ℕ → List Line → List (List ℕ)
+values_of name lines = map (λ line. line.1) (filter (is_line_of name) lines)
+
+-- what was found of them
+abbrev pub IsFoundAmong : List (List ℕ) → FoundLine → Type 0
+IsFoundAmong values Nothing = values ≡ []
+IsFoundAmong values (One value) = values ≡ value.now ∷ []
+IsFoundAmong values Several = 1 < length values
+
+-- a page of a browser sent it: there is a line of the name origin
+abbrev pub is_from_page : List Line → Bool
+is_from_page lines = nat_lt 0 (length (values_of (codes "origin") lines))
+
+-- a line names a coding of the body, as of one in chunks
+abbrev pub is_coded : List Line → Bool
+is_coded lines = nat_lt 0 (length (values_of (codes "transfer-encoding") lines))
+
+-- the one text
+abbrev pub only : List (List ℕ) → Option (List ℕ)
+only [] = None
+only (text ∷ []) = Some text
+only (text ∷ other ∷ texts) = None
+
+-- the text, if no coding is named
+abbrev pub unless_coded : List (List ℕ) → Option (List ℕ) → Option (List ℕ)
+unless_coded [] text = text
+unless_coded (coding ∷ codings) text = None
+
+-- the one stated length of the body, as it is written
+abbrev pub length_text : List Line → Option (List ℕ)
+length_text lines = unless_coded (values_of (codes "transfer-encoding") lines)
+    (only (values_of (codes "content-length") lines))

@@ -1,0 +1,68 @@
+//! Numbers in texts of a request.
+
+ghost use Rattle.std.specs.Prelude.{◌≡◌, ◌<◌, ◌≤◌, ◌^◌, ◌+◌, ◌*◌, ◌-◌, true, false, MatchOption, drop, pos, neg_ℤ, IfSome};
+ghost use Rattle.moo_value.specs.Literal.{is_digit};
+ghost use Rattle.moo_http_request.specs.Numbers.{bounded_of, number_of};
+
+/// The value of a digit, 0 to 9.
+fn digit_value(byte: u8) -> Option<u64>
+    ensures { MatchOption result (is_digit byte ≡ false) (λ value. (is_digit byte ≡ true) × (value ≡ byte - 48) × (value ≤ 9)) }
+{
+    byte.is_ascii_digit().then(|| u64::from(byte - b'0'))
+}
+
+/// The number with one more digit; a number over the limit stays.
+fn with_digit(number: u64, digit: u64, most: u64) -> u64
+    requires limit { most < 2 ^ 59 }
+    requires digit { digit ≤ 9 }
+    ensures low { number ≤ most → result ≡ 10 * number + digit }
+    ensures over { most < number → result ≡ number }
+{
+    if number <= most {
+        10 * number + digit
+    } else {
+        number
+    }
+}
+
+/// The number of one or more digits, if it is at most `most`.
+pub(crate) fn bounded(text: &[u8], most: u64) -> Option<u64>
+    requires { most < 2 ^ 59 }
+    ensures value { result ≡ bounded_of most text.now }
+    ensures bound { IfSome result (λ number. number ≤ most) }
+{
+    if text.is_empty() {
+        return None;
+    }
+    let mut number = 0;
+    for byte in text {
+        number = with_digit(number, digit_value(*byte)?, most);
+    }
+    (number <= most).then_some(number)
+}
+
+/// The negative of a size.
+fn negated(size: u64) -> i32
+    requires { size ≤ 2147483648 }
+    ensures { result ≡ neg_ℤ (pos size) }
+{
+    (0 - size as i64) as i32
+}
+
+/// A number that fits.
+fn positive(number: u64) -> i32
+    requires { number ≤ 2147483647 }
+    ensures { result ≡ pos number }
+{
+    number as i32
+}
+
+/// The number of an optional minus and one or more digits, if it fits 32 bits.
+pub(crate) fn number_in(text: &[u8]) -> Option<i32>
+    ensures { result ≡ number_of text.now }
+{
+    match text {
+        [b'-', digits @ ..] => bounded(digits, 2_147_483_648).map(negated),
+        _ => bounded(text, 2_147_483_647).map(positive),
+    }
+}
