@@ -3,6 +3,7 @@
 ghost use Rattle.std.specs.Prelude.{◌≡◌, ◌+◌, ◌<◌, ◌≤◌, ℕ, Option, Some, true, false, length, OnOk, IfSome, IfErr};
 ghost use Rattle.moo_batch.specs.declared.witness.Facts.{Facts};
 ghost use Rattle.moo_batch.specs.declared.witness.Refusal.{Refusal};
+ghost use Rattle.moo_world.specs.declared.call.TheConstants.{MOST_CALLS};
 ghost use Rattle.moo_world.specs.Reasons.{error_of};
 ghost use Rattle.moo_rows.specs.Maps.{Maps};
 ghost use Rattle.moo_memory.specs.Changes.{AreChanges};
@@ -88,7 +89,7 @@ fn run_calls<R: Rows>(
     calls: &[Call],
 ) -> Result<Answers, Stop>
     requires good { IsGood (R.held rows.old).maps }
-    requires few { length calls.now ≤ 1000 }
+    requires few { length calls.now ≤ MOST_CALLS }
     requires leave { (R.held rows.old).base.is_spent ≡ false }
     ensures comes { ComeTo (run_calls (state_in (R.held rows.old)) programmer calls.now) (state_in (R.held rows.new)) result }
     ensures kept { OnOk result (HaveKept programmer calls.now (R.held rows.old) (R.held rows.new)) }

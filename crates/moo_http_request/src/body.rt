@@ -2,6 +2,7 @@
 
 ghost use Rattle.std.specs.Prelude.{◌≡◌, ◌≤◌, ◌+◌, ◌-◌, Some, length, drop, map, max, IfOk, OnOk, IfErr, OnErr};
 ghost use Rattle.moo_http_request.specs.Body.{shape_asked, form_asked, BodyAsks};
+ghost use Rattle.moo_world.specs.declared.call.TheConstants.{MOST_CALLS};
 ghost use Rattle.serde_json.specs.View.{view};
 ghost use Rattle.moo_http_request.specs.Calls.{calls_from};
 ghost use Rattle.moo_http_request.specs.Given.{Grows, HasFailed, TakesAtMost};
@@ -36,7 +37,7 @@ pub enum CallsRead {
 
 /// The calls of texts.
 fn read_calls(alloc: Global, texts: &[&str]) -> Result<CallsRead, AllocError>
-    requires { length texts.now ≤ 1000 }
+    requires { length texts.now ≤ MOST_CALLS }
     ensures { IfOk result (λ read. calls_shown read ≡ calls_from 1 (map (λ text. text.now) texts.now)) }
 {
     let mut calls = Vec::new(alloc);
@@ -65,7 +66,7 @@ fn ask_batch(
     shape: &Shape<'_>,
     wrong: &mut Option<BodyFault>,
 ) -> Result<Asked, AllocError>
-    requires { length shape.now.calls.items ≤ 1000 }
+    requires { length shape.now.calls.items ≤ MOST_CALLS }
     ensures { IfOk result (λ asked. asked ≡ form_asked (Form.Batch mode) (shape_shown shape.now)) }
 {
     match read_calls(alloc, &shape.calls)? {
@@ -110,7 +111,7 @@ fn ask_shape(
     shape: &Shape<'_>,
     wrong: &mut Option<BodyFault>,
 ) -> Result<Asked, AllocError>
-    requires { length shape.now.calls.items ≤ 1000 }
+    requires { length shape.now.calls.items ≤ MOST_CALLS }
     ensures { IfOk result (λ asked. asked ≡ shape_asked form (Some (shape_shown shape.now))) }
 {
     match form {
