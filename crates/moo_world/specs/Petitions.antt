@@ -11,6 +11,7 @@ use Rattle.moo_rows.specs.declared.row.PetitionRow.{PetitionRow}
 use Rattle.moo_rows.specs.Maps.{petition_cmp}
 use Rattle.moo_world.specs.Objects.{number_limit}
 use Rattle.moo_world.specs.Arguments.{is_number, all_within_limits}
+use Rattle.moo_world.specs.declared.petition.TheConstants.{MOST_HELD}
 
 -- the first value is a string
 abbrev pub begins_with_text : List Value → Bool
@@ -24,7 +25,7 @@ is_named other = false
 
 -- 1 to 64 calls
 abbrev pub are_few : Values → Bool
-are_few calls = nat_lt 0 (length (spread calls)) && nat_le (length (spread calls)) 64
+are_few calls = nat_lt 0 (length (spread calls)) && nat_le (length (spread calls)) MOST_HELD
 
 -- lists nest at most 30 deep, the list of the calls being the first
 abbrev pub are_shallow : Values → Bool
