@@ -5,6 +5,7 @@ use Rattle.sqlite.specs.declared.types.Value.TheVariants.{Int, Text}
 use Rattle.moo_value.{specs.Text.{IsText, AllAllowed}, specs.TextFaults.{IsTextFault}, specs.declared.fault.LiteralFault.{LiteralFault}, specs.declared.fault.LiteralFault.TheVariants.{NotALiteral, OutOfRange, BadByte, TooDeep, TooLong, OutOfMemory}, specs.declared.value.Value.{Value as MooValue}, specs.declared.value.Value.TheVariants.{Obj, List as a_list}, specs.Reading.{Fails}, specs.Values.{Values, no_values, levels}}
 use Rattle.moo_rows.{specs.declared.row.SlotState.{SlotState}, specs.declared.row.SlotState.TheVariants.{Clear, Set}}
 use Rattle.moo_verbs.{specs.declared.fault.VerbFault.{VerbFault}, specs.declared.fault.VerbFault.TheVariants.{BadNames}}
+use Rattle.moo_world.specs.declared.values.TheConstants.{MOST_ACCEPTED}
 
 abbrev pub text_in : Value → List ℕ
 text_in (Text t) = t
@@ -67,8 +68,8 @@ numbers_in : (objects : List ObjNo) → HoldInside InRange IsText (gather (map O
 numbers_in [] h = refl
 numbers_in (x ∷ objects) h = and_from _ _ (range_of x.0 h.0) (numbers_in objects h.1)
 
-pub list_fits : (objects : List ObjNo) → length objects ≤ 1000 → Fits (object_list objects) → accept_fits (Some objects) ≡ true
-list_fits objects short fits = and_from _ _ (le-leb (length objects) 1000 short) (numbers_in objects fits.0)
+pub list_fits : (objects : List ObjNo) → length objects ≤ MOST_ACCEPTED → Fits (object_list objects) → accept_fits (Some objects) ≡ true
+list_fits objects short fits = and_from _ _ (le-leb (length objects) MOST_ACCEPTED short) (numbers_in objects fits.0)
 
 inside : (objects : List ObjNo) → list_all is_number objects ≡ true → HoldInside InRange IsText (gather (map Obj objects))
 inside [] h = tt
@@ -79,10 +80,10 @@ flat [] = refl
 flat (x ∷ objects) = flat objects
 
 -- an accept list within its limits is a value within its own
-pub fits_list : (objects : List ObjNo) → accept_fits (Some objects) ≡ true → (length objects ≤ 1000) × Fits (object_list objects)
+pub fits_list : (objects : List ObjNo) → accept_fits (Some objects) ≡ true → (length objects ≤ MOST_ACCEPTED) × Fits (object_list objects)
 fits_list objects fits =
     let parts = and_parts _ _ fits in
-    let none = flat objects in (leb-true (length objects) 1000 parts.0, (inside objects parts.1, omega arith))
+    let none = flat objects in (leb-true (length objects) MOST_ACCEPTED parts.0, (inside objects parts.1, omega arith))
 
 pub obj_at : (objects : List ObjNo) (i : ℕ) (v : MooValue) → i < length (map Obj objects) → (x : ObjNo) × (get_or (map Obj objects) i v ≡ Obj x)
 obj_at [] i v h = absurd (omega arith)
@@ -100,7 +101,7 @@ not_empty s some none = true≢false (ap (λ l. length l == 0) (sym none) ∙ so
 
 -- ---- a list that a literal spells
 
-pub fits_spelled : (vs : Values) (items : List MooValue) (objects : List ObjNo) → Fits (a_list vs) → gather items ≡ vs → items ≡ map Obj objects → length objects ≤ 1000 → accept_fits (Some objects) ≡ true
+pub fits_spelled : (vs : Values) (items : List MooValue) (objects : List ObjNo) → Fits (a_list vs) → gather items ≡ vs → items ≡ map Obj objects → length objects ≤ MOST_ACCEPTED → accept_fits (Some objects) ≡ true
 fits_spelled vs items objects fits gathered same short = list_fits objects short (subst Fits (ap a_list (sym gathered ∙ ap gather same)) fits)
 
 pub spread_objects : (objects : List ObjNo) → spread (gather (map Obj objects)) ≡ map Obj objects
