@@ -6,6 +6,8 @@ use Rattle.moo_value.{specs.Text.{IsText, AllAllowed}, specs.TextFaults.{IsTextF
 use Rattle.moo_rows.{specs.declared.row.SlotState.{SlotState}, specs.declared.row.SlotState.TheVariants.{Clear, Set}}
 use Rattle.moo_verbs.{specs.declared.fault.VerbFault.{VerbFault}, specs.declared.fault.VerbFault.TheVariants.{BadNames}}
 use Rattle.moo_world.specs.declared.values.TheConstants.{MOST_ACCEPTED}
+use Rattle.moo_value.specs.declared.text.TheConstants.{MAX_LENGTH}
+use Rattle.moo_value.specs.declared.value.TheConstants.{MAX_NESTING}
 
 abbrev pub text_in : Value → List ℕ
 text_in (Text t) = t
@@ -21,8 +23,8 @@ int_in n v = n
 pub int_inj : (m n : ℤ) → Int m ≡ Int n → m ≡ n
 int_inj m n e = ap (int_in m) e
 
-whole_allowed : (s : List ℕ) → IsText s → AllAllowed (take 65536 s)
-whole_allowed s t = let short = t.short in subst AllAllowed (sym (take_all 65536 s (omega arith))) t.allowed
+whole_allowed : (s : List ℕ) → IsText s → AllAllowed (take (MAX_LENGTH + 1) s)
+whole_allowed s t = let short = t.short in subst AllAllowed (sym (take_all (MAX_LENGTH + 1) s (omega arith))) t.allowed
 
 -- bytes that are no text are those of no text
 pub not_text : (f : LiteralFault) (s text : List ℕ) → IsTextFault f s → f ≢ OutOfMemory → is_text text ≡ true → s ≡ text → ⊥
@@ -139,14 +141,14 @@ pub calls_within : (calls : Values) → calls_fit calls ≡ true → Fits (a_lis
 calls_within calls fits =
     let held = held_of calls fits in
     let deep : nesting (a_list calls) ≤ 30 = leb-true (nesting (a_list calls)) 30 held.shallow in
-    let within : nesting (a_list calls) ≤ 32 = omega arith in (fits_tested (a_list calls)).0 (and_from (nat_le (nesting (a_list calls)) 32) (all_within_limits calls) (le-leb (nesting (a_list calls)) 32 within) held.limits)
+    let within : nesting (a_list calls) ≤ MAX_NESTING = omega arith in (fits_tested (a_list calls)).0 (and_from (nat_le (nesting (a_list calls)) MAX_NESTING) (all_within_limits calls) (le-leb (nesting (a_list calls)) MAX_NESTING within) held.limits)
 
 -- a value within the limits is such calls where they are named, few and shallow
 pub calls_held : (calls : Values) → Fits (a_list calls) → (list_all is_named (spread calls) && (are_few calls && are_shallow calls)) ≡ true → calls_fit calls ≡ true
 calls_held calls fits held =
     let one = and_parts (list_all is_named (spread calls)) (are_few calls && are_shallow calls) held in
     let two = and_parts (are_few calls) (are_shallow calls) one.1 in
-    let limits = and_parts (nat_le (nesting (a_list calls)) 32) (all_within_limits calls) (fits_of (a_list calls) fits) in
+    let limits = and_parts (nat_le (nesting (a_list calls)) MAX_NESTING) (all_within_limits calls) (fits_of (a_list calls) fits) in
     and_from (list_all is_named (spread calls)) (are_few calls && (are_shallow calls && all_within_limits calls)) one.0
     (and_from (are_few calls) (are_shallow calls && all_within_limits calls) two.0 (and_from (are_shallow calls) (all_within_limits calls) two.1 limits.1))
 
