@@ -1,5 +1,5 @@
 -- Texts in cells.
-use Rattle.moo_cells_row.proofs.Words.{◌≡◌, ◌≢◌, ℕ, zero, suc, ℤ, List, [], ◌∷◌, ◌≤◌, ◌<◌, length, map, get_or, take, Bool, true, false, true≢false, Some, Result, Ok, Err, refl, sym, ap, subst, ◌∙◌, arith, if◌then◌else◌, ◌==◌, ◌&&◌, nat_le, list_all, and_parts, and_from, le-leb, leb-true, Value, ObjNo, Spells, Fits, HoldInside, InRange, gather, nesting, spread, one_spelled, is_text, is_number, all_within_limits, is_named, are_few, are_shallow, has_word, state_fits, accept_fits, text_tested, fits_tested, fits_of, range_of, fits_signed, calls_fit, object_list, ShowsSlotState}
+use Rattle.moo_cells_row.proofs.Words.{◌+◌, ◌≡◌, ◌≢◌, ℕ, zero, suc, ℤ, List, [], ◌∷◌, ◌≤◌, ◌<◌, length, map, get_or, take, Bool, true, false, true≢false, Some, Result, Ok, Err, refl, sym, ap, subst, ◌∙◌, arith, if◌then◌else◌, ◌==◌, ◌&&◌, nat_le, list_all, and_parts, and_from, le-leb, leb-true, Value, ObjNo, Spells, Fits, HoldInside, InRange, gather, nesting, spread, one_spelled, is_text, is_number, all_within_limits, is_named, are_few, are_shallow, has_word, state_fits, accept_fits, text_tested, fits_tested, fits_of, range_of, fits_signed, calls_fit, object_list, ShowsSlotState}
 use Rattle.std.{specs.Result.{is_err}, proofs.lemmas.List.{take_all}}
 use Rattle.sqlite.specs.declared.types.Value.TheVariants.{Int, Text}
 use Rattle.moo_value.{specs.Text.{IsText, AllAllowed}, specs.TextFaults.{IsTextFault}, specs.declared.fault.LiteralFault.{LiteralFault}, specs.declared.fault.LiteralFault.TheVariants.{NotALiteral, OutOfRange, BadByte, TooDeep, TooLong, OutOfMemory}, specs.declared.value.Value.{Value as MooValue}, specs.declared.value.Value.TheVariants.{Obj, List as a_list}, specs.Reading.{Fails}, specs.Values.{Values, no_values, levels}}
@@ -8,6 +8,7 @@ use Rattle.moo_verbs.{specs.declared.fault.VerbFault.{VerbFault}, specs.declared
 use Rattle.moo_world.specs.declared.values.TheConstants.{MOST_ACCEPTED}
 use Rattle.moo_value.specs.declared.text.TheConstants.{MAX_LENGTH}
 use Rattle.moo_value.specs.declared.value.TheConstants.{MAX_NESTING}
+use Rattle.moo_world.specs.declared.petition.TheConstants.{MOST_NESTING}
 
 abbrev pub text_in : Value → List ℕ
 text_in (Text t) = t
@@ -140,7 +141,7 @@ held_of calls fits =
 pub calls_within : (calls : Values) → calls_fit calls ≡ true → Fits (a_list calls)
 calls_within calls fits =
     let held = held_of calls fits in
-    let deep : nesting (a_list calls) ≤ 30 = leb-true (nesting (a_list calls)) 30 held.shallow in
+    let deep : nesting (a_list calls) ≤ MOST_NESTING + 1 = leb-true (nesting (a_list calls)) (MOST_NESTING + 1) held.shallow in
     let within : nesting (a_list calls) ≤ MAX_NESTING = omega arith in (fits_tested (a_list calls)).0 (and_from (nat_le (nesting (a_list calls)) MAX_NESTING) (all_within_limits calls) (le-leb (nesting (a_list calls)) MAX_NESTING within) held.limits)
 
 -- a value within the limits is such calls where they are named, few and shallow
