@@ -9,6 +9,7 @@ ghost use Rattle.moo_world.specs.Requests.{grant, held_step, held_steps, one_int
 ghost use Rattle.moo_world.specs.Rows.{IsGood};
 ghost use Rattle.moo_calls_shared.specs.Outcomes.{world_in, Does};
 ghost use Rattle.moo_batch.specs.Outcomes.{state_in, ComesInTurn, KeepInTurn, KeepsGoodRows, Reaches, StaysAtCheck, held_at};
+ghost use Rattle.moo_world.specs.declared.petition.TheConstants.{MOST_HELD};
 
 use crate::args::one_integer;
 use crate::held::held_call;
@@ -59,7 +60,7 @@ fn held_steps<R: Rows>(
 ) -> Result<Value, Fault>
     requires good { IsGood (R.held rows.old).maps }
     requires fit { list_all fits helds.now ≡ true }
-    requires few { length helds.now ≤ 64 }
+    requires few { length helds.now ≤ MOST_HELD }
     ensures comes { ComesInTurn (held_steps 0 (world_in (R.held rows.old)) wizard helds.now) (R.held rows.new) result }
     ensures kept { OnOk result (KeepInTurn wizard helds.now (R.held rows.old) (R.held rows.new)) }
 {

@@ -3,6 +3,7 @@
 ghost use Rattle.std.specs.Prelude.{◌≡◌, ◌+◌, ◌<◌, ◌≤◌, ℕ, Option, Some, true, false, length, OnOk, IfSome, IfErr};
 ghost use Rattle.moo_batch.specs.declared.witness.Facts.{Facts};
 ghost use Rattle.moo_batch.specs.declared.witness.Refusal.{Refusal};
+ghost use Rattle.moo_world.specs.declared.call.TheConstants.{MOST_CALLS};
 ghost use Rattle.moo_world.specs.Reasons.{error_of};
 ghost use Rattle.moo_rows.specs.Maps.{Maps};
 ghost use Rattle.moo_memory.specs.Changes.{AreChanges};
@@ -25,11 +26,8 @@ use moo_calls_shared::Fault;
 use moo_memory::{ChangeList, Changes, Draft, ENDLESS};
 use moo_rows::{Head, Rows};
 use moo_value::{Code, ObjNo, Value};
-use moo_world::{Answers, Batch, Call};
+use moo_world::{Answers, Batch, Call, LAST_SEQ};
 use std::alloc::Global;
-
-/// The most batches that are ever accepted.
-pub const LAST_SEQ: u64 = 9223372036854775807;
 
 /// The call at which a batch stopped, from 1, and why.
 #[derive(Clone, Copy)]
@@ -88,7 +86,7 @@ fn run_calls<R: Rows>(
     calls: &[Call],
 ) -> Result<Answers, Stop>
     requires good { IsGood (R.held rows.old).maps }
-    requires few { length calls.now ≤ 1000 }
+    requires few { length calls.now ≤ MOST_CALLS }
     requires leave { (R.held rows.old).base.is_spent ≡ false }
     ensures comes { ComeTo (run_calls (state_in (R.held rows.old)) programmer calls.now) (state_in (R.held rows.new)) result }
     ensures kept { OnOk result (HaveKept programmer calls.now (R.held rows.old) (R.held rows.new)) }
@@ -140,7 +138,7 @@ fn is_due(at: Option<u64>, seq: u64) -> bool
 
 /// The changes of a batch without calls, on any rows with this head: the batch is counted. They take no memory.
 fn counted(alloc: Global, head: Head) -> Changes
-    requires room { head.seq < 9223372036854775807 }
+    requires room { head.seq < LAST_SEQ }
     ensures { (t : Maps) → AreChanges t (record t { head = record head { seq = head.seq + 1 } }) result }
 {
     let mut next = head;

@@ -12,7 +12,7 @@ use moo_calls_shared::{Fault, Reason, change_row, object_and_accept, object_and_
 use moo_rows::{ObjList, Rows};
 use moo_tree::valid;
 use moo_value::{ObjNo, Value};
-use moo_world::{Change, ZERO};
+use moo_world::{Change, MOST_ACCEPTED, ZERO};
 use std::alloc::Global;
 
 /// `set_player_flag(object, value)`: makes a player of an object, or no player, by the truth of the value, and answers 0.
@@ -41,10 +41,10 @@ pub fn set_player_flag<R: Rows>(
 
 /// Whether an accept list has 1,000 entries at most.
 fn is_short(list: &Option<ObjList>) -> bool
-    ensures { result ≡ nat_le (length (unwrap_or list.now [])) 1000 }
+    ensures { result ≡ nat_le (length (unwrap_or list.now [])) MOST_ACCEPTED }
 {
     match list {
-        Some(list) => list.items().len() <= 1000,
+        Some(list) => list.items().len() <= MOST_ACCEPTED,
         None => true,
     }
 }

@@ -23,11 +23,8 @@ use moo_props::{clashes, define, slot_of};
 use moo_rows::{Bits, PropId, Rows};
 use moo_tree::valid;
 use moo_value::{MooStr, ObjNo, Value};
-use moo_world::{BuiltIn, ZERO};
+use moo_world::{BuiltIn, MAX_NAME, ZERO};
 use std::alloc::Global;
-
-/// The most bytes in the name of a property.
-const MAX_NAME: usize = 255;
 
 /// Whether a property may have the name: 1 to 255 bytes, and not built in.
 fn is_property_name(name: &MooStr) -> bool

@@ -1,10 +1,14 @@
 -- Texts in cells.
-use Rattle.moo_cells.proofs.Words.{◌≡◌, ◌≢◌, ℕ, zero, suc, ℤ, List, [], ◌∷◌, ◌≤◌, ◌<◌, length, map, get_or, take, Bool, true, false, true≢false, Some, Result, Ok, Err, refl, sym, ap, subst, ◌∙◌, arith, if◌then◌else◌, ◌==◌, ◌&&◌, nat_le, list_all, and_parts, and_from, le-leb, leb-true, Value, ObjNo, Spells, Fits, HoldInside, InRange, gather, nesting, spread, one_spelled, is_text, is_number, all_within_limits, is_named, are_few, are_shallow, has_word, state_fits, accept_fits, text_tested, fits_tested, fits_of, range_of, fits_signed, calls_fit, object_list, ShowsSlotState}
+use Rattle.moo_cells.proofs.Words.{◌+◌, ◌≡◌, ◌≢◌, ℕ, zero, suc, ℤ, List, [], ◌∷◌, ◌≤◌, ◌<◌, length, map, get_or, take, Bool, true, false, true≢false, Some, Result, Ok, Err, refl, sym, ap, subst, ◌∙◌, arith, if◌then◌else◌, ◌==◌, ◌&&◌, nat_le, list_all, and_parts, and_from, le-leb, leb-true, Value, ObjNo, Spells, Fits, HoldInside, InRange, gather, nesting, spread, one_spelled, is_text, is_number, all_within_limits, is_named, are_few, are_shallow, has_word, state_fits, accept_fits, text_tested, fits_tested, fits_of, range_of, fits_signed, calls_fit, object_list, ShowsSlotState}
 use Rattle.std.{specs.Result.{is_err}, proofs.lemmas.List.{take_all}}
 use Rattle.sqlite.specs.declared.types.Value.TheVariants.{Int, Text}
 use Rattle.moo_value.{specs.Text.{IsText, AllAllowed}, specs.TextFaults.{IsTextFault}, specs.declared.fault.LiteralFault.{LiteralFault}, specs.declared.fault.LiteralFault.TheVariants.{NotALiteral, OutOfRange, BadByte, TooDeep, TooLong, OutOfMemory}, specs.declared.value.Value.{Value as MooValue}, specs.declared.value.Value.TheVariants.{Obj, List as a_list}, specs.Reading.{Fails}, specs.Values.{Values, no_values, levels}}
 use Rattle.moo_rows.{specs.declared.row.SlotState.{SlotState}, specs.declared.row.SlotState.TheVariants.{Clear, Set}}
 use Rattle.moo_verbs.{specs.declared.fault.VerbFault.{VerbFault}, specs.declared.fault.VerbFault.TheVariants.{BadNames}}
+use Rattle.moo_world.specs.declared.values.TheConstants.{MOST_ACCEPTED}
+use Rattle.moo_value.specs.declared.text.TheConstants.{MAX_LENGTH}
+use Rattle.moo_value.specs.declared.value.TheConstants.{MAX_NESTING}
+use Rattle.moo_world.specs.declared.petition.TheConstants.{MOST_NESTING}
 
 abbrev pub text_in : Value → List ℕ
 text_in (Text t) = t
@@ -20,8 +24,8 @@ int_in n v = n
 pub int_inj : (m n : ℤ) → Int m ≡ Int n → m ≡ n
 int_inj m n e = ap (int_in m) e
 
-whole_allowed : (s : List ℕ) → IsText s → AllAllowed (take 65536 s)
-whole_allowed s t = let short = t.short in subst AllAllowed (sym (take_all 65536 s (omega arith))) t.allowed
+whole_allowed : (s : List ℕ) → IsText s → AllAllowed (take (MAX_LENGTH + 1) s)
+whole_allowed s t = let short = t.short in subst AllAllowed (sym (take_all (MAX_LENGTH + 1) s (omega arith))) t.allowed
 
 -- bytes that are no text are those of no text
 pub not_text : (f : LiteralFault) (s text : List ℕ) → IsTextFault f s → f ≢ OutOfMemory → is_text text ≡ true → s ≡ text → ⊥
@@ -67,8 +71,8 @@ numbers_in : (objects : List ObjNo) → HoldInside InRange IsText (gather (map O
 numbers_in [] h = refl
 numbers_in (x ∷ objects) h = and_from _ _ (range_of x.0 h.0) (numbers_in objects h.1)
 
-pub list_fits : (objects : List ObjNo) → length objects ≤ 1000 → Fits (object_list objects) → accept_fits (Some objects) ≡ true
-list_fits objects short fits = and_from _ _ (le-leb (length objects) 1000 short) (numbers_in objects fits.0)
+pub list_fits : (objects : List ObjNo) → length objects ≤ MOST_ACCEPTED → Fits (object_list objects) → accept_fits (Some objects) ≡ true
+list_fits objects short fits = and_from _ _ (le-leb (length objects) MOST_ACCEPTED short) (numbers_in objects fits.0)
 
 inside : (objects : List ObjNo) → list_all is_number objects ≡ true → HoldInside InRange IsText (gather (map Obj objects))
 inside [] h = tt
@@ -79,10 +83,10 @@ flat [] = refl
 flat (x ∷ objects) = flat objects
 
 -- an accept list within its limits is a value within its own
-pub fits_list : (objects : List ObjNo) → accept_fits (Some objects) ≡ true → (length objects ≤ 1000) × Fits (object_list objects)
+pub fits_list : (objects : List ObjNo) → accept_fits (Some objects) ≡ true → (length objects ≤ MOST_ACCEPTED) × Fits (object_list objects)
 fits_list objects fits =
     let parts = and_parts _ _ fits in
-    let none = flat objects in (leb-true (length objects) 1000 parts.0, (inside objects parts.1, omega arith))
+    let none = flat objects in (leb-true (length objects) MOST_ACCEPTED parts.0, (inside objects parts.1, omega arith))
 
 pub obj_at : (objects : List ObjNo) (i : ℕ) (v : MooValue) → i < length (map Obj objects) → (x : ObjNo) × (get_or (map Obj objects) i v ≡ Obj x)
 obj_at [] i v h = absurd (omega arith)
@@ -100,7 +104,7 @@ not_empty s some none = true≢false (ap (λ l. length l == 0) (sym none) ∙ so
 
 -- ---- a list that a literal spells
 
-pub fits_spelled : (vs : Values) (items : List MooValue) (objects : List ObjNo) → Fits (a_list vs) → gather items ≡ vs → items ≡ map Obj objects → length objects ≤ 1000 → accept_fits (Some objects) ≡ true
+pub fits_spelled : (vs : Values) (items : List MooValue) (objects : List ObjNo) → Fits (a_list vs) → gather items ≡ vs → items ≡ map Obj objects → length objects ≤ MOST_ACCEPTED → accept_fits (Some objects) ≡ true
 fits_spelled vs items objects fits gathered same short = list_fits objects short (subst Fits (ap a_list (sym gathered ∙ ap gather same)) fits)
 
 pub spread_objects : (objects : List ObjNo) → spread (gather (map Obj objects)) ≡ map Obj objects
@@ -137,15 +141,15 @@ held_of calls fits =
 pub calls_within : (calls : Values) → calls_fit calls ≡ true → Fits (a_list calls)
 calls_within calls fits =
     let held = held_of calls fits in
-    let deep : nesting (a_list calls) ≤ 30 = leb-true (nesting (a_list calls)) 30 held.shallow in
-    let within : nesting (a_list calls) ≤ 32 = omega arith in (fits_tested (a_list calls)).0 (and_from (nat_le (nesting (a_list calls)) 32) (all_within_limits calls) (le-leb (nesting (a_list calls)) 32 within) held.limits)
+    let deep : nesting (a_list calls) ≤ MOST_NESTING + 1 = leb-true (nesting (a_list calls)) (MOST_NESTING + 1) held.shallow in
+    let within : nesting (a_list calls) ≤ MAX_NESTING = omega arith in (fits_tested (a_list calls)).0 (and_from (nat_le (nesting (a_list calls)) MAX_NESTING) (all_within_limits calls) (le-leb (nesting (a_list calls)) MAX_NESTING within) held.limits)
 
 -- a value within the limits is such calls where they are named, few and shallow
 pub calls_held : (calls : Values) → Fits (a_list calls) → (list_all is_named (spread calls) && (are_few calls && are_shallow calls)) ≡ true → calls_fit calls ≡ true
 calls_held calls fits held =
     let one = and_parts (list_all is_named (spread calls)) (are_few calls && are_shallow calls) held in
     let two = and_parts (are_few calls) (are_shallow calls) one.1 in
-    let limits = and_parts (nat_le (nesting (a_list calls)) 32) (all_within_limits calls) (fits_of (a_list calls) fits) in
+    let limits = and_parts (nat_le (nesting (a_list calls)) MAX_NESTING) (all_within_limits calls) (fits_of (a_list calls) fits) in
     and_from (list_all is_named (spread calls)) (are_few calls && (are_shallow calls && all_within_limits calls)) one.0
     (and_from (are_few calls) (are_shallow calls && all_within_limits calls) two.0 (and_from (are_shallow calls) (all_within_limits calls) two.1 limits.1))
 

@@ -19,21 +19,18 @@ use crate::cell::text_at;
 use crate::fault::RowFault;
 use moo_rows::{ObjList, SlotState};
 use moo_value::{ObjNo, Value, ValueList, read_whole_literal};
-use moo_world::{are_few, are_named, are_shallow};
+use moo_world::{MOST_ACCEPTED, are_few, are_named, are_shallow};
 use sqlite::Row;
 use std::alloc::Global;
-
-/// The most objects in an accept list.
-const MAX_ACCEPTED: usize = 1000;
 
 /// The objects of a list that has only objects, and not too many.
 fn objects_in(alloc: Global, values: &[Value]) -> Result<ObjList, RowFault>
     ensures ok { IfOk result (λ objects. values.now ≡ map Obj objects) }
-    ensures fits { IfOk result (λ objects. length objects ≤ 1000) }
+    ensures fits { IfOk result (λ objects. length objects ≤ MOST_ACCEPTED) }
     ensures err { IfErr result (λ fault. fault ≡ Unreadable →
-        (objects : List ObjNo) → length objects ≤ 1000 → values.now ≢ map Obj objects) }
+        (objects : List ObjNo) → length objects ≤ MOST_ACCEPTED → values.now ≢ map Obj objects) }
 {
-    if values.len() > MAX_ACCEPTED {
+    if values.len() > MOST_ACCEPTED {
         return Err(RowFault::Unreadable);
     }
     let mut objects = Vec::new(alloc);

@@ -10,15 +10,12 @@ use crate::fault::RowFault;
 use moo_rows::{PropId, PropRow};
 use moo_tables::Version;
 use moo_value::MooStr;
-use moo_world::BuiltIn;
+use moo_world::{BuiltIn, MAX_NAME};
 use sqlite::Row;
 use std::alloc::Global;
 
 /// How many columns the table of properties has.
 const COLUMNS: usize = 3;
-
-/// The most bytes in the name of a property.
-const MAX_NAME: usize = 255;
 
 /// Whether a property may have the name: 1 to 255 bytes, and not built in.
 fn is_property_name(name: &MooStr) -> bool

@@ -2,6 +2,7 @@
 
 ghost use Rattle.std.specs.Prelude.{◌≡◌, ◌≤◌, ◌+◌, ◌-◌, Some, length, drop, map, max, IfOk, OnOk, IfErr, OnErr};
 ghost use Rattle.moo_http_request.specs.Body.{shape_asked, form_asked, BodyAsks};
+ghost use Rattle.moo_world.specs.declared.call.TheConstants.{MOST_CALLS};
 ghost use Rattle.serde_json.specs.View.{view};
 ghost use Rattle.moo_http_request.specs.Calls.{calls_from};
 ghost use Rattle.moo_http_request.specs.Given.{Grows, HasFailed, TakesAtMost};
@@ -11,6 +12,7 @@ ghost use Rattle.moo_http_request.specs.Request.{PlanAsks};
 ghost use Rattle.moo_http_request.specs.Settled.{Settles};
 ghost use Rattle.moo_http_request.specs.Shape.{shape_of};
 ghost use Rattle.moo_http_request.specs.Shown.{shape_shown, calls_shown};
+ghost use Rattle.moo_http_request.specs.declared.head.TheConstants.{MAX_HEAD};
 
 use crate::asked::{Asked, Form, Mode, Refusal};
 use crate::each::{Batches, Each, bad_texts, read_each};
@@ -36,7 +38,7 @@ pub enum CallsRead {
 
 /// The calls of texts.
 fn read_calls(alloc: Global, texts: &[&str]) -> Result<CallsRead, AllocError>
-    requires { length texts.now ≤ 1000 }
+    requires { length texts.now ≤ MOST_CALLS }
     ensures { IfOk result (λ read. calls_shown read ≡ calls_from 1 (map (λ text. text.now) texts.now)) }
 {
     let mut calls = Vec::new(alloc);
@@ -65,7 +67,7 @@ fn ask_batch(
     shape: &Shape<'_>,
     wrong: &mut Option<BodyFault>,
 ) -> Result<Asked, AllocError>
-    requires { length shape.now.calls.items ≤ 1000 }
+    requires { length shape.now.calls.items ≤ MOST_CALLS }
     ensures { IfOk result (λ asked. asked ≡ form_asked (Form.Batch mode) (shape_shown shape.now)) }
 {
     match read_calls(alloc, &shape.calls)? {
@@ -110,7 +112,7 @@ fn ask_shape(
     shape: &Shape<'_>,
     wrong: &mut Option<BodyFault>,
 ) -> Result<Asked, AllocError>
-    requires { length shape.now.calls.items ≤ 1000 }
+    requires { length shape.now.calls.items ≤ MOST_CALLS }
     ensures { IfOk result (λ asked. asked ≡ shape_asked form (Some (shape_shown shape.now))) }
 {
     match form {
@@ -193,7 +195,7 @@ pub(crate) fn follow_plan<R: Incoming>(
     wrong: &mut Option<BodyFault>,
 ) -> Result<Asked, ReadFault>
     requires inside { start ≤ length bytes.old.items }
-    requires short { start ≤ 8192 }
+    requires short { start ≤ MAX_HEAD }
     requires bound { IsBounded plan }
     ensures grows { OnOk result (Grows (R.remaining reader.old) (R.remaining reader.new) bytes.old.items bytes.new.items) }
     ensures asks { IfOk result (λ asked. Settles (R.remaining reader.new) bytes.new.items

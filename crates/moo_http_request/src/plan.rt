@@ -14,7 +14,8 @@ use crate::routes::{Endpoint, Routes};
 use httparse::spans::HeaderSpan;
 use std::str;
 
-const MAX_BODY: u64 = 1_048_576;
+/// How many bytes a body has at the most.
+pub const MAX_BODY: u64 = 1_048_576;
 
 /// What the head of a request decides: what is asked, or that a body says it, with its length.
 #[derive(Drop)]

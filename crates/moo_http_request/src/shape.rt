@@ -8,14 +8,11 @@ ghost use Rattle.moo_http_request.specs.Shape.{texts_of, stated_at, are_within, 
 ghost use Rattle.moo_http_request.specs.Shown.{shape_read_shown};
 
 use crate::wrong::ShapeFault;
-use moo_text::object_of;
+use moo_text::{LONGEST_LINE, object_of};
 use moo_value::ObjNo;
+use moo_world::MOST_CALLS;
 use serde_json::Value;
 use std::alloc::{AllocError, Global};
-
-const MAX_CALLS: usize = 1000;
-
-const MAX_CALL: usize = 262_144;
 
 /// Who asks, the texts of the calls, and the number that the batch is for.
 #[derive(Drop)]
@@ -60,15 +57,15 @@ fn at_in(found: Option<&Value>) -> Option<Option<u64>>
 }
 
 fn all_short(texts: &[&str]) -> bool
-    ensures { result ≡ list_all (λ text. nat_le (length text.now) 262144) texts.now }
+    ensures { result ≡ list_all (λ text. nat_le (length text.now) LONGEST_LINE) texts.now }
 {
-    texts.iter().all(|text| text.len() <= MAX_CALL)
+    texts.iter().all(|text| text.len() <= LONGEST_LINE)
 }
 
 fn are_short(texts: &[&str]) -> bool
     ensures { result ≡ are_within (map (λ text. text.now) texts.now) }
 {
-    texts.len() <= MAX_CALLS && all_short(texts)
+    texts.len() <= MOST_CALLS && all_short(texts)
 }
 
 /// The JSON that the bytes are. `None` if they aren't JSON.
@@ -95,7 +92,7 @@ fn without(value: &Value, key: ShapeFault) -> ShapeFault {
 
 /// Which of the two limits the texts are over.
 fn over_limit(texts: &[&str]) -> ShapeFault {
-    if texts.len() <= MAX_CALLS {
+    if texts.len() <= MOST_CALLS {
         ShapeFault::LongCall
     } else {
         ShapeFault::ManyCalls

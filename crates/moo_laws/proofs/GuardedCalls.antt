@@ -18,6 +18,7 @@ use Rattle.moo_laws.proofs.GuardedNames.{alike_added}
 use Rattle.moo_laws.proofs.GuardedInfo.{renamed_alike}
 use Rattle.moo_laws.proofs.GuardedChecks.{Both, on_checks, on_checks_for, on_rooms, on_givens, on_takens, on_founds, on_nexts, on_fields, on_slots, objects, chains, wizards, controlled, parents_allowed, owners_allowed, writable, verbs_writable, known, numbered, names_shared, accepting, within, settable, owner_there, definable, defining, renamable, slots_writable, written_is_shown}
 use Rattle.moo_laws.proofs.GuardedClashes.{unfit_same, met_same, unset_same, undefined_same, unrenamed_same}
+use Rattle.moo_world.specs.declared.values.TheConstants.{MOST_ACCEPTED}
 
 module _ (p : ObjNo) (w v : World) (wf : IsWellFormed w) (none : is_wizard w p ≡ false) (alike : SameButGuarded p w v) where
   abbrev Rel : World → World → Type 0
@@ -75,7 +76,7 @@ module _ (p : ObjNo) (w v : World) (wf : IsWellFormed w) (none : is_wizard w p �
   sets_list x list =
       object_there x _ _ _ λ _.
       on_checks Rel _ _ _ _ _ (controlled p w v alike.rest x) λ _.
-      on_checks Rel _ _ _ _ _ (λ i. nat_le (length (unwrap_or list [])) 1000) λ _.
+      on_checks Rel _ _ _ _ _ (λ i. nat_le (length (unwrap_or list [])) MOST_ACCEPTED) λ _.
       (refl, alike_rows p w v alike x _)
 
   -- ---- properties

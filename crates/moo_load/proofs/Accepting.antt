@@ -2,6 +2,7 @@
 use Rattle.moo_load.proofs.Words.{◌≡◌, ◌≤◌, ◌<◌, ℕ, zero, suc, ◌+◌, List, [], ◌∷◌, ◌++◌, map, take, length, true, Option, Some, None, get_or, refl, sym, ap, subst, ◌∙◌, arith, and_parts, both_true, le-leb, leb-true, list_all, take_all, length-map, map-append, ObjNo, Value, Obj, a_list, gather, spread, Values, no_values, is_number, accept_value, accept_fits}
 use Rattle.moo_load.proofs.One.Values.{values_in}
 use Rattle.std.{proofs.lemmas.List.{take_more}, proofs.lemmas.List.Folds.{list_all-append}}
+use Rattle.moo_world.specs.declared.values.TheConstants.{MOST_ACCEPTED}
 
 obj_at : (objects : List ObjNo) (i : ℕ) (v : Value) → i < length (map Obj objects) → (x : ObjNo) × (get_or (map Obj objects) i v ≡ Obj x)
 obj_at [] i v h = absurd (omega arith)
@@ -28,10 +29,10 @@ numbers_more x objects more pushed number fits =
 pub all_objects : (values : List Value) (i : ℕ) (objects : List ObjNo) → length values ≤ i → take i values ≡ map Obj objects → values ≡ map Obj objects
 all_objects values i objects over read = sym (take_all i values over) ∙ read
 
-pub few_objects : (values : List Value) (objects : List ObjNo) → values ≡ map Obj objects → length values ≤ 1000 → list_all is_number objects ≡ true → accept_fits (Some objects) ≡ true
-few_objects values objects is short fits = both_true _ _ (le-leb (length objects) 1000 (omega (arith, length-map objects Obj, ap length is))) fits
+pub few_objects : (values : List Value) (objects : List ObjNo) → values ≡ map Obj objects → length values ≤ MOST_ACCEPTED → list_all is_number objects ≡ true → accept_fits (Some objects) ≡ true
+few_objects values objects is short fits = both_true _ _ (le-leb (length objects) MOST_ACCEPTED (omega (arith, length-map objects Obj, ap length is))) fits
 
-pub too_many : (values : List Value) (objects : List ObjNo) → 1000 < length values → length objects ≤ 1000 → values ≡ map Obj objects → ⊥
+pub too_many : (values : List Value) (objects : List ObjNo) → MOST_ACCEPTED < length values → length objects ≤ MOST_ACCEPTED → values ≡ map Obj objects → ⊥
 too_many values objects long short is = omega (arith, length-map objects Obj, ap length is)
 
 spread_objects : (objects : List ObjNo) → spread (gather (map Obj objects)) ≡ map Obj objects
@@ -39,7 +40,7 @@ spread_objects [] = refl
 spread_objects (x ∷ objects) = ap (λ l. Obj x ∷ l) (spread_objects objects)
 
 -- a list whose values aren't objects, or too many, is no accept list
-pub not_accept : (vs : Values) (items : List Value) → items ≡ spread vs → ((objects : List ObjNo) → length objects ≤ 1000 → items ≡ map Obj objects → ⊥) → (accept : Option (List ObjNo)) → accept_fits accept ≡ true → a_list vs ≡ accept_value accept → ⊥
+pub not_accept : (vs : Values) (items : List Value) → items ≡ spread vs → ((objects : List ObjNo) → length objects ≤ MOST_ACCEPTED → items ≡ map Obj objects → ⊥) → (accept : Option (List ObjNo)) → accept_fits accept ≡ true → a_list vs ≡ accept_value accept → ⊥
 not_accept vs items plain none None fits is = cc
 not_accept vs items plain none (Some objects) fits is =
-    none objects (leb-true (length objects) 1000 (and_parts _ _ fits).0) (plain ∙ ap (λ v. spread (values_in v)) is ∙ spread_objects objects)
+    none objects (leb-true (length objects) MOST_ACCEPTED (and_parts _ _ fits).0) (plain ∙ ap (λ v. spread (values_in v)) is ∙ spread_objects objects)

@@ -10,11 +10,8 @@ use crate::reason::DumpReason;
 use crate::value::{object_of, text_of};
 use moo_rows::PropRow;
 use moo_value::{MooStr, Value};
-use moo_world::BuiltIn;
+use moo_world::{BuiltIn, MAX_NAME};
 use std::alloc::Global;
-
-/// The most bytes in the name of a property.
-const MAX_NAME: usize = 255;
 
 /// Whether a property may have the name: 1 to 255 bytes, and not built in.
 fn is_property_name(name: &MooStr) -> bool

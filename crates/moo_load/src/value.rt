@@ -12,10 +12,8 @@ use crate::fault::{LineFault, LineResult};
 use crate::reason::DumpReason;
 use moo_rows::ObjList;
 use moo_value::{MooStr, ObjNo, Value};
+use moo_world::MOST_ACCEPTED;
 use std::alloc::{AllocError, Global};
-
-/// The most objects in an accept list.
-const MAX_ACCEPTED: usize = 1000;
 
 /// The object that a value is, which is named by this word in a reason.
 pub(crate) fn object_of(value: &Value, what: &'static str) -> LineResult<ObjNo>
@@ -61,10 +59,10 @@ pub(crate) fn flag_of(value: &Value, what: &'static str) -> LineResult<bool>
 fn objects_of(alloc: Global, values: &[Value]) -> LineResult<ObjList>
     ensures ok { IfOk result (λ objects. values.now ≡ map Obj objects) }
     ensures fits { IfOk result (λ objects. accept_fits (Some objects) ≡ true) }
-    ensures err { IfErr result (λ fault. fault ≢ LineFault.OutOfMemory → (objects : List ObjNo) → length objects ≤ 1000 →
+    ensures err { IfErr result (λ fault. fault ≢ LineFault.OutOfMemory → (objects : List ObjNo) → length objects ≤ MOST_ACCEPTED →
         values.now ≢ map Obj objects) }
 {
-    if values.len() > MAX_ACCEPTED {
+    if values.len() > MOST_ACCEPTED {
         return Err(LineFault::Unreadable(DumpReason::NoAcceptList));
     }
     let mut objects = Vec::new(alloc);

@@ -1,5 +1,7 @@
 -- What the lines that are left of a text say, from one line to the next.
 use Rattle.moo_text.{proofs.Shared.{◌≡◌, ℕ, ◌+◌, ◌<◌, ◌≤◌, true, false, inl, inr, List, [], ◌∷◌, ◌++◌, length, Option, Some, None, Result, Ok, Err, IfOk, IfErr, refl, sym, ap, subst, ◌∙◌, arith, nat_lt, length-append, Call, is_short, is_blank_line, is_end_line, header_of, call_of, between, within, skipping, IsLineRead, Side, ReadsOn, ReadsLine, ReadsAlong, ReadsFirst, ReadsNext, BreaksOff, TextFault, OutOfMemory, Header, Next}, proofs.Giving.{ReadsOn-then, ReadsOn-map, ReadsOn-breaks, out_of_memory}, specs.declared.next.Next.TheVariants.{Batch as Whole, Malformed}}
+use Rattle.moo_world.specs.declared.call.TheConstants.{MOST_CALLS}
+use Rattle.moo_text.specs.declared.line.TheConstants.{LONGEST_LINE}
 
 -- lines that are read alike
 pub record AreAlike (read line : List ℕ) : Type 0 where
@@ -8,7 +10,7 @@ pub record AreAlike (read line : List ℕ) : Type 0 where
   pub header : header_of read ≡ header_of line
   pub call : call_of read ≡ call_of line
 
-long : (line : List ℕ) → 262144 < length line → is_short line ≡ false
+long : (line : List ℕ) → LONGEST_LINE < length line → is_short line ≡ false
 long line h = grind (arith, h)
 
 pub alike : (read line : List ℕ) → IsLineRead read line → AreAlike read line
@@ -45,10 +47,10 @@ along_refused {b = b} {c = c} line p q = ReadsOn-breaks p (out_of_memory b c q.g
 
 -- ---- what a line says inside a batch
 
-no_room : (n : ℕ) → 1000 ≤ n → nat_lt n 1000 ≡ false
+no_room : (n : ℕ) → MOST_CALLS ≤ n → nat_lt n MOST_CALLS ≡ false
 no_room n h = grind (arith, h)
 
-has_room : (n : ℕ) → n < 1000 → nat_lt n 1000 ≡ true
+has_room : (n : ℕ) → n < MOST_CALLS → nat_lt n MOST_CALLS ≡ true
 has_room n h = grind (arith, h)
 
 -- a line behind those between two batches
@@ -84,14 +86,14 @@ module _ {header : Header} {calls : List Call} {n : ℕ} {a b c : Side} (line : 
   pub bad_line : is_blank_line line ≡ false → is_end_line line ≡ false → call_of line ≡ None → ReadsAlong (within header [] 1) (skipping (n + 1)) a c
   bad_line not_blank not_end none = along_line (within header [] 1) (within header calls n) (skipping (n + 1)) line (within_alike header calls n) p q (λ rest. rw (not_blank, not_end, none) refl)
 
-  pub call_too_many : is_blank_line line ≡ false → is_end_line line ≡ false → 1000 ≤ length calls → ReadsAlong (within header [] 1) (skipping (n + 1)) a c
+  pub call_too_many : is_blank_line line ≡ false → is_end_line line ≡ false → MOST_CALLS ≤ length calls → ReadsAlong (within header [] 1) (skipping (n + 1)) a c
   call_too_many not_blank not_end full = by (call_of line) refl
     where
       by : (read : Option Call) → call_of line ≡ read → ReadsAlong (within header [] 1) (skipping (n + 1)) a c
       by None is = bad_line not_blank not_end is
       by (Some call) is = let room = no_room (length calls) full in along_line (within header [] 1) (within header calls n) (skipping (n + 1)) line (within_alike header calls n) p q (λ rest. rw (not_blank, not_end, is, room) refl)
 
-  pub one_call : (call : Call) (pushed : List Call) → is_blank_line line ≡ false → is_end_line line ≡ false → call_of line ≡ Some call → length calls < 1000 → pushed ≡ calls ++ call ∷ []
+  pub one_call : (call : Call) (pushed : List Call) → is_blank_line line ≡ false → is_end_line line ≡ false → call_of line ≡ Some call → length calls < MOST_CALLS → pushed ≡ calls ++ call ∷ []
       → ReadsAlong (within header [] 1) (within header pushed (n + 1)) a c
   one_call call pushed not_blank not_end is few put =
       let room = has_room (length calls) few in
@@ -112,5 +114,5 @@ breaks_after c (Err fault) p q = ReadsOn-breaks p q
 
 -- ---- one call more
 
-pub room_for_one : (calls : List Call) (call : Call) {pushed : List Call} → pushed ≡ calls ++ call ∷ [] → length calls < 1000 → length pushed ≤ 1000
+pub room_for_one : (calls : List Call) (call : Call) {pushed : List Call} → pushed ≡ calls ++ call ∷ [] → length calls < MOST_CALLS → length pushed ≤ MOST_CALLS
 room_for_one calls call is few = omega (arith, ap length is ∙ length-append calls (call ∷ []))

@@ -1,6 +1,7 @@
 -- Reading line by line gives the one way in which a text is cut.
 use Rattle.moo_text.{proofs.Shared.{◌≡◌, ℕ, suc, ◌+◌, ◌<◌, ◌≤◌, Bool, true, false, cases_Bool, cond, ◌⊎◌, inl, inr, List, [], ◌∷◌, ◌++◌, length, Option, Some, None, refl, sym, ap, subst, ◌∙◌, append_assoc, arith, nat_lt, ◌&&◌, ◌==◌, option_map_or, append-nil, length-append, Call, is_blank_line, is_end_line, SpellsHeader, SpellsCall, header_of, call_of, between, within, skipping, Header, Next}, specs.Cut.{AreBlankLines, HaveNoEnd, IsContentLine, IsNoHeader, IsNoCall, AreCalls, IsBatch, IsFirstBad, IsMalformed, IsTruncated, Cuts}, specs.declared.next.Next.TheVariants.{Batch as Whole, Malformed, Truncated, End}, proofs.Reading.{none_if}, proofs.Headers.{header_taken, header_again}, proofs.Calls.{call_taken, call_again}}
 use Rattle.moo_world.specs.declared.call.Batch.{Batch}
+use Rattle.moo_world.specs.declared.call.TheConstants.{MOST_CALLS}
 
 no_header : (line : List ℕ) → IsNoHeader line → header_of line ≡ None
 no_header line none = none_if (header_of line) (λ h e. none h (header_taken line h e))
@@ -28,14 +29,14 @@ skipped_out : (n : ℕ) (lines : List (List ℕ)) → HaveNoEnd lines → skippi
 skipped_out n [] none = refl
 skipped_out n (line ∷ lines) none = rw none.0 (skipped_out n lines none.1)
 
-calls_read : (p : Header) (before : List Call) (n : ℕ) (body : List (List ℕ)) (calls : List Call) (lines : List (List ℕ)) → AreCalls body calls → length before + length calls ≤ 1000 → within p before n (body ++ lines) ≡ within p (before ++ calls) (n + length body) lines
+calls_read : (p : Header) (before : List Call) (n : ℕ) (body : List (List ℕ)) (calls : List Call) (lines : List (List ℕ)) → AreCalls body calls → length before + length calls ≤ MOST_CALLS → within p before n (body ++ lines) ≡ within p (before ++ calls) (n + length body) lines
 calls_read p before n [] calls lines are few = rw (are, append-nil before) (ap (λ (k : ℕ). within p before k lines) (omega arith))
 calls_read p before n (line ∷ body) calls lines (inl blank) few = rw blank.0 (calls_read p before (n + 1) body calls lines blank.1 few ∙ ap (λ (k : ℕ). within p (before ++ calls) k lines) (omega arith))
 calls_read p before n (line ∷ body) calls lines (inr one) few =
     let call = one.1.0 in
     let others = one.1.1 in
     let size : length calls ≡ 1 + length others = ap length one.1.3 ∙ omega arith in
-    let room : nat_lt (length before) 1000 ≡ true = grind (arith, size, few) in
+    let room : nat_lt (length before) MOST_CALLS ≡ true = grind (arith, size, few) in
     let more : within p (before ++ call ∷ []) (n + 1) (body ++ lines) ≡ within p (before ++ calls) (n + length (line ∷ body)) lines =
     calls_read p (before ++ call ∷ []) (n + 1) body others lines one.1.4 (omega (arith, length-append before (call ∷ [])))
     ∙ ap (λ (cs : List Call). within p cs (n + 1 + length body) lines) (append_assoc before (call ∷ []) others ∙ ap (λ (cs : List Call). before ++ cs) (sym one.1.3))
@@ -52,7 +53,7 @@ one_more A blank call room ends x w s t f none e g h = grind arith
 never_ends : (p : Header) (calls : List Call) (n : ℕ) (lines : List (List ℕ)) → HaveNoEnd lines → within p calls n lines ≡ Truncated ∷ []
 never_ends p calls n [] none = refl
 never_ends p calls n (line ∷ lines) none =
-    one_more (List Next) (is_blank_line line) (call_of line) (nat_lt (length calls) 1000) (is_end_line line) (within p calls (n + 1) lines) (Whole (record { programmer = p.programmer; at = p.at; calls = calls }) ∷ between lines) (skipping (n + 1) lines) (Truncated ∷ [])
+    one_more (List Next) (is_blank_line line) (call_of line) (nat_lt (length calls) MOST_CALLS) (is_end_line line) (within p calls (n + 1) lines) (Whole (record { programmer = p.programmer; at = p.at; calls = calls }) ∷ between lines) (skipping (n + 1) lines) (Truncated ∷ [])
     (λ c. within p (calls ++ c ∷ []) (n + 1) lines) none.0 (never_ends p calls (n + 1) lines none.1) (λ c. never_ends p (calls ++ c ∷ []) (n + 1) lines none.1) (skipped_out (n + 1) lines none.1)
 
 -- no call more
@@ -74,12 +75,12 @@ first_bad_read lines n rest (inr b) =
     calls_read b.1 [] 1 b.2 b.4 (b.3 ∷ rest) b.7 (omega (arith, b.8)) ∙ by_fault b.10 in
     ap between b.11 ∙ rw (b.5.not_blank, b.5.not_end, is) inside
   where
-    by_fault : (IsNoCall b.3 ⊎ (length b.4 ≡ 1000)) → within b.1 b.4 (1 + length b.2) (b.3 ∷ rest) ≡ skipping n rest
+    by_fault : (IsNoCall b.3 ⊎ (length b.4 ≡ MOST_CALLS)) → within b.1 b.4 (1 + length b.2) (b.3 ∷ rest) ≡ skipping n rest
     by_fault (inl never) = let none = no_call b.3 never in rw (b.9.not_blank, b.9.not_end, none) (ap (λ (k : ℕ). skipping k rest) (omega (arith, b.12)))
     by_fault (inr full) =
-        let room : nat_lt (length b.4) 1000 ≡ false = grind (arith, full) in
+        let room : nat_lt (length b.4) MOST_CALLS ≡ false = grind (arith, full) in
         let number : 1 + length b.2 + 1 ≡ n = omega (arith, b.12) in
-        rw (b.9.not_blank, b.9.not_end) (full_call (List Next) (call_of b.3) (nat_lt (length b.4) 1000) (λ c. within b.1 (b.4 ++ c ∷ []) (1 + length b.2 + 1) rest) (skipping (1 + length b.2 + 1) rest) room ∙ ap (λ (k : ℕ). skipping k rest) number)
+        rw (b.9.not_blank, b.9.not_end) (full_call (List Next) (call_of b.3) (nat_lt (length b.4) MOST_CALLS) (λ c. within b.1 (b.4 ++ c ∷ []) (1 + length b.2 + 1) rest) (skipping (1 + length b.2 + 1) rest) room ∙ ap (λ (k : ℕ). skipping k rest) number)
 
 malformed_read : (lines : List (List ℕ)) (n : ℕ) (rest : List (List ℕ)) → IsMalformed lines n rest → between lines ≡ Malformed n ∷ between rest
 malformed_read lines n rest (inl e) = ap between e.3 ∙ rw (e.1, e.2, e.4) refl
@@ -141,11 +142,11 @@ next_line blanks header p front calls line rest cut =
     subst (λ (k : ℕ). Cuts (blanks ++ header ∷ (front ++ line ∷ rest)) (within p calls k rest)) number
     (subst (λ (t : List (List ℕ)). Cuts (blanks ++ header ∷ t) (within p calls (1 + length (front ++ line ∷ [])) rest)) (append_assoc front (line ∷ []) rest) cut)
 
-has_room : (calls : List Call) (call : Call) → nat_lt (length calls) 1000 ≡ true → length (calls ++ call ∷ []) ≤ 1000
-has_room calls call room = let h : length calls < 1000 = grind (arith, room) in omega (arith, length-append calls (call ∷ []))
+has_room : (calls : List Call) (call : Call) → nat_lt (length calls) MOST_CALLS ≡ true → length (calls ++ call ∷ []) ≤ MOST_CALLS
+has_room calls call room = let h : length calls < MOST_CALLS = grind (arith, room) in omega (arith, length-append calls (call ∷ []))
 
-is_full : (calls : List Call) → nat_lt (length calls) 1000 ≡ false → length calls ≤ 1000 → length calls ≡ 1000
-is_full calls full few = let h : 1000 ≤ length calls = grind (arith, full) in omega arith
+is_full : (calls : List Call) → nat_lt (length calls) MOST_CALLS ≡ false → length calls ≤ MOST_CALLS → length calls ≡ MOST_CALLS
+is_full calls full few = let h : MOST_CALLS ≤ length calls = grind (arith, full) in omega arith
 
 mutual
   pub cut_between : (blanks lines : List (List ℕ)) → AreBlankLines blanks → Cuts (blanks ++ lines) (between lines)
@@ -172,7 +173,7 @@ mutual
         | inr not_end ↦ rw not_end (cut_skipping blanks lines n (over ++ line ∷ []) rest all (subst (IsFirstBad lines n) (sym (append_assoc over (line ∷ []) rest)) bad) (no_end-append over (line ∷ []) none (not_end, tt)))
       ]
 
-  cut_within : (blanks : List (List ℕ)) (header : List ℕ) (p : Header) (front : List (List ℕ)) (calls : List Call) (rest : List (List ℕ)) → AreBlankLines blanks → IsContentLine header → SpellsHeader p header → AreCalls front calls → length calls ≤ 1000
+  cut_within : (blanks : List (List ℕ)) (header : List ℕ) (p : Header) (front : List (List ℕ)) (calls : List Call) (rest : List (List ℕ)) → AreBlankLines blanks → IsContentLine header → SpellsHeader p header → AreCalls front calls → length calls ≤ MOST_CALLS
       → Cuts (blanks ++ header ∷ (front ++ rest)) (within p calls (1 + length front) rest)
   cut_within blanks header p front calls [] all text is are few = (blanks, header ∷ (front ++ []), refl, all, (header, front ++ [], refl, text, no_end-append front [] (calls_no_end front calls are) tt), refl)
   cut_within blanks header p front calls (line ∷ rest) all text is are few =
@@ -183,7 +184,7 @@ mutual
           | inr not_end ↦
               let here : IsContentLine line = record { not_blank = not_blank; not_end = not_end } in
               elim (some_or_none (call_of line)) [
-                | inl c ↦ elim (cases_Bool (nat_lt (length calls) 1000)) [
+                | inl c ↦ elim (cases_Bool (nat_lt (length calls) MOST_CALLS)) [
                   | inl room ↦ rw (not_blank, not_end, c.1, room) (next_line blanks header p front (calls ++ c.0 ∷ []) line rest (cut_within blanks header p (front ++ line ∷ []) (calls ++ c.0 ∷ []) rest all text is (calls-push front calls line c.0 are here (call_taken line c.0 c.1)) (has_room calls c.0 room)))
                   | inr full ↦ rw (not_blank, not_end, c.1, full) (cut_skipping blanks (header ∷ (front ++ line ∷ rest)) (1 + length front + 1) [] rest all (inr (header, p, front, line, calls, text, is, are, few, here, inr (is_full calls full few), refl, omega arith)) tt)
                 ]

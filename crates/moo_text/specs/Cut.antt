@@ -8,6 +8,7 @@ use Rattle.moo_text.specs.Grammar.{SpellsHeader, SpellsCall}
 use Rattle.moo_text.specs.declared.header.Header.{Header}
 use Rattle.moo_text.specs.declared.next.Next.{Next}
 use Rattle.moo_text.specs.declared.next.Next.TheVariants.{Batch as Whole, Malformed, Truncated, End}
+use Rattle.moo_world.specs.declared.call.TheConstants.{MOST_CALLS}
 
 abbrev pub AreBlankLines : List (List ℕ) → Type 0
 AreBlankLines lines = AllByRecursion (λ line. is_blank_line line ≡ true) lines
@@ -41,7 +42,7 @@ pub record IsBatch (lines : List (List ℕ)) (batch : Batch) (rest : List (List 
   pub is_text : IsContentLine header
   pub is_header : SpellsHeader (record { programmer = batch.programmer; at = batch.at }) header
   pub are_calls : AreCalls body batch.calls
-  pub few : length batch.calls ≤ 1000
+  pub few : length batch.calls ≤ MOST_CALLS
   pub not_blank : is_blank_line last ≡ false
   pub is_end : is_end_line last ≡ true
 
@@ -50,7 +51,7 @@ abbrev pub IsFirstBad : List (List ℕ) → ℕ → List (List ℕ) → Type 0
 IsFirstBad lines n rest =
     ((header : List ℕ) × IsContentLine header × IsNoHeader header × (lines ≡ header ∷ rest) × (n ≡ 1))
     ⊎ ((header : List ℕ) × (h : Header) × (body : List (List ℕ)) × (bad : List ℕ) × (calls : List Call) × IsContentLine header × SpellsHeader h header
-    × AreCalls body calls × (length calls ≤ 1000) × IsContentLine bad × (IsNoCall bad ⊎ (length calls ≡ 1000))
+    × AreCalls body calls × (length calls ≤ MOST_CALLS) × IsContentLine bad × (IsNoCall bad ⊎ (length calls ≡ MOST_CALLS))
     × (lines ≡ header ∷ (body ++ bad ∷ rest)) × (n ≡ length body + 2))
 
 -- a malformed batch goes on to its next end; a line `end` in a header's place is one by itself

@@ -8,6 +8,7 @@ use Rattle.moo_text.specs.LineReading.{header_of, call_of}
 use Rattle.moo_text.specs.declared.header.Header.{Header}
 use Rattle.moo_text.specs.declared.next.Next.{Next}
 use Rattle.moo_text.specs.declared.next.Next.TheVariants.{Batch as Whole, Malformed, Truncated}
+use Rattle.moo_world.specs.declared.call.TheConstants.{MOST_CALLS}
 
 abbrev mutual
   -- between two batches
@@ -24,7 +25,7 @@ abbrev mutual
   within header calls n (line ∷ rest) =
       if is_blank_line line then within header calls (n + 1) rest
       else (if is_end_line line then Whole (record { programmer = header.programmer; at = header.at; calls = calls }) ∷ between rest
-      else option_map_or (λ call. if nat_lt (length calls) 1000 then within header (calls ++ call ∷ []) (n + 1) rest else skipping (n + 1) rest) (call_of line) (skipping (n + 1) rest))
+      else option_map_or (λ call. if nat_lt (length calls) MOST_CALLS then within header (calls ++ call ∷ []) (n + 1) rest else skipping (n + 1) rest) (call_of line) (skipping (n + 1) rest))
 
   -- after line n, the first bad one of its batch
   pub skipping : ℕ → List (List ℕ) → List Next

@@ -57,6 +57,7 @@ use Rattle.moo_world.specs.PropertyCalls.{add_property, delete_property, set_pro
 use Rattle.moo_world.specs.VerbCalls.{verbs, verb_info, verb_args, add_verb, delete_verb, set_verb_info, set_verb_args}
 use Rattle.moo_world.specs.declared.reason.Reason.TheVariants.{NoProgrammer, NoWizard, NoObject, NoPlace, NoParent, NotControlled}
 use Rattle.moo_world.specs.declared.reason.Reason.TheVariants.{NotFertile, NoOwner, ParentBelow, NameShared, NotAccepted, PlaceInside, NoQuota, LongList, Unasked}
+use Rattle.moo_world.specs.declared.values.TheConstants.{MOST_ACCEPTED}
 
 -- ---- the calls that only read
 
@@ -145,7 +146,7 @@ abbrev pub set_accept : World → ObjNo → ObjNo → Option (List ObjNo) → Ou
 set_accept world programmer object list = do
   require is_object world object else NoObject object
   require controls world programmer object else NotControlled object
-  require nat_le (length (unwrap_or list [])) 1000 else LongList
+  require nat_le (length (unwrap_or list [])) MOST_ACCEPTED else LongList
   Done zero (field_changed world object (to.Accept list))
 
 -- ---- each call by its name

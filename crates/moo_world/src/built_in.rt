@@ -7,6 +7,9 @@ ghost use Rattle.moo_world.specs.BuiltIns.{field_name, built_in};
 
 use moo_value::MooStr;
 
+/// The most bytes in the name of a property.
+pub const MAX_NAME: usize = 255;
+
 /// The built-in properties.
 #[derive(Clone, Copy, PartialEq, Eq)]
 pub enum BuiltIn {

@@ -8,6 +8,9 @@ use moo_rows::ObjList;
 use moo_value::{MooStr, ObjNo, Value, ValueList};
 use std::alloc::{AllocError, Global};
 
+/// The most objects in an accept list.
+pub const MOST_ACCEPTED: usize = 1000;
+
 /// What a changing call other than `create` answers.
 pub const ZERO: Value = Value::Int(0);
 

@@ -5,6 +5,7 @@ use Rattle.moo_world.{specs.Arguments.{fits, is_number}, specs.declared.reason.R
 use Rattle.moo_calls_shared.specs.Outcomes.{world_in}
 use Rattle.moo_batch.{specs.Outcomes.{state_in, ComesInTurn, KeepInTurn, Reaches}, proofs.Beside.{removed-keeps, removed-state}, proofs.InTurn.{granted-reaches, granted-keeps}, proofs.AtCheck.{held-stays}}
 use Rattle.moo_batch.proofs.granting.grant.Goals as goal
+use Rattle.moo_world.specs.declared.petition.TheConstants.{MOST_HELD}
 
 pub returns-clause-check : goal.returns-clause-check
 returns-clause-check g c = held-stays (g.R.Rows.held c.args.rows.now) (g.R.Rows.held c.held_steps.new.rows) _ c.held_steps.result c.held_steps.ensures.comes
@@ -66,5 +67,5 @@ held_steps-requires-clause-few g c =
     let fit = c.requires.good.petitions.fit c.in-Some.id row (found_there s c.in_ok-number.number (c.in-Some.id, row) found) in
     let after = (and_parts (is_number row.who) _ fit).1 in
     let few = (and_parts (are_few row.calls) _ (and_parts (list_all is_named calls) _ after).1).0 in
-    let short = leb-true (length calls) 64 (and_parts (nat_lt 0 (length calls)) (nat_le (length calls) 64) few).1 in
-    subst (λ helds. length helds ≤ 64) (sym (c.items.ensures.plain ∙ ap (λ (r : PetitionRow). spread r.calls) c.in_ok-row.ensures)) short
+    let short = leb-true (length calls) MOST_HELD (and_parts (nat_lt 0 (length calls)) (nat_le (length calls) MOST_HELD) few).1 in
+    subst (λ helds. length helds ≤ MOST_HELD) (sym (c.items.ensures.plain ∙ ap (λ (r : PetitionRow). spread r.calls) c.in_ok-row.ensures)) short

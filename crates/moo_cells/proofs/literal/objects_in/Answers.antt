@@ -19,7 +19,7 @@ pub returns-clause-fits : goal.returns-clause-fits
 returns-clause-fits c =
     let same = sym (take_all c.loop-value.value-index c.args.values.now c.loop-value-test.false) ∙ c.loop-value.invariant ∙ ap (λ (xs : List ObjNo). map Obj xs) (sym c.from_vec.ensures) in
     let long : length c.args.values.now ≡ length c.from_vec.result = ap length same ∙ length-map c.from_vec.result Obj in
-    omega (arith, long, c.if-values-gt-MAX_ACCEPTED.false)
+    omega (arith, long, c.if-values-gt-MOST_ACCEPTED.false)
 
 pub loop-value-preserved : goal.loop-value-preserved
 loop-value-preserved c =
