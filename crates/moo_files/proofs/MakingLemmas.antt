@@ -4,7 +4,7 @@ use Rattle.sqlite.specs.Schema.{Schema}
 use Rattle.moo_tables.proofs.SchemaLemmas.{some_tables, one_schema, no_other}
 use Rattle.sqlite.specs.Effect.{IsDatabase}
 use Rattle.moo_store.specs.Kept.{World}
-use Rattle.moo_store_rows.specs.declared.fault.StoreFault.TheVariants.{Store, OutOfMemory}
+use Rattle.moo_store.specs.declared.fault.StoreFault.TheVariants.{Store, OutOfMemory}
 use Rattle.moo_files.specs.declared.remains.Remains.TheVariants as remains
 
 -- ---- what is left of files in which no world was begun

@@ -5,8 +5,7 @@ use Rattle.sqlite_store.specs.declared.store.FileStore.{FileStore}
 use Rattle.sqlite_wal.specs.Recovery.{Image}
 use Rattle.sqlite.{specs.State.{HasCleanDisk}, specs.Files.{over_files}, specs.Tree.{Trees}}
 use Rattle.moo_world.specs.Judge.{state_of}
-use Rattle.moo_store.{specs.Kept.{World}, specs.World.{store_of}}
-use Rattle.moo_store_rows.{specs.Moment.{Moment, AreTreesOf, IsSpared}, specs.States.{LeavesState}, specs.declared.fault.StoreFault.{StoreFault}}
+use Rattle.moo_store.{specs.Kept.{World}, specs.World.{store_of}, specs.Moment.{Moment, AreTreesOf, IsSpared}, specs.States.{LeavesState}, specs.declared.fault.StoreFault.{StoreFault}}
 use Rattle.moo_files.specs.declared.remains.Remains.TheVariants as remains
 use Rattle.moo_files.{specs.Causes.{HasCauseOver}, specs.Contents.{HoldsMoment, IsKept}, specs.Remains.{IsCleanRemains, KeepsSuch}, specs.Opened.{Contents, Database, Hold, Opens, Refuses, OpensHeld, RefusesHeld}, specs.declared.remains.Remains.{Remains}, proofs.RemainsLemmas.{keeps_more}, proofs.PresentLemmas.{spared_kept}}
 

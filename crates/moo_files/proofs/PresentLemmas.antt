@@ -5,7 +5,7 @@ use Rattle.moo_cells.{proofs.CellsLemmas.{one_good}, proofs.GoodRows.{good_withi
 use Rattle.moo_tables.proofs.SchemaLemmas.{one_schema, one_version}
 use Rattle.moo_tables_rows.{specs.Inside.{Rests, Leaves}, specs.Version.{IsEarlier}}
 use Rattle.moo_store.specs.Opening.{RestsAtMoment}
-use Rattle.moo_store_rows.{specs.Current.{unread_of}, specs.Moment.{AllCells}}
+use Rattle.moo_store.{specs.Current.{unread_of}, specs.Moment.{AllCells}}
 
 -- tables show one list of good rows alone
 pub one_rows : (tables : Tables) (rows m : Maps) → ShowsRows tables rows → IsGood rows → ShowsRows tables m → IsGood m → rows ≡ m

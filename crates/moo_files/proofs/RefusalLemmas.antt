@@ -1,7 +1,7 @@
 -- What the fault of an open that failed says of the files.
 use Rattle.moo_files.{proofs.Words.{◌≡◌, ◌≢◌, ◌⊎◌, inl, inr, ◌<◌, IsTrue, refl, ap, Held, FileStore, file_state, sym, subst, ◌∙◌, ∥∥₁_elim, Ghosts, Files, Image, tally_of_files, Trees, Tables, store_error, FailsToOpenFiles, HoldsDatabase, faults_left, image_of, tally_left, Error, Leftover, not_ours, IsOfStore, StoreFault, HoldsTrees, ExcusesMalformed, IsUnopened, TakesForOurs, cannot_open, malformed, Remains, IsKept}, specs.Causes.{HasCauseOr, IsRefusedByDisk, StopsOver}, specs.Opened.{Contents, Nothing, Database, Unfit, Refuses}, specs.Connected.{Unconnects}, proofs.RemainsLemmas.{keeps_more}, proofs.CauseLemmas.{some_faults}}
 use Rattle.moo_files.specs.declared.remains.Remains.TheVariants as remains
-use Rattle.moo_store_rows.specs.Opening.{AreMigrated, StopsOpening}
+use Rattle.moo_store.specs.OpeningRows.{AreMigrated, StopsOpening}
 use Rattle.moo_tables.specs.ReadCause.{StopsQuery}
 use Rattle.moo_tables_rows.specs.Cause.{StopsChange}
 use Rattle.std.{specs.Prelude.{None, IsSome, ⊤}, proofs.lemmas.Bool.{true≢false}}
@@ -10,7 +10,7 @@ use Rattle.sqlite_trees.specs.declared.error.StoreError.{StoreError}
 use Rattle.sqlite_trees.specs.declared.error.StoreError.TheVariants as kinds
 use Rattle.sqlite_store.specs.Report.{named}
 use Rattle.sqlite.specs.declared.error.ErrorCode.TheVariants as codes
-use Rattle.moo_store_rows.specs.declared.fault.StoreFault.TheVariants as faults
+use Rattle.moo_store.specs.declared.fault.StoreFault.TheVariants as faults
 
 abbrev code_of : Error → ErrorCode
 code_of (SqliteFailure code) = code

@@ -10,7 +10,7 @@ use Rattle.sqlite_trees.proofs.Doubt.{clean_of}
 use Rattle.sqlite.{specs.State.{State as Database, HasCleanDisk}, specs.Held.{Held, AreDatabases}, specs.Files.{file_state, IsCleanLeft}, specs.Tree.{Trees}, specs.declared.file.Leftover.{Leftover}}
 use Rattle.moo_world.specs.Judge.{State}
 use Rattle.moo_tables_rows.specs.Tables.{schema_of}
-use Rattle.moo_store_rows.{specs.States.{LeavesState}, specs.Moment.{Moment, HasCellsOf, AreTreesOf, IsSpared}, specs.Place.{Place, moment_of, CrashLeavesAt}}
+use Rattle.moo_store.{specs.States.{LeavesState}, specs.Moment.{Moment, HasCellsOf, AreTreesOf, IsSpared}, specs.Place.{Place, moment_of, CrashLeavesAt}}
 use Rattle.moo_files.{specs.Contents.{HoldsSuch, HoldsTrees, IsLeftBy}, specs.Remains.{IsCleanRemains, LeftoverKeeps, KeepsSuch}, specs.Stop.{DiskLeaves, HasNumberedTrees, LeftStoreLeaves, LeftoverLeaves, BytesLeave, AreNumbered}, specs.declared.remains.Remains.{Remains}, proofs.RemainsLemmas.{such_more}}
 use Rattle.moo_files.specs.declared.remains.Remains.TheVariants as remains
 use Rattle.sqlite.specs.declared.file.Leftover.TheVariants as left

@@ -4,15 +4,15 @@ pub use Rattle.std.proofs.Math.Logic.{∥∥₁_elim, ∥∥₁_map}
 pub use Rattle.std.proofs.lemmas.Bool.{cases_Bool, cases_eq}
 pub use Rattle.moo_cells.specs.Shows.{ShowsRows}
 pub use Rattle.moo_rows.specs.Maps.{Maps}
-pub use Rattle.moo_store_rows.specs.Opening.{Adopts, IsOfStore, not_ours}
-pub use Rattle.moo_store_rows.specs.Moment.{AreTreesOf, BecomesPresent, IsSpared, Moment, rows_alone}
-pub use Rattle.moo_store_rows.specs.NewTables.{LeavesAsMade}
-pub use Rattle.moo_store_rows.specs.Place.{CrashLeavesAt, MayBeLeft, Place, Works, moment_of}
+pub use Rattle.moo_store.specs.OpeningRows.{Adopts, IsOfStore, not_ours}
+pub use Rattle.moo_store.specs.Moment.{AreTreesOf, BecomesPresent, IsSpared, Moment, rows_alone}
+pub use Rattle.moo_store.specs.NewTables.{LeavesAsMade}
+pub use Rattle.moo_store.specs.Place.{CrashLeavesAt, MayBeLeft, Place, Works, moment_of}
 pub use Rattle.moo_store.specs.Kept.{World}
 pub use Rattle.moo_store.specs.Moves.{Stands}
-pub use Rattle.moo_store_rows.specs.States.{LeavesRows, LeavesState, ShowsState}
+pub use Rattle.moo_store.specs.States.{LeavesRows, LeavesState, ShowsState}
 pub use Rattle.moo_store.specs.World.{store_of}
-pub use Rattle.moo_store_rows.specs.declared.fault.StoreFault.{StoreFault}
+pub use Rattle.moo_store.specs.declared.fault.StoreFault.{StoreFault}
 pub use Rattle.moo_tables_rows.specs.Tables.{Tables, no_schema, schema_of}
 pub use Rattle.moo_world.specs.Judge.{State}
 pub use Rattle.moo_world.specs.Rows.{IsGood}

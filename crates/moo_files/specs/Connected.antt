@@ -8,8 +8,8 @@ use Rattle.sqlite.specs.State.{State as Database, HasCleanDisk}
 use Rattle.sqlite.specs.Held.{Held}
 use Rattle.sqlite.specs.Files.{IsEmpty, IsOpened, file_state}
 use Rattle.sqlite.specs.Start.{FindsIn}
-use Rattle.moo_store_rows.specs.Opening.{not_ours}
-use Rattle.moo_store_rows.specs.declared.fault.StoreFault.{StoreFault}
+use Rattle.moo_store.specs.OpeningRows.{not_ours}
+use Rattle.moo_store.specs.declared.fault.StoreFault.{StoreFault}
 use Rattle.moo_files.specs.Blank.{IsBlank}
 use Rattle.moo_files.specs.Opened.{Contents, Nothing, Database as Holds, Unfit}
 use Rattle.moo_files.specs.Remains.{ExcusesMalformed, KeepsNothingBut, KeepsSuch}

@@ -15,8 +15,8 @@ use Rattle.moo_tables_rows.specs.Tables.{Tables, schema_of, no_schema}
 use Rattle.moo_tables_rows.specs.Inside.{Leaves}
 use Rattle.moo_tables_rows.specs.Version.{IsEarlier}
 use Rattle.moo_cells.specs.Shows.{ShowsRows}
-use Rattle.moo_store_rows.specs.Moment.{Moment, AreTreesOf}
-use Rattle.moo_store_rows.specs.States.{LeavesRows, LeavesState}
+use Rattle.moo_store.specs.Moment.{Moment, AreTreesOf}
+use Rattle.moo_store.specs.States.{LeavesRows, LeavesState}
 use Rattle.moo_files.specs.Blank.{IsBlank}
 
 -- a log and its file hold this database

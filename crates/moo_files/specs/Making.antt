@@ -10,13 +10,13 @@ use Rattle.sqlite.specs.Tree.{Trees}
 use Rattle.moo_rows.specs.Maps.{Maps, Held as Rows}
 use Rattle.moo_rows.specs.Opening.{opening_maps}
 use Rattle.moo_store.specs.Kept.{World}
-use Rattle.moo_store_rows.specs.Opening.{IsOfStore}
-use Rattle.moo_store_rows.specs.Moment.{Moment, rows_alone}
-use Rattle.moo_store_rows.specs.NewTables.{IsMadeOf, LeavesAsMade}
-use Rattle.moo_store_rows.specs.Place.{Works}
+use Rattle.moo_store.specs.OpeningRows.{IsOfStore}
+use Rattle.moo_store.specs.Moment.{Moment, rows_alone}
+use Rattle.moo_store.specs.NewTables.{IsMadeOf, LeavesAsMade}
+use Rattle.moo_store.specs.Place.{Works}
 use Rattle.moo_store.specs.Moves.{Stands}
 use Rattle.moo_store.specs.World.{store_of}
-use Rattle.moo_store_rows.specs.declared.fault.StoreFault.{StoreFault}
+use Rattle.moo_store.specs.declared.fault.StoreFault.{StoreFault}
 use Rattle.moo_files.specs.Blank.{IsBlank}
 use Rattle.moo_files.specs.Causes.{StopsOver}
 use Rattle.moo_files.specs.Contents.{HoldsTrees, HasAnyTable, HoldsNoTable}

@@ -13,13 +13,13 @@ use Rattle.moo_tables_rows.specs.Tables.{Tables}
 use Rattle.moo_tables_rows.specs.Inside.{Leaves}
 use Rattle.moo_cells.specs.Shows.{ShowsRows}
 use Rattle.moo_store.specs.Kept.{World}
-use Rattle.moo_store_rows.specs.Opening.{IsOfStore}
-use Rattle.moo_store_rows.specs.States.{LeavesState}
-use Rattle.moo_store_rows.specs.Moment.{Moment, rows_alone, AreTreesOf, BecomesPresent}
-use Rattle.moo_store_rows.specs.Place.{Works}
+use Rattle.moo_store.specs.OpeningRows.{IsOfStore}
+use Rattle.moo_store.specs.States.{LeavesState}
+use Rattle.moo_store.specs.Moment.{Moment, rows_alone, AreTreesOf, BecomesPresent}
+use Rattle.moo_store.specs.Place.{Works}
 use Rattle.moo_store.specs.Moves.{Stands}
 use Rattle.moo_store.specs.World.{store_of}
-use Rattle.moo_store_rows.specs.declared.fault.StoreFault.{StoreFault}
+use Rattle.moo_store.specs.declared.fault.StoreFault.{StoreFault}
 use Rattle.moo_files.specs.Contents.{HoldsTrees, HoldsMoment, HasOtherTables, ReadsAsOurs, IsKept}
 use Rattle.moo_files.specs.Remains.{IsCleanRemains, MayStopAs, TakesForOurs, ExcusesMalformed, KeepsNothingBut, Spares, StillHoldsTrees}
 use Rattle.moo_files.specs.declared.remains.Remains.{Remains}

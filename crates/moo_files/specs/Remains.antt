@@ -15,10 +15,10 @@ use Rattle.sqlite.specs.declared.file.Leftover.TheVariants as left
 use Rattle.sqlite.specs.declared.error.Error.TheVariants.{SqliteFailure}
 use Rattle.sqlite.specs.declared.error.ErrorCode.TheVariants.{CannotOpen, DatabaseBusy, DatabaseCorrupt}
 use Rattle.moo_world.specs.Judge.{State}
-use Rattle.moo_store_rows.specs.States.{LeavesState}
-use Rattle.moo_store_rows.specs.Opening.{not_ours}
-use Rattle.moo_store_rows.specs.declared.fault.StoreFault.{StoreFault}
-use Rattle.moo_store_rows.specs.declared.fault.StoreFault.TheVariants.{Store, OutOfMemory}
+use Rattle.moo_store.specs.States.{LeavesState}
+use Rattle.moo_store.specs.OpeningRows.{not_ours}
+use Rattle.moo_store.specs.declared.fault.StoreFault.{StoreFault}
+use Rattle.moo_store.specs.declared.fault.StoreFault.TheVariants.{Store, OutOfMemory}
 use Rattle.moo_files.specs.Contents.{HoldsSuch, HoldsNothingBut, HasNoSums, IsKept, ReadsAs}
 use Rattle.moo_files.specs.declared.remains.Remains.{Remains}
 use Rattle.moo_files.specs.declared.remains.Remains.TheVariants as remains

@@ -5,7 +5,7 @@ ghost use Rattle.sqlite.specs.Start.{FindsIn};
 ghost use Rattle.sqlite.specs.Tree.{Trees};
 ghost use Rattle.sqlite.specs.WalFiles.{image_at};
 ghost use Rattle.sqlite_std_file.specs.declared.pair.OpenError.{OpenError as Refusal};
-ghost use Rattle.moo_store_rows.specs.Opening.{IsOfStore, not_ours};
+ghost use Rattle.moo_store.specs.OpeningRows.{IsOfStore, not_ours};
 ghost use Rattle.moo_files.specs.Causes.{HasCauseOr, IsDenied, IsOpenable};
 ghost use Rattle.moo_files.specs.Connected.{IsConnected, IsNewOrFound, Unconnects};
 ghost use Rattle.moo_files.specs.Contents.{HoldsTrees};

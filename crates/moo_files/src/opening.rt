@@ -9,7 +9,7 @@ ghost use Rattle.sqlite.specs.WalFiles.{image_at};
 ghost use Rattle.sqlite_std_file.specs.declared.pair.OpenError.{OpenError as Refusal};
 ghost use Rattle.moo_tables_rows.specs.Tables.{Tables};
 ghost use Rattle.moo_store.specs.Opening.{Adopting};
-ghost use Rattle.moo_store_rows.specs.Opening.{SaysOr, AreMigrated, not_ours};
+ghost use Rattle.moo_store.specs.OpeningRows.{SaysOr, AreMigrated, not_ours};
 ghost use Rattle.moo_store.specs.World.{store_of};
 ghost use Rattle.moo_files.specs.Causes.{HasCause, HasCauseOver, IsDenied, IsUnfit};
 ghost use Rattle.moo_files.specs.Contents.{HoldsTrees, HoldsTables};

@@ -5,10 +5,10 @@ ghost use Rattle.std.specs.Prelude.{IfOk, IfErr};
 ghost use Rattle.sqlite.specs.State.{HasCleanDisk};
 ghost use Rattle.sqlite.specs.Files.{over_files};
 ghost use Rattle.moo_rows.specs.Opening.{opening_maps};
-ghost use Rattle.moo_store_rows.specs.Moment.{Moment, rows_alone};
-ghost use Rattle.moo_store_rows.specs.NewTables.{IsMadeOf};
-ghost use Rattle.moo_store_rows.specs.Opening.{IsOfStore};
-ghost use Rattle.moo_store_rows.specs.Place.{Works};
+ghost use Rattle.moo_store.specs.Moment.{Moment, rows_alone};
+ghost use Rattle.moo_store.specs.NewTables.{IsMadeOf};
+ghost use Rattle.moo_store.specs.OpeningRows.{IsOfStore};
+ghost use Rattle.moo_store.specs.Place.{Works};
 ghost use Rattle.moo_store.specs.Moves.{Stands};
 ghost use Rattle.moo_store.specs.World.{store_of};
 

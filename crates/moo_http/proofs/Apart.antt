@@ -4,7 +4,7 @@ use Rattle.std.specs.Prelude.{if◌then◌else◌}
 use Rattle.moo_world.specs.Judge.{is_due}
 use Rattle.moo_text.{specs.declared.reply.Reply.{Reply}, specs.declared.reply.Reply.TheVariants.{Stale}}
 use Rattle.moo_store.specs.Answered.{answers_alone}
-use Rattle.moo_store_rows.{specs.declared.fault.StoreFault.{StoreFault}, specs.declared.fault.StoreFault.TheVariants.{OutOfMemory, Closed}}
+use Rattle.moo_store.{specs.declared.fault.StoreFault.{StoreFault}, specs.declared.fault.StoreFault.TheVariants.{OutOfMemory, Closed}}
 use Rattle.moo_http_request.{specs.declared.asked.Asked.TheVariants.{Each as Asks}, specs.declared.each.Each.{Each}}
 use Rattle.moo_http_response.specs.declared.outcome.RequestOutcome.TheVariants as outcome
 

@@ -6,8 +6,7 @@ use Rattle.moo_rows.specs.Maps.{Maps}
 use Rattle.moo_world.specs.Judge as model
 use Rattle.moo_text.{specs.declared.reply.Reply.{Reply}, specs.declared.reply.Reply.TheVariants.{Accepted, Refused, Full, Stale, NoMemory}}
 use Rattle.moo_text.specs.declared.reply.Answer.TheVariants as answered
-use Rattle.moo_store.{specs.Answered.{reply_of}, specs.Moves.{FailsRun, MayReplyAsked}, specs.Stopping.{says_accepted}, specs.Text.{answer_to}}
-use Rattle.moo_store_rows.{specs.declared.fault.StoreFault.{StoreFault}, specs.declared.fault.StoreFault.TheVariants.{Store, Damaged, NewerVersion, OutOfMemory, Closed}}
+use Rattle.moo_store.{specs.Answered.{reply_of}, specs.Moves.{FailsRun, MayReplyAsked}, specs.Stopping.{says_accepted}, specs.Text.{answer_to}, specs.declared.fault.StoreFault.{StoreFault}, specs.declared.fault.StoreFault.TheVariants.{Store, Damaged, NewerVersion, OutOfMemory, Closed}}
 use Rattle.moo_http_request.{specs.declared.asked.Asked.TheVariants.{Question as Asks}, specs.declared.question.Question.{Question}}
 use Rattle.moo_http_response.specs.Outcomes.{outcome_of}
 use Rattle.moo_http_response.specs.Told.{told_of}

@@ -8,8 +8,7 @@ use Rattle.moo_world.specs.Judge as model
 use Rattle.moo_text.{specs.declared.next.Next.{Next}, specs.declared.reply.Answer.{Answer}, specs.declared.fault.TextFault.{TextFault}}
 use Rattle.moo_text.specs.declared.next.Next.TheVariants.{Batch as Whole, Malformed, Truncated, End}
 use Rattle.moo_text.specs.declared.reply.Answer.TheVariants as answered
-use Rattle.moo_store.{specs.Turns.{Turn, Turns}, specs.Stopping.{EndsAs, AnswersBy}, specs.declared.course.Course.{Course}}
-use Rattle.moo_store_rows.{specs.Moment.{LeadsByEach}, specs.Place.{LeavesJust}}
+use Rattle.moo_store.{specs.Turns.{Turn, Turns}, specs.Stopping.{EndsAs, AnswersBy}, specs.declared.course.Course.{Course}, specs.Moment.{LeadsByEach}, specs.Place.{LeavesJust}}
 use Rattle.moo_http_request.specs.declared.asked.Asked.TheVariants.{Each, Question}
 use Rattle.moo_http_request.specs.declared.request.Received.{Received}
 use Rattle.moo_http.specs.declared.ports.Ports as Ports

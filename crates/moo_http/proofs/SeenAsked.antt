@@ -5,7 +5,7 @@ use Rattle.moo_rows.specs.Maps.{Maps}
 use Rattle.moo_world.specs.declared.call.Batch.{Batch}
 use Rattle.moo_text.specs.declared.reply.Reply.{Reply}
 use Rattle.moo_store.specs.Seeing.{HasSeenReply}
-use Rattle.moo_store_rows.{specs.declared.fault.StoreFault.{StoreFault}, specs.declared.fault.StoreFault.TheVariants.{Store, Damaged, NewerVersion, OutOfMemory, Closed}}
+use Rattle.moo_store.{specs.declared.fault.StoreFault.{StoreFault}, specs.declared.fault.StoreFault.TheVariants.{Store, Damaged, NewerVersion, OutOfMemory, Closed}}
 use Rattle.moo_reasons.{specs.Seen.{Seen, SeesRefusal}, specs.Told.{AreTold, TellsPlace}, specs.declared.line.Why.{Why}}
 use Rattle.moo_http_request.{specs.declared.asked.Asked.TheVariants.{Calls, Each}, specs.declared.each.Each.{Each as AskedEach}, specs.declared.asked.Mode.{Mode}}
 use Rattle.moo_http_response.{specs.declared.outcome.RequestOutcome.{RequestOutcome}}

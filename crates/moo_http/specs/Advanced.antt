@@ -3,7 +3,7 @@ use Rattle.std.specs.Prelude.{◌≡◌, ◌⊎◌, ◌<◌, true, false}
 use Rattle.sqlite.specs.Store.{Ghosts}
 use Rattle.moo_store.specs.Kept.{World}
 use Rattle.moo_store.specs.Moves.{Stands}
-use Rattle.moo_store_rows.specs.Place.{Place}
+use Rattle.moo_store.specs.Place.{Place}
 
 -- a World that worked has failed, or its number is greater: its store failed, or it accepted a batch
 abbrev pub HasAdvanced : {S : Type 0} → World S → World S → Type 0

@@ -5,8 +5,8 @@ use Rattle.moo_text.specs.declared.reply.Reply.TheVariants.{Stale}
 use Rattle.moo_world.specs.Judge.{State, judge, is_due}
 use Rattle.moo_store.specs.Answered.{reply_of, answer_of, answers_alone, state_behind}
 use Rattle.moo_store.specs.Moves.{RunsAt, AsksAt}
-use Rattle.moo_store_rows.specs.Moment.{state_of_moment}
-use Rattle.moo_store_rows.specs.Place.{Place, Works, Failed, Between}
+use Rattle.moo_store.specs.Moment.{state_of_moment}
+use Rattle.moo_store.specs.Place.{Place, Works, Failed, Between}
 use Rattle.moo_http_request.specs.declared.asked.Asked.{Asked}
 use Rattle.moo_http_request.specs.declared.asked.Asked.TheVariants.{Refused, Calls, Each, Question}
 use Rattle.moo_http_request.specs.declared.each.Each.{Each as Apart}

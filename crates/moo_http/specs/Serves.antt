@@ -1,7 +1,7 @@
 -- What a request makes of its bytes, of the World and of what is written.
 use Rattle.std.specs.Prelude.{◌≡◌, ⊤, ℕ, Option, List, [], take, Result, Ok, Err, Bool, false}
 use Rattle.std.specs.Io.KnownBytes.{Appends}
-use Rattle.moo_store_rows.specs.Place.{Place}
+use Rattle.moo_store.specs.Place.{Place}
 use Rattle.moo_http_request.specs.Request.{Takes}
 use Rattle.moo_http_request.specs.declared.asked.Asked.{Asked}
 use Rattle.moo_http_request.specs.declared.asked.Asked.TheVariants as asked

@@ -1,8 +1,8 @@
 -- What came of a call on a World.
 use Rattle.std.specs.Prelude.{Result, Ok, Err}
 use Rattle.moo_text.specs.declared.reply.Reply.{Reply}
-use Rattle.moo_store_rows.specs.declared.fault.StoreFault.{StoreFault}
-use Rattle.moo_store_rows.specs.declared.fault.StoreFault.TheVariants as fault
+use Rattle.moo_store.specs.declared.fault.StoreFault.{StoreFault}
+use Rattle.moo_store.specs.declared.fault.StoreFault.TheVariants as fault
 use Rattle.moo_http_response.specs.declared.outcome.RequestOutcome.{RequestOutcome}
 use Rattle.moo_http_response.specs.declared.outcome.RequestOutcome.TheVariants as outcome
 

@@ -1,7 +1,7 @@
 -- What passes between a peer and the service through a desk, which gathers a request before it is judged and sends the answer after that.
 use Rattle.std.specs.Prelude.{◌≡◌, ◌⊎◌, ℕ, List, [], Ok, Err}
 use Rattle.std.specs.Io.KnownBytes.{Keeps, Appends, append_known, prepend_known}
-use Rattle.moo_store_rows.specs.Place.{Place}
+use Rattle.moo_store.specs.Place.{Place}
 use Rattle.moo_http.specs.Traffic.{Traffic}
 use Rattle.moo_http.specs.Turns.{Exchanged, Yields}
 use Rattle.moo_http.specs.declared.fault.ServeFault.{ServeFault}

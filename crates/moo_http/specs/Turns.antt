@@ -4,7 +4,7 @@ use Rattle.std.specs.Prelude.{Bool, true, false}
 use Rattle.std.specs.Io.KnownBytes.{Appends}
 use Rattle.std.specs.declared.io.Read as Reading
 use Rattle.std.specs.declared.io.Write as Writing
-use Rattle.moo_store_rows.specs.Place.{Place}
+use Rattle.moo_store.specs.Place.{Place}
 use Rattle.moo_http_request.specs.Given.{HasFailed}
 use Rattle.moo_http_request.specs.Request.{Takes}
 use Rattle.moo_http_request.specs.declared.request.Received.{Received}

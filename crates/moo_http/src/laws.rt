@@ -1,8 +1,8 @@
 //! What holds of answers.
 
 ghost use Rattle.std.specs.Prelude.{◌≡◌, ◌≢◌, ℕ};
-ghost use Rattle.moo_store_rows.specs.Moment.{Moment, state_of_moment};
-ghost use Rattle.moo_store_rows.specs.Place.{Place, Works, moment_of};
+ghost use Rattle.moo_store.specs.Moment.{Moment, state_of_moment};
+ghost use Rattle.moo_store.specs.Place.{Place, Works, moment_of};
 ghost use Rattle.moo_http_request.specs.declared.asked.Asked.{Asked};
 ghost use Rattle.moo_http_response.specs.declared.outcome.RequestOutcome.{RequestOutcome};
 ghost use Rattle.moo_http.specs.Answers.{MayAnswer, answer};

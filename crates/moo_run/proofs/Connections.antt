@@ -4,8 +4,8 @@ use Rattle.sqlite.{specs.State.{State as Database}, specs.Store.{Ghosts}, specs.
 use Rattle.moo_cli.{specs.declared.task.Action.{Action}, specs.declared.task.Action.TheVariants.{Init, Apply, Rehearse, Ask, Dump, Load, Check, Serve}}
 use Rattle.moo_run_lines.specs.Lines.{WritesLine}
 use Rattle.moo_run_lines.specs.declared.failure.Failure.TheVariants as failed
-use Rattle.moo_store_rows.{specs.declared.fault.StoreFault.{StoreFault}, specs.Opening.{IsOfStore}}
-use Rattle.moo_store_rows.specs.declared.fault.StoreFault.TheVariants as store_fault
+use Rattle.moo_store.{specs.declared.fault.StoreFault.{StoreFault}, specs.OpeningRows.{IsOfStore}}
+use Rattle.moo_store.specs.declared.fault.StoreFault.TheVariants as store_fault
 
 -- why a new world can't be made, and why the opening of a world fails
 pub of_making : {A : Type 0} {Q : Error → Type 0} (fault : StoreFault) (failure : Failure) → failure ≡ store_failure fault → ((fault ≡ store_fault.OutOfMemory) × A) ⊎ ((error : Error) × (fault ≡ store_fault.Store error) × Q error) → IsOpening failure

@@ -2,7 +2,7 @@
 use Rattle.moo_run.{proofs.Words.{◌≡◌, inl, inr, true, false, IsTrue, refl, sym, ◌∙◌, true≢false, HasCleanDisk, Held, file_state, over_files, store_of, Image, Ghosts, Maps, World, LeavesAsMade, Task, Run, Failure, Reports, store_failure, begins_anew, is_load, BeginsFrom, RunsMade, RanOver, RefusedOver}, specs.Run.{RefusesTask}, proofs.Beginning.{fails_to_begin, unmade_begins, fresh_begins}, proofs.Refusals.{fails_at_once}}
 use Rattle.sqlite_store.specs.declared.store.FileStore.{FileStore}
 use Rattle.sqlite.specs.Tree.{Trees}
-use Rattle.moo_store_rows.specs.declared.fault.StoreFault.{StoreFault}
+use Rattle.moo_store.specs.declared.fault.StoreFault.{StoreFault}
 use Rattle.moo_files.{specs.Causes.{HasCauseOr, IsDenied, IsOpenable}, specs.Making.{Empty, HalfMade, IsUnmadeIn, StopsMaking}, specs.Contents.{HoldsTrees, HasAnyTable, HoldsNoTable}, specs.Remains.{IsCleanRemains}, specs.declared.remains.Remains.{Remains}, proofs.MakingLemmas.{moment_kept, table_kept, trees_or_made}}
 use Rattle.moo_files.specs.declared.remains.Remains.TheVariants as remains
 

@@ -2,7 +2,7 @@
 use Rattle.moo_run.{proofs.Words.{◌≡◌, inl, inr, ℕ, List, Err, true, false, true≢false, ◌∙◌, begins_anew, Option, refl, sym, subst, Ghosts, Image, Moment, IsSpared, AreTreesOf, Task, Reports, Tells, store_failure, Run, RunsTask, FailsAtOnce, RefusesFile, RunsFile, Failure}, specs.declared.ends.Ends.{Ends}, proofs.Connections.{of_opening, of_refusal}, specs.Ends.{RefusedOnto}}
 use Rattle.moo_run.specs.declared.ends.Ends.TheVariants as variant
 use Rattle.moo_files.{specs.Opened.{Contents, Nothing, Database, Unfit, Hold, Refuses}, specs.Contents.{HoldsMoment}, specs.Remains.{IsCleanRemains, KeepsSuch}, specs.declared.remains.Remains.{Remains}, proofs.OpenedLemmas.{still_holds}}
-use Rattle.moo_store_rows.{specs.Opening.{IsOfStore}, specs.declared.fault.StoreFault.{StoreFault}}
+use Rattle.moo_store.{specs.OpeningRows.{IsOfStore}, specs.declared.fault.StoreFault.{StoreFault}}
 
 module _ (fault : StoreFault) where
   -- the line that there is no such file is that of a store that can't open it

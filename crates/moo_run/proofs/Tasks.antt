@@ -9,9 +9,8 @@ use Rattle.moo_text.specs.declared.fault.TextFault.TheVariants as text_fault
 use Rattle.moo_cells.specs.Shows.{ShowsRows}
 use Rattle.moo_tables_rows.specs.Inside.{Rests, IsCurrent}
 use Rattle.moo_http.{specs.Leading.{LeadsTo}, proofs.Leading.{leads_start, leads_just}}
-use Rattle.moo_store.{specs.declared.course.Course.{Course}, specs.Stopping.{EndsAs}, specs.Runs.{LeavesChecked}}
-use Rattle.moo_store_rows.{specs.Checked.{Checks, IsUnchecked}, specs.Current.{unread_of}, specs.Moment.{AllCells}, specs.Opening.{IsOfStore}, specs.declared.fault.StoreFault.{StoreFault}}
-use Rattle.moo_store_rows.specs.declared.fault.StoreFault.TheVariants as store_fault
+use Rattle.moo_store.{specs.declared.course.Course.{Course}, specs.Stopping.{EndsAs}, specs.Runs.{LeavesChecked}, specs.Checked.{Checks, IsUnchecked}, specs.Current.{unread_of}, specs.Moment.{AllCells}, specs.OpeningRows.{IsOfStore}, specs.declared.fault.StoreFault.{StoreFault}}
+use Rattle.moo_store.specs.declared.fault.StoreFault.TheVariants as store_fault
 
 pub given_input : (batches : List ℕ) (input : Option (List ℕ)) (files : Texts) → bytes_eq batches (codes "-") ≡ true → texts_by input files batches ≡ input
 given_input batches input files e = ap (λ (b : Bool). if b then input else files batches) e

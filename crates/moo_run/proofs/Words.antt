@@ -7,9 +7,9 @@ pub use Rattle.moo_load.specs.OneState.{IsHeld}
 pub use Rattle.moo_rows.specs.Maps.{Maps}
 pub use Rattle.moo_rows.specs.Opening.{opening_maps}
 pub use Rattle.moo_store.specs.Kept.{World}
-pub use Rattle.moo_store_rows.specs.Moment.{AreTreesOf, IsSpared, Moment, rows_alone, state_of_moment}
-pub use Rattle.moo_store_rows.specs.NewTables.{IsMadeOf, LeavesAsMade}
-pub use Rattle.moo_store_rows.specs.Place.{Between, Failed, LeavesJust, Place, Works}
+pub use Rattle.moo_store.specs.Moment.{AreTreesOf, IsSpared, Moment, rows_alone, state_of_moment}
+pub use Rattle.moo_store.specs.NewTables.{IsMadeOf, LeavesAsMade}
+pub use Rattle.moo_store.specs.Place.{Between, Failed, LeavesJust, Place, Works}
 pub use Rattle.moo_store.specs.Moves.{AsksAt, MovesBy, RunsAt, Stands}
 pub use Rattle.moo_store.specs.Rehearsed.{RehearsesAt}
 pub use Rattle.moo_store.specs.World.{state_in, store_of}

@@ -13,13 +13,13 @@ use Rattle.moo_world.specs.Rows.{IsGood}
 use Rattle.moo_world.specs.Judge.{State}
 use Rattle.moo_tables_rows.specs.Tables.{Tables}
 use Rattle.moo_cells.specs.Shows.{ShowsRows}
-use Rattle.moo_store_rows.specs.Opening.{SaysOr, AreMigrated, IsOfStore}
-use Rattle.moo_store_rows.specs.Moment.{Moment, rows_alone, AreTreesOf, BecomesPresent, IsSpared}
-use Rattle.moo_store_rows.specs.NewTables.{LeavesAsMade}
-use Rattle.moo_store_rows.specs.States.{LeavesState}
+use Rattle.moo_store.specs.OpeningRows.{SaysOr, AreMigrated, IsOfStore}
+use Rattle.moo_store.specs.Moment.{Moment, rows_alone, AreTreesOf, BecomesPresent, IsSpared}
+use Rattle.moo_store.specs.NewTables.{LeavesAsMade}
+use Rattle.moo_store.specs.States.{LeavesState}
 use Rattle.moo_tables_rows.specs.Inside.{Leaves}
 use Rattle.moo_files.specs.Opened.{Contents, Nothing, Database, Unfit, Hold}
-use Rattle.moo_store_rows.specs.declared.fault.StoreFault.{StoreFault}
+use Rattle.moo_store.specs.declared.fault.StoreFault.{StoreFault}
 use Rattle.moo_files.specs.Contents.{HoldsTrees, HoldsTables, HoldsMoment, HoldsEarlier, HoldsNoTable}
 use Rattle.moo_files.specs.Contents.{HasOtherTables, HasAnyTable, IsKept, ReadsAsOurs}
 use Rattle.moo_files.specs.Remains.{IsCleanRemains, MayStopAs, Spares, KeepsSuch, KeepsNothingBut, StillHoldsTrees}

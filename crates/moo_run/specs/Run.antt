@@ -23,15 +23,15 @@ use Rattle.moo_text.specs.declared.fault.TextFault.{TextFault}
 use Rattle.moo_dump.specs.Dump.{dump as dump_of}
 use Rattle.moo_load.specs.OneState.{IsHeld}
 use Rattle.moo_load.specs.RowsOf.{AreRowsOf}
-use Rattle.moo_store_rows.specs.declared.fault.StoreFault.{StoreFault}
+use Rattle.moo_store.specs.declared.fault.StoreFault.{StoreFault}
 use Rattle.moo_store.specs.declared.course.Course.{Course}
 use Rattle.moo_text.specs.declared.reply.Answer.{Answer}
 use Rattle.moo_store.specs.Stopping.{CompletesUntil, HaltsUntil, EndsEarly, AnswersBy}
 use Rattle.moo_store.specs.Rehearsed.{RehearsesAt}
-use Rattle.moo_store_rows.specs.Moment.{Moment, state_of_moment, rows_alone}
-use Rattle.moo_store_rows.specs.NewTables.{IsMadeOf}
-use Rattle.moo_store_rows.specs.Opening.{IsOfStore}
-use Rattle.moo_store_rows.specs.Place.{Place, Works, MayBeLeft, LeavesJust, CrashLeavesAt}
+use Rattle.moo_store.specs.Moment.{Moment, state_of_moment, rows_alone}
+use Rattle.moo_store.specs.NewTables.{IsMadeOf}
+use Rattle.moo_store.specs.OpeningRows.{IsOfStore}
+use Rattle.moo_store.specs.Place.{Place, Works, MayBeLeft, LeavesJust, CrashLeavesAt}
 use Rattle.moo_store.specs.Kept.{World}
 use Rattle.moo_store.specs.Moves.{Stands, RunsAt, AsksAt}
 use Rattle.moo_store.specs.World.{store_of}

@@ -3,8 +3,8 @@
 ghost use Rattle.std.specs.Prelude.{◌≡◌, ℕ, List, true, false, IfOk, IfErr, OnOk};
 ghost use Rattle.std.specs.Io.KnownBytes.{Appends};
 ghost use Rattle.moo_dump.specs.Dump.{dump};
-ghost use Rattle.moo_store_rows.specs.Moment.{Moment};
-ghost use Rattle.moo_store_rows.specs.Place.{Works};
+ghost use Rattle.moo_store.specs.Moment.{Moment};
+ghost use Rattle.moo_store.specs.Place.{Works};
 ghost use Rattle.moo_store.specs.Moves.{Stands};
 ghost use Rattle.moo_store.specs.World.{store_of, state_in};
 ghost use Rattle.moo_run_lines.specs.Lines.{loaded_line};
@@ -46,7 +46,7 @@ fn put_text<W: Write>(line: &str, output: &mut W) -> Result<u8, Failure>
 }
 
 /// Tests the tables, and writes what they hold.
-#[tactic(auto, using(moo_store_rows::proofs::Causes::cause_of_store))]
+#[tactic(auto, using(moo_store::proofs::Causes::cause_of_store))]
 fn check<W: Write, B: Alter + Drop>(
     alloc: Global,
     world: &mut World<B>,

@@ -2,8 +2,8 @@
 
 ghost use Rattle.std.specs.Prelude.{◌≡◌, ◌≢◌, false, codes, IfErr};
 ghost use Rattle.std.specs.Str.{bytes_eq};
-ghost use Rattle.moo_store_rows.specs.Moment.{Moment};
-ghost use Rattle.moo_store_rows.specs.Place.{Works};
+ghost use Rattle.moo_store.specs.Moment.{Moment};
+ghost use Rattle.moo_store.specs.Place.{Works};
 ghost use Rattle.moo_store.specs.Moves.{Stands};
 ghost use Rattle.moo_run.specs.Texts.{OpenedBy, LacksBy};
 ghost use Rattle.moo_run.specs.Run.{lost_status, course_status, changes_world, ComesOf, EndsTask, EndsText, TellsLack};

@@ -6,7 +6,7 @@ use Rattle.sqlite_wal.specs.Recovery.{Image}
 use Rattle.sqlite.{specs.State.{HasCleanDisk}, specs.Files.{file_state}}
 use Rattle.moo_rows.specs.Maps.{Maps}
 use Rattle.moo_world.{specs.declared.call.Batch.{Batch}, specs.Rows.{IsGood}, specs.Judge.{after, is_for}}
-use Rattle.moo_store_rows.{specs.Moment.{Moment, BecomesPresent, IsSpared, LeadsByEach, rows_alone, state_of_moment}, specs.Place.{MayBeLeft}}
+use Rattle.moo_store.{specs.Moment.{Moment, BecomesPresent, IsSpared, LeadsByEach, rows_alone, state_of_moment}, specs.Place.{MayBeLeft}}
 use Rattle.moo_cli.{specs.Tasks.{NamesTask}, specs.declared.task.Task.{Task}}
 use Rattle.moo_files.{specs.Contents.{HoldsMoment}, specs.Opened.{Database as a_database}, specs.declared.remains.Remains.{Remains}}
 use Rattle.moo_laws.specs.NobodyRises.{NoWizardActs, KeepsRights}

@@ -5,7 +5,7 @@ use Rattle.sqlite_disk.specs.declared.Disk.{Ghosts}
 use Rattle.sqlite_wal.specs.Recovery.{Image}
 use Rattle.sqlite_store.specs.declared.store.FileStore.{FileStore}
 use Rattle.sqlite.{specs.State.{State as Database, HasCleanDisk}, specs.Tree.{Trees}, specs.Held.{Held, AreDatabases}, specs.Files.{file_state}}
-use Rattle.moo_store_rows.{specs.Moment.{Moment, IsSpared}, specs.Place.{Place, MayBeLeft, CrashLeavesAt, moment_of}}
+use Rattle.moo_store.{specs.Moment.{Moment, IsSpared}, specs.Place.{Place, MayBeLeft, CrashLeavesAt, moment_of}}
 use Rattle.moo_cli.{specs.Tasks.{NamesTask}, specs.declared.task.Task.{Task}, specs.declared.task.Action.TheVariants.{Serve}, specs.declared.task.Service.{Service}}
 use Rattle.moo_files.{specs.Contents.{HoldsSuch, HoldsMoment, IsLeftBy}, specs.Remains.{IsCleanRemains, KeepsSuch}, specs.Stop.{DiskLeaves}, specs.declared.remains.Remains.{Remains}, proofs.AgainLemmas.{held_after}, proofs.RemainsLemmas.{keeps_closed}, proofs.StopLemmas.{left_by_disk, places_are_databases, spared_are_databases}}
 use Rattle.moo_files.specs.declared.remains.Remains.TheVariants as remains

@@ -4,7 +4,7 @@ use Rattle.moo_world.specs.Judge.{Verdict, Accepted, Refused, NoRoom, Stale, jud
 use Rattle.moo_world.specs.Between.{BatchLeads}
 use Rattle.moo_world.specs.Rows.{IsGood}
 use Rattle.moo_rows.specs.Maps.{Maps}
-use Rattle.moo_store_rows.{specs.Moment.{Moment, AllCells, KeepsCellsAt, state_of_moment, rows_alone, LeadsByEach}, specs.Place.{Place, Works, Failed, Between, MayBeLeft, moment_of}}
+use Rattle.moo_store.{specs.Moment.{Moment, AllCells, KeepsCellsAt, state_of_moment, rows_alone, LeadsByEach}, specs.Place.{Place, Works, Failed, Between, MayBeLeft, moment_of}}
 use Rattle.std.proofs.Common.{inl}
 use Rattle.std.specs.List.{filter}
 use Rattle.std.specs.Prelude.{Option, Some, None, IsSome, false, length, if◌then◌else◌}

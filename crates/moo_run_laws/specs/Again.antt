@@ -10,7 +10,7 @@ use Rattle.sqlite.specs.State.{HasCleanDisk}
 use Rattle.sqlite.specs.Held.{Held}
 use Rattle.sqlite.specs.Files.{file_state, image_of}
 use Rattle.sqlite.specs.declared.file.Leftover.TheVariants as left
-use Rattle.moo_store_rows.specs.Moment.{Moment, BecomesPresent}
+use Rattle.moo_store.specs.Moment.{Moment, BecomesPresent}
 use Rattle.moo_files.specs.Contents.{HoldsSuch, HoldsMoment, HasNoSums, IsLeftBy}
 use Rattle.moo_files.specs.Remains.{IsCleanRemains}
 use Rattle.moo_files.specs.Stop.{LeftStoreLeaves, BytesLeave}

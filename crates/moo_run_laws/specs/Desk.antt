@@ -19,7 +19,7 @@ use Rattle.moo_desk.specs.Deeds.{IsFresh}
 use Rattle.moo_desk.specs.Exchange.{Begins, IsHandedOut}
 use Rattle.moo_desk.specs.Later.{IsGathered, IsLater}
 use Rattle.moo_desk.specs.Read.{Gave}
-use Rattle.moo_store_rows.specs.Place.{Place}
+use Rattle.moo_store.specs.Place.{Place}
 use Rattle.moo_http.specs.Traffic.{Traffic, traffic_of}
 use Rattle.moo_http.specs.Turns.{Exchanged}
 use Rattle.moo_http.specs.Through.{FailedThrough}

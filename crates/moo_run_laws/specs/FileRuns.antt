@@ -4,8 +4,8 @@ use Rattle.sqlite_disk.specs.declared.Disk.{Ghosts}
 use Rattle.sqlite_wal.specs.Recovery.{Image}
 use Rattle.sqlite.specs.State.{HasCleanDisk}
 use Rattle.sqlite.specs.Files.{file_state}
-use Rattle.moo_store_rows.specs.Moment.{Moment, IsSpared}
-use Rattle.moo_store_rows.specs.Place.{Place, Works, MayBeLeft}
+use Rattle.moo_store.specs.Moment.{Moment, IsSpared}
+use Rattle.moo_store.specs.Place.{Place, Works, MayBeLeft}
 use Rattle.moo_files.specs.Contents.{HoldsMoment, IsLeftBy}
 use Rattle.moo_files.specs.Remains.{IsCleanRemains}
 use Rattle.moo_files.specs.Stop.{DiskLeaves}

@@ -4,8 +4,8 @@ use Rattle.sqlite_disk.specs.declared.Disk.{Ghosts}
 use Rattle.sqlite_wal.specs.Recovery.{Image}
 use Rattle.sqlite.specs.Files.{file_state}
 use Rattle.moo_world.specs.declared.call.Batch.{Batch}
-use Rattle.moo_store_rows.specs.Moment.{Moment, BecomesPresent, IsSpared, LeadsByEach}
-use Rattle.moo_store_rows.specs.Place.{MayBeLeft}
+use Rattle.moo_store.specs.Moment.{Moment, BecomesPresent, IsSpared, LeadsByEach}
+use Rattle.moo_store.specs.Place.{MayBeLeft}
 use Rattle.moo_cli.specs.declared.task.Task.{Task}
 use Rattle.moo_cli.specs.Tasks.{NamesTask}
 use Rattle.moo_run.specs.Run.{RunsIn}

@@ -6,7 +6,7 @@ ghost use Rattle.sqlite_wal.specs.Recovery.{Image};
 ghost use Rattle.moo_world.specs.declared.call.Batch.{Batch};
 ghost use Rattle.moo_world.specs.Judge.{after, is_for};
 ghost use Rattle.moo_world.specs.Rows.{IsGood};
-ghost use Rattle.moo_store_rows.specs.Moment.{Moment, state_of_moment};
+ghost use Rattle.moo_store.specs.Moment.{Moment, state_of_moment};
 ghost use Rattle.moo_files.specs.Contents.{HoldsMoment};
 ghost use Rattle.moo_run_laws.specs.FileRuns.{FileRun};
 ghost use Rattle.moo_run_laws.specs.InTurn.{RunInTurn, LeadInTurn};

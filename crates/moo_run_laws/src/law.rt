@@ -8,7 +8,7 @@ ghost use Rattle.sqlite_wal.specs.Recovery.{Image};
 ghost use Rattle.moo_cli.specs.declared.task.Task.{Task};
 ghost use Rattle.moo_cli.specs.declared.task.Service.{Service};
 ghost use Rattle.moo_cli.specs.declared.task.Action.TheVariants.{Serve};
-ghost use Rattle.moo_store_rows.specs.Moment.{Moment};
+ghost use Rattle.moo_store.specs.Moment.{Moment};
 ghost use Rattle.moo_files.specs.Remains.{IsCleanRemains};
 ghost use Rattle.moo_run.specs.Ends.{IsClosedEnd};
 ghost use Rattle.moo_run.specs.Run.{RunsIn};

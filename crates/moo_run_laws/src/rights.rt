@@ -3,7 +3,7 @@
 ghost use Rattle.std.specs.Prelude.{List};
 ghost use Rattle.moo_world.specs.declared.call.Batch.{Batch};
 ghost use Rattle.moo_world.specs.Rows.{IsGood};
-ghost use Rattle.moo_store_rows.specs.Moment.{Moment, state_of_moment, LeadsByEach};
+ghost use Rattle.moo_store.specs.Moment.{Moment, state_of_moment, LeadsByEach};
 ghost use Rattle.moo_laws.specs.NobodyRises.{NoWizardActs, KeepsRights};
 
 /// If none of these batches is a wizard's at its turn, nobody rises by them. Nothing is asked of what they give.

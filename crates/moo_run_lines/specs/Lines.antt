@@ -9,8 +9,8 @@ use Rattle.moo_damage.specs.declared.kind.Key.{Key}
 use Rattle.moo_damage.specs.Words.{kind_text, key_text}
 use Rattle.moo_text.specs.declared.fault.TextFault.{TextFault}
 use Rattle.moo_text.specs.declared.fault.TextFault.TheVariants as text_fault
-use Rattle.moo_store_rows.specs.declared.fault.StoreFault.{StoreFault}
-use Rattle.moo_store_rows.specs.declared.fault.StoreFault.TheVariants as store_fault
+use Rattle.moo_store.specs.declared.fault.StoreFault.{StoreFault}
+use Rattle.moo_store.specs.declared.fault.StoreFault.TheVariants as store_fault
 use Rattle.moo_store.specs.declared.dumping.DumpFault.{DumpFault}
 use Rattle.moo_store.specs.declared.dumping.DumpFault.TheVariants as dump_fault
 use Rattle.moo_http.specs.declared.service.ServiceFault.{ServiceFault}

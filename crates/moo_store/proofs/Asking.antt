@@ -1,6 +1,5 @@
 -- What the asking of a text answers.
-use Rattle.moo_store.{proofs.Words.{◌≡◌, ℕ, Bool, List, Option, Result, Ok, Err, refl, ap, subst, sym, false, IsTrue, Ghosts, Batch, Maps, state_of, TextFault, Answer, Reply, World, answer_to, StoreFault, Closed}, specs.Moves.{Stands, MayReplyAsked, AsksAt}, specs.Stopping.{AnswersBy}, specs.World.{state_in}, specs.declared.course.Course.{Course}, proofs.Texts.{answers-follow}}
-use Rattle.moo_store_rows.{specs.Moment.{Moment, state_of_moment}, specs.Place.{Place, Works, Failed, Between}}
+use Rattle.moo_store.{proofs.Words.{◌≡◌, ℕ, Bool, List, Option, Result, Ok, Err, refl, ap, subst, sym, false, IsTrue, Ghosts, Batch, Maps, state_of, TextFault, Answer, Reply, World, answer_to, StoreFault, Closed}, specs.Moves.{Stands, MayReplyAsked, AsksAt}, specs.Stopping.{AnswersBy}, specs.World.{state_in}, specs.declared.course.Course.{Course}, proofs.Texts.{answers-follow}, specs.Moment.{Moment, state_of_moment}, specs.Place.{Place, Works, Failed, Between}}
 use Rattle.std.specs.Result.{IsOkAnd, IsErrOf}
 
 -- ---- one batch

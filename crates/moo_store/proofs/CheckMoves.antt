@@ -1,7 +1,6 @@
 -- Where a check leaves a World.
-use Rattle.moo_store.{proofs.Words.{◌≡◌, ◌≢◌, ◌∙◌, inl, inr, ℕ, true, false, Some, None, Result, Ok, Err, IfErr, MatchResult, IsTrue, refl, ap, Ghosts, HasCleanDisk, Maps, Tables, Rests, World, store_of, StoreFault, Store, OutOfMemory, Closed}, specs.Moves.{Stands, MovesBy}, specs.Runs.{LeavesChecked, fails_by}, proofs.Moving.{moves_from}, proofs.Verdicts.{not_both}}
-use Rattle.moo_store_rows.{specs.Checked.{Checks, KeepsTables}, specs.Moment.{AllCells, Moment, HasAtRest}, specs.Place.{Place, Works, Failed, Between, CrashLeavesAt}}
-use Rattle.moo_store_rows.specs.declared.fault.StoreFault.TheVariants.{Damaged, NewerVersion}
+use Rattle.moo_store.{proofs.Words.{◌≡◌, ◌≢◌, ◌∙◌, inl, inr, ℕ, true, false, Some, None, Result, Ok, Err, IfErr, MatchResult, IsTrue, refl, ap, Ghosts, HasCleanDisk, Maps, Tables, Rests, World, store_of, StoreFault, Store, OutOfMemory, Closed}, specs.Moves.{Stands, MovesBy}, specs.Runs.{LeavesChecked, fails_by}, proofs.Moving.{moves_from}, proofs.Verdicts.{not_both}, specs.Checked.{Checks, KeepsTables}, specs.Moment.{AllCells, Moment, HasAtRest}, specs.Place.{Place, Works, Failed, Between, CrashLeavesAt}}
+use Rattle.moo_store.specs.declared.fault.StoreFault.TheVariants.{Damaged, NewerVersion}
 use Rattle.std.specs.Prelude.{Option}
 use Rattle.sqlite.specs.State.{State as Database}
 use Rattle.moo_rows.specs.Maps.{Held}

@@ -1,6 +1,5 @@
 -- What committing an accepted batch makes of its World.
-use Rattle.moo_store.{proofs.Words.{◌≡◌, ◌∙◌, inl, inr, Bool, true, false, Some, List, Result, Ok, Err, IfOk, MatchResult, refl, sym, ap, subst, Ghosts, IsGood, Head, state_of, Batch, judge, left_by, Accepted, Maps, AreChanges, Value, Reply, reply_of, World, store_of, StoreFault, Store, answer_to, Prints, says_accepted}, specs.Committing.{CommitsTo}, specs.Moves.{Stands, MovesBy, VerdictLeads, StopsStore, RunsAt, FailsRun}, proofs.Moving.{moves_as, moves_from, works_at, stands_alone}}
-use Rattle.moo_store_rows.{specs.Moment.{Moment, state_of_moment, rows_alone, KeepsCellsAt, LeadsBy}, specs.Place.{Place, Works, Failed, Between, IsAtPlace}, specs.Committing.{CommitsCells}, proofs.Committed.{clean_of, cause_of}}
+use Rattle.moo_store.{proofs.Words.{◌≡◌, ◌∙◌, inl, inr, Bool, true, false, Some, List, Result, Ok, Err, IfOk, MatchResult, refl, sym, ap, subst, Ghosts, IsGood, Head, state_of, Batch, judge, left_by, Accepted, Maps, AreChanges, Value, Reply, reply_of, World, store_of, StoreFault, Store, answer_to, Prints, says_accepted}, specs.Committing.{CommitsTo}, specs.Moves.{Stands, MovesBy, VerdictLeads, StopsStore, RunsAt, FailsRun}, proofs.Moving.{moves_as, moves_from, works_at, stands_alone}, specs.Moment.{Moment, state_of_moment, rows_alone, KeepsCellsAt, LeadsBy}, specs.Place.{Place, Works, Failed, Between, IsAtPlace}, specs.CommittingCells.{CommitsCells}, proofs.Committed.{clean_of, cause_of}}
 use Rattle.sqlite.specs.declared.error.Error.{Error}
 use Rattle.moo_memory.specs.declared.changes.Changes.{Changes}
 use Rattle.moo_tables_rows.specs.declared.cells.CellChanges.{CellChanges}

@@ -1,6 +1,5 @@
 -- Batches of a list that are run one after another, from place to place.
-use Rattle.moo_store.{proofs.Words.{◌≡◌, ◌∙◌, inl, inr, ℕ, suc, ◌+◌, ◌<◌, true, false, List, [], ◌∷◌, ◌++◌, append_assoc, append-nil, length-append, take, take_more, drop, length, get_or, map, Option, IsSome, Result, Ok, Err, MatchStore, IsTrue, ⊤, refl, sym, ap, subst, subst₂, arith, Ghosts, HasCleanDisk, IsGood, Batch, Reply, answer_to, acknowledged, added, says_accepted, accepted, World, store_of, Turns, KeepsFaults, IsStopped, StoreFault, Store, Closed, OutOfMemory}, specs.Moves.{Stands, MovesBy, RunsAt, FailsRun}, specs.Runs.{EndsList, RunsEach}, proofs.Going.{turns-push}, proofs.Moving.{stands_somewhere, moves_as, moves_none, moves_then}, proofs.Leading.{turns_lead}, proofs.Stopped.{faults_same, faults_then, stopped_since}}
-use Rattle.moo_store_rows.{specs.Moment.{AllCells, Moment, KeepsCellsAt, LeadsByEach}, specs.Place.{Place, Works, Failed, Between, moment_of, has_failed}, proofs.Moments.{some_cells, kept_cells, cells_at_rest}}
+use Rattle.moo_store.{proofs.Words.{◌≡◌, ◌∙◌, inl, inr, ℕ, suc, ◌+◌, ◌<◌, true, false, List, [], ◌∷◌, ◌++◌, append_assoc, append-nil, length-append, take, take_more, drop, length, get_or, map, Option, IsSome, Result, Ok, Err, MatchStore, IsTrue, ⊤, refl, sym, ap, subst, subst₂, arith, Ghosts, HasCleanDisk, IsGood, Batch, Reply, answer_to, acknowledged, added, says_accepted, accepted, World, store_of, Turns, KeepsFaults, IsStopped, StoreFault, Store, Closed, OutOfMemory}, specs.Moves.{Stands, MovesBy, RunsAt, FailsRun}, specs.Runs.{EndsList, RunsEach}, proofs.Going.{turns-push}, proofs.Moving.{stands_somewhere, moves_as, moves_none, moves_then}, proofs.Leading.{turns_lead}, proofs.Stopped.{faults_same, faults_then, stopped_since}, specs.Moment.{AllCells, Moment, KeepsCellsAt, LeadsByEach}, specs.Place.{Place, Works, Failed, Between, moment_of, has_failed}, proofs.Moments.{some_cells, kept_cells, cells_at_rest}}
 use Rattle.std.{proofs.Math.Seq.{drop-append_seam, drop-cons, take-append_seam}, proofs.lemmas.List.{map-append}}
 use Rattle.sqlite.specs.declared.error.Error.{Error}
 use Rattle.moo_text.specs.declared.next.Next.TheVariants.{Batch as Whole}

@@ -1,7 +1,7 @@
 -- Where any World stands, and what moves and stays together come to.
 use Rattle.moo_store.proofs.Words.{◌≡◌, ◌∙◌, Bool, true, false, IsTrue, refl, sym, subst, Ghosts, HasCleanDisk, IsGood, World, store_of}
 use Rattle.moo_store.specs.Moves.{Stands, MovesBy}
-use Rattle.moo_store_rows.{specs.Moment.{Moment, rows_alone}, specs.Place.{Place, Works, Failed, Between}}
+use Rattle.moo_store.{specs.Moment.{Moment, rows_alone}, specs.Place.{Place, Works, Failed, Between}}
 use Rattle.moo_rows.specs.Opening.{opening_maps}
 use Rattle.moo_world.proofs.Shown.OpeningRows.{opening-good}
 

@@ -1,6 +1,5 @@
 -- Where runs of batches leave a World.
-use Rattle.moo_store.{proofs.Words.{◌≡◌, inl, inr, true, false, List, [], ◌∷◌, refl, sym, ap, ◌∙◌, Batch, Verdict, Accepted, Refused, NoRoom, Stale, judge, left_by, after, Next, Answer, reply_of, answer_of, state_behind, Turns, is_plain, replies, answers_asked, batches_of}, specs.Moves.{VerdictLeads, RunsAt, AsksAt, state_at}}
-use Rattle.moo_store_rows.{specs.Moment.{Moment, state_of_moment}, specs.Place.{Place, Works, Failed, Between}}
+use Rattle.moo_store.{proofs.Words.{◌≡◌, inl, inr, true, false, List, [], ◌∷◌, refl, sym, ap, ◌∙◌, Batch, Verdict, Accepted, Refused, NoRoom, Stale, judge, left_by, after, Next, Answer, reply_of, answer_of, state_behind, Turns, is_plain, replies, answers_asked, batches_of}, specs.Moves.{VerdictLeads, RunsAt, AsksAt, state_at}, specs.Moment.{Moment, state_of_moment}, specs.Place.{Place, Works, Failed, Between}}
 use Rattle.std.specs.List.{AllByRecursion}
 use Rattle.moo_text.{specs.declared.next.Next.TheVariants.{Batch as Whole, Malformed, Truncated, End}, specs.declared.reply.Reply.TheVariants.{NoMemory}}
 use Rattle.moo_text.specs.declared.reply.Answer.TheVariants as answer

@@ -1,6 +1,5 @@
 -- What a crash left of a World, opened again.
-use Rattle.moo_store.{proofs.Words.{◌≡◌, ◌∙◌, Some, IsSome, refl, sym, ap, subst, subst₂, Ghosts, Held, state, HasCleanDisk, IsGood, state_of, World, store_of, StoreFault, MayOpenAs, Rests, ShowsRows, IsOfStore, unread_of, Stands, AllCells, Moment, BecomesPresent, Place, Works, MayBeLeft, moment_of}, specs.Opening.{IsAdopted}}
-use Rattle.moo_store_rows.{specs.Opening.{IsUnadopted}, proofs.OpenLemmas.{refused_of_store}}
+use Rattle.moo_store.{proofs.Words.{◌≡◌, ◌∙◌, Some, IsSome, refl, sym, ap, subst, subst₂, Ghosts, Held, state, HasCleanDisk, IsGood, state_of, World, store_of, StoreFault, MayOpenAs, Rests, ShowsRows, IsOfStore, unread_of, Stands, AllCells, Moment, BecomesPresent, Place, Works, MayBeLeft, moment_of}, specs.Opening.{IsAdopted}, specs.OpeningRows.{IsUnadopted}, proofs.OpenLemmas.{refused_of_store}}
 use Rattle.moo_tables.proofs.ReopenLemmas.{opened}
 use Rattle.moo_cells.{proofs.CellsLemmas.{one_good}, proofs.GoodRows.{good_within}}
 

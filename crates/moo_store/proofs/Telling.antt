@@ -1,6 +1,6 @@
 -- What the answers to a text are, if it stops, and if it is rehearsed.
 use Rattle.moo_store.{proofs.Words.{◌≡◌, Bool, true, false, if◌then◌else◌, List, [], ◌∷◌, ◌++◌, refl, sym, ap, subst, ◌∙◌, Next, Answer, judge, state_behind, reply_of, State, Turns, is_plain, says_accepted, AreAccepted, EndAtFirst, up_to_first, replies}, specs.Moves.{RunsAt, state_at}, specs.Rehearsed.{RehearsesAt}, proofs.Following.{turns-follow}, proofs.Standing.{plain_run}}
-use Rattle.moo_store_rows.specs.Place.{Place}
+use Rattle.moo_store.specs.Place.{Place}
 use Rattle.std.specs.List.{AllByRecursion}
 use Rattle.moo_text.{specs.declared.next.Next.TheVariants.{Batch as Whole, Malformed, Truncated, End}, specs.declared.reply.Reply.TheVariants.{Accepted, Refused, Full, Stale, NoMemory}}
 use Rattle.moo_text.specs.declared.reply.Answer.TheVariants as answer

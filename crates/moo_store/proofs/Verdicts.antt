@@ -1,6 +1,6 @@
 -- Where a World stands after a batch that wasn't committed.
 use Rattle.moo_store.{proofs.Words.{◌≡◌, ◌∙◌, inl, inr, Bool, true, false, [], ◌∷◌, refl, sym, ap, subst, Ghosts, Batch, Verdict, Accepted, judge, state_of, Reply, IsRun, reply_of, acknowledged, World, Maps, Moment, Place, Stands, MovesBy, RunsAt, VerdictLeads}, proofs.Moving.{moves_from}}
-use Rattle.moo_store_rows.specs.Place as place
+use Rattle.moo_store.specs.Place as place
 use Rattle.moo_text.specs.declared.reply.Answer.TheVariants as answer
 use Rattle.moo_text.specs.declared.reply.Reply.TheVariants as reply
 

@@ -7,11 +7,11 @@ use Rattle.moo_value.specs.declared.value.Value.{Value}
 use Rattle.moo_text.specs.declared.reply.Reply.{Reply}
 use Rattle.moo_text.specs.declared.reply.Reply.TheVariants.{Accepted}
 use Rattle.moo_tables_rows.specs.declared.cells.CellChanges.{CellChanges}
-use Rattle.moo_store_rows.specs.Committing.{CommitsCells}
-use Rattle.moo_store_rows.specs.Moment.{Moment, KeepsCellsAt}
-use Rattle.moo_store_rows.specs.Place.{Place, Works, Failed, Between, moment_of}
-use Rattle.moo_store_rows.specs.declared.fault.StoreFault.{StoreFault}
-use Rattle.moo_store_rows.specs.declared.fault.StoreFault.TheVariants.{Store}
+use Rattle.moo_store.specs.CommittingCells.{CommitsCells}
+use Rattle.moo_store.specs.Moment.{Moment, KeepsCellsAt}
+use Rattle.moo_store.specs.Place.{Place, Works, Failed, Between, moment_of}
+use Rattle.moo_store.specs.declared.fault.StoreFault.{StoreFault}
+use Rattle.moo_store.specs.declared.fault.StoreFault.TheVariants.{Store}
 
 -- the changes were committed, and the reply is this; or the store failed
 abbrev pub CommitsAs : List Value → Changes → Moment → Moment → Result Reply StoreFault → Place → Type 0

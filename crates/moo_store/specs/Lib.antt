@@ -1,3 +1,15 @@
+pub mod Printed
+pub mod States
+pub mod Current
+pub mod Untouched
+pub mod Moment
+pub mod NewTables
+pub mod Place
+pub mod Stopped
+pub mod CommittingCells
+pub mod OpeningRows
+pub mod Reading
+pub mod Checked
 pub mod Kept
 pub mod Answered
 pub mod World

@@ -12,13 +12,13 @@ use Rattle.moo_tables_rows.specs.Inside.{RestsAt}
 use Rattle.moo_tables_rows.specs.Cause.{StopsChange}
 use Rattle.moo_store.specs.Kept.{World}
 use Rattle.moo_store.specs.Opening.{Adoption}
-use Rattle.moo_store_rows.specs.Moment.{Moment, rows_alone}
-use Rattle.moo_store_rows.specs.Place.{Works}
-use Rattle.moo_store_rows.specs.NewTables.{LeavesAsMade, IsMadeOf}
+use Rattle.moo_store.specs.Moment.{Moment, rows_alone}
+use Rattle.moo_store.specs.Place.{Works}
+use Rattle.moo_store.specs.NewTables.{LeavesAsMade, IsMadeOf}
 use Rattle.moo_store.specs.Moves.{Stands}
 use Rattle.moo_store.specs.World.{store_of}
-use Rattle.moo_store_rows.specs.declared.fault.StoreFault.{StoreFault}
-use Rattle.moo_store_rows.specs.declared.fault.StoreFault.TheVariants.{Store, OutOfMemory}
+use Rattle.moo_store.specs.declared.fault.StoreFault.{StoreFault}
+use Rattle.moo_store.specs.declared.fault.StoreFault.TheVariants.{Store, OutOfMemory}
 
 -- the fault of a database that has a table, an index or a view already
 abbrev pub name_taken : StoreFault

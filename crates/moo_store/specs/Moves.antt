@@ -11,11 +11,11 @@ use Rattle.moo_text.specs.declared.reply.Answer.{Answer}
 use Rattle.moo_text.specs.declared.reply.Answer.TheVariants as answer
 use Rattle.moo_text.specs.declared.reply.Reply.{Reply}
 use Rattle.moo_text.specs.declared.reply.Reply.TheVariants.{NoMemory}
-use Rattle.moo_store_rows.specs.Moment.{Moment, state_of_moment, LeadsBy, HasAtRest}
-use Rattle.moo_store_rows.specs.Place.{Place, Works, Failed, Between, moment_of, has_failed, MayBeLeft, CrashLeavesAt, IsOpenAt}
-use Rattle.moo_store_rows.specs.Stopped.{IsStopped}
-use Rattle.moo_store_rows.specs.declared.fault.StoreFault.{StoreFault}
-use Rattle.moo_store_rows.specs.declared.fault.StoreFault.TheVariants.{Store, Closed}
+use Rattle.moo_store.specs.Moment.{Moment, state_of_moment, LeadsBy, HasAtRest}
+use Rattle.moo_store.specs.Place.{Place, Works, Failed, Between, moment_of, has_failed, MayBeLeft, CrashLeavesAt, IsOpenAt}
+use Rattle.moo_store.specs.Stopped.{IsStopped}
+use Rattle.moo_store.specs.declared.fault.StoreFault.{StoreFault}
+use Rattle.moo_store.specs.declared.fault.StoreFault.TheVariants.{Store, Closed}
 use Rattle.moo_store.specs.Answered.{reply_of, answer_of, IsRun}
 use Rattle.moo_store.specs.Kept.{World}
 use Rattle.moo_store.specs.World.{store_of}

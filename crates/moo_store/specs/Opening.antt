@@ -6,11 +6,11 @@ use Rattle.sqlite.specs.Store.{Ghosts}
 use Rattle.moo_tables_rows.specs.Tables.{Tables}
 use Rattle.moo_tables_rows.specs.Inside.{Rests}
 use Rattle.moo_cells.specs.Shows.{ShowsRows}
-use Rattle.moo_store_rows.specs.Current.{unread_of}
-use Rattle.moo_store_rows.specs.Moment.{Moment, rows_alone, BecomesPresent}
-use Rattle.moo_store_rows.specs.Place.{Works}
-use Rattle.moo_store_rows.specs.Opening.{Adopts, HasOthers, IsUnadopted}
-use Rattle.moo_store_rows.specs.declared.fault.StoreFault.{StoreFault}
+use Rattle.moo_store.specs.Current.{unread_of}
+use Rattle.moo_store.specs.Moment.{Moment, rows_alone, BecomesPresent}
+use Rattle.moo_store.specs.Place.{Works}
+use Rattle.moo_store.specs.OpeningRows.{Adopts, HasOthers, IsUnadopted}
+use Rattle.moo_store.specs.declared.fault.StoreFault.{StoreFault}
 use Rattle.moo_store.specs.Kept.{World}
 use Rattle.moo_store.specs.Moves.{Stands}
 use Rattle.moo_store.specs.World.{store_of}

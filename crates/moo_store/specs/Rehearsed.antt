@@ -5,8 +5,8 @@ use Rattle.moo_rows.specs.Maps.{Held, coded_held}
 use Rattle.moo_world.specs.declared.call.Batch.{Batch}
 use Rattle.moo_text.specs.declared.reply.Answer.{Answer}
 use Rattle.moo_text.specs.declared.reply.Answer.TheVariants as answer
-use Rattle.moo_store_rows.specs.Moment.{rows_alone}
-use Rattle.moo_store_rows.specs.Place.{Place, Works, Failed, Between}
+use Rattle.moo_store.specs.Moment.{rows_alone}
+use Rattle.moo_store.specs.Place.{Place, Works, Failed, Between}
 use Rattle.moo_store.specs.Moves.{RunsAt}
 
 -- A rehearsal, as contracts see it: the rows in memory that its batches change.

@@ -4,7 +4,7 @@ use Rattle.sqlite.specs.State.{HasCleanDisk}
 use Rattle.sqlite.specs.Held.{Held, state}
 use Rattle.sqlite.specs.Store.{Ghosts}
 use Rattle.moo_tables_rows.specs.Inside.{MayOpenAs}
-use Rattle.moo_store_rows.specs.Place.{Place, moment_of}
+use Rattle.moo_store.specs.Place.{Place, moment_of}
 use Rattle.moo_store.specs.Kept.{World}
 use Rattle.moo_store.specs.Moves.{Stands}
 use Rattle.moo_store.specs.Opening.{Adoption, Adopting}

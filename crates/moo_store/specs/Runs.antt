@@ -4,9 +4,9 @@ use Rattle.moo_world.specs.declared.call.Batch.{Batch}
 use Rattle.moo_text.specs.declared.next.Next.TheVariants.{Batch as Whole}
 use Rattle.moo_text.specs.declared.reply.Reply.{Reply}
 use Rattle.moo_text.specs.declared.reply.Answer.TheVariants as answer
-use Rattle.moo_store_rows.specs.Place.{Place, Works, Between, has_failed}
-use Rattle.moo_store_rows.specs.declared.fault.StoreFault.{StoreFault}
-use Rattle.moo_store_rows.specs.declared.fault.StoreFault.TheVariants.{Store, Damaged, NewerVersion, OutOfMemory, Closed}
+use Rattle.moo_store.specs.Place.{Place, Works, Between, has_failed}
+use Rattle.moo_store.specs.declared.fault.StoreFault.{StoreFault}
+use Rattle.moo_store.specs.declared.fault.StoreFault.TheVariants.{Store, Damaged, NewerVersion, OutOfMemory, Closed}
 use Rattle.moo_store.specs.Turns.{Turns}
 use Rattle.moo_store.specs.Moves.{RunsAt}
 

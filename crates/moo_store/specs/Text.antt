@@ -9,8 +9,8 @@ use Rattle.moo_text.specs.declared.reply.Reply.{Reply}
 use Rattle.moo_text.specs.declared.reply.Reply.TheVariants.{Accepted, Refused, Full, Stale, NoMemory}
 use Rattle.moo_world.specs.Judge.{State, judge}
 use Rattle.moo_store.specs.Answered.{reply_of, answer_of, state_behind, acknowledged}
-use Rattle.moo_store_rows.specs.declared.fault.StoreFault.{StoreFault}
-use Rattle.moo_store_rows.specs.declared.fault.StoreFault.TheVariants.{OutOfMemory, Closed}
+use Rattle.moo_store.specs.declared.fault.StoreFault.{StoreFault}
+use Rattle.moo_store.specs.declared.fault.StoreFault.TheVariants.{OutOfMemory, Closed}
 
 -- the answer to a batch that a World ran or was asked
 abbrev pub answer_to : Result Reply StoreFault → Answer

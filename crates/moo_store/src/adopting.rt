@@ -4,8 +4,9 @@ ghost use Rattle.std.specs.Prelude.{◌≡◌, false};
 ghost use Rattle.sqlite.specs.Held.{state};
 ghost use Rattle.moo_store.specs.Opening.{Adopting};
 
+use crate::fault::StoreFault;
+use crate::opening::open_rows;
 use crate::world::World;
-use moo_store_rows::{StoreFault, open_rows};
 use sqlite::{Alter, Connection};
 use std::alloc::Global;
 

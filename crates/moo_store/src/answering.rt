@@ -10,9 +10,9 @@ ghost use Rattle.moo_store.specs.Turns.{Turn};
 ghost use Rattle.moo_store.specs.Stopping.{AnswersBy};
 
 use crate::course::{Course, stops_after};
+use crate::fault::StoreFault;
 use crate::tally::Tally;
 use moo_batch::Witness;
-use moo_store_rows::StoreFault;
 use moo_text::{Answer, Feed, Marks, Next, Notes, Reply, TextFault, put_answer};
 use moo_world::Batch;
 use std::alloc::Global;

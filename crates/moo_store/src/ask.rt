@@ -1,7 +1,7 @@
 //! Asking a text of batches, which changes nothing.
 
 ghost use Rattle.std.specs.Prelude.{◌≡◌, false};
-ghost use Rattle.moo_store_rows.specs.Place.{Place};
+ghost use Rattle.moo_store.specs.Place.{Place};
 ghost use Rattle.moo_store.specs.Moves.{Stands, AsksAt};
 ghost use Rattle.moo_store.specs.Stopping.{AnswersBy, to_the_end};
 

@@ -1,13 +1,14 @@
 //! Whether the tables of a World still show its rows.
 
 ghost use Rattle.std.specs.Prelude.{◌≡◌};
-ghost use Rattle.moo_store_rows.specs.Checked.{KeepsTables, Checks};
+ghost use Rattle.moo_store.specs.Checked.{KeepsTables, Checks};
 ghost use Rattle.moo_store.specs.Moves.{MovesBy};
 ghost use Rattle.moo_store.specs.Runs.{LeavesChecked, fails_by};
 ghost use Rattle.moo_store.specs.World.{store_of};
 
+use crate::comparing::check_rows;
+use crate::fault::StoreFault;
 use crate::world::World;
-use moo_store_rows::{StoreFault, check_rows};
 use sqlite::Alter;
 
 /// Whether a World has failed by such a check: by every fault but out of memory.

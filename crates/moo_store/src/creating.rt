@@ -5,10 +5,10 @@ ghost use Rattle.sqlite.specs.Held.{state};
 ghost use Rattle.moo_rows.specs.Opening.{opening_maps};
 ghost use Rattle.moo_store.specs.Loading.{Loads};
 
+use crate::fault::StoreFault;
 use crate::loading::{TAKEN, is_new, load_in};
 use crate::world::World;
 use moo_memory::opening_world;
-use moo_store_rows::StoreFault;
 use moo_world::laws::good_opening;
 use sqlite::{Alter, Connection};
 use std::alloc::Global;

@@ -7,9 +7,9 @@ ghost use Rattle.moo_store.specs.Answered.{answer_of, answers_alone};
 ghost use Rattle.moo_store.specs.Seeing.{HasSeenEach, HasSeenPlace, HasSeenReply};
 ghost use Rattle.moo_store.specs.World.{state_in};
 
+use crate::fault::StoreFault;
 use crate::world::World;
 use moo_batch::Witness;
-use moo_store_rows::StoreFault;
 use moo_text::Reply;
 use moo_world::Batch;
 use sqlite::Alter;

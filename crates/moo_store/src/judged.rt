@@ -7,8 +7,8 @@ ghost use Rattle.moo_batch.specs.declared.judging.Verdict.TheVariants.{Accepted}
 ghost use Rattle.moo_world.specs.Judge.{state_of};
 ghost use Rattle.moo_world.specs.Rows.{IsGood};
 ghost use Rattle.moo_store.specs.Seeing.{HasSeenReply};
-ghost use Rattle.moo_store_rows.specs.Moment.{Moment};
-ghost use Rattle.moo_store_rows.specs.Place.{Works};
+ghost use Rattle.moo_store.specs.Moment.{Moment};
+ghost use Rattle.moo_store.specs.Place.{Works};
 ghost use Rattle.moo_store.specs.Moves.{RunsAt, MayReplyAsked};
 
 use moo_batch::{Verdict, Witness, judge};

@@ -13,8 +13,8 @@ ghost use Rattle.moo_store.specs.Turns.{Turns};
 ghost use Rattle.moo_store.specs.Stopping.{AreAccepted, EndAtFirst, up_to_first};
 ghost use Rattle.moo_store.specs.Rehearsed.{RehearsesAt};
 ghost use Rattle.moo_world.specs.Rows.{IsGood};
-ghost use Rattle.moo_store_rows.specs.Moment.{Moment, state_of_moment, LeadsByEach};
-ghost use Rattle.moo_store_rows.specs.Place.{Place, moment_of};
+ghost use Rattle.moo_store.specs.Moment.{Moment, state_of_moment, LeadsByEach};
+ghost use Rattle.moo_store.specs.Place.{Place, moment_of};
 ghost use Rattle.moo_store.specs.Kept.{World};
 ghost use Rattle.moo_store.specs.Moves.{Stands, RunsAt, AsksAt, state_at};
 

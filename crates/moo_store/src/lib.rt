@@ -1,4 +1,6 @@
 //! A world kept in the tables of a store.
+//!
+//! Its rows are read, compared, printed and committed here too.
 #![tactic(auto)]
 
 mod adopting;
@@ -6,14 +8,22 @@ mod answering;
 mod apply;
 mod ask;
 mod checking;
+mod columns;
+mod committing;
+mod comparing;
 mod course;
 mod creating;
 mod dumping;
 mod each;
+mod fault;
 mod judged;
 pub mod laws;
 mod loading;
+mod migrating;
+mod opening;
+mod printing;
 mod quiet;
+mod reading;
 mod rehearsing;
 mod reopening;
 mod surface;
@@ -26,8 +36,8 @@ pub use ask::ask_text;
 pub use course::Course;
 pub use creating::create_in;
 pub use dumping::DumpFault;
+pub use fault::StoreFault;
 pub use loading::load_in;
-pub use moo_store_rows::StoreFault;
 pub use quiet::NoNotes;
 pub use rehearsing::rehearse_text;
 pub use reopening::a_crash_is_taken_up;

@@ -6,9 +6,10 @@ ghost use Rattle.moo_world.specs.Rows.{IsGood};
 ghost use Rattle.moo_tables_rows.specs.Tables.{no_schema};
 ghost use Rattle.moo_store.specs.Loading.{Loads};
 
+use crate::fault::StoreFault;
+use crate::printing::print_all;
 use crate::world::World;
 use moo_memory::Flat;
-use moo_store_rows::{StoreFault, print_all};
 use moo_tables::create_in as create_tables;
 use sqlite::{Alter, Connection, Error, ErrorCode};
 use std::alloc::Global;

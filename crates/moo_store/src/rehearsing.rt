@@ -1,8 +1,8 @@
 //! Rehearsing a text of batches: what running it would answer, and nothing is committed.
 
 ghost use Rattle.std.specs.Prelude.{◌≡◌};
-ghost use Rattle.moo_store_rows.specs.Moment.{Moment, rows_alone};
-ghost use Rattle.moo_store_rows.specs.Place.{Place, Works, Failed};
+ghost use Rattle.moo_store.specs.Moment.{Moment, rows_alone};
+ghost use Rattle.moo_store.specs.Place.{Place, Works, Failed};
 ghost use Rattle.moo_store.specs.Moves.{Stands};
 ghost use Rattle.moo_store.specs.Stopping.{AnswersBy};
 ghost use Rattle.moo_store.specs.Rehearsed.{IsRehearsedAt, RehearsesAt};
@@ -48,7 +48,7 @@ impl Rehearsal {
     ghost use Rattle.moo_rows.specs.Maps.{Maps};
     ghost use Rattle.moo_memory.specs.Changes.{AreChanges};
     ghost use Rattle.moo_world.specs.Rows.{IsGood};
-    ghost use Rattle.moo_store_rows.specs.Place.{Place};
+    ghost use Rattle.moo_store.specs.Place.{Place};
     ghost use Rattle.moo_store.specs.Rehearsed.{IsRehearsedAt, RehearsesAt};
 
     /// Takes the rows out of a World, which has failed then. Nothing is asked of its store.

@@ -3,9 +3,9 @@
 ghost use Rattle.std.specs.Prelude.{IfOk, IfErr, IsSome};
 ghost use Rattle.sqlite.specs.State.{HasCleanDisk};
 ghost use Rattle.sqlite.specs.Held.{Held, state};
-ghost use Rattle.moo_store_rows.specs.Moment.{Moment, BecomesPresent};
-ghost use Rattle.moo_store_rows.specs.Opening.{IsOfStore};
-ghost use Rattle.moo_store_rows.specs.Place.{Place, Works, MayBeLeft};
+ghost use Rattle.moo_store.specs.Moment.{Moment, BecomesPresent};
+ghost use Rattle.moo_store.specs.OpeningRows.{IsOfStore};
+ghost use Rattle.moo_store.specs.Place.{Place, Works, MayBeLeft};
 ghost use Rattle.moo_store.specs.Kept.{World};
 ghost use Rattle.moo_store.specs.Moves.{Stands};
 ghost use Rattle.moo_store.specs.Opening.{Adoption};

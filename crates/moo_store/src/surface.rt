@@ -2,7 +2,7 @@
 //! `apply_until`, and looks at an object over its rows.
 
 ghost use Rattle.std.specs.Prelude.{◌≡◌, ◌⊎◌, [], false, ⊤, IsTrue, IfErr, IsErrOf, MatchResult, length, take};
-ghost use Rattle.moo_store_rows.specs.Stopped.{KeepsFaults};
+ghost use Rattle.moo_store.specs.Stopped.{KeepsFaults};
 ghost use Rattle.moo_store.specs.Answered.{acknowledged, added};
 ghost use Rattle.moo_store.specs.Moves.{MovesBy, RunsAt, FailsRun};
 ghost use Rattle.moo_store.specs.Runs.{RunsEach};
@@ -11,12 +11,12 @@ ghost use Rattle.moo_store.specs.World.{store_of, state_in, MatchStore};
 ghost use Rattle.moo_dump.specs.Look.{look_of};
 
 use crate::answering::answer_until;
+use crate::fault::StoreFault;
 use crate::quiet::NoNotes;
 use crate::tally::Tally;
 use crate::world::World;
 use moo_batch::Witness;
 use moo_dump::{Look, look};
-use moo_store_rows::StoreFault;
 use moo_text::{Notes, Reply, TextFault};
 use moo_value::ObjNo;
 use moo_world::Batch;

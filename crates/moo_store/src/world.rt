@@ -1,10 +1,13 @@
 //! A World: the rows in memory, over the tables of a store.
 
+use crate::committing::commit_cells;
+use crate::comparing::object_count;
+use crate::fault::StoreFault;
 use crate::judged::judged;
+use crate::printing::print_changes;
 use moo_batch::Witness;
 use moo_memory::{Changes, Flat, apply_changes};
 use moo_rows::Rows;
-use moo_store_rows::{StoreFault, commit_cells, object_count, print_changes};
 use moo_tables::CellChanges;
 use moo_text::Reply;
 use moo_world::{Answers, Batch};
@@ -47,13 +50,13 @@ impl<S: Alter + Drop> World<S> {
     ghost use Rattle.moo_world.specs.Rows.{IsGood};
     ghost use Rattle.moo_world.specs.ObjectLists.{objects_of};
     ghost use Rattle.moo_memory.specs.Changes.{AreChanges};
-    ghost use Rattle.moo_store_rows.specs.Printed.{Prints};
+    ghost use Rattle.moo_store.specs.Printed.{Prints};
     ghost use Rattle.moo_store.specs.Committing.{CommitsTo, CommitsInto};
     ghost use Rattle.moo_store.specs.Moves.{Stands, MovesBy, RunsAt, MayReplyAsked, FailsRun};
-    ghost use Rattle.moo_store_rows.specs.Moment.{Moment, HasAtRest};
-    ghost use Rattle.moo_store_rows.specs.Place as place;
+    ghost use Rattle.moo_store.specs.Moment.{Moment, HasAtRest};
+    ghost use Rattle.moo_store.specs.Place as place;
     ghost use Rattle.moo_batch.specs.Ticks.{NoneComeBack};
-    ghost use Rattle.moo_store_rows.specs.Stopped.{KeepsFaults};
+    ghost use Rattle.moo_store.specs.Stopped.{KeepsFaults};
     ghost use Rattle.moo_store.specs.Seeing.{HasSeenReply};
     ghost use Rattle.moo_store.specs.Stopping.{says_accepted};
     ghost use Rattle.moo_store.specs.Text.{answer_to};

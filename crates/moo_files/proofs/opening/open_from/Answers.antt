@@ -1,5 +1,5 @@
 use Rattle.moo_files.{specs.Causes.{StopsOver}, proofs.Words.{inl, inr, refl, subst, over_files, file_state, image_at, Adopts, store_of}, specs.Opened.{Nothing, Database, Unfit}, proofs.PresentLemmas.{sound_at, opens_at}, proofs.ContentsLemmas.{was_clean, rests_held, shows_held, left_none, empty_other, foreign_other, unsound_other, reads_ours, reads_something, own_tables, kept_or_migrated}, proofs.RefusalLemmas.{unfit_sound, unfit_of_store, refuses_unconnected, unconnected_cause, stops_over}}
-use Rattle.moo_store_rows.{specs.Opening.{AreMigrated, StopsOpening}, proofs.Causes.{says_more, says_of_store}, proofs.OpenLemmas.{refused_of_store}}
+use Rattle.moo_store.{specs.OpeningRows.{AreMigrated, StopsOpening}, proofs.Causes.{says_more, says_of_store}, proofs.OpenLemmas.{refused_of_store}}
 use Rattle.moo_files.proofs.opening.open_from.Goals as goal
 
 -- ---- a World was opened

@@ -1,5 +1,5 @@
 use Rattle.std.proofs.Common.{inl, refl}
-use Rattle.moo_store_rows.{specs.Moment.{Moment, AreTreesOf, IsSpared}, specs.States.{LeavesState}}
+use Rattle.moo_store.{specs.Moment.{Moment, AreTreesOf, IsSpared}, specs.States.{LeavesState}}
 use Rattle.moo_files.{specs.Contents.{HoldsSuch, IsKept}, proofs.StopLemmas.{such_by_bytes, state_is_database, spared_are_databases}}
 use Rattle.moo_files.proofs.stop.disk_leaves_what_was_kept.Goals as goal
 

@@ -1,7 +1,6 @@
-use Rattle.moo_store.{specs.Loading.{SurvivesAsMade, name_taken}, proofs.Words.{◌≡◌, ◌∙◌, IsTrue, Some, [], inl, inr, rules, refl, sym, ap, subst, state, HasCleanDisk, World, Moment, rows_alone}}
+use Rattle.moo_store.{specs.Loading.{SurvivesAsMade, name_taken}, proofs.Words.{◌≡◌, ◌∙◌, IsTrue, Some, [], inl, inr, rules, refl, sym, ap, subst, state, HasCleanDisk, World, Moment, rows_alone}, specs.NewTables.{RestsAsMade}, proofs.Opened.{has_no_tables, keeps_all, survives_all}, proofs.Committed.{shown_by}}
 use Rattle.std.proofs.lemmas.Bool.{true≢false}
 use Rattle.sqlite.{specs.declared.error.Error.TheVariants.{SqliteFailure}, specs.declared.error.ErrorCode.TheVariants.{NameTaken}}
-use Rattle.moo_store_rows.{specs.NewTables.{RestsAsMade}, proofs.Opened.{has_no_tables, keeps_all, survives_all}, proofs.Committed.{shown_by}}
 use Rattle.moo_tables_rows.{specs.Cells.{tables_with}, specs.Inside.{no_tables}}
 use Rattle.moo_store.proofs.loading.load_in.Goals as goal
 

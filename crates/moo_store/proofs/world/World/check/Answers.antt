@@ -1,5 +1,5 @@
 use Rattle.moo_store.{proofs.Words.{◌≡◌, true, refl, subst, state, stays, World, store_of, MovesBy}, specs.Runs.{LeavesChecked}, proofs.CheckMoves.{checked_moves, closed_check}}
-use Rattle.moo_store_rows.specs.Checked.{Checks, KeepsTables}
+use Rattle.moo_store.specs.Checked.{Checks, KeepsTables}
 use Rattle.moo_store.proofs.world.World.check.Goals as goal
 
 pub returns-clause-checks : goal.returns-clause-checks

@@ -1,0 +1,99 @@
+-- From what was read of a connection to what is opened.
+use Rattle.moo_store.{proofs.Words.{◌≡◌, ◌⊎◌, inl, inr, IsTrue, false, sym, ap, subst, ◌∙◌, Trees, Ghosts, Held, state, Maps, IsGood, state_of, Version, Tables, schema_of, Rests, RestsAt, HasTables, ReadsTables, FailsToRead, stays, clean_before, ShowsRows, Adopts, IsOfStore, TakesOver, StoreFault, IsEarlier}, specs.OpeningRows.{StopsOpening, IsUnadopted}, specs.States.{ShowsState}, proofs.Causes.{says_nothing, of_store}, proofs.Versions.{version_is}}
+use Rattle.sqlite.{specs.Effect.{Database as Content}, proofs.StateLemmas.{survives_then}, specs.State.{State as Database, HasCleanDisk, IsUnchanged, IsRolledBack, Survives}}
+use Rattle.moo_tables.proofs.ReadLemmas.{rests_on}
+use Rattle.moo_world.specs.Judge.{State}
+
+-- a refusal leaves the database as it was
+pub at_rest : (old new : Database) → (IsTrue old.is_open → old.now ≡ old.committed) → new.in_transaction ≡ false → IsUnchanged old new ⊎ IsRolledBack old new → IsTrue new.is_open → RestsAt new old.now
+at_rest old new settled outside (inl same) opened = record { outside = outside; now_is = same.0.now_is; committed_is = same.0.committed_is ∙ sym (settled same.0.was_open) }
+at_rest old new settled outside (inr back) opened =
+    let both = back.undone opened in
+    let was = sym (settled (back.was_open opened)) in
+    record { outside = outside; now_is = both.0 ∙ was; committed_is = both.1 ∙ was }
+
+-- what is committed may be told of less exactly
+pub survives_more : (old new : Database) (P Q : Trees → Type 0) → (HasCleanDisk new → (trees : Trees) → P trees → Q trees) → Survives old new P → Survives old new Q
+survives_more old new P Q more s = record {
+  clean = s.clean;
+  shield = s.shield;
+  counts = s.counts;
+  limit = s.limit;
+  closes = s.closes;
+  crash = λ clean trees left. elim (s.crash clean trees left) [ inl was ↦ inl was | inr p ↦ inr (more clean trees p) ];
+}
+
+-- where nothing was done, nothing was committed
+pub unmoved : {S : Type 0} (g : Ghosts S) (old new : Held S) (P : Trees → Type 0) → new ≡ old → Survives (state g old) (state g new) P
+unmoved g old new P same = subst (λ h. Survives (state g old) (state g h) P) (sym same) (survives_more (state g old) (state g old) (λ _. ⊥) P (λ clean trees none. absurd none) (stays (state g old)).survives)
+
+module _ {S : Type 0} (g : Ghosts S) (old new : Held S) where
+  abbrev Refused : Type 0
+  Refused = (new ≡ old) ⊎ ((version : Version) × HasTables (schema_of version) (state g old) × FailsToRead (schema_of version) (state g old) (state g new))
+
+  pub undone : Refused → (IsTrue (state g old).is_open → (state g old).now ≡ (state g old).committed) → (state g new).in_transaction ≡ false
+      → (new ≡ old) ⊎ (HasCleanDisk (state g new) → IsTrue (state g new).is_open → RestsAt (state g new) (state g old).now)
+  undone (inl same) settled outside = inl same
+  undone (inr (version, has, fails)) settled outside = inr (λ clean opened. at_rest (state g old) (state g new) settled outside (fails.kept clean has) opened)
+
+  pub refused_survives : Refused → Survives (state g old) (state g new) (Adopts (state g old))
+  refused_survives (inl same) = unmoved g old new (Adopts (state g old)) same
+  refused_survives (inr (version, has, fails)) = survives_more (state g old) (state g new) (λ _. ⊥) (Adopts (state g old)) (λ clean trees none. absurd none) (fails.crash (λ _. has))
+
+-- ---- rows were read of tables of a version, and these brought to the present one
+
+module _ {S : Type 0} (g : Ghosts S) (old mid : Held S) (version : Version) (rows : Maps) (has : HasTables (schema_of version) (state g old)) (read : ReadsTables (schema_of version) (state g old) (state g mid)) where
+  pub has_still : HasCleanDisk (state g mid) → HasTables (schema_of version) (state g mid)
+  has_still clean = ap (λ (db : Content). db.schema) (read.same clean has).0.now_is ∙ has
+
+  pub rests_still : HasCleanDisk (state g mid) → (tables : Tables) → Rests (state g old) tables → Rests (state g mid) tables
+  rests_still clean tables rests = rests_on (state g old) (state g mid) tables (read.same clean has) rests
+
+  pub version_of_old : (tables : Tables) → Rests (state g old) tables → tables.version ≡ version
+  version_of_old tables rests = version_is (state g old) version tables has rests
+
+  -- what is known of the rows that were read
+  abbrev ShowsOld : Type 0
+  ShowsOld = (tables : Tables) → Rests (state g old) tables → ShowsRows tables rows
+
+  abbrev IsOne : Type 0
+  IsOne = (tables : Tables) (m : Maps) → Rests (state g old) tables → ShowsRows tables m → IsGood m → rows ≡ m
+
+  module _ (new : Held S) where
+    abbrev Takes : Trees → Type 0
+    Takes trees = IsEarlier version × TakesOver rows (state g mid) trees
+
+    pub crash : Survives (state g mid) (state g new) Takes → IsGood rows → (HasCleanDisk (state g mid) → ShowsOld) → (HasCleanDisk (state g mid) → IsOne) → Survives (state g old) (state g new) (Adopts (state g old))
+    crash survives good shown one =
+        survives_then (state g old) (state g mid) (state g new) (λ _. ⊥) Takes (Adopts (state g old)) (λ clean trees none. absurd none)
+        (λ clean trees takes.
+        let early = clean_before (state g mid) (state g new) Takes survives clean in (
+          version,
+          takes.0,
+          has,
+          λ s it.
+              let same : rows ≡ it.rows = one early it.tables it.rows it.rests it.shows it.good in
+              record { rows = rows; good = good; state = ap state_of same ∙ it.state; leaves = takes.1 it.tables (rests_still early it.tables it.rests) (shown early it.tables it.rests) },
+          λ tables rests. (rows, good, shown early tables rests, takes.1 tables (rests_still early tables rests) (shown early tables rests)),
+        ))
+        (read.crash (λ _. has)) survives
+
+    -- a refusal behind the reading
+    pub undone_late : (IsTrue (state g old).is_open → (state g old).now ≡ (state g old).committed) → Survives (state g mid) (state g new) Takes → (state g new).in_transaction ≡ false
+        → (new ≡ mid) ⊎ (HasCleanDisk (state g new) → IsTrue (state g new).is_open → RestsAt (state g new) (state g mid).committed)
+        → HasCleanDisk (state g new) → IsTrue (state g new).is_open → RestsAt (state g new) (state g old).now
+    undone_late settled survives outside (inl same) clean opened =
+        let early = clean_before (state g mid) (state g new) Takes survives clean in
+        at_rest (state g old) (state g new) settled outside (subst (λ h. IsUnchanged (state g old) (state g h) ⊎ IsRolledBack (state g old) (state g h)) (sym same) (inl (read.same early has))) opened
+    undone_late settled survives outside (inr undone) clean opened =
+        let early = clean_before (state g mid) (state g new) Takes survives clean in
+        let shown = (read.same early has).0 in
+        subst (RestsAt (state g new)) (shown.committed_is ∙ sym (settled shown.was_open)) (undone clean opened)
+
+-- tables that show a state were refused: nothing is wrong with them
+module _ {S : Type 0} (g : Ghosts S) (conn last : Held S) (fault : StoreFault) (it : IsUnadopted g conn fault last) (s : State) (shows : ShowsState (state g conn) s) (clean : HasCleanDisk (state g last)) where
+  pub stops_on_state : StopsOpening shows.tables (state g conn) (state g last) fault
+  stops_on_state = says_nothing (StopsOpening shows.tables (state g conn) (state g last) fault) shows.tables shows.rows fault shows.shows shows.good (it.cause shows.tables shows.rests clean)
+
+  pub refused_of_store : IsOfStore fault
+  refused_of_store = of_store (StopsOpening shows.tables (state g conn) (state g last) fault) shows.tables shows.rows fault shows.shows shows.good (it.cause shows.tables shows.rests clean)

@@ -1,0 +1,16 @@
+-- Why the store stopped a World.
+use Rattle.std.specs.Prelude.{◌≡◌, ◌≤◌, ⊤}
+use Rattle.sqlite.specs.State.{State as Database}
+use Rattle.moo_tables_rows.specs.Cause.{StopsChange}
+use Rattle.moo_store.specs.declared.fault.StoreFault.{StoreFault}
+use Rattle.moo_store.specs.declared.fault.StoreFault.TheVariants.{Store}
+
+-- no failure of the disk is forgotten, and the limit on steps stays
+pub record KeepsFaults (old new : Database) : Type 0 where
+  pub faults : old.faults ≤ new.faults
+  pub steps : new.step_limit ≡ old.step_limit
+
+-- if the store failed, this is why
+abbrev pub IsStopped : Database → Database → StoreFault → Type 0
+IsStopped old new (Store error) = StopsChange old new error
+IsStopped old new fault = ⊤

@@ -1,0 +1,171 @@
+//! Columns of rows of which a value has several spellings, each printed only if its value changes.
+
+ghost use Rattle.std.specs.Prelude.{◌≡◌, ◌↔◌, IsTrue, List, ℕ, Some, IfOk, option_map};
+ghost use Rattle.std.specs.Cmp.{booleans_Decides};
+ghost use Rattle.std.proofs.Common.{ap};
+ghost use Rattle.moo_value.specs.Equal.{IsExact, same_by-exact};
+ghost use Rattle.moo_value.specs.Literal.{Spells, print};
+ghost use Rattle.moo_value.specs.Values.{coded_values};
+ghost use Rattle.moo_value.specs.declared.value.Value.TheVariants.{List as a_list};
+ghost use Rattle.moo_rows.specs.Bits.{verb_bits_of, verb_letters_of};
+ghost use Rattle.moo_rows.specs.declared.row.VerbBits.{VerbBits as Bits};
+ghost use Rattle.moo_rows.specs.Equal.{list_eq-exact};
+ghost use Rattle.moo_rows.specs.SameRows.{and, is, option-exact, state-exact};
+ghost use Rattle.moo_cells.specs.Shows.{ShowsAccept, ShowsSlotState};
+ghost use Rattle.moo_store.specs.Printed.{PrintsOver, accept_text, calls_text, state_text};
+
+use moo_rows::{ObjList, ObjRow, PetitionRow, SlotRow, SlotState, VerbBits, VerbRow};
+use moo_value::{Value, ValueList, print_literal};
+use moo_world::object_list;
+use std::alloc::{AllocError, Global};
+
+/// What a row has in a column of which a value has several spellings.
+pub(crate) trait Column: PartialEq {
+    type Row;
+
+    /// The value of a row.
+    ghost part: { Self.Row → Self };
+
+    /// Whether a text spells a value.
+    ghost spells: { List ℕ → Self → Type 0 };
+
+    /// The one text that is printed of a value.
+    ghost text: { Self → List ℕ };
+
+    fn of(row: &Self::Row) -> &Self
+        ensures { result.now ≡ part row.now };
+
+    /// The printed text of the value. The only error is out of memory.
+    fn cell(&self, alloc: Global) -> Result<Vec<u8>, AllocError>
+        ensures { IfOk result (λ cell. spells cell.items self.now × (cell.items ≡ text self.now)) };
+
+    /// Values that are called equal are equal.
+    ghost exact: { IsExact Self.PartialEq.eq };
+}
+
+/// The printed literal of a value, as a cell.
+fn literal_cell(alloc: Global, value: &Value) -> Result<Vec<u8>, AllocError>
+    ensures { IfOk result (λ cell. Spells value.now cell.items × (cell.items ≡ print value.now)) }
+{
+    let mut cell = Vec::new(alloc);
+    print_literal(alloc, value, &mut cell)?;
+    Ok(cell)
+}
+
+impl Column for Option<ObjList> {
+    type Row = ObjRow;
+
+    ghost part = { λ row. row.accept };
+
+    ghost spells = { ShowsAccept };
+
+    ghost text = { accept_text };
+
+    fn of(row: &ObjRow) -> &Option<ObjList> {
+        &row.accept
+    }
+
+    fn cell(&self, alloc: Global) -> Result<Vec<u8>, AllocError> {
+        match self {
+            Some(list) => {
+                let value = object_list(alloc, list.items())?;
+                literal_cell(alloc, &value)
+            }
+            None => Ok(Vec::new(alloc)),
+        }
+    }
+
+    ghost exact = { option-exact list_eq-exact };
+}
+
+impl Column for SlotState {
+    type Row = SlotRow;
+
+    ghost part = { λ row. row.state };
+
+    ghost spells = { ShowsSlotState };
+
+    ghost text = { state_text };
+
+    fn of(row: &SlotRow) -> &SlotState {
+        &row.state
+    }
+
+    fn cell(&self, alloc: Global) -> Result<Vec<u8>, AllocError> {
+        match self {
+            SlotState::Set(value) => literal_cell(alloc, value),
+            SlotState::Clear => Ok(Vec::new(alloc)),
+        }
+    }
+
+    ghost exact = { state-exact };
+}
+
+impl Column for VerbBits {
+    type Row = VerbRow;
+
+    ghost part = { λ row. row.bits };
+
+    ghost spells = { λ text bits. verb_bits_of text ≡ Some bits };
+
+    ghost text = { verb_letters_of };
+
+    fn of(row: &VerbRow) -> &VerbBits {
+        &row.bits
+    }
+
+    fn cell(&self, alloc: Global) -> Result<Vec<u8>, AllocError> {
+        self.letters().as_bytes().to_vec(alloc)
+    }
+
+    ghost exact = { λ x y. is _ (and _ _ (booleans_Decides x.r y.r)
+        (and _ _ (booleans_Decides x.w y.w) (and _ _ (booleans_Decides x.x y.x) (booleans_Decides x.d y.d))))
+        (λ h i. record { r = h.0 i; w = h.1.0 i; x = h.1.1.0 i; d = h.1.1.1 i })
+        (λ e. (ap (λ (b : Bits). b.r) e, (ap (λ (b : Bits). b.w) e, (ap (λ (b : Bits). b.x) e, ap (λ (b : Bits). b.d) e)))) };
+}
+
+impl Column for ValueList {
+    type Row = PetitionRow;
+
+    ghost part = { λ row. row.calls };
+
+    ghost spells = { λ text calls. Spells (a_list calls) text };
+
+    ghost text = { calls_text };
+
+    fn of(row: &PetitionRow) -> &ValueList {
+        &row.calls
+    }
+
+    fn cell(&self, alloc: Global) -> Result<Vec<u8>, AllocError> {
+        let calls = Value::List(self.clone()?);
+        literal_cell(alloc, &calls)
+    }
+
+    ghost exact = { same_by-exact coded_values };
+}
+
+/// Whether a row is there, with this value.
+fn stays<V: Column>(old: Option<&V::Row>, value: &V) -> bool
+    ensures { IsTrue result ↔ option_map V.part (option_map (λ row. row.now) old.entry) ≡ Some value.now }
+{
+    match old {
+        Some(old) => *V::of(old) == *value,
+        None => false,
+    }
+}
+
+/// The printed text of the value of a row, or None if it is that of the old one. The only error is out of memory.
+pub(crate) fn text_over<V: Column>(
+    alloc: Global,
+    old: Option<&V::Row>,
+    row: &V::Row,
+) -> Result<Option<Vec<u8>>, AllocError>
+    ensures { IfOk result (λ cell. PrintsOver V.spells V.text (option_map V.part (option_map (λ row. row.now) old.entry)) (V.part row.now) cell) }
+{
+    let value = V::of(row);
+    if stays::<V>(old, value) {
+        return Ok(None);
+    }
+    Ok(Some(value.cell(alloc)?))
+}

@@ -1,0 +1,87 @@
+//! Whether the tables of a connection show given rows.
+
+ghost use Rattle.std.specs.Prelude.{◌≡◌, ◌≢◌, IfOk, IfErr, OnOk, false, length};
+ghost use Rattle.sqlite.specs.Held.{state};
+ghost use Rattle.moo_world.specs.ObjectLists.{objects_of};
+ghost use Rattle.moo_world.specs.Rows.{IsGood, world_of};
+ghost use Rattle.moo_tables.specs.Listing.{AreListed, tables_of};
+ghost use Rattle.moo_cells.specs.Shows.{ShowsRows};
+ghost use Rattle.moo_store.specs.OpeningRows.{IsOfStore};
+ghost use Rattle.moo_store.specs.Checked.{SaysInCheck, KeepsTables, Checks};
+
+use crate::fault::StoreFault;
+use crate::reading::{failure_of, read_lists, test_current};
+use moo_cells::{CellFault, compare_cells, show_in_turn};
+use moo_damage::Kind;
+use moo_memory::Flat;
+use moo_rows::{Rows, each_object};
+use moo_tables::{CellLists, Version, are_listed};
+use sqlite::{Alter, Connection, Error, ErrorCode};
+use std::alloc::Global;
+
+/// The number of objects. Takes no memory.
+pub(crate) fn object_count<R: Rows>(rows: &R) -> u64
+    requires { IsGood (R.held rows.now).maps }
+    ensures { result ≡ length (objects_of (world_of (R.held rows.now).maps)) }
+{
+    let mut count = 0;
+    for _object in each_object(rows) {
+        count += 1;
+    }
+    count
+}
+
+/// The number of objects, if the cells of the tables show these rows.
+fn compare_lists(alloc: Global, lists: CellLists, own: &Flat) -> Result<u64, StoreFault>
+    requires good { IsGood own.now.maps }
+    ensures shown { OnOk result (ShowsRows (tables_of lists) own.now.maps) }
+    ensures count { IfOk result (λ count. count ≡ length (objects_of (world_of own.now.maps))) }
+    ensures fault { IfErr result (λ fault.
+        SaysInCheck (AreListed lists → fault ≡ StoreFault.OutOfMemory) own.now.maps (tables_of lists) fault) }
+    ensures whole { ShowsRows (tables_of lists) own.now.maps → IfErr result IsOfStore }
+    ensures worked { IfErr result (λ fault. fault ≢ StoreFault.Closed) }
+{
+    if !are_listed(&lists) {
+        return Err(StoreFault::Store(Error::SqliteFailure(ErrorCode::DatabaseCorrupt)));
+    }
+    match compare_cells(alloc, lists, own) {
+        Ok(None) => Ok(object_count(own)),
+        Ok(Some(key)) => Err(StoreFault::Damaged(Kind::Mismatch, key)),
+        Err(CellFault::Damaged(kind, key)) => Err(StoreFault::Damaged(kind, key)),
+        Err(CellFault::NewerVersion) => Err(StoreFault::NewerVersion),
+        Err(CellFault::OutOfMemory) => Err(StoreFault::OutOfMemory),
+    }
+}
+
+/// The number of objects, if the tables of a connection show these rows. Nothing is written.
+///
+/// The tables are compared one after another. Only if a row differs, or if memory ran out, all are read again at once, to tell what is
+/// wrong.
+pub(crate) fn check_rows<S: Alter>(
+    alloc: Global,
+    conn: &mut Connection<S>,
+    own: &Flat,
+) -> Result<u64, StoreFault>
+    requires outside { (state S.Store conn.old).in_transaction ≡ false }
+    requires good { IsGood own.now.maps }
+    ensures outside { (state S.Store conn.new).in_transaction ≡ false }
+    ensures checks { Checks own.now.maps (state S.Store conn.old) (state S.Store conn.new) result }
+    ensures keeps { KeepsTables (state S.Store conn.old) (state S.Store conn.new) }
+    ensures worked { IfErr result (λ fault. fault ≢ StoreFault.Closed) }
+{
+    match test_current(alloc, conn) {
+        Ok(()) => {}
+        Err(fault) => return Err(fault),
+    }
+    let shown = match show_in_turn(alloc, conn, Version::PRESENT, own) {
+        Ok(shown) => shown,
+        Err(error) => return Err(failure_of(error)),
+    };
+    if shown {
+        return Ok(object_count(own));
+    }
+    match read_lists(alloc, conn, Version::PRESENT) {
+        Ok(lists) => compare_lists(alloc, lists, own),
+        Err(fault) => Err(fault),
+    }
+}

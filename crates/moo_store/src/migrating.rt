@@ -1,0 +1,108 @@
+//! Tables of an earlier version, migrated to the present one.
+
+ghost use Rattle.std.specs.Prelude.{◌≡◌, ◌≢◌, ◌⊎◌, ◌<◌, ◌^◌, None, IfOk, IfErr, IsTrue, OnOk, OnErr, false};
+ghost use Rattle.sqlite.specs.State.{HasCleanDisk, Survives};
+ghost use Rattle.sqlite.specs.Held.{state};
+ghost use Rattle.moo_tables_rows.specs.Tables.{Tables, schema_of};
+ghost use Rattle.moo_tables_rows.specs.Cause.{StopsChange};
+ghost use Rattle.moo_tables_rows.specs.Inside.{Rests, RestsAt, HasTables};
+ghost use Rattle.moo_tables_rows.specs.Version.{IsEarlier};
+ghost use Rattle.moo_tables_rows.specs.declared.version.Version.{Version};
+ghost use Rattle.moo_cells.specs.Shows.{ShowsRows};
+ghost use Rattle.moo_store.specs.States.{KeepsRows};
+ghost use Rattle.moo_store.specs.Current.{RestsCurrent};
+ghost use Rattle.moo_store.specs.OpeningRows.{IsOfStore, StopsBy, TakesOver, not_ours};
+ghost use Rattle.moo_store.specs.Printed.{PrintEach, PrintsSlot, all_of};
+
+use crate::fault::StoreFault;
+use crate::printing::print_left;
+use crate::reading::failure_of;
+use moo_memory::Flat;
+use moo_rows::{PropId, Rows, SlotRow};
+use moo_tables::{SlotCells, Version, migrate};
+use moo_value::ObjNo;
+use sqlite::{Alter, Connection};
+use std::alloc::{AllocError, Global};
+
+/// The cells of all slots, in the order of their keys. The only error is out of memory.
+fn print_slots(
+    alloc: Global,
+    rows: &Flat,
+) -> Result<Vec<((ObjNo, PropId), Option<SlotCells>)>, AllocError>
+    ensures { IfOk result (λ cells. PrintEach (λ key. PrintsSlot None) cells.items (all_of rows.now.maps.slots)) }
+{
+    print_left::<(ObjNo, PropId), SlotCells, SlotRow>(alloc, rows)
+}
+
+/// Migrates tables of an earlier version, which show these rows, to the present one in one transaction.
+///
+/// OutOfMemory: nothing was done. Store: the store failed; if the connection is still open, the tables are those before.
+fn migrate_rows<S: Alter>(
+    alloc: Global,
+    conn: &mut Connection<S>,
+    rows: &Flat,
+) -> Result<(), StoreFault>
+    requires limit { rows.now.maps.head.seq < 2 ^ 63 }
+    requires outside { (state S.Store conn.old).in_transaction ≡ false }
+    ensures outside { (state S.Store conn.new).in_transaction ≡ false }
+    ensures fault { IfErr result IsOfStore }
+    ensures own { IfErr result (λ fault. fault ≢ not_ours) }
+    ensures cause { HasCleanDisk (state S.Store conn.new) →
+        IfErr result (λ fault. (tables : Tables) → Rests (state S.Store conn.old) tables → IsEarlier tables.version →
+        StopsBy (StopsChange (state S.Store conn.old) (state S.Store conn.new)) fault) }
+    ensures keeps { HasCleanDisk (state S.Store conn.new) →
+        OnOk result ((tables : Tables) → Rests (state S.Store conn.old) tables → IsEarlier tables.version → ShowsRows tables rows.now.maps →
+        KeepsRows (state S.Store conn.new) rows.now.maps) }
+    ensures rests { HasCleanDisk (state S.Store conn.new) →
+        OnOk result ((tables : Tables) → Rests (state S.Store conn.old) tables → IsEarlier tables.version → ShowsRows tables rows.now.maps →
+        RestsCurrent (state S.Store conn.new) (state S.Store conn.old).now.trees tables rows.now.maps) }
+    ensures undone { OnErr result ((conn.new ≡ conn.old)
+        ⊎ (HasCleanDisk (state S.Store conn.new) → IsTrue (state S.Store conn.new).is_open →
+        RestsAt (state S.Store conn.new) (state S.Store conn.old).committed)) }
+    ensures crash { (version : Version) → IsEarlier version →
+        (HasCleanDisk (state S.Store conn.old) → HasTables (schema_of version) (state S.Store conn.old)) →
+        Survives (state S.Store conn.old) (state S.Store conn.new) (TakesOver rows.now.maps (state S.Store conn.old)) }
+{
+    let Ok(slots) = print_slots(alloc, rows) else {
+        return Err(StoreFault::OutOfMemory);
+    };
+    match migrate(conn, &rows.head(), &slots) {
+        Ok(()) => Ok(()),
+        Err(error) => Err(failure_of(error)),
+    }
+}
+
+/// Brings tables of this version, which show these rows, to the present version. Those of the present version stay.
+pub(crate) fn make_current<S: Alter>(
+    alloc: Global,
+    conn: &mut Connection<S>,
+    version: Version,
+    rows: &Flat,
+) -> Result<(), StoreFault>
+    requires limit { rows.now.maps.head.seq < 2 ^ 63 }
+    requires outside { (state S.Store conn.old).in_transaction ≡ false }
+    ensures outside { (state S.Store conn.new).in_transaction ≡ false }
+    ensures fault { IfErr result IsOfStore }
+    ensures own { IfErr result (λ fault. fault ≢ not_ours) }
+    ensures earlier { OnErr result (IsEarlier version) }
+    ensures cause { HasCleanDisk (state S.Store conn.new) →
+        IfErr result (λ fault. (tables : Tables) → Rests (state S.Store conn.old) tables → tables.version ≡ version →
+        StopsBy (StopsChange (state S.Store conn.old) (state S.Store conn.new)) fault) }
+    ensures keeps { HasCleanDisk (state S.Store conn.new) →
+        OnOk result ((tables : Tables) → Rests (state S.Store conn.old) tables → tables.version ≡ version → ShowsRows tables rows.now.maps →
+        KeepsRows (state S.Store conn.new) rows.now.maps) }
+    ensures rests { HasCleanDisk (state S.Store conn.new) →
+        OnOk result ((tables : Tables) → Rests (state S.Store conn.old) tables → tables.version ≡ version → ShowsRows tables rows.now.maps →
+        RestsCurrent (state S.Store conn.new) (state S.Store conn.old).now.trees tables rows.now.maps) }
+    ensures undone { OnErr result ((conn.new ≡ conn.old)
+        ⊎ (HasCleanDisk (state S.Store conn.new) → IsTrue (state S.Store conn.new).is_open →
+        RestsAt (state S.Store conn.new) (state S.Store conn.old).committed)) }
+    ensures crash { (HasCleanDisk (state S.Store conn.old) → HasTables (schema_of version) (state S.Store conn.old)) →
+        Survives (state S.Store conn.old) (state S.Store conn.new)
+        (λ trees. IsEarlier version × TakesOver rows.now.maps (state S.Store conn.old) trees) }
+{
+    if version.is_present() {
+        return Ok(());
+    }
+    migrate_rows(alloc, conn, rows)
+}
