@@ -56,13 +56,13 @@ module _ {R W : Type 0}
   IsFresh slot = (slot.reader.bytes.items ≡ []) × (slot.writer.text.items ≡ [])
 
   -- what happens to the book in a deed
-  abbrev pub Happens : Deed (Slot R W inward incoming reader outward writer) R W
+  abbrev pub HappensToBook : Deed (Slot R W inward incoming reader outward writer) R W
       → Book (Slot R W inward incoming reader outward writer) R W → Book (Slot R W inward incoming reader outward writer) R W → Type 0
-  Happens (takes slot) old new =
+  HappensToBook (takes slot) old new =
       IsFresh slot × (new.slots ≡ old.slots ++ slot ∷ []) × (new.leaving ≡ old.leaving) × (new.losses ≡ old.losses)
-  Happens steps old new =
+  HappensToBook steps old new =
       Each IsGathered old.slots new.slots × Each (IsLater writer outward.peer) old.leaving new.leaving × (new.losses ≡ old.losses)
-  Happens (ends it) old new =
+  HappensToBook (ends it) old new =
       (new.slots ≡ old.slots) × TakesOut old.leaving it new.leaving × LetsGo it old.losses new.losses
 
   -- deeds one after another; the head of the list is the last one
@@ -70,7 +70,7 @@ module _ {R W : Type 0}
       → Book (Slot R W inward incoming reader outward writer) R W → Book (Slot R W inward incoming reader outward writer) R W → Type 0
   After [] old new = new ≡ old
   After (deed ∷ earlier) old new =
-      (between : Book (Slot R W inward incoming reader outward writer) R W) × After earlier old between × Happens deed between new
+      (between : Book (Slot R W inward incoming reader outward writer) R W) × After earlier old between × HappensToBook deed between new
 
   -- Nothing happens but deeds, in which so many connections come: each that came is held until it is handed out, and each that is given
   -- back until all of its answer was sent, or its loss is noted.

@@ -1,5 +1,5 @@
 -- What follows of what making a world does, whatever that is; and how it is made and refused.
-use Rattle.moo_files.{proofs.Words.{◌≡◌, ◌≢◌, ◌⊎◌, inl, inr, List, [], ◌∷◌, refl, sym, ap, subst, ◌∙◌, Trees, HasCleanDisk, Survives, Opens, IsLive, Held, IsEmpty, empty_is_sound, over_files, file_state, Ghosts, FileStore, Files, Image, outcomes, image_of, Leftover, Maps, Moment, AreTreesOf, IsSpared, store_of, no_schema, Error, IsOfStore, StoreFault, SparesFiles, HoldsTrees, HoldsMoment, HasAnyTable, IsCleanRemains, IsUnopened, KeepsSuch, Remains}, specs.Connected.{IsNewOrFound, OnlyLeaves}, specs.Making.{Site, Empty, HalfMade, Filled, IsSite, TakesWorld, KeepsSite, IsMadeIn, IsUnmadeIn}, proofs.RemainsLemmas.{begun_empty, keeps_more, blank_more, spared_keeps, spared_blank, spared_begun, unopened_keeps, unopened_blank}, proofs.ContentsLemmas.{finds_held, shows_trees, none_found, any_table, left_only, left_new, left_begun, or_committed}}
+use Rattle.moo_files.{proofs.Words.{◌≡◌, ◌≢◌, ◌⊎◌, inl, inr, List, [], ◌∷◌, refl, sym, ap, subst, ◌∙◌, Trees, HasCleanDisk, Survives, Opens, IsLive, Held, IsEmpty, empty_is_sound, over_files, file_state, Ghosts, FileStore, Files, Image, outcomes, image_of, Leftover, Maps, Moment, AreTreesOf, IsSparedMoment, store_of, no_schema, Error, IsOfStore, StoreFault, SparesFiles, HoldsTrees, HoldsMoment, HasAnyTable, IsCleanRemains, IsUnopened, KeepsSuch, Remains}, specs.Connected.{IsNewOrFound, OnlyLeaves}, specs.Making.{Site, Empty, HalfMade, Filled, IsSite, TakesWorld, KeepsSite, IsMadeIn, IsUnmadeIn}, proofs.RemainsLemmas.{begun_empty, keeps_more, blank_more, spared_keeps, spared_blank, spared_begun, unopened_keeps, unopened_blank}, proofs.ContentsLemmas.{finds_held, shows_trees, none_found, any_table, left_only, left_new, left_begun, or_committed}}
 use Rattle.sqlite.specs.Schema.{Schema}
 use Rattle.moo_tables.proofs.SchemaLemmas.{some_tables, one_schema, no_other}
 use Rattle.sqlite.specs.Effect.{IsDatabase}
@@ -141,7 +141,7 @@ module _ {T D : Type 0} {g : Ghosts D} (Made : Trees → Type 0) (image : Image)
       keeps_more (λ found. (found ≡ trees) ⊎ ((¬ HasAnyTable trees) × Made found)) (λ found. found ≡ trees)
       (λ found kept. elim kept [ inl same ↦ same | inr made ↦ absurd (made.0 any) ]) image rest (unmade.kept (Filled trees) holds clean)
 
-  pub moment_kept : (m : Moment) → HoldsMoment image m → IsCleanRemains rest → KeepsSuch (λ trees. (end : Moment) × IsSpared m end × AreTreesOf end trees) image rest
+  pub moment_kept : (m : Moment) → HoldsMoment image m → IsCleanRemains rest → KeepsSuch (λ trees. (end : Moment) × IsSparedMoment m end × AreTreesOf end trees) image rest
   moment_kept m holds clean =
-      keeps_more (λ found. found ≡ holds.trees) (λ trees. (end : Moment) × IsSpared m end × AreTreesOf end trees) (λ found same. (m, inl refl, subst (AreTreesOf m) (sym same) holds.such)) image rest
+      keeps_more (λ found. found ≡ holds.trees) (λ trees. (end : Moment) × IsSparedMoment m end × AreTreesOf end trees) (λ found same. (m, inl refl, subst (AreTreesOf m) (sym same) holds.such)) image rest
       (table_kept holds.trees holds.holds (moment_has_table holds.trees m holds.such) clean)

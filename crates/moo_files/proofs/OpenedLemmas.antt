@@ -5,7 +5,7 @@ use Rattle.sqlite_store.specs.declared.store.FileStore.{FileStore}
 use Rattle.sqlite_wal.specs.Recovery.{Image}
 use Rattle.sqlite.{specs.State.{HasCleanDisk}, specs.Files.{over_files}, specs.Tree.{Trees}}
 use Rattle.moo_world.specs.Judge.{state_of}
-use Rattle.moo_store.{specs.Kept.{World}, specs.World.{store_of}, specs.Moment.{Moment, AreTreesOf, IsSpared}, specs.States.{LeavesState}, specs.declared.fault.StoreFault.{StoreFault}}
+use Rattle.moo_store.{specs.Kept.{World}, specs.World.{store_of}, specs.Moment.{Moment, AreTreesOf, IsSparedMoment}, specs.States.{LeavesState}, specs.declared.fault.StoreFault.{StoreFault}}
 use Rattle.moo_files.specs.declared.remains.Remains.TheVariants as remains
 use Rattle.moo_files.{specs.Causes.{HasCauseOver}, specs.Contents.{HoldsMoment, IsKept}, specs.Remains.{IsCleanRemains, KeepsSuch}, specs.Opened.{Contents, Database, Hold, Opens, Refuses, OpensHeld, RefusesHeld}, specs.declared.remains.Remains.{Remains}, proofs.RemainsLemmas.{keeps_more}, proofs.PresentLemmas.{spared_kept}}
 
@@ -26,9 +26,9 @@ module _ {T D : Type 0} {g : Ghosts D} (image : Image) (r : Result (World (FileS
   pub refuses_held : RefusesBy → RefusesHeld image r
   refuses_held it m holds = IfErr-weaker r _ _ (λ e refuses clean. (refuses clean).state (state_of m.rows) (leaves_state m holds.trees holds.such)) (it (Database holds.trees) holds.holds)
 
-  pub still_holds : RefusesBy → (m : Moment) → HoldsMoment image m → IfErr r (λ e. IsCleanRemains e.1 → KeepsSuch (λ trees. (end : Moment) × IsSpared m end × AreTreesOf end trees) image e.1)
+  pub still_holds : RefusesBy → (m : Moment) → HoldsMoment image m → IfErr r (λ e. IsCleanRemains e.1 → KeepsSuch (λ trees. (end : Moment) × IsSparedMoment m end × AreTreesOf end trees) image e.1)
   still_holds it m holds = IfErr-weaker r _ _
-      (λ e refuses clean. keeps_more (IsKept holds.trees) (λ trees. (end : Moment) × IsSpared m end × AreTreesOf end trees) (λ found kept. spared_kept m holds.trees found holds.such kept) image e.1 (refuses clean).kept)
+      (λ e refuses clean. keeps_more (IsKept holds.trees) (λ trees. (end : Moment) × IsSparedMoment m end × AreTreesOf end trees) (λ found kept. spared_kept m holds.trees found holds.such kept) image e.1 (refuses clean).kept)
       (it (Database holds.trees) holds.holds)
 
 -- more is known of tables that are migrated

@@ -1,5 +1,5 @@
 -- From the moment that files hold to that at which a World opens over them, and what a migration leaves of it.
-use Rattle.moo_files.{proofs.Words.{◌≡◌, inl, inr, refl, ap, ap₂, sym, subst, ◌∙◌, Some, IfSome, Trees, Image, Ghosts, FileStore, Maps, IsGood, Tables, ShowsRows, Moment, AreTreesOf, BecomesPresent, IsSpared, Works, World, Stands, Opens, IsLive, over_files, HoldsTrees, IsKept, IsMigrated, schema_of}, specs.Opened.{OpensAt}, proofs.ContentsLemmas.{rests_held, shows_trees}}
+use Rattle.moo_files.{proofs.Words.{◌≡◌, inl, inr, refl, ap, ap₂, sym, subst, ◌∙◌, Some, IfSome, Trees, Image, Ghosts, FileStore, Maps, IsGood, Tables, ShowsRows, Moment, AreTreesOf, BecomesPresent, IsSparedMoment, Works, World, Stands, Opens, IsLive, over_files, HoldsTrees, IsKept, IsMigrated, schema_of}, specs.Opened.{OpensAt}, proofs.ContentsLemmas.{rests_held, shows_trees}}
 use Rattle.sqlite.{specs.State.{State as Database}, specs.Start.{FindsIn}}
 use Rattle.moo_cells.{proofs.CellsLemmas.{one_good}, proofs.GoodRows.{good_within}}
 use Rattle.moo_tables.proofs.SchemaLemmas.{one_schema, one_version}
@@ -45,7 +45,7 @@ earlier_tables trees found tables migrated leaves =
     subst IsEarlier same before.1
 
 -- it has this moment still, or one of the same rows to which it was migrated
-pub spared_kept : (m : Moment) (trees found : Trees) → AreTreesOf m trees → IsKept trees found → (end : Moment) × IsSpared m end × AreTreesOf end found
+pub spared_kept : (m : Moment) (trees found : Trees) → AreTreesOf m trees → IsKept trees found → (end : Moment) × IsSparedMoment m end × AreTreesOf end found
 spared_kept m trees found is (inl same) = (m, inl refl, subst (AreTreesOf m) (sym same) is)
 spared_kept m trees found is (inr migrated) =
     let c = is.1.0 in

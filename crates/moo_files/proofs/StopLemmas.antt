@@ -10,7 +10,7 @@ use Rattle.sqlite_trees.proofs.Doubt.{clean_of}
 use Rattle.sqlite.{specs.State.{State as Database, HasCleanDisk}, specs.Held.{Held, AreDatabases}, specs.Files.{file_state, IsCleanLeft}, specs.Tree.{Trees}, specs.declared.file.Leftover.{Leftover}}
 use Rattle.moo_world.specs.Judge.{State}
 use Rattle.moo_tables_rows.specs.Tables.{schema_of}
-use Rattle.moo_store.{specs.States.{LeavesState}, specs.Moment.{Moment, HasCellsOf, AreTreesOf, IsSpared}, specs.Place.{Place, moment_of, CrashLeavesAt}}
+use Rattle.moo_store.{specs.States.{LeavesState}, specs.Moment.{Moment, HasCellsOf, AreTreesOf, IsSparedMoment}, specs.Place.{Place, moment_of, CrashLeavesAt}}
 use Rattle.moo_files.{specs.Contents.{HoldsSuch, HoldsTrees, IsLeftBy}, specs.Remains.{IsCleanRemains, LeftoverKeeps, KeepsSuch}, specs.Stop.{DiskLeaves, HasNumberedTrees, LeftStoreLeaves, LeftoverLeaves, BytesLeave, AreNumbered}, specs.declared.remains.Remains.{Remains}, proofs.RemainsLemmas.{such_more}}
 use Rattle.moo_files.specs.declared.remains.Remains.TheVariants as remains
 use Rattle.sqlite.specs.declared.file.Leftover.TheVariants as left
@@ -85,7 +85,7 @@ state_is_database s trees leaves =
 pub moment_is_database : (m : Moment) → AreDatabases (HasCellsOf m)
 moment_is_database m trees it = (schema_of it.0.tables.version, it.2.sound)
 
-pub spared_are_databases : (m : Moment) → AreDatabases (λ trees. (end : Moment) × IsSpared m end × AreTreesOf end trees)
+pub spared_are_databases : (m : Moment) → AreDatabases (λ trees. (end : Moment) × IsSparedMoment m end × AreTreesOf end trees)
 spared_are_databases m trees it = moment_is_database it.0 trees it.2.1
 
 pub places_are_databases : (store : Database) (place : Place) → IsSome (moment_of place).cells → CrashLeavesAt store place → AreDatabases store.may_leave

@@ -5,7 +5,7 @@ pub use Rattle.std.proofs.lemmas.Bool.{cases_Bool, cases_eq}
 pub use Rattle.moo_cells.specs.Shows.{ShowsRows}
 pub use Rattle.moo_rows.specs.Maps.{Maps}
 pub use Rattle.moo_store.specs.OpeningRows.{Adopts, IsOfStore, not_ours}
-pub use Rattle.moo_store.specs.Moment.{AreTreesOf, BecomesPresent, IsSpared, Moment, rows_alone}
+pub use Rattle.moo_store.specs.Moment.{AreTreesOf, BecomesPresent, IsSparedMoment, Moment, rows_alone}
 pub use Rattle.moo_store.specs.NewTables.{LeavesAsMade}
 pub use Rattle.moo_store.specs.Place.{CrashLeavesAt, MayBeLeft, Place, Works, moment_of}
 pub use Rattle.moo_store.specs.Kept.{World}

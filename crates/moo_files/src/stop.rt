@@ -8,7 +8,7 @@ ghost use Rattle.sqlite.specs.State.{HasCleanDisk};
 ghost use Rattle.sqlite.specs.Held.{Held, AreDatabases};
 ghost use Rattle.sqlite.specs.Files.{over_files, file_state};
 ghost use Rattle.moo_world.specs.Judge.{State};
-ghost use Rattle.moo_store.specs.Moment.{Moment, AreTreesOf, IsSpared};
+ghost use Rattle.moo_store.specs.Moment.{Moment, AreTreesOf, IsSparedMoment};
 ghost use Rattle.moo_store.specs.OpeningRows.{IsOfStore};
 ghost use Rattle.moo_store.specs.Place.{Place, moment_of, MayBeLeft, CrashLeavesAt};
 ghost use Rattle.moo_store.specs.Kept.{World};
@@ -50,8 +50,8 @@ pub fn disk_leaves_what_was_kept<T, D: Disk>()
         HoldsSuch (IsKept trees) next }
     // So they hold a moment that was spared.
     ensures moment { (m : Moment) (image : Image) (rest : Remains T D D.Disk) (next : Image) → IsCleanRemains rest → AreNumbered rest →
-        HoldsMoment image m → KeepsSuch (λ trees. (end : Moment) × IsSpared m end × AreTreesOf end trees) image rest →
-        BytesLeave image rest next → (end : Moment) × IsSpared m end × HoldsMoment next end }
+        HoldsMoment image m → KeepsSuch (λ trees. (end : Moment) × IsSparedMoment m end × AreTreesOf end trees) image rest →
+        BytesLeave image rest next → (end : Moment) × IsSparedMoment m end × HoldsMoment next end }
 {}
 
 /// What is found if the files of a World that was stopped are opened: as `open_again`, from what the disk leaves of their bytes.

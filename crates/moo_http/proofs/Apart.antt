@@ -1,5 +1,5 @@
 -- What comes of calls that are asked each alone.
-use Rattle.moo_http.{proofs.Words.{◌≡◌, inl, inr, ℕ, List, Option, ap, sym, refl, ◌∙◌, Bool, true, false, Result, Ok, Err, IsTrue, IsErrOf, Ghosts, State, Moment, state_of_moment, Place, Works, Failed, Between, World, state_in, Stands, RequestOutcome, MayAnswer}, proofs.Consulting.{at_moment}, specs.Answers.{each_outcome}, specs.Settled.{lost_by}}
+use Rattle.moo_http.{proofs.Words.{◌≡◌, inl, inr, ℕ, List, Option, ap, sym, refl, ◌∙◌, Bool, true, false, Result, Ok, Err, IsTrue, IsErrOf, Ghosts, State, Moment, state_of_moment, Place, Works, Failed, Between, World, state_of_world, Stands, RequestOutcome, MayAnswer}, proofs.Consulting.{at_moment}, specs.Answers.{each_outcome}, specs.Settled.{lost_by}}
 use Rattle.std.specs.Prelude.{if◌then◌else◌}
 use Rattle.moo_world.specs.Judge.{is_due}
 use Rattle.moo_text.{specs.declared.reply.Reply.{Reply}, specs.declared.reply.Reply.TheVariants.{Stale}}
@@ -34,19 +34,19 @@ each_lost each m fault e = inr (tt, ap lost_by e, refl)
 
 -- a World that tells this number is one that works
 pub each_at : {S : Type 0} (g : Ghosts S) (world : World S) (each : Each) (o : RequestOutcome) (r : Result ℕ StoreFault) (seq : ℕ) → r ≡ Ok seq
-    → (world.failed ≡ false → r ≡ Ok (state_in world).seq) → (IsTrue world.failed → IsErrOf r Closed)
+    → (world.failed ≡ false → r ≡ Ok (state_of_world world).seq) → (IsTrue world.failed → IsErrOf r Closed)
     → ((m : Moment) → Stands g world (Works m) → (state_of_moment m).seq ≡ seq → MayAnswer (Works m) (Asks each) o (Works m))
     → (place : Place) → Stands g world place → MayAnswer place (Asks each) o place
 each_at g world each o r seq is number closed told (Works m) at = told m at (ap (λ (s : State). s.seq) (sym (at_moment g world m at)) ∙ of_number (number at.failed))
   where
-    of_number : r ≡ Ok (state_in world).seq → (state_in world).seq ≡ seq
+    of_number : r ≡ Ok (state_of_world world).seq → (state_of_world world).seq ≡ seq
     of_number e = cc
 each_at g world each o r seq is number closed told (Failed m) at = let e = closed at.failed in absurd cc
 each_at g world each o r seq is number closed told (Between m next) at = let e = closed at.failed in absurd cc
 
 -- and one that tells none has failed
 pub each_closed : {S : Type 0} (g : Ghosts S) (world : World S) (each : Each) (r : Result ℕ StoreFault) (fault : StoreFault) → r ≡ Err fault
-    → (world.failed ≡ false → r ≡ Ok (state_in world).seq) → (IsTrue world.failed → IsErrOf r Closed)
+    → (world.failed ≡ false → r ≡ Ok (state_of_world world).seq) → (IsTrue world.failed → IsErrOf r Closed)
     → (place : Place) → Stands g world place → MayAnswer place (Asks each) (lost_by fault) place
 each_closed g world each r fault is number closed (Works m) at = let e = number at.failed in absurd cc
 each_closed g world each r fault is number closed (Failed m) at = inl (ap lost_by (of_closed (closed at.failed)), refl)

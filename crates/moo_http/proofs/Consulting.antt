@@ -1,5 +1,5 @@
 -- What a batch that is run or asked, and a question, say of a World at whatever place.
-use Rattle.moo_http.{proofs.Words.{◌≡◌, ◌⊎◌, inl, inr, refl, ap, subst, arith, ◌∙◌, true, false, Result, Ok, Err, IsTrue, IfOk, IfErr, Ghosts, Batch, state_of, judge, World, state_in, Stands, MovesBy, RunsAt, VerdictLeads, StopsStore, Moment, LeadsBy, rows_alone, state_of_moment, Place, Works, Failed, Between, Calls, Run, Ask, RequestOutcome, MayAnswer, HasAdvanced, IsStillOrAdvanced}, proofs.Going.{moves_as}, specs.Settled.{came_of}}
+use Rattle.moo_http.{proofs.Words.{◌≡◌, ◌⊎◌, inl, inr, refl, ap, subst, arith, ◌∙◌, true, false, Result, Ok, Err, IsTrue, IfOk, IfErr, Ghosts, Batch, state_of, judge, World, state_of_world, Stands, MovesBy, RunsAt, VerdictLeads, StopsStore, Moment, LeadsBy, rows_alone, state_of_moment, Place, Works, Failed, Between, Calls, Run, Ask, RequestOutcome, MayAnswer, HasAdvanced, IsStillOrAdvanced}, proofs.Going.{moves_as}, specs.Settled.{came_of}}
 use Rattle.std.specs.Result.{IsOkAnd}
 use Rattle.sqlite.specs.declared.error.Error.{Error}
 use Rattle.moo_rows.specs.Maps.{Maps}
@@ -94,10 +94,10 @@ still_one g was new batch r moves still fails (Between m next) at = inl (moves.c
 -- ---- questions
 
 -- what is said of the state of the rows is said of the moment where a World works
-pub at_moment : {S : Type 0} (g : Ghosts S) (world : World S) (m : Moment) → Stands g world (Works m) → state_in world ≡ state_of_moment m
+pub at_moment : {S : Type 0} (g : Ghosts S) (world : World S) (m : Moment) → Stands g world (Works m) → state_of_world world ≡ state_of_moment m
 at_moment g world m at = ap state_of (at.rows at.failed)
 
-pub asked : {S : Type 0} (g : Ghosts S) (world : World S) (batch : Batch) (r : Result Reply StoreFault) → (world.failed ≡ false → IsOkAnd r (MayReplyAsked (state_in world) batch)) → (IsTrue world.failed → r ≡ Err Closed)
+pub asked : {S : Type 0} (g : Ghosts S) (world : World S) (batch : Batch) (r : Result Reply StoreFault) → (world.failed ≡ false → IsOkAnd r (MayReplyAsked (state_of_world world) batch)) → (IsTrue world.failed → r ≡ Err Closed)
     → (place : Place) → Stands g world place → MayAnswer place (Calls Ask batch) (came_of r) place
 asked g world batch (Ok reply) asks closed (Works m) at =
     inl (answered.Replied reply, ((reply, refl, subst (λ s. MayReplyAsked s batch reply) (at_moment g world m at) (asks at.failed)), refl), refl)

@@ -12,7 +12,7 @@ pub use Rattle.moo_http_response.specs.Responses.{response_of, response_text, re
 pub use Rattle.moo_http_response.specs.declared.outcome.RequestOutcome.{RequestOutcome}
 pub use Rattle.moo_store.specs.Kept.{World}
 pub use Rattle.moo_store.specs.Moves.{AsksAt, MovesBy, RunsAt, Stands, StopsStore, VerdictLeads, state_at}
-pub use Rattle.moo_store.specs.World.{state_in}
+pub use Rattle.moo_store.specs.World.{state_of_world}
 pub use Rattle.moo_store.specs.Moment.{LeadsBy, Moment, rows_alone, state_of_moment}
 pub use Rattle.moo_store.specs.Place.{Between, Failed, Place, Works, moment_of}
 pub use Rattle.moo_world.specs.Judge.{State, judge, left_by, state_of}

@@ -1,5 +1,5 @@
 -- What is reported of a file that is refused.
-use Rattle.moo_run.{proofs.Words.{◌≡◌, inl, inr, ℕ, List, Err, true, false, true≢false, ◌∙◌, begins_anew, Option, refl, sym, subst, Ghosts, Image, Moment, IsSpared, AreTreesOf, Task, Reports, Tells, store_failure, Run, RunsTask, FailsAtOnce, RefusesFile, RunsFile, Failure}, specs.declared.ends.Ends.{Ends}, proofs.Connections.{of_opening, of_refusal}, specs.Ends.{RefusedOnto}}
+use Rattle.moo_run.{proofs.Words.{◌≡◌, inl, inr, ℕ, List, Err, true, false, true≢false, ◌∙◌, begins_anew, Option, refl, sym, subst, Ghosts, Image, Moment, IsSparedMoment, AreTreesOf, Task, Reports, Tells, store_failure, Run, RunsTask, FailsAtOnce, RefusesFile, RunsFile, Failure}, specs.declared.ends.Ends.{Ends}, proofs.Connections.{of_opening, of_refusal}, specs.Ends.{RefusedOnto}}
 use Rattle.moo_run.specs.declared.ends.Ends.TheVariants as variant
 use Rattle.moo_files.{specs.Opened.{Contents, Nothing, Database, Unfit, Hold, Refuses}, specs.Contents.{HoldsMoment}, specs.Remains.{IsCleanRemains, KeepsSuch}, specs.declared.remains.Remains.{Remains}, proofs.OpenedLemmas.{still_holds}}
 use Rattle.moo_store.{specs.OpeningRows.{IsOfStore}, specs.declared.fault.StoreFault.{StoreFault}}
@@ -36,7 +36,7 @@ refused_onto image fault rest run Unfit it reports = fails_at_once fault run it 
 
 -- and a moment that the files held is there still, or it was migrated
 pub still_held : {T D : Type 0} {g : Ghosts D} (image : Image) (fault : StoreFault) (rest : Remains T D g)
-    → ((held : Contents) → Hold image held → IsCleanRemains rest → Refuses held image fault rest) → (m : Moment) → HoldsMoment image m → IsCleanRemains rest → KeepsSuch (λ trees. (end : Moment) × IsSpared m end × AreTreesOf end trees) image rest
+    → ((held : Contents) → Hold image held → IsCleanRemains rest → Refuses held image fault rest) → (m : Moment) → HoldsMoment image m → IsCleanRemains rest → KeepsSuch (λ trees. (end : Moment) × IsSparedMoment m end × AreTreesOf end trees) image rest
 still_held image fault rest it m holds = still_holds image (Err (fault, rest)) it m holds
 
 -- a task that takes up its file isn't one that begins with a new world

@@ -1,5 +1,5 @@
 -- From what was done to a World to how a task ends.
-use Rattle.moo_run.{proofs.Words.{◌≡◌, ◌≢◌, NoBatches, NoMemory, Read, Write, TooLong, inl, inr, ℕ, Bool, true, false, List, Option, Result, Ok, Err, IfOk, IfErr, IfSome, IsSome, MatchResult, refl, sym, ap, ap₂, subst, if◌then◌else◌, codes, bytes_eq, HasCleanDisk, State, state_of, Moment, Place, Works, Failed, LeavesJust, rows_alone, state_of_moment, World, store_of, state_in, Stands, MovesBy, RunsAt, AsksAt, RehearsesAt, text_failure, store_failure, checked_line, Texts, texts_by, None, Some, true≢false, ◌∙◌, lost_status, course_status, line_of, AnswersText, AnswersAs, StopsAs, StopsIn, SaysChecked, StopsChecking, ComesOf, EndsTask, Failure}, specs.Texts.{OpenedBy, LacksBy}, specs.Run.{Steps, TellsLack}, specs.declared.texts.Manner.{Manner}}
+use Rattle.moo_run.{proofs.Words.{◌≡◌, ◌≢◌, NoBatches, NoMemory, Read, Write, TooLong, inl, inr, ℕ, Bool, true, false, List, Option, Result, Ok, Err, IfOk, IfErr, IfSome, IsSome, MatchResult, refl, sym, ap, ap₂, subst, if◌then◌else◌, codes, bytes_eq, HasCleanDisk, State, state_of, Moment, Place, Works, Failed, LeavesJust, rows_alone, state_of_moment, World, store_of, state_of_world, Stands, MovesBy, RunsAt, AsksAt, RehearsesAt, text_failure, store_failure, checked_line, Texts, texts_by, None, Some, true≢false, ◌∙◌, lost_status, course_status, line_of, AnswersText, AnswersAs, StopsAs, StopsIn, SaysChecked, StopsChecking, ComesOf, EndsTask, Failure}, specs.Texts.{OpenedBy, LacksBy}, specs.Run.{Steps, TellsLack}, specs.declared.texts.Manner.{Manner}}
 use Rattle.moo_run.specs.declared.texts.Manner.TheVariants as manner
 use Rattle.sqlite.{specs.Store.{Ghosts}, specs.Held.{state}}
 use Rattle.moo_text.specs.declared.fault.TextFault.{TextFault}
@@ -84,15 +84,15 @@ pub unchanged : {S : Type 0} (g : Ghosts S) (world : World S) (m : Moment) (P : 
 unchanged g world m P stands p = record { end = Works m; leads = leads_start m; clean = λ clean. clean; stands = stands; ends = p }
 
 -- its own rows are those of the moment
-at_rows : {S : Type 0} (g : Ghosts S) (world : World S) (m : Moment) → Stands g world (Works m) → state_in world ≡ state_of_moment m
+at_rows : {S : Type 0} (g : Ghosts S) (world : World S) (m : Moment) → Stands g world (Works m) → state_of_world world ≡ state_of_moment m
 at_rows g world m stands = ap state_of (stands.rows stands.failed)
 
 -- what was said of its own state is said of the moment
-pub said_by : {S : Type 0} (g : Ghosts S) (world : World S) (m : Moment) (line : State → List ℕ) (old new : Option (List ℕ)) (status : ℕ) → Stands g world (Works m) → Appends old new (line (state_in world)) × (status ≡ 0)
+pub said_by : {S : Type 0} (g : Ghosts S) (world : World S) (m : Moment) (line : State → List ℕ) (old new : Option (List ℕ)) (status : ℕ) → Stands g world (Works m) → Appends old new (line (state_of_world world)) × (status ≡ 0)
     → EndsTask g world world m (λ end. LeavesJust m end × Appends old new (line (state_of_moment m)) × (status ≡ 0))
 said_by g world m line old new status stands it = unchanged g world m _ stands (λ t is. is, subst (λ s. Appends old new (line s)) (at_rows g world m stands) it.0, it.1)
 
-pub unsaid_by : {S : Type 0} (g : Ghosts S) (world : World S) (m : Moment) (line : State → List ℕ) (old new : Option (List ℕ)) (failure : Failure) → Stands g world (Works m) → StopsIn (line (state_in world)) failure old new
+pub unsaid_by : {S : Type 0} (g : Ghosts S) (world : World S) (m : Moment) (line : State → List ℕ) (old new : Option (List ℕ)) (failure : Failure) → Stands g world (Works m) → StopsIn (line (state_of_world world)) failure old new
     → EndsTask g world world m (λ end. LeavesJust m end × StopsIn (line (state_of_moment m)) failure old new)
 unsaid_by g world m line old new failure stands it = unchanged g world m _ stands (λ t is. is, subst (λ s. StopsIn (line s) failure old new) (at_rows g world m stands) it)
 
@@ -124,7 +124,7 @@ checked_cause g was world m fault to stands way checks early some clean =
 
 module _ {S : Type 0} (g : Ghosts S) (was world : World S) (m : Moment) (stands : Stands g was (Works m)) where
   -- the line is that of the moment
-  told : (count seq : ℕ) → Checks was.rows.maps (store_of g was) (store_of g world) (Ok count) → seq ≡ (state_in was).seq → checked_line seq count ≡ line_of checked_line (state_of_moment m)
+  told : (count seq : ℕ) → Checks was.rows.maps (store_of g was) (store_of g world) (Ok count) → seq ≡ (state_of_world was).seq → checked_line seq count ≡ line_of checked_line (state_of_moment m)
   told count seq checks number = ap₂ checked_line number checks.count ∙ ap (line_of checked_line) (at_rows g was m stands)
 
   -- a check was done, and something is said of what it leaves
@@ -142,12 +142,12 @@ module _ {S : Type 0} (g : Ghosts S) (was world : World S) (m : Moment) (stands 
 
   -- it found none, and the line tells how much there is
   pub check_says : (count seq : ℕ) (old new : Option (List ℕ)) (status : ℕ) → MovesBy g was world (λ from to. LeavesChecked from (Ok count) to) → Checks was.rows.maps (store_of g was) (store_of g world) (Ok count)
-      → seq ≡ (state_in was).seq → Appends old new (checked_line seq count) × (status ≡ 0) → EndsTask g was world m (λ end. SaysChecked m end old new status)
+      → seq ≡ (state_of_world was).seq → Appends old new (checked_line seq count) × (status ≡ 0) → EndsTask g was world m (λ end. SaysChecked m end old new status)
   check_says count seq old new status moves checks number said =
       after_check (Ok count) _ moves (λ to way just. (just, subst (λ line. Appends old new line) (told count seq checks number) said.0, said.1))
 
   pub check_unsaid : (count seq : ℕ) (old new : Option (List ℕ)) (failure : Failure) → MovesBy g was world (λ from to. LeavesChecked from (Ok count) to) → Checks was.rows.maps (store_of g was) (store_of g world) (Ok count)
-      → seq ≡ (state_in was).seq → StopsIn (checked_line seq count) failure old new → EndsTask g was world m (λ end. StopsChecking m end failure (HasCleanDisk (store_of g world)) old new)
+      → seq ≡ (state_of_world was).seq → StopsIn (checked_line seq count) failure old new → EndsTask g was world m (λ end. StopsChecking m end failure (HasCleanDisk (store_of g world)) old new)
   check_unsaid count seq old new failure moves checks number said =
       after_check (Ok count) _ moves (λ to way just. (just, inr (subst (λ line. StopsIn line failure old new) (told count seq checks number) said)))
 

@@ -7,12 +7,12 @@ pub use Rattle.moo_load.specs.OneState.{IsHeld}
 pub use Rattle.moo_rows.specs.Maps.{Maps}
 pub use Rattle.moo_rows.specs.Opening.{opening_maps}
 pub use Rattle.moo_store.specs.Kept.{World}
-pub use Rattle.moo_store.specs.Moment.{AreTreesOf, IsSpared, Moment, rows_alone, state_of_moment}
+pub use Rattle.moo_store.specs.Moment.{AreTreesOf, IsSparedMoment, Moment, rows_alone, state_of_moment}
 pub use Rattle.moo_store.specs.NewTables.{IsMadeOf, LeavesAsMade}
 pub use Rattle.moo_store.specs.Place.{Between, Failed, LeavesJust, Place, Works}
 pub use Rattle.moo_store.specs.Moves.{AsksAt, MovesBy, RunsAt, Stands}
 pub use Rattle.moo_store.specs.Rehearsed.{RehearsesAt}
-pub use Rattle.moo_store.specs.World.{state_in, store_of}
+pub use Rattle.moo_store.specs.World.{state_of_world, store_of}
 pub use Rattle.moo_cli.specs.declared.task.Task.{Task}
 pub use Rattle.moo_world.specs.Judge.{State, state_of}
 pub use Rattle.moo_world.specs.Rows.{IsGood}

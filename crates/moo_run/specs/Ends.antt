@@ -14,7 +14,7 @@ use Rattle.moo_world.specs.Judge.{State}
 use Rattle.moo_tables_rows.specs.Tables.{Tables}
 use Rattle.moo_cells.specs.Shows.{ShowsRows}
 use Rattle.moo_store.specs.OpeningRows.{SaysOr, AreMigrated, IsOfStore}
-use Rattle.moo_store.specs.Moment.{Moment, rows_alone, AreTreesOf, BecomesPresent, IsSpared}
+use Rattle.moo_store.specs.Moment.{Moment, rows_alone, AreTreesOf, BecomesPresent, IsSparedMoment}
 use Rattle.moo_store.specs.NewTables.{LeavesAsMade}
 use Rattle.moo_store.specs.States.{LeavesState}
 use Rattle.moo_tables_rows.specs.Inside.{Leaves}
@@ -138,7 +138,7 @@ module _ {T D : Type 0} {g : Ghosts D} where
     -- It holds its moment still, or that to which it was migrated, and so does what a crash leaves of it; and if it held anything, sound or
     -- not, it is spared.
     pub left : (m : Moment) → HoldsMoment image m → IsCleanRemains rest →
-        KeepsSuch (λ trees. (end : Moment) × IsSpared m end × AreTreesOf end trees) image rest
+        KeepsSuch (λ trees. (end : Moment) × IsSparedMoment m end × AreTreesOf end trees) image rest
     pub spares : ¬ IsNothing image → (begins_anew task ≡ true → ¬ IsBlank image) → IsCleanRemains rest → Spares image rest
     -- No new world is put in place of a table, but into a database without any, and then whole or not at all.
     pub spared : (trees : Trees) → begins_anew task ≡ true → HoldsTrees image trees → HasAnyTable trees → IsCleanRemains rest →

@@ -6,7 +6,7 @@ ghost use Rattle.moo_dump.specs.Dump.{dump};
 ghost use Rattle.moo_store.specs.Moment.{Moment};
 ghost use Rattle.moo_store.specs.Place.{Works};
 ghost use Rattle.moo_store.specs.Moves.{Stands};
-ghost use Rattle.moo_store.specs.World.{store_of, state_in};
+ghost use Rattle.moo_store.specs.World.{store_of, state_of_world};
 ghost use Rattle.moo_run_lines.specs.Lines.{loaded_line};
 ghost use Rattle.moo_run.specs.Run.{RunsAction, EndsCheck, line_of, StopsIn, ShowsTables, LeavesNothingNew};
 ghost use Rattle.moo_run.specs.Run.{only_reads, serves, reads_input, ReadsFile};
@@ -26,9 +26,9 @@ use std::io::Write;
 /// Writes what the world holds.
 fn show<W: Write, B: Alter + Drop>(world: &World<B>, output: &mut W) -> Result<u8, Failure>
     ensures done { world.now.failed ≡ false →
-        IfOk result (λ status. Appends (W.contents output.old) (W.contents output.new) (dump (state_in world.now)) × (status ≡ 0)) }
+        IfOk result (λ status. Appends (W.contents output.old) (W.contents output.new) (dump (state_of_world world.now)) × (status ≡ 0)) }
     ensures stops { world.now.failed ≡ false →
-        IfErr result (λ failure. StopsIn (dump (state_in world.now)) failure (W.contents output.old) (W.contents output.new)) }
+        IfErr result (λ failure. StopsIn (dump (state_of_world world.now)) failure (W.contents output.old) (W.contents output.new)) }
 {
     world.dump(output)?;
     Ok(0)
@@ -91,10 +91,10 @@ fn show_loaded<W: Write, B: Alter + Drop>(
     output: &mut W,
 ) -> Result<u8, Failure>
     ensures done { world.now.failed ≡ false →
-        let line = line_of loaded_line (state_in world.now) in
+        let line = line_of loaded_line (state_of_world world.now) in
         IfOk result (λ status. Appends (W.contents output.old) (W.contents output.new) line × (status ≡ 0)) }
     ensures stops { world.now.failed ≡ false →
-        let line = line_of loaded_line (state_in world.now) in
+        let line = line_of loaded_line (state_of_world world.now) in
         IfErr result (λ failure. StopsIn line failure (W.contents output.old) (W.contents output.new)) }
 {
     let seq = world.seq()?;

@@ -11,7 +11,7 @@ use Rattle.sqlite.specs.declared.file.Leftover.TheVariants as left
 use Rattle.moo_rows.specs.Maps.{Maps}
 use Rattle.moo_tables.proofs.SchemaLemmas.{one_schema}
 use Rattle.moo_tables_rows.{specs.declared.version.Version.{Version}, specs.declared.version.Version.TheVariants.{First, Second}, specs.Tables.{schema_of, no_schema}}
-use Rattle.moo_store.{specs.Moment.{Moment, AllCells, AreTreesOf, BecomesPresent, IsSpared}, specs.OpeningRows.{AreMigrated}, proofs.Causes.{of_store, says_nothing}}
+use Rattle.moo_store.{specs.Moment.{Moment, AllCells, AreTreesOf, BecomesPresent, IsSparedMoment}, specs.OpeningRows.{AreMigrated}, proofs.Causes.{of_store, says_nothing}}
 use Rattle.moo_files.{specs.Contents.{HoldsSuch, HoldsMoment, HoldsEarlier, HasAnyTable, IsLeftBy}, specs.Causes.{HasCauseOver, IsDenied}, specs.Remains.{IsCleanRemains, KeepsSuch}, specs.Closing.{IsLeftOf, IsClosedFrom}, specs.declared.remains.Remains.{Remains}, specs.Stop.{AreNumbered}, specs.Opened.{Database as a_database}}
 use Rattle.moo_files.{proofs.OpenedLemmas.{over_more}, proofs.StopLemmas.{left_by_store, such_by_bytes}}
 use Rattle.moo_files.specs.declared.remains.Remains.TheVariants as remains
@@ -82,7 +82,7 @@ module _ {D : Type 0} {g : Ghosts D} where
 
 -- a database of the moment, or of that to which it was migrated
 abbrev pub KeepsMoment : Moment → Trees → Type 0
-KeepsMoment m trees = (end : Moment) × IsSpared m end × AreTreesOf end trees
+KeepsMoment m trees = (end : Moment) × IsSparedMoment m end × AreTreesOf end trees
 
 -- a moment that is refused was refused for a cause
 pub fails_for : {T D : Type 0} {g : Ghosts D} (path : List ℕ) (image : Image) (rest : Remains T D g) (run : Run) (m : Moment) (holds : HoldsMoment image m) → RefusesTables path holds.such.1.0.tables rest run → FailsFor path image rest run

@@ -6,7 +6,7 @@ use Rattle.sqlite_wal.specs.Recovery.{Image}
 use Rattle.sqlite.{specs.State.{HasCleanDisk}, specs.Files.{file_state}}
 use Rattle.moo_rows.specs.Maps.{Maps}
 use Rattle.moo_world.{specs.declared.call.Batch.{Batch}, specs.Rows.{IsGood}, specs.Judge.{after, is_for}}
-use Rattle.moo_store.{specs.Moment.{Moment, BecomesPresent, IsSpared, LeadsByEach, rows_alone, state_of_moment}, specs.Place.{MayBeLeft}}
+use Rattle.moo_store.{specs.Moment.{Moment, BecomesPresent, IsSparedMoment, LeadsByEach, rows_alone, state_of_moment}, specs.Place.{MayBeLeft}}
 use Rattle.moo_cli.{specs.Tasks.{NamesTask}, specs.declared.task.Task.{Task}}
 use Rattle.moo_files.{specs.Contents.{HoldsMoment}, specs.Opened.{Database as a_database}, specs.declared.remains.Remains.{Remains}}
 use Rattle.moo_laws.specs.NobodyRises.{NoWizardActs, KeepsRights}
@@ -17,7 +17,7 @@ use Rattle.moo_run_laws.{specs.Again.{IfRan}, specs.FileRuns.{FileRun, run_of}, 
 
 -- ---- one run
 
-spared_rows : (m next : Moment) (own : List Batch) → own ≡ [] → IsSpared m next → LeadsByEach (rows_alone m.rows) own (rows_alone next.rows)
+spared_rows : (m next : Moment) (own : List Batch) → own ≡ [] → IsSparedMoment m next → LeadsByEach (rows_alone m.rows) own (rows_alone next.rows)
 spared_rows m next own none (inl same) = subst (λ all. LeadsByEach (rows_alone m.rows) all (rows_alone next.rows)) (sym none) (ap (λ (x : Moment). rows_alone x.rows) same)
 spared_rows m next own none (inr (earlier, same)) = subst (λ all. LeadsByEach (rows_alone m.rows) all (rows_alone next.rows)) (sym none) (ap rows_alone same)
 
@@ -26,7 +26,7 @@ module _ {T D : Type 0} {g : Ghosts D} where
   abbrev Leads : List (List ℕ) → Ends T D g → Run → Moment → List Batch → Moment → Type 0
   Leads words ends run m batches next = IfRan ends
       (λ conn. (task : Task) × NamesTask words task × (now : Moment) × BecomesPresent m now × (ran : RunsIn (file_state conn) task now run) × MayBeLeft ran.0.end next × LeadsByEach now batches next)
-      (λ rest. (batches ≡ []) × IsSpared m next)
+      (λ rest. (batches ≡ []) × IsSparedMoment m next)
 
   -- its batches, and the moment that is found after it
   abbrev GoesOn : List (List ℕ) → Ends T D g → Run → Moment → Image → Type 0

@@ -5,7 +5,7 @@ use Rattle.sqlite_disk.specs.declared.Disk.{Ghosts}
 use Rattle.sqlite_wal.specs.Recovery.{Image}
 use Rattle.sqlite_store.specs.declared.store.FileStore.{FileStore}
 use Rattle.sqlite.{specs.State.{State as Database, HasCleanDisk}, specs.Tree.{Trees}, specs.Held.{Held, AreDatabases}, specs.Files.{file_state}}
-use Rattle.moo_store.{specs.Moment.{Moment, IsSpared}, specs.Place.{Place, MayBeLeft, CrashLeavesAt, moment_of}}
+use Rattle.moo_store.{specs.Moment.{Moment, IsSparedMoment}, specs.Place.{Place, MayBeLeft, CrashLeavesAt, moment_of}}
 use Rattle.moo_cli.{specs.Tasks.{NamesTask}, specs.declared.task.Task.{Task}, specs.declared.task.Action.TheVariants.{Serve}, specs.declared.task.Service.{Service}}
 use Rattle.moo_files.{specs.Contents.{HoldsSuch, HoldsMoment, IsLeftBy}, specs.Remains.{IsCleanRemains, KeepsSuch}, specs.Stop.{DiskLeaves}, specs.declared.remains.Remains.{Remains}, proofs.AgainLemmas.{held_after}, proofs.RemainsLemmas.{keeps_closed}, proofs.StopLemmas.{left_by_disk, places_are_databases, spared_are_databases}}
 use Rattle.moo_files.specs.declared.remains.Remains.TheVariants as remains
@@ -90,7 +90,7 @@ module _ {T D : Type 0} {g : Ghosts D} where
 
   -- files whose words were refused hold their moment still
   refused_found : (words : List (List ℕ)) (image : Image) (was closed : Remains T D g) (run : Run) (next : Image) → RunsOver words image (variant.Refused was) run → Found image (variant.Refused was) closed next
-      → (m : Moment) → HoldsMoment image m → (end : Moment) × IsSpared m end × HoldsMoment next end
+      → (m : Moment) → HoldsMoment image m → (end : Moment) × IsSparedMoment m end × HoldsMoment next end
   refused_found words image was closed run next over found m holds =
       let it = still_found (KeepsMoment m) image was closed next (spared_are_databases m) (refused_left words image was run over m holds) (record { trees = holds.trees; holds = holds.holds; such = (m, inl refl, holds.such) }) found in
       (it.such.0, it.such.1, record { trees = it.trees; holds = it.holds; such = it.such.2 })
@@ -98,7 +98,7 @@ module _ {T D : Type 0} {g : Ghosts D} where
   pub goes_by : (words : List (List ℕ)) (image : Image) (ends : Ends T D g) (closed : Remains T D g) (run : Run) (next : Image) (Then : Moment → Type 0)
       → RunsOver words image ends run → Found image ends closed next → ((t : Moment) → HoldsMoment next t → Then t)
       → IfRan ends (λ conn. (task : Task) × NamesTask words task × StartsFrom task image run.given (λ m. (ran : RunsIn (file_state conn) task m run) × (t : Moment) × MayBeLeft ran.0.end t × Then t))
-      (λ rest. (m : Moment) → HoldsMoment image m → (t : Moment) × IsSpared m t × Then t)
+      (λ rest. (m : Moment) → HoldsMoment image m → (t : Moment) × IsSparedMoment m t × Then t)
   goes_by words image (variant.Ran conn) closed run next Then (inl (task, named, alone, runs, it)) found goes = (
     task,
     named,

@@ -4,7 +4,7 @@ use Rattle.sqlite_disk.specs.declared.Disk.{Ghosts}
 use Rattle.sqlite_wal.specs.Recovery.{Image}
 use Rattle.sqlite.specs.State.{HasCleanDisk}
 use Rattle.sqlite.specs.Files.{file_state}
-use Rattle.moo_store.specs.Moment.{Moment, IsSpared}
+use Rattle.moo_store.specs.Moment.{Moment, IsSparedMoment}
 use Rattle.moo_store.specs.Place.{Place, Works, MayBeLeft}
 use Rattle.moo_files.specs.Contents.{HoldsMoment, IsLeftBy}
 use Rattle.moo_files.specs.Remains.{IsCleanRemains}
@@ -70,7 +70,7 @@ module _ {S T D : Type 0} {g : Runs.Ghosts S T D} {disk : Ghosts D} where
   GoesTo r Then = IfRan r.ends
       (λ conn. (task : Task) × NamesTask r.words task × StartsFrom task r.image (run_of r).given (λ m.
       (ran : RunsIn (file_state conn) task m (run_of r)) × (end : Moment) × MayBeLeft ran.0.end end × Then end))
-      (λ rest. (m : Moment) → HoldsMoment r.image m → (end : Moment) × IsSpared m end × Then end)
+      (λ rest. (m : Moment) → HoldsMoment r.image m → (end : Moment) × IsSparedMoment m end × Then end)
 
   -- It goes on from this moment: its files hold it; and a task that takes up its file, on a clean disk, runs from it, or fails for a cause,
   -- and no damage is told.

@@ -4,7 +4,7 @@ use Rattle.sqlite_disk.specs.declared.Disk.{Ghosts}
 use Rattle.sqlite_wal.specs.Recovery.{Image}
 use Rattle.sqlite.specs.Files.{file_state}
 use Rattle.moo_world.specs.declared.call.Batch.{Batch}
-use Rattle.moo_store.specs.Moment.{Moment, BecomesPresent, IsSpared, LeadsByEach}
+use Rattle.moo_store.specs.Moment.{Moment, BecomesPresent, IsSparedMoment, LeadsByEach}
 use Rattle.moo_store.specs.Place.{MayBeLeft}
 use Rattle.moo_cli.specs.declared.task.Task.{Task}
 use Rattle.moo_cli.specs.Tasks.{NamesTask}
@@ -28,7 +28,7 @@ module _ {S T D : Type 0} {g : Runs.Ghosts S T D} {disk : Ghosts D} where
   LeadsOver run m batches next = IfRan run.ends
       (λ conn. (task : Task) × NamesTask run.words task × (now : Moment) × BecomesPresent m now
       × (ran : RunsIn (file_state conn) task now (run_of run)) × MayBeLeft ran.0.end next × LeadsByEach now batches next)
-      (λ rest. (batches ≡ []) × IsSpared m next)
+      (λ rest. (batches ≡ []) × IsSparedMoment m next)
 
   -- so the runs do, one after another
   abbrev pub LeadInTurn : Moment → List (FileRun g disk) → List Batch → Moment → Type 0

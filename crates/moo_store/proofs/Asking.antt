@@ -1,5 +1,5 @@
 -- What the asking of a text answers.
-use Rattle.moo_store.{proofs.Words.{◌≡◌, ℕ, Bool, List, Option, Result, Ok, Err, refl, ap, subst, sym, false, IsTrue, Ghosts, Batch, Maps, state_of, TextFault, Answer, Reply, World, answer_to, StoreFault, Closed}, specs.Moves.{Stands, MayReplyAsked, AsksAt}, specs.Stopping.{AnswersBy}, specs.World.{state_in}, specs.declared.course.Course.{Course}, proofs.Texts.{answers-follow}, specs.Moment.{Moment, state_of_moment}, specs.Place.{Place, Works, Failed, Between}}
+use Rattle.moo_store.{proofs.Words.{◌≡◌, ℕ, Bool, List, Option, Result, Ok, Err, refl, ap, subst, sym, false, IsTrue, Ghosts, Batch, Maps, state_of, TextFault, Answer, Reply, World, answer_to, StoreFault, Closed}, specs.Moves.{Stands, MayReplyAsked, AsksAt}, specs.Stopping.{AnswersBy}, specs.World.{state_of_world}, specs.declared.course.Course.{Course}, proofs.Texts.{answers-follow}, specs.Moment.{Moment, state_of_moment}, specs.Place.{Place, Works, Failed, Between}}
 use Rattle.std.specs.Result.{IsOkAnd, IsErrOf}
 
 -- ---- one batch
@@ -9,7 +9,7 @@ replied_at m batch (Ok reply) it = ((reply, refl, it), refl)
 replied_at m batch (Err fault) it = absurd it
 
 -- what asking a batch says of a World, at whatever place it is
-pub asked_at : {S : Type 0} (g : Ghosts S) (world : World S) (batch : Batch) (r : Result Reply StoreFault) → (world.failed ≡ false → IsOkAnd r (MayReplyAsked (state_in world) batch)) → (IsTrue world.failed → IsErrOf r Closed)
+pub asked_at : {S : Type 0} (g : Ghosts S) (world : World S) (batch : Batch) (r : Result Reply StoreFault) → (world.failed ≡ false → IsOkAnd r (MayReplyAsked (state_of_world world) batch)) → (IsTrue world.failed → IsErrOf r Closed)
     → (place : Place) → Stands g world place → AsksAt place batch (answer_to r) place
 asked_at g world batch r asks closed (Works m) at = replied_at m batch r (subst (λ (rows : Maps). IsOkAnd r (MayReplyAsked (state_of rows) batch)) (at.rows at.failed) (asks at.failed))
 asked_at g world batch r asks closed (Failed m) at = (ap answer_to (closed at.failed), refl)

@@ -26,7 +26,7 @@ pub use Rattle.moo_store.specs.Turns.{Completes, GivesFrontOrAll, Halts, Turn, T
 pub use Rattle.moo_store.specs.Current.{unread_kept, unread_of}
 pub use Rattle.moo_store.specs.Moment.{AllCells, BecomesPresent, Moment, rows_alone}
 pub use Rattle.moo_store.specs.Place.{MayBeLeft, Place, Works, moment_of}
-pub use Rattle.moo_store.specs.World.{MatchStore, state_in, store_of}
+pub use Rattle.moo_store.specs.World.{MatchStore, state_of_world, store_of}
 pub use Rattle.moo_store.specs.declared.fault.StoreFault.{StoreFault}
 pub use Rattle.moo_store.specs.declared.fault.StoreFault.TheVariants.{Closed, OutOfMemory, Store}
 pub use Rattle.moo_store.specs.States.{KeepsRows, LeavesState}

@@ -13,8 +13,8 @@ abbrev pub store_of : {S : Type 0} (g : Ghosts S) → World S → Database
 store_of g world = state g world.connection
 
 -- the state of the rows of a World
-abbrev pub state_in : {S : Type 0} → World S → State
-state_in world = state_of world.rows.maps
+abbrev pub state_of_world : {S : Type 0} → World S → State
+state_of_world world = state_of world.rows.maps
 
 -- P, or Q if the store failed
 abbrev pub MatchStore : {T : Type 0} → Result T StoreFault → Type 0 → Type 0 → Type 0

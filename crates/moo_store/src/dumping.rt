@@ -3,7 +3,7 @@
 ghost use Rattle.std.specs.Prelude.{◌≡◌, ◌≢◌, ℕ, take, false, IsTrue, OnOk, IfErr, IsErrOf};
 ghost use Rattle.std.specs.Io.KnownBytes.{Appends};
 ghost use Rattle.moo_dump.specs.Dump.{dump};
-ghost use Rattle.moo_store.specs.World.{state_in};
+ghost use Rattle.moo_store.specs.World.{state_of_world};
 
 use crate::world::World;
 use moo_dump::{RowsDumpFault, dump};
@@ -28,9 +28,9 @@ impl<S: Alter + Drop> World<S> {
     /// World had failed: nothing is written.
     pub fn dump<W: Write>(&self, output: &mut W) -> Result<(), DumpFault>
         ensures ok { self.now.failed ≡ false →
-            OnOk result (Appends (W.contents output.old) (W.contents output.new) (dump (state_in self.now))) }
+            OnOk result (Appends (W.contents output.old) (W.contents output.new) (dump (state_of_world self.now))) }
         ensures err { self.now.failed ≡ false → IfErr result (λ fault. (fault ≢ DumpFault.Closed)
-            × ((count : ℕ) × Appends (W.contents output.old) (W.contents output.new) (take count (dump (state_in self.now))))) }
+            × ((count : ℕ) × Appends (W.contents output.old) (W.contents output.new) (take count (dump (state_of_world self.now))))) }
         ensures closed { IsTrue self.now.failed → IsErrOf result DumpFault.Closed × (output.new ≡ output.old) }
     {
         if self.failed {

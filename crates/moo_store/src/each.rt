@@ -5,7 +5,7 @@ ghost use Rattle.moo_batch.specs.Ticks.{NoneComeBack};
 ghost use Rattle.moo_world.specs.Judge.{judge};
 ghost use Rattle.moo_store.specs.Answered.{answer_of, answers_alone};
 ghost use Rattle.moo_store.specs.Seeing.{HasSeenEach, HasSeenPlace, HasSeenReply};
-ghost use Rattle.moo_store.specs.World.{state_in};
+ghost use Rattle.moo_store.specs.World.{state_of_world};
 
 use crate::fault::StoreFault;
 use crate::world::World;
@@ -32,7 +32,7 @@ fn ask_kept<S: Alter + Drop, N: Witness>(
     witness: &mut N,
 ) -> Result<Reply, AllocError>
     ensures reply { world.now.failed ≡ false →
-        IfOk result (λ reply. reply ≡ answer_of (state_in world.now) (judge (state_in world.now) batch.now)) }
+        IfOk result (λ reply. reply ≡ answer_of (state_of_world world.now) (judge (state_of_world world.now) batch.now)) }
     ensures ticks { NoneComeBack (N.left witness.old) (N.left witness.new) }
     ensures seen { IfOk result (λ reply.
         HasSeenReply N.sees world.now.rows.maps batch.now reply (N.kept witness.old) (N.kept witness.new)) }
@@ -51,7 +51,7 @@ fn ask_alone<S: Alter + Drop, N: Witness>(
     witness: &mut N,
 ) -> Result<Option<Reply>, AllocError>
     ensures reply { world.now.failed ≡ false →
-        IfOk result (λ reply. reply ≡ option_map (λ batch. answer_of (state_in world.now) (judge (state_in world.now) batch)) batch.now) }
+        IfOk result (λ reply. reply ≡ option_map (λ batch. answer_of (state_of_world world.now) (judge (state_of_world world.now) batch)) batch.now) }
     ensures ticks { NoneComeBack (N.left witness.old) (N.left witness.new) }
     ensures seen { IfOk result (λ reply.
         HasSeenPlace N.sees world.now.rows.maps batch.now reply (N.kept witness.old) (N.kept witness.new)) }
@@ -68,7 +68,7 @@ fn ask_all<S: Alter + Drop, N: Witness>(
     batches: &[Option<Batch>],
     witness: &mut N,
 ) -> Result<Vec<Option<Reply>>, AllocError>
-    ensures replies { world.now.failed ≡ false → IfOk result (λ replies. replies.items ≡ answers_alone (state_in world.now) batches.now) }
+    ensures replies { world.now.failed ≡ false → IfOk result (λ replies. replies.items ≡ answers_alone (state_of_world world.now) batches.now) }
     ensures ticks { NoneComeBack (N.left witness.old) (N.left witness.new) }
     ensures seen { IfOk result (λ replies.
         HasSeenEach N.sees world.now.rows.maps batches.now replies.items (N.kept witness.old) (N.kept witness.new)) }
@@ -93,7 +93,7 @@ impl<S: Alter + Drop> World<S> {
         witness: &mut N,
     ) -> Result<Vec<Option<Reply>>, StoreFault>
         ensures replies { self.now.failed ≡ false → MatchResult result
-            (λ replies. replies.items ≡ answers_alone (state_in self.now) batches.now) (λ fault. fault ≡ StoreFault.OutOfMemory) }
+            (λ replies. replies.items ≡ answers_alone (state_of_world self.now) batches.now) (λ fault. fault ≡ StoreFault.OutOfMemory) }
         ensures closed { IsTrue self.now.failed → IsErrOf result StoreFault.Closed }
         ensures ticks { NoneComeBack (N.left witness.old) (N.left witness.new) }
         ensures seen { IfOk result (λ replies.

@@ -7,7 +7,7 @@ ghost use Rattle.moo_store.specs.Answered.{acknowledged, added};
 ghost use Rattle.moo_store.specs.Moves.{MovesBy, RunsAt, FailsRun};
 ghost use Rattle.moo_store.specs.Runs.{RunsEach};
 ghost use Rattle.moo_store.specs.Stopping.{AnswersBy, to_the_end};
-ghost use Rattle.moo_store.specs.World.{store_of, state_in, MatchStore};
+ghost use Rattle.moo_store.specs.World.{store_of, state_of_world, MatchStore};
 ghost use Rattle.moo_dump.specs.Look.{look_of};
 
 use crate::answering::answer_until;
@@ -61,7 +61,7 @@ impl<S: Alter + Drop> World<S> {
     /// OutOfMemory if memory runs out. Closed if the World had failed.
     pub fn object(&self, x: ObjNo) -> Result<Option<Look>, StoreFault>
         ensures look { self.now.failed ≡ false → MatchResult result
-            (λ look. look ≡ look_of (state_in self.now).world x) (λ fault. fault ≡ StoreFault.OutOfMemory) }
+            (λ look. look ≡ look_of (state_of_world self.now).world x) (λ fault. fault ≡ StoreFault.OutOfMemory) }
         ensures closed { IsTrue self.now.failed → IsErrOf result StoreFault.Closed }
     {
         if self.failed {

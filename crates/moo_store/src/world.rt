@@ -60,7 +60,7 @@ impl<S: Alter + Drop> World<S> {
     ghost use Rattle.moo_store.specs.Seeing.{HasSeenReply};
     ghost use Rattle.moo_store.specs.Stopping.{says_accepted};
     ghost use Rattle.moo_store.specs.Text.{answer_to};
-    ghost use Rattle.moo_store.specs.World.{store_of, state_in};
+    ghost use Rattle.moo_store.specs.World.{store_of, state_of_world};
     ghost use Rattle.moo_text.specs.declared.reply.Answer.TheVariants as answer;
 
     /// The World of good rows, over a connection in no transaction. It works at a moment of these rows that the connection has at rest.
@@ -142,7 +142,7 @@ impl<S: Alter + Drop> World<S> {
     /// The only fault is Closed.
     #[tactic(auto, using(moo_batch::proofs::Ticking::as_before))]
     pub fn ask<N: Witness>(&self, batch: &Batch, witness: &mut N) -> Result<Reply, StoreFault>
-        ensures asks { self.now.failed ≡ false → IsOkAnd result (MayReplyAsked (state_in self.now) batch.now) }
+        ensures asks { self.now.failed ≡ false → IsOkAnd result (MayReplyAsked (state_of_world self.now) batch.now) }
         ensures ticks { NoneComeBack (N.left witness.old) (N.left witness.new) }
         ensures closed { IsTrue self.now.failed → IsErrOf result StoreFault.Closed }
         ensures seen { IfOk result (λ reply.
@@ -170,7 +170,7 @@ impl<S: Alter + Drop> World<S> {
 
     /// The number of the batches that were accepted, 0 to 9,223,372,036,854,775,807. The only fault is Closed.
     pub fn seq(&self) -> Result<u64, StoreFault>
-        ensures number { self.now.failed ≡ false → result ≡ Ok (state_in self.now).seq }
+        ensures number { self.now.failed ≡ false → result ≡ Ok (state_of_world self.now).seq }
         ensures closed { IsTrue self.now.failed → IsErrOf result StoreFault.Closed }
     {
         if self.failed {
@@ -181,7 +181,7 @@ impl<S: Alter + Drop> World<S> {
 
     /// The number of objects. Takes no memory. The only fault is Closed.
     pub fn object_count(&self) -> Result<u64, StoreFault>
-        ensures count { self.now.failed ≡ false → result ≡ Ok (length (objects_of (state_in self.now).world)) }
+        ensures count { self.now.failed ≡ false → result ≡ Ok (length (objects_of (state_of_world self.now).world)) }
         ensures closed { IsTrue self.now.failed → IsErrOf result StoreFault.Closed }
     {
         if self.failed {

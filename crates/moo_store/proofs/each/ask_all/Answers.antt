@@ -1,6 +1,6 @@
 use Rattle.moo_store.proofs.SeenEach.{seen-more}
 use Rattle.moo_store.specs.Seeing.{HasSeenEach, HasSeenPlace}
-use Rattle.moo_store.proofs.Words.{◌+◌, get_or, subst, take, take_more, [], ◌∷◌, ◌++◌, ap, sym, ◌∙◌, judge, answer_of, state_in}
+use Rattle.moo_store.proofs.Words.{◌+◌, get_or, subst, take, take_more, [], ◌∷◌, ◌++◌, ap, sym, ◌∙◌, judge, answer_of, state_of_world}
 use Rattle.std.{proofs.Common.{rules}, specs.Prelude.{option_map}, proofs.lemmas.List.{map_more}}
 use Rattle.moo_batch.proofs.Ticking.{as_before, and_then}
 use Rattle.moo_store.proofs.each.ask_all.Goals as goal
@@ -11,7 +11,7 @@ loop-batch-init g c = record { replies = λ works. search rules; seen = search r
 pub loop-batch-preserved : goal.loop-batch-preserved
 loop-batch-preserved g c = record {
   replies = λ works.
-      let s = state_in c.args.world.now in
+      let s = state_of_world c.args.world.now in
       let reply = option_map (λ batch. answer_of s (judge s batch)) in
       c.in_ok-push.ensures.items
       ∙ (λ i. c.loop-batch.invariant.replies works i ++ (c.in_ok-ask_alone.ensures.reply works ∙ ap reply c.batch-item.is) i ∷ [])
