@@ -1,5 +1,6 @@
 -- Texts in cells.
-use Rattle.moo_cells.proofs.Words.{◌+◌, ◌≡◌, ◌≢◌, ℕ, zero, suc, ℤ, List, [], ◌∷◌, ◌≤◌, ◌<◌, length, map, get_or, take, Bool, true, false, true≢false, Some, Result, Ok, Err, refl, sym, ap, subst, ◌∙◌, arith, if◌then◌else◌, ◌==◌, ◌&&◌, nat_le, list_all, and_parts, and_from, le-leb, leb-true, Value, ObjNo, Spells, Fits, HoldInside, InRange, gather, nesting, spread, one_spelled, is_text, is_number, all_within_limits, is_named, are_few, are_shallow, has_word, state_fits, accept_fits, text_tested, fits_tested, fits_of, range_of, fits_signed, calls_fit, object_list, ShowsSlotState}
+use Rattle.moo_cells.proofs.Words.{◌≡◌, ◌≢◌, ℕ, zero, suc, ℤ, List, [], ◌∷◌, ◌≤◌, ◌<◌, length, map, get_or, take, Bool, true, false, true≢false, Some, Result, Ok, Err, refl, sym, ap, subst, ◌∙◌, arith, if◌then◌else◌, ◌==◌, ◌&&◌, nat_le, list_all, and_parts, and_from, le-leb, leb-true, Value, ObjNo, Spells, Fits, HoldInside, InRange, gather, nesting, spread, one_spelled, is_text, is_number, all_within_limits, is_named, are_few, are_shallow, has_word, state_fits, accept_fits, text_tested, fits_tested, fits_of, range_of, fits_signed, calls_fit, object_list, ShowsSlotState}
+use Rattle.std.specs.Prelude.{◌+◌}
 use Rattle.std.{specs.Result.{is_err}, proofs.lemmas.List.{take_all}}
 use Rattle.sqlite.specs.declared.types.Value.TheVariants.{Int, Text}
 use Rattle.moo_value.{specs.Text.{IsText, AllAllowed}, specs.TextFaults.{IsTextFault}, specs.declared.fault.LiteralFault.{LiteralFault}, specs.declared.fault.LiteralFault.TheVariants.{NotALiteral, OutOfRange, BadByte, TooDeep, TooLong, OutOfMemory}, specs.declared.value.Value.{Value as MooValue}, specs.declared.value.Value.TheVariants.{Obj, List as a_list}, specs.Reading.{Fails}, specs.Values.{Values, no_values, levels}}
