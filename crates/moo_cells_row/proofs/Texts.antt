@@ -1,11 +1,14 @@
 -- Texts in cells.
 use Rattle.moo_cells_row.proofs.Words.{◌≡◌, ◌≢◌, ℕ, zero, suc, ℤ, List, [], ◌∷◌, ◌≤◌, ◌<◌, length, map, get_or, take, Bool, true, false, true≢false, Some, Result, Ok, Err, refl, sym, ap, subst, ◌∙◌, arith, if◌then◌else◌, ◌==◌, ◌&&◌, nat_le, list_all, and_parts, and_from, le-leb, leb-true, Value, ObjNo, Spells, Fits, HoldInside, InRange, gather, nesting, spread, one_spelled, is_text, is_number, all_within_limits, is_named, are_few, are_shallow, has_word, state_fits, accept_fits, text_tested, fits_tested, fits_of, range_of, fits_signed, calls_fit, object_list, ShowsSlotState}
+use Rattle.std.specs.Prelude.{◌+◌}
 use Rattle.std.{specs.Result.{is_err}, proofs.lemmas.List.{take_all}}
 use Rattle.sqlite.specs.declared.types.Value.TheVariants.{Int, Text}
 use Rattle.moo_value.{specs.Text.{IsText, AllAllowed}, specs.TextFaults.{IsTextFault}, specs.declared.fault.LiteralFault.{LiteralFault}, specs.declared.fault.LiteralFault.TheVariants.{NotALiteral, OutOfRange, BadByte, TooDeep, TooLong, OutOfMemory}, specs.declared.value.Value.{Value as MooValue}, specs.declared.value.Value.TheVariants.{Obj, List as a_list}, specs.Reading.{Fails}, specs.Values.{Values, no_values, levels}}
 use Rattle.moo_rows.{specs.declared.row.SlotState.{SlotState}, specs.declared.row.SlotState.TheVariants.{Clear, Set}}
 use Rattle.moo_verbs.{specs.declared.fault.VerbFault.{VerbFault}, specs.declared.fault.VerbFault.TheVariants.{BadNames}}
 use Rattle.moo_world.specs.declared.values.TheConstants.{MOST_ACCEPTED}
+use Rattle.moo_value.specs.declared.text.TheConstants.{MAX_LENGTH}
+use Rattle.moo_value.specs.declared.value.TheConstants.{MAX_NESTING}
 
 abbrev pub text_in : Value → List ℕ
 text_in (Text t) = t
@@ -21,8 +24,8 @@ int_in n v = n
 pub int_inj : (m n : ℤ) → Int m ≡ Int n → m ≡ n
 int_inj m n e = ap (int_in m) e
 
-whole_allowed : (s : List ℕ) → IsText s → AllAllowed (take 65536 s)
-whole_allowed s t = let short = t.short in subst AllAllowed (sym (take_all 65536 s (omega arith))) t.allowed
+whole_allowed : (s : List ℕ) → IsText s → AllAllowed (take (MAX_LENGTH + 1) s)
+whole_allowed s t = let short = t.short in subst AllAllowed (sym (take_all (MAX_LENGTH + 1) s (omega arith))) t.allowed
 
 -- bytes that are no text are those of no text
 pub not_text : (f : LiteralFault) (s text : List ℕ) → IsTextFault f s → f ≢ OutOfMemory → is_text text ≡ true → s ≡ text → ⊥
@@ -139,14 +142,14 @@ pub calls_within : (calls : Values) → calls_fit calls ≡ true → Fits (a_lis
 calls_within calls fits =
     let held = held_of calls fits in
     let deep : nesting (a_list calls) ≤ 30 = leb-true (nesting (a_list calls)) 30 held.shallow in
-    let within : nesting (a_list calls) ≤ 32 = omega arith in (fits_tested (a_list calls)).0 (and_from (nat_le (nesting (a_list calls)) 32) (all_within_limits calls) (le-leb (nesting (a_list calls)) 32 within) held.limits)
+    let within : nesting (a_list calls) ≤ MAX_NESTING = omega arith in (fits_tested (a_list calls)).0 (and_from (nat_le (nesting (a_list calls)) MAX_NESTING) (all_within_limits calls) (le-leb (nesting (a_list calls)) MAX_NESTING within) held.limits)
 
 -- a value within the limits is such calls where they are named, few and shallow
 pub calls_held : (calls : Values) → Fits (a_list calls) → (list_all is_named (spread calls) && (are_few calls && are_shallow calls)) ≡ true → calls_fit calls ≡ true
 calls_held calls fits held =
     let one = and_parts (list_all is_named (spread calls)) (are_few calls && are_shallow calls) held in
     let two = and_parts (are_few calls) (are_shallow calls) one.1 in
-    let limits = and_parts (nat_le (nesting (a_list calls)) 32) (all_within_limits calls) (fits_of (a_list calls) fits) in
+    let limits = and_parts (nat_le (nesting (a_list calls)) MAX_NESTING) (all_within_limits calls) (fits_of (a_list calls) fits) in
     and_from (list_all is_named (spread calls)) (are_few calls && (are_shallow calls && all_within_limits calls)) one.0
     (and_from (are_few calls) (are_shallow calls && all_within_limits calls) two.0 (and_from (are_shallow calls) (all_within_limits calls) two.1 limits.1))
 

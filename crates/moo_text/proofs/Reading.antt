@@ -3,6 +3,7 @@ use Rattle.moo_text.proofs.Shared.{◌≡◌, ℕ, zero, suc, ◌-◌, ◌<◌, 
 use Rattle.std.proofs.lemmas.List.Folds.{list_all-append}
 use Rattle.moo_value.{specs.Reading.{Read}, proofs.Literals.{front_taken, front_again, literal_again, value_taken, takes, blanks_taken}}
 use Rattle.moo_world.{specs.Names.{spelling}, specs.declared.name.CallName.{CallName}, specs.Names.{spelled_is}}
+use Rattle.moo_value.specs.declared.value.TheConstants.{MAX_NESTING}
 
 -- an option that is never some
 pub none_if : {A : Type 0} (o : Option A) → ((x : A) → o ≡ Some x → ⊥) → o ≡ None
@@ -41,9 +42,9 @@ pub record FrontRead (b : List ℕ) (v : Value) (rest : List ℕ) : Type 0 where
 pub front_read : (b : List ℕ) (v : Value) (rest : List ℕ) → front_of b ≡ Some (v, rest) → FrontRead b v rest
 unfolding front_of literal_at
 front_read b v rest e =
-    let r : value_at 32 b ≡ Ok (v, rest) = found_ok (value_at 32 b) v rest e in
-    let t = value_taken 32 b (v, rest) r in
-    let s = takes 32 b v rest r in
+    let r : value_at MAX_NESTING b ≡ Ok (v, rest) = found_ok (value_at MAX_NESTING b) v rest e in
+    let t = value_taken MAX_NESTING b (v, rest) r in
+    let s = takes MAX_NESTING b v rest r in
     let size : length s.0 ≡ length t.text = omega (arith, ap length s.1 ∙ length-append s.0 rest, ap length t.whole ∙ length-append t.text rest) in
     record { text = t.text; whole = t.whole; some = omega (arith, s.2); fits = (t.fits, t.shallow); spelled = t.spelled; ends = t.ends }
 

@@ -1,6 +1,7 @@
 -- A spelling of a value that keeps every limit but one is read, or refused by that limit's fault.
 use Rattle.moo_value.{proofs.Words.{◌≡◌, ℕ, ℤ, zero, suc, ◌+◌, ◌<◌, ◌≤◌, Bool, true, false, cond, ◌⊎◌, inl, inr, List, [], ◌∷◌, ◌++◌, length, Result, Ok, Err, refl, sym, ap, subst, ◌∙◌, append_assoc, arith, nat_le, ◌==◌, not, length-append, append-nil, LiteralFault, NotALiteral, OutOfRange, BadByte, TooDeep, TooLong, OutOfMemory, Value, Int, Obj, Str, Error, a_list, is_allowed, IsText, Values, no_values, int, object, string, error, list, levels, prepend, nesting, is_digit, Item, SpellsNumber, SpellsBytes, SpellsItems, SpellsToken, Spells, HoldInside, HoldIn, NumberKind, an_integer, an_object, InRange, BeginsNo, Ends, NumberBut, TextBut, DepthBut, KeepsBut, Read, ◌>>=◌, after_blanks, greatest, number_at, string_at, token_at, opened_at, items_at, value_at, AreAllowed}, proofs.Numbers.{number_again, number_either}, proofs.Texts.{each_allowed}, proofs.Tokens.{first_of_number, IsNoList, token_starts, name_first, code_again, letter_starts}, specs.Reading.{code_at}, proofs.Items.{spaced_is}, proofs.Lists.{and_others, item_front, items_end, value_spaced}}
 use Rattle.std.proofs.Common.{max}
+use Rattle.moo_value.specs.declared.text.TheConstants.{MAX_LENGTH}
 
 -- ---- what is within the limits keeps every one
 
@@ -47,7 +48,7 @@ Either Gives r x = (r ≡ Ok x) ⊎ ((f : LiteralFault) × Gives f × (r ≡ Err
 -- ---- strings
 
 abbrev StringOr : List ℕ → List ℕ → List ℕ → Read (List ℕ) → Type 0
-StringOr s u rest r = (r ≡ Ok (s ++ u, rest)) ⊎ (((r ≡ Err BadByte) × (¬ (AreAllowed u))) ⊎ ((r ≡ Err TooLong) × (65535 < length s + length u)))
+StringOr s u rest r = (r ≡ Ok (s ++ u, rest)) ⊎ (((r ≡ Err BadByte) × (¬ (AreAllowed u))) ⊎ ((r ≡ Err TooLong) × (MAX_LENGTH < length s + length u)))
 
 more_string : (s : List ℕ) (c : ℕ) (u rest : List ℕ) (r q : Read (List ℕ)) → q ≡ r → StringOr (s ++ c ∷ []) u rest r → StringOr s (c ∷ u) rest q
 more_string s c u rest r q e (inl ok) = inl (e ∙ ok ∙ ap (λ (t : List ℕ). Ok (t, rest)) (append_assoc s (c ∷ []) u))
@@ -55,16 +56,16 @@ more_string s c u rest r q e (inr (inl bad)) = inr (inl (e ∙ bad.0, λ all. ba
 more_string s c u rest r q e (inr (inr long)) = inr (inr (e ∙ long.0, omega (arith, long.1, length-append s (c ∷ []))))
 
 -- a byte behind a backslash, and one by itself
-by_escape : (s : List ℕ) (c : ℕ) (u t rest : List ℕ) → StringOr (s ++ c ∷ []) u rest (string_at false (s ++ c ∷ []) t) → (a l : Bool) → is_allowed c ≡ a → nat_le 65535 (length s) ≡ l
+by_escape : (s : List ℕ) (c : ℕ) (u t rest : List ℕ) → StringOr (s ++ c ∷ []) u rest (string_at false (s ++ c ∷ []) t) → (a l : Bool) → is_allowed c ≡ a → nat_le MAX_LENGTH (length s) ≡ l
     → StringOr s (c ∷ u) rest (cond l (Err TooLong) (cond a (string_at false (s ++ c ∷ []) t) (Err BadByte)))
-by_escape s c u t rest next a true here long = inr (inr (refl, let full : 65535 ≤ length s = grind (arith, long) in omega (arith, full)))
+by_escape s c u t rest next a true here long = inr (inr (refl, let full : MAX_LENGTH ≤ length s = grind (arith, long) in omega (arith, full)))
 by_escape s c u t rest next false false bad room = inr (inl (refl, λ all. (let here : is_allowed c ≡ true = all.0 in absurd (let k : true ≡ false = sym here ∙ bad in cc))))
 by_escape s c u t rest next true false here room = more_string s c u rest (string_at false (s ++ c ∷ []) t) (string_at false (s ++ c ∷ []) t) refl next
 
-by_itself : (s : List ℕ) (c : ℕ) (u t rest : List ℕ) → StringOr (s ++ c ∷ []) u rest (string_at false (s ++ c ∷ []) t) → (a l : Bool) → is_allowed c ≡ a → nat_le 65535 (length s) ≡ l
+by_itself : (s : List ℕ) (c : ℕ) (u t rest : List ℕ) → StringOr (s ++ c ∷ []) u rest (string_at false (s ++ c ∷ []) t) → (a l : Bool) → is_allowed c ≡ a → nat_le MAX_LENGTH (length s) ≡ l
     → StringOr s (c ∷ u) rest (cond (not a) (Err BadByte) (cond l (Err TooLong) (string_at false (s ++ c ∷ []) t)))
 by_itself s c u t rest next false l bad room = inr (inl (refl, λ all. (let here : is_allowed c ≡ true = all.0 in absurd (let k : true ≡ false = sym here ∙ bad in cc))))
-by_itself s c u t rest next true true here long = inr (inr (refl, let full : 65535 ≤ length s = grind (arith, long) in omega (arith, full)))
+by_itself s c u t rest next true true here long = inr (inr (refl, let full : MAX_LENGTH ≤ length s = grind (arith, long) in omega (arith, full)))
 by_itself s c u t rest next true false here room = more_string s c u rest (string_at false (s ++ c ∷ []) t) (string_at false (s ++ c ∷ []) t) refl next
 
 string_either : (s u body rest : List ℕ) → SpellsBytes u body → StringOr s u rest (string_at false s (body ++ 34 ∷ rest))
@@ -73,11 +74,11 @@ string_either s (c ∷ u) body rest spelled =
     let t = spelled.0 ++ 34 ∷ rest in
     let next : StringOr (s ++ c ∷ []) u rest (string_at false (s ++ c ∷ []) t) = string_either (s ++ c ∷ []) u spelled.0 rest spelled.1 in
     elim spelled.2 [
-      | inl escaped ↦ subst (λ (w : List ℕ). StringOr s (c ∷ u) rest (string_at false s (w ++ 34 ∷ rest))) (sym escaped) (by_escape s c u t rest next (is_allowed c) (nat_le 65535 (length s)) refl refl)
+      | inl escaped ↦ subst (λ (w : List ℕ). StringOr s (c ∷ u) rest (string_at false s (w ++ 34 ∷ rest))) (sym escaped) (by_escape s c u t rest next (is_allowed c) (nat_le MAX_LENGTH (length s)) refl refl)
       | inr plain ↦
           let no_quote : (c == 34) ≡ false = grind (arith, plain.1) in
           let no_slash : (c == 92) ≡ false = grind (arith, plain.2) in
-          subst (λ (w : List ℕ). StringOr s (c ∷ u) rest (string_at false s (w ++ 34 ∷ rest))) (sym plain.0) (rw (no_quote, no_slash) (by_itself s c u t rest next (is_allowed c) (nat_le 65535 (length s)) refl refl))
+          subst (λ (w : List ℕ). StringOr s (c ∷ u) rest (string_at false s (w ++ 34 ∷ rest))) (sym plain.0) (rw (no_quote, no_slash) (by_itself s c u t rest next (is_allowed c) (nat_le MAX_LENGTH (length s)) refl refl))
     ]
 
 -- ---- tokens

@@ -16,6 +16,8 @@ use Rattle.moo_world.specs.declared.descriptor.Desc.{Desc}
 use Rattle.moo_world.specs.declared.descriptor.Desc.TheVariants.{Index, Name as a_word}
 use Rattle.moo_world.specs.Objects.{Name}
 use Rattle.moo_world.specs.Codes.{Code, E_TYPE, E_ARGS}
+use Rattle.moo_value.specs.declared.text.TheConstants.{MAX_LENGTH}
+use Rattle.moo_value.specs.declared.value.TheConstants.{MAX_NESTING}
 
 -- an integer has 64 bits
 abbrev pub is_integer : ℤ → Bool
@@ -33,7 +35,7 @@ is_number object = in_range object.0
 
 -- at most 65,535 bytes, each a tab, a space or printing ASCII: the test of IsText
 abbrev pub is_text : List ℕ → Bool
-is_text text = nat_le (length text) 65535 && list_all is_allowed text
+is_text text = nat_le (length text) MAX_LENGTH && list_all is_allowed text
 
 -- the integers in the values of a list have 64 bits and the numbers of objects 32, and the strings are texts
 abbrev pub all_within_limits : Values → Bool
@@ -54,7 +56,7 @@ is_within_limits (a_list values) = all_within_limits values
 
 -- lists nest at most 32 deep in the value, its integers have 64 bits, the numbers of its objects 32, and its strings are texts
 abbrev pub fits : Value → Bool
-fits value = nat_le (nesting value) 32 && is_within_limits value
+fits value = nat_le (nesting value) MAX_NESTING && is_within_limits value
 
 -- ---- objects, names and values
 

@@ -1,5 +1,5 @@
 -- Petitions: calls that one programmer asks a wizard to make. They are this server's own.
-use Rattle.std.specs.Prelude.{◌≡◌, ◌≤◌, ◌<◌, ℕ, nat_lt, nat_le, Bool, true, false, ◌&&◌, List, ◌∷◌, length, Some, is_some}
+use Rattle.std.specs.Prelude.{◌≡◌, ◌≤◌, ◌<◌, ◌+◌, ℕ, nat_lt, nat_le, Bool, true, false, ◌&&◌, List, ◌∷◌, length, Some, is_some}
 use Rattle.std.specs.List.{list_all}
 use Rattle.std.specs.FinMap.{FinMap, get}
 use Rattle.moo_value.specs.declared.value.Value.{Value}
@@ -11,7 +11,7 @@ use Rattle.moo_rows.specs.declared.row.PetitionRow.{PetitionRow}
 use Rattle.moo_rows.specs.Maps.{petition_cmp}
 use Rattle.moo_world.specs.Objects.{number_limit}
 use Rattle.moo_world.specs.Arguments.{is_number, all_within_limits}
-use Rattle.moo_world.specs.declared.petition.TheConstants.{MOST_HELD}
+use Rattle.moo_world.specs.declared.petition.TheConstants.{MOST_HELD, MOST_NESTING}
 
 -- the first value is a string
 abbrev pub begins_with_text : List Value → Bool
@@ -29,7 +29,7 @@ are_few calls = nat_lt 0 (length (spread calls)) && nat_le (length (spread calls
 
 -- lists nest at most 30 deep, the list of the calls being the first
 abbrev pub are_shallow : Values → Bool
-are_shallow calls = nat_le (nesting (a_list calls)) 30
+are_shallow calls = nat_le (nesting (a_list calls)) (MOST_NESTING + 1)
 
 -- 1 to 64 calls in at most 30 levels, each a list that begins with a string, with values within their limits; and the number of the
 -- programmer who asks has 32 bits

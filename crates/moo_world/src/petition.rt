@@ -4,13 +4,13 @@ ghost use Rattle.std.specs.Prelude.{◌≡◌};
 ghost use Rattle.std.specs.List.{list_all};
 ghost use Rattle.moo_world.specs.Petitions.{are_few, are_shallow, is_named};
 
-use moo_value::{Value, ValueList};
+use moo_value::{MAX_NESTING, Value, ValueList};
 
 /// The most calls that a petition holds.
 pub const MOST_HELD: usize = 64;
 
 /// How deep lists may nest in each of its calls: with the list of the calls itself that makes 30.
-const MOST_NESTING: u32 = 29;
+pub const MOST_NESTING: u32 = MAX_NESTING - 3;
 
 /// Whether the value is a list that begins with a string.
 fn is_named(held: &Value) -> bool

@@ -2,6 +2,7 @@
 use Rattle.moo_load.{proofs.Words.{◌≡◌, ℕ, ◌+◌, ◌<◌, Bool, true, false, List, [], ◌∷◌, map, Option, Some, None, refl, sym, ap, subst, ◌∙◌, arith, ◌&&◌, pos, nat_le, is_some, length, option_map, list_all, AllByRecursion, false≢true, and_parts, leb-true, lt-ltb, same_Some, ObjNo, Value, Int, Obj, Str, a_list, Fits, gather, nesting, spread, Bits, ObjRow, PetitionId, PetitionRow, ObjectSpec, This, Preposition, SlotState, Clear, Set, VerbBits, VerbRow, letters_of, verb_letters_of, flag, is_number, fits, all_within_limits, accept_value, is_named, are_few, are_shallow, petition_fits, object_spec_text, prep_text, World, WorldObject, IsWellFormed, Climbs, is_object, verb_fits, accept_fits, row_fits, state_fits, linked, state_values, both_true, object_values, petition_values, verb_values, le-leb, levels, is_text, has_word, nothing_is_no_object, object_numbered, fits_tested}, proofs.One.Values.{three_bits}}
 use Rattle.moo_rows.{specs.declared.row.Preposition.TheVariants.{Set as a_set}, specs.declared.row.PrepositionSet.TheVariants.{With}}
 use Rattle.moo_world.specs.declared.values.TheConstants.{MOST_ACCEPTED}
+use Rattle.moo_value.specs.declared.value.TheConstants.{MAX_NESTING}
 
 pub fit : (v : Value) → fits v ≡ true → Fits v
 fit v e = (fits_tested v).0 e
@@ -20,7 +21,7 @@ within_objects (x ∷ l) e = let p = and_parts (is_number x) (list_all is_number
 
 accept_fit : (a : Option (List ObjNo)) → accept_fits a ≡ true → fits (accept_value a) ≡ true
 accept_fit None e = refl
-accept_fit (Some l) e = both_true _ _ (ap (λ (n : ℕ). nat_le (n + 1) 32) (levels_objects l)) (within_objects l (and_parts (nat_le (length l) MOST_ACCEPTED) (list_all is_number l) e).1)
+accept_fit (Some l) e = both_true _ _ (ap (λ (n : ℕ). nat_le (n + 1) MAX_NESTING) (levels_objects l)) (within_objects l (and_parts (nat_le (length l) MOST_ACCEPTED) (list_all is_number l) e).1)
 
 pub letters_fit : (r w c : Bool) → (let b : Bits = record { r = r; w = w; c = c } in fits (Str (letters_of b)) ≡ true)
 letters_fit = three_bits (λ r w c. let b : Bits = record { r = r; w = w; c = c } in fits (Str (letters_of b)) ≡ true) (((refl, refl), (refl, refl)), ((refl, refl), (refl, refl)))
@@ -61,7 +62,7 @@ petition_fit id row below fitting =
     let q = and_parts (list_all is_named (spread row.calls)) (are_few row.calls && (are_shallow row.calls && all_within_limits row.calls)) p.1 in
     let r = and_parts (are_few row.calls) (are_shallow row.calls && all_within_limits row.calls) q.1 in
     let s = and_parts (are_shallow row.calls) (all_within_limits row.calls) r.1 in
-    let deep : nat_le (nesting (a_list row.calls)) 32 ≡ true = le-leb (nesting (a_list row.calls)) 32 (omega (arith, leb-true (nesting (a_list row.calls)) 30 s.0)) in
+    let deep : nat_le (nesting (a_list row.calls)) MAX_NESTING ≡ true = le-leb (nesting (a_list row.calls)) MAX_NESTING (omega (arith, leb-true (nesting (a_list row.calls)) 30 s.0)) in
     (fit (Int (pos id.0)) (lt-ltb id.0 9223372036854775808 (omega arith)), (fit (Obj row.who) p.0, (fit (a_list row.calls) (both_true _ _ deep s.1), tt)))
 
 module _ (w : World) (wf : IsWellFormed w) where

@@ -1,6 +1,7 @@
 -- What a call is given fits where all its arguments do, and a value changes no field but as it may.
 use Rattle.moo_world.proofs.Words.{arith, ◌≡◌, Bool, true, List, [], ◌∷◌, refl, sym, ◌∙◌, ap, Option, Some, None, Result, Ok, Err, pos, ◌&&◌, nat_le, unwrap_or, if◌then◌else◌, option_map, list_all, int_eq, and_parts, Code, ObjNo, Value, Int, Obj, nesting, spread, Values, int, object, string, error, list, BuiltIn, Change, Info, is_integer, in_range, is_number, is_text, all_within_limits, is_within_limits, fits, beside_object, object_text_and_value, new_property, objects_among, object_and_accept, both, desc_of, verb_info_in, texts_in, new_verb, new_verb_info, Desc, is_allowed_change, Name, change_of, World}
 use Rattle.moo_value.{specs.declared.code.Code.TheVariants.{«Type» as wrong_type}, specs.declared.value.Value.TheVariants.{List as a_list}, specs.Values.{no_values as no_more}}
+use Rattle.moo_value.specs.declared.value.TheConstants.{MAX_NESTING}
 
 -- what was read passes a test, where something was
 abbrev passes : {A E : Type 0} → (A → Bool) → Result A E → Bool
@@ -44,7 +45,7 @@ within_spread (error e rest) = within_spread rest
 within_spread (list values rest) = ap (λ b. all_within_limits values && b) (within_spread rest)
 
 each_within : (l : Values) → fits (a_list l) ≡ true → list_all is_within_limits (spread l) ≡ true
-each_within l h = sym (within_spread l) ∙ (and_parts (nat_le (nesting (a_list l)) 32) (all_within_limits l) h).1
+each_within l h = sym (within_spread l) ∙ (and_parts (nat_le (nesting (a_list l)) MAX_NESTING) (all_within_limits l) h).1
 
 -- ---- accept lists
 

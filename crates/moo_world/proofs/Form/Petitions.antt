@@ -2,20 +2,21 @@
 use Rattle.moo_world.{proofs.Lemmas.{◌≡◌, ℕ, ◌+◌, ◌<◌, ◌≤◌, true, List, [], ◌∷◌, Option, Some, None, refl, subst, arith, is_some, if◌then◌else◌, option_and_then, list_all, FinMap, insert, remove, and_parts, le-leb, leb-true, ltb-true, none-some, ObjNo, Value, Int, Obj, Str, Error, nesting, spread, Values, levels, int, object, string, error, list, PetitionId, PetitionRow, petition_exact, petition_cmp, petition_total, Call, CallName, all_within_limits, fits, arguments_fit, RequestsKeepForm, call_name_of, petition_call, Outcome, Done, Failed, Full, fails, in_petition, PetitionsStand, petition_fits, is_named, are_few, are_shallow, State, IsFormed, petition_id, call_in, held_call, held_step, held_steps, number_limit, batch_call, world_call, World, IsWellFormed, is_object, Led, of_done, request_leaves, put_or_old, none_or_old}, proofs.Form.Calls.{calls_keep_form}}
 use Rattle.moo_value.{specs.declared.value.Value.TheVariants.{List as a_list}, specs.Values.{no_values}}
 use Rattle.moo_world.specs.declared.reason.Reason.TheVariants.{Unasked}
+use Rattle.moo_value.specs.declared.value.TheConstants.{MAX_NESTING}
 
 -- ---- the values of a list that fits, one by one
 
-pub each_fits : (vs : Values) → levels vs ≤ 32 → all_within_limits vs ≡ true → list_all fits (spread vs) ≡ true
+pub each_fits : (vs : Values) → levels vs ≤ MAX_NESTING → all_within_limits vs ≡ true → list_all fits (spread vs) ≡ true
 each_fits no_values deep h = refl
 each_fits (int n rest) deep h = grind (arith, each_fits rest)
 each_fits (object n rest) deep h = grind (arith, each_fits rest)
 each_fits (string s rest) deep h = grind (arith, each_fits rest)
 each_fits (error e rest) deep h = each_fits rest deep h
-each_fits (list values rest) deep h = grind (arith, each_fits rest, le-leb (nesting (a_list values)) 32)
+each_fits (list values rest) deep h = grind (arith, each_fits rest, le-leb (nesting (a_list values)) MAX_NESTING)
 
 -- the values of a list that fits do
 pub spread_fits : (vs : Values) → fits (a_list vs) ≡ true → list_all fits (spread vs) ≡ true
-spread_fits vs h = grind (arith, each_fits vs, leb-true (nesting (a_list vs)) 32)
+spread_fits vs h = grind (arith, each_fits vs, leb-true (nesting (a_list vs)) MAX_NESTING)
 
 -- so do the calls of a petition
 pub held_fit : (row : PetitionRow) → petition_fits row ≡ true → list_all fits (spread row.calls) ≡ true

@@ -1,6 +1,8 @@
 -- The limits that the types of values keep, and the tests of them.
 use Rattle.moo_world.proofs.Words.{◌≡◌, ◌≤◌, Bool, true, false, ◌&&◌, ◌↔◌, refl, sym, ℤ, FitsSigned, w32, w64, arith, ℕ, List, length, IsTrue, nat_le, list_all, and_parts, le-leb, leb-true, Value, Int, Obj, Str, Error, IsText, is_allowed, nesting, Values, int, object, string, error, list, is_integer, in_range, is_text, all_within_limits, is_within_limits, fits, TextIsTested, FitsIsTested, both_true}
 use Rattle.moo_value.{specs.declared.value.Value.TheVariants.{List as a_list}, specs.Literal.{HoldInside, HoldIn, InRange, Fits}, specs.Values.{no_values}}
+use Rattle.moo_value.specs.declared.text.TheConstants.{MAX_LENGTH}
+use Rattle.moo_value.specs.declared.value.TheConstants.{MAX_NESTING}
 
 pub range_of : (n : ℤ) → FitsSigned w32 n → in_range n ≡ true
 range_of n f = grind arith
@@ -15,7 +17,7 @@ pub integer_fits : (n : ℤ) → is_integer n ≡ true → FitsSigned w64 n
 integer_fits n e = grind arith
 
 pub text_of : (s : List ℕ) → IsText s → is_text s ≡ true
-text_of s t = both_true (le-leb (length s) 65535 t.short) t.allowed
+text_of s t = both_true (le-leb (length s) MAX_LENGTH t.short) t.allowed
 
 inside : (vs : Values) → HoldInside InRange IsText vs → all_within_limits vs ≡ true
 inside no_values h = refl
@@ -33,7 +35,7 @@ in_value (Error e) h = refl
 in_value (a_list vs) h = inside vs h
 
 is_text_of : (s : List ℕ) → is_text s ≡ true → IsText s
-is_text_of s e = let parts = and_parts (nat_le (length s) 65535) (list_all is_allowed s) e in record { short = leb-true (length s) 65535 parts.0; allowed = parts.1 }
+is_text_of s e = let parts = and_parts (nat_le (length s) MAX_LENGTH) (list_all is_allowed s) e in record { short = leb-true (length s) MAX_LENGTH parts.0; allowed = parts.1 }
 
 hold_inside : (vs : Values) → all_within_limits vs ≡ true → HoldInside InRange IsText vs
 hold_inside no_values e = tt
@@ -52,18 +54,18 @@ hold_in (a_list vs) e = hold_inside vs e
 
 -- what is within the limits passes the test
 pub fits_of : (v : Value) → Fits v → fits v ≡ true
-fits_of v h = both_true (le-leb (nesting v) 32 h.1) (in_value v h.0)
+fits_of v h = both_true (le-leb (nesting v) MAX_NESTING h.1) (in_value v h.0)
 
 -- so the nesting alone decides, where the types keep the other limits
-pub fits_is : (v : Value) (b : Bool) → (IsTrue b ↔ (nesting v ≤ 32)) → (IsTrue b → Fits v) → b ≡ fits v
+pub fits_is : (v : Value) (b : Bool) → (IsTrue b ↔ (nesting v ≤ MAX_NESTING)) → (IsTrue b → Fits v) → b ≡ fits v
 fits_is v true depth limits = sym (fits_of v (limits refl))
-fits_is v false depth limits = by (nat_le (nesting v) 32) refl
+fits_is v false depth limits = by (nat_le (nesting v) MAX_NESTING) refl
   where
-    by : (c : Bool) → nat_le (nesting v) 32 ≡ c → false ≡ (c && is_within_limits v)
+    by : (c : Bool) → nat_le (nesting v) MAX_NESTING ≡ c → false ≡ (c && is_within_limits v)
     by c e = grind arith
 
 pub text_tested : TextIsTested
 text_tested s = (is_text_of s, text_of s)
 
 pub fits_tested : FitsIsTested
-fits_tested v = (λ e. let parts = and_parts (nat_le (nesting v) 32) (is_within_limits v) e in (hold_in v parts.1, leb-true (nesting v) 32 parts.0), fits_of v)
+fits_tested v = (λ e. let parts = and_parts (nat_le (nesting v) MAX_NESTING) (is_within_limits v) e in (hold_in v parts.1, leb-true (nesting v) MAX_NESTING parts.0), fits_of v)
