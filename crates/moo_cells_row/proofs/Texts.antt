@@ -9,6 +9,7 @@ use Rattle.moo_verbs.{specs.declared.fault.VerbFault.{VerbFault}, specs.declared
 use Rattle.moo_world.specs.declared.values.TheConstants.{MOST_ACCEPTED}
 use Rattle.moo_value.specs.declared.text.TheConstants.{MAX_LENGTH}
 use Rattle.moo_value.specs.declared.value.TheConstants.{MAX_NESTING}
+use Rattle.moo_world.specs.declared.petition.TheConstants.{MOST_NESTING}
 
 abbrev pub text_in : Value → List ℕ
 text_in (Text t) = t
@@ -141,7 +142,7 @@ held_of calls fits =
 pub calls_within : (calls : Values) → calls_fit calls ≡ true → Fits (a_list calls)
 calls_within calls fits =
     let held = held_of calls fits in
-    let deep : nesting (a_list calls) ≤ 30 = leb-true (nesting (a_list calls)) 30 held.shallow in
+    let deep : nesting (a_list calls) ≤ MOST_NESTING + 1 = leb-true (nesting (a_list calls)) (MOST_NESTING + 1) held.shallow in
     let within : nesting (a_list calls) ≤ MAX_NESTING = omega arith in (fits_tested (a_list calls)).0 (and_from (nat_le (nesting (a_list calls)) MAX_NESTING) (all_within_limits calls) (le-leb (nesting (a_list calls)) MAX_NESTING within) held.limits)
 
 -- a value within the limits is such calls where they are named, few and shallow

@@ -3,6 +3,7 @@ use Rattle.moo_http_request.proofs.Words.{◌≡◌, ◌<◌, ◌+◌, ℕ, List
 use Rattle.std.{proofs.lemmas.List.{map-append, map_more}, proofs.lemmas.Option.{none-some, same_Some}}
 use Rattle.serde_json.specs.Data.{null, boolean, number, array, object}
 use Rattle.moo_world.specs.declared.call.TheConstants.{MOST_CALLS}
+use Rattle.moo_text.specs.declared.line.TheConstants.{LONGEST_LINE}
 
 -- the texts of an array of strings are these
 pub texts-strings : (texts : List (List ℕ)) → texts_of (items_of (map string texts)) ≡ Some texts
@@ -31,10 +32,10 @@ all-now p [] = refl
 all-now p (text ∷ texts) = ap (λ b. p text.now && b) (all-now p texts)
 
 -- the limits, of texts behind references
-pub within-now : (texts : List (Bor (List ℕ))) → length texts ≤ MOST_CALLS → list_all (λ text. nat_le (length text.now) 262144) texts ≡ are_within (map (λ text. text.now) texts)
+pub within-now : (texts : List (Bor (List ℕ))) → length texts ≤ MOST_CALLS → list_all (λ text. nat_le (length text.now) LONGEST_LINE) texts ≡ are_within (map (λ text. text.now) texts)
 within-now texts h =
     let few : nat_le (length (map (λ text. text.now) texts)) MOST_CALLS ≡ true = grind (arith, nat_tests, length-map texts (λ text. text.now)) in
-    rw few (all-now (λ text. nat_le (length text) 262144) texts)
+    rw few (all-now (λ text. nat_le (length text) LONGEST_LINE) texts)
 
 string_is : (d : Data) (text : List ℕ) → as_str d ≡ Some text → d ≡ string text
 string_is null text e = absurd (none-some text e)

@@ -6,6 +6,7 @@ use Rattle.serde_json.specs.Find.{get, as_str, as_array, as_null, as_number, as_
 use Rattle.moo_value.specs.declared.value.ObjNo.{ObjNo}
 use Rattle.moo_text.specs.LineReading.{object_of}
 use Rattle.moo_world.specs.declared.call.TheConstants.{MOST_CALLS}
+use Rattle.moo_text.specs.declared.line.TheConstants.{LONGEST_LINE}
 
 pub record Shape : Type 0 where
   pub programmer : ObjNo
@@ -19,7 +20,7 @@ texts_of (item d ds) = option_and_then (λ text. option_map (λ texts. text ∷ 
 
 -- at most 1,000 texts, each of at most 262,144 bytes
 abbrev pub are_within : List (List ℕ) → Bool
-are_within texts = nat_le (length texts) MOST_CALLS && list_all (λ text. nat_le (length text) 262144) texts
+are_within texts = nat_le (length texts) MOST_CALLS && list_all (λ text. nat_le (length text) LONGEST_LINE) texts
 
 -- a number written in digits alone, below 2^63
 abbrev pub seq_of : Option ℕ → Option (Option ℕ)

@@ -8,13 +8,11 @@ ghost use Rattle.moo_http_request.specs.Shape.{texts_of, stated_at, are_within, 
 ghost use Rattle.moo_http_request.specs.Shown.{shape_read_shown};
 
 use crate::wrong::ShapeFault;
-use moo_text::object_of;
+use moo_text::{LONGEST_LINE, object_of};
 use moo_value::ObjNo;
 use moo_world::MOST_CALLS;
 use serde_json::Value;
 use std::alloc::{AllocError, Global};
-
-const MAX_CALL: usize = 262_144;
 
 /// Who asks, the texts of the calls, and the number that the batch is for.
 #[derive(Drop)]
@@ -59,9 +57,9 @@ fn at_in(found: Option<&Value>) -> Option<Option<u64>>
 }
 
 fn all_short(texts: &[&str]) -> bool
-    ensures { result ≡ list_all (λ text. nat_le (length text.now) 262144) texts.now }
+    ensures { result ≡ list_all (λ text. nat_le (length text.now) LONGEST_LINE) texts.now }
 {
-    texts.iter().all(|text| text.len() <= MAX_CALL)
+    texts.iter().all(|text| text.len() <= LONGEST_LINE)
 }
 
 fn are_short(texts: &[&str]) -> bool

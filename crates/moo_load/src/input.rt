@@ -4,11 +4,9 @@ ghost use Rattle.std.specs.Prelude.{◌≡◌, ◌≤◌, ◌<◌, length, IfOk,
 ghost use Rattle.std.specs.Io.KnownBytes.{Consumes, IsAtEnd};
 ghost use Rattle.moo_load.specs.declared.input.InputFault.TheVariants.{TooLong, OutOfMemory};
 
+use moo_text::LONGEST_TEXT;
 use std::alloc::{AllocError, Global};
 use std::io::Read;
-
-/// The most bytes of a text: 1,073,741,824.
-pub const LONGEST_TEXT: usize = 1073741824;
 
 /// How many bytes are asked for at once.
 const PIECE: usize = 65536;
@@ -41,8 +39,8 @@ pub fn read_text<R: Read>(alloc: Global, reader: &mut R) -> Result<Vec<u8>, Inpu
     ensures given { IfOk result (λ text. Consumes (R.remaining reader.old) (R.remaining reader.new) text.items) }
     ensures end { OnOk result (IsAtEnd (R.remaining reader.new)) }
     ensures whole { IfOk result (λ text. IfSome (R.remaining reader.old) (λ bytes. text.items ≡ bytes)) }
-    ensures limit { IfOk result (λ text. length text.items ≤ 1073741824) }
-    ensures long { IfErr result (λ fault. fault ≡ TooLong → IfSome (R.remaining reader.old) (λ bytes. 1073741824 < length bytes)) }
+    ensures limit { IfOk result (λ text. length text.items ≤ LONGEST_TEXT) }
+    ensures long { IfErr result (λ fault. fault ≡ TooLong → IfSome (R.remaining reader.old) (λ bytes. LONGEST_TEXT < length bytes)) }
 {
     let mut text = Vec::new(alloc);
     let mut piece = [0; PIECE];

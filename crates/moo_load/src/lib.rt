@@ -20,6 +20,6 @@ mod value;
 mod verb;
 
 pub use fault::LoadFault;
-pub use input::{InputFault, LONGEST_TEXT, read_text};
+pub use input::{InputFault, read_text};
 pub use loading::read_dump;
 pub use reason::DumpReason;

@@ -2,6 +2,7 @@
 use Rattle.moo_text.{proofs.Shared.{◌≡◌, ℕ, zero, suc, ◌≤◌, true, false, inl, inr, List, [], ◌∷◌, ◌++◌, length, Option, Some, None, refl, sym, ap, subst, ◌∙◌, append_assoc, arith, IsTrue, AllByRecursion, option_map, option_map_or, option_and_then, append-nil, Value, is_blank, is_digit, is_word, AreBlanks, Spaced, Item, SpellsToken, Fits, BeginsNo, Ends, after_blanks, word, after_word, opened_at, items_at, value_at, literal_at, chosen, folded, Call, is_short, is_all_blank, ClosesCall, SpellsArguments, SpellsCall, found, front_of, behind_mark, after_mark, closed, behind_value, values_at, arguments_of, call_name, call_behind, call_of}, proofs.Reading.{front_read, front_again_of, front_shorter, mark_taken, mark_shorter, name_found}, proofs.Headers.{then_some, map_some, le_taken, le_again, nothing_left}}
 use Rattle.moo_value.{proofs.Tokens.{word_parts, word_again}, proofs.Literals.{blanks_taken, blanks_skipped}}
 use Rattle.moo_world.specs.Names.{spelled_is}
+use Rattle.moo_text.specs.declared.line.TheConstants.{LONGEST_LINE}
 
 -- ---- marks
 
@@ -82,7 +83,7 @@ call_taken line call e = elim (chosen (is_short line) (call_behind (after_blanks
       let between = blanks_taken (after_word b) in
       let tail : after_word b ≡ between.0 ++ 40 ∷ u.0 = between.2 ∙ ap (λ (s : List ℕ). between.0 ++ s) (mark_taken 40 (after_word b) u.0 u.1) in
       let made : SpellsCall (record { name = t.0; args = m.0 }) line = record {
-        short = le_taken (length line) 262144 here.0;
+        short = le_taken (length line) LONGEST_LINE here.0;
         before = before.0;
         name = word b;
         between = between.0;
@@ -180,7 +181,7 @@ begins (c ∷ cs) between behind letters all =
 
 pub call_again : (line : List ℕ) (call : Call) → SpellsCall call line → call_of line ≡ Some call
 call_again line call s =
-    let short : is_short line ≡ true = le_again (length line) 262144 s.short in
+    let short : is_short line ≡ true = le_again (length line) LONGEST_LINE s.short in
     let front : after_blanks line ≡ after_blanks (s.name ++ (s.between ++ 40 ∷ s.behind)) = ap after_blanks s.whole ∙ blanks_skipped s.before (s.name ++ (s.between ++ 40 ∷ s.behind)) s.blank_before in
     let b = subst (λ (t : List ℕ). Begins t s.name s.behind) (sym front) (begins s.name s.between s.behind s.is_name.letters s.blank_between) in
     let name : call_name (word (after_blanks line)) ≡ Some call.name = ap call_name b.front ∙ name_found s.name call.name s.is_name.names in

@@ -1,6 +1,7 @@
 -- A header is read as it is spelled.
 use Rattle.moo_text.{proofs.Shared.{◌≡◌, ℕ, ◌≤◌, Bool, true, false, cond, inl, inr, List, [], ◌∷◌, length, Option, Some, None, refl, sym, ap, subst, ◌∙◌, arith, ◌==◌, ◌&&◌, nat_le, codes, list_all, option_map, option_and_then, eqb-true, append-nil, Value, is_digit, AreDigits, SpellsObject, Spells, InRange, an_object, chosen, same_text, same_text-Decides, is_short, words_of_line, SpellsPlace, SpellsAt, SpellsHeader, front_of, behind_word, object_value, begins_with_byte, object_of, place_number, last_place, at_of, header_behind, header_of, Header}, proofs.Reading.{front_read, front_again_of}}
 use Rattle.moo_value.{specs.declared.value.ObjNo.{ObjNo}, specs.declared.value.Value.TheVariants.{Obj}}
+use Rattle.moo_text.specs.declared.line.TheConstants.{LONGEST_LINE}
 
 pub then_some : {A B : Type 0} (f : A → Option B) (o : Option A) (y : B) → option_and_then f o ≡ Some y → (x : A) × (o ≡ Some x) × (f x ≡ Some y)
 then_some f o y e = grind arith
@@ -114,7 +115,7 @@ header_taken line h e = elim (chosen (is_short line) (option_and_then header_beh
       let t = behind_taken a.0 h a.2 in
       let o = object_taken t.0 h.programmer t.3 in
       record {
-        short = le_taken (length line) 262144 here.0;
+        short = le_taken (length line) LONGEST_LINE here.0;
         object = t.0;
         more = t.1;
         words_are = word_taken (codes "batch") (words_of_line line) b.0 b.1 ∙ ap (λ (ws : List (List ℕ)). codes "batch" ∷ ws) (word_taken (codes "as") b.0 a.0 b.2 ∙ ap (λ (ws : List (List ℕ)). codes "as" ∷ ws) t.2);

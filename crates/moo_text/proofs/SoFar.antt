@@ -1,5 +1,6 @@
 -- A line of which so much is read, over the bytes that were given meanwhile.
 use Rattle.moo_text.{proofs.Shared.{◌≡◌, ℕ, ◌+◌, ◌≤◌, ◌<◌, false, List, [], ◌++◌, length, take, drop, Option, Some, sym, ap, subst, ◌∙◌, append_assoc, arith, length-append, length-take, ◌==◌, strip_carriage_return, TakesLine, Side, IsOver, ReaderGives, ReadsLine, BreaksOff, TextFault}, proofs.Kept.{HasNoNewline, LineSoFar, NewlineAt, none-append, kept_again, end_found}, proofs.Giving.{ReaderGives-then, gives_then_breaks}}
+use Rattle.moo_text.specs.declared.lines.TheConstants.{MOST_KEPT}
 
 pub record SoFar (start now : Side) (line : List ℕ) : Type 0 where
   pub given : List ℕ
@@ -7,7 +8,7 @@ pub record SoFar (start now : Side) (line : List ℕ) : Type 0 where
   pub gives : ReaderGives start now given
   pub room : start.room ≡ length given + now.room
   pub none : HasNoNewline raw
-  pub kept : line ≡ take 262146 raw
+  pub kept : line ≡ take MOST_KEPT raw
   pub whole : start.ahead ++ given ≡ raw ++ now.ahead
 
 -- the bytes that are read ahead change, and the reader isn't read
@@ -24,7 +25,7 @@ breaks_from : (a b : Side) (ahead : List ℕ) (fault : TextFault) → BreaksOff 
 breaks_from a b ahead fault o = record { given = o.given; gives = gives_from a b ahead o.given o.gives; count = o.count }
 
 -- what was read ahead is used up, and a piece is read
-pub piece_read : {start now next : Side} {line used : List ℕ} (longer : List ℕ) → SoFar start now line → HasNoNewline now.ahead → longer ≡ take 262146 (line ++ now.ahead)
+pub piece_read : {start now next : Side} {line used : List ℕ} (longer : List ℕ) → SoFar start now line → HasNoNewline now.ahead → longer ≡ take MOST_KEPT (line ++ now.ahead)
     → ReaderGives (beside now used) next next.ahead → now.room ≡ length next.ahead + next.room → SoFar start next longer
 piece_read {start} {now} {next} {line} {used} longer s none put took less = record {
   given = s.given ++ next.ahead;
@@ -32,7 +33,7 @@ piece_read {start} {now} {next} {line} {used} longer s none put took less = reco
   gives = ReaderGives-then start now next s.given next.ahead s.gives (gives_from now next used next.ahead took);
   room = omega (arith, s.room, less, length-append s.given next.ahead);
   none = none-append s.raw now.ahead s.none none;
-  kept = put ∙ ap (λ (t : List ℕ). take 262146 (t ++ now.ahead)) s.kept ∙ kept_again 262146 s.raw now.ahead;
+  kept = put ∙ ap (λ (t : List ℕ). take MOST_KEPT (t ++ now.ahead)) s.kept ∙ kept_again MOST_KEPT s.raw now.ahead;
   whole = sym (append_assoc start.ahead s.given next.ahead) ∙ ap (λ (t : List ℕ). t ++ next.ahead) s.whole;
 }
 
@@ -48,10 +49,10 @@ behind start now line s rest = record {
 -- what may still be used falls by what the line has
 pub room_falls : {start now : Side} {line : List ℕ} → SoFar start now line → length line + (length now.ahead + now.room) ≤ length start.ahead + start.room
 room_falls {start} {now} {line} s =
-    omega (arith, s.room, ap length s.kept, length-take 262146 s.raw, ap length s.whole, length-append start.ahead s.given, length-append s.raw now.ahead)
+    omega (arith, s.room, ap length s.kept, length-take MOST_KEPT s.raw, ap length s.whole, length-append start.ahead s.given, length-append s.raw now.ahead)
 
 -- the line's end is found
-pub found_line : {start now : Side} {line : List ℕ} (next left : List ℕ) {at : ℕ} → SoFar start now line → NewlineAt now.ahead at → next ≡ take 262146 (line ++ take at now.ahead) → left ≡ drop (at + 1) now.ahead
+pub found_line : {start now : Side} {line : List ℕ} (next left : List ℕ) {at : ℕ} → SoFar start now line → NewlineAt now.ahead at → next ≡ take MOST_KEPT (line ++ take at now.ahead) → left ≡ drop (at + 1) now.ahead
     → ReadsLine start (beside now left) (Some (strip_carriage_return next))
 found_line {start} {now} {line} next left {at} s there put is = record {
   given = s.given;

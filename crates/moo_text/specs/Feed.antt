@@ -4,10 +4,11 @@ use Rattle.std.specs.Str.Lines.{lines}
 use Rattle.moo_text.specs.Items.{between}
 use Rattle.moo_text.specs.declared.next.Next.{Next}
 use Rattle.moo_text.specs.declared.next.Next.TheVariants.{End}
+use Rattle.moo_text.specs.declared.line.TheConstants.{LONGEST_LINE}
 
 -- a line that is read whole, or so much of it that it is seen to be too long
 abbrev pub IsLineRead : List ℕ → List ℕ → Type 0
-IsLineRead read line = (read ≡ line) ⊎ ((262144 < length read) × (262144 < length line))
+IsLineRead read line = (read ≡ line) ⊎ ((LONGEST_LINE < length read) × (LONGEST_LINE < length line))
 
 -- the text has lost its first line; none at its end
 abbrev pub TakesLine : List ℕ → List ℕ → Option (List ℕ) → Type 0

@@ -10,6 +10,7 @@ use Rattle.moo_world.specs.declared.name.CallName.{CallName}
 use Rattle.moo_world.specs.declared.call.Call.{Call}
 use Rattle.moo_text.specs.Line.{words_of_line}
 use Rattle.moo_text.specs.declared.header.Header.{Header}
+use Rattle.moo_text.specs.declared.line.TheConstants.{LONGEST_LINE}
 
 -- 1 to 19 digits, with a value of at most 9223372036854775807
 pub record SpellsPlace (n : ℕ) (word : List ℕ) : Type 0 where
@@ -26,7 +27,7 @@ SpellsAt (Some n) more = (word : List ℕ) × (more ≡ codes "at" ∷ word ∷ 
 
 -- `batch as #N` or `batch as #N at M`
 pub record SpellsHeader (header : Header) (line : List ℕ) : Type 0 where
-  pub short : length line ≤ 262144
+  pub short : length line ≤ LONGEST_LINE
   pub object : List ℕ
   pub more : List (List ℕ)
   pub words_are : words_of_line line ≡ codes "batch" ∷ codes "as" ∷ object ∷ more
@@ -50,7 +51,7 @@ SpellsArguments first (v ∷ vs) b = Fits v × Item first (SpellsToken v) (Spell
 
 -- `name(value, ...)`
 pub record SpellsCall (call : Call) (line : List ℕ) : Type 0 where
-  pub short : length line ≤ 262144
+  pub short : length line ≤ LONGEST_LINE
   pub before : List ℕ
   pub name : List ℕ
   pub between : List ℕ

@@ -4,10 +4,11 @@ use Rattle.std.specs.Prelude.{ℕ, ◌==◌, ◌&&◌, Bool, false, not, nat_le,
 use Rattle.std.specs.List.{filter, slice_split}
 use Rattle.moo_value.specs.Literal.{is_blank}
 use Rattle.moo_value.specs.Reading.{after_blanks}
+use Rattle.moo_text.specs.declared.line.TheConstants.{LONGEST_LINE}
 
 -- no line over this is blank, `end`, a header or a call
 abbrev pub is_short : List ℕ → Bool
-is_short line = nat_le (length line) 262144
+is_short line = nat_le (length line) LONGEST_LINE
 
 -- spaces and tabs alone
 abbrev pub is_all_blank : List ℕ → Bool

@@ -9,8 +9,7 @@ use crate::call_text::call_in;
 use crate::fault::TextFault;
 use crate::header::{Header, read_header};
 use crate::line::{is_blank_line, is_end_line};
-pub use crate::lines::LONGEST_TEXT;
-use crate::lines::LineReader;
+use crate::lines::{LONGEST_TEXT, LineReader};
 use crate::marks::Marks;
 use crate::next::Next;
 use moo_world::{Batch, Calls, MOST_CALLS};
@@ -119,8 +118,8 @@ impl<R: Read> Feed<R> {
 
     /// Reads nothing yet, and no more than 1,073,741,824 bytes later.
     pub fn new(alloc: Global, reader: R) -> Self
-        ensures side { feed_side R.remaining result ≡ untouched (R.remaining reader) 1073741824 }
-        ensures room { feed_room result ≡ 1073741824 }
+        ensures side { feed_side R.remaining result ≡ untouched (R.remaining reader) LONGEST_TEXT }
+        ensures room { feed_room result ≡ LONGEST_TEXT }
         ensures fresh { result.fault ≡ None }
     {
         Feed::with_room(alloc, reader, LONGEST_TEXT)
@@ -128,8 +127,8 @@ impl<R: Read> Feed<R> {
 
     /// Reads nothing yet, and no more than so many bytes later, nor than [`LONGEST_TEXT`].
     pub(crate) fn with_room(alloc: Global, reader: R, room: usize) -> Self
-        ensures side { feed_side R.remaining result ≡ untouched (R.remaining reader) (min room 1073741824) }
-        ensures room { feed_room result ≡ min room 1073741824 }
+        ensures side { feed_side R.remaining result ≡ untouched (R.remaining reader) (min room LONGEST_TEXT) }
+        ensures room { feed_room result ≡ min room LONGEST_TEXT }
         ensures fresh { result.fault ≡ None }
     {
         Feed {

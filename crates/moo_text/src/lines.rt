@@ -3,6 +3,7 @@
 ghost use Rattle.std.specs.Prelude.{◌≡◌, ◌==◌, ◌<◌, ◌≤◌, ◌+◌, ◌++◌, length, take, IfSome, OnOk};
 ghost use Rattle.std.specs.List.{position_from};
 ghost use Rattle.std.specs.Str.Lines.{strip_carriage_return};
+ghost use Rattle.moo_text.specs.declared.lines.TheConstants.{LONGEST_TEXT};
 
 use crate::ahead::Ahead;
 use crate::fault::TextFault;
@@ -27,8 +28,8 @@ fn newline_at(text: &[u8]) -> Option<usize>
 
 /// The bytes go on the line, as far as they are kept.
 fn put_kept(line: &mut Vec<u8>, bytes: &[u8]) -> Result<(), AllocError>
-    requires { length line.old.items ≤ 262146 }
-    ensures { OnOk result (line.new.items ≡ take 262146 (line.old.items ++ bytes.now)) }
+    requires { length line.old.items ≤ MOST_KEPT }
+    ensures { OnOk result (line.new.items ≡ take MOST_KEPT (line.old.items ++ bytes.now)) }
 {
     let count = bytes.len().min(MOST_KEPT - line.len());
     line.extend_from_slice(&bytes[..count])?;
@@ -53,7 +54,7 @@ pub struct LineReader<R> {
     room: usize,
     ended: bool,
     pub(crate) marks: Marks,
-    ghost limited: { length ahead + room ≤ 1073741824 },
+    ghost limited: { length ahead + room ≤ LONGEST_TEXT },
 }
 
 impl<R: Read> LineReader<R> {
@@ -63,7 +64,7 @@ impl<R: Read> LineReader<R> {
 
     /// Reads nothing yet. Of the reader at most so many bytes are read, and never more than [`LONGEST_TEXT`].
     pub fn new(alloc: Global, reader: R, room: usize) -> Self
-        ensures { lines_side R.remaining result ≡ untouched (R.remaining reader) (min room 1073741824) }
+        ensures { lines_side R.remaining result ≡ untouched (R.remaining reader) (min room LONGEST_TEXT) }
     {
         LineReader {
             alloc,

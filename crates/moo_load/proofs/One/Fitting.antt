@@ -3,6 +3,7 @@ use Rattle.moo_load.{proofs.Words.{◌≡◌, ℕ, ◌+◌, ◌<◌, Bool, true,
 use Rattle.moo_rows.{specs.declared.row.Preposition.TheVariants.{Set as a_set}, specs.declared.row.PrepositionSet.TheVariants.{With}}
 use Rattle.moo_world.specs.declared.values.TheConstants.{MOST_ACCEPTED}
 use Rattle.moo_value.specs.declared.value.TheConstants.{MAX_NESTING}
+use Rattle.moo_world.specs.declared.petition.TheConstants.{MOST_NESTING}
 
 pub fit : (v : Value) → fits v ≡ true → Fits v
 fit v e = (fits_tested v).0 e
@@ -62,7 +63,7 @@ petition_fit id row below fitting =
     let q = and_parts (list_all is_named (spread row.calls)) (are_few row.calls && (are_shallow row.calls && all_within_limits row.calls)) p.1 in
     let r = and_parts (are_few row.calls) (are_shallow row.calls && all_within_limits row.calls) q.1 in
     let s = and_parts (are_shallow row.calls) (all_within_limits row.calls) r.1 in
-    let deep : nat_le (nesting (a_list row.calls)) MAX_NESTING ≡ true = le-leb (nesting (a_list row.calls)) MAX_NESTING (omega (arith, leb-true (nesting (a_list row.calls)) 30 s.0)) in
+    let deep : nat_le (nesting (a_list row.calls)) MAX_NESTING ≡ true = le-leb (nesting (a_list row.calls)) MAX_NESTING (omega (arith, leb-true (nesting (a_list row.calls)) (MOST_NESTING + 1) s.0)) in
     (fit (Int (pos id.0)) (lt-ltb id.0 9223372036854775808 (omega arith)), (fit (Obj row.who) p.0, (fit (a_list row.calls) (both_true _ _ deep s.1), tt)))
 
 module _ (w : World) (wf : IsWellFormed w) where

@@ -3,6 +3,7 @@ use Rattle.moo_world.{proofs.Lemmas.{◌≡◌, ℕ, ◌+◌, ◌<◌, ◌≤◌
 use Rattle.moo_value.{specs.declared.value.Value.TheVariants.{List as a_list}, specs.Values.{no_values}}
 use Rattle.moo_world.specs.declared.reason.Reason.TheVariants.{Unasked}
 use Rattle.moo_value.specs.declared.value.TheConstants.{MAX_NESTING}
+use Rattle.moo_world.specs.declared.petition.TheConstants.{MOST_NESTING}
 
 -- ---- the values of a list that fits, one by one
 
@@ -20,7 +21,7 @@ spread_fits vs h = grind (arith, each_fits vs, leb-true (nesting (a_list vs)) MA
 
 -- so do the calls of a petition
 pub held_fit : (row : PetitionRow) → petition_fits row ≡ true → list_all fits (spread row.calls) ≡ true
-held_fit row h = grind (arith, each_fits row.calls, leb-true (nesting (a_list row.calls)) 30)
+held_fit row h = grind (arith, each_fits row.calls, leb-true (nesting (a_list row.calls)) (MOST_NESTING + 1))
 
 -- and what a call that is held is given
 pub held_args_fit : (held : Value) (call : Call) → held_call held ≡ Some call → fits held ≡ true → arguments_fit call ≡ true

@@ -1,12 +1,13 @@
 use Rattle.moo_text.{proofs.Shared.{ReadsLine, lines_side, ◌≡◌, ◌<◌, ◌+◌, true, false, ℕ, List, Some, None, length, drop, sym, ap, subst, ◌∙◌, arith, rules, ◌==◌, position_from, length-drop}, proofs.Kept.{kept_short, no_newline, newline_there, text_ends, last_line}, proofs.Giving.{handed_on}, proofs.SoFar.{beside, piece_read, room_falls, some_there, found_line, ends_with, piece_fails}}
 use Rattle.moo_text.proofs.lines.LineReader.read_line.Goals as goal
 use Rattle.std.proofs.Math.Seq.{drop-length}
+use Rattle.moo_text.specs.declared.lines.TheConstants.{MOST_KEPT}
 
 pub put_kept-requires : goal.put_kept-requires
-put_kept-requires g c = omega (arith, kept_short 262146 c.loop-at.invariant.raw, ap length c.loop-at.invariant.kept)
+put_kept-requires g c = omega (arith, kept_short MOST_KEPT c.loop-at.invariant.raw, ap length c.loop-at.invariant.kept)
 
 pub put_kept-requires-in-None : goal.put_kept-requires-in-None
-put_kept-requires-in-None g c = omega (arith, kept_short 262146 c.loop-at.invariant.raw, ap length c.loop-at.invariant.kept)
+put_kept-requires-in-None g c = omega (arith, kept_short MOST_KEPT c.loop-at.invariant.raw, ap length c.loop-at.invariant.kept)
 
 pub returns-in-Some : goal.returns-in-Some
 returns-in-Some g c =
