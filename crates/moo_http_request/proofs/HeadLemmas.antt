@@ -1,5 +1,6 @@
 -- What the first bytes of an input say of its head.
 use Rattle.moo_http_request.{proofs.Words.{◌⊎◌, inl, inr, ◌+◌, Option, length-append, ◌≡◌, ◌≢◌, ◌<◌, ◌≤◌, ℕ, List, [], ◌∷◌, ◌++◌, length, take, drop, arith, sym, ap, ◌∙◌, refl, take-append-drop, take-append-le, take_at, RequestHead, ReadsRequest, HasNoRequest, print_request, print_blank, RequestOverflows, print_request-append, Lacks, ShowsHead, IsClose, Grows}, specs.declared.head.HeadRead.{HeadRead}, specs.declared.head.HeadRead.TheVariants.{Whole, Refused, Empty}}
+use Rattle.moo_http_request.specs.declared.head.TheConstants.{MAX_HEAD, MAX_LINES}
 
 -- bytes are no empty input, whatever follows
 not_empty : (bytes more : List ℕ) → 0 < length bytes → bytes ++ more ≢ []
@@ -7,7 +8,7 @@ not_empty [] more h e = omega (arith, h)
 not_empty (b ∷ bytes) more h e = cc
 
 -- the first bytes have more than 32 lines, whatever follows
-pub lacks-overflow : (bytes more : List ℕ) (room : ℕ) → 0 < length bytes → room ≡ 32 → RequestOverflows room bytes → Lacks (bytes ++ more)
+pub lacks-overflow : (bytes more : List ℕ) (room : ℕ) → 0 < length bytes → room ≡ MAX_LINES → RequestOverflows room bytes → Lacks (bytes ++ more)
 lacks-overflow bytes more room some e over =
     (not_empty bytes more some, λ head rest h. let o = over more head rest h.reads in omega (arith, o, h.lines, e))
 
@@ -19,7 +20,7 @@ front_of bytes more text rest fits e =
     sym (take-append-drop (length text) bytes) ∙ ap (λ (l : List ℕ). l ++ drop (length text) bytes) front
 
 -- the first 8192 bytes hold no whole head
-pub lacks-long : (bytes more : List ℕ) → length bytes ≡ 8192 → HasNoRequest bytes → Lacks (bytes ++ more)
+pub lacks-long : (bytes more : List ℕ) → length bytes ≡ MAX_HEAD → HasNoRequest bytes → Lacks (bytes ++ more)
 lacks-long bytes more long none = (
   not_empty bytes more (omega (arith, long)),
   λ head rest h.

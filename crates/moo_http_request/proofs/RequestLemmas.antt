@@ -1,6 +1,7 @@
 -- What a request asks, from the bytes that were read of it.
 use Rattle.moo_http_request.{proofs.Words.{◌≡◌, ◌⊎◌, inl, inr, ◌+◌, ◌-◌, ◌<◌, ◌≤◌, ℕ, List, ◌++◌, Option, Some, length, take, drop, arith, refl, sym, ap, subst, ◌∙◌, append_assoc, length-append, length-drop, [], append-nil, false, slice_range, max, Bool, IsUtf8, Result, Ok, Err, IfOk, take-append-le, drop-append-le, Consumes, IsAtEnd, RequestHead, ReadsRequest, Asked, Form, HeadSpans, Plan, Body, Request, HeadStands, Lacks, Grows, TakesAtMost, shape_of, shape_asked, Data, BodyAsks, plan_by, body_size, is_head, asks_why, PlanAsks, Receives, request, no_head, nothing, IsSparing, small, body, Takes, StopsReading, Settles, request_unique}, specs.declared.asked.Asked.TheVariants.{Refused}, specs.declared.asked.Refusal.TheVariants.{BadRequest}, specs.declared.request.Received.TheVariants.{Nothing}, specs.Head.{BeginsWithHead, HasNoHead}, proofs.Giving.{settled, settled_at_end, settled_so, Consumes-then, Grows-more}, proofs.HeadLemmas.{no_empty_head}}
 use Rattle.serde_json.specs.Read.{read}
+use Rattle.moo_http_request.specs.declared.head.TheConstants.{MAX_HEAD}
 
 -- the bytes of a body that was read whole
 body_is : (bytes more : List ℕ) (start n : ℕ) → start + n ≤ length bytes → take n (drop start (bytes ++ more)) ≡ slice_range bytes start (start + n)
@@ -44,7 +45,7 @@ receives_of bytes more found plan h w asked s p e f asks =
     (ap (λ b. Request b w asked) e ∙ ap (λ b. Request (is_head s.head) b asked) f)
 
 -- no more was taken than the plan needs
-sparing_of : (bytes more : List ℕ) (found : HeadSpans) (plan : Plan) (s : HeadStands bytes found) → plan ≡ plan_by s.head → length bytes ≤ 8192
+sparing_of : (bytes more : List ℕ) (found : HeadSpans) (plan : Plan) (s : HeadStands bytes found) → plan ≡ plan_by s.head → length bytes ≤ MAX_HEAD
     → length (bytes ++ more) ≤ max (length bytes) (found.spans.len + body_size plan) → IsSparing (bytes ++ more)
 sparing_of bytes more found plan s p few most =
     by (max_cases (length (bytes ++ more)) (length bytes) (found.spans.len + body_size plan) most)
@@ -72,7 +73,7 @@ behind_of bytes all given found plan s p close e most head rest h =
     omega (arith, size, whole, tail, cut, inside, close, most)
 
 pub takes_of : (a b c : Option (List ℕ)) (bytes all : List ℕ) (found : HeadSpans) (plan : Plan) (h w : Bool) (asked : Asked) (s : HeadStands bytes found) → plan ≡ plan_by s.head → h ≡ is_head s.head → w ≡ asks_why s.head
-    → length bytes ≤ 8192 → length bytes < found.spans.len + 1024 → Consumes a b bytes → Grows b c bytes all → length all ≤ max (length bytes) (found.spans.len + body_size plan)
+    → length bytes ≤ MAX_HEAD → length bytes < found.spans.len + 1024 → Consumes a b bytes → Grows b c bytes all → length all ≤ max (length bytes) (found.spans.len + body_size plan)
     → Settles c all (λ input. PlanAsks plan (drop found.spans.len input) asked) → Takes a c (Request h w asked)
 takes_of a b c bytes all found plan h w asked s p e f few close taken grows most asks = record {
   behind = behind_of bytes all grows.given found plan s p close grows.grown most;
@@ -94,7 +95,7 @@ takes_of a b c bytes all found plan h w asked s p e f few close taken grows most
 
 -- reading stopped behind the head
 pub breaks_of : (a b c : Option (List ℕ)) (bytes : List ℕ) (found : HeadSpans) (plan : Plan) (s : HeadStands bytes found) → plan ≡ plan_by s.head
-    → length bytes ≤ 8192 → Consumes a b bytes → TakesAtMost ((found.spans.len + body_size plan) - length bytes) b c → StopsReading a c
+    → length bytes ≤ MAX_HEAD → Consumes a b bytes → TakesAtMost ((found.spans.len + body_size plan) - length bytes) b c → StopsReading a c
 breaks_of a b c bytes found plan s p few taken more =
     let whole = length-append bytes more.given in
     record {
@@ -106,7 +107,7 @@ breaks_of a b c bytes found plan s p few taken more =
     }
 
 -- there is no head
-pub takes_refused : (a b : Option (List ℕ)) (given : List ℕ) → Consumes a b given → length given ≤ 8192 → Settles b given Lacks → Takes a b (Request false false (Refused BadRequest))
+pub takes_refused : (a b : Option (List ℕ)) (given : List ℕ) → Consumes a b given → length given ≤ MAX_HEAD → Settles b given Lacks → Takes a b (Request false false (Refused BadRequest))
 takes_refused a b given taken few lacks = record {
   given = given;
   gives = record { known = taken; sparing = small few };

@@ -22,6 +22,7 @@ use Rattle.moo_http_lines.specs.Lines.{Line, is_from_page, is_coded, length_text
 use Rattle.moo_http_lines.specs.Numbers.{bounded_of}
 use Rattle.moo_http_request.specs.Questions.{question_of}
 use Rattle.moo_http_request.specs.Routes.{endpoint_of}
+use Rattle.moo_http_request.specs.declared.plan.TheConstants.{MAX_BODY}
 
 -- the path is the target before its first question mark
 abbrev pub path_of : List ℕ → List ℕ
@@ -56,7 +57,7 @@ length_refusal lines = if is_coded lines then Coded else NoLength
 -- a body says it, if its length is stated and at most 1,048,576
 abbrev pub body_plan : Form → List Line → Option ℕ → Plan
 body_plan form lines None = Decided (Refused (length_refusal lines))
-body_plan form lines (Some n) = if nat_lt 1048576 n then Decided (Refused TooLarge) else Body form n
+body_plan form lines (Some n) = if nat_lt MAX_BODY n then Decided (Refused TooLarge) else Body form n
 
 -- the question that a path of the topic asks; if it asks none, it has no number
 abbrev pub question_plan : Topic → Option Question → Plan

@@ -2,8 +2,9 @@
 use Rattle.std.specs.Prelude.{◌≤◌, ⊤}
 use Rattle.moo_http_request.specs.declared.plan.Plan.{Plan}
 use Rattle.moo_http_request.specs.declared.plan.Plan.TheVariants.{Decided, Body}
+use Rattle.moo_http_request.specs.declared.plan.TheConstants.{MAX_BODY}
 
 -- a body is read only up to 1,048,576 bytes
 abbrev pub IsBounded : Plan → Type 0
 IsBounded (Decided asked) = ⊤
-IsBounded (Body form n) = n ≤ 1048576
+IsBounded (Body form n) = n ≤ MAX_BODY

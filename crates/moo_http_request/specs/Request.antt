@@ -13,6 +13,7 @@ use Rattle.moo_http_request.specs.Body.{BodyAsks}
 use Rattle.moo_http_request.specs.Head.{BeginsWithHead, HasNoHead}
 use Rattle.moo_http_request.specs.Plan.{plan_by, body_size, is_head, asks_why}
 use Rattle.moo_http_request.specs.Settled.{Settles}
+use Rattle.moo_http_request.specs.declared.head.TheConstants.{MAX_HEAD}
 
 -- What is planned, done with what follows the head: a body of n bytes is its first n, and without so many the request is cut off.
 abbrev pub PlanAsks : Plan → List ℕ → Asked → Type 0
@@ -30,7 +31,7 @@ pub data Receives (input : List ℕ) (received : Received) : Type 0 where
 
 -- No more bytes are taken than are needed: 8,192 at most; or they begin with a head, and none is after the body that it plans.
 pub data IsSparing (given : List ℕ) : Type 0 where
-  small : length given ≤ 8192 → IsSparing given
+  small : length given ≤ MAX_HEAD → IsSparing given
   body : (head : RequestHead) (rest : List ℕ) → BeginsWithHead given head rest → length given ≤ length (print_request head) + body_size (plan_by head)
       → IsSparing given
 

@@ -8,6 +8,7 @@ use Rattle.moo_http_request.specs.declared.whole.Wanted.{Wanted}
 use Rattle.moo_http_request.specs.declared.whole.Wanted.TheVariants.{Head, Total}
 use Rattle.moo_http_request.specs.Found.{Lacks}
 use Rattle.moo_http_request.specs.Request.{Receives}
+use Rattle.moo_http_request.specs.declared.head.TheConstants.{MAX_HEAD}
 
 -- more bytes change nothing of what these ask
 abbrev pub IsWhole : List ℕ → Type 0
@@ -24,5 +25,5 @@ pub record IsWholeFrom (bytes : List ℕ) (n : ℕ) : Type 0 where
 
 -- what these bytes show of the end of their request: that no head ends in them, or where it ends
 abbrev pub ShowsEnd : List ℕ → Wanted → Type 0
-ShowsEnd bytes Head = Lacks bytes × (length bytes < 8192)
+ShowsEnd bytes Head = Lacks bytes × (length bytes < MAX_HEAD)
 ShowsEnd bytes (Total n) = IsWholeFrom bytes n

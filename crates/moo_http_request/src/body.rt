@@ -12,6 +12,7 @@ ghost use Rattle.moo_http_request.specs.Request.{PlanAsks};
 ghost use Rattle.moo_http_request.specs.Settled.{Settles};
 ghost use Rattle.moo_http_request.specs.Shape.{shape_of};
 ghost use Rattle.moo_http_request.specs.Shown.{shape_shown, calls_shown};
+ghost use Rattle.moo_http_request.specs.declared.head.TheConstants.{MAX_HEAD};
 
 use crate::asked::{Asked, Form, Mode, Refusal};
 use crate::each::{Batches, Each, bad_texts, read_each};
@@ -194,7 +195,7 @@ pub(crate) fn follow_plan<R: Incoming>(
     wrong: &mut Option<BodyFault>,
 ) -> Result<Asked, ReadFault>
     requires inside { start ≤ length bytes.old.items }
-    requires short { start ≤ 8192 }
+    requires short { start ≤ MAX_HEAD }
     requires bound { IsBounded plan }
     ensures grows { OnOk result (Grows (R.remaining reader.old) (R.remaining reader.new) bytes.old.items bytes.new.items) }
     ensures asks { IfOk result (λ asked. Settles (R.remaining reader.new) bytes.new.items

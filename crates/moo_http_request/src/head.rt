@@ -15,7 +15,8 @@ use httparse::spans::{EMPTY_HEADER_SPAN, HeaderSpan, RequestSpans, parse_request
 /// How many bytes a head has at the most.
 pub const MAX_HEAD: usize = 8192;
 
-const MAX_LINES: usize = 32;
+/// How many lines a head has at the most.
+pub const MAX_LINES: usize = 32;
 
 /// The places of the parts of a head in the bytes.
 #[derive(Clone, Copy, Drop)]
@@ -37,7 +38,7 @@ pub enum HeadRead {
 
 /// What the bytes say of the head, whatever follows them. `None` if it may go on after them.
 pub(crate) fn parse_head(bytes: &[u8]) -> Option<HeadRead>
-    requires { (0 < length bytes.now) × (length bytes.now ≤ 8192) }
+    requires { (0 < length bytes.now) × (length bytes.now ≤ MAX_HEAD) }
     ensures found { IfSome result (ShowsHead bytes.now) }
     ensures partial { result ≡ None → HasNoRequest bytes.now }
 {
@@ -57,9 +58,9 @@ pub(crate) fn read_head<R: Incoming>(
     requires { bytes.old.items ≡ [] }
     ensures takes { OnOk result (Consumes (R.remaining reader.old) (R.remaining reader.new) bytes.new.items) }
     ensures head { IfOk result (FindsHead (R.remaining reader.new) bytes.new.items) }
-    ensures few { OnOk result (length bytes.new.items ≤ 8192) }
+    ensures few { OnOk result (length bytes.new.items ≤ MAX_HEAD) }
     ensures close { IfOk result (IsClose bytes.new.items) }
-    ensures breaks { OnErr result (TakesAtMost 8192 (R.remaining reader.old) (R.remaining reader.new)) }
+    ensures breaks { OnErr result (TakesAtMost MAX_HEAD (R.remaining reader.old) (R.remaining reader.new)) }
     ensures cause { IfErr result (λ fault. fault ≡ ReadFault.Read → HasFailed R.fails reader.new) }
 {
     if !read_more(reader, bytes, MAX_HEAD)? {

@@ -12,7 +12,8 @@ use httparse::spans::HeaderSpan;
 use moo_http_lines::{bounded, is_coded, is_for_us, is_from_page, stated_length};
 use std::str;
 
-const MAX_BODY: u64 = 1_048_576;
+/// How many bytes a body has at the most.
+pub const MAX_BODY: u64 = 1_048_576;
 
 /// What the head of a request decides: what is asked, or that a body says it, with its length.
 #[derive(Drop)]

@@ -32,7 +32,7 @@ fn size_of(plan: &Plan) -> u64
 /// What a request wants that begins with these bytes. `Head` if no head ends in them and it may still come. Else how many bytes the request
 /// has in all: with so many it is whole, and more bytes change nothing of what is asked; with fewer it is cut off.
 pub fn wants(routes: &Routes, bytes: &[u8]) -> Wanted
-    requires { (0 < length bytes.now) × (length bytes.now ≤ 8192) }
+    requires { (0 < length bytes.now) × (length bytes.now ≤ MAX_HEAD) }
     ensures shows { ShowsEnd bytes.now result }
     ensures bound { (n : ℕ) → result ≡ Total n → n ≤ 1056768 }
 {

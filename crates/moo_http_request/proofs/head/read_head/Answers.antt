@@ -1,5 +1,6 @@
 use Rattle.moo_http_request.{proofs.Words.{◌≡◌, ◌<◌, ◌≤◌, length, arith, rules, refl, sym, subst, IsAtEnd, Lacks}, proofs.Giving.{Grows-all, Grows-more, settled, settled_at_end, taken_first, on_err}, proofs.HeadLemmas.{fresh-first, fresh_next, close_of, lacks-long, lacks_all}}
 use Rattle.moo_http_request.proofs.head.read_head.Goals as goal
+use Rattle.moo_http_request.specs.declared.head.TheConstants.{MAX_HEAD}
 
 pub returns-then-len-eq-MAX_HEAD-clause-head : goal.returns-then-len-eq-MAX_HEAD-clause-head
 returns-then-len-eq-MAX_HEAD-clause-head g c =
@@ -8,7 +9,7 @@ returns-then-len-eq-MAX_HEAD-clause-head g c =
 
 pub returns-in_err-read_more-2-clause-breaks : goal.returns-in_err-read_more-2-clause-breaks
 returns-in_err-read_more-2-clause-breaks g c =
-    on_err _ _ (taken_first _ _ _ _ 8192 c.pieces.invariant.few c.pieces.invariant.taken c.in_err-read_more-2.ensures.breaks)
+    on_err _ _ (taken_first _ _ _ _ MAX_HEAD c.pieces.invariant.few c.pieces.invariant.taken c.in_err-read_more-2.ensures.breaks)
 
 pub pieces-init : goal.pieces-init
 pieces-init g c = record {
@@ -30,7 +31,7 @@ returns-then-not-branch-2-clause-head g c =
 pub pieces-preserved : goal.pieces-preserved
 pieces-preserved g c =
     let none = rw c.deref.ensures.value at (c.in_default.ensures.partial refl) in
-    let more : (length c.pieces.bytes.items < length c.read_more-in-pieces.new.bytes.items) × (length c.read_more-in-pieces.new.bytes.items ≤ 8192) = search rules in
+    let more : (length c.pieces.bytes.items < length c.read_more-in-pieces.new.bytes.items) × (length c.read_more-in-pieces.new.bytes.items ≤ MAX_HEAD) = search rules in
     record {
       some = omega (arith, more.0);
       few = more.1;

@@ -1,5 +1,6 @@
 use Rattle.moo_http_request.{proofs.Words.{subst, sym, refl, ◌+◌, rules}, specs.Whole.{IsWholeFrom}, proofs.HeadLemmas.{lacks-long}, proofs.WholeLemmas.{ends_after_body, ends_here}}
 use Rattle.moo_http_request.proofs.whole.wants.Goals as goal
+use Rattle.moo_http_request.specs.declared.head.TheConstants.{MAX_HEAD}
 
 pub returns-in-Some-Whole-clause-shows : goal.returns-in-Some-Whole-clause-shows
 returns-in-Some-Whole-clause-shows c =
@@ -10,4 +11,4 @@ returns-in-Some-Whole-clause-shows c =
 
 pub returns-in-None-clause-shows : goal.returns-in-None-clause-shows
 returns-in-None-clause-shows c =
-    ends_here c.args.bytes.now 8192 (search rules) (λ more. lacks-long c.args.bytes.now more (search rules) (c.in-None.ensures.partial refl))
+    ends_here c.args.bytes.now MAX_HEAD (search rules) (λ more. lacks-long c.args.bytes.now more (search rules) (c.in-None.ensures.partial refl))
