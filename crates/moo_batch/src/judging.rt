@@ -26,11 +26,8 @@ use moo_calls_shared::Fault;
 use moo_memory::{ChangeList, Changes, Draft, ENDLESS};
 use moo_rows::{Head, Rows};
 use moo_value::{Code, ObjNo, Value};
-use moo_world::{Answers, Batch, Call};
+use moo_world::{Answers, Batch, Call, LAST_SEQ};
 use std::alloc::Global;
-
-/// The most batches that are ever accepted.
-pub const LAST_SEQ: u64 = 9223372036854775807;
 
 /// The call at which a batch stopped, from 1, and why.
 #[derive(Clone, Copy)]
@@ -141,7 +138,7 @@ fn is_due(at: Option<u64>, seq: u64) -> bool
 
 /// The changes of a batch without calls, on any rows with this head: the batch is counted. They take no memory.
 fn counted(alloc: Global, head: Head) -> Changes
-    requires room { head.seq < 9223372036854775807 }
+    requires room { head.seq < LAST_SEQ }
     ensures { (t : Maps) → AreChanges t (record t { head = record head { seq = head.seq + 1 } }) result }
 {
     let mut next = head;

@@ -15,6 +15,6 @@ mod stepping;
 mod witness;
 
 pub use held::held_call;
-pub use judging::{LAST_SEQ, Verdict, judge};
+pub use judging::{Verdict, judge};
 pub use stepping::step;
 pub use witness::{Facts, Refusal, Witness};
