@@ -2,7 +2,7 @@
 
 use crate::shown::{LINE_ENDS, Said};
 use moo_text::{next_word, skip_blanks};
-use moo_value::{LiteralFault, read_literal};
+use moo_value::{LiteralFault, MAX_NESTING, read_literal};
 use std::alloc::{AllocError, Global};
 
 /// That the bytes leave a text open at their end, or the list that they begin. What is between quotes doesn't count for the list.
@@ -66,13 +66,10 @@ fn wrong_inside<'a>(alloc: Global, bytes: &'a [u8]) -> Inside<'a> {
     Inside::Item(rest)
 }
 
-/// So deep are lists that are looked into.
-const MOST_DEEP: usize = 32;
-
 /// What is wrong in the innermost list that the bytes begin.
 fn wrong_innermost<'a>(alloc: Global, bytes: &'a [u8]) -> Inside<'a> {
     let mut at = bytes;
-    for _level in 0..MOST_DEEP {
+    for _level in 0..MAX_NESTING {
         let Some(inside) = after_mark(b'{', at) else {
             return Inside::Item(at);
         };
