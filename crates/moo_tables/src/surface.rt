@@ -1,4 +1,4 @@
-//! The program doesn't come this way. After a crash a new start opens the file. The law `run_then_crash_then_adopt` speaks of this call.
+//! The program doesn't come this way. After a crash a new start opens the file. The law `a_crash_is_taken_up` speaks of this call.
 
 ghost use Rattle.std.specs.Prelude.{◌≡◌, false, IfSome};
 ghost use Rattle.sqlite.specs.Held.{state};
