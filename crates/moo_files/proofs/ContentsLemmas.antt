@@ -1,5 +1,5 @@
 -- From what the files hold to what a connection to them keeps.
-use Rattle.moo_files.{proofs.Words.{◌≡◌, ◌≢◌, ◌⊎◌, inl, inr, ℕ, ◌≤◌, [], ap, arith, sym, subst, subst₂, ◌∙◌, ∥∥₁_elim, ∥∥₁_map, Trees-set, Trees, HasCleanDisk, Survives, Opens, IsLive, Held, IsEmpty, IsNothing, file_state, empty_is_sound, Ghosts, FileStore, State, Tables, schema_of, no_schema, ShowsState, LeavesState, Adopts, IsBlank, HoldsTrees, HoldsTables, HoldsState, HasOtherTables, HasAnyTable, IsMigrated, IsKept, ReadsAs, ReadsAsOurs, HoldsNoTable}, specs.Connected.{IsNewOrFound, OnlyLeaves}, proofs.BlankLemmas.{holds_none}, proofs.RemainsLemmas.{found_empty, begun_empty}}
+use Rattle.moo_files.{proofs.Words.{◌≡◌, ◌≢◌, ◌⊎◌, inl, inr, ℕ, ◌≤◌, [], ap, arith, sym, subst, subst₂, ◌∙◌, ∥∥₁_elim, ∥∥₁_map, Trees-set, Trees, HasCleanDisk, Survives, Opens, IsLive, Held, IsEmpty, IsNothing, file_state, empty_is_sound, Ghosts, FileStore, State, Tables, schema_of, no_schema, ShowsState, Adopts, IsBlank, HoldsTrees, HoldsTables, HoldsState, HasOtherTables, HasAnyTable, IsMigrated, IsKept, ReadsAs, ReadsAsOurs, HoldsNoTable}, specs.Connected.{IsNewOrFound, OnlyLeaves}, proofs.BlankLemmas.{holds_none}, proofs.RemainsLemmas.{found_empty, begun_empty}}
 use Rattle.sqlite.{specs.Recovery.{Image}, specs.Schema.{Schema}, specs.State.{State as Database}, specs.Start.{FindsIn}, specs.Effect.{Database as Content, IsDatabase}}
 use Rattle.sqlite_trees.specs.Objects.{catalog_tree}
 use Rattle.sqlite_catalog.specs.Listing.{IsSound}
