@@ -49,7 +49,7 @@ IsLeftBy store image = HoldsSuch store.may_leave image
 abbrev pub HoldsNothingBut : (Trees → Type 0) → Image → Type 0
 HoldsNothingBut P image = IsNothing image ⊎ (IsBlank image ⊎ ∥ HoldsSuch (λ trees. IsEmpty trees ⊎ P trees) image ∥₁)
 
--- the pages of the database don't end in sums, as those of a file that this program made don't
+-- the pages of the database don't end in checksums (SQLite's cksumvfs), as those of a file that this program made don't
 abbrev pub HasNoSums : Image → Type 0
 HasNoSums image = (trees : Trees) (held : HoldsDatabase image trees) → is_summed held.0 ≡ false
 

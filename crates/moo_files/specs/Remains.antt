@@ -33,7 +33,8 @@ abbrev pub malformed : StoreFault
 malformed = Store (SqliteFailure DatabaseCorrupt)
 
 module _ {T D : Type 0} {g : Ghosts D} where
-  -- the disk returned what was written, as long as the files were open
+  -- The disk returned what was written, as long as the files were open. It is *clean*: no wrong answer of it was taken as true. A call that
+  -- fails isn't a wrong answer.
   abbrev pub IsCleanRemains : Remains T D g → Type 0
   IsCleanRemains (remains.Untouched start) = ⊤
   IsCleanRemains (remains.NotOpened seal) = ⊤
@@ -77,12 +78,12 @@ module _ {T D : Type 0} {g : Ghosts D} where
   ExcusesMalformed fault (remains.Connection conn) = ⊤
 
 module _ {D : Type 0} {g : Ghosts D} where
-  -- the pages that this image has, of the size that it names, with the sums that they lacked
+  -- the pages that this image has, of the size that it names, with the checksums that they lacked
   abbrev pub IsResealed : Unopened D g → Image → Image → Type 0
   IsResealed now image found = NamesSize image (stored_size (state_of now).page_size) × StandsAs (state_of now).page_size image found
 
   -- Whatever a crash leaves of files that held this image is such a database. If they were left while `sqlite` took them up and their
-  -- pages end in sums, they may also be resealed.
+  -- pages end in checksums, they may also be resealed.
   abbrev pub LeftoverKeeps : (Trees → Type 0) → Image → Leftover D g → Type 0
   LeftoverKeeps P image (left.Files now) = (found : Image) → outcomes g now.log now.db found → HoldsSuch P found
   LeftoverKeeps P image (left.Unopened now) = (found : Image) → (state_of now).may_leave found →

@@ -1,4 +1,7 @@
 -- What the disk leaves of the bytes of two files that were stopped.
+--
+-- A *crash leaves a database*: any log and file from which that database is read. The *disk leaves bytes*: one log and one file that the
+-- model of the disk allows. The second is what a machine does; that it implies the first is proved, but for the cases named here.
 use Rattle.std.specs.Prelude.{◌≡◌, ◌⊎◌, false, IsTrue, ⊤}
 use Rattle.sqlite_disk.specs.declared.Disk.{Ghosts}
 use Rattle.sqlite_wal.specs.Recovery.{Image}
@@ -28,7 +31,8 @@ module _ {D : Type 0} {g : Ghosts D} where
   abbrev pub UnopenedLeaves : Unopened D g → Image → Type 0
   UnopenedLeaves now image = let both = files_of now in outcomes g both.0 both.1 image
 
-  -- each table has the place that SQLite's own list of tables gives it
+  -- Each table has the place that SQLite's own list of tables gives it. That isn't known if `sqlite` couldn't read the list, or closing
+  -- shut the store.
   abbrev pub IsNumberedStore : FileStore D g → Type 0
   IsNumberedStore store = IsTrue (view store).is_numbered
 
@@ -47,7 +51,7 @@ module _ {D : Type 0} {g : Ghosts D} where
   abbrev pub LeftStoreLeaves : FileStore D g → Image → Type 0
   LeftStoreLeaves now next = (IsNumberedStore now × StoreLeaves now next) ⊎ HoldsSuch (recovers now) next
 
-  -- The same of what is left of files that held an image. If they were being opened, their pages end in no sums.
+  -- The same of what is left of files that held an image. If they were being opened, their pages end in no checksums (SQLite's cksumvfs).
   abbrev pub LeftoverLeaves : Image → Leftover D g → Image → Type 0
   LeftoverLeaves image (left.Files now) next = outcomes g now.log now.db next
   LeftoverLeaves image (left.Unopened now) next = UnopenedLeaves now next × HasNoSums image

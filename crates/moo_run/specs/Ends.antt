@@ -135,8 +135,8 @@ module _ {T D : Type 0} {g : Ghosts D} where
     -- or what the file holds isn't taken up
     pub over : begins_anew task ≡ false → (held : Contents) → Hold image held → IsCleanRemains rest → RefusedOnto held image rest run
     pub opened : begins_anew task ≡ false → RefusesFile run
-    -- It holds its moment still, or that to which it was migrated, and so does what a crash leaves of it; and if it held anything, sound or
-    -- not, it is spared.
+    -- It holds its moment still, or, of version 1, some moment of the same rows, and so does what a crash leaves of it; and if it held
+    -- anything, sound or not, it is spared.
     pub left : (m : Moment) → HoldsMoment image m → IsCleanRemains rest →
         KeepsSuch (λ trees. (end : Moment) × IsSparedMoment m end × AreTreesOf end trees) image rest
     pub spares : ¬ IsNothing image → (begins_anew task ≡ true → ¬ IsBlank image) → IsCleanRemains rest → Spares image rest

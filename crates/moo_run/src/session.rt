@@ -14,7 +14,10 @@ use std::alloc::Global;
 use std::io::{Eprint, Read, Write};
 use std::time::Clock;
 
-/// The types of what a run works with. `File` is what the file of its words holds.
+/// The types of what a run works with.
+///
+/// `File` is the type of a *start*: the permission to open one pair of files. The type says what they hold (the image). A start is spent by
+/// opening them.
 pub trait Streams {
     type File: Start;
 

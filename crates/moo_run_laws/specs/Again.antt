@@ -24,8 +24,8 @@ use Rattle.moo_run.specs.Ends.{MatchFile, HasNoFile, FailsFor}
 use Rattle.moo_run.specs.declared.ends.Ends.{Ends}
 use Rattle.moo_run.specs.declared.ends.Ends.TheVariants as variant
 
--- The task starts from a moment of which this is true: from that which its file holds, brought to the present version, if it takes that up;
--- or from that of a new world that it may begin with, whose cells are known.
+-- The task starts from a moment of which this is true: if it takes up its file, from *each* moment that the file held, brought to the
+-- present version; else from *some* moment of a new world that it may begin with, whose cells are known.
 abbrev pub StartsFrom : Task → Image → Given → (Moment → Type 0) → Type 0
 StartsFrom task image given From =
     (begins_anew task ≡ false → (m : Moment) → HoldsMoment image m → (now : Moment) × BecomesPresent m now × From now)
@@ -41,16 +41,16 @@ module _ {T D : Type 0} {g : Ghosts D} where
       (λ remains. IsCleanRemains remains → FailsFor task.file.now image remains run)))
       ⊎ ((1 < length words) × EndsUsage words run.before run.after run.status × HasNoFile ends)
 
-  -- This is true of the connection, if a task ran over the file. Otherwise that is true of what is left of the file, which is untouched
-  -- if the words name none: they have a mistake, or run on `:memory:`.
+  -- The first is true of the connection, if a task ran over the file. Otherwise the second is true of what is left of the file, which is
+  -- untouched if the words name none: they have a mistake, or run on `:memory:`.
   abbrev pub IfRan : Ends T D g → (Held (FileStore D g) → Type 0) → (Remains T D g → Type 0) → Type 0
   IfRan (variant.Ran conn) Ran Left = Ran conn
   IfRan (variant.Refused rest) Ran Left = Left rest
   IfRan (variant.NoFile start) Ran Left = Left (remains.Untouched start)
 
   -- What a crash leaves of files that held this image, if no task ran over them. Files that weren't opened are as they were. (Those
-  -- that `sqlite` failed to open are taken as such: it says nothing of them. Files with sums on their pages, as no file of this program
-  -- has, may have been resealed, and are left out.)
+  -- that `sqlite` failed to open are taken as such: it says nothing of them. Files with checksums on their pages (SQLite's cksumvfs), as no
+  -- file of this program has, may have been resealed, and are left out.)
   abbrev pub IsLeftAfter : Image → Remains T D g → Image → Type 0
   IsLeftAfter image (remains.Untouched start) next = next ≡ image
   IsLeftAfter image (remains.NotOpened seal) next = next ≡ image

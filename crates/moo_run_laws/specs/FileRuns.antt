@@ -45,9 +45,9 @@ module _ {S T D : Type 0} {g : Runs.Ghosts S T D} {disk : Ghosts D} where
   abbrev pub IsFileRun : FileRun g disk → Type 0
   IsFileRun r = RunsOver r.words r.image r.ends (run_of r)
 
-  -- What may be found after it. Before the file is closed: any files of a database that a crash leaves, or any bytes that the disk leaves.
-  -- After that: what the closed file holds, or any bytes that the disk leaves. If no task ran over the file: any bytes that the disk
-  -- leaves of it, or what a crash leaves, before or after.
+  -- What may be found after it. If a task ran over the file (the first function), before that is closed: any files of a database that a
+  -- crash leaves, or any bytes that the disk leaves; after that: what the closed file holds, or any bytes that the disk leaves. If none did
+  -- (the second): any bytes that the disk leaves of it, or what a crash leaves, before or after.
   abbrev pub IsFoundAfter : FileRun g disk → Image → Type 0
   IsFoundAfter r next = IfRan r.ends
       (λ conn. IsLeftBy (file_state conn) next ⊎ (DiskLeaves conn next ⊎ IsFoundIn r.closed next))
@@ -64,13 +64,14 @@ module _ {S T D : Type 0} {g : Runs.Ghosts S T D} {disk : Ghosts D} where
   abbrev pub IsFoundOnCleanDisk : FileRun g disk → Image → Type 0
   IsFoundOnCleanDisk r next = IsLeftByCrash r next ⊎ (IsClosedEnd r.ends r.closed × IsCleanRemains r.closed × IsFoundAfter r next)
 
-  -- It leads its file to a moment of which this is true. If a task ran over the file: from the moment where it started to one that its end
-  -- may leave. If none did: to the moment that the file held, or, of an earlier version, that to which it was migrated.
+  -- It leads its file to a moment of which this is true. If a task ran over the file (the first function): from the moment where it started
+  -- to one that its end may leave. If none did (the second), for *each* moment that the file held: to that, or, of version 1, to some
+  -- moment of the same rows.
   abbrev pub GoesTo : FileRun g disk → (Moment → Type 0) → Type 0
   GoesTo r Then = IfRan r.ends
       (λ conn. (task : Task) × NamesTask r.words task × StartsFrom task r.image (run_of r).given (λ m.
-      (ran : RunsIn (file_state conn) task m (run_of r)) × (end : Moment) × MayBeLeft ran.0.end end × Then end))
-      (λ rest. (m : Moment) → HoldsMoment r.image m → (end : Moment) × IsSparedMoment m end × Then end)
+      (ran : RunsIn (file_state conn) task m (run_of r)) × (left : Moment) × MayBeLeft ran.0.end left × Then left))
+      (λ rest. (m : Moment) → HoldsMoment r.image m → (left : Moment) × IsSparedMoment m left × Then left)
 
   -- It goes on from this moment: its files hold it; and a task that takes up its file, on a clean disk, runs from it, or fails for a cause,
   -- and no damage is told.

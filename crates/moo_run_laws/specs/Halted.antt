@@ -30,13 +30,14 @@ module _ {T D : Type 0} {g : Ghosts D} where
       ((¬ IsShutByClosing conn now) × StoreLeaves now next) ⊎ HoldsSuch (recovers now) next
   ClosedLeaves image conn closed next = BytesLeave image closed next
 
-  -- the same at the end of a run, whether or not a task ran over the files
+  -- the same at the end of a run: if a task ran over the files (the first function), or if none did (the second)
   abbrev pub EndLeaves : Image → Ends T D g → Remains T D g → Image → Type 0
   EndLeaves image ends closed next = IfRan ends (λ conn. ClosedLeaves image conn closed next) (λ rest. BytesLeave image closed next)
 
 module _ {S T D N U E : Type 0} (g : Runs.Ghosts S T D) {disk : Ghosts D} (h : Runs.Ghosts N U E) {other : Ghosts E} where
-  -- A run from such a session came to a stop, and then the next one ran; each ended so, and its file was closed. If the disk of the first
-  -- returned what was written, and the files of the second held bytes that `EndLeaves` allows, the first hands them over.
+  -- A run that began with such a session, whose host and output are to stop so, and then the next; each ended so, and its file was closed.
+  -- If the disk of the first returned what was written, and the files of the second held bytes that `EndLeaves` allows, the first hands
+  -- them over.
   abbrev pub HaltsBefore : (S → Type 0) → (S → Ends T D disk → FileRun g disk) → (Ends U E other → FileRun h other) → Type 0
   HaltsBefore Began run_by next_by = (began : S) × Began began × (ends : Ends T D disk) × (next_ends : Ends U E other)
       × (let first = run_by began ends in let next = next_by next_ends in

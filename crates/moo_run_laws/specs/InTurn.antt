@@ -23,7 +23,7 @@ module _ {S T D : Type 0} {g : Runs.Ghosts S T D} {disk : Ghosts D} where
 
   -- The run leads from a moment to the next by these batches, one after another: from that moment, brought to the present version, to one
   -- that its end may leave. The accepted batches of a text that it ran are such batches (`turns_lead`). If no task ran over the file there
-  -- are none, and its moment is kept, or migrated.
+  -- are none, and its moment is kept; or, of version 1, it is some moment of the same rows.
   abbrev pub LeadsOver : FileRun g disk → Moment → List Batch → Moment → Type 0
   LeadsOver run m batches next = IfRan run.ends
       (λ conn. (task : Task) × NamesTask run.words task × (now : Moment) × BecomesPresent m now

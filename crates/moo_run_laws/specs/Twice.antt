@@ -40,8 +40,9 @@ module _ {S T D N U E : Type 0} (g : Runs.Ghosts S T D) {disk : Ghosts D} (h : R
       EndsClosed first × EndsClosed next
       × (IsCleanRemains first.closed → IsFoundAfter first next.image → HandsOver first next))
 
-  -- The same if the process stopped before the first file was closed. Its disk returned what was written until then, if the files of the
-  -- second held what a crash left; else it would have until the file was closed, in some way.
+  -- The same of the second if the process stopped before the first file was closed. Its disk returned what was written until then, and the
+  -- files of the second held what a crash left; or there is some outcome of closing, `closed`, until which the disk was clean, and the
+  -- bytes may be found after that.
   abbrev pub StopsAndRuns : (Remains T D disk → FileRun g disk) → (Ends U E other → FileRun h other) → Type 0
   StopsAndRuns run_by next_by = (next_ends : Ends U E other)
       × (let next = next_by next_ends in

@@ -14,8 +14,9 @@ use moo_run::{Ends, Runs, Session, Streams, run_to_end, run_words};
 /// Runs words as the program does, by `run_to_end`, and then other words.
 ///
 /// The program runs over a file, and stops at the end of its words, before the file is closed or after that. It runs again over what is
-/// then found: it goes on from a moment that the first run may leave. Any words, with any input, over any host. Both disks are honest, and
-/// may fail from any call on. What is found is any files of a database that a crash may leave, or any bytes that the disk leaves.
+/// then found: it goes on from a moment that the first run may leave. Any words, with any input, over any host. Both disks return what was
+/// written, and may fail from any call on. What is found is any files of a database that a crash may leave, or any bytes that the disk
+/// leaves (`Stop` of `moo_files` tells the two apart).
 pub fn run_and_run_again<'s, 'n, S: Streams, N: Streams>(
     session: &mut Session<'s, S>,
     words: &[&str],
@@ -35,9 +36,10 @@ pub fn run_and_run_again<'s, 'n, S: Streams, N: Streams>(
         N.Host.may_open next.old.host task.file.now }
     requires next_read { (task : Task) (path : List ℕ) → NamesTask (map (λ word. word.now) next_words.now) task →
         ReadsFile task path → N.Host.may_read next.old.host path }
-    // From the moment that the file held, or a new world: that after the acknowledged batches, or with the one batch in hand. If no task
-    // ran, what the file held. What stays keeps its number and its cells, and no number is given again. A service acknowledges what
-    // connections asked, those too whose answer couldn't be sent.
+    // The next run starts from the moment after the accepted batches whose answers were written, or with one more. The first run started
+    // from the moment that its file held, or from a new world. If it ran no task over the file: from what the file held, or, of version 1,
+    // from some moment of the same rows. What stays keeps its number and its cells, and no number is given again. After a service
+    // everything counts that its connections asked, also if the answer couldn't be sent.
     ensures again { RunsTwice ⟦<Session<'s, S> as Runs>⟧ ⟦<Session<'n, N> as Runs>⟧
         (λ ends. record {
           words = map (λ word. word.now) words.now;
@@ -63,7 +65,8 @@ pub fn run_and_run_again<'s, 'n, S: Streams, N: Streams>(
 }
 
 /// As `run_and_run_again`, if the process stops once the first words are done, before their file is closed. For what a crash leaves, the
-/// disk has to be honest until the crash; for the bytes that it leaves, until the file would be closed.
+/// disk has to return what was written until the crash; for the bytes that it leaves, until the file would be closed. Of what the first
+/// run tells as it ends nothing is said here: `run_words` says it.
 pub fn stop_and_run_again<'s, 'n, S: Streams, N: Streams>(
     session: &mut Session<'s, S>,
     words: &[&str],

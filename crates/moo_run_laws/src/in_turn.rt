@@ -25,7 +25,7 @@ pub fn runs_in_turn<S: Runs>()
     // Each of these batches is counted.
     ensures counts { (runs : List (FileRun S.Runs S.Disk.Disk)) (m end : Moment) (batches : List Batch) →
         LeadInTurn m runs batches end → (state_of_moment end).seq ≡ (state_of_moment m).seq + length batches }
-    // Of all batches that they ran, acknowledged or not, one at most is meant for a number: a batch with `at` acts once.
+    // One at most is meant for a number: a batch with `at` acts once in such a history.
     ensures once { (runs : List (FileRun S.Runs S.Disk.Disk)) (m end : Moment) (batches : List Batch) (number : ℕ) →
         LeadInTurn m runs batches end → length (filter (is_for number) batches) ≤ 1 }
     // And if none of them is a wizard's at its turn, nobody rises.

@@ -17,8 +17,9 @@ ghost use Rattle.moo_run_laws.specs.Halted.{EndLeaves};
 
 use moo_run::Runs;
 
-/// The program runs over a file, on a disk that is honest, to the end of its words, and closes it or is stopped. It runs again over what
-/// is then found: it goes on from a moment that the first run may leave, and has its state, all its numbers and each of its cells.
+/// The program runs over a file, on a disk that returns what was written, to the end of its words, and closes it or is stopped. It runs
+/// again over what is then found: it goes on from a moment that the first run may leave, with its state, all its numbers and each of its
+/// cells; of version 1, with the cells of objects, properties and verbs.
 ///
 /// A run is what the clause `over` of `run_words` says of it: any words, with any input, over any host. `run_to_end`, the call that the
 /// program makes, says it too, and closes the file after that. `run_and_run_again` makes two such calls, and says it of them;

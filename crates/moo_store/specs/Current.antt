@@ -18,7 +18,7 @@ pub record BecomesCurrent (old new : Tables) : Type 0 where
   pub same : IsCurrent old → new ≡ old
   pub unmigrated : KeepsUnmigrated old new
 
--- the rows of the table that only earlier versions read, `slot` of the first one
+-- the rows of the table `slot`: in version 1 it holds the slots; in version 2 nothing reads it
 abbrev pub unread_of : Trees → List Row
 unread_of trees = trees (slot_tree First)
 

@@ -15,7 +15,8 @@ use Rattle.moo_cells.specs.Shows.{ShowsRows}
 use Rattle.moo_store.specs.Current.{BecomesCurrent, unread_of, unread_kept}
 use Rattle.moo_store.specs.Untouched.{KeepsCells}
 
--- the cells of all tables, and the rows of the table that only earlier versions read
+-- The cells of all tables, and the rows of the table `slot`: in version 1 it holds the slots; in version 2 nothing reads it, and a
+-- migration empties it.
 pub record AllCells : Type 0 where
   pub tables : Tables
   pub unread : List Row
@@ -33,13 +34,14 @@ state_of_moment m = state_of m.rows
 abbrev pub rows_alone : Maps → Moment
 rows_alone rows = record { rows = rows; cells = None }
 
--- From cells that show these rows to cells that show those: all that stays keeps its cells, byte for byte, and so does the table that isn't
--- read.
+-- From cells that show these rows to cells that show those: all that stays keeps its cells, each a value of SQLite, a text byte for byte;
+-- and the table that isn't read keeps its rows.
 pub record KeepsStaying (rows next : Maps) (old new : AllCells) : Type 0 where
   pub cells : KeepsCells rows next old.tables new.tables
   pub unread : new.unread ≡ old.unread
 
--- so it is from one moment to another, if the cells of the first are of the present version and show its rows
+-- So it is from one moment to another, if the cells of the first are of the present version and show its rows. It is so of each moment at
+-- which a World works on a clean disk (`HasAtRest`), and of one brought to the present version (`BecomesPresent`).
 abbrev pub KeepsCellsAt : Maps → Maps → Option AllCells → Option AllCells → Type 0
 KeepsCellsAt rows next (Some old) (Some new) = IsCurrent old.tables → ShowsRows old.tables rows → KeepsStaying rows next old new
 KeepsCellsAt rows next None None = ⊤
@@ -71,11 +73,13 @@ HasCellsOf m trees = (c : AllCells) × (m.cells ≡ Some c) × Leaves trees c.ta
 abbrev pub AreTreesOf : Moment → Trees → Type 0
 AreTreesOf m trees = IsGood m.rows × HasCellsOf m trees
 
--- a moment of any version, brought to the present one: it has the same rows, and the cells that a migration leaves
+-- A moment of any version, brought to the present one: it has the same rows, and its cells show them. If it was of the present version, it
+-- has the same cells. Of version 1 the cells of objects, properties and verbs stay, and `slot` is emptied; of the cells of slots and of the
+-- head no more is said than that they show the same rows.
 abbrev pub BecomesPresent : Moment → Moment → Type 0
 BecomesPresent m now = (now.rows ≡ m.rows) × IfSome m.cells (λ c. (d : AllCells) × (now.cells ≡ Some d)
-    × BecomesCurrent c.tables d.tables × (d.unread ≡ unread_kept c.tables.version c.unread))
+    × BecomesCurrent c.tables d.tables × ShowsRows d.tables now.rows × (d.unread ≡ unread_kept c.tables.version c.unread))
 
--- the same moment; or, if it was of an earlier version, one of the same rows to which it was migrated
+-- the same moment; or, if it was of version 1, some moment of the same rows
 abbrev pub IsSparedMoment : Moment → Moment → Type 0
 IsSparedMoment m end = (end ≡ m) ⊎ (IfSome m.cells (λ c. IsEarlier c.tables.version) × (end.rows ≡ m.rows))

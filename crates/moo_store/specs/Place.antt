@@ -4,7 +4,9 @@ use Rattle.sqlite.specs.State.{State as Database, HasCleanDisk}
 use Rattle.sqlite.specs.Tree.{Trees}
 use Rattle.moo_store.specs.Moment.{Moment, HasAtRest, HasCellsOf}
 
--- It works at a moment. Or it failed there, since memory ran out after the commit. Or its store failed between two moments.
+-- It works at a moment. Or it failed there, since memory ran out after the commit. Or its store failed between two moments, in the commit
+-- of a batch: that is answered `fault`; it may count or not, and all later ones are answered `closed`. (If a check found a fault, both
+-- moments are the one where it worked.)
 pub data Place : Type 0 where
   Works : Moment → Place
   Failed : Moment → Place

@@ -22,7 +22,7 @@ returns-in-Ok g c =
               m,
               now,
               record { rests = rests; shows = brought.shown tables rests clean; are = refl },
-              (refl, (record { tables = it.tables; unread = unread_of (state g.S.Store new).now.trees }, refl, it.became, it.unread)),
+              (refl, (record { tables = it.tables; unread = unread_of (state g.S.Store new).now.trees }, refl, it.became, it.shows, it.unread)),
               c.over.ensures.stands now refl (λ _. (it.rests, it.became.current, it.shows, refl)),
             );
         crash = subst (λ h. Survives old (state g.S.Store h) (Adopts old)) (sym connection) brought.crash;
