@@ -1,8 +1,7 @@
 //! The JSON of answers, printed.
 
 ghost use Rattle.std.specs.Prelude.{◌≡◌, None, map, IfOk, option_map, string_bytes, codes, false};
-ghost use Rattle.serde_json.specs.Data.{object, string, unsigned, member, no_members};
-ghost use Rattle.serde_json.specs.Data as data;
+ghost use Rattle.serde_json.specs.Data.{object, string, unsigned, number as a_number, member, no_members};
 ghost use Rattle.serde_json.specs.View.{items_view, members_view};
 ghost use Rattle.serde_json.specs.Written.{compact_text, members_have_float};
 ghost use Rattle.moo_value.specs.Literal.{print};
@@ -96,7 +95,7 @@ pub(crate) fn stale_text(alloc: Global, seq: u64) -> Result<String, AllocError>
 /// A number under a key.
 pub(crate) fn number_text(alloc: Global, key: &str, number: u64) -> Result<String, AllocError>
     ensures { IfOk result (λ text.
-        string_bytes text ≡ compact_text (object (member key.now (data.number (unsigned number)) no_members))) }
+        string_bytes text ≡ compact_text (object (member key.now (a_number (unsigned number)) no_members))) }
 {
     let mut fields = Map::new(alloc);
     put(&mut fields, alloc, key, Value::from(number))?;
