@@ -1,5 +1,5 @@
 -- The bytes of a response.
-use Rattle.std.specs.Prelude.{ℕ, List, [], ◌∷◌, ◌++◌, Bool, Option, Some, None, if◌then◌else◌, codes, decimal, length, unwrap_or}
+use Rattle.std.specs.Prelude.{ℕ, List, [], ◌∷◌, ◌++◌, Option, Some, None, codes, decimal, unwrap_or}
 use Rattle.http.specs.StatusCode.{reason_phrase}
 
 abbrev pub line_end : List ℕ
