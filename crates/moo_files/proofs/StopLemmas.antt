@@ -11,7 +11,7 @@ use Rattle.sqlite.{specs.State.{State as Database, HasCleanDisk}, specs.Held.{He
 use Rattle.moo_world.specs.Judge.{State}
 use Rattle.moo_tables_rows.specs.Tables.{schema_of}
 use Rattle.moo_store.{specs.States.{LeavesState}, specs.Moment.{Moment, HasCellsOf, AreTreesOf, IsSparedMoment}, specs.Place.{Place, moment_of, CrashLeavesAt}}
-use Rattle.moo_files.{specs.Contents.{HoldsSuch, HoldsTrees, IsLeftBy}, specs.Remains.{IsCleanRemains, LeftoverKeeps, KeepsSuch}, specs.Stop.{DiskLeaves, HasNumberedTrees, LeftStoreLeaves, LeftoverLeaves, BytesLeave, AreNumbered}, specs.declared.remains.Remains.{Remains}, proofs.RemainsLemmas.{such_more}}
+use Rattle.moo_files.{specs.Contents.{HoldsSuch, HoldsTrees, IsLeftBy}, specs.Remains.{IsCleanRemains, LeftoverKeeps, KeepsSuch}, specs.Stop.{DiskLeaves, IsNumberedStore, LeftStoreLeaves, LeftoverLeaves, BytesLeave, AreNumbered}, specs.declared.remains.Remains.{Remains}, proofs.RemainsLemmas.{such_more}}
 use Rattle.moo_files.specs.declared.remains.Remains.TheVariants as remains
 use Rattle.sqlite.specs.declared.file.Leftover.TheVariants as left
 
@@ -52,7 +52,7 @@ module _ {D : Type 0} {g : Ghosts D} (it : FileStore D g) (image : Image) where
       )))) in
       record { trees = trees; holds = holds; such = allowed }
 
-pub left_by_disk : {D : Type 0} {g : Ghosts D} (conn : Held (FileStore D g)) (image : Image) → HasCleanDisk (file_state conn) → HasNumberedTrees conn → AreDatabases (file_state conn).may_leave → DiskLeaves conn image → IsLeftBy (file_state conn) image
+pub left_by_disk : {D : Type 0} {g : Ghosts D} (conn : Held (FileStore D g)) (image : Image) → HasCleanDisk (file_state conn) → IsNumberedStore conn.store → AreDatabases (file_state conn).may_leave → DiskLeaves conn image → IsLeftBy (file_state conn) image
 left_by_disk conn image clean numbered sound lies = left_on_disk conn.store image (clean_of (view conn.store).is_clean clean) numbered sound lies
 
 module _ {D : Type 0} {g : Ghosts D} where

@@ -1,5 +1,5 @@
 -- From what was done to a World to how a task ends.
-use Rattle.moo_run.{proofs.Words.{◌≡◌, ◌≢◌, NoBatches, NoMemory, Read, Write, TooLong, inl, inr, ℕ, Bool, true, false, List, Option, Result, Ok, Err, IfOk, IfErr, IfSome, IsSome, MatchResult, refl, sym, ap, ap₂, subst, if◌then◌else◌, codes, bytes_eq, HasCleanDisk, State, state_of, Moment, Place, Works, Failed, LeavesJust, rows_alone, state_of_moment, World, store_of, state_of_world, Stands, MovesBy, RunsAt, AsksAt, RehearsesAt, text_failure, store_failure, checked_line, Texts, texts_by, None, Some, true≢false, ◌∙◌, lost_status, course_status, line_of, AnswersText, AnswersAs, StopsAs, StopsIn, SaysChecked, StopsChecking, ComesOf, EndsTask, Failure}, specs.Texts.{OpenedBy, LacksBy}, specs.Run.{Steps, TellsLack}, specs.declared.texts.Manner.{Manner}}
+use Rattle.moo_run.{proofs.Words.{◌≡◌, ◌≢◌, NoBatches, NoMemory, Read, Write, TooLong, inl, inr, ℕ, Bool, true, false, List, Option, Result, Ok, Err, IfOk, IfErr, IfSome, IsSome, MatchResult, refl, sym, ap, ap₂, subst, if◌then◌else◌, codes, bytes_eq, HasCleanDisk, State, state_of, Moment, Place, Works, Failed, LeavesJust, rows_alone, state_of_moment, World, store_of, state_of_world, Stands, MovesBy, RunsAt, AsksAt, RehearsesAt, text_failure, store_failure, checked_line, Texts, texts_by, None, Some, true≢false, ◌∙◌, lost_status, course_status, line_of, AnswersText, AnswersAs, StopsAs, StopsIn, StopsChecking, ComesOf, EndsTask, Failure}, specs.Texts.{OpenedBy, LacksBy}, specs.Run.{Steps, TellsLack}, specs.declared.texts.Manner.{Manner}}
 use Rattle.moo_run.specs.declared.texts.Manner.TheVariants as manner
 use Rattle.sqlite.{specs.Store.{Ghosts}, specs.Held.{state}}
 use Rattle.moo_text.specs.declared.fault.TextFault.{TextFault}
@@ -142,7 +142,7 @@ module _ {S : Type 0} (g : Ghosts S) (was world : World S) (m : Moment) (stands 
 
   -- it found none, and the line tells how much there is
   pub check_says : (count seq : ℕ) (old new : Option (List ℕ)) (status : ℕ) → MovesBy g was world (λ from to. LeavesChecked from (Ok count) to) → Checks was.rows.maps (store_of g was) (store_of g world) (Ok count)
-      → seq ≡ (state_of_world was).seq → Appends old new (checked_line seq count) × (status ≡ 0) → EndsTask g was world m (λ end. SaysChecked m end old new status)
+      → seq ≡ (state_of_world was).seq → Appends old new (checked_line seq count) × (status ≡ 0) → EndsTask g was world m (λ end. LeavesJust m end × Appends old new (line_of checked_line (state_of_moment m)) × (status ≡ 0))
   check_says count seq old new status moves checks number said =
       after_check (Ok count) _ moves (λ to way just. (just, subst (λ line. Appends old new line) (told count seq checks number) said.0, said.1))
 

@@ -31,12 +31,6 @@ pub record Run : Type 1 where
   pub after : Option (List ℕ)
   pub status : ℕ
 
-module _ {H A R W : Type 0} (ports : Ports.Ghosts H A R W) (source : Arrivals.Ghosts A R W)
-    (reader : Reading.Ghosts R) (fails : R → R → Type 0) (writer : Writing.Ghosts W) where
-  -- what came of the ports of a host, from what it was to what it is
-  abbrev pub attended : H → H → Attendance
-  attended before after = attended_between source reader fails writer ports before after
-
 module _ {I H T A R W : Type 0} (input : Reading.Ghosts I) (files : BatchFiles.Ghosts H T) (denies : H → List ℕ → Type 0)
     (ports : Ports.Ghosts H A R W) (source : Arrivals.Ghosts A R W) (reader : Reading.Ghosts R) (fails : R → R → Type 0)
     (writer : Writing.Ghosts W) where
@@ -46,5 +40,5 @@ module _ {I H T A R W : Type 0} (input : Reading.Ghosts I) (files : BatchFiles.G
     text = texts_by (input.remaining from) (files.text before);
     lacks = files.lacks before;
     denies = denies before;
-    ports = attended ports source reader fails writer before after;
+    ports = attended_between source reader fails writer ports before after;
   }
