@@ -24,8 +24,8 @@ module _ {D : Type 0} {g : Ghosts D} where
   abbrev pub DiskLeaves : Held (FileStore D g) → Image → Type 0
   DiskLeaves conn image = StoreLeaves conn.store image
 
-  -- Each table has the place that SQLite's own list of tables gives it. It is so of the store of every connection: that which closes one says
-  -- it.
+  -- Each table has the place that SQLite's own list of tables gives it. It is so of the store of every connection: that which closes one
+  -- says it.
   abbrev pub IsNumberedStore : FileStore D g → Type 0
   IsNumberedStore store = IsTrue (view store).is_numbered
 

@@ -129,7 +129,8 @@ fn ask_json(
     value: &Value,
     wrong: &mut Option<BodyFault>,
 ) -> Result<Asked, AllocError>
-    ensures { IfOk result (λ asked. asked ≡ option_map_or (form_asked form) (shape_of (view value.now)) (Asked.Refused Refusal.BadRequest)) }
+    ensures { IfOk result (λ asked.
+        asked ≡ option_map_or (form_asked form) (shape_of (view value.now)) (Asked.Refused Refusal.BadRequest)) }
 {
     match shape_in(alloc, value)? {
         ShapeRead::Whole(shape) => ask_shape(alloc, form, &shape, wrong),
