@@ -110,9 +110,6 @@ Reports failure old new status = WritesLine (word_of failure) (status_of failure
 
 -- ---- what is done
 
-abbrev pub created_line : List ℕ
-created_line = codes "created\n"
-
 abbrev pub loaded_line : ℕ → ℕ → List ℕ
 loaded_line seq objects = codes "loaded seq " ++ (decimal seq ++ (codes " objects " ++ (decimal objects ++ codes "\n")))
 
