@@ -24,8 +24,8 @@ module _ {D : Type 0} {g : Ghosts D} where
   abbrev pub DiskLeaves : Held (FileStore D g) → Image → Type 0
   DiskLeaves conn image = StoreLeaves conn.store image
 
-  -- Each table has the place that SQLite's own list of tables gives it. It is so of the store of every connection: that which closes one says
-  -- it.
+  -- Each table has the place that SQLite's own list of tables gives it. It is so of the store of every connection: that which closes one
+  -- says it.
   abbrev pub IsNumberedStore : FileStore D g → Type 0
   IsNumberedStore store = IsTrue (view store).is_numbered
 
@@ -41,8 +41,8 @@ module _ {D : Type 0} {g : Ghosts D} where
   LeftStoreLeaves now next = (IsNumberedStore now × StoreLeaves now next) ⊎ HoldsSuch (recovers now) next
 
 module _ {T D : Type 0} {g : Ghosts D} where
-  -- The same of files that held an image, over which no task ran. Those that weren't opened are as they were. (Those that `sqlite` failed to open are taken as
-  -- such: it says nothing of them.) If they were being opened, their pages end in no sums.
+  -- The same of files that held an image, over which no task ran. Those that weren't opened are as they were. (Those that `sqlite` failed
+  -- to open are taken as such: it says nothing of them.) If they were being opened, their pages end in no sums.
   abbrev pub BytesLeave : Image → Remains T D g → Image → Type 0
   BytesLeave image (remains.Untouched start) next = next ≡ image
   BytesLeave image (remains.NotOpened seal) next = next ≡ image

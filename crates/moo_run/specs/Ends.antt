@@ -87,7 +87,8 @@ module _ {T D : Type 0} {g : Ghosts D} where
   -- it fails at once, for a cause, over the file of this path, which held this image
   abbrev pub FailsFor : List ℕ → Image → Remains T D g → Run → Type 0
   FailsFor path image rest run =
-      (fault : StoreFault) × IsOfStore fault × HasCauseOr (StopsOver (HoldsSuch HasEarlierTables image) fault) (IsDenied run.given.denies path) fault rest
+      (fault : StoreFault) × IsOfStore fault
+      × HasCauseOr (StopsOver (HoldsSuch HasEarlierTables image) fault) (IsDenied run.given.denies path) fault rest
       × Reports (store_failure fault) run.before run.after run.status
 
   -- It fails at once over the file of this path, which held these tables. The line tells what is wrong with them, or it has a cause.

@@ -101,8 +101,8 @@ abbrev pub serves : Action → Bool
 serves (Serve service) = true
 serves action = false
 
--- The rows of the new world that a task begins with. Those of a well formed state whose dump is the text of the dump, byte for byte, if that
--- is known: properties and verbs are numbered from 1, in the order of the dump. Or the opening ones.
+-- The rows of the new world that a task begins with. Those of a well formed state whose dump is the text of the dump, byte for byte, if
+-- that is known: properties and verbs are numbered from 1, in the order of the dump. Or the opening ones.
 abbrev pub BeginsWith : Action → Given → Maps → Type 0
 BeginsWith (Load dump) given rows =
     IfSome (given.text dump.now) (λ bytes. dump_of (state_of rows) ≡ bytes) × IsHeld (state_of rows) × AreRowsOf (state_of rows) rows
@@ -119,8 +119,9 @@ course_status course = if course.stopped then 1 else (if course.tally.lost == 0 
 
 -- ---- a task over a world
 
--- A text of batches is answered to its end, and the status is 1 if an answer is `fault` or `closed`. Or it ends after the first answer that
--- isn't `accepted`, if it was to stop there, and the status is 1. A step says of one batch where it began, its answer, and where it left off.
+-- A text of batches is answered to its end, and the status is 1 if an answer is `fault` or `closed`. Or it ends after the first answer
+-- that isn't `accepted`, if it was to stop there, and the status is 1. A step says of one batch where it began, its answer, and where it
+-- left off.
 abbrev pub AnswersText : (Place → Batch → Answer → Place → Type 0) → Bool → Moment → Place → Option (List ℕ) → Option (List ℕ)
     → Option (List ℕ) → ℕ → Type 0
 AnswersText step stop m end text old new status =
@@ -145,8 +146,8 @@ abbrev pub changes_world : Manner → Bool
 changes_world (manner.Apply options) = true
 changes_world other = false
 
--- A text of batches is answered in a manner, from a moment to an end. Only a text that is run leads to another moment. One is rehearsed over
--- the rows alone: what is written and the status are those of a run of it, which ends somewhere. One is asked to its end.
+-- A text of batches is answered in a manner, from a moment to an end. Only a text that is run leads to another moment. One is rehearsed
+-- over the rows alone: what is written and the status are those of a run of it, which ends somewhere. One is asked to its end.
 abbrev pub AnswersAs : Manner → Moment → Place → Option (List ℕ) → Option (List ℕ) → Option (List ℕ) → ℕ → Type 0
 AnswersAs (manner.Apply options) m end text old new status = AnswersText RunsAt options.stop m end text old new status
 AnswersAs (manner.Rehearse options) m end text old new status =
