@@ -5,7 +5,6 @@ use Rattle.sqlite_wal.specs.Recovery.{Image}
 use Rattle.sqlite_wal.specs.Files.{outcomes}
 use Rattle.sqlite_store.specs.declared.store.FileStore.{FileStore}
 use Rattle.sqlite_store.specs.FileStore.{view, files, recovers}
-use Rattle.sqlite_store.specs.declared.store.open.Unopened.{Unopened}
 use Rattle.sqlite_store.specs.Unopened.{files_of}
 use Rattle.sqlite.specs.Held.{Held}
 use Rattle.sqlite.specs.declared.file.Leftover.{Leftover}

@@ -1,4 +1,4 @@
-use Rattle.moo_run.{proofs.Words.{refl, true≢false, ◌∙◌, sym, opening_maps, state_of, given_to, opening_maps}, proofs.Beginning.{begins_opening, begins_dumped, held_rows, refuses_dump, reads_dump, keeps_input}}
+use Rattle.moo_run.{proofs.Words.{true≢false, ◌∙◌, sym, given_to}, proofs.Beginning.{begins_opening, begins_dumped, held_rows, refuses_dump, reads_dump, keeps_input}}
 use Rattle.moo_run.proofs.loading.find_rows.Goals as goal
 use Rattle.moo_world.proofs.Shown.OpeningRows.{opening-good}
 
