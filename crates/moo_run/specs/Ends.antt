@@ -20,8 +20,8 @@ use Rattle.moo_store.specs.States.{LeavesState}
 use Rattle.moo_tables_rows.specs.Inside.{Leaves}
 use Rattle.moo_files.specs.Opened.{Contents, Nothing, Database, Unfit, Hold}
 use Rattle.moo_store.specs.declared.fault.StoreFault.{StoreFault}
-use Rattle.moo_files.specs.Contents.{HoldsTrees, HoldsTables, HoldsMoment, HoldsEarlier, HoldsNoTable}
-use Rattle.moo_files.specs.Contents.{HasOtherTables, HasAnyTable, IsKept, ReadsAsOurs}
+use Rattle.moo_files.specs.Contents.{HoldsTrees, HoldsTables, HoldsMoment, HoldsSuch, HoldsNoTable}
+use Rattle.moo_files.specs.Contents.{HasOtherTables, HasEarlierTables, HasAnyTable, IsKept, ReadsAsOurs}
 use Rattle.moo_files.specs.Remains.{IsCleanRemains, MayStopAs, Spares, KeepsSuch, KeepsNothingBut, StillHoldsTrees}
 use Rattle.moo_files.specs.Blank.{IsBlank}
 use Rattle.moo_files.specs.Causes.{HasCauseOr, StopsOver, IsDenied, IsOpenable}
@@ -88,7 +88,7 @@ module _ {T D : Type 0} {g : Ghosts D} where
   abbrev pub FailsFor : List ℕ → Image → Remains T D g → Run → Type 0
   FailsFor path image rest run =
       (fault : StoreFault) × IsOfStore fault
-      × HasCauseOr (StopsOver (HoldsEarlier image) fault) (IsDenied run.given.denies path) fault rest
+      × HasCauseOr (StopsOver (HoldsSuch HasEarlierTables image) fault) (IsDenied run.given.denies path) fault rest
       × Reports (store_failure fault) run.before run.after run.status
 
   -- It fails at once over the file of this path, which held these tables. The line tells what is wrong with them, or it has a cause.

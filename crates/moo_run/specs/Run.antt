@@ -20,6 +20,7 @@ use Rattle.moo_tables_rows.specs.Tables.{Tables}
 use Rattle.moo_tables_rows.specs.Inside.{Rests}
 use Rattle.moo_cells.specs.Shows.{ShowsRows}
 use Rattle.moo_text.specs.declared.fault.TextFault.{TextFault}
+use Rattle.moo_text.specs.declared.lines.TheConstants.{LONGEST_TEXT}
 use Rattle.moo_dump.specs.Dump.{dump as dump_of}
 use Rattle.moo_load.specs.OneState.{IsHeld}
 use Rattle.moo_load.specs.RowsOf.{AreRowsOf}
@@ -100,46 +101,31 @@ abbrev pub serves : Action → Bool
 serves (Serve service) = true
 serves action = false
 
--- the dump of this state is the text, byte for byte, if it is known
-abbrev pub IsDumpedAs : Option (List ℕ) → State → Type 0
-IsDumpedAs text s = IfSome text (λ bytes. dump_of s ≡ bytes)
+-- The rows of the new world that a task begins with. Those of a well formed state whose dump is the text of the dump, byte for byte, if
+-- that is known: properties and verbs are numbered from 1, in the order of the dump. Or the opening ones.
+abbrev pub BeginsWith : Action → Given → Maps → Type 0
+BeginsWith (Load dump) given rows =
+    IfSome (given.text dump.now) (λ bytes. dump_of (state_of rows) ≡ bytes) × IsHeld (state_of rows) × AreRowsOf (state_of rows) rows
+BeginsWith action given rows = rows ≡ opening_maps
 
--- The state of the new world that a task begins with: a well formed one that is dumped as the text of the dump, or the opening state.
-abbrev pub BeginsWith : Action → Given → State → Type 0
-BeginsWith (Load dump) given s = IsDumpedAs (given.text dump.now) s × IsHeld s
-BeginsWith action given s = s ≡ state_of opening_maps
-
--- The numbers in the rows of that world: properties and verbs are numbered from 1, in the order of the dump; or they are those of the
--- opening world.
-abbrev pub BeginsNumbered : Action → Maps → Type 0
-BeginsNumbered (Load dump) rows = AreRowsOf (state_of rows) rows
-BeginsNumbered action rows = rows ≡ opening_maps
-
--- the rows of the new world that a task begins with
+-- so it begins, and the rows are good
 pub record BeginsFrom (action : Action) (given : Given) (rows : Maps) : Type 0 where
   pub good : IsGood rows
-  pub world : BeginsWith action given (state_of rows)
-  pub numbers : BeginsNumbered action rows
+  pub world : BeginsWith action given rows
 
--- 1 if an answer is `fault` or `closed`
-abbrev pub lost_status : ℕ → ℕ
-lost_status lost = if lost == 0 then 0 else 1
-
--- the status of a text that was answered so far: 1 if it stopped
+-- the status of a text that was answered so far: 1 if it stopped, or if an answer is `fault` or `closed`
 abbrev pub course_status : Course → ℕ
-course_status course = if course.stopped then 1 else lost_status course.tally.lost
+course_status course = if course.stopped then 1 else (if course.tally.lost == 0 then 0 else 1)
 
 -- ---- a task over a world
 
--- what is said of one batch: where it began, its answer, and where it left off
-abbrev pub Steps : Type 1
-Steps = Place → Batch → Answer → Place → Type 0
-
--- A text of batches is answered to its end. Or it ends after the first answer that isn't `accepted`, if it was to stop there, and the
--- status is 1.
-abbrev pub AnswersText : Steps → Bool → Moment → Place → Option (List ℕ) → Option (List ℕ) → Option (List ℕ) → ℕ → Type 0
+-- A text of batches is answered to its end, and the status is 1 if an answer is `fault` or `closed`. Or it ends after the first answer
+-- that isn't `accepted`, if it was to stop there, and the status is 1. A step says of one batch where it began, its answer, and where it
+-- left off.
+abbrev pub AnswersText : (Place → Batch → Answer → Place → Type 0) → Bool → Moment → Place → Option (List ℕ) → Option (List ℕ)
+    → Option (List ℕ) → ℕ → Type 0
 AnswersText step stop m end text old new status =
-    ((batches lost : ℕ) × CompletesUntil step stop (Works m) end text old new batches lost × (status ≡ lost_status lost))
+    ((batches lost : ℕ) × CompletesUntil step stop (Works m) end text old new batches lost × (status ≡ (if lost == 0 then 0 else 1)))
     ⊎ ((stop ≡ true) × (batches lost : ℕ) × EndsEarly step (Works m) end text old new batches lost × (status ≡ 1))
 
 -- if the failure is that a file of batches or a dump can't be opened, it is this one
@@ -147,7 +133,8 @@ abbrev pub TellsLack : (List ℕ → Type 0) → List ℕ → Failure → Type 0
 TellsLack lacks path failure = failure ≡ NoBatches → lacks path
 
 -- a fault stops it; or its file can't be opened, and nothing is done
-abbrev pub StopsText : Steps → Bool → Moment → Place → Failure → Option (List ℕ) → Option (List ℕ) → Option (List ℕ) → Type 0
+abbrev pub StopsText : (Place → Batch → Answer → Place → Type 0) → Bool → Moment → Place → Failure → Option (List ℕ) → Option (List ℕ)
+    → Option (List ℕ) → Type 0
 StopsText step stop m end failure text old new =
     ((fault : TextFault) × (failure ≡ text_failure fault) × HaltsUntil step stop (Works m) end text old new fault)
     ⊎ ((failure ≡ NoBatches) × (end ≡ Works m) × (new ≡ old))
@@ -341,7 +328,7 @@ GivesNoText failure = ⊥
 abbrev pub RefusesDump : Option (List ℕ) → Failure → Type 0
 RefusesDump text failure =
     IsOfDump failure
-    × IfSome text (λ bytes. (s : State) → IsHeld s → dump_of s ≡ bytes → length bytes ≤ 1073741824 → GivesNoText failure)
+    × IfSome text (λ bytes. (s : State) → IsHeld s → dump_of s ≡ bytes → length bytes ≤ LONGEST_TEXT → GivesNoText failure)
 
 -- why the dump of a task gives no world: its text does, or its file can't be opened
 abbrev pub RefusesTask : Given → Action → Failure → Type 0
