@@ -1,7 +1,7 @@
 -- That no number, no service and no action is given, if what would tell it isn't there.
 use Rattle.std.{proofs.Common.{◌≡◌, ◌<◌, ◌^◌, inl, inr, ℕ, List, Some, None, true, sym, ap, ◌∙◌, arith}, proofs.lemmas.Bool.{true≢false}, specs.Prelude.{codes}, specs.Str.{bytes_eq}}
 use Rattle.clap.specs.Walk.{Row, Text, first_of}
-use Rattle.moo_cli.{specs.declared.task.Service.{Service}, specs.declared.task.Action.{Action}, specs.declared.task.Action.TheVariants.{Serve}, specs.Tasks.{HasNumber, HasNumberOr, IsService, IsAction}}
+use Rattle.moo_cli.{specs.declared.task.Service.{Service}, specs.declared.task.Action.{Action}, specs.declared.task.Action.TheVariants.{Serve}, specs.Tasks.{HasNumber, HasNumberOr, IsService, HasArguments, command_of}}
 
 pub no_number : (rows : List Row) (id text : Text) (least most absent : ℕ) → most < 2 ^ 32 → first_of id rows ≡ Some text → ((n : ℕ) → ¬ (HasNumber rows id n × (n < 2 ^ 32)))
     → (n : ℕ) → ¬ (HasNumberOr rows id least most absent n)
@@ -18,6 +18,7 @@ pub no_bound : (rows : List Row) → ((n : ℕ) → ¬ (HasNumberOr rows (codes 
 no_bound rows none service has = none service.ticks has.3
 
 -- the command `serve` is no other
-pub no_service : (rows : List Row) (name : Text) → bytes_eq name (codes "serve") ≡ true → ((service : Service) → ¬ (IsService rows service)) → (action : Action) → ¬ (IsAction (name, rows) action)
+pub no_service : (rows : List Row) (name : Text) → bytes_eq name (codes "serve") ≡ true → ((service : Service) → ¬ (IsService rows service)) → (action : Action)
+    → ¬ ((name ≡ command_of action) × HasArguments rows action)
 no_service rows name is none (Serve service) has = none service has.1
 no_service rows name is none action has = absurd (true≢false (sym is ∙ ap (λ word. bytes_eq word (codes "serve")) has.0))

@@ -26,13 +26,9 @@ HasText rows id text = first_of id rows ≡ Some text
 abbrev pub is_set : Text → List Row → Bool
 is_set id rows = option_map_or (λ text. bytes_eq text (codes "true")) (first_of id rows) false
 
--- how batches are run: whether they stop
-abbrev pub AreOptions : List Row → Options → Type 0
-AreOptions rows options = options.stop ≡ is_set (codes "stop") rows
-
--- which batches are run: those of a text, and how
+-- which batches are run: those of a text, and whether they stop
 abbrev pub AreBatches : List Row → Batches → Type 0
-AreBatches rows batches = HasText rows (codes "BATCHES") batches.path.now × AreOptions rows batches.options
+AreBatches rows batches = HasText rows (codes "BATCHES") batches.path.now × (batches.options.stop ≡ is_set (codes "stop") rows)
 
 -- the argument of that name is read as digits with this value
 abbrev pub HasNumber : List Row → Text → ℕ → Type 0
@@ -74,13 +70,9 @@ HasArguments rows (Load dump) = HasText rows (codes "DUMP") dump.now
 HasArguments rows Check = ⊤
 HasArguments rows (Serve service) = IsService rows service
 
--- the action is that of a command's name and matches
-abbrev pub IsAction : Text × List Row → Action → Type 0
-IsAction (name, rows) action = (name ≡ command_of action) × HasArguments rows action
-
 -- the task is that of a command's name and matches
 abbrev pub IsTask : Text × List Row → Task → Type 0
-IsTask (name, rows) task = HasText rows (codes "FILE") task.file.now × IsAction (name, rows) task.action
+IsTask (name, rows) task = HasText rows (codes "FILE") task.file.now × (name ≡ command_of task.action) × HasArguments rows task.action
 
 -- the word for the batches or the dump that an action reads
 abbrev pub text_word : Action → Option Text
@@ -119,9 +111,11 @@ request_of task = record {
   service = service_of task.action;
 }
 
--- the batches of standard input on a new world
+-- the batches of standard input on a new world, and they don't stop
 abbrev pub IsDefault : Task → Type 0
-IsDefault task = request_of task ≡ record { command = codes "apply"; file = codes ":memory:"; text = Some (codes "-"); options = Some (record { stop = false }); service = None }
+IsDefault task =
+    (task.file.now ≡ codes ":memory:") × (batches : Batches) × (task.action ≡ Apply batches)
+    × (batches.path.now ≡ codes "-") × (batches.options.stop ≡ false)
 
 -- what is wrong with the words, by clap's rules for the program: the kinds of error that they give, help and the version among these;
 -- the list is empty if they are those of a command

@@ -1,10 +1,10 @@
 //! The commands of the program.
-ghost use Rattle.std.specs.Prelude.{◌≡◌, false, codes, Some, IfOk};
+ghost use Rattle.std.specs.Prelude.{◌≡◌, true, false, codes, Some, IfOk};
 ghost use Rattle.clap.specs.Walk.{rule_of};
-ghost use Rattle.clap.specs.Simple.{App, app_of, new_app, with_rule, with_subcommand};
+ghost use Rattle.clap.specs.Simple.{App, app_of, new_app, new_rule, on_top, with_rule, with_subcommand};
+ghost use Rattle.clap.specs.declared.builder.action.ArgAction.TheVariants.{SetTrue};
 ghost use Rattle.clap.specs.declared.builder.command.Command.TheViews.{out-Command as fields_of};
-ghost use Rattle.moo_cli.specs.Commands.{text_rule, flag_rule, number_rule, port_rule, count_rule, file_app, batches_app, running_app, load_app};
-ghost use Rattle.moo_cli.specs.Commands.{serve_app, program_app, moo_app};
+ghost use Rattle.moo_cli.specs.Commands.{text_rule, number_rule, file_app, batches_app, running_app, serve_app, moo_app};
 
 use crate::help;
 use clap::{Arg, ArgAction, Command, value_parser};
@@ -19,7 +19,7 @@ fn text_arg<'a>(alloc: Global, id: &'a str, about: &'a str) -> Arg<'a>
 
 /// A flag: it is there or it isn't.
 fn flag_arg<'a>(alloc: Global, name: &'a str, about: &'a str) -> Arg<'a>
-    ensures rule { rule_of result ≡ flag_rule name.entry.now }
+    ensures rule { rule_of result ≡ record (new_rule name.entry.now) { long = Some name.entry.now; action = Some SetTrue } }
     ensures local { result.global ≡ false }
 {
     Arg::new(alloc, name)
@@ -29,7 +29,7 @@ fn flag_arg<'a>(alloc: Global, name: &'a str, about: &'a str) -> Arg<'a>
 }
 
 fn port_arg<'a>(alloc: Global) -> Arg<'a>
-    ensures rule { rule_of result ≡ port_rule }
+    ensures rule { rule_of result ≡ record (number_rule (codes "PORT") 1 65535) { required = true } }
     ensures local { result.global ≡ false }
 {
     Arg::new(alloc, "PORT")
@@ -39,7 +39,7 @@ fn port_arg<'a>(alloc: Global) -> Arg<'a>
 }
 
 fn count_arg<'a>(alloc: Global) -> Arg<'a>
-    ensures rule { rule_of result ≡ count_rule }
+    ensures rule { rule_of result ≡ number_rule (codes "COUNT") 0 1000000 }
     ensures local { result.global ≡ false }
 {
     Arg::new(alloc, "COUNT")
@@ -119,7 +119,7 @@ fn running_command<'a>(
 }
 
 fn load_command<'a>(alloc: Global) -> Result<Command<'a>, AllocError>
-    ensures shape { IfOk result (λ command. app_of command ≡ load_app) }
+    ensures shape { IfOk result (λ command. app_of command ≡ with_rule (file_app (codes "load")) (text_rule (codes "DUMP"))) }
     ensures local { IfOk result (λ command. (fields_of command).has_globals ≡ false) }
 {
     text_command(
@@ -156,7 +156,7 @@ fn with_command<'a>(
 
 /// The program without its commands.
 fn program<'a>(alloc: Global) -> Command<'a>
-    ensures { app_of result ≡ program_app }
+    ensures { app_of result ≡ on_top (λ s. record s { has_version = true; subcommand_required = true }) (new_app (codes "moo")) }
 {
     described(alloc, "moo", help::MOO, help::MOO_MORE)
         .version(help::VERSION)

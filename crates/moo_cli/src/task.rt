@@ -3,8 +3,8 @@ ghost use Rattle.std.specs.Prelude.{◌≡◌, ◌<◌, ◌^◌, true, List, Som
 ghost use Rattle.clap.specs.Simple.{subcommand_rows_of};
 ghost use Rattle.clap.specs.Walk.{Row, Text, first_of, rows_of};
 ghost use Rattle.clap.specs.Matches.{found_of};
-ghost use Rattle.moo_cli.specs.Tasks.{HasNumber, is_set, AreOptions, AreBatches, HasNumberOr, IsService, IsAction, IsTask};
-ghost use Rattle.moo_cli.specs.Tasks.{IsAny, IsRefusal, NamesTask, NamesAlone, text_word};
+ghost use Rattle.moo_cli.specs.Tasks.{HasNumber, is_set, AreBatches, HasNumberOr, IsService, HasArguments, IsTask};
+ghost use Rattle.moo_cli.specs.Tasks.{IsAny, IsRefusal, NamesTask, NamesAlone, command_of, text_word};
 
 use crate::commands::moo_command;
 use clap::{ArgMatches, Error};
@@ -143,7 +143,7 @@ fn service_in(matches: &ArgMatches<'_>) -> Option<Service>
 
 // How a command is to run its batches.
 fn options_in(matches: &ArgMatches<'_>) -> Options
-    ensures { AreOptions (rows_of (found_of matches.now)) result }
+    ensures { result.stop ≡ is_set (codes "stop") (rows_of (found_of matches.now)) }
 {
     Options {
         stop: flag_of(matches, "stop"),
@@ -161,7 +161,8 @@ fn batches_in<'a>(matches: &ArgMatches<'a>) -> Option<Batches<'a>>
 
 // The action of a command that reads a text.
 fn text_action_in<'a>(name: &str, matches: &ArgMatches<'a>) -> Option<Action<'a>>
-    ensures { IsAny (λ action. IsAction (name.now, rows_of (found_of matches.now)) action × (is_some (text_word action) ≡ true)) result }
+    ensures { IsAny (λ action. (name.now ≡ command_of action) × HasArguments (rows_of (found_of matches.now)) action
+        × (is_some (text_word action) ≡ true)) result }
 {
     if name == "apply" {
         let batches = batches_in(matches)?;
@@ -182,7 +183,7 @@ fn text_action_in<'a>(name: &str, matches: &ArgMatches<'a>) -> Option<Action<'a>
 
 // The action of a command's name and matches.
 fn action_in<'a>(name: &str, matches: &ArgMatches<'a>) -> Option<Action<'a>>
-    ensures { IsAny (IsAction (name.now, rows_of (found_of matches.now))) result }
+    ensures { IsAny (λ action. (name.now ≡ command_of action) × HasArguments (rows_of (found_of matches.now)) action) result }
 {
     if name == "init" {
         Some(Action::Init)

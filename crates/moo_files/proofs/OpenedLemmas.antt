@@ -7,7 +7,7 @@ use Rattle.sqlite.{specs.State.{HasCleanDisk}, specs.Files.{over_files}, specs.T
 use Rattle.moo_world.specs.Judge.{state_of}
 use Rattle.moo_store.{specs.Kept.{World}, specs.World.{store_of}, specs.Moment.{Moment, AreTreesOf, IsSparedMoment}, specs.States.{LeavesState}, specs.declared.fault.StoreFault.{StoreFault}}
 use Rattle.moo_files.specs.declared.remains.Remains.TheVariants as remains
-use Rattle.moo_files.{specs.Causes.{HasCauseOver}, specs.Contents.{HoldsMoment, IsKept}, specs.Remains.{IsCleanRemains, KeepsSuch}, specs.Opened.{Contents, Database, Hold, Opens, Refuses, OpensHeld, RefusesHeld}, specs.declared.remains.Remains.{Remains}, proofs.RemainsLemmas.{keeps_more}, proofs.PresentLemmas.{spared_kept}}
+use Rattle.moo_files.{specs.Causes.{HasCauseOr, StopsOver}, specs.Contents.{HoldsMoment, IsKept}, specs.Remains.{IsCleanRemains, KeepsSuch}, specs.Opened.{Contents, Database, Hold, Opens, Refuses, OpensHeld, RefusesHeld}, specs.declared.remains.Remains.{Remains}, proofs.RemainsLemmas.{keeps_more}, proofs.PresentLemmas.{spared_kept}}
 
 -- the state of a moment is one that its trees show
 pub leaves_state : (m : Moment) (trees : Trees) → AreTreesOf m trees → LeavesState trees (state_of m.rows)
@@ -32,7 +32,8 @@ module _ {T D : Type 0} {g : Ghosts D} (image : Image) (r : Result (World (FileS
       (it (Database holds.trees) holds.holds)
 
 -- more is known of tables that are migrated
-pub over_more : {T D : Type 0} {g : Ghosts D} (Migrated Earlier Denied : Type 0) (fault : StoreFault) (r : Remains T D g) → (Migrated → Earlier) → HasCauseOver Migrated Denied fault r → HasCauseOver Earlier Denied fault r
+pub over_more : {T D : Type 0} {g : Ghosts D} (Migrated Earlier Denied : Type 0) (fault : StoreFault) (r : Remains T D g) → (Migrated → Earlier) → HasCauseOr (StopsOver Migrated fault) Denied fault r
+    → HasCauseOr (StopsOver Earlier fault) Denied fault r
 over_more Migrated Earlier Denied fault (remains.Connection conn) more (inl memory) = inl memory
 over_more Migrated Earlier Denied fault (remains.Connection conn) more (inr (inl failed)) = inr (inl failed)
 over_more Migrated Earlier Denied fault (remains.Connection conn) more (inr (inr it)) = inr (inr (more it.0, it.1))

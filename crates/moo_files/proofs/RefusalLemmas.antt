@@ -1,11 +1,11 @@
 -- What the fault of an open that failed says of the files.
-use Rattle.moo_files.{proofs.Words.{◌≡◌, ◌≢◌, ◌⊎◌, inl, inr, ◌<◌, IsTrue, refl, ap, Held, FileStore, file_state, sym, subst, ◌∙◌, ∥∥₁_elim, Ghosts, Files, Image, tally_of_files, Trees, Tables, store_error, FailsToOpenFiles, HoldsDatabase, faults_left, image_of, tally_left, Error, Leftover, not_ours, IsOfStore, StoreFault, HoldsTrees, ExcusesMalformed, IsUnopened, TakesForOurs, cannot_open, malformed, Remains, IsKept}, specs.Causes.{HasCauseOr, IsRefusedByDisk, StopsOver}, specs.Opened.{Contents, Nothing, Database, Unfit, Refuses}, specs.Connected.{Unconnects}, proofs.RemainsLemmas.{keeps_more}, proofs.CauseLemmas.{some_faults}}
+use Rattle.moo_files.{proofs.Words.{◌≡◌, ◌≢◌, ◌⊎◌, inl, inr, ◌<◌, IsTrue, refl, ap, Held, FileStore, file_state, sym, subst, ◌∙◌, ∥∥₁_elim, Ghosts, Files, Image, tally_of_files, Trees, Tables, store_error, FailsToOpenFiles, HoldsDatabase, faults_left, image_of, tally_left, Error, Leftover, not_ours, IsOfStore, StoreFault, HoldsTrees, ExcusesMalformed, IsUnopened, TakesForOurs, cannot_open, malformed, Remains, IsKept}, specs.Causes.{HasCauseOr, StopsOver}, specs.Opened.{Contents, Nothing, Database, Unfit, Refuses}, specs.Connected.{Unconnects}, proofs.RemainsLemmas.{keeps_more}, proofs.CauseLemmas.{some_faults}}
 use Rattle.moo_files.specs.declared.remains.Remains.TheVariants as remains
 use Rattle.moo_store.specs.OpeningRows.{AreMigrated, StopsOpening}
 use Rattle.moo_tables.specs.ReadCause.{StopsQuery}
 use Rattle.moo_tables_rows.specs.Cause.{StopsChange}
 use Rattle.std.{specs.Prelude.{None, IsSome, ⊤}, proofs.lemmas.Bool.{true≢false}}
-use Rattle.sqlite.{specs.State.{State, HasCause as StoreCause}, specs.declared.error.Error.TheVariants.{SqliteFailure}, specs.declared.error.ErrorCode.{ErrorCode}}
+use Rattle.sqlite.{specs.State.{State, HasCause as StoreCause}, specs.Files.{IsFullLeft}, specs.declared.error.Error.TheVariants.{SqliteFailure}, specs.declared.error.ErrorCode.{ErrorCode}}
 use Rattle.sqlite_trees.specs.declared.error.StoreError.{StoreError}
 use Rattle.sqlite_trees.specs.declared.error.StoreError.TheVariants as kinds
 use Rattle.sqlite_store.specs.Report.{named}
@@ -38,7 +38,7 @@ module _ (error : Error) (fault : StoreFault) (told : IsToldAs error fault) wher
     no_database none = ∥∥₁_elim holds (λ x y. absurd x) (λ held. none (trees, subst (λ i. HoldsDatabase i trees) (sym same) held))
 
     -- what refused a sound database
-    pub opened_cause : FailsToOpenFiles files left error → (fault ≡ faults.OutOfMemory) ⊎ IsRefusedByDisk left
+    pub opened_cause : FailsToOpenFiles files left error → (fault ≡ faults.OutOfMemory) ⊎ ((0 < faults_left left) ⊎ IsFullLeft left)
     opened_cause (inl memory) = inl (told.0 memory)
     opened_cause (inr (inl it)) = absurd (no_database (λ some. it.1 (inl some)))
     opened_cause (inr (inr (inl it))) = inr (inl (some_faults _ _ it.1))

@@ -33,42 +33,30 @@ IsUnfit (Ok meta) = IsFile (file_type meta) × (metadata_len meta ≡ 0)
 IsUnfit (Err e) = ⊤
 
 module _ {D : Type 0} {g : Ghosts D} where
-  -- a call of the disk failed, or the files are as long as their format allows
-  abbrev pub IsRefusedByDisk : Leftover D g → Type 0
-  IsRefusedByDisk left = (0 < faults_left left) ⊎ IsFullLeft left
-
-  -- memory ran out, or the disk failed or refused
+  -- memory ran out, a call of the disk failed, or the files are as long as their format allows
   abbrev pub IsRefused : Error → Leftover D g → Type 0
-  IsRefused error left = (error ≡ SqliteFailure code.OutOfMemory) ⊎ IsRefusedByDisk left
+  IsRefused error left = (error ≡ SqliteFailure code.OutOfMemory) ⊎ ((0 < faults_left left) ⊎ IsFullLeft left)
 
 module _ {T D : Type 0} {g : Ghosts D} where
-  -- Why files are refused: they weren't opened and that was denied, memory ran out, or their disk failed or refused. Or a connection to
-  -- them is open, and this is so of it.
+  -- Why files are refused: they weren't opened and that was denied, memory ran out, a call of the disk failed, or they are as long as their
+  -- format allows. Or a connection to them is open, and this is so of it.
   abbrev pub HasCauseOr : (Held (FileStore D g) → Type 0) → Type 0 → StoreFault → Remains T D g → Type 0
   HasCauseOr Over Denied fault (remains.Untouched start) = Denied
   HasCauseOr Over Denied fault (remains.NotOpened seal) = Denied
-  HasCauseOr Over Denied fault (remains.Leftover left) = (fault ≡ OutOfMemory) ⊎ IsRefusedByDisk left
+  HasCauseOr Over Denied fault (remains.Leftover left) = (fault ≡ OutOfMemory) ⊎ ((0 < faults_left left) ⊎ IsFullLeft left)
   HasCauseOr Over Denied fault (remains.Connection conn) = Over conn
 
   -- why a sound database is refused; nothing is said once a connection is open
   abbrev pub HasCause : Type 0 → StoreFault → Remains T D g → Type 0
   HasCause = HasCauseOr (λ _. ⊤)
 
--- a migration stopped: a row is too big, or no number is left for a new one
-abbrev pub StopsMigration : StoreFault → Type 0
-StopsMigration fault = (fault ≡ Store (SqliteFailure code.TooBig)) ⊎ (fault ≡ Store (SqliteFailure code.NoRowid))
-
 module _ {D : Type 0} {g : Ghosts D} where
   -- Why the tables of an open connection, with which nothing is wrong, give no world: memory ran out, as this program or the store tells
-  -- it, or a call of the disk failed. If they are migrated, that may stop too.
+  -- it, or a call of the disk failed. If they are migrated, that may stop too: a row is too big, or no number is left for a new one.
   abbrev pub StopsOver : Type 0 → StoreFault → Held (FileStore D g) → Type 0
   StopsOver Migrated fault conn = ((fault ≡ OutOfMemory) ⊎ (fault ≡ Store (SqliteFailure code.OutOfMemory)))
-      ⊎ ((0 < (file_state conn).faults) ⊎ (Migrated × StopsMigration fault))
-
-module _ {T D : Type 0} {g : Ghosts D} where
-  -- why such tables in files are refused, be a connection open or not
-  abbrev pub HasCauseOver : Type 0 → Type 0 → StoreFault → Remains T D g → Type 0
-  HasCauseOver Migrated Denied fault = HasCauseOr (StopsOver Migrated fault) Denied fault
+      ⊎ ((0 < (file_state conn).faults) ⊎ (Migrated
+      × ((fault ≡ Store (SqliteFailure code.TooBig)) ⊎ (fault ≡ Store (SqliteFailure code.NoRowid)))))
 
 -- the name isn't a path, or it is denied
 abbrev pub IsDenied : (List ℕ → Type 0) → List ℕ → Type 0

@@ -14,7 +14,7 @@ use Rattle.sqlite.specs.Closing.{IsCopied}
 use Rattle.sqlite.specs.declared.file.Leftover.{Leftover}
 use Rattle.sqlite.specs.declared.file.Leftover.TheVariants as left
 use Rattle.moo_files.specs.Contents.{IsLeftBy}
-use Rattle.moo_files.specs.Stop.{HasNumberedTrees, KeepsTreesNumbered}
+use Rattle.moo_files.specs.Stop.{IsNumberedStore, KeepsTreesNumbered}
 use Rattle.moo_files.specs.declared.remains.Remains.{Remains}
 use Rattle.moo_files.specs.declared.remains.Remains.TheVariants as remains
 
@@ -38,6 +38,6 @@ module _ {T D : Type 0} {g : Ghosts D} where
   -- numbered still.
   abbrev pub IsClosedFrom : Remains T D g → Remains T D g → Type 0
   IsClosedFrom (remains.Connection conn) now = (left : Leftover D g) × (now ≡ remains.Leftover left) × IsClosedAs conn left
-      × (IsCleanLeft left → HasCleanDisk (file_state conn) × IsLeftOf (file_state conn) left × HasNumberedTrees conn
+      × (IsCleanLeft left → HasCleanDisk (file_state conn) × IsLeftOf (file_state conn) left × IsNumberedStore conn.store
       × KeepsTreesNumbered conn left)
   IsClosedFrom was now = now ≡ was

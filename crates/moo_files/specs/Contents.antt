@@ -62,10 +62,6 @@ abbrev pub HasEarlierTables : Trees → Type 0
 HasEarlierTables trees =
     (version : Version) × IsEarlier version × IsDatabase (record { schema = schema_of version; trees = trees })
 
--- a log and its file hold a database with tables of an earlier version
-abbrev pub HoldsEarlier : Image → Type 0
-HoldsEarlier image = HoldsSuch HasEarlierTables image
-
 -- any table, index or view
 abbrev pub HasAnyTable : Trees → Type 0
 HasAnyTable trees = ¬ IsDatabase (record { schema = no_schema; trees = trees })

@@ -8,7 +8,6 @@ use Rattle.sqlite_wal.specs.Recovery.{Image}
 use Rattle.sqlite_wal.specs.Files.{outcomes}
 use Rattle.sqlite_store.specs.declared.store.FileStore.{FileStore}
 use Rattle.sqlite_store.specs.FileStore.{view, files, recovers}
-use Rattle.sqlite_store.specs.declared.store.open.Unopened.{Unopened}
 use Rattle.sqlite_store.specs.Unopened.{files_of}
 use Rattle.sqlite.specs.Held.{Held}
 use Rattle.sqlite.specs.declared.file.Leftover.{Leftover}
@@ -27,18 +26,10 @@ module _ {D : Type 0} {g : Ghosts D} where
   abbrev pub DiskLeaves : Held (FileStore D g) → Image → Type 0
   DiskLeaves conn image = StoreLeaves conn.store image
 
-  -- the same of files that were being opened
-  abbrev pub UnopenedLeaves : Unopened D g → Image → Type 0
-  UnopenedLeaves now image = let both = files_of now in outcomes g both.0 both.1 image
-
   -- Each table has the place that SQLite's own list of tables gives it. That isn't known if `sqlite` couldn't read the list, or closing
   -- shut the store.
   abbrev pub IsNumberedStore : FileStore D g → Type 0
   IsNumberedStore store = IsTrue (view store).is_numbered
-
-  -- It is so of every connection: that which closes one says it.
-  abbrev pub HasNumberedTrees : Held (FileStore D g) → Type 0
-  HasNumberedTrees conn = IsNumberedStore conn.store
 
   -- It is so of a store that couldn't be closed too, if that is open still, or was shut before the closing.
   abbrev pub KeepsTreesNumbered : Held (FileStore D g) → Leftover D g → Type 0
@@ -51,19 +42,16 @@ module _ {D : Type 0} {g : Ghosts D} where
   abbrev pub LeftStoreLeaves : FileStore D g → Image → Type 0
   LeftStoreLeaves now next = (IsNumberedStore now × StoreLeaves now next) ⊎ HoldsSuch (recovers now) next
 
-  -- The same of what is left of files that held an image. If they were being opened, their pages end in no checksums (SQLite's cksumvfs).
-  abbrev pub LeftoverLeaves : Image → Leftover D g → Image → Type 0
-  LeftoverLeaves image (left.Files now) next = outcomes g now.log now.db next
-  LeftoverLeaves image (left.Unopened now) next = UnopenedLeaves now next × HasNoSums image
-  LeftoverLeaves image (left.Store now) next = LeftStoreLeaves now next
-
 module _ {T D : Type 0} {g : Ghosts D} where
-  -- The same of files over which no task ran. Those that weren't opened are as they were. (Those that `sqlite` failed to open are taken as
-  -- such: it says nothing of them.)
+  -- The same of files that held an image, over which no task ran. Those that weren't opened are as they were. (Those that `sqlite` failed
+  -- to open are taken as such: it says nothing of them.) If they were being opened, their pages end in no checksums (SQLite's cksumvfs).
   abbrev pub BytesLeave : Image → Remains T D g → Image → Type 0
   BytesLeave image (remains.Untouched start) next = next ≡ image
   BytesLeave image (remains.NotOpened seal) next = next ≡ image
-  BytesLeave image (remains.Leftover left) next = LeftoverLeaves image left next
+  BytesLeave image (remains.Leftover (left.Files now)) next = outcomes g now.log now.db next
+  BytesLeave image (remains.Leftover (left.Unopened now)) next =
+      (let both = files_of now in outcomes g both.0 both.1 next) × HasNoSums image
+  BytesLeave image (remains.Leftover (left.Store now)) next = LeftStoreLeaves now next
   BytesLeave image (remains.Connection conn) next = DiskLeaves conn next
 
   -- if they have a connection, its trees are numbered
@@ -71,4 +59,4 @@ module _ {T D : Type 0} {g : Ghosts D} where
   AreNumbered (remains.Untouched start) = ⊤
   AreNumbered (remains.NotOpened seal) = ⊤
   AreNumbered (remains.Leftover left) = ⊤
-  AreNumbered (remains.Connection conn) = HasNumberedTrees conn
+  AreNumbered (remains.Connection conn) = IsNumberedStore conn.store

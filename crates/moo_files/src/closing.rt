@@ -3,7 +3,7 @@
 ghost use Rattle.sqlite.specs.State.{HasCleanDisk};
 ghost use Rattle.sqlite.specs.Files.{file_state, IsCleanLeft};
 ghost use Rattle.moo_files.specs.Closing.{IsLeftOf, IsClosedAs};
-ghost use Rattle.moo_files.specs.Stop.{HasNumberedTrees, KeepsTreesNumbered};
+ghost use Rattle.moo_files.specs.Stop.{IsNumberedStore, KeepsTreesNumbered};
 
 use sqlite::{Connection, FileStore, Leftover};
 use sqlite_disk::Disk;
@@ -20,7 +20,7 @@ pub fn close_connection<D: Disk + Drop>(conn: Connection<FileStore<D>>) -> Lefto
     // It is the last commit, in the database file alone, unless closing failed.
     ensures copied { IsClosedAs conn result }
     // Its trees were numbered. So if it had been stopped, what the disk left of its files was a database too (`disk_leaves_a_database`).
-    ensures numbered { IsCleanLeft result → HasNumberedTrees conn }
+    ensures numbered { IsCleanLeft result → IsNumberedStore conn.store }
     // And so they are in a store that couldn't be closed, if it is open still, or was shut before.
     ensures numbers { IsCleanLeft result → KeepsTreesNumbered conn result }
 {

@@ -11,7 +11,7 @@ ghost use Rattle.moo_tables_rows.specs.Tables.{Tables};
 ghost use Rattle.moo_store.specs.Opening.{Adopting};
 ghost use Rattle.moo_store.specs.OpeningRows.{SaysOr, AreMigrated, not_ours};
 ghost use Rattle.moo_store.specs.World.{store_of};
-ghost use Rattle.moo_files.specs.Causes.{HasCause, HasCauseOver, IsDenied, IsUnfit};
+ghost use Rattle.moo_files.specs.Causes.{HasCause, HasCauseOr, StopsOver, IsDenied, IsUnfit};
 ghost use Rattle.moo_files.specs.Contents.{HoldsTrees, HoldsTables};
 ghost use Rattle.moo_files.specs.Opened.{Contents, Hold, IsOpenedOver, Opens, IsRefusedFrom, Refuses};
 ghost use Rattle.moo_files.specs.Remains.{cannot_open, IfNotOpened, IsCleanRemains};
@@ -92,7 +92,7 @@ pub fn open_from<T: Start, H: WorldFiles<T>>(
     // Tables are refused for what is wrong with them: the first damage, or a later version. Else for no other cause than these, and once a
     // connection is open only if the disk failed or memory ran out. Those that are migrated may be refused because that can't be done.
     ensures stopped { (tables : Tables) → HoldsTables (image_at T.Start) tables → IfErr result (λ e. IsCleanRemains e.1 →
-        SaysOr (HasCauseOver (AreMigrated tables) (IsDenied (H.denies host.now) path.now) e.0 e.1) tables e.0) }
+        SaysOr (HasCauseOr (StopsOver (AreMigrated tables) e.0) (IsDenied (H.denies host.now) path.now) e.0 e.1) tables e.0) }
 {
     if let Some(fault) = unfit(host.metadata(path)) {
         return Err((fault, Remains::Untouched(start)));

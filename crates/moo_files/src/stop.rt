@@ -17,7 +17,7 @@ ghost use Rattle.moo_store.specs.World.{store_of};
 ghost use Rattle.moo_files.specs.Contents.{HoldsSuch, HoldsMoment, HoldsState, HoldsTrees, IsKept, IsLeftBy};
 ghost use Rattle.moo_files.specs.Opened.{Attempt, OpensAt, OpensHeld, RefusesHeld};
 ghost use Rattle.moo_files.specs.Remains.{IsCleanRemains, KeepsSuch, StillHolds, StillHoldsTrees};
-ghost use Rattle.moo_files.specs.Stop.{DiskLeaves, HasNumberedTrees, BytesLeave, AreNumbered};
+ghost use Rattle.moo_files.specs.Stop.{DiskLeaves, IsNumberedStore, BytesLeave, AreNumbered};
 ghost use Rattle.moo_files.specs.declared.remains.Remains.{Remains};
 
 use sqlite_disk::Disk;
@@ -29,11 +29,11 @@ use sqlite_disk::Disk;
 /// `close_connection` says of a connection that its trees are numbered.
 pub fn disk_leaves_a_database<D: Disk>()
     // So it is if all that the connection may leave are databases.
-    ensures left { (conn : Held (FileStore D D.Disk)) (image : Image) → HasCleanDisk (file_state conn) → HasNumberedTrees conn →
+    ensures left { (conn : Held (FileStore D D.Disk)) (image : Image) → HasCleanDisk (file_state conn) → IsNumberedStore conn.store →
         AreDatabases (file_state conn).may_leave → DiskLeaves conn image → IsLeftBy (file_state conn) image }
     // So it is of the connection of a World at a place whose cells are known.
     ensures place { (conn : Held (FileStore D D.Disk)) (place : Place) (image : Image) → HasCleanDisk (file_state conn) →
-        HasNumberedTrees conn → IsSome (moment_of place).cells → CrashLeavesAt (file_state conn) place → DiskLeaves conn image →
+        IsNumberedStore conn.store → IsSome (moment_of place).cells → CrashLeavesAt (file_state conn) place → DiskLeaves conn image →
         IsLeftBy (file_state conn) image }
 {}
 
@@ -59,12 +59,12 @@ pub fn open_after_stop<C: Disk, T, D: Disk>()
     // The files hold a moment that the place of the World may leave. A World that is opened works at it, brought to the present version.
     ensures found { (stopped : World (FileStore C C.Disk)) (place : Place) (image : Image) (opened : Attempt T D D.Disk) →
         Stands over_files stopped place → IsSome (moment_of place).cells → HasCleanDisk (store_of over_files stopped) →
-        HasNumberedTrees stopped.connection → DiskLeaves stopped.connection image → OpensHeld image opened →
+        IsNumberedStore stopped.connection.store → DiskLeaves stopped.connection image → OpensHeld image opened →
         (m : Moment) × MayBeLeft place m × HoldsMoment image m
         × IfOk opened (λ world. HasCleanDisk (store_of over_files world) → OpensAt m world) }
     // It is never called damaged.
     ensures refused { (stopped : World (FileStore C C.Disk)) (place : Place) (image : Image) (opened : Attempt T D D.Disk) →
         Stands over_files stopped place → IsSome (moment_of place).cells → HasCleanDisk (store_of over_files stopped) →
-        HasNumberedTrees stopped.connection → DiskLeaves stopped.connection image → RefusesHeld image opened →
+        IsNumberedStore stopped.connection.store → DiskLeaves stopped.connection image → RefusesHeld image opened →
         IfErr opened (λ e. IsCleanRemains e.1 → IsOfStore e.0) }
 {}

@@ -22,9 +22,9 @@ pub use Rattle.moo_http.specs.Advanced.{HasAdvanced, IsStillOrAdvanced}
 pub use Rattle.moo_http.specs.Answers.{Comes, MayAnswer, answer}
 pub use Rattle.moo_http.specs.Connections.{SaysByResult, WritesFront}
 pub use Rattle.moo_http.specs.Lines.{listening_line, served_line}
-pub use Rattle.moo_http.specs.Traffic.{Traffic, traffic, traffic_of}
-pub use Rattle.moo_http.specs.Serves.{AnswersAsked, IsWhyOf, Written}
-pub use Rattle.moo_http.specs.Turns.{Attended, AttendsAll, Exchanged, Happening, ServesFrom, ServesOn, IsLeftUnread, Visit, Visited, Yields, attended_between, settle, visit}
+pub use Rattle.moo_http.specs.Traffic.{Traffic, traffic_of}
+pub use Rattle.moo_http.specs.Serves.{AnswersAsked, Written}
+pub use Rattle.moo_http.specs.Turns.{Attended, AttendsAll, Exchanged, Happening, ServesFrom, ServesOn, Visit, Visited, Yields, attended_between, settle, visit}
 pub use Rattle.moo_http.specs.Settling.{HasNoneLeft, TellsLoss, TellsLosses}
 pub use Rattle.moo_http.specs.declared.fault.ServeFault.{ServeFault}
 pub use Rattle.moo_http.specs.declared.fault.ServeFault.TheVariants.{OutOfMemory, Read, Write}

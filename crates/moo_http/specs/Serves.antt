@@ -15,10 +15,6 @@ use Rattle.moo_http_response.specs.declared.outcome.RequestOutcome.{RequestOutco
 use Rattle.moo_http_response.specs.Responses.{response_with, response_text}
 use Rattle.moo_http.specs.Answers.{MayAnswer}
 
--- it is said why a body, a batch or a call alone is refused only if that was asked too
-abbrev pub IsWhyOf : Bool → List (Option (List ℕ)) → Type 0
-IsWhyOf asks_why whys = asks_why ≡ false → whys ≡ []
-
 -- what is received is refused, before the World is asked
 abbrev pub HasRefusal : Received → Type 0
 HasRefusal Nothing = ⊥
@@ -29,11 +25,12 @@ HasRefusal (Request is_head asks_why asked) = ⊥
 abbrev pub ClosesGently : Option (List ℕ) → Option (List ℕ) → Closing → Type 0
 ClosesGently left rest closing = (received : Received) × Takes left rest received × (HasRefusal received → closing ≡ Gently)
 
--- The answer to what is received: nothing if nothing came.
+-- The answer to what is received: nothing if nothing came. It is said why a body, a batch or a call alone is refused only if that was
+-- asked too.
 abbrev pub Gets : Place → Received → List ℕ → Place → Type 0
 Gets from Nothing output to = (output ≡ []) × (to ≡ from)
 Gets from (Request is_head asks_why asked) output to =
-    (o : RequestOutcome) × (whys : List (Option (List ℕ))) × IsWhyOf asks_why whys × MayAnswer from asked o to
+    (o : RequestOutcome) × (whys : List (Option (List ℕ))) × (asks_why ≡ false → whys ≡ []) × MayAnswer from asked o to
     × (output ≡ response_text is_head (response_with asks_why whys o))
 
 -- what is written of an output, by the result: all of it; or a front of it, if the writer failed; or nothing
@@ -47,5 +44,5 @@ Written (Err OutOfMemory) before behind output = behind ≡ before
 abbrev pub AnswersAsked : (is_head asks_why : Bool) → Asked → Result (Unit {0}) ServeFault → Place → Place
     → Option (List ℕ) → Option (List ℕ) → Type 0
 AnswersAsked is_head asks_why asked result from to before behind =
-    (o : RequestOutcome) × (whys : List (Option (List ℕ))) × IsWhyOf asks_why whys × MayAnswer from asked o to
+    (o : RequestOutcome) × (whys : List (Option (List ℕ))) × (asks_why ≡ false → whys ≡ []) × MayAnswer from asked o to
     × Written result before behind (response_text is_head (response_with asks_why whys o))

@@ -42,10 +42,6 @@ abbrev pub Visited : Type 0 → Bool → Place → Place → Traffic → Type 0
 Visited Unread true from to bytes = Exchanged (Ok tt) from to bytes
 Visited Unread false from to bytes = (fault : ServeFault) × (fault ≡ Read → Unread) × Exchanged (Err fault) from to bytes
 
--- Why the request of a connection isn't read: its reader failed, and was left so; or its waits have no limit.
-abbrev pub IsLeftUnread : {R W : Type 0} → (R → R → Type 0) → Connection R W → Connection R W → Type 0
-IsLeftUnread fails opened closed = HasFailed fails closed.reader ⊎ (opened.is_limited ≡ false)
-
 -- ---- ports
 
 -- What came of the ports, from what they were to what they are.
@@ -89,11 +85,12 @@ lost_in (settle None ∷ turns) = lost_in turns
 module _ {A R W : Type 0} (source : Arrivals.Ghosts A R W) (reader : Reading.Ghosts R) (fails : R → R → Type 0)
     (writer : Writing.Ghosts W) where
   -- One turn, by whether a connection was answered: the source hands one out, which is visited, and takes it back; or it hands out none. A
-  -- connection whose waits have no limit isn't read, and nothing is written to it.
+  -- connection whose waits have no limit isn't read, and nothing is written to it; another is unread only if its reader failed, and was
+  -- left so.
   abbrev pub Visit : Bool → A → Place → A → Place → Type 0
   Visit answered old from new to =
       ((opened closed : Connection R W) × (between : A) × source.hands_out old (Some opened) between
-      × Visited (IsLeftUnread fails opened closed) answered from to (traffic_of reader writer opened closed)
+      × Visited (HasFailed fails closed.reader ⊎ (opened.is_limited ≡ false)) answered from to (traffic_of reader writer opened closed)
       × source.takes_back between closed new
       × (opened.is_limited ≡ false → (answered ≡ false) × (to ≡ from) × (closed ≡ opened)))
       ⊎ ((answered ≡ false) × (to ≡ from) × source.hands_out old None new)

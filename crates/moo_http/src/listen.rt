@@ -1,11 +1,12 @@
 //! Connections, served in turn.
 
-ghost use Rattle.std.specs.Prelude.{◌≡◌, ◌+◌, ◌^◌, ◌<◌, ℕ, true, false};
+ghost use Rattle.std.specs.Prelude.{◌≡◌, ◌⊎◌, ◌+◌, ◌^◌, ◌<◌, ℕ, true, false};
 ghost use Rattle.moo_store.specs.Moves.{MovesBy};
+ghost use Rattle.moo_http_request.specs.Given.{HasFailed};
 ghost use Rattle.moo_http.specs.Advanced.{IsStillOrAdvanced};
 ghost use Rattle.moo_http.specs.Traffic.{traffic_of};
 ghost use Rattle.moo_http.specs.Serves.{ClosesGently};
-ghost use Rattle.moo_http.specs.Turns.{Visited, IsLeftUnread, Visit, Attended, AttendsAll};
+ghost use Rattle.moo_http.specs.Turns.{Visited, Visit, Attended, AttendsAll};
 ghost use Rattle.moo_http.specs.Settling.{TellsLoss, TellsLosses, HasNoneLeft};
 
 use crate::log::Log;
@@ -35,7 +36,7 @@ pub fn serve_connection<S: Alter + Drop, R: Incoming, W: Write>(
     // Wherever the World was: it is answered, and then all of its answer is written; or it met a fault of `serve_one`, and what was
     // written of the answer is by the fault. Just the batch that was asked led the World on, if that was run.
     ensures visited { MovesBy S.Store world.old world.new (λ from to.
-        Visited (IsLeftUnread R.fails connection.old connection.new) result from to
+        Visited (HasFailed R.fails connection.new.reader ⊎ (connection.old.is_limited ≡ false)) result from to
         (traffic_of R.Read W.Write connection.old connection.new)) }
     ensures unlimited { connection.old.is_limited ≡ false →
         (result ≡ false) × (world.new ≡ world.old) × (connection.new ≡ connection.old) }

@@ -3,7 +3,6 @@
 ghost use Rattle.std.specs.Prelude.{◌≡◌, ◌≢◌, IfErr, OnOk};
 ghost use Rattle.moo_store.specs.Moves.{MovesBy};
 ghost use Rattle.moo_http_request.specs.Given.{HasFailed};
-ghost use Rattle.moo_http.specs.Traffic.{traffic};
 ghost use Rattle.moo_http_request.specs.declared.asked.Refusal.{Refusal};
 ghost use Rattle.moo_arrivals.specs.declared.arrivals.Closing.{Closing};
 ghost use Rattle.moo_http.specs.Advanced.{IsStillOrAdvanced};
@@ -80,7 +79,12 @@ pub fn serve_one<S: Alter + Drop, R: Incoming, W: Write>(
     // Wherever the World was, the answer to the bytes that the reader gave is written, and nothing else, and the World is where that leads;
     // by the result.
     ensures served { MovesBy S.Store world.old world.new (λ from to.
-        Exchanged result from to (traffic R.Read W.Write reader.old reader.new writer.old writer.new)) }
+        Exchanged result from to (record {
+          left = R.remaining reader.old;
+          rest = R.remaining reader.new;
+          before = W.contents writer.old;
+          after = W.contents writer.new;
+        })) }
     // Unless a batch was accepted, or the store failed in it, it is the very World.
     ensures still { IsStillOrAdvanced S.Store world.old world.new }
     ensures unwritten { IfErr result (λ fault. fault ≢ ServeFault.Write → writer.new ≡ writer.old) }

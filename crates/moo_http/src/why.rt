@@ -1,10 +1,9 @@
 //! Why what was asked is refused.
 
-ghost use Rattle.std.specs.Prelude.{◌≡◌, ℕ, List, [], ◌∷◌, Option, IfOk};
+ghost use Rattle.std.specs.Prelude.{◌≡◌, ℕ, false, List, [], ◌∷◌, Option, IfOk};
 ghost use Rattle.moo_http_response.specs.Responses.{response_with, response_text};
 ghost use Rattle.moo_reasons.specs.Told.{AreTold, TellsPlace};
 ghost use Rattle.moo_http.specs.Seen.{IsToldWith, TellsOutcome};
-ghost use Rattle.moo_http.specs.Serves.{IsWhyOf};
 
 use crate::serve::Inquiry;
 use moo_batch::Witness;
@@ -144,7 +143,7 @@ pub(crate) fn told_answer(
     inquiry: &Inquiry,
     outcome: RequestOutcome,
 ) -> Result<Vec<u8>, AllocError>
-    ensures { IfOk result (λ bytes. (whys : List (Option (List ℕ))) × IsWhyOf inquiry.now.asks_why whys
+    ensures { IfOk result (λ bytes. (whys : List (Option (List ℕ))) × (inquiry.now.asks_why ≡ false → whys ≡ [])
         × (bytes.items ≡ response_text inquiry.now.is_head (response_with inquiry.now.asks_why whys outcome))
         × IsToldWith seen.old.seen.items outcome whys) }
 {

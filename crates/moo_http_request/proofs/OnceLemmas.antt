@@ -1,12 +1,15 @@
 -- What is received of bytes is determined by them.
-use Rattle.moo_http_request.{proofs.Words.{◌≡◌, inl, inr, ℕ, List, Some, None, arith, sym, ap, subst, ◌∙◌, option_and_then, RequestHead, ReadsRequest, request_unique, Asked, Form, Plan, Decided, Body, Request, BodyAsks, shape_asked, plan_by, is_head, asks_why, PlanAsks, Receives, nothing, no_head, request, shape_of}, proofs.HeadLemmas.{no_empty_head}, specs.declared.request.Received.{Received}}
+use Rattle.moo_http_request.{proofs.Words.{◌≡◌, inl, inr, ℕ, List, Some, None, arith, sym, ap, subst, ◌∙◌, option_and_then, RequestHead, ReadsRequest, request_unique, Asked, Form, Plan, Decided, Body, Request, BodyAsks, form_asked, plan_by, is_head, asks_why, PlanAsks, Receives, nothing, no_head, request, shape_of}, proofs.HeadLemmas.{no_empty_head}, specs.declared.request.Received.{Received}}
+use Rattle.std.specs.Option.{option_map_or}
+use Rattle.moo_http_request.specs.declared.asked.Asked.TheVariants.{Refused}
+use Rattle.moo_http_request.specs.declared.asked.Refusal.TheVariants.{BadRequest}
 
 body-once : (form : Form) (bytes : List ℕ) (a b : Asked) → BodyAsks form bytes a → BodyAsks form bytes b → a ≡ b
 body-once form bytes a b (None, j, e) (None, k, f) = e ∙ sym f
 body-once form bytes a b (None, j, e) (Some d, k, f) = let none = j k.0 in let some = k.1 in cc
 body-once form bytes a b (Some d, j, e) (None, k, f) = let none = k j.0 in let some = j.1 in cc
 body-once form bytes a b (Some d, j, e) (Some x, k, f) =
-    e ∙ ap (λ json. shape_asked form (option_and_then shape_of json)) (sym j.1 ∙ k.1) ∙ sym f
+    e ∙ ap (λ json. option_map_or (form_asked form) (option_and_then shape_of json) (Refused BadRequest)) (sym j.1 ∙ k.1) ∙ sym f
 
 plan-once : (plan : Plan) (rest : List ℕ) (a b : Asked) → PlanAsks plan rest a → PlanAsks plan rest b → a ≡ b
 plan-once (Decided d) rest a b p q = p ∙ sym q

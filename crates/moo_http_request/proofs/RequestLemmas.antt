@@ -1,7 +1,8 @@
 -- What a request asks, from the bytes that were read of it.
-use Rattle.moo_http_request.{proofs.Words.{◌≡◌, ◌⊎◌, inl, inr, ◌+◌, ◌-◌, ◌<◌, ◌≤◌, ℕ, List, ◌++◌, Option, Some, length, take, drop, arith, refl, sym, ap, subst, ◌∙◌, append_assoc, length-append, length-drop, [], append-nil, false, slice_range, max, Bool, IsUtf8, Result, Ok, Err, IfOk, take-append-le, drop-append-le, Consumes, IsAtEnd, RequestHead, ReadsRequest, Asked, Form, HeadSpans, Plan, Body, Request, HeadStands, Lacks, Grows, TakesAtMost, shape_of, shape_asked, Data, BodyAsks, plan_by, body_size, is_head, asks_why, PlanAsks, Receives, request, no_head, nothing, IsSparing, small, body, Takes, StopsReading, Settles, request_unique}, specs.declared.asked.Asked.TheVariants.{Refused}, specs.declared.asked.Refusal.TheVariants.{BadRequest}, specs.declared.request.Received.TheVariants.{Nothing}, specs.Head.{BeginsWithHead, HasNoHead}, proofs.Giving.{settled, settled_at_end, settled_so, Consumes-then, Grows-more}, proofs.HeadLemmas.{no_empty_head}}
+use Rattle.moo_http_request.{proofs.Words.{◌≡◌, ◌⊎◌, inl, inr, ◌+◌, ◌-◌, ◌<◌, ◌≤◌, ℕ, List, ◌++◌, Option, Some, length, take, drop, arith, refl, sym, ap, subst, ◌∙◌, append_assoc, length-append, length-drop, [], append-nil, false, slice_range, max, Bool, IsUtf8, Result, Ok, Err, IfOk, take-append-le, drop-append-le, Consumes, IsAtEnd, RequestHead, ReadsRequest, Asked, Form, HeadSpans, Plan, Body, Request, HeadStands, Lacks, Grows, TakesAtMost, shape_of, form_asked, Data, BodyAsks, plan_by, body_size, is_head, asks_why, PlanAsks, Receives, request, no_head, nothing, IsSparing, small, body, Takes, StopsReading, Settles, request_unique}, specs.declared.asked.Asked.TheVariants.{Refused}, specs.declared.asked.Refusal.TheVariants.{BadRequest}, specs.declared.request.Received.TheVariants.{Nothing}, specs.Head.{BeginsWithHead, HasNoHead}, proofs.Giving.{settled, settled_at_end, settled_so, Consumes-then, Grows-more}, proofs.HeadLemmas.{no_empty_head}}
 use Rattle.serde_json.specs.Read.{read}
 use Rattle.moo_http_request.specs.declared.head.TheConstants.{MAX_HEAD}
+use Rattle.std.specs.Option.{option_map_or}
 
 -- the bytes of a body that was read whole
 body_is : (bytes more : List ℕ) (start n : ℕ) → start + n ≤ length bytes → take n (drop start (bytes ++ more)) ≡ slice_range bytes start (start + n)
@@ -29,7 +30,7 @@ body_short a left before bytes start n form inside grows short end =
 
 -- a body that is JSON
 pub json_asks : {E : Type 0} (form : Form) (bytes : List ℕ) (r : Result Asked E) (d : Data) → IsUtf8 bytes → read bytes ≡ Some d
-    → IfOk r (λ asked. asked ≡ shape_asked form (shape_of d)) → IfOk r (BodyAsks form bytes)
+    → IfOk r (λ asked. asked ≡ option_map_or (form_asked form) (shape_of d) (Refused BadRequest)) → IfOk r (BodyAsks form bytes)
 json_asks form bytes (Ok asked) d text e h = (Some d, (text, e), h)
 json_asks form bytes (Err fault) d text e h = tt
 

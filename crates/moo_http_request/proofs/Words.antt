@@ -12,7 +12,7 @@ pub use Rattle.moo_text.specs.LineReading.{call_of}
 pub use Rattle.serde_json.specs.Data.{Data, string}
 pub use Rattle.serde_json.specs.Find.{as_str}
 pub use Rattle.serde_json.specs.View.{items_of, view}
-pub use Rattle.moo_http_request.specs.Body.{BodyAsks, shape_asked}
+pub use Rattle.moo_http_request.specs.Body.{BodyAsks, form_asked}
 pub use Rattle.moo_http_request.specs.Calls.{Bad, Calls, Whole, calls_from, with_call}
 pub use Rattle.moo_http_request.specs.Found.{HeadStands, IsClose, Lacks, ShowsHead}
 pub use Rattle.moo_http_request.specs.Given.{Grows, TakesAtMost}

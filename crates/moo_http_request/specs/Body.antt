@@ -1,5 +1,6 @@
 -- What a body asks.
-use Rattle.std.specs.Prelude.{◌≡◌, ℕ, List, Option, Some, None, option_and_then, IsUtf8}
+use Rattle.std.specs.Prelude.{◌≡◌, ℕ, List, Option, Some, None, map, option_and_then, IsUtf8}
+use Rattle.std.specs.Option.{option_map_or}
 use Rattle.serde_json.specs.Data.{Data}
 use Rattle.serde_json.specs.Read.{read}
 use Rattle.moo_http_request.specs.declared.asked.Asked.{Asked}
@@ -8,7 +9,7 @@ use Rattle.moo_http_request.specs.declared.asked.Form.{Form}
 use Rattle.moo_http_request.specs.declared.asked.Form.TheVariants.{Batch, Each}
 use Rattle.moo_http_request.specs.declared.asked.Mode.{Mode}
 use Rattle.moo_http_request.specs.declared.asked.Refusal.TheVariants.{BadRequest, Malformed}
-use Rattle.moo_http_request.specs.Alone.{each_asked}
+use Rattle.moo_http_request.specs.Alone.{alone}
 use Rattle.moo_http_request.specs.Calls.{Calls, Whole, Bad, calls_from}
 use Rattle.moo_http_request.specs.Shape.{Shape, shape_of}
 
@@ -19,16 +20,15 @@ calls_asked mode shape (Bad n) = asks.Refused (Malformed n)
 -- the batch of a shape, or the number, from 1, of its first text that isn't a call; or a batch of each text
 abbrev pub form_asked : Form → Shape → Asked
 form_asked (Batch mode) shape = calls_asked mode shape (calls_from 1 shape.calls)
-form_asked Each shape = asks.Each (each_asked shape)
-
-abbrev pub shape_asked : Form → Option Shape → Asked
-shape_asked form None = asks.Refused BadRequest
-shape_asked form (Some shape) = form_asked form shape
+form_asked Each shape = asks.Each (record { at = shape.at; batches = map (alone shape.programmer) shape.calls })
 
 -- the JSON that the bytes are, if they are any
 abbrev pub IsJson : List ℕ → Option Data → Type 0
 IsJson bytes None = IsUtf8 bytes → read bytes ≡ None
 IsJson bytes (Some d) = IsUtf8 bytes × (read bytes ≡ Some d)
 
+-- what the shape of the JSON asks; a bad request if it has none
 abbrev pub BodyAsks : Form → List ℕ → Asked → Type 0
-BodyAsks form body asked = (json : Option Data) × IsJson body json × (asked ≡ shape_asked form (option_and_then shape_of json))
+BodyAsks form body asked =
+    (json : Option Data) × IsJson body json
+    × (asked ≡ option_map_or (form_asked form) (option_and_then shape_of json) (asks.Refused BadRequest))

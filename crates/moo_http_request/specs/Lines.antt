@@ -9,13 +9,13 @@ use Rattle.moo_http_request.specs.declared.lines.FoundLine.TheVariants.{Nothing,
 abbrev pub Line : Type 0
 Line = List ℕ × List ℕ
 
--- the line has that name, in any case
-abbrev pub is_line_of : List ℕ → Line → Bool
-is_line_of name line = bytes_eq (map to_ascii_lowercase line.0) (map to_ascii_lowercase name)
+-- the same letters, in any case
+abbrev pub is_same_name : List ℕ → List ℕ → Bool
+is_same_name x y = bytes_eq (map to_ascii_lowercase x) (map to_ascii_lowercase y)
 
--- the values of the lines of that name
+-- the values of the lines of that name, in any case
 abbrev pub values_of : List ℕ → List Line → List (List ℕ)
-values_of name lines = map (λ line. line.1) (filter (is_line_of name) lines)
+values_of name lines = map (λ line. line.1) (filter (λ line. is_same_name line.0 name) lines)
 
 -- what was found of them
 abbrev pub IsFoundAmong : List (List ℕ) → FoundLine → Type 0

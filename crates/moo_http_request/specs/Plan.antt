@@ -50,13 +50,9 @@ method_text Post = codes "POST"
 abbrev pub length_of : List Line → Option ℕ
 length_of lines = option_and_then (λ text. if nat_le (length text) 10 then bounded_of 9999999999 text else None) (length_text lines)
 
--- why a body has no length: a coding is named, or no one number states it
-abbrev pub length_refusal : List Line → Refusal
-length_refusal lines = if is_coded lines then Coded else NoLength
-
--- a body says it, if its length is stated and at most 1,048,576
+-- a body says it, if its length is stated: no coding is named, and one number states it; and at most 1,048,576
 abbrev pub body_plan : Form → List Line → Option ℕ → Plan
-body_plan form lines None = Decided (Refused (length_refusal lines))
+body_plan form lines None = Decided (Refused (if is_coded lines then Coded else NoLength))
 body_plan form lines (Some n) = if nat_lt MAX_BODY n then Decided (Refused TooLarge) else Body form n
 
 -- the question that a path of the topic asks; if it asks none, it has no number
@@ -96,11 +92,9 @@ routed_plan (Some endpoint) method path lines =
     if is_guarded endpoint && not (list_all is_own_line lines) then Decided (Refused Forbidden) else allowed_plan endpoint method path lines
 
 -- a page of a browser is refused, whatever it asks
-abbrev pub known_plan : List ℕ → List ℕ → List Line → Plan
-known_plan method path lines = if is_from_page lines then Decided (Refused Forbidden) else routed_plan (endpoint_of path) method path lines
-
 abbrev pub plan_of : List ℕ → List ℕ → List Line → Plan
-plan_of method target lines = known_plan method (path_of target) lines
+plan_of method target lines =
+    if is_from_page lines then Decided (Refused Forbidden) else routed_plan (endpoint_of (path_of target)) method (path_of target) lines
 
 -- what a head decides
 abbrev pub plan_by : RequestHead → Plan

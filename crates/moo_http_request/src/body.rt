@@ -1,9 +1,10 @@
 //! What a body asks.
 
 ghost use Rattle.std.specs.Prelude.{◌≡◌, ◌≤◌, ◌+◌, ◌-◌, Some, length, drop, map, max, IfOk, OnOk, IfErr, OnErr};
-ghost use Rattle.moo_http_request.specs.Body.{shape_asked, form_asked, BodyAsks};
+ghost use Rattle.moo_http_request.specs.Body.{form_asked, BodyAsks};
 ghost use Rattle.moo_world.specs.declared.call.TheConstants.{MOST_CALLS};
 ghost use Rattle.serde_json.specs.View.{view};
+ghost use Rattle.std.specs.Option.{option_map_or};
 ghost use Rattle.moo_http_request.specs.Calls.{calls_from};
 ghost use Rattle.moo_http_request.specs.Given.{Grows, HasFailed, TakesAtMost};
 ghost use Rattle.moo_http_request.specs.Plan.{body_size};
@@ -113,7 +114,7 @@ fn ask_shape(
     wrong: &mut Option<BodyFault>,
 ) -> Result<Asked, AllocError>
     requires { length shape.now.calls.items ≤ MOST_CALLS }
-    ensures { IfOk result (λ asked. asked ≡ shape_asked form (Some (shape_shown shape.now))) }
+    ensures { IfOk result (λ asked. asked ≡ form_asked form (shape_shown shape.now)) }
 {
     match form {
         Form::Batch(mode) => ask_batch(alloc, mode, shape, wrong),
@@ -128,7 +129,8 @@ fn ask_json(
     value: &Value,
     wrong: &mut Option<BodyFault>,
 ) -> Result<Asked, AllocError>
-    ensures { IfOk result (λ asked. asked ≡ shape_asked form (shape_of (view value.now))) }
+    ensures { IfOk result (λ asked.
+        asked ≡ option_map_or (form_asked form) (shape_of (view value.now)) (Asked.Refused Refusal.BadRequest)) }
 {
     match shape_in(alloc, value)? {
         ShapeRead::Whole(shape) => ask_shape(alloc, form, &shape, wrong),

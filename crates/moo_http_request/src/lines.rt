@@ -2,7 +2,7 @@
 
 ghost use Rattle.std.specs.Prelude.{◌≡◌, length, map, All, option_map};
 ghost use Rattle.httparse.specs.Spans.{IsHeaderWithin, header_bytes};
-ghost use Rattle.moo_http_request.specs.Lines.{is_line_of, values_of, IsFoundAmong, is_from_page, is_coded, length_text};
+ghost use Rattle.moo_http_request.specs.Lines.{is_same_name, values_of, IsFoundAmong, is_from_page, is_coded, length_text};
 
 use httparse::spans::HeaderSpan;
 
@@ -20,7 +20,7 @@ pub enum FoundLine<'b> {
 /// Whether a line has a name, in any case.
 pub(crate) fn has_name(bytes: &[u8], line: HeaderSpan, name: &[u8]) -> bool
     requires within { IsHeaderWithin (length bytes.now) line }
-    ensures { result ≡ is_line_of name.now (header_bytes bytes.now line) }
+    ensures { result ≡ is_same_name (header_bytes bytes.now line).0 name.now }
 {
     line.name.of(bytes).eq_ignore_ascii_case(name)
 }

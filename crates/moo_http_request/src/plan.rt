@@ -1,9 +1,11 @@
 //! What the head of a request alone decides.
 
-ghost use Rattle.std.specs.Prelude.{◌≡◌, All, IsUtf8, length, map, bytes_eq};
+ghost use Rattle.std.specs.Prelude.{◌≡◌, All, IsUtf8, length, map, bytes_eq, if◌then◌else◌};
 ghost use Rattle.httparse.specs.Spans.{IsHeaderWithin, header_bytes};
-ghost use Rattle.moo_http_request.specs.Plan.{path_of, is_why_query, is_why, method_of, method_text, length_of, length_refusal, body_plan, question_plan, endpoint_plan, path_refusal, routed_plan, known_plan, is_guarded, allowed_plan, plan_of};
+ghost use Rattle.moo_http_request.specs.Plan.{path_of, is_why_query, is_why, method_of, method_text, length_of, body_plan, question_plan, endpoint_plan, path_refusal, routed_plan, is_guarded, allowed_plan, plan_of};
 ghost use Rattle.moo_http_request.specs.Planned.{IsBounded};
+ghost use Rattle.moo_http_request.specs.Lines.{is_coded, is_from_page};
+ghost use Rattle.moo_http_request.specs.Routes.{endpoint_of};
 
 use crate::asked::{Asked, Form, Method, Refusal};
 use crate::host::is_for_us;
@@ -91,7 +93,7 @@ fn body_length(bytes: &[u8], lines: &[HeaderSpan]) -> Option<u64>
 /// Why a body has no length.
 fn length_refusal(bytes: &[u8], lines: &[HeaderSpan]) -> Refusal
     requires within { All (IsHeaderWithin (length bytes.now)) lines.now }
-    ensures { result ≡ length_refusal (map (header_bytes bytes.now) lines.now) }
+    ensures { result ≡ (if is_coded (map (header_bytes bytes.now) lines.now) then Refusal.Coded else Refusal.NoLength) }
 {
     if is_coded(bytes, lines) {
         Refusal::Coded
@@ -213,7 +215,9 @@ fn plan_route(
 /// What a head decides, by the path of its target.
 fn plan_path(routes: &Routes, method: &[u8], path: &str, bytes: &[u8], lines: &[HeaderSpan]) -> Plan
     requires within { All (IsHeaderWithin (length bytes.now)) lines.now }
-    ensures value { result ≡ known_plan method.now path.now (map (header_bytes bytes.now) lines.now) }
+    ensures value { let head = map (header_bytes bytes.now) lines.now in
+        result ≡ (if is_from_page head then Plan.Decided (Asked.Refused Refusal.Forbidden)
+        else routed_plan (endpoint_of path.now) method.now path.now head) }
     ensures bound { IsBounded result }
 {
     if is_from_page(bytes, lines) {

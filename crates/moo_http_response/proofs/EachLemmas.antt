@@ -4,7 +4,7 @@ use Rattle.std.specs.{Prelude.{String, string_bytes, option_map}, declared.alloc
 use Rattle.std.{proofs.Common.{Option, Some, None, add-one, append-nil, append_assoc, drop-cons}, proofs.lemmas.List.{drop_all, drop-drop, map-append}}
 use Rattle.serde_json.{specs.Data.{Data}, specs.View.{items_of}, specs.declared.value.Value.{Value as Json}}
 use Rattle.moo_text.specs.declared.reply.{Reply.{Reply}, Reply.TheVariants.{Accepted, Refused, Full, Stale, NoMemory}}
-use Rattle.moo_http_response.specs.{Bodies.{told_error_body}, EachBodies.{reply_body, alone_body, each_items, each_body}, Whys.{first_why, whys_shown}}
+use Rattle.moo_http_response.specs.{Bodies.{error_body}, EachBodies.{reply_body, alone_body, each_items, each_body}, Whys.{first_why, whys_shown}}
 
 -- the sentence in a place
 pub why-at : (whys : List (Option (String Global))) (i : ℕ) (default : Option (String Global)) → i < length whys → first_why (drop i (whys_shown whys)) ≡ option_map string_bytes (get_or whys i default)
@@ -33,7 +33,7 @@ each-all whys replies i vs end before =
 
 -- ---- none holds a float
 
-no_float-told : (why : Option (List ℕ)) (word : List ℕ) → has_float (told_error_body why word) ≡ false
+no_float-told : (why : Option (List ℕ)) (word : List ℕ) → has_float (error_body why word) ≡ false
 no_float-told None word = refl
 no_float-told (Some why) word = refl
 

@@ -1,10 +1,10 @@
 -- The objects past a number, listed one after another, as pages of the list of all objects.
 use Rattle.moo_http_response.proofs.Words.{◌≡◌, ◌≤◌, ◌<◌, ◌+◌, ℕ, List, [], ◌∷◌, ◌++◌, map, take, drop, length, refl, sym, ap, ◌∙◌, arith}
-use Rattle.std.{proofs.Common.{append-nil, append_assoc, length-append, inl, inr, Option, Some, None, true≢false}, specs.Prelude.{◌⊎◌, IsSome}, specs.FinMap.{get}, proofs.lemmas.List.{take-append-le, drop-append-le, take_all, drop_all}, proofs.lemmas.List.Elements.{filter_map-append}}
+use Rattle.std.{proofs.Common.{append-nil, append_assoc, length-append, inl, inr, Option, Some, None, true≢false}, specs.Prelude.{◌⊎◌, IsSome}, specs.FinMap.{get}, specs.List.{filter_map}, proofs.lemmas.List.{take-append-le, drop-append-le, take_all, drop_all}, proofs.lemmas.List.Elements.{filter_map-append}}
 use Rattle.moo_value.specs.declared.value.ObjNo.{ObjNo}
 use Rattle.moo_rows.{specs.declared.row.ObjRow.{ObjRow}, specs.Maps.{Maps, object_cmp}, specs.Ordered.{IsNext}, specs.Walk.{is_past, objects_left}, proofs.Walking.{objects-end, objects-step}}
 use Rattle.moo_world.{specs.Rows.{world_of}, specs.World.{IsTree}, proofs.Shown.ObjectEntries.{objects_passing}}
-use Rattle.moo_http_response.{specs.declared.entry.Entry.{Entry}, specs.declared.page.Page.{Page}, specs.Pages.{entry_of, entries_of, before_page, objects_past, first_of, page_of}}
+use Rattle.moo_http_response.{specs.declared.entry.Entry.{Entry}, specs.declared.page.Page.{Page}, specs.Pages.{entry_of, before_page, objects_past, first_of, page_of}}
 
 -- the numbers of the objects past this one
 abbrev pub numbers_left : Maps → ObjNo → List ObjNo
@@ -14,7 +14,7 @@ numbers_left t last = map (λ e. e.0) (objects_left (Some last) t)
 pub record Listed (t : Maps) (first last : ObjNo) (count : ℕ) (list : List Entry) : Type 0 where
   pub keys : List ObjNo
   pub all : numbers_left t first ≡ keys ++ numbers_left t last
-  pub items : list ≡ entries_of (world_of t) keys
+  pub items : list ≡ filter_map (entry_of (world_of t)) keys
   pub counted : length keys ≡ count
   pub few : count ≤ 1000
 
@@ -41,13 +41,13 @@ left_none : (t : Maps) (last : ObjNo) → IsNext t.objects (Some last) None → 
 left_none t last next = ap (map (λ e. e.0)) (objects-end t (Some last) next)
 
 pub one_listed : (t : Maps) (first last x : ObjNo) (count : ℕ) (list more : List Entry) → Listed t first last count list → count < 1000 → IsNext t.objects (Some last) (Some x)
-    → more ≡ list ++ entries_of (world_of t) (x ∷ []) → Listed t first x (count + 1) more
+    → more ≡ list ++ filter_map (entry_of (world_of t)) (x ∷ []) → Listed t first x (count + 1) more
 one_listed t first last x count list more so_far room next added =
     let keys = so_far.keys in
     record {
       keys = keys ++ x ∷ [];
       all = so_far.all ∙ ap (λ l. keys ++ l) (left_first t last x next) ∙ sym (append_assoc keys (x ∷ []) (numbers_left t x));
-      items = added ∙ ap (λ l. l ++ entries_of (world_of t) (x ∷ [])) so_far.items ∙ sym (filter_map-append (entry_of (world_of t)) keys (x ∷ []));
+      items = added ∙ ap (λ l. l ++ filter_map (entry_of (world_of t)) (x ∷ [])) so_far.items ∙ sym (filter_map-append (entry_of (world_of t)) keys (x ∷ []));
       counted = length-append keys (x ∷ []) ∙ ap (λ n. n + 1) so_far.counted;
       few = omega (arith, room);
     }
@@ -76,6 +76,6 @@ paged t tree from last count objects list next same so_far ends first =
       | inr none ↦ inr (left_none t last none)
     ] in
     let parts = split keys rest few stops in
-    let front : objects ≡ entries_of (world_of t) (take 1000 (objects_past (world_of t) (before_page from))) = same ∙ so_far.items ∙ ap (entries_of (world_of t)) (sym (ap (take 1000) whole ∙ parts.0)) in
+    let front : objects ≡ filter_map (entry_of (world_of t)) (take 1000 (objects_past (world_of t) (before_page from))) = same ∙ so_far.items ∙ ap (filter_map (entry_of (world_of t))) (sym (ap (take 1000) whole ∙ parts.0)) in
     let back : next ≡ first_of (drop 1000 (objects_past (world_of t) (before_page from))) = first_left t last next first ∙ ap first_of (sym (ap (drop 1000) whole ∙ parts.1)) in
     λ i. record { objects = front i; next = back i }

@@ -12,29 +12,19 @@ use Rattle.moo_dump.specs.declared.seen.Look.{Look}
 abbrev pub strings : List (List ℕ) → Items
 strings texts = items_of (map string texts)
 
-abbrev pub error_body : List ℕ → Data
-error_body word = object (member (codes "error") (string word) no_members)
+-- a word under `error`, and why, if that is told
+abbrev pub error_body : Option (List ℕ) → List ℕ → Data
+error_body None word = object (member (codes "error") (string word) no_members)
+error_body (Some why) word = object (member (codes "error") (string word) (member (codes "why") (string why) no_members))
 
--- a call, by its number, and what befell it
-abbrev pub call_body : ℕ → List ℕ → Data
-call_body call word = object (member (codes "call") (number (unsigned call)) (member (codes "error") (string word) no_members))
-
--- the same two with why, if that is told
-abbrev pub told_error_body : Option (List ℕ) → List ℕ → Data
-told_error_body None word = error_body word
-told_error_body (Some why) word = object (member (codes "error") (string word) (member (codes "why") (string why) no_members))
-
-abbrev pub told_call_body : Option (List ℕ) → ℕ → List ℕ → Data
-told_call_body None call word = call_body call word
-told_call_body (Some why) call word =
+-- a call, by its number, what befell it, and why, if that is told
+abbrev pub call_body : Option (List ℕ) → ℕ → List ℕ → Data
+call_body None call word = object (member (codes "call") (number (unsigned call)) (member (codes "error") (string word) no_members))
+call_body (Some why) call word =
     object (member (codes "call") (number (unsigned call)) (member (codes "error") (string word) (member (codes "why") (string why) no_members)))
 
 abbrev pub stale_body : ℕ → Data
 stale_body seq = object (member (codes "error") (string (codes "stale")) (member (codes "seq") (number (unsigned seq)) no_members))
-
--- a number under a key
-abbrev pub number_body : List ℕ → ℕ → Data
-number_body key n = object (member key (number (unsigned n)) no_members)
 
 -- each answer as its printed literal, and the number
 abbrev pub accepted_body : List Value → ℕ → Data

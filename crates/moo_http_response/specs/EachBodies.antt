@@ -6,7 +6,7 @@ use Rattle.moo_value.specs.declared.value.Value.{Value}
 use Rattle.moo_value.specs.Literal.{name, print}
 use Rattle.moo_text.specs.declared.reply.Reply.{Reply}
 use Rattle.moo_text.specs.declared.reply.Reply.TheVariants.{Accepted, Refused, Full, Stale, NoMemory}
-use Rattle.moo_http_response.specs.Bodies.{error_body, told_error_body}
+use Rattle.moo_http_response.specs.Bodies.{error_body}
 use Rattle.moo_http_response.specs.Whys.{first_why}
 
 -- the first answer as its printed literal, or null
@@ -14,20 +14,17 @@ abbrev pub first_answer : List Value → Data
 first_answer [] = null
 first_answer (answer ∷ answers) = string (print answer)
 
-abbrev pub answer_body : List Value → Data
-answer_body answers = object (member (codes "answer") (first_answer answers) no_members)
-
 -- the reply to a call alone: its answer, or an error and why, if that is told
 abbrev pub reply_body : Option (List ℕ) → Reply → Data
-reply_body why (Accepted seq answers) = answer_body answers
-reply_body why (Refused call code) = told_error_body why (name code)
-reply_body why (Full call) = told_error_body why (codes "full")
-reply_body why (Stale seq) = error_body (codes "stale")
-reply_body why NoMemory = error_body (codes "nomemory")
+reply_body why (Accepted seq answers) = object (member (codes "answer") (first_answer answers) no_members)
+reply_body why (Refused call code) = error_body why (name code)
+reply_body why (Full call) = error_body why (codes "full")
+reply_body why (Stale seq) = error_body None (codes "stale")
+reply_body why NoMemory = error_body None (codes "nomemory")
 
 -- the same of a text, which may be no call
 abbrev pub alone_body : Option (List ℕ) → Option Reply → Data
-alone_body why None = told_error_body why (codes "malformed")
+alone_body why None = error_body why (codes "malformed")
 alone_body why (Some reply) = reply_body why reply
 
 -- each with the sentence in its place

@@ -7,13 +7,13 @@ use Rattle.moo_value.specs.declared.value.ObjNo.{ObjNo}
 use Rattle.moo_rows.specs.Maps.{object_cmp}
 use Rattle.moo_rows.specs.Walk.{is_past}
 use Rattle.moo_world.specs.ObjectLists.{objects_of}
-use Rattle.moo_world.specs.World.{World, WorldObject}
+use Rattle.moo_world.specs.World.{World}
 use Rattle.moo_http_response.specs.declared.entry.Entry.{Entry}
 use Rattle.moo_http_response.specs.declared.page.Page.{Page}
 
--- the fields of an object's record
-abbrev pub entry_at : ObjNo → WorldObject → Entry
-entry_at x r = record {
+-- the fields of an object's record; None if x isn't an object
+abbrev pub entry_of : World → ObjNo → Option Entry
+entry_of w x = option_map (λ r. record {
   number = x;
   name = r.row.name;
   owner = r.row.owner;
@@ -25,14 +25,7 @@ entry_at x r = record {
   r = r.row.r;
   w = r.row.w;
   f = r.row.f;
-}
-
--- None if x isn't an object
-abbrev pub entry_of : World → ObjNo → Option Entry
-entry_of w x = option_map (entry_at x) (w.object x)
-
-abbrev pub entries_of : World → List ObjNo → List Entry
-entries_of w xs = filter_map (entry_of w) xs
+}) (w.object x)
 
 -- the number before the first one that is asked for; from a number below zero on is from zero on
 abbrev pub before_page : ObjNo → ObjNo
@@ -49,6 +42,6 @@ first_of (x ∷ xs) = Some x
 -- the objects from a number on, at most 1,000 of them, and the first that is left out
 abbrev pub page_of : World → ObjNo → Page
 page_of w n = record {
-  objects = entries_of w (take 1000 (objects_past w (before_page n)));
+  objects = filter_map (entry_of w) (take 1000 (objects_past w (before_page n)));
   next = first_of (drop 1000 (objects_past w (before_page n)));
 }

@@ -1,12 +1,11 @@
 //! The JSON of answers, printed.
 
-ghost use Rattle.std.specs.Prelude.{◌≡◌, map, IfOk, option_map, string_bytes, codes, false};
-ghost use Rattle.serde_json.specs.Data.{object, string, member, no_members};
+ghost use Rattle.std.specs.Prelude.{◌≡◌, None, map, IfOk, option_map, string_bytes, codes, false};
+ghost use Rattle.serde_json.specs.Data.{object, string, unsigned, number as a_number, member, no_members};
 ghost use Rattle.serde_json.specs.View.{items_view, members_view};
 ghost use Rattle.serde_json.specs.Written.{compact_text, members_have_float};
 ghost use Rattle.moo_value.specs.Literal.{print};
-ghost use Rattle.moo_http_response.specs.Bodies.{strings, error_body, call_body, told_error_body, told_call_body, stale_body, number_body};
-ghost use Rattle.moo_http_response.specs.Bodies.{accepted_body};
+ghost use Rattle.moo_http_response.specs.Bodies.{strings, error_body, call_body, stale_body, accepted_body};
 
 use crate::limits::read_limits;
 use moo_value::{Value as Literal, print_literal};
@@ -33,7 +32,7 @@ pub(crate) fn error_fields(alloc: Global, word: &str) -> Result<Map<String, Valu
 
 /// A word under `error`.
 pub(crate) fn error_text(alloc: Global, word: &str) -> Result<String, AllocError>
-    ensures { IfOk result (λ text. string_bytes text ≡ compact_text (error_body word.now)) }
+    ensures { IfOk result (λ text. string_bytes text ≡ compact_text (error_body None word.now)) }
 {
     let fields = error_fields(alloc, word)?;
     printed(alloc, fields)
@@ -41,7 +40,7 @@ pub(crate) fn error_text(alloc: Global, word: &str) -> Result<String, AllocError
 
 /// A call, by its number, and what befell it.
 pub(crate) fn call_text(alloc: Global, call: u32, word: &str) -> Result<String, AllocError>
-    ensures { IfOk result (λ text. string_bytes text ≡ compact_text (call_body call word.now)) }
+    ensures { IfOk result (λ text. string_bytes text ≡ compact_text (call_body None call word.now)) }
 {
     let mut fields = error_fields(alloc, word)?;
     put(&mut fields, alloc, "call", Value::from(u64::from(call)))?;
@@ -54,7 +53,7 @@ pub(crate) fn told_error_text(
     word: &str,
     why: Option<&str>,
 ) -> Result<String, AllocError>
-    ensures { IfOk result (λ text. string_bytes text ≡ compact_text (told_error_body (option_map (λ w. w.now) why.entry) word.now)) }
+    ensures { IfOk result (λ text. string_bytes text ≡ compact_text (error_body (option_map (λ w. w.now) why.entry) word.now)) }
 {
     let Some(why) = why else {
         return error_text(alloc, word);
@@ -72,7 +71,7 @@ pub(crate) fn told_call_text(
     word: &str,
     why: Option<&str>,
 ) -> Result<String, AllocError>
-    ensures { IfOk result (λ text. string_bytes text ≡ compact_text (told_call_body (option_map (λ w. w.now) why.entry) call word.now)) }
+    ensures { IfOk result (λ text. string_bytes text ≡ compact_text (call_body (option_map (λ w. w.now) why.entry) call word.now)) }
 {
     let Some(why) = why else {
         return call_text(alloc, call, word);
@@ -95,7 +94,8 @@ pub(crate) fn stale_text(alloc: Global, seq: u64) -> Result<String, AllocError>
 
 /// A number under a key.
 pub(crate) fn number_text(alloc: Global, key: &str, number: u64) -> Result<String, AllocError>
-    ensures { IfOk result (λ text. string_bytes text ≡ compact_text (number_body key.now number)) }
+    ensures { IfOk result (λ text.
+        string_bytes text ≡ compact_text (object (member key.now (a_number (unsigned number)) no_members))) }
 {
     let mut fields = Map::new(alloc);
     put(&mut fields, alloc, key, Value::from(number))?;

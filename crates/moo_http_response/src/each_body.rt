@@ -1,10 +1,11 @@
 //! The JSON of what calls are answered, each alone.
 
-ghost use Rattle.std.specs.Prelude.{◌≡◌, IfOk, option_map, string_bytes};
+ghost use Rattle.std.specs.Prelude.{◌≡◌, IfOk, codes, option_map, string_bytes};
+ghost use Rattle.serde_json.specs.Data.{object, member, no_members};
 ghost use Rattle.serde_json.specs.View.{items_of, items_view, view};
 ghost use Rattle.serde_json.specs.Written.{compact_text};
-ghost use Rattle.moo_http_response.specs.Bodies.{told_error_body};
-ghost use Rattle.moo_http_response.specs.EachBodies.{first_answer, answer_body, reply_body, alone_body, each_items, each_body};
+ghost use Rattle.moo_http_response.specs.Bodies.{error_body};
+ghost use Rattle.moo_http_response.specs.EachBodies.{first_answer, reply_body, alone_body, each_items, each_body};
 ghost use Rattle.moo_http_response.specs.Whys.{whys_shown};
 
 use crate::bodies::{error_fields, literal_text, printed};
@@ -17,7 +18,7 @@ use std::alloc::{AllocError, Global};
 
 /// A word under `error`, and why, if that is told.
 fn error_in(alloc: Global, word: &str, why: Option<&str>) -> Result<Value, AllocError>
-    ensures { IfOk result (λ value. view value ≡ told_error_body (option_map (λ w. w.now) why.entry) word.now) }
+    ensures { IfOk result (λ value. view value ≡ error_body (option_map (λ w. w.now) why.entry) word.now) }
 {
     let mut fields = error_fields(alloc, word)?;
     let Some(why) = why else {
@@ -40,7 +41,7 @@ fn first_in(alloc: Global, answers: &[Literal]) -> Result<Value, AllocError>
 
 /// The first answer under `answer`.
 fn answer_in(alloc: Global, answers: &[Literal]) -> Result<Value, AllocError>
-    ensures { IfOk result (λ value. view value ≡ answer_body answers.now) }
+    ensures { IfOk result (λ value. view value ≡ object (member (codes "answer") (first_answer answers.now) no_members)) }
 {
     let answer = first_in(alloc, answers)?;
     let mut fields = Map::new(alloc);

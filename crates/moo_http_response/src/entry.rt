@@ -1,7 +1,8 @@
 //! Objects in a list, each with its own fields.
 
 ghost use Rattle.std.specs.Prelude.{◌≡◌, ◌++◌, [], ◌∷◌, IfOk, OnOk};
-ghost use Rattle.moo_http_response.specs.Pages.{entry_of, entries_of};
+ghost use Rattle.std.specs.List.{filter_map};
+ghost use Rattle.moo_http_response.specs.Pages.{entry_of};
 ghost use Rattle.moo_world.specs.Rows.{world_of};
 
 use moo_rows::Rows;
@@ -87,7 +88,7 @@ pub(crate) fn list_object<R: Rows>(
     x: ObjNo,
     list: &mut Vec<Entry>,
 ) -> Result<(), AllocError>
-    ensures { OnOk result (list.new.items ≡ list.old.items ++ entries_of (world_of (R.held rows.now).maps) (x ∷ [])) }
+    ensures { OnOk result (list.new.items ≡ list.old.items ++ filter_map (entry_of (world_of (R.held rows.now).maps)) (x ∷ [])) }
 {
     if let Some(entry) = find_entry(alloc, rows, x)? {
         list.push(entry)?;

@@ -1,9 +1,9 @@
 //! The status and the body of what came of a request.
 
 ghost use Rattle.std.specs.Prelude.{◌≡◌, Some, None, IfOk, option_map, codes, string_bytes};
-ghost use Rattle.moo_http_request.specs.Plan.{method_of};
-ghost use Rattle.moo_http_response.specs.Responses.{plain, json, method_name, told_refusal, told_reply, response_of, response_with};
-ghost use Rattle.moo_http_response.specs.Bodies.{error_body, told_error_body, told_call_body, stale_body, accepted_body};
+ghost use Rattle.moo_http_request.specs.Plan.{method_of, method_text};
+ghost use Rattle.moo_http_response.specs.Responses.{plain, json, told_refusal, told_reply, told_response, response_with};
+ghost use Rattle.moo_http_response.specs.Bodies.{error_body, call_body, stale_body, accepted_body};
 ghost use Rattle.moo_http_response.specs.EachBodies.{each_body};
 ghost use Rattle.moo_http_response.specs.HeadWhys.{head_told};
 ghost use Rattle.moo_http_response.specs.Whys.{whys_shown};
@@ -24,7 +24,7 @@ use moo_world::Answers;
 use std::alloc::{AllocError, Global};
 
 fn method_name(endpoint: Endpoint) -> &'static str
-    ensures { result.now ≡ method_name (method_of endpoint) }
+    ensures { result.now ≡ method_text (method_of endpoint) }
 {
     match endpoint {
         Endpoint::Batch(_) | Endpoint::Each => "POST",
@@ -49,7 +49,7 @@ fn with_body(status: StatusCode, body: String) -> Response
 
 /// A word under `error`.
 fn error(alloc: Global, status: StatusCode, word: &str) -> Result<Response, AllocError>
-    ensures { IfOk result (λ r. Shows r (plain status (error_body word.now))) }
+    ensures { IfOk result (λ r. Shows r (plain status (error_body None word.now))) }
 {
     let body = error_text(alloc, word)?;
     Ok(with_body(status, body))
@@ -62,7 +62,7 @@ fn told_error(
     word: &str,
     why: Option<&str>,
 ) -> Result<Response, AllocError>
-    ensures { IfOk result (λ r. Shows r (plain status (told_error_body (option_map (λ w. w.now) why.entry) word.now))) }
+    ensures { IfOk result (λ r. Shows r (plain status (error_body (option_map (λ w. w.now) why.entry) word.now))) }
 {
     let body = told_error_text(alloc, word, why)?;
     Ok(with_body(status, body))
@@ -76,7 +76,7 @@ fn call_error(
     word: &str,
     why: Option<&str>,
 ) -> Result<Response, AllocError>
-    ensures { IfOk result (λ r. Shows r (plain status (told_call_body (option_map (λ w. w.now) why.entry) call word.now))) }
+    ensures { IfOk result (λ r. Shows r (plain status (call_body (option_map (λ w. w.now) why.entry) call word.now))) }
 {
     let body = told_call_text(alloc, call, word, why)?;
     Ok(with_body(status, body))
@@ -109,7 +109,7 @@ fn each(
 }
 
 fn say(alloc: Global, told: Told) -> Result<Response, AllocError>
-    ensures { IfOk result (λ r. Shows r (response_of (RequestOutcome.Told told))) }
+    ensures { IfOk result (λ r. Shows r (told_response told)) }
 {
     let status = status_of(&told);
     let kind = kind_of(&told);
@@ -124,7 +124,7 @@ fn say(alloc: Global, told: Told) -> Result<Response, AllocError>
 
 /// No length of a body is stated, and why that is refused, if it is asked.
 fn no_length(alloc: Global, asks_why: bool, refusal: Refusal) -> Result<Response, AllocError>
-    ensures { IfOk result (λ r. Shows r (plain 400 (told_error_body (head_told asks_why refusal) (codes "bad request")))) }
+    ensures { IfOk result (λ r. Shows r (plain 400 (error_body (head_told asks_why refusal) (codes "bad request")))) }
 {
     let why = head_told(asks_why, refusal);
     told_error(alloc, StatusCode::BAD_REQUEST, "bad request", why)
@@ -132,7 +132,7 @@ fn no_length(alloc: Global, asks_why: bool, refusal: Refusal) -> Result<Response
 
 /// A path asks nothing, and why, if that is asked.
 fn not_found(alloc: Global, asks_why: bool, refusal: Refusal) -> Result<Response, AllocError>
-    ensures { IfOk result (λ r. Shows r (plain 404 (told_error_body (head_told asks_why refusal) (codes "not found")))) }
+    ensures { IfOk result (λ r. Shows r (plain 404 (error_body (head_told asks_why refusal) (codes "not found")))) }
 {
     let why = head_told(asks_why, refusal);
     told_error(alloc, StatusCode::NOT_FOUND, "not found", why)
@@ -140,8 +140,8 @@ fn not_found(alloc: Global, asks_why: bool, refusal: Refusal) -> Result<Response
 
 /// A route has another method, and which, if that is asked.
 fn not_allowed(alloc: Global, asks_why: bool, endpoint: Endpoint) -> Result<Response, AllocError>
-    ensures { IfOk result (λ r. Shows r (json 405 (Some (method_name (method_of endpoint)))
-        (told_error_body (head_told asks_why (Refusal.NotAllowed endpoint)) (codes "method not allowed")))) }
+    ensures { IfOk result (λ r. Shows r (json 405 (Some (method_text (method_of endpoint)))
+        (error_body (head_told asks_why (Refusal.NotAllowed endpoint)) (codes "method not allowed")))) }
 {
     let why = head_told(asks_why, Refusal::NotAllowed(endpoint));
     let body = told_error_text(alloc, "method not allowed", why)?;

@@ -1,7 +1,8 @@
 //! Responses as bytes.
 
-ghost use Rattle.std.specs.Prelude.{◌≡◌, ◌++◌, IfOk, option_map, string_bytes};
-ghost use Rattle.moo_http_response.specs.Bytes.{reason_of, allow_line, head_text, text_of};
+ghost use Rattle.std.specs.Prelude.{◌≡◌, ◌++◌, [], IfOk, option_map, string_bytes, length, unwrap_or, if◌then◌else◌};
+ghost use Rattle.http.specs.StatusCode.{reason_phrase};
+ghost use Rattle.moo_http_response.specs.Bytes.{allow_line, head_text};
 
 use http::StatusCode;
 use std::alloc::{AllocError, Global};
@@ -16,7 +17,7 @@ pub(crate) struct Response {
 }
 
 fn reason(status: StatusCode) -> &'static str
-    ensures { result.now ≡ reason_of status }
+    ensures { result.now ≡ unwrap_or (reason_phrase status) [] }
 {
     match status.canonical_reason() {
         Some(reason) => reason,
@@ -78,8 +79,9 @@ pub(crate) fn print_response(
     response: Response,
     is_head: bool,
 ) -> Result<Vec<u8>, AllocError>
-    ensures { IfOk result (λ bytes. bytes.items ≡ text_of is_head response.status response.kind.now (option_map
-        (λ method. method.now) response.allow) response.body.items) }
+    ensures { IfOk result (λ bytes. bytes.items ≡
+        head_text response.status response.kind.now (option_map (λ method. method.now) response.allow) (length response.body.items)
+        ++ (if is_head then [] else response.body.items)) }
 {
     let head = print_head(
         alloc,

@@ -1,10 +1,12 @@
 //! What a question is told, and the status and the body that tell it.
 
 ghost use Rattle.std.specs.Prelude.{◌≡◌, IfOk, OnErr};
+ghost use Rattle.std.specs.Option.{option_map_or};
 ghost use Rattle.moo_world.specs.Judge.{state_of};
 ghost use Rattle.moo_dump.specs.Dump.{dump};
 ghost use Rattle.moo_world.specs.Rows.{IsGood};
-ghost use Rattle.moo_http_response.specs.Told.{looked, told_of, TellingTakesMemory, told_status, told_kind, told_bytes};
+ghost use Rattle.moo_http_response.specs.Told.{told_of, TellingTakesMemory};
+ghost use Rattle.moo_http_response.specs.Responses.{told_response};
 
 use crate::bodies::{error_text, number_text};
 use crate::look_body::look_text;
@@ -37,7 +39,7 @@ pub enum Told {
 
 /// What a look tells. It shows nothing if there isn't such an object.
 fn seen(look: Option<Look>) -> Told
-    ensures { result ≡ looked look }
+    ensures { result ≡ option_map_or Told.Object look Told.NoObject }
 {
     look.map_or(Told::NoObject, Told::Object)
 }
@@ -73,7 +75,7 @@ pub fn tell<R: Rows>(alloc: Global, rows: &R, question: Question) -> Result<Told
 
 /// The status of what is told.
 pub(crate) fn status_of(told: &Told) -> StatusCode
-    ensures { result ≡ told_status told.now }
+    ensures { result ≡ (told_response told.now).status }
 {
     match told {
         Told::Seq(_) | Told::Object(_) | Told::Objects(_, _) | Told::Dump(_) => StatusCode::OK,
@@ -83,7 +85,7 @@ pub(crate) fn status_of(told: &Told) -> StatusCode
 
 /// The kind of the body of what is told.
 pub(crate) fn kind_of(told: &Told) -> &'static str
-    ensures { result.now ≡ told_kind told.now }
+    ensures { result.now ≡ (told_response told.now).kind }
 {
     match told {
         Told::Dump(_) => "text/plain",
@@ -93,7 +95,7 @@ pub(crate) fn kind_of(told: &Told) -> &'static str
 
 /// The bytes of the body of what is told.
 pub(crate) fn told_bytes(alloc: Global, told: Told) -> Result<Vec<u8>, AllocError>
-    ensures { IfOk result (λ bytes. bytes.items ≡ told_bytes told) }
+    ensures { IfOk result (λ bytes. bytes.items ≡ (told_response told).body) }
 {
     match told {
         Told::Seq(seq) => Ok(number_text(alloc, "seq", seq)?.into_bytes()),

@@ -1,12 +1,13 @@
 -- The world that a task begins with.
-use Rattle.moo_run.{proofs.Words.{◌≡◌, ◌⊎◌, inl, inr, ℕ, Bool, List, Some, Bor, codes, refl, sym, ap, subst, ◌<◌, ◌^◌, true, false, ◌||◌, bytes_eq, true≢false, cases_Bool, Maps, opening_maps, IsGood, State, state_of, Ghosts, Image, IsHeld, Moment, rows_alone, LeavesAsMade, Task, Given, Run, Texts, makes_world, begins_anew, is_load, dump_word, is_input, reads_input, ReadsFile, IsDumpedAs, BeginsFrom, BeginsWith, BeginsNumbered, RunsFrom, RunsIn, RunsMade, FailsAtOnce, RefusesDump, FailsToBegin, Failure}, specs.Run.{RefusesTask, TellsLack}}
+use Rattle.moo_run.{proofs.Words.{◌≡◌, ◌⊎◌, inl, inr, ℕ, Bool, List, Option, Some, IfSome, Bor, codes, refl, sym, ap, subst, ◌<◌, ◌^◌, true, false, ◌||◌, bytes_eq, true≢false, cases_Bool, Maps, opening_maps, IsGood, state_of, Ghosts, Image, IsHeld, Moment, rows_alone, LeavesAsMade, Task, Given, Run, makes_world, begins_anew, is_load, dump_word, is_input, reads_input, ReadsFile, BeginsFrom, BeginsWith, RunsFrom, RunsIn, RunsMade, FailsAtOnce, RefusesDump, FailsToBegin, Failure}, specs.Run.{RefusesTask, TellsLack}}
 use Rattle.sqlite.specs.State.{State as Database}
+use Rattle.moo_dump.specs.Dump.{dump as dump_of}
 use Rattle.sqlite.specs.Tree.{Trees}
 use Rattle.moo_load.specs.RowsOf.{AreRowsOf}
 use Rattle.moo_files.{specs.Remains.{KeepsSuch, KeepsNothingBut}, specs.declared.remains.Remains.{Remains}, proofs.RemainsLemmas.{keeps_more, blank_more}}
 use Rattle.moo_cli.{specs.declared.task.Action.{Action}, specs.declared.task.Action.TheVariants.{Init, Apply, Rehearse, Ask, Dump, Load, Check, Serve}, specs.Tasks.{text_word}}
 
-pub begins_opening : (action : Action) (given : Given) → is_load action ≡ false → BeginsWith action given (state_of opening_maps)
+pub begins_opening : (action : Action) (given : Given) → is_load action ≡ false → BeginsWith action given opening_maps
 begins_opening (Load dump) given other = absurd (true≢false other)
 begins_opening action given other = refl
 
@@ -14,18 +15,9 @@ begins_opening action given other = refl
 pub held_rows : (rows : Maps) → IsGood rows → rows.head.seq < 2 ^ 63 → IsHeld (state_of rows)
 held_rows rows good limit = record { formed = record { world = good.formed; petitions = good.petitions }; limit = limit }
 
-pub begins_dumped : (action : Action) (given : Given) (dump : List ℕ) (s : State) → is_load action ≡ true → dump_word action ≡ dump → IsDumpedAs (given.text dump) s → IsHeld s → BeginsWith action given s
-begins_dumped (Load word) given dump s loads is it held = (subst (λ w. IsDumpedAs (given.text w) s) (sym is) it, held)
-begins_dumped action given dump s loads is it held = absurd (true≢false (sym loads))
-
--- the rows of the opening world, and those that a dump was read as
-pub numbered_opening : (action : Action) (rows : Maps) → is_load action ≡ false → rows ≡ opening_maps → BeginsNumbered action rows
-numbered_opening (Load dump) rows other same = absurd (true≢false other)
-numbered_opening action rows other same = same
-
-pub numbered_dumped : (action : Action) (rows : Maps) → is_load action ≡ true → AreRowsOf (state_of rows) rows → BeginsNumbered action rows
-numbered_dumped (Load dump) rows loads numbered = numbered
-numbered_dumped action rows loads numbered = absurd (true≢false (sym loads))
+pub begins_dumped : (action : Action) (given : Given) (dump : List ℕ) (rows : Maps) → is_load action ≡ true → dump_word action ≡ dump → IfSome (given.text dump) (λ bytes. dump_of (state_of rows) ≡ bytes) → IsHeld (state_of rows) → AreRowsOf (state_of rows) rows → BeginsWith action given rows
+begins_dumped (Load word) given dump rows loads is it held numbered = (subst (λ w. IfSome (given.text w) (λ bytes. dump_of (state_of rows) ≡ bytes)) (sym is) it, held, numbered)
+begins_dumped action given dump rows loads is it held numbered = absurd (true≢false (sym loads))
 
 -- why its dump gives no world
 pub refuses_dump : (action : Action) (given : Given) (dump : List ℕ) (failure : Failure) → dump_word action ≡ dump → RefusesDump (given.text dump) failure → TellsLack given.lacks dump failure → RefusesTask given action failure
@@ -82,18 +74,19 @@ made_with store task rows run others same on it = elim (cases_Bool (is_load task
 ]
 
 -- what a task begins with is said of the texts that it is given
-begins_given : (action : Action) (one other : Given) (s : State) → one.text ≡ other.text → BeginsWith action one s → BeginsWith action other s
-begins_given (Load dump) one other s same it = subst (λ (text : Texts). IsDumpedAs (text dump.now) s × IsHeld s) same it
-begins_given Init one other s same it = it
-begins_given (Apply texts) one other s same it = it
-begins_given (Rehearse texts) one other s same it = it
-begins_given (Ask texts) one other s same it = it
-begins_given Dump one other s same it = it
-begins_given Check one other s same it = it
-begins_given (Serve service) one other s same it = it
+begins_given : (action : Action) (one other : Given) (rows : Maps) → one.text ≡ other.text → BeginsWith action one rows → BeginsWith action other rows
+begins_given (Load dump) one other rows same it =
+    subst (λ (text : List ℕ → Option (List ℕ)). IfSome (text dump.now) (λ bytes. dump_of (state_of rows) ≡ bytes) × IsHeld (state_of rows) × AreRowsOf (state_of rows) rows) same it
+begins_given Init one other rows same it = it
+begins_given (Apply texts) one other rows same it = it
+begins_given (Rehearse texts) one other rows same it = it
+begins_given (Ask texts) one other rows same it = it
+begins_given Dump one other rows same it = it
+begins_given Check one other rows same it = it
+begins_given (Serve service) one other rows same it = it
 
 pub begins_from : (action : Action) (one other : Given) (rows : Maps) → one.text ≡ other.text → BeginsFrom action one rows → BeginsFrom action other rows
-begins_from action one other rows same it = record { good = it.good; world = begins_given action one other (state_of rows) same it.world; numbers = it.numbers }
+begins_from action one other rows same it = record { good = it.good; world = begins_given action one other rows same it.world }
 
 pub fails_to_begin : (task : Task) (run : Run) → FailsAtOnce run → FailsToBegin task run
 fails_to_begin task run (failure, opening, reports) = (failure, inl opening, reports)

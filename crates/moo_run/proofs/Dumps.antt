@@ -1,5 +1,6 @@
 -- Why a dump gives no world.
 use Rattle.moo_run.proofs.Words.{◌≡◌, ◌≢◌, ◌<◌, ◌≤◌, ℕ, List, length, Option, Some, None, IfSome, refl, sym, subst, ◌∙◌, arith, State, IsHeld, read_failure, load_failure, RefusesDump, Failure, NoBatches, NoMemory, Read, TooLong, NotADump, Damaged}
+use Rattle.moo_text.specs.declared.lines.TheConstants.{LONGEST_TEXT}
 use Rattle.moo_dump.specs.Dump.{dump as dump_of}
 use Rattle.moo_load.{specs.declared.input.InputFault.{InputFault}, specs.declared.fault.LoadFault.{LoadFault}}
 use Rattle.moo_load.specs.declared.input.InputFault.TheVariants as read_fault
@@ -10,20 +11,20 @@ of_any : (text : Option (List ℕ)) (P : List ℕ → Type 0) → ((bytes : List
 of_any None P each = tt
 of_any (Some bytes) P each = each bytes
 
-too_long : (n : ℕ) {A : Type 0} → 1073741824 < n → n ≤ 1073741824 → A
+too_long : (n : ℕ) {A : Type 0} → LONGEST_TEXT < n → n ≤ LONGEST_TEXT → A
 too_long n long short = absurd (omega (arith, long, short))
 
 pub no_file : (text : Option (List ℕ)) → RefusesDump text NoBatches
 no_file text = (tt, of_any text _ (λ bytes s held same short. tt))
 
 -- its text can't be read
-pub unread : (text : Option (List ℕ)) (fault : InputFault) (failure : Failure) → failure ≡ read_failure fault → (fault ≡ read_fault.TooLong → IfSome text (λ bytes. 1073741824 < length bytes)) → RefusesDump text failure
+pub unread : (text : Option (List ℕ)) (fault : InputFault) (failure : Failure) → failure ≡ read_failure fault → (fault ≡ read_fault.TooLong → IfSome text (λ bytes. LONGEST_TEXT < length bytes)) → RefusesDump text failure
 unread text read_fault.Read failure is long = subst (RefusesDump text) (sym is) (tt, of_any text _ (λ bytes s held same short. tt))
 unread text read_fault.OutOfMemory failure is long = subst (RefusesDump text) (sym is) (tt, of_any text _ (λ bytes s held same short. tt))
 unread None read_fault.TooLong failure is long = subst (RefusesDump None) (sym is) (tt, tt)
 unread (Some bytes) read_fault.TooLong failure is long = subst (RefusesDump (Some bytes)) (sym is) (tt, λ s held same short. too_long (length bytes) (long refl) short)
 
-module _ (bytes : List ℕ) (limit : length bytes ≤ 1073741824) where
+module _ (bytes : List ℕ) (limit : length bytes ≤ LONGEST_TEXT) where
   short_enough : length bytes < 4294967295
   short_enough = omega (arith, limit)
 

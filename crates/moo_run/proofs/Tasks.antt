@@ -1,9 +1,11 @@
 -- From what was done to a World to how a task ends.
-use Rattle.moo_run.{proofs.Words.{◌≡◌, ◌≢◌, NoBatches, NoMemory, Read, Write, TooLong, inl, inr, ℕ, Bool, true, false, List, Option, Result, Ok, Err, IfOk, IfErr, IfSome, IsSome, MatchResult, refl, sym, ap, ap₂, subst, if◌then◌else◌, codes, bytes_eq, HasCleanDisk, State, state_of, Moment, Place, Works, Failed, LeavesJust, rows_alone, state_of_moment, World, store_of, state_of_world, Stands, MovesBy, RunsAt, AsksAt, RehearsesAt, text_failure, store_failure, checked_line, Texts, texts_by, None, Some, true≢false, ◌∙◌, lost_status, course_status, line_of, AnswersText, AnswersAs, StopsAs, StopsIn, SaysChecked, StopsChecking, ComesOf, EndsTask, Failure}, specs.Texts.{OpenedBy, LacksBy}, specs.Run.{Steps, TellsLack}, specs.declared.texts.Manner.{Manner}}
+use Rattle.moo_run.{proofs.Words.{◌≡◌, ◌≢◌, NoBatches, NoMemory, Read, Write, TooLong, inl, inr, ℕ, Bool, true, false, List, Option, Result, Ok, Err, IfOk, IfErr, IfSome, IsSome, MatchResult, refl, sym, ap, ap₂, subst, if◌then◌else◌, codes, bytes_eq, HasCleanDisk, State, state_of, Moment, Place, Works, Failed, LeavesJust, rows_alone, state_of_moment, World, store_of, state_of_world, Stands, MovesBy, RunsAt, AsksAt, RehearsesAt, text_failure, store_failure, checked_line, texts_by, None, Some, true≢false, ◌∙◌, course_status, line_of, AnswersText, AnswersAs, StopsAs, StopsIn, StopsChecking, ComesOf, EndsTask, Failure}, specs.Texts.{OpenedBy, LacksBy}, specs.Run.{TellsLack}, specs.declared.texts.Manner.{Manner}}
 use Rattle.moo_run.specs.declared.texts.Manner.TheVariants as manner
 use Rattle.sqlite.{specs.Store.{Ghosts}, specs.Held.{state}}
 use Rattle.moo_text.specs.declared.fault.TextFault.{TextFault}
-use Rattle.std.specs.Prelude.{IsErr}
+use Rattle.moo_text.specs.declared.reply.Answer.{Answer}
+use Rattle.moo_world.specs.declared.call.Batch.{Batch}
+use Rattle.std.specs.Prelude.{◌==◌, IsErr}
 use Rattle.std.specs.Io.KnownBytes.{Appends}
 use Rattle.moo_text.specs.declared.fault.TextFault.TheVariants as text_fault
 use Rattle.moo_cells.specs.Shows.{ShowsRows}
@@ -12,30 +14,30 @@ use Rattle.moo_http.{specs.Leading.{LeadsTo}, proofs.Leading.{leads_start, leads
 use Rattle.moo_store.{specs.declared.course.Course.{Course}, specs.Stopping.{EndsAs}, specs.Runs.{LeavesChecked}, specs.Checked.{Checks, IsUnchecked}, specs.Current.{unread_of}, specs.Moment.{AllCells}, specs.OpeningRows.{IsOfStore}, specs.declared.fault.StoreFault.{StoreFault}}
 use Rattle.moo_store.specs.declared.fault.StoreFault.TheVariants as store_fault
 
-pub given_input : (batches : List ℕ) (input : Option (List ℕ)) (files : Texts) → bytes_eq batches (codes "-") ≡ true → texts_by input files batches ≡ input
+pub given_input : (batches : List ℕ) (input : Option (List ℕ)) (files : List ℕ → Option (List ℕ)) → bytes_eq batches (codes "-") ≡ true → texts_by input files batches ≡ input
 given_input batches input files e = ap (λ (b : Bool). if b then input else files batches) e
 
-pub given_file : (batches : List ℕ) (input : Option (List ℕ)) (files : Texts) → bytes_eq batches (codes "-") ≡ false → texts_by input files batches ≡ files batches
+pub given_file : (batches : List ℕ) (input : Option (List ℕ)) (files : List ℕ → Option (List ℕ)) → bytes_eq batches (codes "-") ≡ false → texts_by input files batches ≡ files batches
 given_file batches input files e = ap (λ (b : Bool). if b then input else files batches) e
 
 -- the text of a word, by what was opened for it
-pub none_opened : {F E : Type 0} (remaining : F → Option (List ℕ)) (files : Texts) (word : List ℕ) (input : Option (List ℕ)) (opened : Option (Result F E)) → opened ≡ None → OpenedBy remaining files word opened → texts_by input files word ≡ input
+pub none_opened : {F E : Type 0} (remaining : F → Option (List ℕ)) (files : List ℕ → Option (List ℕ)) (word : List ℕ) (input : Option (List ℕ)) (opened : Option (Result F E)) → opened ≡ None → OpenedBy remaining files word opened → texts_by input files word ≡ input
 none_opened remaining files word input opened is by = given_input word input files (subst (OpenedBy remaining files word) is by)
 
-pub some_opened : {F E : Type 0} (remaining : F → Option (List ℕ)) (files : Texts) (word : List ℕ) (input : Option (List ℕ)) (opened : Option (Result F E)) (r : Result F E) (file : F) → opened ≡ Some r → r ≡ Ok file → OpenedBy remaining files word opened
+pub some_opened : {F E : Type 0} (remaining : F → Option (List ℕ)) (files : List ℕ → Option (List ℕ)) (word : List ℕ) (input : Option (List ℕ)) (opened : Option (Result F E)) (r : Result F E) (file : F) → opened ≡ Some r → r ≡ Ok file → OpenedBy remaining files word opened
     → texts_by input files word ≡ remaining file
 some_opened remaining files word input opened r file is ok by =
     let both = subst (OpenedBy remaining files word) is by in
     given_file word input files both.0 ∙ sym (subst (λ r. IfOk r (λ file. remaining file ≡ files word)) ok both.1)
 
 -- the input isn't read if the word isn't `-`
-pub never_input : {A F E : Type 0} (remaining : F → Option (List ℕ)) (files : Texts) (word : List ℕ) (opened : Option (Result F E)) → opened ≡ None → OpenedBy remaining files word opened → bytes_eq word (codes "-") ≡ false → A
+pub never_input : {A F E : Type 0} (remaining : F → Option (List ℕ)) (files : List ℕ → Option (List ℕ)) (word : List ℕ) (opened : Option (Result F E)) → opened ≡ None → OpenedBy remaining files word opened → bytes_eq word (codes "-") ≡ false → A
 never_input remaining files word opened is by other = absurd (true≢false (sym (subst (OpenedBy remaining files word) is by) ∙ other))
 
 -- ---- what comes of a text
 
-done_by : (step : Steps) (stop : Bool) (m : Moment) (end : Place) (text old new : Option (List ℕ)) (stopped : Bool) (batches lost : ℕ) → EndsAs step stop (Works m) end text old new stopped batches lost
-    → AnswersText step stop m end text old new (if stopped then 1 else lost_status lost)
+done_by : (step : Place → Batch → Answer → Place → Type 0) (stop : Bool) (m : Moment) (end : Place) (text old new : Option (List ℕ)) (stopped : Bool) (batches lost : ℕ) → EndsAs step stop (Works m) end text old new stopped batches lost
+    → AnswersText step stop m end text old new (if stopped then 1 else (if lost == 0 then 0 else 1))
 done_by step stop m end text old new true batches lost (is, early) = inr (is, batches, lost, early, refl)
 done_by step stop m end text old new false batches lost whole = inl (batches, lost, whole, refl)
 
@@ -142,7 +144,7 @@ module _ {S : Type 0} (g : Ghosts S) (was world : World S) (m : Moment) (stands 
 
   -- it found none, and the line tells how much there is
   pub check_says : (count seq : ℕ) (old new : Option (List ℕ)) (status : ℕ) → MovesBy g was world (λ from to. LeavesChecked from (Ok count) to) → Checks was.rows.maps (store_of g was) (store_of g world) (Ok count)
-      → seq ≡ (state_of_world was).seq → Appends old new (checked_line seq count) × (status ≡ 0) → EndsTask g was world m (λ end. SaysChecked m end old new status)
+      → seq ≡ (state_of_world was).seq → Appends old new (checked_line seq count) × (status ≡ 0) → EndsTask g was world m (λ end. LeavesJust m end × Appends old new (line_of checked_line (state_of_moment m)) × (status ≡ 0))
   check_says count seq old new status moves checks number said =
       after_check (Ok count) _ moves (λ to way just. (just, subst (λ line. Appends old new line) (told count seq checks number) said.0, said.1))
 

@@ -24,8 +24,8 @@ pub use Rattle.sqlite.specs.WalFiles.{image_at}
 pub use Rattle.sqlite_disk.specs.declared.Disk.{Ghosts}
 pub use Rattle.sqlite_wal.specs.Recovery.{Image}
 pub use Rattle.moo_run.specs.Ends.{EndsWith, IsClosedEnd, RanOver, RefusedOver, RunsClosed, RunsFile, RunsOver}
-pub use Rattle.moo_run.specs.Given.{Given, Run, Texts, attended, given_to, texts_by}
+pub use Rattle.moo_run.specs.Given.{Given, Run, given_to, texts_by}
 pub use Rattle.moo_run_lines.specs.Lines.{Reports, Tells, checked_line, load_failure, loaded_line, read_failure, service_failure, store_failure, text_failure}
-pub use Rattle.moo_run.specs.Run.{AnswersAs, AnswersText, BeginsFrom, BeginsNumbered, BeginsWith, ComesOf, Done, EndsTask, EndsText, FailsAtOnce, FailsToBegin, FindsRows, IsDumpedAs, IsOpening, KeepsInput, LeavesNothingNew, MayRefuse, ReadsFile, RefusesDump, RefusesFile, RunsAction, RunsAnew, RunsFrom, RunsIn, RunsMade, RunsNew, RunsTask, RunsUnseen, SaysChecked, Serving, ShowsTables, StopsAs, StopsChecking, StopsIn, StopsServing, StopsTask, StopsText, course_status, line_of, begins_anew, dump_word, is_input, is_load, lost_status, makes_world, only_reads, reads_input, serves}
+pub use Rattle.moo_run.specs.Run.{AnswersAs, AnswersText, BeginsFrom, BeginsWith, ComesOf, Done, EndsTask, EndsText, FailsAtOnce, FailsToBegin, FindsRows, IsOpening, KeepsInput, LeavesNothingNew, MayRefuse, ReadsFile, RefusesDump, RefusesFile, RunsAction, RunsAnew, RunsFrom, RunsIn, RunsMade, RunsNew, RunsTask, RunsUnseen, ShowsTables, StopsAs, StopsChecking, StopsIn, StopsServing, StopsTask, StopsText, course_status, line_of, begins_anew, dump_word, is_input, is_load, makes_world, only_reads, reads_input, serves}
 pub use Rattle.moo_run_lines.specs.declared.failure.Failure.{Failure}
 pub use Rattle.moo_run_lines.specs.declared.failure.Failure.TheVariants.{Damaged, NewerVersion, NoBatches, NoMemory, NotADump, Read, Store, TooLong, Write}

@@ -20,11 +20,11 @@ use Rattle.moo_store.specs.States.{LeavesState}
 use Rattle.moo_tables_rows.specs.Inside.{Leaves}
 use Rattle.moo_files.specs.Opened.{Contents, Nothing, Database, Unfit, Hold}
 use Rattle.moo_store.specs.declared.fault.StoreFault.{StoreFault}
-use Rattle.moo_files.specs.Contents.{HoldsTrees, HoldsTables, HoldsMoment, HoldsEarlier, HoldsNoTable}
-use Rattle.moo_files.specs.Contents.{HasOtherTables, HasAnyTable, IsKept, ReadsAsOurs}
+use Rattle.moo_files.specs.Contents.{HoldsTrees, HoldsTables, HoldsMoment, HoldsSuch, HoldsNoTable}
+use Rattle.moo_files.specs.Contents.{HasOtherTables, HasEarlierTables, HasAnyTable, IsKept, ReadsAsOurs}
 use Rattle.moo_files.specs.Remains.{IsCleanRemains, MayStopAs, Spares, KeepsSuch, KeepsNothingBut, StillHoldsTrees}
 use Rattle.moo_files.specs.Blank.{IsBlank}
-use Rattle.moo_files.specs.Causes.{HasCauseOr, HasCauseOver, IsDenied, IsOpenable}
+use Rattle.moo_files.specs.Causes.{HasCauseOr, StopsOver, IsDenied, IsOpenable}
 use Rattle.moo_files.specs.Making.{StopsMaking}
 use Rattle.moo_files.specs.Closing.{IsClosedFrom}
 use Rattle.moo_files.specs.declared.remains.Remains.{Remains}
@@ -87,13 +87,14 @@ module _ {T D : Type 0} {g : Ghosts D} where
   -- it fails at once, for a cause, over the file of this path, which held this image
   abbrev pub FailsFor : List ℕ → Image → Remains T D g → Run → Type 0
   FailsFor path image rest run =
-      (fault : StoreFault) × IsOfStore fault × HasCauseOver (HoldsEarlier image) (IsDenied run.given.denies path) fault rest
+      (fault : StoreFault) × IsOfStore fault
+      × HasCauseOr (StopsOver (HoldsSuch HasEarlierTables image) fault) (IsDenied run.given.denies path) fault rest
       × Reports (store_failure fault) run.before run.after run.status
 
   -- It fails at once over the file of this path, which held these tables. The line tells what is wrong with them, or it has a cause.
   abbrev pub RefusesTables : List ℕ → Tables → Remains T D g → Run → Type 0
   RefusesTables path tables rest run = (fault : StoreFault)
-      × SaysOr (HasCauseOver (AreMigrated tables) (IsDenied run.given.denies path) fault rest) tables fault
+      × SaysOr (HasCauseOr (StopsOver (AreMigrated tables) fault) (IsDenied run.given.denies path) fault rest) tables fault
       × Reports (store_failure fault) run.before run.after run.status
 
   -- files that were never opened: the start is unspent

@@ -8,18 +8,14 @@ use Rattle.moo_arrivals.specs.declared.arrivals.Arrivals as Arrivals
 use Rattle.moo_http.specs.declared.ports.Ports as Ports
 use Rattle.moo_run.specs.declared.host.BatchFiles as BatchFiles
 
--- the text of each word for batches or a dump, if it is known
-abbrev pub Texts : Type 0
-Texts = List ℕ → Option (List ℕ)
-
 -- `-` names the input, and any other word the file of that path
-abbrev pub texts_by : Option (List ℕ) → Texts → Texts
+abbrev pub texts_by : Option (List ℕ) → (List ℕ → Option (List ℕ)) → List ℕ → Option (List ℕ)
 texts_by input files batches = if bytes_eq batches (codes "-") then input else files batches
 
--- What a run is given: texts, the files of batches or dumps that couldn't be opened, the files of worlds that the host denied, and what
--- came of the ports.
+-- What a run is given: the text of each word for batches or a dump, if it is known, the files of batches or dumps that couldn't be opened,
+-- the files of worlds that the host denied, and what came of the ports.
 pub record Given : Type 1 where
-  pub text : Texts
+  pub text : List ℕ → Option (List ℕ)
   pub lacks : List ℕ → Type 0
   pub denies : List ℕ → Type 0
   pub ports : Attendance
@@ -31,12 +27,6 @@ pub record Run : Type 1 where
   pub after : Option (List ℕ)
   pub status : ℕ
 
-module _ {H A R W : Type 0} (ports : Ports.Ghosts H A R W) (source : Arrivals.Ghosts A R W)
-    (reader : Reading.Ghosts R) (fails : R → R → Type 0) (writer : Writing.Ghosts W) where
-  -- what came of the ports of a host, from what it was to what it is
-  abbrev pub attended : H → H → Attendance
-  attended before after = attended_between source reader fails writer ports before after
-
 module _ {I H T A R W : Type 0} (input : Reading.Ghosts I) (files : BatchFiles.Ghosts H T) (denies : H → List ℕ → Type 0)
     (ports : Ports.Ghosts H A R W) (source : Arrivals.Ghosts A R W) (reader : Reading.Ghosts R) (fails : R → R → Type 0)
     (writer : Writing.Ghosts W) where
@@ -46,5 +36,5 @@ module _ {I H T A R W : Type 0} (input : Reading.Ghosts I) (files : BatchFiles.G
     text = texts_by (input.remaining from) (files.text before);
     lacks = files.lacks before;
     denies = denies before;
-    ports = attended ports source reader fails writer before after;
+    ports = attended_between source reader fails writer ports before after;
   }

@@ -20,6 +20,7 @@ use Rattle.moo_tables_rows.specs.Tables.{Tables}
 use Rattle.moo_tables_rows.specs.Inside.{Rests}
 use Rattle.moo_cells.specs.Shows.{ShowsRows}
 use Rattle.moo_text.specs.declared.fault.TextFault.{TextFault}
+use Rattle.moo_text.specs.declared.lines.TheConstants.{LONGEST_TEXT}
 use Rattle.moo_dump.specs.Dump.{dump as dump_of}
 use Rattle.moo_load.specs.OneState.{IsHeld}
 use Rattle.moo_load.specs.RowsOf.{AreRowsOf}
@@ -45,7 +46,7 @@ use Rattle.moo_http.specs.Leading.{LeadsTo}
 use Rattle.moo_http.specs.Turns.{Attendance, SaysAttended}
 use Rattle.moo_run.specs.Given.{Given, Run}
 use Rattle.moo_cli.specs.Tasks.{NamesTask, NamesAlone, NamesNone, text_word, mistakes}
-use Rattle.moo_run_lines.specs.Lines.{Reports, WritesLine, text_failure, store_failure, created_line, loaded_line, checked_line}
+use Rattle.moo_run_lines.specs.Lines.{Reports, WritesLine, text_failure, store_failure, loaded_line, checked_line}
 use Rattle.moo_run_lines.specs.declared.failure.Failure.{Failure}
 use Rattle.moo_run_lines.specs.declared.failure.Failure.TheVariants.{Usage, NoFile, Store, Damaged, NewerVersion, NotADump, NoBatches}
 use Rattle.moo_run_lines.specs.declared.failure.Failure.TheVariants.{Read, TooLong, Write, Port, NoMemory}
@@ -100,46 +101,31 @@ abbrev pub serves : Action → Bool
 serves (Serve service) = true
 serves action = false
 
--- the dump of this state is the text, byte for byte, if it is known
-abbrev pub IsDumpedAs : Option (List ℕ) → State → Type 0
-IsDumpedAs text s = IfSome text (λ bytes. dump_of s ≡ bytes)
+-- The rows of the new world that a task begins with. Those of a well formed state whose dump is the text of the dump, byte for byte, if
+-- that is known: properties and verbs are numbered from 1, in the order of the dump. Or the opening ones.
+abbrev pub BeginsWith : Action → Given → Maps → Type 0
+BeginsWith (Load dump) given rows =
+    IfSome (given.text dump.now) (λ bytes. dump_of (state_of rows) ≡ bytes) × IsHeld (state_of rows) × AreRowsOf (state_of rows) rows
+BeginsWith action given rows = rows ≡ opening_maps
 
--- The state of the new world that a task begins with: a well formed one that is dumped as the text of the dump, or the opening state.
-abbrev pub BeginsWith : Action → Given → State → Type 0
-BeginsWith (Load dump) given s = IsDumpedAs (given.text dump.now) s × IsHeld s
-BeginsWith action given s = s ≡ state_of opening_maps
-
--- The numbers in the rows of that world: properties and verbs are numbered from 1, in the order of the dump; or they are those of the
--- opening world.
-abbrev pub BeginsNumbered : Action → Maps → Type 0
-BeginsNumbered (Load dump) rows = AreRowsOf (state_of rows) rows
-BeginsNumbered action rows = rows ≡ opening_maps
-
--- the rows of the new world that a task begins with
+-- so it begins, and the rows are good
 pub record BeginsFrom (action : Action) (given : Given) (rows : Maps) : Type 0 where
   pub good : IsGood rows
-  pub world : BeginsWith action given (state_of rows)
-  pub numbers : BeginsNumbered action rows
+  pub world : BeginsWith action given rows
 
--- 1 if an answer is `fault` or `closed`
-abbrev pub lost_status : ℕ → ℕ
-lost_status lost = if lost == 0 then 0 else 1
-
--- the status of a text that was answered so far: 1 if it stopped
+-- the status of a text that was answered so far: 1 if it stopped, or if an answer is `fault` or `closed`
 abbrev pub course_status : Course → ℕ
-course_status course = if course.stopped then 1 else lost_status course.tally.lost
+course_status course = if course.stopped then 1 else (if course.tally.lost == 0 then 0 else 1)
 
 -- ---- a task over a world
 
--- what is said of one batch: where it began, its answer, and where it left off
-abbrev pub Steps : Type 1
-Steps = Place → Batch → Answer → Place → Type 0
-
--- A text of batches is answered to its end. Or it ends after the first answer that isn't `accepted`, if it was to stop there, and the
--- status is 1.
-abbrev pub AnswersText : Steps → Bool → Moment → Place → Option (List ℕ) → Option (List ℕ) → Option (List ℕ) → ℕ → Type 0
+-- A text of batches is answered to its end, and the status is 1 if an answer is `fault` or `closed`. Or it ends after the first answer
+-- that isn't `accepted`, if it was to stop there, and the status is 1. A step says of one batch where it began, its answer, and where it
+-- left off.
+abbrev pub AnswersText : (Place → Batch → Answer → Place → Type 0) → Bool → Moment → Place → Option (List ℕ) → Option (List ℕ)
+    → Option (List ℕ) → ℕ → Type 0
 AnswersText step stop m end text old new status =
-    ((batches lost : ℕ) × CompletesUntil step stop (Works m) end text old new batches lost × (status ≡ lost_status lost))
+    ((batches lost : ℕ) × CompletesUntil step stop (Works m) end text old new batches lost × (status ≡ (if lost == 0 then 0 else 1)))
     ⊎ ((stop ≡ true) × (batches lost : ℕ) × EndsEarly step (Works m) end text old new batches lost × (status ≡ 1))
 
 -- if the failure is that a file of batches or a dump can't be opened, it is this one
@@ -147,24 +133,11 @@ abbrev pub TellsLack : (List ℕ → Type 0) → List ℕ → Failure → Type 0
 TellsLack lacks path failure = failure ≡ NoBatches → lacks path
 
 -- a fault stops it; or its file can't be opened, and nothing is done
-abbrev pub StopsText : Steps → Bool → Moment → Place → Failure → Option (List ℕ) → Option (List ℕ) → Option (List ℕ) → Type 0
+abbrev pub StopsText : (Place → Batch → Answer → Place → Type 0) → Bool → Moment → Place → Failure → Option (List ℕ) → Option (List ℕ)
+    → Option (List ℕ) → Type 0
 StopsText step stop m end failure text old new =
     ((fault : TextFault) × (failure ≡ text_failure fault) × HaltsUntil step stop (Works m) end text old new fault)
     ⊎ ((failure ≡ NoBatches) × (end ≡ Works m) × (new ≡ old))
-
--- A text of batches is rehearsed over the rows alone: what is written and the status are those of a run of it, which ends somewhere.
-abbrev pub RehearsesText : Bool → Moment → Option (List ℕ) → Option (List ℕ) → Option (List ℕ) → ℕ → Type 0
-RehearsesText stop m text old new status = (end : Place) × AnswersText RehearsesAt stop (rows_alone m.rows) end text old new status
-
-abbrev pub StopsRehearsing : Bool → Moment → Failure → Option (List ℕ) → Option (List ℕ) → Option (List ℕ) → Type 0
-StopsRehearsing stop m failure text old new = (end : Place) × StopsText RehearsesAt stop (rows_alone m.rows) end failure text old new
-
--- a text of batches is asked, to its end
-abbrev pub AsksText : Moment → Option (List ℕ) → Option (List ℕ) → Option (List ℕ) → ℕ → Type 0
-AsksText m = AnswersText AsksAt false m (Works m)
-
-abbrev pub StopsAsking : Moment → Failure → Option (List ℕ) → Option (List ℕ) → Option (List ℕ) → Type 0
-StopsAsking m = StopsText AsksAt false m (Works m)
 
 -- ---- what is done with a text of batches
 
@@ -173,11 +146,13 @@ abbrev pub changes_world : Manner → Bool
 changes_world (manner.Apply options) = true
 changes_world other = false
 
--- A text of batches is answered in a manner, from a moment to an end. Only a text that is run leads to another moment.
+-- A text of batches is answered in a manner, from a moment to an end. Only a text that is run leads to another moment. One is rehearsed
+-- over the rows alone: what is written and the status are those of a run of it, which ends somewhere. One is asked to its end.
 abbrev pub AnswersAs : Manner → Moment → Place → Option (List ℕ) → Option (List ℕ) → Option (List ℕ) → ℕ → Type 0
 AnswersAs (manner.Apply options) m end text old new status = AnswersText RunsAt options.stop m end text old new status
-AnswersAs (manner.Rehearse options) m end text old new status = LeavesJust m end × RehearsesText options.stop m text old new status
-AnswersAs manner.Ask m end text old new status = LeavesJust m end × AsksText m text old new status
+AnswersAs (manner.Rehearse options) m end text old new status =
+    LeavesJust m end × ((last : Place) × AnswersText RehearsesAt options.stop (rows_alone m.rows) last text old new status)
+AnswersAs manner.Ask m end text old new status = LeavesJust m end × AnswersText AsksAt false m (Works m) text old new status
 
 -- what comes of the text of a manner, by the result of answering it
 abbrev pub ComesOf : Manner → Moment → Place → Option (List ℕ) → Option (List ℕ) → Option (List ℕ) → Result Course TextFault → Type 0
@@ -189,36 +164,31 @@ ComesOf manner.Ask m end text old new r = LeavesJust m end × AnswersBy AsksAt f
 -- The answering of a text stops, or its file can't be opened.
 abbrev pub StopsAs : Manner → Moment → Place → Failure → Option (List ℕ) → Option (List ℕ) → Option (List ℕ) → Type 0
 StopsAs (manner.Apply options) m end failure text old new = StopsText RunsAt options.stop m end failure text old new
-StopsAs (manner.Rehearse options) m end failure text old new = LeavesJust m end × StopsRehearsing options.stop m failure text old new
-StopsAs manner.Ask m end failure text old new = LeavesJust m end × StopsAsking m failure text old new
+StopsAs (manner.Rehearse options) m end failure text old new =
+    LeavesJust m end × ((last : Place) × StopsText RehearsesAt options.stop (rows_alone m.rows) last failure text old new)
+StopsAs manner.Ask m end failure text old new = LeavesJust m end × StopsText AsksAt false m (Works m) failure text old new
 
 -- a line of the number of a state and of how many objects it has
 abbrev pub line_of : (ℕ → ℕ → List ℕ) → State → List ℕ
 line_of line s = line s.seq (length (objects_of s.world))
 
--- The connections that came to a port were served, so many of them, and what is said of them is written. Their turns led to the end.
-abbrev pub Serving : Attendance → ℕ → ℕ → Moment → Place → Option (List ℕ) → Option (List ℕ) → ℕ → Type 0
-Serving ports port count m end old new status =
-    (text : List ℕ) × SaysAttended ports port count (Works m) end text × Appends old new text × (status ≡ 0)
-
--- the tables show what a moment has, and how much that is was written
-abbrev pub SaysChecked : Moment → Place → Option (List ℕ) → Option (List ℕ) → ℕ → Type 0
-SaysChecked m end old new status =
-    LeavesJust m end × Appends old new (line_of checked_line (state_of_moment m)) × (status ≡ 0)
-
--- The task is done, and this is its run. All but `apply` and `serve` leave what was there.
+-- The task is done, and this is its run. All but `apply` and `serve` leave what was there. A check found that the tables show the moment.
+-- The connections that came to a port were served, so many of them, and their turns led to the end.
 abbrev pub Done : Action → Moment → Place → Run → Type 0
-Done Init m end run = LeavesJust m end × Appends run.before run.after created_line × (run.status ≡ 0)
+Done Init m end run = LeavesJust m end × Appends run.before run.after (codes "created\n") × (run.status ≡ 0)
 Done (Apply batches) m end run =
-    AnswersText RunsAt batches.options.stop m end (run.given.text batches.path.now) run.before run.after run.status
+    AnswersAs (manner.Apply batches.options) m end (run.given.text batches.path.now) run.before run.after run.status
 Done (Rehearse batches) m end run =
-    LeavesJust m end × RehearsesText batches.options.stop m (run.given.text batches.path.now) run.before run.after run.status
-Done (Ask batches) m end run = LeavesJust m end × AsksText m (run.given.text batches.now) run.before run.after run.status
+    AnswersAs (manner.Rehearse batches.options) m end (run.given.text batches.path.now) run.before run.after run.status
+Done (Ask batches) m end run = AnswersAs manner.Ask m end (run.given.text batches.now) run.before run.after run.status
 Done Dump m end run = LeavesJust m end × Appends run.before run.after (dump_of (state_of_moment m)) × (run.status ≡ 0)
 Done (Load dump) m end run =
     LeavesJust m end × Appends run.before run.after (line_of loaded_line (state_of_moment m)) × (run.status ≡ 0)
-Done Check m end run = SaysChecked m end run.before run.after run.status
-Done (Serve service) m end run = Serving run.given.ports service.port service.count m end run.before run.after run.status
+Done Check m end run =
+    LeavesJust m end × Appends run.before run.after (line_of checked_line (state_of_moment m)) × (run.status ≡ 0)
+Done (Serve service) m end run =
+    (text : List ℕ) × SaysAttended run.given.ports service.port service.count (Works m) end text
+    × Appends run.before run.after text × (run.status ≡ 0)
 
 -- a front of a text is written, since the writer failed or memory ran out
 abbrev pub StopsIn : List ℕ → Failure → Option (List ℕ) → Option (List ℕ) → Type 0
@@ -240,16 +210,15 @@ StopsChecking m end failure Clean old new = LeavesJust m end
 
 -- It stops with this failure, and so much is written.
 abbrev pub StopsTask : Action → Moment → Place → Failure → Type 0 → Run → Type 0
-StopsTask Init m end failure Clean run = LeavesJust m end × StopsIn created_line failure run.before run.after
+StopsTask Init m end failure Clean run = LeavesJust m end × StopsIn (codes "created\n") failure run.before run.after
 StopsTask (Apply batches) m end failure Clean run =
-    StopsText RunsAt batches.options.stop m end failure (run.given.text batches.path.now) run.before run.after
+    StopsAs (manner.Apply batches.options) m end failure (run.given.text batches.path.now) run.before run.after
     × TellsLack run.given.lacks batches.path.now failure
 StopsTask (Rehearse batches) m end failure Clean run =
-    LeavesJust m end × StopsRehearsing batches.options.stop m failure (run.given.text batches.path.now) run.before run.after
+    StopsAs (manner.Rehearse batches.options) m end failure (run.given.text batches.path.now) run.before run.after
     × TellsLack run.given.lacks batches.path.now failure
 StopsTask (Ask batches) m end failure Clean run =
-    LeavesJust m end × StopsAsking m failure (run.given.text batches.now) run.before run.after
-    × TellsLack run.given.lacks batches.now failure
+    StopsAs manner.Ask m end failure (run.given.text batches.now) run.before run.after × TellsLack run.given.lacks batches.now failure
 StopsTask Dump m end failure Clean run = LeavesJust m end × StopsIn (dump_of (state_of_moment m)) failure run.before run.after
 StopsTask (Load dump) m end failure Clean run =
     LeavesJust m end × StopsIn (line_of loaded_line (state_of_moment m)) failure run.before run.after
@@ -284,7 +253,8 @@ module _ {S : Type 0} (g : Ghosts S) (was world : World S) where
   -- The tables were tested over the World, from a moment, and a line was written; or that stopped.
   abbrev pub EndsCheck : Moment → Option (List ℕ) → Option (List ℕ) → Result ℕ Failure → Type 0
   EndsCheck m old new r = MatchResult r
-      (λ status. EndsTask g was world m (λ end. SaysChecked m end old new status))
+      (λ status. EndsTask g was world m (λ end.
+      LeavesJust m end × Appends old new (line_of checked_line (state_of_moment m)) × (status ≡ 0)))
       (λ failure. EndsTask g was world m (λ end. StopsChecking m end failure (HasCleanDisk (store_of g world)) old new))
 
   -- A task was done over the World, from a moment, or it stopped; by its status.
@@ -358,7 +328,7 @@ GivesNoText failure = ⊥
 abbrev pub RefusesDump : Option (List ℕ) → Failure → Type 0
 RefusesDump text failure =
     IsOfDump failure
-    × IfSome text (λ bytes. (s : State) → IsHeld s → dump_of s ≡ bytes → length bytes ≤ 1073741824 → GivesNoText failure)
+    × IfSome text (λ bytes. (s : State) → IsHeld s → dump_of s ≡ bytes → length bytes ≤ LONGEST_TEXT → GivesNoText failure)
 
 -- why the dump of a task gives no world: its text does, or its file can't be opened
 abbrev pub RefusesTask : Given → Action → Failure → Type 0

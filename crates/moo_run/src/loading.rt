@@ -9,7 +9,7 @@ ghost use Rattle.moo_load.specs.OneState.{IsHeld};
 ghost use Rattle.moo_load.specs.RowsOf.{AreRowsOf};
 ghost use Rattle.moo_load.specs.declared.fault.LoadFault.TheVariants.{OutOfMemory};
 ghost use Rattle.moo_run.specs.Given.{texts_by};
-ghost use Rattle.moo_run.specs.Run.{IsDumpedAs, RefusesDump, TellsLack, FindsRows, ReadsFile, dump_word, is_load, reads_input};
+ghost use Rattle.moo_run.specs.Run.{RefusesDump, TellsLack, FindsRows, ReadsFile, dump_word, is_load, reads_input};
 
 use crate::host::BatchFiles;
 use crate::session::{Runs, Session, Streams};
@@ -91,7 +91,7 @@ fn rows_of<C: Eprint, R: Read + Drop>(
     ensures good { IfOk result (λ rows. IsGood rows.maps) }
     ensures limit { IfOk result (λ rows. rows.maps.head.seq < 2 ^ 63) }
     ensures numbered { IfOk result (λ rows. AreRowsOf (state_of rows.maps) rows.maps) }
-    ensures dumped { IfOk result (λ rows. IsDumpedAs (R.remaining text) (state_of rows.maps)) }
+    ensures dumped { IfOk result (λ rows. IfSome (R.remaining text) (λ bytes. dump_of (state_of rows.maps) ≡ bytes)) }
     ensures failure { IfErr result (RefusesDump (R.remaining text)) }
     ensures opened { IfErr result (λ failure. failure ≢ Failure.NoBatches) }
 {
@@ -113,7 +113,7 @@ pub(crate) fn read_world<C: Eprint, H: BatchFiles, R: Read + Drop>(
     ensures limit { IfOk result (λ rows. rows.maps.head.seq < 2 ^ 63) }
     ensures numbered { IfOk result (λ rows. AreRowsOf (state_of rows.maps) rows.maps) }
     ensures dumped { IfOk result (λ rows.
-        IsDumpedAs (texts_by (R.remaining input.old) (H.text host.now) dump.now) (state_of rows.maps)) }
+        IfSome (texts_by (R.remaining input.old) (H.text host.now) dump.now) (λ bytes. dump_of (state_of rows.maps) ≡ bytes)) }
     ensures failure { IfErr result (RefusesDump (texts_by (R.remaining input.old) (H.text host.now) dump.now)) }
     ensures lacks { IfErr result (TellsLack (H.lacks host.now) dump.now) }
     ensures input { bytes_eq dump.now (codes "-") ≡ false → input.new ≡ input.old }

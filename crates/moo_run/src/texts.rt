@@ -1,12 +1,12 @@
 //! What is done with a text of batches: they are run, rehearsed or asked.
 
-ghost use Rattle.std.specs.Prelude.{◌≡◌, ◌≢◌, false, codes, IfErr};
+ghost use Rattle.std.specs.Prelude.{◌≡◌, ◌≢◌, ◌==◌, false, codes, IfErr, if◌then◌else◌};
 ghost use Rattle.std.specs.Str.{bytes_eq};
 ghost use Rattle.moo_store.specs.Moment.{Moment};
 ghost use Rattle.moo_store.specs.Place.{Works};
 ghost use Rattle.moo_store.specs.Moves.{Stands};
 ghost use Rattle.moo_run.specs.Texts.{OpenedBy, LacksBy};
-ghost use Rattle.moo_run.specs.Run.{lost_status, course_status, changes_world, ComesOf, EndsTask, EndsText, TellsLack};
+ghost use Rattle.moo_run.specs.Run.{course_status, changes_world, ComesOf, EndsTask, EndsText, TellsLack};
 
 use crate::host::BatchFiles;
 use crate::session::{Runs, Session, Streams};
@@ -31,7 +31,7 @@ pub(crate) enum Manner {
 
 /// The status of a text with this tally.
 fn status_after(tally: Tally) -> u8
-    ensures { result ≡ lost_status tally.lost }
+    ensures { result ≡ (if tally.lost == 0 then 0 else 1) }
 {
     if tally.lost == 0 { 0 } else { 1 }
 }

@@ -12,7 +12,7 @@ use Rattle.moo_rows.specs.Maps.{Maps}
 use Rattle.moo_tables.proofs.SchemaLemmas.{one_schema}
 use Rattle.moo_tables_rows.{specs.declared.version.Version.{Version}, specs.declared.version.Version.TheVariants.{First, Second}, specs.Tables.{schema_of, no_schema}}
 use Rattle.moo_store.{specs.Moment.{Moment, AllCells, AreTreesOf, BecomesPresent, IsSparedMoment}, specs.OpeningRows.{AreMigrated}, proofs.Causes.{of_store, says_nothing}}
-use Rattle.moo_files.{specs.Contents.{HoldsSuch, HoldsMoment, HoldsEarlier, HasAnyTable, IsLeftBy}, specs.Causes.{HasCauseOver, IsDenied}, specs.Remains.{IsCleanRemains, KeepsSuch}, specs.Closing.{IsLeftOf, IsClosedFrom}, specs.declared.remains.Remains.{Remains}, specs.Stop.{AreNumbered}, specs.Opened.{Database as a_database}}
+use Rattle.moo_files.{specs.Contents.{HoldsSuch, HoldsMoment, HasAnyTable, HasEarlierTables, IsLeftBy}, specs.Causes.{HasCauseOr, StopsOver, IsDenied}, specs.Remains.{IsCleanRemains, KeepsSuch}, specs.Closing.{IsLeftOf, IsClosedFrom}, specs.declared.remains.Remains.{Remains}, specs.Stop.{AreNumbered}, specs.Opened.{Database as a_database}}
 use Rattle.moo_files.{proofs.OpenedLemmas.{over_more}, proofs.StopLemmas.{left_by_store, such_by_bytes}}
 use Rattle.moo_files.specs.declared.remains.Remains.TheVariants as remains
 use Rattle.moo_cli.specs.declared.task.Task.{Task}
@@ -91,11 +91,11 @@ fails_for path image rest run m holds (fault, says, reports) =
     let leaves = holds.such.1.2 in
     let shows = holds.such.1.3 in
     let Denied = IsDenied run.given.denies path in
-    let Cause = HasCauseOver (AreMigrated tables) Denied fault rest in
-    let earlier : AreMigrated tables → HoldsEarlier image = λ migrated. record { trees = holds.trees; holds = holds.holds; such = (tables.version, migrated.0, leaves.sound) } in (
+    let Cause = HasCauseOr (StopsOver (AreMigrated tables) fault) Denied fault rest in
+    let earlier : AreMigrated tables → HoldsSuch HasEarlierTables image = λ migrated. record { trees = holds.trees; holds = holds.holds; such = (tables.version, migrated.0, leaves.sound) } in (
       fault,
       of_store Cause tables m.rows fault shows holds.such.0 says,
-      over_more (AreMigrated tables) (HoldsEarlier image) Denied fault rest earlier (says_nothing Cause tables m.rows fault shows holds.such.0 says),
+      over_more (AreMigrated tables) (HoldsSuch HasEarlierTables image) Denied fault rest earlier (says_nothing Cause tables m.rows fault shows holds.such.0 says),
       reports,
     )
 

@@ -4,8 +4,6 @@ use Rattle.std.specs.Fmt.{decimal}
 use Rattle.std.specs.Io.KnownBytes.{Appends}
 use Rattle.sqlite.specs.declared.error.Error.TheVariants.{SqliteFailure}
 use Rattle.sqlite.specs.declared.error.ErrorCode.TheVariants as code
-use Rattle.moo_damage.specs.declared.kind.Kind.{Kind}
-use Rattle.moo_damage.specs.declared.kind.Key.{Key}
 use Rattle.moo_damage.specs.Words.{kind_text, key_text}
 use Rattle.moo_text.specs.declared.fault.TextFault.{TextFault}
 use Rattle.moo_text.specs.declared.fault.TextFault.TheVariants as text_fault
@@ -39,12 +37,6 @@ word_of Write = []
 word_of TooLong = codes "moo: input too long\n"
 word_of Port = codes "moo: cannot listen\n"
 word_of NoMemory = codes "moo: no memory\n"
-
-abbrev pub damaged_line : Kind → Key → List ℕ
-damaged_line kind key = codes "moo: damaged " ++ (kind_text kind ++ (codes " " ++ (key_text key ++ codes "\n")))
-
-abbrev pub not_a_dump_line : ℕ → List ℕ
-not_a_dump_line line = codes "moo: not a dump, line " ++ (decimal line ++ codes "\n")
 
 abbrev pub status_of : Failure → ℕ
 status_of Usage = 2
@@ -109,15 +101,14 @@ WritesLine line known old new status =
 -- The line of a failure is written with its status. If memory for the line of a damage is refused, that is said in its place.
 abbrev pub Reports : Failure → Option (List ℕ) → Option (List ℕ) → ℕ → Type 0
 Reports (Damaged kind key) old new status =
-    WritesLine (damaged_line kind key) 3 old new status ⊎ WritesLine (word_of NoMemory) (status_of NoMemory) old new status
+    WritesLine (codes "moo: damaged " ++ (kind_text kind ++ (codes " " ++ (key_text key ++ codes "\n")))) 3 old new status
+    ⊎ WritesLine (word_of NoMemory) (status_of NoMemory) old new status
 Reports (NotADump line) old new status =
-    WritesLine (not_a_dump_line line) 3 old new status ⊎ WritesLine (word_of NoMemory) (status_of NoMemory) old new status
+    WritesLine (codes "moo: not a dump, line " ++ (decimal line ++ codes "\n")) 3 old new status
+    ⊎ WritesLine (word_of NoMemory) (status_of NoMemory) old new status
 Reports failure old new status = WritesLine (word_of failure) (status_of failure) old new status
 
 -- ---- what is done
-
-abbrev pub created_line : List ℕ
-created_line = codes "created\n"
 
 abbrev pub loaded_line : ℕ → ℕ → List ℕ
 loaded_line seq objects = codes "loaded seq " ++ (decimal seq ++ (codes " objects " ++ (decimal objects ++ codes "\n")))

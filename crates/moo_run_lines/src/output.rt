@@ -1,8 +1,10 @@
 //! What is written of a failure, and the lines with numbers.
 
-ghost use Rattle.std.specs.Prelude.{MatchResult, ◌≡◌, IfOk};
+ghost use Rattle.std.specs.Prelude.{MatchResult, ◌≡◌, ◌++◌, IfOk, codes};
 ghost use Rattle.moo_run_lines.specs.Lines.{WritesLine, Reports, word_of, status_of};
-ghost use Rattle.moo_run_lines.specs.Lines.{checked_line, damaged_line, loaded_line, not_a_dump_line};
+ghost use Rattle.moo_run_lines.specs.Lines.{checked_line, loaded_line};
+ghost use Rattle.std.specs.Fmt.{decimal};
+ghost use Rattle.moo_damage.specs.Words.{kind_text, key_text};
 
 use crate::failure::Failure;
 use moo_damage::{Key, Kind};
@@ -21,7 +23,8 @@ pub fn checked_text(alloc: Global, seq: u64, objects: u64) -> Result<String, All
 
 /// The line of a damage.
 fn damaged_text(alloc: Global, kind: Kind, key: Key) -> Result<String, AllocError>
-    ensures { IfOk result (λ text. text.bytes.items ≡ damaged_line kind key) }
+    ensures { IfOk result (λ text. text.bytes.items ≡
+        codes "moo: damaged " ++ (kind_text kind ++ (codes " " ++ (key_text key ++ codes "\n")))) }
 {
     format!(in alloc; "moo: damaged {kind} {key}\n")
 }
@@ -35,7 +38,7 @@ pub fn loaded_text(alloc: Global, seq: u64, objects: u64) -> Result<String, Allo
 
 /// The line of a text that isn't a dump.
 fn not_a_dump_text(alloc: Global, line: u64) -> Result<String, AllocError>
-    ensures { IfOk result (λ text. text.bytes.items ≡ not_a_dump_line line) }
+    ensures { IfOk result (λ text. text.bytes.items ≡ codes "moo: not a dump, line " ++ (decimal line ++ codes "\n")) }
 {
     format!(in alloc; "moo: not a dump, line {line}\n")
 }

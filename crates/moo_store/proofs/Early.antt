@@ -1,5 +1,6 @@
 -- How far a text was answered that stops at the first answer that isn't `accepted`.
 use Rattle.moo_store.{proofs.Words.{◌≡◌, ◌&&◌, ◌∙◌, not, ℕ, Bool, true, false, List, [], ◌∷◌, ◌++◌, Option, refl, sym, arith, items, Side, Answer, Batch, says_accepted, stops_after, AreAccepted, EndAtFirst, EndsEarly}, proofs.Going.{Going, gives_front}}
+use Rattle.moo_text.specs.declared.lines.TheConstants.{LONGEST_TEXT}
 
 -- one answer more
 pub accepted_on : (answers : List Answer) (a : Answer) → AreAccepted answers → says_accepted a ≡ true → AreAccepted (answers ++ a ∷ [])
@@ -37,7 +38,7 @@ module _ {A : Type 0} (P : A → Batch → Answer → A → Type 0) (old : A) (t
   ends_early now side written b l p first = record {
     given = p.read.given;
     ended = side.ended;
-    front = gives_front text 1073741824 side p.read.given p.read.gives;
+    front = gives_front text LONGEST_TEXT side p.read.given p.read.gives;
     short = omega (arith, p.read.room);
     done = p.done;
     whole = λ rest none. (items (side.ahead ++ rest), p.read.holds rest none);

@@ -1,5 +1,6 @@
 -- How far the answering of a text has come, whatever answers its batches.
 use Rattle.moo_store.proofs.Words.{◌≡◌, ◌≢◌, ◌<◌, inl, inr, ℕ, ◌+◌, ◌≤◌, Bool, true, false, cond, length, List, [], ◌∷◌, ◌++◌, take, append_assoc, Option, Some, None, zero-add, refl, sym, ap, subst, ◌∙◌, arith, ◌⊎◌, append-nil, Batch, items, Side, untouched, IsOver, Next, Answer, TextFault, answers_text, is_batch, is_lost_answer, Turn, Turns, GivesFrontOrAll, Completes, Halts}
+use Rattle.moo_text.specs.declared.lines.TheConstants.{LONGEST_TEXT}
 use Rattle.std.{specs.List.{count_by}, proofs.KnownBytes.{Appends-nil, Appends-trans}, specs.Io.KnownBytes.{Appends, Consumes, IsAtEnd}, proofs.lemmas.List.Sums.{sum_by-append}, proofs.lemmas.Grind.{flat_map-append}}
 use Rattle.moo_text.{specs.Replies.{answer_text}, specs.Given.{ReaderGives, Explains, BreaksOff, ReadsNext, ReadsItems}, specs.declared.next.Next.TheVariants.{End}, specs.declared.fault.TextFault.TheVariants.{Read, Write, OutOfMemory, Long}, proofs.Joining.{items_none, items_then, items_end, whole_items, all_given, items_stop}}
 
@@ -32,7 +33,7 @@ gives_front text room c given g = by text c.left g.known (g.at_end (λ e. absurd
     by (Some bytes) (Some rest) known end = (rest, known, end)
 
 -- how much was given where reading was stopped
-pub counted : (count : ℕ) (fault : TextFault) → Explains 1073741824 count fault → (fault ≡ Long → count ≡ 1073741825) × (fault ≢ Long → count ≤ 1073741824)
+pub counted : (count : ℕ) (fault : TextFault) → Explains LONGEST_TEXT count fault → (fault ≡ Long → count ≡ LONGEST_TEXT + 1) × (fault ≢ Long → count ≤ LONGEST_TEXT)
 counted count Write e = absurd e
 counted count Long e = ((λ is. e), λ other. absurd (other refl))
 counted count fault e = ((λ is. absurd cc), λ other. e)
@@ -41,17 +42,17 @@ module _ {A : Type 0} (P : A → Batch → Answer → A → Type 0) (old : A) (t
   -- these items are read and answered, and their answers are written
   pub record Going (now : A) (side : Side) (written : Option (List ℕ)) (batches lost : ℕ) : Type 0 where
     pub done : List Next
-    pub read : ReadsItems (untouched text 1073741824) side done
+    pub read : ReadsItems (untouched text LONGEST_TEXT) side done
     pub answers : List Answer
     pub turns : Turns P old done answers now
     pub wrote : Appends before written (answers_text answers)
     pub batches_are : batches ≡ count_by is_batch answers
     pub lost_are : lost ≡ count_by is_lost_answer answers
 
-  abbrev pub going_starts : (side : Side) (b l : ℕ) → side ≡ untouched text 1073741824 → b ≡ 0 → l ≡ 0 → Going old side before b l
+  abbrev pub going_starts : (side : Side) (b l : ℕ) → side ≡ untouched text LONGEST_TEXT → b ≡ 0 → l ≡ 0 → Going old side before b l
   going_starts side b l is is_b is_l = record {
     done = [];
-    read = subst (λ s. ReadsItems (untouched text 1073741824) s []) (sym is) (items_none (untouched text 1073741824));
+    read = subst (λ s. ReadsItems (untouched text LONGEST_TEXT) s []) (sym is) (items_none (untouched text LONGEST_TEXT));
     answers = [];
     turns = refl;
     wrote = Appends-nil before;
@@ -64,7 +65,7 @@ module _ {A : Type 0} (P : A → Batch → Answer → A → Type 0) (old : A) (t
       → b2 ≡ b + cond (is_batch a) 1 0 → l2 ≡ l + cond (is_lost_answer a) 1 0 → Going next more longer b2 l2
   going_on now next side more written longer b l b2 l2 item a p took one wrote is_b is_l = record {
     done = p.done ++ item ∷ [];
-    read = items_then (untouched text 1073741824) side more p.done item p.read took (not_end P now next item a one);
+    read = items_then (untouched text LONGEST_TEXT) side more p.done item p.read took (not_end P now next item a one);
     answers = p.answers ++ a ∷ [];
     turns = turns-push P old now next p.done p.answers item a p.turns one;
     wrote = subst (Appends before longer) (ap (λ (t : List ℕ). answers_text p.answers ++ t) (sym (append-nil (answer_text a))) ∙ sym (flat_map-append answer_text p.answers (a ∷ []))) (Appends-trans before written longer (answers_text p.answers) (answer_text a) p.wrote wrote);
@@ -75,13 +76,13 @@ module _ {A : Type 0} (P : A → Batch → Answer → A → Type 0) (old : A) (t
   -- at the end of the text
   abbrev pub going_through : (now : A) (side more : Side) (written : Option (List ℕ)) (b l : ℕ) → Going now side written b l → ReadsNext side more End → IsOver more → Completes P old now text before written b l
   going_through now side more written b l p took over =
-      let all = items_end (untouched text 1073741824) side more p.done p.read took in
+      let all = items_end (untouched text LONGEST_TEXT) side more p.done p.read took in
       record {
         given = all.given;
-        all = all_given text 1073741824 more all.given all.gives over.0;
+        all = all_given text LONGEST_TEXT more all.given all.gives over.0;
         short = omega (arith, all.room);
         answers = p.answers;
-        turns = subst (λ is. Turns P old is p.answers now) (sym (whole_items text 1073741824 more p.done all)) p.turns;
+        turns = subst (λ is. Turns P old is p.answers now) (sym (whole_items text LONGEST_TEXT more p.done all)) p.turns;
         wrote = p.wrote;
         batches_are = p.batches_are;
         lost_are = p.lost_are;
@@ -90,11 +91,11 @@ module _ {A : Type 0} (P : A → Batch → Answer → A → Type 0) (old : A) (t
   -- a fault of reading
   abbrev pub halts_before : (now : A) (side more : Side) (written : Option (List ℕ)) (b l : ℕ) (fault : TextFault) → Going now side written b l → BreaksOff side more fault → Halts P old now text before written fault
   halts_before now side more written b l fault p broke =
-      let stop = items_stop text 1073741824 side more p.done fault p.read broke in
+      let stop = items_stop text LONGEST_TEXT side more p.done fault p.read broke in
       record {
         given = stop.given;
         ended = more.ended;
-        front = gives_front text 1073741824 more stop.given stop.gives;
+        front = gives_front text LONGEST_TEXT more stop.given stop.gives;
         long = counted (length stop.given) fault stop.count;
         done = p.done;
         hand = [];
@@ -116,11 +117,11 @@ module _ {A : Type 0} (P : A → Batch → Answer → A → Type 0) (old : A) (t
       → Going now side written b l → ReadsNext side more item → Turn P now item a next → Appends written longer (take count (answer_text a)) → (fault ≡ Write) ⊎ (fault ≡ OutOfMemory) → (fault ≢ Write → count ≡ 0)
       → Halts P old next text before longer fault
   halts_inside now next side more written longer b l fault item a count p took one wrote writing cut =
-      let read = items_then (untouched text 1073741824) side more p.done item p.read took (not_end P now next item a one) in
+      let read = items_then (untouched text LONGEST_TEXT) side more p.done item p.read took (not_end P now next item a one) in
       record {
         given = read.given;
         ended = more.ended;
-        front = gives_front text 1073741824 more read.given read.gives;
+        front = gives_front text LONGEST_TEXT more read.given read.gives;
         long = ((λ is. not_other fault Long writing (λ e. cc) (λ e. cc) is), λ other. omega (arith, read.room));
         done = p.done;
         hand = item ∷ [];
@@ -144,6 +145,6 @@ pub falls_at_turn : {A : Type 0} (P : A → Batch → Answer → A → Type 0) (
 falls_at_turn P now next item a room less one falls = falls (not_end P now next item a one)
 
 -- a count of answers stays within the bytes that were taken
-pub one_more : (b : Bool) (n m room less : ℕ) → n + room ≤ 1073741824 → less < room → m ≡ n + cond b 1 0 → m + less ≤ 1073741824
+pub one_more : (b : Bool) (n m room less : ℕ) → n + room ≤ LONGEST_TEXT → less < room → m ≡ n + cond b 1 0 → m + less ≤ LONGEST_TEXT
 one_more true n m room less low falls is = omega (arith, low, falls, is)
 one_more false n m room less low falls is = omega (arith, low, falls, is)

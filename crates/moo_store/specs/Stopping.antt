@@ -4,6 +4,7 @@ use Rattle.std.specs.List.{AllByRecursion, count_by}
 use Rattle.std.specs.Io.KnownBytes.{Appends}
 use Rattle.moo_world.specs.declared.call.Batch.{Batch}
 use Rattle.moo_text.specs.Items.{items}
+use Rattle.moo_text.specs.declared.lines.TheConstants.{LONGEST_TEXT}
 use Rattle.moo_text.specs.declared.next.Next.{Next}
 use Rattle.moo_text.specs.declared.reply.Answer.{Answer}
 use Rattle.moo_text.specs.declared.reply.Answer.TheVariants as answer
@@ -64,7 +65,7 @@ pub record EndsEarly {A : Type 0} (step : A → Batch → Answer → A → Type 
   pub given : List ℕ
   pub ended : Bool
   pub front : GivesFrontOrAll text ended given
-  pub short : length given ≤ 1073741824
+  pub short : length given ≤ LONGEST_TEXT
   pub done : List Next
   -- they come first, whatever the reader may give after what it gave
   pub whole : (rest : List ℕ) → (ended ≡ true → rest ≡ []) → (left : List Next) × (items (given ++ rest) ≡ done ++ left)

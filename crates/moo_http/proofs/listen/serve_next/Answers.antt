@@ -1,4 +1,4 @@
-use Rattle.moo_http.{proofs.Words.{◌≡◌, ◌∙◌, Bool, true, false, true≢false, inl, inr, refl, sym, subst, IsLeftUnread, Visited, Visit, MovesBy, Place, traffic_of}, proofs.Going.{moves_as, moves_none, still_none}, proofs.Turns.{unvisited}}
+use Rattle.moo_http.{proofs.Words.{◌≡◌, ◌∙◌, Bool, true, false, true≢false, inl, inr, refl, sym, subst, HasFailed, ◌⊎◌, Visited, Visit, MovesBy, Place, traffic_of}, proofs.Going.{moves_as, moves_none, still_none}, proofs.Turns.{unvisited}}
 use Rattle.moo_http.proofs.listen.serve_next.Goals as goal
 
 by_test : {X : Type 0} (b : Bool) → (b ≡ true → X) → (b ≡ false → X) → X
@@ -11,7 +11,7 @@ returns-clause-turn g c =
     let opened = c.in-Some.connection in
     let was = c.args.world.now in
     let fails = g.A.Reader.Incoming.fails in
-    let Seen = λ (from to : Place). Visited (IsLeftUnread fails opened served.new.connection) served.result from to (traffic_of g.A.Reader.Read g.A.Writer.Write opened served.new.connection) in
+    let Seen = λ (from to : Place). Visited (HasFailed fails served.new.connection.reader ⊎ (opened.is_limited ≡ false)) served.result from to (traffic_of g.A.Reader.Read g.A.Writer.Write opened served.new.connection) in
     let Turn = λ (from to : Place). Visit g.A.Arrivals g.A.Reader.Read fails g.A.Writer.Write served.result c.args.arrivals.now from c.close.new.self to in
     by_test opened.is_limited
     (λ is. moves_as g.S.Store was served.new.world Seen Turn
@@ -20,7 +20,7 @@ returns-clause-turn g c =
     let still = served.ensures.unlimited is in
     subst (λ world. MovesBy g.S.Store was world Turn) (sym still.1)
     (moves_none g.S.Store was Turn (λ from at.
-    let visit : Seen from from = rw (still.0, still.2) (unvisited (IsLeftUnread fails opened opened) from (traffic_of g.A.Reader.Read g.A.Writer.Write opened opened) (inr is) refl) in
+    let visit : Seen from from = rw (still.0, still.2) (unvisited (HasFailed fails opened.reader ⊎ (opened.is_limited ≡ false)) from (traffic_of g.A.Reader.Read g.A.Writer.Write opened opened) (inr is) refl) in
     inl (opened, served.new.connection, c.accept.new.self, c.in-Some.ensures, visit, c.close.ensures, (λ none. (still.0, refl, still.2))))))
 
 -- if no connection came the World is where it was

@@ -1,21 +1,21 @@
-use Rattle.moo_http.{proofs.Words.{Ok, refl, subst, Takes, traffic, AnswersAsked, Exchanged}, proofs.Going.{moves_as, moves_none, still_none}, proofs.Serving.{unread_at, unread_cause, cause_none, nothing, served}}
+use Rattle.moo_http.{proofs.Words.{Ok, refl, subst, Takes, Traffic, AnswersAsked, Exchanged}, proofs.Going.{moves_as, moves_none, still_none}, proofs.Serving.{unread_at, unread_cause, cause_none, nothing, served}}
 use Rattle.moo_http.proofs.serve.serve_one.Goals as goal
 
 pub returns-in_err-read_request-clause-served : goal.returns-in_err-read_request-clause-served
 returns-in_err-read_request-clause-served g c =
-    let bytes = traffic g.R.Read g.W.Write c.args.reader.now c.read_request.new.reader c.args.writer.now c.args.writer.now in
+    let bytes : Traffic = record { left = g.R.Read.remaining c.args.reader.now; rest = g.R.Read.remaining c.read_request.new.reader; before = g.W.Write.contents c.args.writer.now; after = g.W.Write.contents c.args.writer.now } in
     moves_none g.S.Store c.args.world.now (λ from to. Exchanged c.from_residual.result from to bytes)
     (λ from at. unread_at c.from_residual.result c.in_err-read_request.field-0.0 from bytes c.from_residual.ensures.1 refl)
 
 pub returns-in-Nothing-clause-served : goal.returns-in-Nothing-clause-served
 returns-in-Nothing-clause-served g c =
-    let bytes = traffic g.R.Read g.W.Write c.args.reader.now c.read_request.new.reader c.args.writer.now c.args.writer.now in
+    let bytes : Traffic = record { left = g.R.Read.remaining c.args.reader.now; rest = g.R.Read.remaining c.read_request.new.reader; before = g.W.Write.contents c.args.writer.now; after = g.W.Write.contents c.args.writer.now } in
     let takes = subst (λ r. Takes (g.R.Read.remaining c.args.reader.now) (g.R.Read.remaining c.read_request.new.reader) r) c.in-Nothing.is c.in_ok-read_request.ensures.takes in
     moves_none g.S.Store c.args.world.now (λ from to. Exchanged (Ok tt) from to bytes) (λ from at. nothing from bytes tt refl takes)
 
 pub returns-in-Request-clause-served : goal.returns-in-Request-clause-served
 returns-in-Request-clause-served g c =
-    let bytes = traffic g.R.Read g.W.Write c.args.reader.now c.read_request.new.reader c.args.writer.now c.serve_asked.new.writer in
+    let bytes : Traffic = record { left = g.R.Read.remaining c.args.reader.now; rest = g.R.Read.remaining c.read_request.new.reader; before = g.W.Write.contents c.args.writer.now; after = g.W.Write.contents c.serve_asked.new.writer } in
     let asks = c.in-Request in
     let takes = subst (λ r. Takes (g.R.Read.remaining c.args.reader.now) (g.R.Read.remaining c.read_request.new.reader) r) c.in-Request.is c.in_ok-read_request.ensures.takes in
     moves_as g.S.Store c.args.world.now c.serve_asked.new.world (λ from to. AnswersAsked asks.is_head asks.asks_why asks.asked c.serve_asked.result from to bytes.before bytes.after)

@@ -26,7 +26,7 @@ returns-in-Apply g c = record {
 pub returns-in-Rehearse : goal.returns-in-Rehearse
 returns-in-Rehearse g c = record {
   ends = λ m stands.
-      rw c.in-Rehearse.is (by_either _ _ _ _ c.answer_batches-in-Rehearse.result (λ status it. it) (λ failure it. ends_map g.B.Store c.args.world.now c.answer_batches-in-Rehearse.new.world m _ _ (λ end stops. (stops.0, stops.1, it.1)) it.0)
+      rw c.in-Rehearse.is (by_either _ _ _ _ c.answer_batches-in-Rehearse.result (λ status it. it) (λ failure it. ends_map g.B.Store c.args.world.now c.answer_batches-in-Rehearse.new.world m _ _ (λ end stops. (stops, it.1)) it.0)
       (with_failure c.answer_batches-in-Rehearse.result _ _ _ (c.answer_batches-in-Rehearse.ensures.answers c.open_batches-text-in-Rehearse.ensures.opened m stands) (c.answer_batches-in-Rehearse.ensures.lacks c.open_batches-text-in-Rehearse.ensures.lacks)));
   shown = rw c.in-Rehearse.is (λ checks. absurd (let bad = checks in cc));
   rests = λ other. c.answer_batches-in-Rehearse.ensures.rests;
@@ -37,7 +37,7 @@ returns-in-Rehearse g c = record {
 pub returns-in-Ask : goal.returns-in-Ask
 returns-in-Ask g c = record {
   ends = λ m stands.
-      rw c.in-Ask.is (by_either _ _ _ _ c.answer_batches-in-Ask.result (λ status it. it) (λ failure it. ends_map g.B.Store c.args.world.now c.answer_batches-in-Ask.new.world m _ _ (λ end stops. (stops.0, stops.1, it.1)) it.0)
+      rw c.in-Ask.is (by_either _ _ _ _ c.answer_batches-in-Ask.result (λ status it. it) (λ failure it. ends_map g.B.Store c.args.world.now c.answer_batches-in-Ask.new.world m _ _ (λ end stops. (stops, it.1)) it.0)
       (with_failure c.answer_batches-in-Ask.result _ _ _ (c.answer_batches-in-Ask.ensures.answers c.open_batches-text-in-Ask.ensures.opened m stands) (c.answer_batches-in-Ask.ensures.lacks c.open_batches-text-in-Ask.ensures.lacks)));
   shown = rw c.in-Ask.is (λ checks. absurd (let bad = checks in cc));
   rests = λ other. c.answer_batches-in-Ask.ensures.rests;

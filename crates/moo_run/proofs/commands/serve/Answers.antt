@@ -1,6 +1,6 @@
-use Rattle.moo_run.{proofs.Words.{◌≡◌, inl, inr, ℕ, List, Option, refl, Ok, Err, Moment, Place, Works, service_failure, StopsServing, Failure, attended}, proofs.Tasks.{moved, ends_map}}
+use Rattle.moo_run.{proofs.Words.{◌≡◌, inl, inr, ℕ, List, Option, refl, Ok, Err, Moment, Place, Works, service_failure, StopsServing, Failure}, proofs.Tasks.{moved, ends_map}}
 use Rattle.moo_run.proofs.commands.serve.Goals as goal
-use Rattle.moo_http.{proofs.Leading.{leads_start, serves_lead_to}, specs.Turns.{Attendance, ServesOn}, specs.declared.service.ServiceFault.{ServiceFault}}
+use Rattle.moo_http.{proofs.Leading.{leads_start, serves_lead_to}, specs.Turns.{Attendance, ServesOn, attended_between}, specs.declared.service.ServiceFault.{ServiceFault}}
 use Rattle.moo_http.specs.declared.service.ServiceFault.TheVariants as service_fault
 
 -- what stops the service, by its fault
@@ -18,7 +18,7 @@ returns-in-Ok-clause-serves g c m stands =
 
 pub returns-in-Err-clause-serves : goal.returns-in-Err-clause-serves
 returns-in-Err-clause-serves g c m stands =
-    let between = attended g.S.Host.Ports g.S.Host.Source.Arrivals g.S.Host.Source.Reader.Read g.S.Host.Source.Reader.Incoming.fails g.S.Host.Source.Writer.Write c.args.session.now.host c.serve_port.new.ports in
+    let between = attended_between g.S.Host.Source.Arrivals g.S.Host.Source.Reader.Read g.S.Host.Source.Reader.Incoming.fails g.S.Host.Source.Writer.Write g.S.Host.Ports c.args.session.now.host c.serve_port.new.ports in
     ends_map g.B.Store c.args.world.now c.serve_port.new.world m _ _
     (λ end it. stopped between c.args.service.port c.args.service.count m end c.in-Err.fault c.from.result (g.S.Output.Write.contents c.args.session.now.output) (g.S.Output.Write.contents c.serve_port.new.output) c.from.ensures it)
     (moved g.B.Store c.args.world.now c.serve_port.new.world m _ (λ to it. serves_lead_to m g.S.Host.Source.Arrivals g.S.Host.Source.Reader.Read g.S.Host.Source.Reader.Incoming.fails g.S.Host.Source.Writer.Write g.S.Host.Ports c.args.session.now.host c.serve_port.new.ports (Err c.in-Err.fault) c.args.service.port c.args.service.count (Works m) to (g.S.Output.Write.contents c.args.session.now.output) (g.S.Output.Write.contents c.serve_port.new.output) it (leads_start m)) stands c.in-Err.ensures.serves)

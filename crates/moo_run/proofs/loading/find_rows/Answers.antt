@@ -1,4 +1,4 @@
-use Rattle.moo_run.{proofs.Words.{refl, true≢false, ◌∙◌, sym, opening_maps, state_of, given_to, opening_maps}, proofs.Beginning.{begins_opening, begins_dumped, numbered_opening, numbered_dumped, held_rows, refuses_dump, reads_dump, keeps_input}}
+use Rattle.moo_run.{proofs.Words.{true≢false, ◌∙◌, sym, given_to}, proofs.Beginning.{begins_opening, begins_dumped, held_rows, refuses_dump, reads_dump, keeps_input}}
 use Rattle.moo_run.proofs.loading.find_rows.Goals as goal
 use Rattle.moo_world.proofs.Shown.OpeningRows.{opening-good}
 
@@ -11,7 +11,6 @@ returns-in_default-clause-finds g c =
     record {
       good = opening-good;
       world = begins_opening c.args.task.action given c.in_default.ensures;
-      numbers = numbered_opening c.args.task.action opening_maps c.in_default.ensures refl;
     }
 
 pub returns-in-Ok-clause-finds : goal.returns-in-Ok-clause-finds
@@ -20,8 +19,7 @@ returns-in-Ok-clause-finds g c =
     let rows = c.in-Ok.rows.maps in
     record {
       good = c.in-Ok.ensures.good;
-      world = begins_dumped c.args.task.action given c.in-Some.dump.now (state_of rows) c.in-Some.ensures.0 c.in-Some.ensures.1 c.in-Ok.ensures.dumped (held_rows rows c.in-Ok.ensures.good c.in-Ok.ensures.limit);
-      numbers = numbered_dumped c.args.task.action rows c.in-Some.ensures.0 c.in-Ok.ensures.numbered;
+      world = begins_dumped c.args.task.action given c.in-Some.dump.now rows c.in-Some.ensures.0 c.in-Some.ensures.1 c.in-Ok.ensures.dumped (held_rows rows c.in-Ok.ensures.good c.in-Ok.ensures.limit) c.in-Ok.ensures.numbered;
     }
 
 pub returns-in-Err-clause-finds : goal.returns-in-Err-clause-finds
