@@ -7,7 +7,7 @@ when_ok (Ok x) e p = p
 when_ok (Err x) e p = absurd cc
 
 -- the number of an accepted batch is one that the tables hold
-low_after : (seq : ℕ) (ran : Ran) (answers : List Value) (t : State) → seq < 9223372036854775807 → verdict_of seq ran ≡ Accepted answers t → t.seq < 9223372036854775808
+low_after : (seq : ℕ) (ran : Ran) (answers : List Value) (t : State) → seq < last_seq → verdict_of seq ran ≡ Accepted answers t → t.seq < 9223372036854775808
 low_after seq (Through vs w) answers t low e = let next : seq + 1 ≡ t.seq = ap (λ v. elim v [ Accepted vs u ↦ u.seq | Refused k code ↦ 0 | NoRoom k ↦ 0 | Stale n ↦ 0 ]) e in omega (arith, low, next)
 low_after seq (FailedAt k code) answers t low e = absurd cc
 low_after seq (FullAt k) answers t low e = absurd cc
