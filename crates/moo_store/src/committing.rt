@@ -8,7 +8,10 @@ use moo_tables::{CellChanges, commit_changes};
 use sqlite::{Alter, Connection, Error};
 
 /// Commits the printed changes of rows in one transaction, all or nothing.
-pub(crate) fn commit_cells<S: Alter>(conn: &mut Connection<S>, cells: &CellChanges) -> Result<(), Error>
+pub(crate) fn commit_cells<S: Alter>(
+    conn: &mut Connection<S>,
+    cells: &CellChanges,
+) -> Result<(), Error>
     requires limit { cells.now.head.seq < 2 ^ 63 }
     requires outside { (state S.Store conn.old).in_transaction ≡ false }
     ensures outside { (state S.Store conn.new).in_transaction ≡ false }

@@ -13,7 +13,10 @@ use std::alloc::Global;
 
 /// The rows that the tables of a connection show. Tables of an earlier version are migrated to the present one, once they are found
 /// whole.
-pub(crate) fn open_rows<S: Alter>(alloc: Global, conn: &mut Connection<S>) -> Result<Flat, StoreFault>
+pub(crate) fn open_rows<S: Alter>(
+    alloc: Global,
+    conn: &mut Connection<S>,
+) -> Result<Flat, StoreFault>
     requires outside { (state S.Store conn.old).in_transaction ≡ false }
     ensures outside { (state S.Store conn.new).in_transaction ≡ false }
     ensures brings { Brings S.Store conn.old conn.new result }
