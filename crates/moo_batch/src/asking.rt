@@ -47,7 +47,7 @@ fn may_be_asked(calls: &ValueList) -> Result<(), Reason>
 }
 
 /// Keeps the calls as a petition of the programmer's.
-fn ask<R: Rows>(rows: &mut R, programmer: ObjNo, calls: ValueList) -> Result<Value, Fault>
+fn add_petition<R: Rows>(rows: &mut R, programmer: ObjNo, calls: ValueList) -> Result<Value, Fault>
     requires good { IsGood (R.held rows.old).maps }
     requires fit { petition_fits (record { who = programmer; calls = calls }) ≡ true }
     ensures reaches { Reaches (petition_filed (state_in (R.held rows.old)) programmer calls) (R.held rows.new) result }
@@ -89,5 +89,5 @@ pub(crate) fn petition<R: Rows>(
     let calls = one_list(args)?;
     may_be_asked(calls)?;
     let calls = calls.clone()?;
-    ask(rows, programmer, calls)
+    add_petition(rows, programmer, calls)
 }

@@ -23,7 +23,7 @@ use moo_world::ZERO;
 use std::alloc::Global;
 
 /// One call that a petition holds, by the wizard who grants it. E_INVARG if it names no call on the world.
-fn held_step<R: Rows>(
+fn run_petitioned_call<R: Rows>(
     rows: &mut R,
     alloc: Global,
     wizard: ObjNo,
@@ -52,7 +52,7 @@ fn held_at(place: u32, fault: Fault) -> Fault
 
 /// The calls that a petition holds, one after another, up to the first that isn't done: those before it have changed the rows then. None
 /// is made once the rows say that no more are to be made.
-fn held_steps<R: Rows>(
+fn run_petitioned_calls<R: Rows>(
     rows: &mut R,
     alloc: Global,
     wizard: ObjNo,
@@ -69,7 +69,7 @@ fn held_steps<R: Rows>(
         if !rows.may_call() {
             return Err(Fault::OutOfMemory);
         }
-        match held_step(rows, alloc, wizard, held) {
+        match run_petitioned_call(rows, alloc, wizard, held) {
             Ok(_done) => {}
             Err(fault) => return Err(held_at(place, fault)),
         }
@@ -103,5 +103,5 @@ pub(crate) fn grant<R: Rows>(
     };
     let row = row.copy(alloc)?;
     rows.remove_petition(id)?;
-    held_steps(rows, alloc, programmer, row.calls.items())
+    run_petitioned_calls(rows, alloc, programmer, row.calls.items())
 }

@@ -137,7 +137,7 @@ fn is_due(at: Option<u64>, seq: u64) -> bool
 }
 
 /// The changes of a batch without calls, on any rows with this head: the batch is counted. They take no memory.
-fn counted(alloc: Global, head: Head) -> Changes
+fn changes_without_calls(alloc: Global, head: Head) -> Changes
     requires room { head.seq < LAST_SEQ }
     ensures { (t : Maps) → AreChanges t (record t { head = record head { seq = head.seq + 1 } }) result }
 {
@@ -155,7 +155,7 @@ fn counted(alloc: Global, head: Head) -> Changes
 
 /// The verdict on a batch whose calls stopped, which left these rows over those that it was judged on. The witness sees a refusal, and
 /// ticks that are spent.
-fn stopped<B: Rows, R: Rows, W: Witness>(
+fn verdict_of_stop<B: Rows, R: Rows, W: Witness>(
     alloc: Global,
     base: &B,
     rows: &R,
@@ -230,7 +230,7 @@ pub fn judge<R: Rows, W: Witness>(
     if calls.is_empty() {
         return Verdict::Accepted {
             answers: Answers::from_vec(Vec::new(alloc)),
-            changes: counted(alloc, head),
+            changes: changes_without_calls(alloc, head),
         };
     }
     let ticks = witness.ticks();
@@ -242,7 +242,7 @@ pub fn judge<R: Rows, W: Witness>(
     leave_ticks(&draft, ticks, witness);
     let answers = match ran {
         Ok(answers) => answers,
-        Err(stop) => return stopped(alloc, rows, &draft, batch, stop, witness),
+        Err(stop) => return verdict_of_stop(alloc, rows, &draft, batch, stop, witness),
     };
     let mut next = draft.head();
     next.seq = head.seq + 1;

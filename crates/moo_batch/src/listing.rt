@@ -19,7 +19,7 @@ use moo_world::list_of;
 use std::alloc::{AllocError, Global};
 
 /// A petition as it is listed: its number, who asks, and the calls.
-fn listed(alloc: Global, id: PetitionId, row: &PetitionRow) -> Result<Value, AllocError>
+fn value_of_petition(alloc: Global, id: PetitionId, row: &PetitionRow) -> Result<Value, AllocError>
     ensures { IfOk result (λ v. v ≡ listed (id, row.now)) }
 {
     let number = Value::Int(i64::from(id.0));
@@ -47,7 +47,7 @@ fn all_listed<R: Rows>(
     let mut found = Vec::new(alloc);
     for (id, row) in each_petition(rows) {
         if is_listed(row, all, programmer) {
-            found.push(listed(alloc, id, row)?)?;
+            found.push(value_of_petition(alloc, id, row)?)?;
         }
     }
     Ok(found)

@@ -32,5 +32,5 @@ pub fn change_row<R: Rows>(
         Some(row) => row.copy(alloc)?,
         None => unreachable!(),
     };
-    rows.put_object(x, change.applied(row))
+    rows.put_object(x, change.apply_to(row))
 }

@@ -58,7 +58,7 @@ fn ticks_arg<'a>(alloc: Global) -> Arg<'a>
 }
 
 /// A command with what help says of it and no arguments yet.
-fn described<'a>(alloc: Global, name: &'a str, about: &'a str, more: &'a str) -> Command<'a>
+fn new_command<'a>(alloc: Global, name: &'a str, about: &'a str, more: &'a str) -> Command<'a>
     ensures shape { app_of result ≡ new_app name.entry.now }
     ensures local { (fields_of result).has_globals ≡ false }
 {
@@ -74,7 +74,7 @@ fn file_command<'a>(
     ensures shape { IfOk result (λ command. app_of command ≡ file_app name.entry.now) }
     ensures local { IfOk result (λ command. (fields_of command).has_globals ≡ false) }
 {
-    described(alloc, name, about, more).arg(text_arg(alloc, "FILE", help::FILE))
+    new_command(alloc, name, about, more).arg(text_arg(alloc, "FILE", help::FILE))
 }
 
 /// A command of a file and one more text, an argument of this name.
@@ -158,7 +158,7 @@ fn with_command<'a>(
 fn program<'a>(alloc: Global) -> Command<'a>
     ensures { app_of result ≡ on_top (λ s. record s { has_version = true; subcommand_required = true }) (new_app (codes "moo")) }
 {
-    described(alloc, "moo", help::MOO, help::MOO_MORE)
+    new_command(alloc, "moo", help::MOO, help::MOO_MORE)
         .version(help::VERSION)
         .subcommand_required(true)
 }

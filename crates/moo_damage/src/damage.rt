@@ -52,7 +52,7 @@ fn wrong_link<R: Rows>(
     ensures ends { IfOk result (λ o. IfNone o (LinksEnd link (R.held rows.now).maps)) }
 {
     if let Some(x) = lost_object(rows, link, plain) {
-        return Ok(Some((link.lost(), object_key(x))));
+        return Ok(Some((link.missing_kind(), object_key(x))));
     }
     match looping_object(alloc, rows, link, plain)? {
         Some(x) => Ok(Some((link.loops(), object_key(x)))),

@@ -35,7 +35,7 @@ impl TreeLink {
     }
 
     /// The kind of a link that names no object.
-    pub(crate) fn lost(self) -> Kind
+    pub(crate) fn missing_kind(self) -> Kind
         ensures { result ≡ lost_kind self }
     {
         match self {
@@ -124,7 +124,7 @@ fn climb<R: Rows>(
 }
 
 /// Notes that the chains of these objects end.
-fn note(known: &mut BTreeMap<ObjNo, ()>, path: &[ObjNo]) -> Result<(), AllocError>
+fn note_path(known: &mut BTreeMap<ObjNo, ()>, path: &[ObjNo]) -> Result<(), AllocError>
     ensures { OnOk result (NotesEnding path.now (contents object_cmp known.old) (contents object_cmp known.new)) }
 {
     for x in path {
@@ -155,7 +155,7 @@ pub fn first_loop<R: Rows>(
     for (x, _row) in each_object(rows) {
         match climb(alloc, rows, link, &known, count, x)? {
             None => return Ok(Some(x)),
-            Some(path) => note(&mut known, &path)?,
+            Some(path) => note_path(&mut known, &path)?,
         }
     }
     Ok(None)

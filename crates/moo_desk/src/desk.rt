@@ -160,7 +160,7 @@ impl<'a, G: Gate + Drop, C: Clock> Desk<'a, G, C> {
         ensures { EndsInTime now self.now.held result }
     {
         let most = self.period();
-        match self.held.spared(now) {
+        match self.held.spared_time(now) {
             Some(left) if self.held.is_full() && left < most => left,
             _ => most,
         }
@@ -214,7 +214,7 @@ impl<'a, G: Gate + Drop, C: Clock> Desk<'a, G, C> {
     }
 
     /// Asks what may have changed, if that is due, so that nobody waits for long though some are always whole.
-    fn ask(&mut self, now: Duration)
+    fn ask_if_due(&mut self, now: Duration)
         ensures all { Goes self.old.held self.new.held }
         ensures gate { G.gave self.new.gate ≡ G.gave self.old.gate }
         ensures asks { IsDueToAsk now self.old.asked self.old.turns →
@@ -248,7 +248,7 @@ impl<'a, G: Gate + Drop, C: Clock> Desk<'a, G, C> {
         ensures all { Goes self.old.held self.new.held }
         ensures gate { G.gave self.new.gate ≡ G.gave self.old.gate }
     {
-        self.ask(now);
+        self.ask_if_due(now);
         self.sweep(now);
     }
 
@@ -274,7 +274,7 @@ impl<'a, G: Gate + Drop, C: Clock> Desk<'a, G, C> {
     {
         leaving.begin(now);
         if leaving.is_over() {
-            self.held.note(leaving);
+            self.held.note_loss(leaving);
             return;
         }
         leaving.mark = self.next_mark();
@@ -284,7 +284,7 @@ impl<'a, G: Gate + Drop, C: Clock> Desk<'a, G, C> {
             Err(back) => {
                 let mut lost = back.value;
                 lost.give_up(Cause::NoMemory);
-                self.held.note(lost);
+                self.held.note_loss(lost);
             }
         }
     }

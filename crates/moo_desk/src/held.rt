@@ -14,7 +14,8 @@ use crate::gate::{Inward, Outward};
 use crate::leaving::Leaving;
 use crate::losses::Losses;
 use crate::rounds::{
-    BUDGET, gather_all, held, step_all, wake_all_leaving, wake_all_slots, wake_leaving, wake_slots,
+    BUDGET, all_held_bytes, gather_all, step_all, wake_all_leaving, wake_all_slots, wake_leaving,
+    wake_slots,
 };
 use crate::slot::Slot;
 use moo_arrivals::Cause;
@@ -152,14 +153,14 @@ impl<R: Inward + OpenStream + Drop, W: Outward + OpenStream + Drop> Held<R, W> {
         };
         if place < self.leaving.len() && self.leaving[place].is_over() {
             let over = self.leaving.remove(place);
-            self.note(over);
+            self.note_loss(over);
             return true;
         }
         false
     }
 
     /// Notes whether the answer of a connection that is over was lost.
-    pub fn note(&mut self, over: Leaving<R, W>)
+    pub fn note_loss(&mut self, over: Leaving<R, W>)
         ensures ends { (over.stage ≡ Done) ⊎ ((cause : Why) × (over.stage ≡ Lost cause)) →
             LetsGo over self.old.losses self.new.losses }
         ensures same { (self.new.leaving ≡ self.old.leaving) × (self.new.slots ≡ self.old.slots) }
@@ -177,7 +178,7 @@ impl<R: Inward + OpenStream + Drop, W: Outward + OpenStream + Drop> Held<R, W> {
         while let Some(last) = self.leaving.pop() {
             let mut lost = last;
             lost.give_up(Cause::Late);
-            self.note(lost);
+            self.note_loss(lost);
         }
     }
 
@@ -186,7 +187,7 @@ impl<R: Inward + OpenStream + Drop, W: Outward + OpenStream + Drop> Held<R, W> {
         ensures yes { result ≡ true → HasWhole self.now }
         ensures no { result ≡ false → ¬ (HasWhole self.now) }
     {
-        held(&self.leaving) < BUDGET && self.is_any_ready()
+        all_held_bytes(&self.leaving) < BUDGET && self.is_any_ready()
     }
 
     /// Whether a request is whole, or nothing more of it comes.
@@ -201,7 +202,7 @@ impl<R: Inward + OpenStream + Drop, W: Outward + OpenStream + Drop> Held<R, W> {
     pub fn next_whole(&mut self) -> Option<Slot<R, W>>
         ensures { TakesSlot (book_of self.old) result (book_of self.new) }
     {
-        if held(&self.leaving) >= BUDGET {
+        if all_held_bytes(&self.leaving) >= BUDGET {
             return None;
         }
         let place = first(&self.slots, &Ready)?;
@@ -209,7 +210,7 @@ impl<R: Inward + OpenStream + Drop, W: Outward + OpenStream + Drop> Held<R, W> {
     }
 
     /// For how long the oldest unfinished request can't be ended yet. None if it can be, or if there is none.
-    pub fn spared(&self, now: Duration) -> Option<Duration>
+    pub fn spared_time(&self, now: Duration) -> Option<Duration>
         ensures oldest { OfFirst IsUnfinished (IsSpared now result) self.now.slots.items }
         ensures none { HoldsOfNone IsUnfinished self.now.slots.items → result ≡ None }
     {
@@ -256,7 +257,7 @@ impl<R: Inward + OpenStream + Drop, W: Outward + OpenStream + Drop> Held<R, W> {
         ensures slots { self.new.slots ≡ self.old.slots }
         ensures relieves { Relieves now self.old self.new }
     {
-        if held(&self.leaving) < BUDGET || !self.is_any_ready() {
+        if all_held_bytes(&self.leaving) < BUDGET || !self.is_any_ready() {
             return;
         }
         if let Some(place) = first(&self.leaving, &Stuck { now }) {

@@ -288,7 +288,7 @@ impl<R: Inward + OpenStream, W: Outward + OpenStream> Leaving<R, W> {
     }
 
     /// How many bytes of its answer are held.
-    pub fn held(&self) -> usize
+    pub fn held_bytes(&self) -> usize
         ensures { result ≡ held_of self.now }
     {
         match self.stage {

@@ -26,7 +26,7 @@ pub fn gather_all<R: Inward, W: Outward>(
     ensures reads { ReadsDue (gathered_of slots.old < BUDGET) slots.old slots.new }
     ensures times { Each (IsTimed now) slots.old slots.new }
 {
-    let is_full = gathered(slots) >= BUDGET;
+    let is_full = gathered_bytes(slots) >= BUDGET;
     let mut changed = false;
     let mut is_first = true;
     for slot in slots {
@@ -38,7 +38,7 @@ pub fn gather_all<R: Inward, W: Outward>(
 }
 
 /// How many bytes were gathered.
-fn gathered<R: Inward, W: Outward>(slots: &[Slot<R, W>]) -> usize
+fn gathered_bytes<R: Inward, W: Outward>(slots: &[Slot<R, W>]) -> usize
     ensures { result ≡ min (gathered_of slots.now) usize.MAX }
 {
     let mut sum: usize = 0;
@@ -63,13 +63,15 @@ pub fn step_all<R: Inward + OpenStream, W: Outward + OpenStream>(
 }
 
 /// How many bytes of answers are held, beside the largest.
-pub fn held<R: Inward + OpenStream, W: Outward + OpenStream>(leaving: &[Leaving<R, W>]) -> usize
+pub fn all_held_bytes<R: Inward + OpenStream, W: Outward + OpenStream>(
+    leaving: &[Leaving<R, W>],
+) -> usize
     ensures { result ≡ answers_of leaving.now }
 {
     let mut sum: usize = 0;
     let mut largest = 0;
     for connection in leaving {
-        let bytes = connection.held();
+        let bytes = connection.held_bytes();
         sum = sum.saturating_add(bytes);
         largest = bytes.max(largest);
     }

@@ -122,7 +122,7 @@ fn watch_anew<S: Sockets>(sockets: &mut S, number: RawFd, mark: usize, interest:
 }
 
 /// Tells the marks of these events.
-fn tell(events: &Events, told: &mut Vec<usize>)
+fn tell_marks(events: &Events, told: &mut Vec<usize>)
     requires none { told.old.items ≡ [] }
     requires room { length (events_items events.now) ≤ vec_capacity told.old }
     ensures marks { told.new.items ≡ marks_of (events_items events.now) }
@@ -222,6 +222,6 @@ impl<S: Sockets + Drop> Gate for SocketGate<S> {
         told.clear();
         self.has_taken = false;
         self.sockets.poll(&mut self.events, most);
-        tell(&self.events, told);
+        tell_marks(&self.events, told);
     }
 }

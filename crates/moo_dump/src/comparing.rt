@@ -34,7 +34,7 @@ impl From<AllocError> for CompareFault {
 }
 
 /// How many bytes two texts have in common at the front.
-fn shared_length(a: &[u8], b: &[u8]) -> usize
+fn common_prefix_len(a: &[u8], b: &[u8]) -> usize
     ensures first { result ≤ length a.now }
     ensures second { result ≤ length b.now }
     ensures shared { take result a.now ≡ take result b.now }
@@ -57,7 +57,7 @@ fn after_piece(text: &[u8], at: usize, piece: &[u8]) -> Result<usize, CompareFau
     ensures ok { IfOk result (λ next. take next text.now ≡ take at text.now ++ piece.now) }
     ensures err { IfErr result (λ fault. (rest : List ℕ) → TellsDifference (take at text.now ++ (piece.now ++ rest)) text.now fault) }
 {
-    let count = shared_length(&text[at..], piece);
+    let count = common_prefix_len(&text[at..], piece);
     if count < piece.len() {
         return Err(CompareFault::Differs(at + count));
     }

@@ -55,7 +55,7 @@ fn probe_error(error: sqlite_wal::Error) -> Error
 }
 
 /// The files before anything was read of them. They come back if memory is refused.
-fn unopened<D: Disk>(
+fn new_unopened<D: Disk>(
     alloc: Global,
     files: Files<D>,
     size: PageSize,
@@ -94,7 +94,7 @@ fn connect_blank<D: Disk + Drop>(
     ensures left { IfErr result (λ e. IsCleanLeft e.1 → IsBlank (image_of D.Disk files) → LeavesBlank files e.1) }
     ensures cause { IfErr result (λ e. IsCleanLeft e.1 → IsBlank (image_of D.Disk files) → IsRefused e.0 e.1) }
 {
-    let fresh = match unopened(alloc, files, size, options) {
+    let fresh = match new_unopened(alloc, files, size, options) {
         Ok(fresh) => fresh,
         Err(left) => return Err((NO_MEMORY, Leftover::Files(left))),
     };

@@ -32,7 +32,7 @@ const NO_DATABASE: StoreFault = StoreFault::Store(Error::SqliteFailure(ErrorCode
 
 /// Why a file with this metadata is refused before it is opened: there is no file, or it holds no byte. An empty file would be made a
 /// blank database by opening it. A log beside an empty file counts for nothing.
-fn unfit(found: io::Result<Metadata>) -> Option<StoreFault>
+fn refusal_of_metadata(found: io::Result<Metadata>) -> Option<StoreFault>
     ensures missing { IsErr found → result ≡ Some cannot_open }
     ensures empty { IfOk found (λ meta. IsFile (file_type meta) → metadata_len meta ≡ 0 → result ≡ Some not_ours) }
     ensures fit { IfOk found (λ meta. (IsFile (file_type meta) → metadata_len meta ≢ 0) → result ≡ None) }
@@ -94,7 +94,7 @@ pub fn open_from<T: Start, H: WorldFiles<T>>(
     ensures stopped { (tables : Tables) → HoldsTables (image_at T.Start) tables → IfErr result (λ e. IsCleanRemains e.1 →
         SaysOr (HasCauseOr (StopsOver (AreMigrated tables) e.0) (IsDenied (H.denies host.now) path.now) e.0 e.1) tables e.0) }
 {
-    if let Some(fault) = unfit(host.metadata(path)) {
+    if let Some(fault) = refusal_of_metadata(host.metadata(path)) {
         return Err((fault, Remains::Untouched(start)));
     }
     let conn = match open_connection(alloc, host, path, start) {

@@ -23,7 +23,7 @@ use sqlite::Alter;
 use std::alloc::Global;
 
 /// What comes of what the World refused.
-fn lost(fault: StoreFault) -> RequestOutcome
+fn outcome_of_fault(fault: StoreFault) -> RequestOutcome
     ensures { result ≡ lost_by fault }
 {
     match fault {
@@ -36,12 +36,12 @@ fn lost(fault: StoreFault) -> RequestOutcome
 }
 
 /// What comes of a batch that was run or asked.
-fn came(reply: Result<Reply, StoreFault>) -> RequestOutcome
+fn outcome_of_reply(reply: Result<Reply, StoreFault>) -> RequestOutcome
     ensures { result ≡ came_of reply }
 {
     match reply {
         Ok(reply) => RequestOutcome::Replied(reply),
-        Err(fault) => lost(fault),
+        Err(fault) => outcome_of_fault(fault),
     }
 }
 
@@ -54,7 +54,7 @@ fn run_batch<S: Alter + Drop>(
     ensures still { IsStillOrAdvanced S.Store world.old world.new }
     ensures seen { HasSeenAsked world.old.rows.maps (Asked.Calls Mode.Run batch.now) result (seen_by whys.old) (seen_by whys.new) }
 {
-    came(world.run_one(batch, whys))
+    outcome_of_reply(world.run_one(batch, whys))
 }
 
 fn ask_batch<S: Alter + Drop>(world: &World<S>, batch: &Batch, whys: &mut Whys) -> RequestOutcome
@@ -62,7 +62,7 @@ fn ask_batch<S: Alter + Drop>(world: &World<S>, batch: &Batch, whys: &mut Whys) 
         MayAnswer place (Asked.Calls Mode.Ask batch.now) result place }
     ensures seen { HasSeenAsked world.now.rows.maps (Asked.Calls Mode.Ask batch.now) result (seen_by whys.old) (seen_by whys.new) }
 {
-    came(world.ask(batch, whys))
+    outcome_of_reply(world.ask(batch, whys))
 }
 
 /// Whether the number that calls are meant for, if they name one, is the present one.
@@ -91,7 +91,7 @@ fn ask_each_at<S: Alter + Drop>(
     }
     match world.ask_each(each.batches.items(), whys) {
         Ok(replies) => RequestOutcome::Each(Replies::from_vec(replies), seq),
-        Err(fault) => lost(fault),
+        Err(fault) => outcome_of_fault(fault),
     }
 }
 
@@ -102,7 +102,7 @@ fn ask_each<S: Alter + Drop>(world: &World<S>, each: &Each, whys: &mut Whys) -> 
 {
     match world.seq() {
         Ok(seq) => ask_each_at(world, each, seq, whys),
-        Err(fault) => lost(fault),
+        Err(fault) => outcome_of_fault(fault),
     }
 }
 

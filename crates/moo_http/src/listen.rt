@@ -105,7 +105,7 @@ fn settle_one<'a, A: Arrivals, C: Clock + Eprint>(
     };
     served.answered -= 1;
     served.failed += 1;
-    log.tell(Note::lost(loss));
+    log.tell(Note::of_loss(loss));
     true
 }
 

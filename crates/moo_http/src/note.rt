@@ -131,7 +131,7 @@ impl Note {
     }
 
     /// Of a connection whose answer was lost after its turn.
-    pub(crate) fn lost(loss: Loss) -> Note {
+    pub(crate) fn of_loss(loss: Loss) -> Note {
         Note {
             route: loss.route,
             trouble: Some(Trouble::Lost(loss.cause)),

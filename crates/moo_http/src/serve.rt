@@ -12,7 +12,7 @@ ghost use Rattle.moo_http.specs.Turns.{Exchanged};
 use crate::consult::consult;
 use crate::fault::ServeFault;
 use crate::note::Note;
-use crate::why::told_answer;
+use crate::why::answer_with_whys;
 use crate::write::write_out;
 use moo_http_request::{Asked, BodyFault, Incoming, Received, Routes, read_request};
 use moo_reasons::Whys;
@@ -60,7 +60,7 @@ fn serve_asked<S: Alter + Drop, W: Write>(
     let mut whys = Whys::new(means.alloc, inquiry.asks_why, means.ticks);
     let outcome = consult(means.alloc, world, &inquiry.asked, &mut whys);
     note.comes_to(&outcome);
-    let bytes = told_answer(means.alloc, &mut whys, inquiry, outcome)?;
+    let bytes = answer_with_whys(means.alloc, &mut whys, inquiry, outcome)?;
     write_out(writer, &bytes)
 }
 

@@ -103,7 +103,7 @@ fn spent_why(
     seen: &mut Whys,
     asked: &Asked,
 ) -> Result<Vec<Option<String>>, AllocError> {
-    let judged = seen.judged();
+    let judged = seen.judged_batches();
     let why = seen.spent_why(last_place(asked, judged))?;
     if why.is_some() || seen.ticks() != Some(0) {
         return one_of(alloc, why);
@@ -137,7 +137,7 @@ fn find_whys(
 /// The bytes of the answer to what was asked, which say why it is refused if that was asked too: of each reply that refuses the first line
 /// that is left. Nothing is said of it if memory runs out.
 /// AllocError: memory for the answer was refused.
-pub(crate) fn told_answer(
+pub(crate) fn answer_with_whys(
     alloc: Global,
     seen: &mut Whys,
     inquiry: &Inquiry,

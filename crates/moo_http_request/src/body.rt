@@ -62,7 +62,7 @@ fn bad_call(alloc: Global, texts: &[&str], number: u32) -> Option<BodyFault> {
 }
 
 /// The batch that a shape asks, and what is wrong with it.
-fn ask_batch(
+fn read_batch(
     alloc: Global,
     mode: Mode,
     shape: &Shape<'_>,
@@ -88,7 +88,7 @@ fn ask_batch(
 }
 
 /// The calls of a shape, each to be asked alone, and those of its texts that aren't calls. These are unknown if memory for them is refused.
-fn ask_each(
+fn read_asked_each(
     alloc: Global,
     shape: &Shape<'_>,
     wrong: &mut Option<BodyFault>,
@@ -107,7 +107,7 @@ fn ask_each(
 }
 
 /// What a shape asks, and what is wrong with it.
-fn ask_shape(
+fn read_asked(
     alloc: Global,
     form: Form,
     shape: &Shape<'_>,
@@ -117,13 +117,13 @@ fn ask_shape(
     ensures { IfOk result (λ asked. asked ≡ form_asked form (shape_shown shape.now)) }
 {
     match form {
-        Form::Batch(mode) => ask_batch(alloc, mode, shape, wrong),
-        Form::Each => ask_each(alloc, shape, wrong),
+        Form::Batch(mode) => read_batch(alloc, mode, shape, wrong),
+        Form::Each => read_asked_each(alloc, shape, wrong),
     }
 }
 
 /// What a JSON asks, and what is wrong with it.
-fn ask_json(
+fn read_asked_json(
     alloc: Global,
     form: Form,
     value: &Value,
@@ -133,7 +133,7 @@ fn ask_json(
         asked ≡ option_map_or (form_asked form) (shape_of (view value.now)) (Asked.Refused Refusal.BadRequest)) }
 {
     match shape_in(alloc, value)? {
-        ShapeRead::Whole(shape) => ask_shape(alloc, form, &shape, wrong),
+        ShapeRead::Whole(shape) => read_asked(alloc, form, &shape, wrong),
         ShapeRead::Bad(fault) => {
             *wrong = Some(BodyFault::Shape(fault));
             Ok(Asked::Refused(Refusal::BadRequest))
@@ -142,7 +142,7 @@ fn ask_json(
 }
 
 /// What a body asks, and what is wrong with it.
-fn ask_body(
+fn read_asked_body(
     alloc: Global,
     form: Form,
     body: &[u8],
@@ -151,7 +151,7 @@ fn ask_body(
     ensures { IfOk result (BodyAsks form body.now) }
 {
     match read_json(alloc, body)? {
-        Some(value) => ask_json(alloc, form, &value, wrong),
+        Some(value) => read_asked_json(alloc, form, &value, wrong),
         None => {
             *wrong = Some(BodyFault::Shape(ShapeFault::NotJson));
             Ok(Asked::Refused(Refusal::BadRequest))
@@ -183,7 +183,7 @@ fn read_body<R: Incoming>(
     if !read_until(reader, bytes, end)? {
         return Ok(Asked::Refused(Refusal::BadRequest));
     }
-    let asked = ask_body(alloc, form, &bytes[start..end], wrong)?;
+    let asked = read_asked_body(alloc, form, &bytes[start..end], wrong)?;
     Ok(asked)
 }
 

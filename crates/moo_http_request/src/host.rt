@@ -7,7 +7,7 @@ ghost use Rattle.moo_http_request.specs.Hosts.{is_port, is_name_of, is_own_host,
 ghost use Rattle.moo_http_request.specs.Lines.{is_same_name};
 
 use crate::lines::has_name;
-use crate::numbers::bounded;
+use crate::numbers::number_at_most;
 use httparse::spans::HeaderSpan;
 
 const GREATEST_PORT: u64 = 65_535;
@@ -17,7 +17,7 @@ fn is_port(rest: &[u8]) -> bool
     ensures { result ≡ is_port rest.now }
 {
     match rest.split_first() {
-        Some((first, digits)) => *first == b':' && bounded(digits, GREATEST_PORT).is_some(),
+        Some((first, digits)) => *first == b':' && number_at_most(digits, GREATEST_PORT).is_some(),
         None => true,
     }
 }

@@ -26,7 +26,7 @@ fn with_digit(number: u64, digit: u64, most: u64) -> u64
 }
 
 /// The number of one or more digits, if it is at most `most`.
-pub(crate) fn bounded(text: &[u8], most: u64) -> Option<u64>
+pub(crate) fn number_at_most(text: &[u8], most: u64) -> Option<u64>
     requires { most < 2 ^ 59 }
     ensures value { result ≡ bounded_of most text.now }
     ensures bound { IfSome result (λ number. number ≤ most) }
@@ -42,7 +42,7 @@ pub(crate) fn bounded(text: &[u8], most: u64) -> Option<u64>
 }
 
 /// The negative of a size.
-fn negated(size: u64) -> i32
+fn negate(size: u64) -> i32
     requires { size ≤ 2147483648 }
     ensures { result ≡ neg_ℤ (pos size) }
 {
@@ -62,7 +62,7 @@ pub(crate) fn number_in(text: &[u8]) -> Option<i32>
     ensures { result ≡ number_of text.now }
 {
     match text {
-        [b'-', digits @ ..] => bounded(digits, 2_147_483_648).map(negated),
-        _ => bounded(text, 2_147_483_647).map(positive),
+        [b'-', digits @ ..] => number_at_most(digits, 2_147_483_648).map(negate),
+        _ => number_at_most(text, 2_147_483_647).map(positive),
     }
 }

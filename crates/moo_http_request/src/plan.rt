@@ -10,7 +10,7 @@ ghost use Rattle.moo_http_request.specs.Routes.{endpoint_of};
 use crate::asked::{Asked, Form, Method, Refusal};
 use crate::host::is_for_us;
 use crate::lines::{is_coded, is_from_page, stated_length};
-use crate::numbers::bounded;
+use crate::numbers::number_at_most;
 use crate::question::{Question, Topic};
 use crate::routes::{Endpoint, Routes};
 use httparse::spans::HeaderSpan;
@@ -84,7 +84,7 @@ fn body_length(bytes: &[u8], lines: &[HeaderSpan]) -> Option<u64>
 {
     let text = stated_length(bytes, lines)?;
     if text.len() <= 10 {
-        bounded(text, 9_999_999_999)
+        number_at_most(text, 9_999_999_999)
     } else {
         None
     }

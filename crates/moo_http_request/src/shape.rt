@@ -32,7 +32,7 @@ pub enum ShapeRead<'a> {
 }
 
 /// The texts of an array of strings. `None` is another array.
-fn texts_in<'a>(alloc: Global, items: &'a [Value]) -> Result<Option<Vec<&'a str>>, AllocError>
+fn call_texts_in<'a>(alloc: Global, items: &'a [Value]) -> Result<Option<Vec<&'a str>>, AllocError>
     ensures { IfOk result (λ found. option_map (λ texts. map (λ text. text.now) texts.items) found
         ≡ texts_of (items_view items.now)) }
 {
@@ -118,7 +118,7 @@ pub(crate) fn shape_in(alloc: Global, value: &Value) -> Result<ShapeRead<'_>, Al
     let Some(items) = listed.as_array() else {
         return Ok(ShapeRead::Bad(ShapeFault::CallsNoArray));
     };
-    let Some(calls) = texts_in(alloc, items)? else {
+    let Some(calls) = call_texts_in(alloc, items)? else {
         return Ok(ShapeRead::Bad(ShapeFault::CallNoText));
     };
     let Some(at) = at_in(value.get("at")) else {

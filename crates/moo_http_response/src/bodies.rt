@@ -13,7 +13,7 @@ use serde_json::{Map, Value, put};
 use std::alloc::{AllocError, Global};
 
 /// An object without floats, printed.
-pub(crate) fn printed(alloc: Global, fields: Map<String, Value>) -> Result<String, AllocError>
+pub(crate) fn print_object(alloc: Global, fields: Map<String, Value>) -> Result<String, AllocError>
     requires { members_have_float (members_view fields.entries) ≡ false }
     ensures { IfOk result (λ text. string_bytes text ≡ compact_text (object (members_view fields.entries))) }
 {
@@ -35,7 +35,7 @@ pub(crate) fn error_text(alloc: Global, word: &str) -> Result<String, AllocError
     ensures { IfOk result (λ text. string_bytes text ≡ compact_text (error_body None word.now)) }
 {
     let fields = error_fields(alloc, word)?;
-    printed(alloc, fields)
+    print_object(alloc, fields)
 }
 
 /// A call, by its number, and what befell it.
@@ -44,7 +44,7 @@ pub(crate) fn call_text(alloc: Global, call: u32, word: &str) -> Result<String, 
 {
     let mut fields = error_fields(alloc, word)?;
     put(&mut fields, alloc, "call", Value::from(u64::from(call)))?;
-    printed(alloc, fields)
+    print_object(alloc, fields)
 }
 
 /// A word under `error`, and why, if that is told.
@@ -61,7 +61,7 @@ pub(crate) fn told_error_text(
     let why = String::from_str(alloc, why)?;
     let mut fields = error_fields(alloc, word)?;
     put(&mut fields, alloc, "why", Value::String(why))?;
-    printed(alloc, fields)
+    print_object(alloc, fields)
 }
 
 /// A call, by its number, what befell it, and why, if that is told.
@@ -80,7 +80,7 @@ pub(crate) fn told_call_text(
     let mut fields = error_fields(alloc, word)?;
     put(&mut fields, alloc, "call", Value::from(u64::from(call)))?;
     put(&mut fields, alloc, "why", Value::String(why))?;
-    printed(alloc, fields)
+    print_object(alloc, fields)
 }
 
 /// The present number, if a batch named another.
@@ -89,7 +89,7 @@ pub(crate) fn stale_text(alloc: Global, seq: u64) -> Result<String, AllocError>
 {
     let mut fields = error_fields(alloc, "stale")?;
     put(&mut fields, alloc, "seq", Value::from(seq))?;
-    printed(alloc, fields)
+    print_object(alloc, fields)
 }
 
 /// A number under a key.
@@ -99,7 +99,7 @@ pub(crate) fn number_text(alloc: Global, key: &str, number: u64) -> Result<Strin
 {
     let mut fields = Map::new(alloc);
     put(&mut fields, alloc, key, Value::from(number))?;
-    printed(alloc, fields)
+    print_object(alloc, fields)
 }
 
 /// The printed literal of a value.
@@ -135,5 +135,5 @@ pub(crate) fn accepted_text(
     let mut fields = Map::new(alloc);
     put(&mut fields, alloc, "answers", Value::Array(list))?;
     put(&mut fields, alloc, "seq", Value::from(seq))?;
-    printed(alloc, fields)
+    print_object(alloc, fields)
 }

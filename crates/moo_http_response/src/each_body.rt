@@ -8,7 +8,7 @@ ghost use Rattle.moo_http_response.specs.Bodies.{error_body};
 ghost use Rattle.moo_http_response.specs.EachBodies.{first_answer, reply_body, alone_body, each_items, each_body};
 ghost use Rattle.moo_http_response.specs.Whys.{whys_shown};
 
-use crate::bodies::{error_fields, literal_text, printed};
+use crate::bodies::{error_fields, literal_text, print_object};
 use crate::replies::Replies;
 use crate::whys::why_of;
 use moo_text::Reply;
@@ -100,5 +100,5 @@ pub(crate) fn each_text(
     let mut fields = Map::new(alloc);
     put(&mut fields, alloc, "each", Value::Array(list))?;
     put(&mut fields, alloc, "seq", Value::from(seq))?;
-    printed(alloc, fields)
+    print_object(alloc, fields)
 }

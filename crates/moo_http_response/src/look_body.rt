@@ -7,7 +7,7 @@ ghost use Rattle.serde_json.specs.Written.{compact_text};
 ghost use Rattle.moo_http_response.specs.Bodies.{strings, object_text, objects as objects_of, flag_data, look_body};
 ghost use Rattle.moo_http_response.specs.Fields.{with_links, with_flags};
 
-use crate::bodies::{literal_text, printed};
+use crate::bodies::{literal_text, print_object};
 use moo_dump::Look;
 use moo_value::{MooStr, ObjNo, Value as Literal};
 use serde_json::{Map, Value, put};
@@ -115,5 +115,5 @@ pub(crate) fn look_text(alloc: Global, look: &Look) -> Result<String, AllocError
     let mut fields = Map::new(alloc);
     put_links(&mut fields, alloc, look)?;
     put_flags(&mut fields, alloc, look)?;
-    printed(alloc, fields)
+    print_object(alloc, fields)
 }

@@ -7,7 +7,7 @@ ghost use Rattle.serde_json.specs.Written.{compact_text};
 ghost use Rattle.moo_http_response.specs.PageBodies.{entry_body, next_data, page_body};
 ghost use Rattle.moo_http_response.specs.Fields.{with_entry_links, with_entry_flags};
 
-use crate::bodies::printed;
+use crate::bodies::print_object;
 use crate::entry::Entry;
 use crate::look_body::{put_flag, put_name, put_object};
 use crate::page::Page;
@@ -88,5 +88,5 @@ pub(crate) fn page_text(alloc: Global, page: &Page, seq: u64) -> Result<String, 
     put_next(&mut fields, alloc, page.next)?;
     put(&mut fields, alloc, "objects", Value::Array(list))?;
     put(&mut fields, alloc, "seq", Value::from(seq))?;
-    printed(alloc, fields)
+    print_object(alloc, fields)
 }

@@ -89,7 +89,7 @@ fn stale(alloc: Global, seq: u64) -> Result<Response, AllocError>
     Ok(with_body(StatusCode::CONFLICT, body))
 }
 
-fn accepted(alloc: Global, answers: &Answers, seq: u64) -> Result<Response, AllocError>
+fn accepted_response(alloc: Global, answers: &Answers, seq: u64) -> Result<Response, AllocError>
     ensures { IfOk result (λ r. Shows r (plain 200 (accepted_body answers.now seq))) }
 {
     let body = accepted_text(alloc, answers.items(), seq)?;
@@ -193,7 +193,7 @@ fn reply_to(alloc: Global, reply: &Reply, why: Option<&str>) -> Result<Response,
             call_error(alloc, StatusCode::CONFLICT, *call, code.name(), why)
         }
         Reply::Full { call } => call_error(alloc, StatusCode::CONFLICT, *call, "full", why),
-        Reply::Accepted { seq, answers } => accepted(alloc, answers, *seq),
+        Reply::Accepted { seq, answers } => accepted_response(alloc, answers, *seq),
     }
 }
 

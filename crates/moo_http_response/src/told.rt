@@ -38,14 +38,14 @@ pub enum Told {
 }
 
 /// What a look tells. It shows nothing if there isn't such an object.
-fn seen(look: Option<Look>) -> Told
+fn told_of_look(look: Option<Look>) -> Told
     ensures { result ≡ option_map_or Told.Object look Told.NoObject }
 {
     look.map_or(Told::NoObject, Told::Object)
 }
 
 /// All that the rows hold, as text, in memory that has room for a head. The only error is a lack of memory.
-fn dumped<R: Rows>(alloc: Global, rows: &R) -> Result<Text, AllocError>
+fn dump_with_room<R: Rows>(alloc: Global, rows: &R) -> Result<Text, AllocError>
     requires { IsGood (R.held rows.now).maps }
     ensures { IfOk result (λ text. text ≡ dump (state_of (R.held rows.now).maps)) }
 {
@@ -65,11 +65,11 @@ pub fn tell<R: Rows>(alloc: Global, rows: &R, question: Question) -> Result<Told
 {
     match question {
         Question::Seq => Ok(Told::Seq(rows.head().seq)),
-        Question::Object(number) => Ok(seen(look(alloc, rows, number)?)),
+        Question::Object(number) => Ok(told_of_look(look(alloc, rows, number)?)),
         Question::Objects(number) => {
             Ok(Told::Objects(list_page(alloc, rows, number)?, rows.head().seq))
         }
-        Question::Dump => Ok(Told::Dump(dumped(alloc, rows)?)),
+        Question::Dump => Ok(Told::Dump(dump_with_room(alloc, rows)?)),
     }
 }
 

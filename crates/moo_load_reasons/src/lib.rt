@@ -14,4 +14,4 @@ mod telling;
 mod values;
 
 pub use lambdamoo::{WHAT_TO_DO, holds_lambdamoo, is_lambdamoo};
-pub use telling::told;
+pub use telling::why_of_fault;

@@ -13,7 +13,11 @@ use std::alloc::{AllocError, Global};
 /// is told without one. None if memory ran out.
 ///
 /// Nothing is proved of the words. AllocError: memory ran out.
-pub fn told(alloc: Global, text: &[u8], fault: LoadFault) -> Result<Option<String>, AllocError> {
+pub fn why_of_fault(
+    alloc: Global,
+    text: &[u8],
+    fault: LoadFault,
+) -> Result<Option<String>, AllocError> {
     let mut said = Said::new(alloc);
     match fault {
         LoadFault::NotADump(number, why) => {

@@ -104,7 +104,7 @@ impl<'a, R: Rows> Draft<'a, R> {
     pub fn ticks_left(&self) -> u64
         ensures { result + self.now.writes ≤ self.now.base.most }
     {
-        self.ticks.left(self.writes)
+        self.ticks.left_after(self.writes)
     }
 
     /// The changes that make the base into the draft: a row that is put back isn't a change, nor is the removal of a row

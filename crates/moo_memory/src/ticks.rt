@@ -45,7 +45,7 @@ impl Ticks {
     }
 
     /// How many are left after so many rows were put or removed.
-    pub(crate) fn left(&self, writes: u64) -> u64
+    pub(crate) fn left_after(&self, writes: u64) -> u64
         ensures { writes ≤ self.now.most → result + writes ≤ self.now.most }
     {
         let unspent = self.most.saturating_sub(self.spent.get());

@@ -193,7 +193,7 @@ fn remove_verbs<R: Rows>(rows: &mut R, keys: &[(ObjNo, VerbId)]) -> Result<(), A
 
 /// A link, or another one if it leads to x.
 #[tactic(auto, unfolding(moo_world::specs::Objects::same_object))]
-fn redirected(x: ObjNo, link: ObjNo, to: ObjNo) -> ObjNo
+fn redirect(x: ObjNo, link: ObjNo, to: ObjNo) -> ObjNo
     ensures { result ≡ (if same_object x link then to else link) }
 {
     if x == link { to } else { link }
@@ -213,8 +213,8 @@ fn release<R: Rows>(
         None => return Ok(()),
         Some(row) => row.copy(alloc)?,
     };
-    row.parent = redirected(x, row.parent, parent);
-    row.location = redirected(x, row.location, ObjNo(-1));
+    row.parent = redirect(x, row.parent, parent);
+    row.location = redirect(x, row.location, ObjNo(-1));
     rows.put_object(y, row)?;
     Ok(())
 }

@@ -145,7 +145,7 @@ fn name_position(name: CallName) -> Position {
 }
 
 /// The value that was checked, if it isn't an object that the reason has.
-fn checked<'a>(given: Given<'a>, reason: Reason) -> Option<&'a Value> {
+fn checked_value<'a>(given: Given<'a>, reason: Reason) -> Option<&'a Value> {
     match reason {
         Reason::NotTaken => value_at(given, THIRD),
         Reason::NoPropertyName => value_at(given, name_position(given.name)),
@@ -180,7 +180,7 @@ fn put_sentence(
             (b'%', _) => put_some(said, value_at(given, FIRST))?,
             (b'&', _) => put_some(said, value_at(given, SECOND))?,
             (b'$', Some(object)) => said.put_object(object)?,
-            (b'$', None) => put_some(said, checked(given, reason))?,
+            (b'$', None) => put_some(said, checked_value(given, reason))?,
             (letter, _) => said.put(&[letter])?,
         }
     }

@@ -70,7 +70,7 @@ impl Whys {
     }
 
     /// How many batches were judged.
-    pub fn judged(&self) -> u32 {
+    pub fn judged_batches(&self) -> u32 {
         self.judged
     }
 

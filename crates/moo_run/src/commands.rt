@@ -12,7 +12,7 @@ ghost use Rattle.moo_run.specs.Run.{RunsAction, EndsCheck, line_of, StopsIn, Sho
 ghost use Rattle.moo_run.specs.Run.{only_reads, serves, reads_input, ReadsFile};
 
 use crate::host::BatchFiles;
-use crate::session::{Runs, Session, Streams};
+use crate::session::{HasRun, Session, Streams};
 use crate::texts::{Manner, answer_batches, open_batches};
 use moo_cli::{Action, Service, Task};
 use moo_http::{Duty, Tools, serve_port};
@@ -109,7 +109,7 @@ fn serve<'s, S: Streams, B: Alter + Drop>(
     service: Service,
 ) -> Result<u8, Failure>
     ensures serves { (m : Moment) → Stands B.Store world.old (Works m) →
-        let run = ⟦<Session<'s, S> as Runs>⟧.run session.old session.new in
+        let run = ⟦<Session<'s, S> as HasRun>⟧.run session.old session.new in
         RunsAction B.Store world.old world.new (Action.Serve service) m run result }
     ensures input { session.new.input ≡ session.old.input }
 {
@@ -133,7 +133,7 @@ pub(crate) fn do_task<'s, S: Streams, B: Alter + Drop>(
 ) -> Result<u8, Failure>
     requires read { (path : List ℕ) → ReadsFile task path → S.Host.may_read session.old.host path }
     ensures ends { (m : Moment) → Stands B.Store world.old (Works m) →
-        let run = ⟦<Session<'s, S> as Runs>⟧.run session.old session.new in
+        let run = ⟦<Session<'s, S> as HasRun>⟧.run session.old session.new in
         RunsAction B.Store world.old world.new task.entry.action m run result }
     // A check is done only if the tables show the rows of the World.
     ensures shown { task.entry.action ≡ Action.Check → OnOk result (ShowsTables B.Store world.old (store_of B.Store world.new)) }

@@ -17,7 +17,7 @@ use crate::ends::Ends;
 use crate::host::Advice;
 use crate::loading::find_rows;
 use crate::over::{run_in, run_over};
-use crate::session::{Runs, Session, Streams};
+use crate::session::{HasRun, Session, Streams};
 use moo_cli::{Action, Task};
 use moo_files::{Remains, WorldFiles, make_from, open_from};
 use moo_run_lines::Failure;
@@ -41,7 +41,7 @@ fn run_in_files<'s, S: Streams, D: Disk + Drop>(
 ) -> Connection<FileStore<D>>
     requires read { (path : List ℕ) → ReadsFile task path → S.Host.may_read session.old.host path }
     ensures runs { (m : Moment) → Stands over_files world (Works m) →
-        RunsIn (file_state result) task.entry m (⟦<Session<'s, S> as Runs>⟧.run session.old session.new) }
+        RunsIn (file_state result) task.entry m (⟦<Session<'s, S> as HasRun>⟧.run session.old session.new) }
     ensures clean { (m : Moment) → Stands over_files world (Works m) →
         HasCleanDisk (file_state result) → HasCleanDisk (store_of over_files world) }
     ensures still { only_reads task.entry.action ≡ true → LeavesNothingNew (store_of over_files world) (file_state result) }
@@ -82,7 +82,7 @@ fn run_made<'s, S: Streams>(
     requires may { S.Host.may_open session.old.host task.file.now }
     requires read { (path : List ℕ) → ReadsFile task path → S.Host.may_read session.old.host path }
     requires anew { begins_anew task ≡ true }
-    ensures runs { RunsFile task.entry (image_at S.File.Start) result (⟦<Session<'s, S> as Runs>⟧.run session.old session.new) }
+    ensures runs { RunsFile task.entry (image_at S.File.Start) result (⟦<Session<'s, S> as HasRun>⟧.run session.old session.new) }
     ensures input { reads_input task.entry ≡ false → session.new.input ≡ session.old.input }
 {
     let rows = match find_rows(session, task) {
@@ -117,7 +117,7 @@ fn run_found<'s, S: Streams>(
     requires may { S.Host.may_open session.old.host task.file.now }
     requires read { (path : List ℕ) → ReadsFile task path → S.Host.may_read session.old.host path }
     requires other { begins_anew task ≡ false }
-    ensures runs { RunsFile task.entry (image_at S.File.Start) result (⟦<Session<'s, S> as Runs>⟧.run session.old session.new) }
+    ensures runs { RunsFile task.entry (image_at S.File.Start) result (⟦<Session<'s, S> as HasRun>⟧.run session.old session.new) }
     ensures input { reads_input task.entry ≡ false → session.new.input ≡ session.old.input }
 {
     match open_from(session.alloc, &session.host, task.file, start) {
@@ -147,7 +147,7 @@ pub fn run_from<'s, S: Streams>(
 ) -> Ends<S::File, <S::Host as WorldFiles<S::File>>::Disk>
     requires may { S.Host.may_open session.old.host task.file.now }
     requires read { (path : List ℕ) → ReadsFile task path → S.Host.may_read session.old.host path }
-    ensures runs { RunsFile task.entry (image_at S.File.Start) result (⟦<Session<'s, S> as Runs>⟧.run session.old session.new) }
+    ensures runs { RunsFile task.entry (image_at S.File.Start) result (⟦<Session<'s, S> as HasRun>⟧.run session.old session.new) }
     ensures input { reads_input task.entry ≡ false → session.new.input ≡ session.old.input }
 {
     if begins_anew(task) {
@@ -161,7 +161,7 @@ pub fn run_from<'s, S: Streams>(
 fn run_in_memory<'s, S: Streams>(session: &mut Session<'s, S>, task: Task<'_>)
     requires read { (path : List ℕ) → ReadsFile task path → S.Host.may_read session.old.host path }
     requires anew { begins_anew task ≡ true }
-    ensures runs { RunsTask task.entry (⟦<Session<'s, S> as Runs>⟧.run session.old session.new) }
+    ensures runs { RunsTask task.entry (⟦<Session<'s, S> as HasRun>⟧.run session.old session.new) }
     ensures input { reads_input task.entry ≡ false → session.new.input ≡ session.old.input }
 {
     let Ok(conn) = Connection::open_in_memory(session.alloc) else {
@@ -179,8 +179,8 @@ pub(crate) fn run_task<'s, S: Streams>(
 ) -> Ends<S::File, <S::Host as WorldFiles<S::File>>::Disk>
     requires may { S.Host.may_open session.old.host task.file.now }
     requires read { (path : List ℕ) → ReadsFile task path → S.Host.may_read session.old.host path }
-    ensures runs { RunsTask task.entry (⟦<Session<'s, S> as Runs>⟧.run session.old session.new) }
-    ensures ends { EndsWith task.entry (image_at S.File.Start) result (⟦<Session<'s, S> as Runs>⟧.run session.old session.new) }
+    ensures runs { RunsTask task.entry (⟦<Session<'s, S> as HasRun>⟧.run session.old session.new) }
+    ensures ends { EndsWith task.entry (image_at S.File.Start) result (⟦<Session<'s, S> as HasRun>⟧.run session.old session.new) }
     ensures input { reads_input task.entry ≡ false → session.new.input ≡ session.old.input }
 {
     let file = task.file;

@@ -16,4 +16,4 @@ pub use files::run_from;
 pub use host::{Advice, BatchFiles};
 pub use over::{run_in, run_over};
 pub use run::{run_to_end, run_words};
-pub use session::{Runs, Session, Streams};
+pub use session::{HasRun, Session, Streams};

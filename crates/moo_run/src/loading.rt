@@ -12,10 +12,10 @@ ghost use Rattle.moo_run.specs.Given.{texts_by};
 ghost use Rattle.moo_run.specs.Run.{RefusesDump, TellsLack, FindsRows, ReadsFile, dump_word, is_load, reads_input};
 
 use crate::host::BatchFiles;
-use crate::session::{Runs, Session, Streams};
+use crate::session::{HasRun, Session, Streams};
 use moo_cli::{Action, Task};
 use moo_load::{LoadFault, read_dump, read_text};
-use moo_load_reasons::{WHAT_TO_DO, is_lambdamoo, told};
+use moo_load_reasons::{WHAT_TO_DO, is_lambdamoo, why_of_fault};
 use moo_memory::Flat;
 use moo_run_lines::Failure;
 use std::alloc::Global;
@@ -55,7 +55,7 @@ fn explain_dump<C: Eprint>(
 ) {
     if is_lambdamoo(text) {
         say(console, path, WHAT_TO_DO);
-    } else if let Ok(Some(why)) = told(alloc, text, fault) {
+    } else if let Ok(Some(why)) = why_of_fault(alloc, text, fault) {
         say(console, path, why.as_str());
     }
 }
@@ -134,7 +134,7 @@ pub(crate) fn find_rows<'s, S: Streams>(
     task: Task<'_>,
 ) -> Result<Option<Flat>, Failure>
     requires read { (path : List ℕ) → ReadsFile task path → S.Host.may_read session.old.host path }
-    ensures finds { FindsRows task.entry.action (⟦<Session<'s, S> as Runs>⟧.run session.old session.new).given result }
+    ensures finds { FindsRows task.entry.action (⟦<Session<'s, S> as HasRun>⟧.run session.old session.new).given result }
     ensures limit { IfOk result (λ rows. IfSome rows (λ r. r.maps.head.seq < 2 ^ 63)) }
     ensures good { IfOk result (λ rows. IfSome rows (λ r. IsGood r.maps)) }
     ensures rests { session.new.host ≡ session.old.host }

@@ -14,7 +14,7 @@ ghost use Rattle.moo_run.specs.Run.{LeavesNothingNew, ShowsTables, only_reads, r
 
 use crate::commands::do_task;
 use crate::loading::find_rows;
-use crate::session::{Runs, Session, Streams};
+use crate::session::{HasRun, Session, Streams};
 use moo_cli::{Action, Task};
 use moo_files::make_in;
 use moo_memory::Flat;
@@ -34,7 +34,7 @@ pub fn run_in<'s, S: Streams, B: Alter + Drop>(
     requires read { (path : List ℕ) → ReadsFile task path → S.Host.may_read session.old.host path }
     // The task runs from the moment at which the World works.
     ensures runs { (m : Moment) → Stands B.Store world (Works m) →
-        RunsIn (state B.Store result) task.entry m (⟦<Session<'s, S> as Runs>⟧.run session.old session.new) }
+        RunsIn (state B.Store result) task.entry m (⟦<Session<'s, S> as HasRun>⟧.run session.old session.new) }
     ensures clean { (m : Moment) → Stands B.Store world (Works m) →
         HasCleanDisk (state B.Store result) → HasCleanDisk (store_of B.Store world) }
     // A check that is done found that the tables show the World's rows.
@@ -60,7 +60,7 @@ fn run_new<'s, S: Streams, B: Alter + Drop>(
     requires good { IfSome rows (λ r. IsGood r.maps) }
     requires limit { IfSome rows (λ r. r.maps.head.seq < 2 ^ 63) }
     // It can't be made, and nothing is asked of the ports; or the task runs from it.
-    ensures runs { let run = ⟦<Session<'s, S> as Runs>⟧.run session.old session.new in
+    ensures runs { let run = ⟦<Session<'s, S> as HasRun>⟧.run session.old session.new in
         (run.given.ports.rests × FailsAtOnce run) ⊎ RunsMade (state B.Store result) task.entry (rows_made rows) run }
     ensures input { reads_input task.entry ≡ false → session.new.input ≡ session.old.input }
 {
@@ -84,7 +84,7 @@ pub fn run_over<'s, S: Streams, B: Alter + Drop>(
 ) -> Connection<B>
     requires read { (path : List ℕ) → ReadsFile task path → S.Host.may_read session.old.host path }
     requires outside { conn.in_transaction ≡ false }
-    ensures runs { RunsAnew task.entry (⟦<Session<'s, S> as Runs>⟧.run session.old session.new) (state B.Store result) }
+    ensures runs { RunsAnew task.entry (⟦<Session<'s, S> as HasRun>⟧.run session.old session.new) (state B.Store result) }
     ensures input { reads_input task.entry ≡ false → session.new.input ≡ session.old.input }
 {
     match find_rows(session, task) {

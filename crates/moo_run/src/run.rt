@@ -10,7 +10,7 @@ ghost use Rattle.moo_run.specs.Ends.{RunsOver, RunsClosed};
 
 use crate::ends::Ends;
 use crate::files::run_task;
-use crate::session::{Runs, Session, Streams};
+use crate::session::{HasRun, Session, Streams};
 use clap::error::ErrorKind;
 use moo_cli::{Usage, read_words};
 use moo_files::{Remains, WorldFiles};
@@ -80,10 +80,10 @@ pub fn run_words<'s, S: Streams>(
     requires read { (task : Task) (path : List ℕ) → NamesTask (map (λ word. word.now) words.now) task → ReadsFile task path →
         S.Host.may_read session.old.host path }
     // What is written, whatever the file holds.
-    ensures words { RunsWords (map (λ word. word.now) words.now) (⟦<Session<'s, S> as Runs>⟧.run session.old session.new) }
+    ensures words { RunsWords (map (λ word. word.now) words.now) (⟦<Session<'s, S> as HasRun>⟧.run session.old session.new) }
     // And by what it holds: the run is one over the world that it shows.
     ensures over { RunsOver (map (λ word. word.now) words.now) (image_at S.File.Start) result
-        (⟦<Session<'s, S> as Runs>⟧.run session.old session.new) }
+        (⟦<Session<'s, S> as HasRun>⟧.run session.old session.new) }
     // Only words of a task that reads the input change it.
     ensures input { KeepsInput (map (λ word. word.now) words.now) session.old.input session.new.input }
 {
@@ -109,10 +109,10 @@ pub fn run_to_end<'s, S: Streams>(
         S.Host.may_open session.old.host task.file.now }
     requires read { (task : Task) (path : List ℕ) → NamesTask (map (λ word. word.now) words.now) task → ReadsFile task path →
         S.Host.may_read session.old.host path }
-    ensures words { RunsWords (map (λ word. word.now) words.now) (⟦<Session<'s, S> as Runs>⟧.run session.old session.new) }
+    ensures words { RunsWords (map (λ word. word.now) words.now) (⟦<Session<'s, S> as HasRun>⟧.run session.old session.new) }
     // The file is closed after a run over what it held.
     ensures closed { RunsClosed (map (λ word. word.now) words.now) (image_at S.File.Start) result
-        (⟦<Session<'s, S> as Runs>⟧.run session.old session.new) }
+        (⟦<Session<'s, S> as HasRun>⟧.run session.old session.new) }
     // Only words of a task that reads the input change it.
     ensures input { KeepsInput (map (λ word. word.now) words.now) session.old.input session.new.input }
 {

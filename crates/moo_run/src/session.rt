@@ -89,7 +89,7 @@ impl<'s, S: Streams> Session<'s, S> {
 
 /// What a run is given and writes, from what its session was to what it is. `File` is what the file of its words holds, and `Disk` the disk
 /// that the file is on.
-pub trait Runs {
+pub trait HasRun {
     type File;
 
     type Disk: Disk;
@@ -97,7 +97,7 @@ pub trait Runs {
     ghost run: { Self → Self → Run };
 }
 
-impl<'s, S: Streams> Runs for Session<'s, S> {
+impl<'s, S: Streams> HasRun for Session<'s, S> {
     type File = S::File;
 
     type Disk = <S::Host as WorldFiles<S::File>>::Disk;

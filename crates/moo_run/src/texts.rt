@@ -9,7 +9,7 @@ ghost use Rattle.moo_run.specs.Texts.{OpenedBy, LacksBy};
 ghost use Rattle.moo_run.specs.Run.{course_status, changes_world, ComesOf, EndsTask, EndsText, TellsLack};
 
 use crate::host::BatchFiles;
-use crate::session::{Runs, Session, Streams};
+use crate::session::{HasRun, Session, Streams};
 use moo_cli::Options;
 use moo_reasons::StandardNotes;
 use moo_run_lines::{Failure, explain_lost};
@@ -124,7 +124,7 @@ pub(crate) fn answer_batches<'s, S: Streams, B: Alter + Drop>(
 ) -> Result<u8, Failure>
     ensures answers { OpenedBy S.Host.Text.remaining (S.Host.text session.old.host) path.now text →
         (m : Moment) → Stands B.Store world.old (Works m) →
-        let run = ⟦<Session<'s, S> as Runs>⟧.run session.old session.new in
+        let run = ⟦<Session<'s, S> as HasRun>⟧.run session.old session.new in
         EndsText B.Store world.old world.new manner m (run.given.text path.now) run.before run.after result }
     ensures lacks { LacksBy (S.Host.lacks session.old.host) path.now text →
         IfErr result (TellsLack (S.Host.lacks session.old.host) path.now) }

@@ -9,7 +9,7 @@ use Rattle.moo_files.{specs.Contents.{IsLeftBy}, specs.Closing.{IsClosedAs, IsCl
 use Rattle.moo_files.specs.declared.remains.Remains.TheVariants as remains
 use Rattle.moo_run.{specs.Ends.{IsClosedEnd}, specs.declared.ends.Ends.{Ends}}
 use Rattle.moo_run_laws.{specs.Again.{IfRan, IsFoundIn, IsFoundOf}, specs.FileRuns.{FileRun}, specs.Twice.{RunsTwice}, specs.Halted.{ClosedLeaves, EndLeaves, HaltsBefore}}
-use Rattle.moo_run.specs.declared.session.Runs as Runs
+use Rattle.moo_run.specs.declared.session.HasRun as HasRun
 use Rattle.moo_run.specs.declared.ends.Ends.TheVariants as variant
 
 -- what wasn't open and is shut now was shut before, or is open still
@@ -36,7 +36,7 @@ module _ {T D : Type 0} {g : Ghosts D} where
   end_found image (variant.Ran conn) closed next is clean bytes = inr (inr (closed_found image conn closed next is clean bytes))
   end_found image ends closed next is clean bytes = inr (inl bytes)
 
-module _ {S T D N U E : Type 0} (g : Runs.Ghosts S T D) {disk : Ghosts D} (h : Runs.Ghosts N U E) {other : Ghosts E} where
+module _ {S T D N U E : Type 0} (g : HasRun.Ghosts S T D) {disk : Ghosts D} (h : HasRun.Ghosts N U E) {other : Ghosts E} where
   -- two runs of which the first comes to a stop
   pub halts_before : (Began : S → Type 0) (run_by : S → Ends T D disk → FileRun g disk) (next_by : Ends U E other → FileRun h other)
       → (began : S) → Began began → RunsTwice g h (run_by began) next_by → HaltsBefore g h Began run_by next_by

@@ -12,7 +12,7 @@ use Rattle.moo_files.{specs.Contents.{HoldsMoment}, specs.Opened.{Database as a_
 use Rattle.moo_laws.specs.NobodyRises.{NoWizardActs, KeepsRights}
 use Rattle.moo_run.{specs.Given.{Run}, specs.Run.{begins_anew, RunsIn}, specs.Ends.{RunsOver}, specs.declared.ends.Ends.{Ends}}
 use Rattle.moo_run.specs.declared.ends.Ends.TheVariants as variant
-use Rattle.moo_run.specs.declared.session.Runs as Runs
+use Rattle.moo_run.specs.declared.session.HasRun as HasRun
 use Rattle.moo_run_laws.{specs.Again.{IfRan}, specs.FileRuns.{FileRun, run_of}, specs.InTurn.{RunInTurn, LeadInTurn}, proofs.AgainLemmas.{any_at_moment, known_present, ran_file}, proofs.LawLemmas.{Found, found_clean, leads_found, goes_by}, proofs.LedLemmas.{counts, led_after, led_alone, led_joins, once, moments_keep}}
 
 -- ---- one run
@@ -62,7 +62,7 @@ module _ {T D : Type 0} {g : Ghosts D} where
 
 -- ---- runs in turn
 
-module _ {S T D : Type 0} {g : Runs.Ghosts S T D} {disk : Ghosts D} where
+module _ {S T D : Type 0} {g : HasRun.Ghosts S T D} {disk : Ghosts D} where
   pub history : (image found : Image) (runs : List (FileRun g disk)) (m : Moment) → RunInTurn image runs found → HoldsMoment image m → (end : Moment) × HoldsMoment found end × (batches : List Batch) × LeadInTurn m runs batches end
   history image found [] m it holds = (m, subst (λ i. HoldsMoment i m) (sym it) holds, [], (refl, refl))
   history image found (run ∷ runs) m (is, over, next, lies, rest) holds =

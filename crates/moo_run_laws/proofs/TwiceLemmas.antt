@@ -6,7 +6,7 @@ use Rattle.sqlite_disk.specs.declared.Disk.{Ghosts}
 use Rattle.sqlite_wal.specs.Recovery.{Image}
 use Rattle.moo_run.{specs.Given.{Run}, specs.Ends.{RunsOver, IsClosedEnd}, specs.declared.ends.Ends.{Ends}}
 use Rattle.moo_run.specs.declared.ends.Ends.TheVariants as variant
-use Rattle.moo_run.specs.declared.session.Runs as Runs
+use Rattle.moo_run.specs.declared.session.HasRun as HasRun
 use Rattle.moo_run_lines.specs.Lines.{store_failure}
 use Rattle.moo_files.{specs.declared.remains.Remains.{Remains}}
 use Rattle.moo_run_laws.{specs.FileRuns.{FileRun, IsFileRun, run_of, Follows, HandsOver}, specs.Twice.{TellsEnd, EndsClosed, RunsTwice, StopsAndRuns}}
@@ -26,7 +26,7 @@ module _ {T D : Type 0} {disk : Ghosts D} where
   tells_end words image (variant.NoFile start) run (inl (task, named, alone, runs, it)) = inl (task, named, true_not_false (bytes_eq task.file.now (codes ":memory:")) it.file)
   tells_end words image (variant.NoFile start) run (inr (some, rests, usage, none)) = inr usage
 
-module _ {S T D : Type 0} {g : Runs.Ghosts S T D} {disk : Ghosts D} where
+module _ {S T D : Type 0} {g : HasRun.Ghosts S T D} {disk : Ghosts D} where
   -- the words ran, and then their file was closed
   abbrev pub IsClosedRun : FileRun g disk → Type 0
   IsClosedRun r = IsFileRun r × IsClosedEnd r.ends r.closed
@@ -34,7 +34,7 @@ module _ {S T D : Type 0} {g : Runs.Ghosts S T D} {disk : Ghosts D} where
   ends_closed : (r : FileRun g disk) → IsClosedRun r → EndsClosed r
   ends_closed r ran = (tells_end r.words r.image r.ends (run_of r) ran.0, ran.1)
 
-module _ {S T D N U E : Type 0} (g : Runs.Ghosts S T D) {disk : Ghosts D} (h : Runs.Ghosts N U E) {other : Ghosts E} where
+module _ {S T D N U E : Type 0} (g : HasRun.Ghosts S T D) {disk : Ghosts D} (h : HasRun.Ghosts N U E) {other : Ghosts E} where
   pub runs_twice : ((first : FileRun g disk) (next : FileRun h other) → Follows first next → HandsOver first next)
       → (run_by : Ends T D disk → FileRun g disk) (next_by : Ends U E other → FileRun h other)
       → (ends : Ends T D disk) × IsClosedRun (run_by ends) → (next_ends : Ends U E other) × IsClosedRun (next_by next_ends) → RunsTwice g h run_by next_by

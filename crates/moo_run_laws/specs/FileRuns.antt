@@ -18,11 +18,11 @@ use Rattle.moo_run.specs.Run.{RunsIn}
 use Rattle.moo_run.specs.Ends.{RunsOver, IsClosedEnd}
 use Rattle.moo_run_laws.specs.Again.{StartsFrom, IfRan, TakesUp, IsLeftAfter, IsFoundOf, IsFoundIn}
 use Rattle.moo_run.specs.declared.ends.Ends.{Ends}
-use Rattle.moo_run.specs.declared.session.Runs as Runs
+use Rattle.moo_run.specs.declared.session.HasRun as HasRun
 
 -- A run of the program over a file: its words, what the two files held, its session before it and after it, and what it left of the file,
 -- before this was closed and after that.
-pub record FileRun {S T D : Type 0} (g : Runs.Ghosts S T D) (disk : Ghosts D) : Type 0 where
+pub record FileRun {S T D : Type 0} (g : HasRun.Ghosts S T D) (disk : Ghosts D) : Type 0 where
   pub words : List (List ℕ)
   pub image : Image
   pub began : S
@@ -36,7 +36,7 @@ abbrev pub ServedTo : Attendance → ℕ → Moment → Place → Type 0
 ServedTo ports port m end =
     ((end ≡ Works m) × ports.refuses port) ⊎ ((answered failed : ℕ) × ports.attends port answered failed (Works m) end)
 
-module _ {S T D : Type 0} {g : Runs.Ghosts S T D} {disk : Ghosts D} where
+module _ {S T D : Type 0} {g : HasRun.Ghosts S T D} {disk : Ghosts D} where
   -- what it was given, and what it wrote
   abbrev pub run_of : FileRun g disk → Run
   run_of r = g.run r.began r.ended
@@ -78,7 +78,7 @@ module _ {S T D : Type 0} {g : Runs.Ghosts S T D} {disk : Ghosts D} where
   abbrev pub GoesOnFrom : FileRun g disk → Moment → Type 0
   GoesOnFrom r m = HoldsMoment r.image m × TakesUp r.words r.image m r.ends (run_of r)
 
-module _ {S T D N U E : Type 0} {g : Runs.Ghosts S T D} {disk : Ghosts D} {h : Runs.Ghosts N U E} {other : Ghosts E} where
+module _ {S T D N U E : Type 0} {g : HasRun.Ghosts S T D} {disk : Ghosts D} {h : HasRun.Ghosts N U E} {other : Ghosts E} where
   -- two runs of the program, the second over what is found after the first
   abbrev pub Follows : FileRun g disk → FileRun h other → Type 0
   Follows first next = IsFileRun first × IsFileRun next × IsFoundOnCleanDisk first next.image

@@ -15,7 +15,7 @@ use Rattle.moo_run_laws.specs.Again.{IfRan}
 use Rattle.moo_run_laws.specs.FileRuns.{FileRun, HandsOver}
 use Rattle.moo_run_laws.specs.Twice.{EndsClosed}
 use Rattle.moo_run.specs.declared.ends.Ends.{Ends}
-use Rattle.moo_run.specs.declared.session.Runs as Runs
+use Rattle.moo_run.specs.declared.session.HasRun as HasRun
 
 module _ {D : Type 0} {g : Ghosts D} where
   -- closing shut the store: it stopped at the sync of the database file, or as it turned its log over
@@ -34,7 +34,7 @@ module _ {T D : Type 0} {g : Ghosts D} where
   abbrev pub EndLeaves : Image → Ends T D g → Remains T D g → Image → Type 0
   EndLeaves image ends closed next = IfRan ends (λ conn. ClosedLeaves image conn closed next) (λ rest. BytesLeave image closed next)
 
-module _ {S T D N U E : Type 0} (g : Runs.Ghosts S T D) {disk : Ghosts D} (h : Runs.Ghosts N U E) {other : Ghosts E} where
+module _ {S T D N U E : Type 0} (g : HasRun.Ghosts S T D) {disk : Ghosts D} (h : HasRun.Ghosts N U E) {other : Ghosts E} where
   -- A run that began with such a session, whose host and output are to stop so, and then the next; each ended so, and its file was closed.
   -- If the disk of the first returned what was written, and the files of the second held bytes that `EndLeaves` allows, the first hands
   -- them over.

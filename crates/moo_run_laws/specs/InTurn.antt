@@ -11,9 +11,9 @@ use Rattle.moo_cli.specs.Tasks.{NamesTask}
 use Rattle.moo_run.specs.Run.{RunsIn}
 use Rattle.moo_run_laws.specs.Again.{IfRan}
 use Rattle.moo_run_laws.specs.FileRuns.{FileRun, run_of, IsFileRun, IsFoundOnCleanDisk}
-use Rattle.moo_run.specs.declared.session.Runs as Runs
+use Rattle.moo_run.specs.declared.session.HasRun as HasRun
 
-module _ {S T D : Type 0} {g : Runs.Ghosts S T D} {disk : Ghosts D} where
+module _ {S T D : Type 0} {g : HasRun.Ghosts S T D} {disk : Ghosts D} where
   -- Each of these runs is over what is found after the one before it, on a disk that returned what was written: the first over files that
   -- held the one image, and the other is found after the last.
   abbrev pub RunInTurn : Image → List (FileRun g disk) → Image → Type 0

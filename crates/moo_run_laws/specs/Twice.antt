@@ -14,7 +14,7 @@ use Rattle.moo_run.specs.Ends.{IsClosedEnd}
 use Rattle.moo_run_laws.specs.FileRuns.{FileRun, run_of, IsFoundAfter, IsFoundOnCleanDisk, HandsOver}
 use Rattle.moo_run.specs.declared.ends.Ends.{Ends}
 use Rattle.moo_run.specs.declared.ends.Ends.TheVariants as variant
-use Rattle.moo_run.specs.declared.session.Runs as Runs
+use Rattle.moo_run.specs.declared.session.HasRun as HasRun
 
 module _ {T D : Type 0} {disk : Ghosts D} where
   -- If no world of the words' file was opened or made, a failure is told, with its status. If they have no file, they name a task on
@@ -26,12 +26,12 @@ module _ {T D : Type 0} {disk : Ghosts D} where
       ((task : Task) × NamesTask words task × (bytes_eq task.file.now (codes ":memory:") ≡ true))
       ⊎ EndsUsage words run.before run.after run.status
 
-module _ {S T D : Type 0} {g : Runs.Ghosts S T D} {disk : Ghosts D} where
+module _ {S T D : Type 0} {g : HasRun.Ghosts S T D} {disk : Ghosts D} where
   -- the run ended so, and then its file was closed
   abbrev pub EndsClosed : FileRun g disk → Type 0
   EndsClosed r = TellsEnd r.words r.ends (run_of r) × IsClosedEnd r.ends r.closed
 
-module _ {S T D N U E : Type 0} (g : Runs.Ghosts S T D) {disk : Ghosts D} (h : Runs.Ghosts N U E) {other : Ghosts E} where
+module _ {S T D N U E : Type 0} (g : HasRun.Ghosts S T D) {disk : Ghosts D} (h : HasRun.Ghosts N U E) {other : Ghosts E} where
   -- Each of the two runs ended so, and then its file was closed. If the disk of the first returned what was written until then, and the
   -- files of the second held what may be found after it, it hands them over.
   abbrev pub RunsTwice : (Ends T D disk → FileRun g disk) → (Ends U E other → FileRun h other) → Type 0

@@ -9,7 +9,7 @@ ghost use Rattle.moo_run_laws.specs.Twice.{RunsTwice, StopsAndRuns};
 
 use crate::law::runs_lead_on;
 use moo_files::{Remains, WorldFiles};
-use moo_run::{Ends, Runs, Session, Streams, run_to_end, run_words};
+use moo_run::{Ends, HasRun, Session, Streams, run_to_end, run_words};
 
 /// Runs words as the program does, by `run_to_end`, and then other words.
 ///
@@ -40,7 +40,7 @@ pub fn run_and_run_again<'s, 'n, S: Streams, N: Streams>(
     // from the moment that its file held, or from a new world. If it ran no task over the file: from what the file held, or, of version 1,
     // from some moment of the same rows. What stays keeps its number and its cells, and no number is given again. After a service
     // everything counts that its connections asked, also if the answer couldn't be sent.
-    ensures again { RunsTwice ⟦<Session<'s, S> as Runs>⟧ ⟦<Session<'n, N> as Runs>⟧
+    ensures again { RunsTwice ⟦<Session<'s, S> as HasRun>⟧ ⟦<Session<'n, N> as HasRun>⟧
         (λ ends. record {
           words = map (λ word. word.now) words.now;
           image = image_at S.File.Start;
@@ -87,7 +87,7 @@ pub fn stop_and_run_again<'s, 'n, S: Streams, N: Streams>(
     requires next_read { (task : Task) (path : List ℕ) → NamesTask (map (λ word. word.now) next_words.now) task →
         ReadsFile task path → N.Host.may_read next.old.host path }
     // Whatever bytes the disk leaves of the two files, or a crash leaves of the database.
-    ensures again { StopsAndRuns ⟦<Session<'s, S> as Runs>⟧ ⟦<Session<'n, N> as Runs>⟧
+    ensures again { StopsAndRuns ⟦<Session<'s, S> as HasRun>⟧ ⟦<Session<'n, N> as HasRun>⟧
         (λ closed. record {
           words = map (λ word. word.now) words.now;
           image = image_at S.File.Start;

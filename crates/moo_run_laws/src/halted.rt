@@ -11,7 +11,7 @@ use crate::again::run_and_run_again;
 use crate::host::Halt;
 use crate::streams::{HaltingStreams, halting};
 use moo_files::{Remains, WorldFiles};
-use moo_run::{Runs, Session, Streams};
+use moo_run::{HasRun, Session, Streams};
 use sqlite_disk::Fuse;
 
 /// Runs words as the program does, by `run_to_end`, until the run comes to a stop. Then other words run over what the disk leaves.
@@ -40,7 +40,7 @@ pub fn run_halted<'s, 'n, S: Streams, N: Streams>(
     requires next_read { (task : Task) (path : List ℕ) → NamesTask (map (λ word. word.now) next_words.now) task →
         ReadsFile task path → N.Host.may_read next.old.host path }
     // From bytes of `EndLeaves` the next run starts after the acknowledged batches (of a service, all that ran), or one more.
-    ensures halted { HaltsBefore ⟦<Session<'s, HaltingStreams<S>> as Runs>⟧ ⟦<Session<'n, N> as Runs>⟧
+    ensures halted { HaltsBefore ⟦<Session<'s, HaltingStreams<S>> as HasRun>⟧ ⟦<Session<'n, N> as HasRun>⟧
         (λ began. (began.host ≡ record { inner = session.entry.host; halt = halt }) × (began.input ≡ session.entry.input)
         × (began.output ≡ record { inner = session.entry.output; bytes_left = halt.bytes }))
         (λ began ends. record {

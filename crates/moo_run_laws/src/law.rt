@@ -15,7 +15,7 @@ ghost use Rattle.moo_run.specs.Run.{RunsIn};
 ghost use Rattle.moo_run_laws.specs.FileRuns.{FileRun, Follows, HandsOver, IsFoundAfter, run_of, ServedTo};
 ghost use Rattle.moo_run_laws.specs.Halted.{EndLeaves};
 
-use moo_run::Runs;
+use moo_run::HasRun;
 
 /// The program runs over a file, on a disk that returns what was written, to the end of its words, and closes it or is stopped. It runs
 /// again over what is then found: it goes on from a moment that the first run may leave, with its state, all its numbers and each of its
@@ -24,21 +24,21 @@ use moo_run::Runs;
 /// A run is what the clause `over` of `run_words` says of it: any words, with any input, over any host. `run_to_end`, the call that the
 /// program makes, says it too, and closes the file after that. `run_and_run_again` makes two such calls, and says it of them;
 /// `stop_and_run_again` says it of a first run whose file isn't closed.
-pub fn runs_lead_on<S: Runs, N: Runs>()
-    ensures follows { (first : FileRun S.Runs S.Disk.Disk) (next : FileRun N.Runs N.Disk.Disk) → Follows first next →
+pub fn runs_lead_on<S: HasRun, N: HasRun>()
+    ensures follows { (first : FileRun S.HasRun S.Disk.Disk) (next : FileRun N.HasRun N.Disk.Disk) → Follows first next →
         HandsOver first next }
 {}
 
 /// What the disk leaves of the files of a run that is stopped, once these are closed, may be found after it: `run_to_end` says that they are
 /// closed so, and `runs_lead_on` from what any run over these bytes then goes on.
-pub fn ends_are_found<S: Runs>()
-    ensures found { (run : FileRun S.Runs S.Disk.Disk) (next : Image) → IsClosedEnd run.ends run.closed → IsCleanRemains run.closed →
+pub fn ends_are_found<S: HasRun>()
+    ensures found { (run : FileRun S.HasRun S.Disk.Disk) (next : Image) → IsClosedEnd run.ends run.closed → IsCleanRemains run.closed →
         EndLeaves run.image run.ends run.closed next → IsFoundAfter run next }
 {}
 
 /// A service that ran from a moment ended where its connections led: or its port was refused, and it is where it was.
-pub fn services_end_where_connections_led<S: Runs>()
-    ensures served { (run : FileRun S.Runs S.Disk.Disk) (conn : Held (FileStore S.Disk S.Disk.Disk)) (task : Task) (service : Service)
+pub fn services_end_where_connections_led<S: HasRun>()
+    ensures served { (run : FileRun S.HasRun S.Disk.Disk) (conn : Held (FileStore S.Disk S.Disk.Disk)) (task : Task) (service : Service)
         (m : Moment) → task.action ≡ Serve service → (ran : RunsIn (file_state conn) task m (run_of run)) →
         ServedTo (run_of run).given.ports service.port m ran.0.end }
 {}

@@ -12,7 +12,7 @@ ghost use Rattle.moo_run.specs.Ends.{IsUntouched, RunsClosed};
 use crate::host::System;
 use moo_files::{Remains, WorldFiles};
 use moo_progress::DiskChanges;
-use moo_run::{Runs, Session, Streams, run_to_end};
+use moo_run::{HasRun, Session, Streams, run_to_end};
 use moo_run_lines::{Failure, report};
 use sqlite::Unknown;
 use std::alloc::{AllocError, Global};
@@ -35,7 +35,7 @@ fn named_words(alloc: Global, mut words: Vec<String>) -> io::Result<Vec<String>>
 }
 
 /// The same words, borrowed.
-fn borrowed<'a>(alloc: Global, words: &'a [String]) -> Result<Vec<&'a str>, AllocError>
+fn borrow_words<'a>(alloc: Global, words: &'a [String]) -> Result<Vec<&'a str>, AllocError>
     ensures { IfOk result (λ found. map (λ word. word.now) found.items ≡ map string_bytes words.now) }
 {
     let mut found = Vec::with_capacity(alloc, words.len())?;
@@ -68,7 +68,7 @@ pub fn run_given<'s, S: Streams>(
     requires read { IfOk words (λ words. (task : Task) (path : List ℕ) → NamesTask (map string_bytes words.items) task →
         ReadsFile task path → S.Host.may_read session.old.host path) }
     // The outcome of the words is that of `run_to_end`; or memory runs out before that, and their file isn't opened.
-    ensures read { IfOk words (λ words. let run = ⟦<Session<'s, S> as Runs>⟧.run session.old session.new in
+    ensures read { IfOk words (λ words. let run = ⟦<Session<'s, S> as HasRun>⟧.run session.old session.new in
         (Reports Failure.NoMemory run.before run.after run.status × IsUntouched result × run.given.ports.rests)
         ⊎ RunsClosed (map string_bytes words.items) (image_at S.File.Start) result run) }
     ensures input { IfOk words (λ words. KeepsInput (map string_bytes words.items) session.old.input session.new.input) }
@@ -92,7 +92,7 @@ pub fn run_given<'s, S: Streams>(
             return Remains::Untouched(start);
         }
     };
-    let Ok(words) = borrowed(session.alloc, &words) else {
+    let Ok(words) = borrow_words(session.alloc, &words) else {
         session.status = report(
             session.alloc,
             session.console,

@@ -16,7 +16,7 @@ use sqlite::Alter;
 use std::alloc::AllocError;
 
 /// A reply, unless it is a lack of memory.
-fn kept(reply: Reply) -> Result<Reply, AllocError>
+fn reply_with_memory(reply: Reply) -> Result<Reply, AllocError>
     ensures { IfOk result (λ same. (same ≡ reply) × (reply ≢ Reply.NoMemory)) }
 {
     match reply {
@@ -38,7 +38,7 @@ fn ask_kept<S: Alter + Drop, N: Witness>(
         HasSeenReply N.sees world.now.rows.maps batch.now reply (N.kept witness.old) (N.kept witness.new)) }
 {
     match world.ask(batch, witness) {
-        Ok(reply) => kept(reply),
+        Ok(reply) => reply_with_memory(reply),
         Err(_) => Err(AllocError),
     }
 }

@@ -19,7 +19,7 @@ use std::alloc::Global;
 
 /// The answers and the changes of a batch that is accepted, or the reply to one that isn't. If it is refused, the witness sees why,
 /// once.
-pub(crate) fn judged<N: Witness>(
+pub(crate) fn reply_or_changes<N: Witness>(
     alloc: Global,
     rows: &Flat,
     batch: &Batch,

@@ -9,7 +9,7 @@ ghost use Rattle.moo_store.specs.Rehearsed.{IsRehearsedAt, RehearsesAt};
 
 use crate::answering::{Answering, answer_until};
 use crate::course::Course;
-use crate::judged::judged;
+use crate::judged::reply_or_changes;
 use crate::world::World;
 use moo_batch::Witness;
 use moo_memory::{Changes, Flat, apply_changes};
@@ -87,7 +87,7 @@ impl Rehearsal {
         if self.failed {
             return Answer::Closed;
         }
-        match judged(self.alloc, &self.rows, batch, witness) {
+        match reply_or_changes(self.alloc, &self.rows, batch, witness) {
             Ok((answers, changes)) => self.accept(answers, changes),
             Err(reply) => Answer::Replied(reply),
         }

@@ -3,7 +3,7 @@
 use crate::committing::commit_cells;
 use crate::comparing::object_count;
 use crate::fault::StoreFault;
-use crate::judged::judged;
+use crate::judged::reply_or_changes;
 use crate::printing::print_changes;
 use moo_batch::Witness;
 use moo_memory::{Changes, Flat, apply_changes};
@@ -129,7 +129,7 @@ impl<S: Alter + Drop> World<S> {
         if self.failed {
             return Err(StoreFault::Closed);
         }
-        match judged(self.alloc, &self.rows, batch, witness) {
+        match reply_or_changes(self.alloc, &self.rows, batch, witness) {
             Ok((answers, changes)) => match print_changes(self.alloc, &self.rows, &changes) {
                 Ok(cells) => self.commit(answers, changes, &cells),
                 Err(_) => Ok(Reply::NoMemory),
@@ -151,7 +151,7 @@ impl<S: Alter + Drop> World<S> {
         if self.failed {
             return Err(StoreFault::Closed);
         }
-        match judged(self.alloc, &self.rows, batch, witness) {
+        match reply_or_changes(self.alloc, &self.rows, batch, witness) {
             Ok((answers, _changes)) => Ok(Reply::Accepted {
                 seq: self.rows.head().seq,
                 answers,

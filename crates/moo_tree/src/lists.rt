@@ -24,7 +24,7 @@ pub(crate) fn list_linked<R: Rows>(
 }
 
 /// The objects past `#-1` that have the link, ascending. An `Err` is a lack of memory.
-fn linked<R: Rows>(alloc: Global, rows: &R, link: Link) -> Result<Vec<ObjNo>, AllocError>
+fn collect_linked<R: Rows>(alloc: Global, rows: &R, link: Link) -> Result<Vec<ObjNo>, AllocError>
     ensures { IfOk result (λ v. v.items ≡ map (λ e. e.0) (linked_left link nothing (R.held rows.now).maps)) }
 {
     let mut found = Vec::new(alloc);
@@ -38,7 +38,7 @@ pub fn children<R: Rows>(alloc: Global, rows: &R, x: ObjNo) -> Result<Vec<ObjNo>
     requires { IsTree (world_of (R.held rows.now).maps) }
     ensures { IfOk result (λ v. v.items ≡ children_of (world_of (R.held rows.now).maps) x) }
 {
-    linked(alloc, rows, Link::ChildOf(x))
+    collect_linked(alloc, rows, Link::ChildOf(x))
 }
 
 /// The objects that are in x itself, ascending; those that are nowhere for `#-1`. An `Err` is a lack of memory.
@@ -47,7 +47,7 @@ pub fn contents<R: Rows>(alloc: Global, rows: &R, x: ObjNo) -> Result<Vec<ObjNo>
     requires { IsTree (world_of (R.held rows.now).maps) }
     ensures { IfOk result (λ v. v.items ≡ contents_of (world_of (R.held rows.now).maps) x) }
 {
-    linked(alloc, rows, Link::Within(x))
+    collect_linked(alloc, rows, Link::Within(x))
 }
 
 /// The objects with the player flag, ascending. An `Err` is a lack of memory.
@@ -56,5 +56,5 @@ pub fn players<R: Rows>(alloc: Global, rows: &R) -> Result<Vec<ObjNo>, AllocErro
     requires { IsTree (world_of (R.held rows.now).maps) }
     ensures { IfOk result (λ v. v.items ≡ players_of (world_of (R.held rows.now).maps)) }
 {
-    linked(alloc, rows, Link::Player)
+    collect_linked(alloc, rows, Link::Player)
 }

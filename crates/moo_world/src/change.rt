@@ -23,7 +23,7 @@ pub enum Change {
 
 impl Change {
     /// The row with that field changed, and no other.
-    pub fn applied(self, mut row: ObjRow) -> ObjRow
+    pub fn apply_to(self, mut row: ObjRow) -> ObjRow
         ensures { result ≡ changed self row }
     {
         match self {

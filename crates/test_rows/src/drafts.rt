@@ -65,7 +65,7 @@ fn meet_keys<R: Rows>(rows: &mut R, met: &mut Keys) -> Result<(), AllocError> {
 }
 
 /// Meets keys on a draft over rows, and gives the changes of that draft.
-fn drafted<B: Rows>(alloc: Global, base: &B, met: &mut Keys) -> Result<Changes, AllocError> {
+fn draft_changes<B: Rows>(alloc: Global, base: &B, met: &mut Keys) -> Result<Changes, AllocError> {
     let mut draft = Draft::new(alloc, base);
     meet_keys(&mut draft, met)?;
     draft.into_changes()
@@ -80,7 +80,7 @@ fn met_on(alloc: Global, rows: &mut Flat) -> Result<Keys, AllocError> {
 
 /// The changes of a draft over rows on which keys are met.
 fn changes_over(alloc: Global, base: &Flat, met: &mut Keys) -> Result<Changes, AllocError> {
-    drafted(alloc, base, met)
+    draft_changes(alloc, base, met)
 }
 
 /// Whether they are many, and those that are met on these rows.

@@ -39,7 +39,7 @@ pub(crate) fn bytes_of(alloc: Global, files: &Files<Fused>) -> Result<Kept, Fail
 }
 
 /// A file of these bytes, all of them synced, that stops after so many calls.
-fn fused(alloc: Global, bytes: &[u8], calls: u64) -> Result<Fused, Fail> {
+fn new_fused(alloc: Global, bytes: &[u8], calls: u64) -> Result<Fused, Fail> {
     let mut memory = Memory::new(alloc);
     if memory.may_be_used() {
         memory.write_at(0, bytes)?;
@@ -52,10 +52,10 @@ fn fused(alloc: Global, bytes: &[u8], calls: u64) -> Result<Fused, Fail> {
 
 /// Two such files, of which neither stops.
 pub(crate) fn whole(alloc: Global, kept: &Kept) -> Result<Files<Fused>, Fail> {
-    let log = fused(alloc, &kept.log, u64::MAX)?;
+    let log = new_fused(alloc, &kept.log, u64::MAX)?;
     Ok(Files {
         log,
-        db: fused(alloc, &kept.db, u64::MAX)?,
+        db: new_fused(alloc, &kept.db, u64::MAX)?,
     })
 }
 
@@ -70,15 +70,15 @@ pub(crate) fn stopping(
         Which::Log => (calls, u64::MAX),
         Which::Db => (u64::MAX, calls),
     };
-    let log = fused(alloc, &kept.log, log_calls)?;
+    let log = new_fused(alloc, &kept.log, log_calls)?;
     Ok(Files {
         log,
-        db: fused(alloc, &kept.db, db_calls)?,
+        db: new_fused(alloc, &kept.db, db_calls)?,
     })
 }
 
 /// What the next open is given.
-pub(crate) fn left(
+pub(crate) fn files_after_loss(
     alloc: Global,
     mut files: Files<Fused>,
     loss: Loss,

@@ -1,7 +1,7 @@
 //! A file of the first version that is opened, with a stop at each call of one file and then of the other.
 
-use crate::files::{Kept, Loss, Which, left, stopping};
-use crate::rounds::{done, tables_of, world_of};
+use crate::files::{Kept, Loss, Which, files_after_loss, stopping};
+use crate::rounds::{do_without_stop, files_after, tables_of};
 use crate::stops::TREE;
 use std::alloc::Global;
 use std::test::Fail;
@@ -78,7 +78,7 @@ fn one_round(
 ) -> Result<bool, Fail> {
     let mut seen = Seen::new(alloc);
     let files = stopping(alloc, migration.kept, which, calls)?;
-    let files = left(
+    let files = files_after_loss(
         alloc,
         visit_fused(alloc, files, Task::Check, &mut seen),
         loss,
@@ -121,10 +121,10 @@ fn all_rounds(alloc: Global, migration: &Migration<'_>, found: &mut Found) -> Re
 fn a_migration_that_stops_left_the_world(rt: HostRuntime) -> Result<(), Fail> {
     let alloc = rt.alloc();
     let kept = tables_of(alloc, FIRST)?;
-    let world = world_of(alloc, TREE.as_bytes())?;
-    let (earlier, _) = done(alloc, &kept, Task::Tables)?;
-    let (present, _) = done(alloc, &world, Task::Tables)?;
-    let (dump, _) = done(alloc, &world, Task::Look)?;
+    let world = files_after(alloc, TREE.as_bytes())?;
+    let (earlier, _) = do_without_stop(alloc, &kept, Task::Tables)?;
+    let (present, _) = do_without_stop(alloc, &world, Task::Tables)?;
+    let (dump, _) = do_without_stop(alloc, &world, Task::Look)?;
     let migration = Migration {
         kept: &kept,
         earlier: &earlier,

@@ -59,7 +59,7 @@ fn rows_of<S: Alter + Drop>(alloc: Global, mut conn: Connection<S>) -> Result<Fl
 }
 
 /// A World of the rows of some tables, over others.
-fn mixed<S: Alter + Drop>(
+fn mix_world<S: Alter + Drop>(
     alloc: Global,
     own: Connection<S>,
     tables: Connection<S>,
@@ -80,14 +80,14 @@ fn line<S: Alter + Drop>(alloc: Global, world: &mut World<S>) -> Result<String, 
 }
 
 /// What two checks say, one after the other, of a World of the rows after one call, over the tables after another.
-fn checked<S: Alter + Drop>(
+fn check_twice<S: Alter + Drop>(
     alloc: Global,
     (first, second): (Connection<S>, Connection<S>),
     (own, tables): (&str, &str),
 ) -> Result<(String, String), Fail> {
     let own = tables_after(alloc, first, own)?;
     let tables = tables_after(alloc, second, tables)?;
-    let mut world = mixed(alloc, own, tables)?;
+    let mut world = mix_world(alloc, own, tables)?;
     let once = line(alloc, &mut world)?;
     Ok((once, line(alloc, &mut world)?))
 }
@@ -95,7 +95,7 @@ fn checked<S: Alter + Drop>(
 /// The same, over two stores in memory.
 fn checked_in_memory(alloc: Global, calls: (&str, &str)) -> Result<(String, String), Fail> {
     let first = Connection::open_in_memory(alloc)?;
-    checked(alloc, (first, Connection::open_in_memory(alloc)?), calls)
+    check_twice(alloc, (first, Connection::open_in_memory(alloc)?), calls)
 }
 
 /// The calls after a World's own rows and after its tables, and what a check of it says, and the next one.

@@ -1,6 +1,6 @@
 //! A run that stops at each call of a file in turn, and what is found after each stop.
 
-use crate::files::{Kept, Loss, Which, bytes_of, left, stopping, whole};
+use crate::files::{Kept, Loss, Which, bytes_of, files_after_loss, stopping, whole};
 use std::alloc::Global;
 use std::test::Fail;
 use test_visits::{Seen, Task, visit_fused};
@@ -17,7 +17,11 @@ pub(crate) struct Run<'a> {
 }
 
 /// Does a task on files that don't stop, and answers what is written, and the files.
-pub(crate) fn done(alloc: Global, files: &Kept, task: Task<'_>) -> Result<(Vec<u8>, Kept), Fail> {
+pub(crate) fn do_without_stop(
+    alloc: Global,
+    files: &Kept,
+    task: Task<'_>,
+) -> Result<(Vec<u8>, Kept), Fail> {
     let mut seen = Seen::new(alloc);
     let behind = visit_fused(alloc, whole(alloc, files)?, task, &mut seen);
     if !seen.is_done || !seen.is_closed {
@@ -32,18 +36,18 @@ pub(crate) fn tables_of(alloc: Global, statements: &str) -> Result<Kept, Fail> {
         log: Vec::new(alloc),
         db: Vec::new(alloc),
     };
-    let (_, behind) = done(alloc, &none, Task::Statements(statements))?;
+    let (_, behind) = do_without_stop(alloc, &none, Task::Statements(statements))?;
     Ok(behind)
 }
 
 /// The files of a new world on which a text was run.
-pub(crate) fn world_of(alloc: Global, text: &[u8]) -> Result<Kept, Fail> {
+pub(crate) fn files_after(alloc: Global, text: &[u8]) -> Result<Kept, Fail> {
     let none = Kept {
         log: Vec::new(alloc),
         db: Vec::new(alloc),
     };
-    let (_, new) = done(alloc, &none, Task::Init)?;
-    let (_, behind) = done(alloc, &new, Task::Apply(text))?;
+    let (_, new) = do_without_stop(alloc, &none, Task::Init)?;
+    let (_, behind) = do_without_stop(alloc, &new, Task::Apply(text))?;
     Ok(behind)
 }
 
@@ -54,12 +58,12 @@ pub(crate) fn run_on<'a>(
     task: Task<'a>,
     reply: &'a [u8],
 ) -> Result<Run<'a>, Fail> {
-    let (old, _) = done(alloc, &kept, Task::Look)?;
-    let (written, behind) = done(alloc, &kept, task)?;
+    let (old, _) = do_without_stop(alloc, &kept, Task::Look)?;
+    let (written, behind) = do_without_stop(alloc, &kept, task)?;
     if written.as_slice() != reply {
         return Err(Fail::from("a run without a stop is answered otherwise"));
     }
-    let (new, _) = done(alloc, &behind, Task::Look)?;
+    let (new, _) = do_without_stop(alloc, &behind, Task::Look)?;
     Ok(Run {
         kept,
         task,
@@ -75,8 +79,8 @@ pub(crate) fn making<'a>(alloc: Global) -> Result<Run<'a>, Fail> {
         log: Vec::new(alloc),
         db: Vec::new(alloc),
     };
-    let (_, behind) = done(alloc, &none, Task::Init)?;
-    let (new, _) = done(alloc, &behind, Task::Look)?;
+    let (_, behind) = do_without_stop(alloc, &none, Task::Init)?;
+    let (new, _) = do_without_stop(alloc, &behind, Task::Look)?;
     Ok(Run {
         kept: none,
         task: Task::Init,
@@ -134,7 +138,7 @@ fn one_round(
 ) -> Result<Round, Fail> {
     let mut seen = Seen::new(alloc);
     let files = stopping(alloc, &run.kept, which, calls)?;
-    let files = left(alloc, visit_fused(alloc, files, run.task, &mut seen), loss)?;
+    let files = files_after_loss(alloc, visit_fused(alloc, files, run.task, &mut seen), loss)?;
     let mut look = Seen::new(alloc);
     let files = visit_fused(alloc, files, Task::Look, &mut look);
     let mut found = world_found(run, is_acknowledged(run, &seen), &look);

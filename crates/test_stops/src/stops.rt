@@ -1,7 +1,7 @@
 //! A stop at each call of one file and then of the other.
 
 use crate::files::{Loss, Which};
-use crate::rounds::{Counts, Run, each_round, making, run_on, world_of};
+use crate::rounds::{Counts, Run, each_round, files_after, making, run_on};
 use std::alloc::Global;
 use std::process::Abort;
 use std::test::Fail;
@@ -76,7 +76,7 @@ fn test_text<'a>(
     text: &'a [u8],
     reply: &'a [u8],
 ) -> Result<Run<'a>, Fail> {
-    let run = run_on(alloc, world_of(alloc, before)?, Task::Apply(text), reply)?;
+    let run = run_on(alloc, files_after(alloc, before)?, Task::Apply(text), reply)?;
     test_counts(rt, all_rounds(alloc, &run)?);
     Ok(run)
 }
@@ -150,7 +150,7 @@ fn a_grant_that_stops_is_there_or_not(rt: HostRuntime) -> Result<(), Fail> {
 #[test]
 fn a_check_that_stops_changes_nothing(rt: HostRuntime) -> Result<(), Fail> {
     let alloc = rt.alloc();
-    let kept = world_of(alloc, TREE.as_bytes())?;
+    let kept = files_after(alloc, TREE.as_bytes())?;
     let run = run_on(alloc, kept, Task::Check, b"")?;
     assert!(rt; run.old == run.new);
     let counts = all_rounds(alloc, &run)?;

@@ -128,12 +128,12 @@ fn visit_files<D: Disk + Drop>(
         return files;
     }
     match Connection::open_files(alloc, files, Options::new(1)) {
-        Ok(conn) => closed(visit(alloc, conn, task, seen), seen),
+        Ok(conn) => close_conn(visit(alloc, conn, task, seen), seen),
         Err((_error, left)) => left.into_files(),
     }
 }
 
-fn closed<D: Disk + Drop>(conn: Connection<FileStore<D>>, seen: &mut Seen) -> Files<D> {
+fn close_conn<D: Disk + Drop>(conn: Connection<FileStore<D>>, seen: &mut Seen) -> Files<D> {
     match conn.close_files() {
         Ok(files) => {
             seen.is_closed = true;

@@ -37,7 +37,7 @@ pub(super) struct Counting {
 
 impl Counting {
     /// The counts so far, which begin anew.
-    pub(super) fn taken(&mut self) -> Counts
+    pub(super) fn take_counts(&mut self) -> Counts
         ensures { self.new.rows ≡ self.old.rows }
     {
         let counts = self.counts;

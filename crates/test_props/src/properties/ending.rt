@@ -3,8 +3,8 @@
 ghost use Rattle.moo_world.specs.Rows.{IsGood};
 
 use super::counting::{Counts, NONE};
-use super::steps::{dropped, read};
-use super::tree::planted;
+use super::steps::{drop_one, read};
+use super::tree::new_tree;
 use moo_props::Dropped;
 use moo_rows::{PropId, Rows};
 use moo_tree::valid;
@@ -37,7 +37,7 @@ fn is_parent_of<R: Rows>(rows: &R, x: ObjNo, parent: ObjNo) -> bool {
 fn drop_fifth<R: Rows>(rt: &impl Abort, alloc: Global, rows: &mut R) -> Result<(), LiteralFault>
     requires { IsGood (R.held rows.old).maps }
 {
-    let gone = dropped(rt, alloc, rows, 5)?;
+    let gone = drop_one(rt, alloc, rows, 5)?;
     look_at_gone(rt, &gone);
     drop(gone);
     assert!(rt; !valid(rows, ObjNo(5)));
@@ -51,7 +51,7 @@ fn drop_fifth<R: Rows>(rt: &impl Abort, alloc: Global, rows: &mut R) -> Result<(
 fn an_object_goes_with_all_its_slots_and_its_own_on_descendants(
     rt: HostRuntime,
 ) -> Result<(), LiteralFault> {
-    let mut rows = planted(&rt, rt.alloc())?;
+    let mut rows = new_tree(&rt, rt.alloc())?;
     drop_fifth(&rt, rt.alloc(), &mut rows)?;
     let counts = Counts {
         objects: (1, 1),
@@ -59,6 +59,6 @@ fn an_object_goes_with_all_its_slots_and_its_own_on_descendants(
         slots: (0, 3),
         ..NONE
     };
-    assert!(rt; rows.taken() == counts);
+    assert!(rt; rows.take_counts() == counts);
     Ok(())
 }

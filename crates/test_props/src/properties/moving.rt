@@ -6,8 +6,8 @@ ghost use Rattle.std.specs.Prelude.{OnOk};
 ghost use Rattle.moo_world.specs.Rows.{IsGood};
 
 use super::counting::{Counts, NONE};
-use super::steps::{READ, WIZARD, added, given, made, moved, read, set, slot};
-use super::tree::planted;
+use super::steps::{READ, WIZARD, define_integer, give, make_next, move_under, read, set, slot};
+use super::tree::new_tree;
 use moo_rows::{Bits, PropId, Rows};
 use moo_value::{LiteralFault, ObjNo};
 use std::alloc::Global;
@@ -33,7 +33,7 @@ fn moved_touching<R: Rows>(
     requires { IsGood (R.held rows.old).maps }
     ensures { OnOk result (IsGood (R.held rows.new).maps) }
 {
-    let touched = moved(rt, alloc, rows, x, new)?;
+    let touched = move_under(rt, alloc, rows, x, new)?;
     assert!(rt; touched.removed.items() == want.removed);
     assert!(rt; touched.added.items() == want.added);
     assert!(rt; touched.relinked.items() == want.relinked);
@@ -65,14 +65,14 @@ fn leave_and_gain<R: Rows>(rt: &impl Abort, alloc: Global, rows: &mut R) -> Resu
 fn a_subtree_loses_what_it_leaves_and_gains_what_it_comes_under(
     rt: HostRuntime,
 ) -> Result<(), LiteralFault> {
-    let mut rows = planted(&rt, rt.alloc())?;
+    let mut rows = new_tree(&rt, rt.alloc())?;
     leave_and_gain(&rt, rt.alloc(), &mut rows)?;
     let counts = Counts {
         objects: (1, 0),
         slots: (2, 2),
         ..NONE
     };
-    assert!(rt; rows.taken() == counts);
+    assert!(rt; rows.take_counts() == counts);
     Ok(())
 }
 
@@ -96,7 +96,7 @@ fn stay_with_grandparent<R: Rows>(
 
 #[test]
 fn what_is_shared_with_a_grandparent_stays(rt: HostRuntime) -> Result<(), LiteralFault> {
-    stay_with_grandparent(&rt, rt.alloc(), &mut planted(&rt, rt.alloc())?)
+    stay_with_grandparent(&rt, rt.alloc(), &mut new_tree(&rt, rt.alloc())?)
 }
 
 /// Puts #5 under #4, its parent.
@@ -113,9 +113,9 @@ fn stay<R: Rows>(rt: &impl Abort, alloc: Global, rows: &mut R) -> Result<(), Lit
 
 #[test]
 fn nothing_is_written_under_the_present_parent(rt: HostRuntime) -> Result<(), LiteralFault> {
-    let mut rows = planted(&rt, rt.alloc())?;
+    let mut rows = new_tree(&rt, rt.alloc())?;
     stay(&rt, rt.alloc(), &mut rows)?;
-    assert!(rt; rows.taken() == NONE);
+    assert!(rt; rows.take_counts() == NONE);
     Ok(())
 }
 
@@ -124,7 +124,7 @@ fn there_and_back<R: Rows>(rt: &impl Abort, alloc: Global, rows: &mut R) -> Resu
     requires { IsGood (R.held rows.old).maps }
 {
     set(rt, alloc, rows, 6, b"a", 12)?;
-    moved(rt, alloc, rows, 5, 7)?;
+    move_under(rt, alloc, rows, 5, 7)?;
     let touches = Touches {
         removed: &[(ObjNo(5), PropId(3)), (ObjNo(6), PropId(3))],
         added: &[(ObjNo(5), PropId(1)), (ObjNo(6), PropId(1))],
@@ -138,7 +138,7 @@ fn there_and_back<R: Rows>(rt: &impl Abort, alloc: Global, rows: &mut R) -> Resu
 
 #[test]
 fn a_value_is_gone_after_the_way_there_and_back(rt: HostRuntime) -> Result<(), LiteralFault> {
-    there_and_back(&rt, rt.alloc(), &mut planted(&rt, rt.alloc())?)
+    there_and_back(&rt, rt.alloc(), &mut new_tree(&rt, rt.alloc())?)
 }
 
 const CHANGEABLE: Bits = Bits {
@@ -156,10 +156,10 @@ fn under_the_eighth<R: Rows>(
     requires { IsGood (R.held rows.old).maps }
     ensures { OnOk result (IsGood (R.held rows.new).maps) }
 {
-    added(rt, alloc, rows, 7, b"d", 40, CHANGEABLE)?;
-    assert!(rt; made(rt, alloc, rows, 7)? == ObjNo(8));
-    given(rt, alloc, rows, 8, b"d", ObjNo(0), READ)?;
-    moved(rt, alloc, rows, 5, 8)?;
+    define_integer(rt, alloc, rows, 7, b"d", 40, CHANGEABLE)?;
+    assert!(rt; make_next(rt, alloc, rows, 7)? == ObjNo(8));
+    give(rt, alloc, rows, 8, b"d", ObjNo(0), READ)?;
+    move_under(rt, alloc, rows, 5, 8)?;
     Ok(())
 }
 
@@ -184,5 +184,5 @@ fn come_under_the_eighth<R: Rows>(
 
 #[test]
 fn a_fresh_slot_is_like_that_of_the_new_parent(rt: HostRuntime) -> Result<(), LiteralFault> {
-    come_under_the_eighth(&rt, rt.alloc(), &mut planted(&rt, rt.alloc())?)
+    come_under_the_eighth(&rt, rt.alloc(), &mut new_tree(&rt, rt.alloc())?)
 }

@@ -40,7 +40,7 @@ fn next_number<R: Rows>(rows: &R) -> Option<ObjNo>
 }
 
 /// Makes the object of the next number.
-pub(super) fn made<R: Rows>(
+pub(super) fn make_next<R: Rows>(
     rt: &impl Abort,
     alloc: Global,
     rows: &mut R,
@@ -58,7 +58,7 @@ pub(super) fn made<R: Rows>(
 }
 
 /// Defines a property of the wizard's.
-pub(super) fn added<R: Rows>(
+pub(super) fn define_integer<R: Rows>(
     rt: &impl Abort,
     alloc: Global,
     rows: &mut R,
@@ -80,7 +80,7 @@ pub(super) fn added<R: Rows>(
 }
 
 /// The property of a name that x has.
-fn found<R: Rows>(
+fn find_property<R: Rows>(
     rt: &impl Abort,
     alloc: Global,
     rows: &R,
@@ -160,13 +160,13 @@ pub(super) fn set<R: Rows>(
     requires { IsGood (R.held rows.old).maps }
     ensures { OnOk result (IsGood (R.held rows.new).maps) }
 {
-    let id = found(rt, alloc, rows, ObjNo(x), name)?;
+    let id = find_property(rt, alloc, rows, ObjNo(x), name)?;
     set_value(rows, ObjNo(x), id, Value::Int(value))?;
     Ok(())
 }
 
 /// Gives the property of a name on x another owner, and other bits.
-pub(super) fn given<R: Rows>(
+pub(super) fn give<R: Rows>(
     rt: &impl Abort,
     alloc: Global,
     rows: &mut R,
@@ -178,13 +178,13 @@ pub(super) fn given<R: Rows>(
     requires { IsGood (R.held rows.old).maps }
     ensures { OnOk result (IsGood (R.held rows.new).maps) }
 {
-    let id = found(rt, alloc, rows, ObjNo(x), name)?;
+    let id = find_property(rt, alloc, rows, ObjNo(x), name)?;
     set_info(alloc, rows, ObjNo(x), id, owner, bits)?;
     Ok(())
 }
 
 /// Puts x under another parent.
-pub(super) fn moved<R: Rows>(
+pub(super) fn move_under<R: Rows>(
     rt: &impl Abort,
     alloc: Global,
     rows: &mut R,
@@ -202,7 +202,7 @@ pub(super) fn moved<R: Rows>(
 }
 
 /// Drops x.
-pub(super) fn dropped<R: Rows>(
+pub(super) fn drop_one<R: Rows>(
     rt: &impl Abort,
     alloc: Global,
     rows: &mut R,

@@ -5,7 +5,7 @@ ghost use Rattle.std.specs.Prelude.{IfOk, OnOk};
 ghost use Rattle.moo_world.specs.Rows.{IsGood};
 
 use super::counting::{Counting, NONE};
-use super::steps::{READ, added, made, set};
+use super::steps::{READ, define_integer, make_next, set};
 use moo_memory::{Flat, opening_world};
 use moo_rows::{PropId, Rows};
 use moo_value::{LiteralFault, ObjNo};
@@ -18,13 +18,13 @@ fn plant<R: Rows>(rt: &impl Abort, alloc: Global, rows: &mut R) -> Result<(), Li
     requires { IsGood (R.held rows.old).maps }
     ensures { OnOk result (IsGood (R.held rows.new).maps) }
 {
-    assert!(rt; made(rt, alloc, rows, 1)? == ObjNo(4));
-    assert!(rt; made(rt, alloc, rows, 4)? == ObjNo(5));
-    assert!(rt; made(rt, alloc, rows, 5)? == ObjNo(6));
-    assert!(rt; made(rt, alloc, rows, 1)? == ObjNo(7));
-    assert!(rt; added(rt, alloc, rows, 4, b"a", 10, READ)? == PropId(1));
-    assert!(rt; added(rt, alloc, rows, 5, b"b", 20, READ)? == PropId(2));
-    assert!(rt; added(rt, alloc, rows, 7, b"c", 30, READ)? == PropId(3));
+    assert!(rt; make_next(rt, alloc, rows, 1)? == ObjNo(4));
+    assert!(rt; make_next(rt, alloc, rows, 4)? == ObjNo(5));
+    assert!(rt; make_next(rt, alloc, rows, 5)? == ObjNo(6));
+    assert!(rt; make_next(rt, alloc, rows, 1)? == ObjNo(7));
+    assert!(rt; define_integer(rt, alloc, rows, 4, b"a", 10, READ)? == PropId(1));
+    assert!(rt; define_integer(rt, alloc, rows, 5, b"b", 20, READ)? == PropId(2));
+    assert!(rt; define_integer(rt, alloc, rows, 7, b"c", 30, READ)? == PropId(3));
     set(rt, alloc, rows, 6, b"b", 21)
 }
 
@@ -37,7 +37,7 @@ fn opening(alloc: Global) -> Result<Flat, AllocError>
     Ok(rows)
 }
 
-pub(super) fn planted(rt: &impl Abort, alloc: Global) -> Result<Counting, LiteralFault>
+pub(super) fn new_tree(rt: &impl Abort, alloc: Global) -> Result<Counting, LiteralFault>
     ensures { IfOk result (λ rows. IsGood rows.rows.maps) }
 {
     let mut rows = Counting {
@@ -45,6 +45,6 @@ pub(super) fn planted(rt: &impl Abort, alloc: Global) -> Result<Counting, Litera
         counts: NONE,
     };
     plant(rt, alloc, &mut rows)?;
-    rows.taken();
+    rows.take_counts();
     Ok(rows)
 }

@@ -15,11 +15,11 @@ returns-clause-reaches g c =
     let on_world : are_on_world calls ≡ true = search rules in
     let shallow : are_shallow calls ≡ true = search rules in
     let same : c.in_ok-calls-2.calls ≡ calls = search rules in
-    subst (λ outcome. Reaches outcome (g.R.Rows.held c.ask.new.rows) c.ask.result)
+    subst (λ outcome. Reaches outcome (g.R.Rows.held c.add_petition.new.rows) c.add_petition.result)
     (sym (ap (λ given. given_to given (petition s p)) c.in_ok-calls.ensures.ok
     ∙ check_passed (list_all is_named (spread calls)) _ _ named
     ∙ check_passed (are_few calls) _ _ few
     ∙ check_passed (are_on_world calls) _ _ on_world
     ∙ check_passed (are_shallow calls) _ _ shallow
     ∙ ap (petition_filed s p) (sym same)))
-    c.ask.ensures.reaches
+    c.add_petition.ensures.reaches

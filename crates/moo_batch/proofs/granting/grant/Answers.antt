@@ -8,13 +8,13 @@ use Rattle.moo_batch.proofs.granting.grant.Goals as goal
 use Rattle.moo_world.specs.declared.petition.TheConstants.{MOST_HELD}
 
 pub returns-clause-check : goal.returns-clause-check
-returns-clause-check g c = held-stays (g.R.Rows.held c.args.rows.now) (g.R.Rows.held c.held_steps.new.rows) _ c.held_steps.result c.held_steps.ensures.comes
+returns-clause-check g c = held-stays (g.R.Rows.held c.args.rows.now) (g.R.Rows.held c.run_petitioned_calls.new.rows) _ c.run_petitioned_calls.result c.run_petitioned_calls.ensures.comes
 
-pub held_steps-requires-clause-good : goal.held_steps-requires-clause-good
-held_steps-requires-clause-good g c = (removed-keeps (g.R.Rows.held c.args.rows.now) (g.R.Rows.held c.remove_petition.new.self) c.in-Some.id c.in_ok-remove_petition.ensures.ok c.requires.good).good
+pub run_petitioned_calls-requires-clause-good : goal.run_petitioned_calls-requires-clause-good
+run_petitioned_calls-requires-clause-good g c = (removed-keeps (g.R.Rows.held c.args.rows.now) (g.R.Rows.held c.remove_petition.new.self) c.in-Some.id c.in_ok-remove_petition.ensures.ok c.requires.good).good
 
-pub held_steps-requires-clause-fit : goal.held_steps-requires-clause-fit
-held_steps-requires-clause-fit g c =
+pub run_petitioned_calls-requires-clause-fit : goal.run_petitioned_calls-requires-clause-fit
+run_petitioned_calls-requires-clause-fit g c =
     let s = state_in (g.R.Rows.held c.args.rows.now) in
     let found : petition_at s c.in_ok-number.number ≡ Some (c.in-Some.id, c.in-Some.row.now) = search rules in
     let there = found_there s c.in_ok-number.number (c.in-Some.id, c.in-Some.row.now) found in
@@ -25,7 +25,7 @@ pub returns-clause-reaches : goal.returns-clause-reaches
 returns-clause-reaches g c =
     let old = g.R.Rows.held c.args.rows.now in
     let mid = g.R.Rows.held c.remove_petition.new.self in
-    let new = g.R.Rows.held c.held_steps.new.rows in
+    let new = g.R.Rows.held c.run_petitioned_calls.new.rows in
     let s = state_in old in
     let p = c.args.programmer in
     let n = c.in_ok-number.number in
@@ -34,19 +34,19 @@ returns-clause-reaches g c =
     let found : petition_at s n ≡ Some (c.in-Some.id, c.in-Some.row.now) = search rules in
     let is = removed-state old mid c.in-Some.id c.in_ok-remove_petition.ensures.ok in
     let helds : c.items.result.now ≡ spread c.in-Some.row.now.calls = c.items.ensures.plain ∙ ap (λ (r : PetitionRow). spread r.calls) c.in_ok-row.ensures in
-    let comes = subst (λ (w : World). ComesInTurn (held_steps 0 w p (spread c.in-Some.row.now.calls)) new c.held_steps.result) (ap (λ (t : State). t.world) is)
-    (subst (λ (l : List Value). ComesInTurn (held_steps 0 (world_in mid) p l) new c.held_steps.result) helds c.held_steps.ensures.comes) in
-    subst (λ effect. Reaches effect new c.held_steps.result)
+    let comes = subst (λ (w : World). ComesInTurn (held_steps 0 w p (spread c.in-Some.row.now.calls)) new c.run_petitioned_calls.result) (ap (λ (t : State). t.world) is)
+    (subst (λ (l : List Value). ComesInTurn (held_steps 0 (world_in mid) p l) new c.run_petitioned_calls.result) helds c.run_petitioned_calls.ensures.comes) in
+    subst (λ effect. Reaches effect new c.run_petitioned_calls.result)
     (sym (ap (λ r. given_to r (grant s p)) given
     ∙ ap (λ b. check b (fails NoWizard) (found_or (petition_at s n) NoPetition (λ e. in_world (without e.0 s) (held_steps 0 s.world p (spread e.1.calls))))) wizard
     ∙ ap (λ o. found_or o NoPetition (λ e. in_world (without e.0 s) (held_steps 0 s.world p (spread e.1.calls)))) found))
-    (granted-reaches (without c.in-Some.id s) p c.items.result.now mid new (held_steps 0 s.world p (spread c.in-Some.row.now.calls)) c.held_steps.result is comes c.held_steps.ensures.kept)
+    (granted-reaches (without c.in-Some.id s) p c.items.result.now mid new (held_steps 0 s.world p (spread c.in-Some.row.now.calls)) c.run_petitioned_calls.result is comes c.run_petitioned_calls.ensures.kept)
 
 pub returns-clause-kept : goal.returns-clause-kept
 returns-clause-kept g c =
     let old = g.R.Rows.held c.args.rows.now in
     let mid = g.R.Rows.held c.remove_petition.new.self in
-    let new = g.R.Rows.held c.held_steps.new.rows in
+    let new = g.R.Rows.held c.run_petitioned_calls.new.rows in
     let p = c.args.programmer in
     let n = c.in_ok-number.number in
     let e : PetitionId × PetitionRow = (c.in-Some.id, c.in-Some.row.now) in
@@ -54,12 +54,12 @@ returns-clause-kept g c =
     let found : petition_at (state_in old) n ≡ Some e = search rules in
     let helds : c.items.result.now ≡ spread c.in-Some.row.now.calls = c.items.ensures.plain ∙ ap (λ (r : PetitionRow). spread r.calls) c.in_ok-row.ensures in
     let removed = removed-keeps old mid c.in-Some.id c.in_ok-remove_petition.ensures.ok c.requires.good in
-    on_ok_weaker c.held_steps.result
+    on_ok_weaker c.run_petitioned_calls.result
     (λ kept. granted-keeps p c.args.args.now n e old mid new given found c.in_ok-remove_petition.ensures.ok removed (subst (λ l. KeepInTurn p l mid new) helds kept))
-    c.held_steps.ensures.kept
+    c.run_petitioned_calls.ensures.kept
 
-pub held_steps-requires-clause-few : goal.held_steps-requires-clause-few
-held_steps-requires-clause-few g c =
+pub run_petitioned_calls-requires-clause-few : goal.run_petitioned_calls-requires-clause-few
+run_petitioned_calls-requires-clause-few g c =
     let s = state_in (g.R.Rows.held c.args.rows.now) in
     let row = c.in-Some.row.now in
     let calls = spread row.calls in

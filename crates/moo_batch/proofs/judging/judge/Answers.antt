@@ -26,7 +26,7 @@ returns-in-Err-clause-verdict g c =
     let ran = run_calls (state_of c.within-draft.result.maps) batch.programmer c.items-calls.result.now in
     let same : run_calls (state_of t) batch.programmer batch.calls ≡ ran = λ i. run_calls (state_of (sym c.within-draft.ensures.maps i)) batch.programmer (sym c.items-calls.ensures.value i) in
     let none : IsVerdict t batch OutOfMemory = search rules in
-    stopped-so t batch (state_of c.run_calls-ran.new.rows.maps) ran c.stopped.result (judge-run (state_of t) batch due room ∙ ap (verdict_of t.head.seq) same) none c.in-Err.stop c.stopped.ensures.refused c.stopped.ensures.full c.stopped.ensures.memory c.in-Err.ensures.comes
+    stopped-so t batch (state_of c.run_calls-ran.new.rows.maps) ran c.verdict_of_stop.result (judge-run (state_of t) batch due room ∙ ap (verdict_of t.head.seq) same) none c.in-Err.stop c.verdict_of_stop.ensures.refused c.verdict_of_stop.ensures.full c.verdict_of_stop.ensures.memory c.in-Err.ensures.comes
 
 pub returns-in-Ok-into_changes-clause-verdict : goal.returns-in-Ok-into_changes-clause-verdict
 returns-in-Ok-into_changes-clause-verdict g c =
@@ -57,7 +57,7 @@ returns-then-is_empty-clause-verdict g c =
     let none : batch.calls ≡ [] = sym c.items-calls.ensures.value ∙ listed in
     let answers : c.from_vec.result ≡ [] = search rules in
     let next = with_seq (t.head.seq + 1) t in
-    let changes : AreChanges t next c.counted.result = subst (λ (h : Head). AreChanges t (record t { head = record h { seq = h.seq + 1 } }) c.counted.result) c.head-head.ensures (c.counted.ensures t) in
+    let changes : AreChanges t next c.changes_without_calls.result = subst (λ (h : Head). AreChanges t (record t { head = record h { seq = h.seq + 1 } }) c.changes_without_calls.result) c.head-head.ensures (c.changes_without_calls.ensures t) in
     let judged = judge-run (state_of t) batch due room ∙ ap (λ calls. verdict_of t.head.seq (run_calls (state_of t) batch.programmer calls)) none
     ∙ (λ i. Accepted (sym answers i) (record (state_of t) { world = sym (world_of-with_seq (t.head.seq + 1) t) i; seq = t.head.seq + 1 })) in
     let lead : CallsLead batch.programmer batch.calls t t = subst (λ calls. CallsLead batch.programmer calls t t) (sym none) refl in
@@ -87,5 +87,5 @@ returns-in-Err-clause-seen g c =
     let stands : StandsAtCheck batch.programmer batch.calls (state_of t) after c.in-Err.stop =
     subst (λ m. StandsAtCheck batch.programmer batch.calls (state_of m) after c.in-Err.stop) c.within-draft.ensures.maps
     (subst (λ calls. StandsAtCheck batch.programmer calls (state_of c.within-draft.result.maps) after c.in-Err.stop) c.items-calls.ensures.value c.in-Err.ensures.at) in
-    stopped-seen g.W.Witness.sees t batch after c.stopped.result (g.W.Witness.kept c.args.witness.now) (g.W.Witness.kept c.leave_ticks.new.witness) (g.W.Witness.kept c.stopped.new.witness) c.in-Err.stop c.leave_ticks.ensures.kept
-    c.stopped.ensures.refused c.stopped.ensures.full c.stopped.ensures.memory c.stopped.ensures.sees c.stopped.ensures.full_still c.stopped.ensures.memory_still stands comes
+    stopped-seen g.W.Witness.sees t batch after c.verdict_of_stop.result (g.W.Witness.kept c.args.witness.now) (g.W.Witness.kept c.leave_ticks.new.witness) (g.W.Witness.kept c.verdict_of_stop.new.witness) c.in-Err.stop c.leave_ticks.ensures.kept
+    c.verdict_of_stop.ensures.refused c.verdict_of_stop.ensures.full c.verdict_of_stop.ensures.memory c.verdict_of_stop.ensures.sees c.verdict_of_stop.ensures.full_still c.verdict_of_stop.ensures.memory_still stands comes

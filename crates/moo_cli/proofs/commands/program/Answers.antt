@@ -11,4 +11,4 @@ required app = on_top (λ s. record s { subcommand_required = true }) app
 pub returns : goal.returns
 returns c =
     ap app_of_fields c.subcommand_required.ensures
-    ∙ ap required (ap app_of_fields c.version.ensures ∙ ap versioned c.described.ensures.shape)
+    ∙ ap required (ap app_of_fields c.version.ensures ∙ ap versioned c.new_command.ensures.shape)

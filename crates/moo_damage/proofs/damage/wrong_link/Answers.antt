@@ -8,7 +8,7 @@ pub returns-in-Some-clause-first : goal.returns-in-Some-clause-first
 returns-in-Some-clause-first g c =
     let m = (g.R.Rows.held c.args.rows.now).maps in
     let link = c.args.link in
-    told m (lost_kind link) _ _ _ c.lost.ensures c.object_key.ensures c.requires.before
+    told m (lost_kind link) _ _ _ c.missing_kind.ensures c.object_key.ensures c.requires.before
     (subst (λ o. IsLeast (InRows m (lost_kind link)) (of_object o)) c.in-Some.is (lost_least m link c.lost_object.result c.lost_object.ensures))
 
 pub returns-in-Some-2-clause-first : goal.returns-in-Some-2-clause-first

@@ -23,7 +23,7 @@ loop-slot-preserved g c =
       each_set IsGathered gathered_joined c.args.slots.now c.loop-slot.slot-items c.loop-slot.slot-index c.slot-item.result c.turn-changed.new.self it.0 few
           (record { request = turned.invisible; peer = turned.peer; answer = turned.writer.0; limited = turned.writer.1; since = turned.times.since; rests = turned.rests }),
       reads_then (gathered_of c.args.slots.now < BUDGET) c.loop-slot.slot-index c.args.slots.now c.loop-slot.slot-items c.slot-item.result c.turn-changed.new.self few it.1
-          (λ goes unfinished due. turned.read (may_be c.loop-slot.is_first _ (λ full. it.2 goes (is_much BUDGET c.gathered-is_full.result (gathered_of c.args.slots.now) _ full c.gathered-is_full.ensures))) unfinished due),
+          (λ goes unfinished due. turned.read (may_be c.loop-slot.is_first _ (λ full. it.2 goes (is_much BUDGET c.gathered_bytes-is_full.result (gathered_of c.args.slots.now) _ full c.gathered_bytes-is_full.ensures))) unfinished due),
       first_then (gathered_of c.args.slots.now < BUDGET) c.loop-slot.slot-index c.args.slots.now c.loop-slot.slot-items c.slot-item.result c.loop-slot.is_first few it.4 it.1 it.2,
       each_set (IsTimed c.args.now) (timed_joined c.args.now) c.args.slots.now c.loop-slot.slot-items c.loop-slot.slot-index c.slot-item.result c.turn-changed.new.self it.3 few turned.times,
       length-set c.loop-slot.slot-items c.loop-slot.slot-index c.turn-changed.new.self ∙ it.4,

@@ -9,8 +9,8 @@ returns-in-Ok-clause-comes g c place at =
 
 pub returns-in-Err-clause-comes : goal.returns-in-Err-clause-comes
 returns-in-Err-clause-comes g c place at =
-    subst (λ o. MayAnswer place (Each c.args.each.now) o place) (sym c.lost.ensures)
+    subst (λ o. MayAnswer place (Each c.args.each.now) o place) (sym c.outcome_of_fault.ensures)
     (each_closed g.S.Store c.args.world.now c.args.each.now c.seq.result c.in-Err.fault c.in-Err.is c.seq.ensures.number c.seq.ensures.closed place at)
 
 pub returns-in-Err-clause-seen : goal.returns-in-Err-clause-seen
-returns-in-Err-clause-seen g c = seen_lost c.args.world.now.rows.maps (seen_by c.args.whys.now) (seen_by c.args.whys.now) c.args.each.now c.in-Err.fault c.lost.result c.lost.ensures
+returns-in-Err-clause-seen g c = seen_lost c.args.world.now.rows.maps (seen_by c.args.whys.now) (seen_by c.args.whys.now) c.args.each.now c.in-Err.fault c.outcome_of_fault.result c.outcome_of_fault.ensures

@@ -19,7 +19,7 @@ returns-in-Ok-clause-comes g c m at same =
 
 pub returns-in-Err-clause-comes : goal.returns-in-Err-clause-comes
 returns-in-Err-clause-comes g c m at same =
-    subst (λ o. MayAnswer (Works m) (Each c.args.each.now) o (Works m)) (sym c.lost.ensures) (each_lost c.args.each.now m c.in-Err.fault (c.in-Err.ensures.replies at.failed))
+    subst (λ o. MayAnswer (Works m) (Each c.args.each.now) o (Works m)) (sym c.outcome_of_fault.ensures) (each_lost c.args.each.now m c.in-Err.fault (c.in-Err.ensures.replies at.failed))
 
 pub returns-in-Ok-clause-seen : goal.returns-in-Ok-clause-seen
 returns-in-Ok-clause-seen g c =
@@ -30,4 +30,4 @@ returns-in-Ok-clause-seen g c =
     (subst (λ batches. HasSeenEach SeesRefusal maps batches c.in-Ok.replies.items old new) c.items.ensures c.in-Ok.ensures.seen)
 
 pub returns-in-Err-clause-seen : goal.returns-in-Err-clause-seen
-returns-in-Err-clause-seen g c = seen_lost c.args.world.now.rows.maps (seen_by c.args.whys.now) (seen_by c.ask_each.new.witness) c.args.each.now c.in-Err.fault c.lost.result c.lost.ensures
+returns-in-Err-clause-seen g c = seen_lost c.args.world.now.rows.maps (seen_by c.args.whys.now) (seen_by c.ask_each.new.witness) c.args.each.now c.in-Err.fault c.outcome_of_fault.result c.outcome_of_fault.ensures

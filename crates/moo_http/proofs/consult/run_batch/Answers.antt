@@ -3,10 +3,10 @@ use Rattle.moo_reasons.specs.Seen.{seen_by}
 use Rattle.moo_http.proofs.consult.run_batch.Goals as goal
 
 pub returns-clause-moves : goal.returns-clause-moves
-returns-clause-moves g c = ran_one g.S.Store c.args.world.now c.run_one.new.self c.args.batch.now c.run_one.result c.came.result c.came.ensures c.run_one.ensures.fault c.run_one.ensures.moves
+returns-clause-moves g c = ran_one g.S.Store c.args.world.now c.run_one.new.self c.args.batch.now c.run_one.result c.outcome_of_reply.result c.outcome_of_reply.ensures c.run_one.ensures.fault c.run_one.ensures.moves
 
 pub returns-clause-still : goal.returns-clause-still
 returns-clause-still g c = still_one g.S.Store c.args.world.now c.run_one.new.self c.args.batch.now c.run_one.result c.run_one.ensures.moves c.run_one.ensures.still c.run_one.ensures.fault
 
 pub returns-clause-seen : goal.returns-clause-seen
-returns-clause-seen g c = seen_one c.args.world.now.rows.maps (seen_by c.args.whys.now) (seen_by c.run_one.new.witness) Run c.args.batch.now c.run_one.result c.came.result c.came.ensures c.run_one.ensures.seen
+returns-clause-seen g c = seen_one c.args.world.now.rows.maps (seen_by c.args.whys.now) (seen_by c.run_one.new.witness) Run c.args.batch.now c.run_one.result c.outcome_of_reply.result c.outcome_of_reply.ensures c.run_one.ensures.seen

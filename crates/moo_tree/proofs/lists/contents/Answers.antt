@@ -3,4 +3,4 @@ use Rattle.moo_tree.proofs.lists.contents.Goals as goal
 
 pub returns : goal.returns
 returns g c =
-    subst (λ l. IfOk c.linked.result (λ v. v.items ≡ l)) (contents_listed (g.R.Rows.held c.args.rows.now).maps c.requires c.args.x) c.linked.ensures
+    subst (λ l. IfOk c.collect_linked.result (λ v. v.items ≡ l)) (contents_listed (g.R.Rows.held c.args.rows.now).maps c.requires c.args.x) c.collect_linked.ensures

@@ -3,4 +3,4 @@ use Rattle.moo_tree.proofs.lists.players.Goals as goal
 
 pub returns : goal.returns
 returns g c =
-    subst (λ l. IfOk c.linked.result (λ v. v.items ≡ l)) (players_listed (g.R.Rows.held c.args.rows.now).maps c.requires) c.linked.ensures
+    subst (λ l. IfOk c.collect_linked.result (λ v. v.items ≡ l)) (players_listed (g.R.Rows.held c.args.rows.now).maps c.requires) c.collect_linked.ensures

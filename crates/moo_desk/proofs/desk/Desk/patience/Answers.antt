@@ -27,5 +27,5 @@ pub returns-in_default-3 : goal.returns-in_default-3
 returns-in_default-3 g c = (
   omega (arith, c.period-most.ensures),
   λ _. of_first_map IsUnfinished (IsSpared c.args.now None) (λ slot. (spared_for c.args.now slot ≡ 0) ⊎ (as_nanos c.period-most.result ≤ spared_for c.args.now slot)) c.args.self.now.held.slots.items
-      (λ slot is. inl is) (subst (λ told. OfFirst IsUnfinished (IsSpared c.args.now told) c.args.self.now.held.slots.items) c.in_default.is c.spared.ensures.oldest),
+      (λ slot is. inl is) (subst (λ told. OfFirst IsUnfinished (IsSpared c.args.now told) c.args.self.now.held.slots.items) c.in_default.is c.spared_time.ensures.oldest),
 )

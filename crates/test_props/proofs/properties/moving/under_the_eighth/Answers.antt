@@ -2,6 +2,6 @@ use Rattle.std.specs.Prelude.{refl}
 use Rattle.moo_world.specs.Objects.{same_text, folded}
 use Rattle.test_props.proofs.properties.moving.under_the_eighth.Goals as goal
 
-pub added-requires-clause-name : goal.added-requires-clause-name
+pub define_integer-requires-clause-name : goal.define_integer-requires-clause-name
 unfolding same_text folded
-added-requires-clause-name g c = refl
+define_integer-requires-clause-name g c = refl

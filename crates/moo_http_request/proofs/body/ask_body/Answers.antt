@@ -1,7 +1,0 @@
-use Rattle.moo_http_request.{proofs.Words.{view}, proofs.RequestLemmas.{json_asks}}
-use Rattle.moo_http_request.proofs.body.ask_body.Goals as goal
-
-pub returns-in-Some : goal.returns-in-Some
-returns-in-Some c =
-    let json = rw c.in-Some.is at c.in_ok-value.ensures in
-    json_asks c.args.form c.args.body.now c.ask_json.result (view c.in-Some.value) json.0 json.1 c.ask_json.ensures
