@@ -5,11 +5,10 @@
 #![tactic(auto, unfolding(moo_world::specs::Rows::world_shown, moo_world::specs::Objects::same_object))]
 
 mod built_ins;
-mod calls;
+mod faults;
 mod forms;
 mod given;
 mod granted;
-mod headers;
 mod line;
 mod names;
 mod nearest;

@@ -1,7 +1,6 @@
 //! What is told of the replies of a text.
 
-use crate::calls::put_call_reason;
-use crate::headers::put_header_reason;
+use crate::faults::{put_call_reason, put_header_reason};
 use crate::sentence::refusal_text;
 use crate::shown::Said;
 use crate::why::room_reason;

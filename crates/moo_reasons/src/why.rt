@@ -5,7 +5,7 @@ ghost use Rattle.moo_reasons.specs.Lines.{IsShort};
 ghost use Rattle.moo_reasons.specs.Seen.{Seen, SeesRefusal, seen_by};
 ghost use Rattle.moo_reasons.specs.Told.{IsFirstLine, TellsReply};
 
-use crate::calls::put_call_reason;
+use crate::faults::put_call_reason;
 use crate::line::{Why, line_of};
 use crate::sentence::refusal_text;
 use crate::shown::Said;

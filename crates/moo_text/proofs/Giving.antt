@@ -58,5 +58,5 @@ pub out_of_memory : (a b : Side) (given : List ℕ) → ReaderGives a b given �
 out_of_memory a b given p room = record { given = given; gives = p; count = omega (arith, room) }
 
 -- a fault that is handed on
-pub handed_on : {T : Type 0} (r : Result T TextFault) (P : TextFault → Type 0) {fault : TextFault} → IsErrAnd r (λ e. e ≡ fault) → P fault → IfErr r P
+pub handed_on : {T F : Type 0} (r : Result T F) (P : F → Type 0) {fault : F} → IsErrAnd r (λ e. e ≡ fault) → P fault → IfErr r P
 handed_on r P is e = let p = err_from_is_err_and r is in rw (p.1, p.2) e

@@ -2,6 +2,7 @@ pub mod Replies
 pub mod Line
 pub mod Grammar
 pub mod LineReading
+pub mod LineFaults
 pub mod Cut
 pub mod Items
 pub mod Feed

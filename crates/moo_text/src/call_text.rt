@@ -1,10 +1,13 @@
 //! Reading a call.
 
-ghost use Rattle.std.specs.Prelude.{◌≡◌, length, IfOk};
+ghost use Rattle.std.specs.Prelude.{◌≡◌, ◌≢◌, length, IfOk, IfErr, Some, None};
 ghost use Rattle.std.specs.Option.{option_map};
+ghost use Rattle.moo_text.specs.LineFaults.{Says};
+ghost use Rattle.moo_text.specs.declared.line_fault.LineFault.TheVariants.{OutOfMemory};
 ghost use Rattle.moo_text.specs.LineReading.{after_mark as behind_mark, arguments_of as arguments_in, values_at, call_name, call_of};
 
 use crate::line::{is_all_blank, is_short, skip_blanks, split_word};
+use crate::line_fault::LineFault;
 use crate::literal::read_front;
 use moo_world::{Args, Call, CallName};
 use std::alloc::{AllocError, Global};
@@ -17,35 +20,35 @@ fn after_mark(mark: u8, bytes: &[u8]) -> Option<&[u8]>
 }
 
 /// One argument at least, to the end of the line.
-fn values_of(alloc: Global, bytes: &[u8]) -> Result<Option<Args>, AllocError>
-    ensures { IfOk result (λ args. args ≡ values_at (length bytes.now) bytes.now) }
+fn values_of(alloc: Global, bytes: &[u8]) -> Result<Args, LineFault<'_>>
+    ensures ok { IfOk result (λ args. values_at (length bytes.now) bytes.now ≡ Some args) }
+    ensures err { IfErr result (λ fault. fault ≢ OutOfMemory → values_at (length bytes.now) bytes.now ≡ None) }
+    ensures says { IfErr result Says }
 {
     let mut values = Vec::new(alloc);
     let mut rest = bytes;
     loop {
-        let Some((value, after)) = read_front(alloc, rest)? else {
-            return Ok(None);
-        };
-        values.push(value)?;
+        let (value, after) = read_front(alloc, rest)?;
+        values.push(value).map_err(AllocError::from)?;
         if let Some(end) = after_mark(b')', after) {
             if is_all_blank(end) {
-                return Ok(Some(Args::from_vec(values)));
+                return Ok(Args::from_vec(values));
             }
-            return Ok(None);
+            return Err(LineFault::NoEnd(end));
         }
-        match after_mark(b',', after) {
-            Some(others) => rest = others,
-            None => return Ok(None),
-        }
+        rest = after_mark(b',', after).ok_or(LineFault::NoMark(after))?;
     }
 }
 
 /// The arguments after the bracket, to the end of the line.
-fn arguments_of(alloc: Global, bytes: &[u8]) -> Result<Option<Args>, AllocError>
-    ensures { IfOk result (λ args. args ≡ arguments_in bytes.now) }
+fn arguments_of(alloc: Global, bytes: &[u8]) -> Result<Args, LineFault<'_>>
+    ensures ok { IfOk result (λ args. arguments_in bytes.now ≡ Some args) }
+    ensures err { IfErr result (λ fault. fault ≢ OutOfMemory → arguments_in bytes.now ≡ None) }
+    ensures says { IfErr result Says }
 {
     match after_mark(b')', bytes) {
-        Some(end) => Ok(is_all_blank(end).then(|| Args::from_vec(Vec::new(alloc)))),
+        Some(end) if is_all_blank(end) => Ok(Args::from_vec(Vec::new(alloc))),
+        Some(end) => Err(LineFault::NoEnd(end)),
         None => values_of(alloc, bytes),
     }
 }
@@ -57,19 +60,30 @@ fn call_named(word: &[u8]) -> Option<CallName>
     CallName::read(word)
 }
 
+/// The call that a line of at most 262,144 bytes spells, or why it spells none.
+pub fn call_on_line(alloc: Global, line: &[u8]) -> Result<Call, LineFault<'_>>
+    ensures ok { IfOk result (λ call. call_of line.now ≡ Some call) }
+    ensures err { IfErr result (λ fault. fault ≢ OutOfMemory → call_of line.now ≡ None) }
+    ensures says { IfErr result Says }
+{
+    if !is_short(line) {
+        return Err(LineFault::Long);
+    }
+    let front = skip_blanks(line);
+    let (word, rest) = split_word(front);
+    let name = call_named(word).ok_or(LineFault::NoName(front))?;
+    let rest = after_mark(b'(', rest).ok_or(LineFault::NoBracket(word))?;
+    let args = arguments_of(alloc, rest)?;
+    Ok(Call { name, args })
+}
+
 /// The call that a line of at most 262,144 bytes spells; none for any other line. AllocError if memory runs out.
 pub fn call_in(alloc: Global, line: &[u8]) -> Result<Option<Call>, AllocError>
     ensures { IfOk result (λ call. call ≡ call_of line.now) }
 {
-    if !is_short(line) {
-        return Ok(None);
+    match call_on_line(alloc, line) {
+        Ok(call) => Ok(Some(call)),
+        Err(LineFault::OutOfMemory) => Err(AllocError),
+        Err(_) => Ok(None),
     }
-    let (word, rest) = split_word(skip_blanks(line));
-    let Some(name) = call_named(word) else {
-        return Ok(None);
-    };
-    let Some(rest) = after_mark(b'(', rest) else {
-        return Ok(None);
-    };
-    Ok(arguments_of(alloc, rest)?.map(|args| Call { name, args }))
 }

@@ -9,6 +9,7 @@ use crate::call_text::call_in;
 use crate::fault::TextFault;
 use crate::header::{Header, read_header};
 use crate::line::{is_blank_line, is_end_line};
+use crate::line_fault::LineFault;
 use crate::lines::{LONGEST_TEXT, LineReader};
 use crate::marks::Marks;
 use crate::next::Next;
@@ -96,9 +97,10 @@ fn next_item<R: Read>(alloc: Global, lines: &mut LineReader<R>) -> Result<Next, 
             lines.marks.spoil(line);
             return Ok(Next::Malformed(1));
         }
-        match read_header(alloc, &line)? {
-            Some(header) => return rest_of_batch(alloc, header, lines),
-            None => return skip_batch(1, line, lines),
+        match read_header(alloc, &line) {
+            Ok(header) => return rest_of_batch(alloc, header, lines),
+            Err(LineFault::OutOfMemory) => return Err(TextFault::OutOfMemory),
+            Err(_) => return skip_batch(1, line, lines),
         }
     }
 }

@@ -1,12 +1,15 @@
 //! The header of a batch.
 
-ghost use Rattle.std.specs.Prelude.{◌≡◌, ◌≤◌, ◌-◌, true, false, IfOk, MatchOption};
+ghost use Rattle.std.specs.Prelude.{◌≡◌, ◌≢◌, ◌≤◌, ◌-◌, true, false, Some, None, IfOk, IfErr, MatchOption};
 ghost use Rattle.moo_value.specs.Literal.{is_digit};
 ghost use Rattle.std.specs.Option.{option_map};
 ghost use Rattle.moo_text.specs.Line.{words_of_line};
+ghost use Rattle.moo_text.specs.LineFaults.{Says};
+ghost use Rattle.moo_text.specs.declared.line_fault.LineFault.TheVariants.{OutOfMemory};
 ghost use Rattle.moo_text.specs.LineReading.{behind_word, begins_with_byte, object_value as object_in, object_of as object_spelled, place_number as place_in, last_place as last_place_in, at_of as at_in, header_of};
 
 use crate::line::{is_short, next_word};
+use crate::line_fault::LineFault;
 use crate::literal::read_front;
 use moo_value::{ObjNo, Value};
 use std::alloc::{AllocError, Global};
@@ -49,8 +52,9 @@ pub fn object_of(alloc: Global, word: &[u8]) -> Result<Option<ObjNo>, AllocError
     if !begins_with(b'#', word) {
         return Ok(None);
     }
-    match read_front(alloc, word)? {
-        Some((value, [])) => Ok(object_value(&value)),
+    match read_front(alloc, word) {
+        Ok((value, [])) => Ok(object_value(&value)),
+        Err(LineFault::OutOfMemory) => Err(AllocError),
         _ => Ok(None),
     }
 }
@@ -88,34 +92,31 @@ fn last_place(bytes: &[u8]) -> Option<u64>
 }
 
 /// What is after the programmer: nothing, or `at` and a number.
-fn at_of(bytes: &[u8]) -> Option<Option<u64>>
-    ensures { result ≡ at_in (words_of_line bytes.now) }
+fn at_of(bytes: &[u8]) -> Result<Option<u64>, LineFault<'_>>
+    ensures ok { IfOk result (λ at. at_in (words_of_line bytes.now) ≡ Some at) }
+    ensures err { IfErr result (λ _. at_in (words_of_line bytes.now) ≡ None) }
+    ensures says { IfErr result Says }
 {
-    if next_word(bytes).is_none() {
-        return Some(None);
-    }
-    let rest = after_the_word(b"at", bytes)?;
-    last_place(rest).map(Some)
+    let Some((word, _)) = next_word(bytes) else {
+        return Ok(None);
+    };
+    let rest = after_the_word(b"at", bytes).ok_or(LineFault::NoAt(word))?;
+    last_place(rest).map(Some).ok_or(LineFault::NoPlace)
 }
 
-/// The header that a line is; `None` if it isn't a header.
-pub fn read_header(alloc: Global, line: &[u8]) -> Result<Option<Header>, AllocError>
-    ensures { IfOk result (λ header. header ≡ header_of line.now) }
+/// The header that a line is, or why it isn't one.
+pub fn read_header(alloc: Global, line: &[u8]) -> Result<Header, LineFault<'_>>
+    ensures ok { IfOk result (λ header. header_of line.now ≡ Some header) }
+    ensures err { IfErr result (λ fault. fault ≢ OutOfMemory → header_of line.now ≡ None) }
+    ensures says { IfErr result Says }
 {
     if !is_short(line) {
-        return Ok(None);
+        return Err(LineFault::Long);
     }
-    let Some(rest) = after_the_word(b"batch", line) else {
-        return Ok(None);
-    };
-    let Some(rest) = after_the_word(b"as", rest) else {
-        return Ok(None);
-    };
-    let Some((word, rest)) = next_word(rest) else {
-        return Ok(None);
-    };
-    let Some(programmer) = object_of(alloc, word)? else {
-        return Ok(None);
-    };
-    Ok(at_of(rest).map(|at| Header { programmer, at }))
+    let rest = after_the_word(b"batch", line).ok_or(LineFault::NoBatch)?;
+    let rest = after_the_word(b"as", rest).ok_or(LineFault::NoAs)?;
+    let (word, rest) = next_word(rest).ok_or(LineFault::NoProgrammer)?;
+    let programmer = object_of(alloc, word)?.ok_or(LineFault::NoObject(word))?;
+    let at = at_of(rest)?;
+    Ok(Header { programmer, at })
 }

@@ -1,23 +1,27 @@
 //! The literal in front of some bytes.
 
-ghost use Rattle.std.specs.Prelude.{◌≡◌, IfOk, IfSome, true};
-ghost use Rattle.std.specs.Option.{option_map};
+ghost use Rattle.std.specs.Prelude.{◌≡◌, ◌≢◌, IfOk, IfErr, Some, None, true};
 ghost use Rattle.moo_world.specs.Arguments.{fits};
 ghost use Rattle.moo_text.specs.LineReading.{front_of};
+ghost use Rattle.moo_text.specs.LineFaults.{Says};
+ghost use Rattle.moo_text.specs.declared.line_fault.LineFault.TheVariants.{OutOfMemory};
 
+use crate::line_fault::LineFault;
 use moo_value::{LiteralFault, Value, read_literal};
-use std::alloc::{AllocError, Global};
+use std::alloc::Global;
 
-/// The value whose literal is in front, and what follows; `None` if no literal is there.
-pub(crate) fn read_front(alloc: Global, bytes: &[u8]) -> Result<Option<(Value, &[u8])>, AllocError>
-    ensures read { IfOk result (λ front. option_map (λ x. (x.0, x.1.now)) front ≡ front_of bytes.now) }
-    ensures fits { IfOk result (λ front. IfSome front (λ x. fits x.0 ≡ true)) }
+/// The value whose literal is in front, and what follows.
+pub(crate) fn read_front(alloc: Global, bytes: &[u8]) -> Result<(Value, &[u8]), LineFault<'_>>
+    ensures ok { IfOk result (λ x. front_of bytes.now ≡ Some (x.0, x.1.now)) }
+    ensures fits { IfOk result (λ x. fits x.0 ≡ true) }
+    ensures err { IfErr result (λ fault. fault ≢ OutOfMemory → front_of bytes.now ≡ None) }
+    ensures says { IfErr result Says }
 {
     match read_literal(alloc, bytes) {
-        Ok((value, count)) => Ok(Some((value, &bytes[count..]))),
+        Ok((value, count)) => Ok((value, &bytes[count..])),
         Err(fault) => match fault {
-            LiteralFault::OutOfMemory => Err(AllocError),
-            _ => Ok(None),
+            LiteralFault::OutOfMemory => Err(LineFault::OutOfMemory),
+            _ => Err(LineFault::NoValue(bytes, fault)),
         },
     }
 }

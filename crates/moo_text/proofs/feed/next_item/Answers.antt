@@ -13,18 +13,18 @@ loop-line-preserved g c = grind (arith, between_blank)
 pub returns-then-is_end_line-clause-item : goal.returns-then-is_end_line-clause-item
 returns-then-is_end_line-clause-item g c = between_end c.in-Some.line.items c.loop-line.invariant.along (search rules) (search rules) (search rules)
 
-pub returns-in_err-header-clause-cause : goal.returns-in_err-header-clause-cause
-returns-in_err-header-clause-cause g c = handed_on _ _ c.from_residual-in_err-header.ensures.1 (along_refused c.in-Some.line.items c.loop-line.invariant.along (search rules))
+pub returns-in-Ok-clause-item : goal.returns-in-Ok-clause-item
+returns-in-Ok-clause-item g c =
+    first_is_next _ _ c.rest_of_batch.result (first_after between (within c.in-Ok.header [] 1) _ c.rest_of_batch.result (between_header c.in-Some.line.items c.loop-line.invariant.along (search rules) c.in-Ok.header (search rules) (search rules) (search rules)) c.rest_of_batch.ensures.item)
 
-pub returns-in-Some-2-clause-item : goal.returns-in-Some-2-clause-item
-returns-in-Some-2-clause-item g c =
-    first_is_next _ _ c.rest_of_batch.result (first_after between (within c.in-Some-2.header [] 1) _ c.rest_of_batch.result (between_header c.in-Some.line.items c.loop-line.invariant.along (search rules) c.in-Some-2.header (search rules) (search rules) (search rules)) c.rest_of_batch.ensures.item)
+pub returns-in-Ok-clause-cause : goal.returns-in-Ok-clause-cause
+returns-in-Ok-clause-cause g c = breaks_after _ c.rest_of_batch.result (between_header c.in-Some.line.items c.loop-line.invariant.along (search rules) c.in-Ok.header (search rules) (search rules) (search rules)) c.rest_of_batch.ensures.cause
 
-pub returns-in-Some-2-clause-cause : goal.returns-in-Some-2-clause-cause
-returns-in-Some-2-clause-cause g c = breaks_after _ c.rest_of_batch.result (between_header c.in-Some.line.items c.loop-line.invariant.along (search rules) c.in-Some-2.header (search rules) (search rules) (search rules)) c.rest_of_batch.ensures.cause
+pub returns-in-Err-clause-item : goal.returns-in-Err-clause-item
+returns-in-Err-clause-item g c = first_is_next _ _ c.skip_batch.result (first_after between (skipping 1) _ c.skip_batch.result (between_none c.in-Some.line.items c.loop-line.invariant.along (search rules) (search rules) (search rules) (search rules)) c.skip_batch.ensures.item)
 
-pub returns-in-None-clause-item : goal.returns-in-None-clause-item
-returns-in-None-clause-item g c = first_is_next _ _ c.skip_batch.result (first_after between (skipping 1) _ c.skip_batch.result (between_none c.in-Some.line.items c.loop-line.invariant.along (search rules) (search rules) (search rules) (search rules)) c.skip_batch.ensures.item)
+pub returns-in-Err-clause-cause : goal.returns-in-Err-clause-cause
+returns-in-Err-clause-cause g c = breaks_after _ c.skip_batch.result (between_none c.in-Some.line.items c.loop-line.invariant.along (search rules) (search rules) (search rules) (search rules)) c.skip_batch.ensures.cause
 
-pub returns-in-None-clause-cause : goal.returns-in-None-clause-cause
-returns-in-None-clause-cause g c = breaks_after _ c.skip_batch.result (between_none c.in-Some.line.items c.loop-line.invariant.along (search rules) (search rules) (search rules) (search rules)) c.skip_batch.ensures.cause
+pub returns-in-Err-OutOfMemory-clause-cause : goal.returns-in-Err-OutOfMemory-clause-cause
+returns-in-Err-OutOfMemory-clause-cause g c = along_refused c.in-Some.line.items c.loop-line.invariant.along (search rules)
