@@ -101,7 +101,7 @@ fn put_fault(said: &mut Said, line: &[u8], fault: LineFault<'_>) -> Result<(), A
             b" is followed by its values in brackets, as in get(#2, \"name\")",
         ),
         LineFault::NoValue(rest, fault) => put_value_reason(said, rest, fault),
-        LineFault::NoMark(rest) => put_missing(said, b')', rest),
+        LineFault::NoMark(mark, rest) => put_missing(said, mark, rest),
         LineFault::NoEnd(rest) => said.put_of(
             skip_blanks(rest),
             b" after the call: a line holds one call, and no comment",

@@ -1,9 +1,9 @@
 //! Why bytes aren't a value.
 
 use crate::shown::{LINE_ENDS, Said};
-use moo_text::{next_word, skip_blanks};
-use moo_value::{LiteralFault, MAX_NESTING, read_literal};
-use std::alloc::{AllocError, Global};
+use moo_text::{LineFault, next_word, skip_blanks, values_before};
+use moo_value::{LiteralFault, MAX_NESTING};
+use std::alloc::AllocError;
 
 /// That the bytes leave a text open at their end, or the list that they begin. What is between quotes doesn't count for the list.
 fn unclosed_reason(bytes: &[u8]) -> Option<&'static [u8]> {
@@ -32,55 +32,6 @@ fn unclosed_reason(bytes: &[u8]) -> Option<&'static [u8]> {
     }
 }
 
-/// What follows the mark, if the bytes begin with it after blanks.
-pub(crate) fn after_mark(mark: u8, bytes: &[u8]) -> Option<&[u8]> {
-    match skip_blanks(bytes).split_first() {
-        Some((first, rest)) if *first == mark => Some(rest),
-        _ => None,
-    }
-}
-
-/// What is wrong inside a list.
-#[derive(Clone, Copy)]
-enum Inside<'a> {
-    /// Here an item is wanted, and no value begins.
-    Item(&'a [u8]),
-    /// Here a comma or the end of the list is wanted.
-    Mark(&'a [u8]),
-}
-
-/// What is wrong first in a list, after its bracket.
-fn wrong_inside<'a>(alloc: Global, bytes: &'a [u8]) -> Inside<'a> {
-    let mut rest = bytes;
-    // Each turn takes a value, so that a list has no more turns than bytes.
-    for _turn in 0..bytes.len() {
-        let Ok((_, count)) = read_literal(alloc, rest) else {
-            return Inside::Item(rest);
-        };
-        let after = rest.get(count..).unwrap_or(&[]);
-        match after_mark(b',', after) {
-            Some(others) => rest = others,
-            None => return Inside::Mark(after),
-        }
-    }
-    Inside::Item(rest)
-}
-
-/// What is wrong in the innermost list that the bytes begin.
-fn wrong_innermost<'a>(alloc: Global, bytes: &'a [u8]) -> Inside<'a> {
-    let mut at = bytes;
-    for _level in 0..MAX_NESTING {
-        let Some(inside) = after_mark(b'{', at) else {
-            return Inside::Item(at);
-        };
-        match wrong_inside(alloc, inside) {
-            Inside::Item(item) => at = item,
-            Inside::Mark(rest) => return Inside::Mark(rest),
-        }
-    }
-    Inside::Item(at)
-}
-
 /// Says that a comma or the closing mark is missing before these bytes.
 pub(crate) fn put_missing(said: &mut Said, mark: u8, rest: &[u8]) -> Result<(), AllocError> {
     said.put(b"a comma or `")?;
@@ -89,15 +40,23 @@ pub(crate) fn put_missing(said: &mut Said, mark: u8, rest: &[u8]) -> Result<(), 
     said.put_of(skip_blanks(rest), b"")
 }
 
-/// Says what is wrong where a value is wanted.
+/// Says what is wrong where a value is wanted: in the innermost list that begins there.
 fn put_no_value(said: &mut Said, bytes: &[u8]) -> Result<(), AllocError> {
     if let Some(reason) = unclosed_reason(bytes) {
         return said.put(reason);
     }
-    let item = match wrong_innermost(said.alloc, bytes) {
-        Inside::Item(item) => item,
-        Inside::Mark(rest) => return put_missing(said, b'}', rest),
-    };
+    let mut item = bytes;
+    for _level in 0..MAX_NESTING {
+        let Some(inside) = skip_blanks(item).strip_prefix(&[b'{']) else {
+            break;
+        };
+        match values_before(said.alloc, b'}', inside) {
+            Err(LineFault::NoValue(rest, _)) => item = rest,
+            Err(LineFault::NoMark(mark, rest)) => return put_missing(said, mark, rest),
+            Err(LineFault::OutOfMemory) => return Err(AllocError),
+            _ => break,
+        }
+    }
     match next_word(item) {
         Some((word, _)) => said.put_of(
             word,

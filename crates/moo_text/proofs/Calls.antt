@@ -40,21 +40,21 @@ value_front : (b : List ℕ) (v : Value) (rest : List ℕ) (vs args : List Value
 unfolding SpellsSome
 value_front b v rest vs args front behind is = let r = front_read b v rest front in (v, vs, sym is, r.fits, ([], r.text, rest, refl, r.spelled, behind, r.whole))
 
-values_taken : (most : ℕ) (b : List ℕ) (args : List Value) → values_at most b ≡ Some args → SpellsSome args b
+values_taken : (most : ℕ) (b : List ℕ) (args : List Value) → values_at 41 most b ≡ Some args → SpellsSome args b
 values_taken zero b args e = absurd cc
 values_taken (suc most) b args e =
-    let t = then_some (λ x. behind_value x.0 (values_at most) x.1) (front_of b) args e in
+    let t = then_some (λ x. behind_value 41 x.0 (values_at 41 most) x.1) (front_of b) args e in
     by_mark t.0.0 t.0.1 t.1 (λ others vs h. values_taken most others vs h) (after_mark 41 t.0.1) refl t.2
   where
-    by_mark : (v : Value) (rest : List ℕ) → front_of b ≡ Some (v, rest) → ((others : List ℕ) (vs : List Value) → values_at most others ≡ Some vs → SpellsSome vs others)
-        → (o : Option (List ℕ)) → after_mark 41 rest ≡ o → option_map_or (closed (v ∷ [])) o (option_and_then (λ others. option_map (λ vs. v ∷ vs) (values_at most others)) (after_mark 44 rest)) ≡ Some args → SpellsSome args b
+    by_mark : (v : Value) (rest : List ℕ) → front_of b ≡ Some (v, rest) → ((others : List ℕ) (vs : List Value) → values_at 41 most others ≡ Some vs → SpellsSome vs others)
+        → (o : Option (List ℕ)) → after_mark 41 rest ≡ o → option_map_or (closed (v ∷ [])) o (option_and_then (λ others. option_map (λ vs. v ∷ vs) (values_at 41 most others)) (after_mark 44 rest)) ≡ Some args → SpellsSome args b
     by_mark v rest front more (Some end) mark h = elim (chosen (is_all_blank end) (Some (v ∷ [])) None (Some args) h) [
       | inl blank ↦ value_front b v rest [] args front (closes rest end mark blank.0) (let k : Some (v ∷ []) ≡ Some args = blank.1 in cc)
       | inr other ↦ absurd (let k : None ≡ Some args = other.1 in cc)
     ]
     by_mark v rest front more None mark h =
-        let t = then_some (λ others. option_map (λ vs. v ∷ vs) (values_at most others)) (after_mark 44 rest) args h in
-        let m = map_some (λ vs. v ∷ vs) (values_at most t.0) args t.2 in
+        let t = then_some (λ others. option_map (λ vs. v ∷ vs) (values_at 41 most others)) (after_mark 44 rest) args h in
+        let m = map_some (λ vs. v ∷ vs) (values_at 41 most t.0) args t.2 in
         value_front b v rest m.0 args front (comma_front m.0 t.0 rest (more t.0 m.0 m.1) t.1) m.2
 
 some_spelled : (args : List Value) (b : List ℕ) → SpellsSome args b → SpellsArguments true args b
@@ -64,7 +64,7 @@ some_spelled args b (v, vs, is, fits, item) = subst (λ (us : List Value). Spell
 arguments_taken : (b : List ℕ) (args : List Value) → arguments_of b ≡ Some args → SpellsArguments true args b
 arguments_taken b args e = by_mark (after_mark 41 b) refl e
   where
-    by_mark : (o : Option (List ℕ)) → after_mark 41 b ≡ o → option_map_or (closed []) o (values_at (length b) b) ≡ Some args → SpellsArguments true args b
+    by_mark : (o : Option (List ℕ)) → after_mark 41 b ≡ o → option_map_or (closed []) o (values_at 41 (length b) b) ≡ Some args → SpellsArguments true args b
     by_mark o mark h = grind (arith, mark, chosen, closes, some_spelled, values_taken)
 
 word_letters : (b : List ℕ) → AllByRecursion (λ c. IsTrue (is_word c)) (word b)
@@ -135,7 +135,7 @@ comma_again v vs rest (fits, (comma, value, more, (blanks, token, all, is, is_co
     let front : after_blanks rest ≡ 44 ∷ (value ++ more) = ap after_blanks text ∙ blanks_skipped blanks (44 ∷ (value ++ more)) all in
     (value ++ more, ap (behind_mark 44) front, ap (behind_mark 41) front, (fits, ([], value, more, refl, spelled, behind, refl)))
 
-values_again : (most : ℕ) (v : Value) (vs : List Value) (b : List ℕ) → SpellsArguments true (v ∷ vs) b → length b ≤ most → values_at most b ≡ Some (v ∷ vs)
+values_again : (most : ℕ) (v : Value) (vs : List Value) (b : List ℕ) → SpellsArguments true (v ∷ vs) b → length b ≤ most → values_at 41 most b ≡ Some (v ∷ vs)
 values_again zero v vs b s le = absurd (omega (arith, front_shorter b v s.1.2 (item_front v vs b s.0 s.1)))
 values_again (suc most) v [] b s le =
     let front = item_front v [] b s.0 s.1 in

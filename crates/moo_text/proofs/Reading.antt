@@ -54,32 +54,32 @@ front_shorter b v rest e = let f = front_read b v rest e in omega (arith, f.some
 -- ---- the arguments of a call
 
 -- the arguments are those that are read, and then those that are read of the rest
-abbrev pub GoesOn : List ℕ → List Value → List ℕ → Type 0
-GoesOn bytes values rest = (most : ℕ) × (length rest ≤ most) × (values_at (length bytes) bytes ≡ option_map (λ vs. values ++ vs) (values_at most rest))
+abbrev pub GoesOn : ℕ → List ℕ → List Value → List ℕ → Type 0
+GoesOn mark bytes values rest = (most : ℕ) × (length rest ≤ most) × (values_at mark (length bytes) bytes ≡ option_map (λ vs. values ++ vs) (values_at mark most rest))
 
 map_push : (values : List Value) (v : Value) (o : Option (List Value)) → option_map (λ vs. values ++ vs) (option_map (λ vs. v ∷ vs) o) ≡ option_map (λ vs. (values ++ v ∷ []) ++ vs) o
 map_push values v o = grind (arith, append_assoc)
 
 -- a value is read
-pub record ValueRead (bytes : List ℕ) (values : List Value) (v : Value) (after : List ℕ) : Type 0 where
+pub record ValueRead (mark : ℕ) (bytes : List ℕ) (values : List Value) (v : Value) (after : List ℕ) : Type 0 where
   pub most : ℕ
   pub enough : length after ≤ most
-  pub goes_on : values_at (length bytes) bytes ≡ option_map (λ vs. values ++ vs) (behind_value v (values_at most) after)
+  pub goes_on : values_at mark (length bytes) bytes ≡ option_map (λ vs. values ++ vs) (behind_value mark v (values_at mark most) after)
 
-pub one_read : (bytes : List ℕ) (values : List Value) (rest : List ℕ) (v : Value) (after : List ℕ) → GoesOn bytes values rest → front_of rest ≡ Some (v, after) → ValueRead bytes values v after
-one_read bytes values rest v after (zero, enough, e) is = absurd (omega (arith, front_shorter rest v after is))
-one_read bytes values rest v after (suc most, enough, e) is = record {
+pub one_read : (mark : ℕ) (bytes : List ℕ) (values : List Value) (rest : List ℕ) (v : Value) (after : List ℕ) → GoesOn mark bytes values rest → front_of rest ≡ Some (v, after) → ValueRead mark bytes values v after
+one_read mark bytes values rest v after (zero, enough, e) is = absurd (omega (arith, front_shorter rest v after is))
+one_read mark bytes values rest v after (suc most, enough, e) is = record {
   most = most;
   enough = omega (arith, front_shorter rest v after is);
-  goes_on = e ∙ ap (λ (o : Option (Value × List ℕ)). option_map (λ vs. values ++ vs) (option_and_then (λ x. behind_value x.0 (values_at most) x.1) o)) is;
+  goes_on = e ∙ ap (λ (o : Option (Value × List ℕ)). option_map (λ vs. values ++ vs) (option_and_then (λ x. behind_value mark x.0 (values_at mark most) x.1) o)) is;
 }
 
-pub comma_read : {bytes : List ℕ} {values pushed : List Value} {v : Value} {after others : List ℕ} → ValueRead bytes values v after → after_mark 41 after ≡ None → after_mark 44 after ≡ Some others
-    → length others ≤ length after → pushed ≡ values ++ v ∷ [] → GoesOn bytes pushed others
-comma_read {values = values} {v = v} {after = after} {others = others} r unclosed comma shorter is = grind (arith, map_push)
+pub comma_read : {mark : ℕ} {bytes : List ℕ} {values pushed : List Value} {v : Value} {after others : List ℕ} → ValueRead mark bytes values v after → after_mark mark after ≡ None → after_mark 44 after ≡ Some others
+    → length others ≤ length after → pushed ≡ values ++ v ∷ [] → GoesOn mark bytes pushed others
+comma_read {mark = mark} {values = values} {v = v} {after = after} {others = others} r unclosed comma shorter is = grind (arith, map_push)
 
-pub closed_read : {bytes : List ℕ} {values : List Value} {v : Value} {after end : List ℕ} → ValueRead bytes values v after → after_mark 41 after ≡ Some end → is_all_blank end ≡ true → values_at (length bytes) bytes ≡ Some (values ++ v ∷ [])
-closed_read {values = values} {v = v} {after = after} r close blank = grind arith
+pub closed_read : {mark : ℕ} {bytes : List ℕ} {values : List Value} {v : Value} {after end : List ℕ} → ValueRead mark bytes values v after → after_mark mark after ≡ Some end → is_all_blank end ≡ true → values_at mark (length bytes) bytes ≡ Some (values ++ v ∷ [])
+closed_read {mark = mark} {values = values} {v = v} {after = after} r close blank = grind arith
 
 -- what stands behind blanks is no longer
 pub mark_taken : (mark : ℕ) (b rest : List ℕ) → after_mark mark b ≡ Some rest → after_blanks b ≡ mark ∷ rest

@@ -12,6 +12,6 @@ Says (NoObject here) = object_of here.now ≡ None
 Says (NoName here) = call_name (word here.now) ≡ None
 Says (NoBracket here) = call_name here.now ≢ None
 Says (NoValue here fault) = HasFault here.now fault
-Says (NoMark here) = (after_mark 41 here.now ≡ None) × (after_mark 44 here.now ≡ None)
+Says (NoMark mark here) = (after_mark mark here.now ≡ None) × (after_mark 44 here.now ≡ None)
 Says (NoEnd here) = is_all_blank here.now ≡ false
 Says _ = ⊤

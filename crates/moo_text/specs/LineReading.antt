@@ -76,23 +76,23 @@ behind_mark mark (c ∷ cs) = if c == mark then Some cs else None
 abbrev pub after_mark : ℕ → List ℕ → Option (List ℕ)
 after_mark mark b = behind_mark mark (after_blanks b)
 
--- nothing more than a closing bracket gives these arguments
+-- nothing more than a closing mark gives these arguments
 abbrev pub closed : List Value → List ℕ → Option (List Value)
 closed args end = if is_all_blank end then Some args else None
 
 -- the arguments that end with v, or those that `more` gives after v and a comma
-abbrev pub behind_value : Value → (List ℕ → Option (List Value)) → List ℕ → Option (List Value)
-behind_value v more rest =
-    option_map_or (closed (v ∷ [])) (after_mark 41 rest) (option_and_then (λ others. option_map (λ vs. v ∷ vs) (more others)) (after_mark 44 rest))
+abbrev pub behind_value : ℕ → Value → (List ℕ → Option (List Value)) → List ℕ → Option (List Value)
+behind_value mark v more rest =
+    option_map_or (closed (v ∷ [])) (after_mark mark rest) (option_and_then (λ others. option_map (λ vs. v ∷ vs) (more others)) (after_mark 44 rest))
 
--- so many arguments at most, one at least, to the end of the line
-abbrev pub values_at : ℕ → List ℕ → Option (List Value)
-values_at zero b = None
-values_at (suc most) b = option_and_then (λ x. behind_value x.0 (values_at most) x.1) (front_of b)
+-- so many arguments at most, one at least, to the mark that ends the line
+abbrev pub values_at : ℕ → ℕ → List ℕ → Option (List Value)
+values_at mark zero b = None
+values_at mark (suc most) b = option_and_then (λ x. behind_value mark x.0 (values_at mark most) x.1) (front_of b)
 
 -- the arguments after the bracket
 abbrev pub arguments_of : List ℕ → Option (List Value)
-arguments_of b = option_map_or (closed []) (after_mark 41 b) (values_at (length b) b)
+arguments_of b = option_map_or (closed []) (after_mark 41 b) (values_at 41 (length b) b)
 
 abbrev pub call_name : List ℕ → Option CallName
 call_name b = find (λ name. same_text (folded b) (spelling name)) all_names

@@ -19,10 +19,10 @@ fn after_mark(mark: u8, bytes: &[u8]) -> Option<&[u8]>
     skip_blanks(bytes).strip_prefix(&[mark])
 }
 
-/// One argument at least, to the end of the line.
-fn values_of(alloc: Global, bytes: &[u8]) -> Result<Args, LineFault<'_>>
-    ensures ok { IfOk result (λ args. values_at (length bytes.now) bytes.now ≡ Some args) }
-    ensures err { IfErr result (λ fault. fault ≢ OutOfMemory → values_at (length bytes.now) bytes.now ≡ None) }
+/// One value at least, and commas between them, to the mark that ends the line.
+pub fn values_before(alloc: Global, mark: u8, bytes: &[u8]) -> Result<Args, LineFault<'_>>
+    ensures ok { IfOk result (λ args. values_at mark (length bytes.now) bytes.now ≡ Some args) }
+    ensures err { IfErr result (λ fault. fault ≢ OutOfMemory → values_at mark (length bytes.now) bytes.now ≡ None) }
     ensures says { IfErr result Says }
 {
     let mut values = Vec::new(alloc);
@@ -30,13 +30,13 @@ fn values_of(alloc: Global, bytes: &[u8]) -> Result<Args, LineFault<'_>>
     loop {
         let (value, after) = read_front(alloc, rest)?;
         values.push(value).map_err(AllocError::from)?;
-        if let Some(end) = after_mark(b')', after) {
+        if let Some(end) = after_mark(mark, after) {
             if is_all_blank(end) {
                 return Ok(Args::from_vec(values));
             }
             return Err(LineFault::NoEnd(end));
         }
-        rest = after_mark(b',', after).ok_or(LineFault::NoMark(after))?;
+        rest = after_mark(b',', after).ok_or(LineFault::NoMark(mark, after))?;
     }
 }
 
@@ -49,7 +49,7 @@ fn arguments_of(alloc: Global, bytes: &[u8]) -> Result<Args, LineFault<'_>>
     match after_mark(b')', bytes) {
         Some(end) if is_all_blank(end) => Ok(Args::from_vec(Vec::new(alloc))),
         Some(end) => Err(LineFault::NoEnd(end)),
-        None => values_of(alloc, bytes),
+        None => values_before(alloc, b')', bytes),
     }
 }
 

@@ -18,7 +18,7 @@ mod surface;
 pub mod text_laws;
 mod writing;
 
-pub use call_text::{call_in, call_on_line};
+pub use call_text::{call_in, call_on_line, values_before};
 pub use fault::{TextFault, WriteFault};
 pub use feed::Feed;
 pub use header::{Header, object_of, read_header};

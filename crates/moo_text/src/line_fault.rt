@@ -30,8 +30,8 @@ pub enum LineFault<'a> {
     NoBracket(&'a [u8]),
     /// No value is here.
     NoValue(&'a [u8], LiteralFault),
-    /// Neither a comma nor `)` is here, after a value.
-    NoMark(&'a [u8]),
+    /// Neither a comma nor this mark is here, after a value.
+    NoMark(u8, &'a [u8]),
     /// More than blanks is here, after the `)` of a call.
     NoEnd(&'a [u8]),
     /// Memory ran out.

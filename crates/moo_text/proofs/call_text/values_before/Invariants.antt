@@ -1,10 +1,10 @@
 use Rattle.moo_text.{proofs.Shared.{◌≡◌, length, true, list_all, fits}, proofs.Reading.{GoesOn}}
-use Rattle.moo_text.proofs.call_text.values_of.Given as goal
+use Rattle.moo_text.proofs.call_text.values_before.Given as goal
 
 abbrev pub invariant-loop-values : goal.invariant-loop-values
 invariant-loop-values l = record {
   fit : list_all fits l.values.items ≡ true;
-  goes_on : GoesOn l.bytes l.values.items l.rest;
+  goes_on : GoesOn l.mark l.bytes l.values.items l.rest;
 }
 
 abbrev pub decreases-loop-values : goal.decreases-loop-values
