@@ -1,14 +1,16 @@
 -- What the fault of a line says of the bytes that it points at.
-use Rattle.std.specs.Prelude.{◌≡◌, ◌≢◌, false, None, ⊤}
+use Rattle.std.specs.Prelude.{◌≡◌, ◌≢◌, false, None, codes, ⊤}
 use Rattle.moo_value.specs.Fault.{HasFault}
 use Rattle.moo_value.specs.Reading.{word}
+use Rattle.moo_world.specs.Objects.{same_text}
 use Rattle.moo_text.specs.Line.{is_all_blank}
 use Rattle.moo_text.specs.LineReading.{object_of, after_mark, call_name}
 use Rattle.moo_text.specs.declared.line_fault.LineFault.{LineFault}
-use Rattle.moo_text.specs.declared.line_fault.LineFault.TheVariants.{NoObject, NoName, NoBracket, NoValue, NoMark, NoEnd}
+use Rattle.moo_text.specs.declared.line_fault.LineFault.TheVariants.{NoObject, NoAt, NoName, NoBracket, NoValue, NoMark, NoEnd}
 
 abbrev pub Says : LineFault → Type 0
 Says (NoObject here) = object_of here.now ≡ None
+Says (NoAt here) = same_text here.now (codes "at") ≡ false
 Says (NoName here) = call_name (word here.now) ≡ None
 Says (NoBracket here) = call_name here.now ≢ None
 Says (NoValue here fault) = HasFault here.now fault
