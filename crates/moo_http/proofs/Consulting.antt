@@ -1,12 +1,11 @@
 -- What a batch that is run or asked, and a question, say of a World at whatever place.
 use Rattle.moo_http.{proofs.Words.{◌≡◌, ◌⊎◌, inl, inr, refl, ap, subst, arith, ◌∙◌, true, false, Result, Ok, Err, IsTrue, IfOk, IfErr, Ghosts, Batch, state_of, judge, World, state_of_world, Stands, MovesBy, RunsAt, VerdictLeads, StopsStore, Moment, LeadsBy, rows_alone, state_of_moment, Place, Works, Failed, Between, Calls, Run, Ask, RequestOutcome, MayAnswer, HasAdvanced, IsStillOrAdvanced}, proofs.Going.{moves_as}, specs.Settled.{came_of}}
 use Rattle.std.specs.Result.{IsOkAnd}
-use Rattle.sqlite.specs.declared.error.Error.{Error}
 use Rattle.moo_rows.specs.Maps.{Maps}
 use Rattle.moo_world.specs.Judge as model
 use Rattle.moo_text.{specs.declared.reply.Reply.{Reply}, specs.declared.reply.Reply.TheVariants.{Accepted, Refused, Full, Stale, NoMemory}}
 use Rattle.moo_text.specs.declared.reply.Answer.TheVariants as answered
-use Rattle.moo_store.{specs.Answered.{reply_of}, specs.Moves.{FailsRun, MayReplyAsked}, specs.Stopping.{says_accepted}, specs.Text.{answer_to}, specs.declared.fault.StoreFault.{StoreFault}, specs.declared.fault.StoreFault.TheVariants.{Store, Damaged, NewerVersion, OutOfMemory, Closed}}
+use Rattle.moo_store.{specs.Answered.{reply_of}, specs.Moves.{FailsRun, MayReplyAsked}, specs.Stopping.{says_accepted}, specs.Text.{answer_to}, specs.declared.fault.StoreFault.{StoreFault}, specs.declared.fault.StoreFault.TheVariants.{Closed}}
 use Rattle.moo_http_request.{specs.declared.asked.Asked.TheVariants.{Question as Asks}, specs.declared.question.Question.{Question}}
 use Rattle.moo_http_response.specs.Outcomes.{outcome_of}
 use Rattle.moo_http_response.specs.Told.{told_of}
@@ -14,23 +13,15 @@ use Rattle.moo_http_response.specs.declared.outcome.RequestOutcome.TheVariants a
 
 -- ---- a run of one batch
 
-no_other : {S : Type 0} (g : Ghosts S) (was new : World S) {X : Type 0} (fault : StoreFault) → FailsRun g was new fault → (fault ≡ Closed → X) → ((error : Error) → fault ≡ Store error → X) → X
-no_other g was new fault (inl closed) first second = first closed
-no_other g was new fault (inr (error, is, why)) first second = second error is
-
 came_as : {S : Type 0} (g : Ghosts S) (was new : World S) (r : Result Reply StoreFault) → IfErr r (FailsRun g was new) → came_of r ≡ outcome_of (answer_to r)
 came_as g was new (Ok reply) fails = refl
-came_as g was new (Err (Store error)) fails = refl
-came_as g was new (Err (Damaged kind key)) fails = no_other g was new (Damaged kind key) fails (λ e. absurd cc) (λ error e. absurd cc)
-came_as g was new (Err NewerVersion) fails = no_other g was new NewerVersion fails (λ e. absurd cc) (λ error e. absurd cc)
-came_as g was new (Err OutOfMemory) fails = no_other g was new OutOfMemory fails (λ e. absurd cc) (λ error e. absurd cc)
-came_as g was new (Err Closed) fails = refl
+came_as g was new (Err fault) (inl closed) = rw closed refl
+came_as g was new (Err fault) (inr (error, is, why)) = rw is refl
 
 -- this is what came of the batch
 pub ran_one : {S : Type 0} (g : Ghosts S) (was new : World S) (batch : Batch) (r : Result Reply StoreFault) (o : RequestOutcome) → o ≡ came_of r → IfErr r (FailsRun g was new)
     → MovesBy g was new (λ from to. RunsAt from batch (answer_to r) to) → MovesBy g was new (λ from to. MayAnswer from (Calls Run batch) o to)
-ran_one g was new batch r o is fails moves =
-    moves_as g was new (λ from to. RunsAt from batch (answer_to r) to) (λ from to. MayAnswer from (Calls Run batch) o to) (λ from to runs. inl (answer_to r, runs, is ∙ came_as g was new r fails)) moves
+ran_one g was new batch r o is fails moves = moves_as moves (λ from to runs. inl (answer_to r, runs, is ∙ came_as g was new r fails))
 
 module _ {S : Type 0} (g : Ghosts S) (was new : World S) (batch : Batch) (m : Moment) (works : was.failed ≡ false) (rows : was.rows.maps ≡ m.rows) where
   -- an accepted batch is counted
@@ -76,11 +67,8 @@ module _ {S : Type 0} (g : Ghosts S) (was new : World S) (batch : Batch) (m : Mo
   by_result : (r : Result Reply StoreFault) (to : Place) → IfOk r (λ reply. says_accepted (answered.Replied reply) ≡ false → new ≡ was) → IfErr r (FailsRun g was new) → RunsAt (Works m) batch (answer_to r) to → Stands g new to
       → (new ≡ was) ⊎ HasAdvanced was new
   by_result (Ok reply) to still fails runs at = by_reply reply to still runs at
-  by_result (Err (Store error)) to still fails runs at = inr (stops_advances (judge (state_of_moment m) batch) to runs at)
-  by_result (Err (Damaged kind key)) to still fails runs at = no_other g was new (Damaged kind key) fails (λ e. absurd cc) (λ error e. absurd cc)
-  by_result (Err NewerVersion) to still fails runs at = no_other g was new NewerVersion fails (λ e. absurd cc) (λ error e. absurd cc)
-  by_result (Err OutOfMemory) to still fails runs at = no_other g was new OutOfMemory fails (λ e. absurd cc) (λ error e. absurd cc)
-  by_result (Err Closed) to still fails runs at = absurd runs
+  by_result (Err fault) to still (inl closed) runs at = absurd (rw closed at runs)
+  by_result (Err fault) to still (inr (error, is, why)) runs at = inr (stops_advances (judge (state_of_moment m) batch) to (rw is at runs) at)
 
 -- and unless the batch was accepted, or the store failed in it, it is the very World
 pub still_one : {S : Type 0} (g : Ghosts S) (was new : World S) (batch : Batch) (r : Result Reply StoreFault) → MovesBy g was new (λ from to. RunsAt from batch (answer_to r) to)

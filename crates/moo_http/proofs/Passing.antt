@@ -1,16 +1,13 @@
 -- From what the judge sees through a desk to what the peer sees.
 use Rattle.moo_http.{proofs.Words.{◌≡◌, inl, inr, ℕ, zero, suc, List, [], ◌∷◌, ◌++◌, length, take, Option, Some, None, refl, sym, ap, subst, ◌∙◌, append_assoc, append-nil, Ok, Err, Place, Keeps, Appends, Consumes, Takes, Yields, Exchanged, ServeFault, Read, Write, OutOfMemory, Traffic}, specs.Through.{Passes, FailedThrough}}
 use Rattle.std.specs.Io.KnownBytes.{append_known, prepend_known}
-use Rattle.std.proofs.KnownBytes.{Appends-nil}
+use Rattle.std.proofs.KnownBytes.{Appends-nil, Consumes-nil, Consumes-trans, Consumes-kept, prepend_known-nil}
 use Rattle.std.proofs.lemmas.List.{append_cancel_left}
 use Rattle.std.proofs.Math.Seq.{take-append_seam, take-nil}
 use Rattle.moo_http_request.specs.declared.request.Received.{Received}
 
 consumes_given : (given left rest : Option (List ℕ)) (bs : List ℕ) → Keeps (prepend_known [] given) left → Consumes left rest bs → Consumes given rest bs
-consumes_given None left rest bs p q = tt
-consumes_given (Some x) None rest bs p q = absurd p
-consumes_given (Some x) (Some y) None bs p q = absurd q
-consumes_given (Some x) (Some y) (Some z) bs p q = sym p ∙ q
+consumes_given given left rest bs kept taken = Consumes-trans given left rest [] bs (Consumes-kept given given left [] (Consumes-nil given) (subst (λ a. Keeps a left) (prepend_known-nil given) kept)) taken
 
 module _ (from to : Place) (peer judge : Traffic) (unsent : List ℕ) (it : Passes peer judge unsent) where
   takes_given : (received : Received) → Takes judge.left judge.rest received → Takes peer.left peer.rest received

@@ -132,6 +132,7 @@ fn ask_question<S: Alter + Drop>(
 }
 
 /// Runs or asks one batch.
+#[tactic(auto, using(crate::proofs::Going::still_none))]
 fn take_batch<S: Alter + Drop>(
     world: &mut World<S>,
     mode: Mode,
@@ -162,7 +163,7 @@ pub(crate) fn consult<S: Alter + Drop>(
     ensures seen { HasSeenAsked world.old.rows.maps asked.now result (seen_by whys.old) (seen_by whys.new) }
 {
     match asked {
-        Asked::Refused(refusal) => RequestOutcome::Refused(*refusal),
+        Asked::Refused(refused) => RequestOutcome::Refused(refused.refusal()),
         Asked::Calls(mode, batch) => take_batch(world, *mode, batch, whys),
         Asked::Each(each) => ask_each(world, each, whys),
         Asked::Question(question) => ask_question(alloc, world, *question),

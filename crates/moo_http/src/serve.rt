@@ -14,7 +14,7 @@ use crate::fault::ServeFault;
 use crate::note::Note;
 use crate::why::answer_with_whys;
 use crate::write::write_out;
-use moo_http_request::{Asked, BodyFault, Incoming, Received, Routes, read_request};
+use moo_http_request::{Asked, Incoming, Received, Routes, read_request};
 use moo_reasons::Whys;
 use moo_store::World;
 use sqlite::Alter;
@@ -37,8 +37,6 @@ pub(crate) struct Inquiry {
     pub(crate) is_head: bool,
     /// It is to be said why what was asked is refused.
     pub(crate) asks_why: bool,
-    /// What is wrong with the body, if that is known.
-    pub(crate) wrong: Option<BodyFault>,
 }
 
 /// Does what is asked, and writes the answer, which says why it is refused if that is asked too.
@@ -94,8 +92,7 @@ pub fn serve_one<S: Alter + Drop, R: Incoming, W: Write>(
     // After a refusal the note says that the connection is to be closed gently.
     ensures gentle { OnOk result (ClosesGently (R.remaining reader.old) (R.remaining reader.new) note.new.closing) }
 {
-    let mut wrong = None;
-    match read_request(means.alloc, means.routes, reader, &mut wrong)? {
+    match read_request(means.alloc, means.routes, reader)? {
         Received::Nothing => Ok(()),
         Received::Request {
             is_head,
@@ -106,7 +103,6 @@ pub fn serve_one<S: Alter + Drop, R: Incoming, W: Write>(
                 asked,
                 is_head,
                 asks_why,
-                wrong,
             };
             serve_asked(means, &inquiry, writer, world, note)
         }
