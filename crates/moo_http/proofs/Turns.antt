@@ -14,16 +14,9 @@ pub visited : (Failed Unlimited : Type 0) (r : Result (Unit {0}) ServeFault) (an
 visited Failed Unlimited (Ok done) answered from to bytes is cause it = rw is it
 visited Failed Unlimited (Err fault) answered from to bytes is cause it = rw is (fault, (λ same. inl (cause same)), it)
 
--- a connection that is neither read nor written
-pub unvisited : (Unread : Type 0) (place : Place) (bytes : Traffic) → Unread → bytes.after ≡ bytes.before → Visited Unread false place place bytes
-unvisited Unread place bytes cause unwritten = (Read, (λ e. cause), (refl, unwritten))
-
 -- ---- many
 
 module _ {A R W : Type 0} (source : Arrivals.Ghosts A R W) (reader : Reading.Ghosts R) (fails : R → R → Type 0) (writer : Writing.Ghosts W) where
-  pub attended_none : (old : A) (place : Place) → Attended source reader fails writer 0 0 old place old place
-  attended_none old place = ([], refl, refl, (refl, refl))
-
   -- from the connections of a source that was opened on a port and closed to those of the port
   pub serves_on : {P : Type 0} (ports : Ports.Ghosts P A R W) (first between last : P) (r : Result (Unit {0}) ServiceFault) (port count : ℕ) (old : A) (from : Place) (new : A) (to : Place) (before after : Option (List ℕ))
       → ports.listens first port (Some old) between → ports.closes between new last → IfErr r (λ fault. fault ≢ service.Port)

@@ -150,6 +150,7 @@ fn take_batch<S: Alter + Drop>(
 }
 
 /// Does what is asked. Why a batch is refused, or each call that is asked alone, is kept in their order if it is wanted.
+#[tactic(auto, using(crate::proofs::Going::still_none))]
 pub(crate) fn consult<S: Alter + Drop>(
     alloc: Global,
     world: &mut World<S>,

@@ -67,6 +67,7 @@ fn serve_asked<S: Alter + Drop, W: Write>(
 ///
 /// The faults: Read if the reader fails, and the World is as it was; Write if the writer fails or takes no bytes, and what was asked is
 /// done; OutOfMemory if memory runs out before the World is asked or after that. An answer 200 to a batch is written after its commit.
+#[tactic(auto, using(crate::proofs::Going::still_none))]
 pub fn serve_one<S: Alter + Drop, R: Incoming, W: Write>(
     means: &Means<'_>,
     reader: &mut R,

@@ -1,5 +1,5 @@
 use Rattle.moo_http.proofs.Words.{ap, refl, inl}
-use Rattle.moo_http.proofs.Going.{moves_none, still_none}
+use Rattle.moo_http.proofs.Going.{moves_none}
 use Rattle.moo_http_response.specs.declared.outcome.RequestOutcome.TheVariants as outcome
 use Rattle.moo_http.proofs.consult.consult.Goals as goal
 
@@ -14,15 +14,6 @@ returns-in-Each-clause-moves g c = rw c.in-Each.is (moves_none c.ask_each.ensure
 
 pub returns-in-Question-clause-moves : goal.returns-in-Question-clause-moves
 returns-in-Question-clause-moves g c = rw c.in-Question.is (moves_none c.ask_question.ensures)
-
-pub returns-in-Refused-clause-still : goal.returns-in-Refused-clause-still
-returns-in-Refused-clause-still g c = still_none g.S.Store c.args.world.now
-
-pub returns-in-Each-clause-still : goal.returns-in-Each-clause-still
-returns-in-Each-clause-still g c = still_none g.S.Store c.args.world.now
-
-pub returns-in-Question-clause-still : goal.returns-in-Question-clause-still
-returns-in-Question-clause-still g c = still_none g.S.Store c.args.world.now
 
 pub returns-in-Refused-clause-seen : goal.returns-in-Refused-clause-seen
 returns-in-Refused-clause-seen g c = rw c.in-Refused.is tt

@@ -1,4 +1,4 @@
-use Rattle.moo_http.{proofs.Words.{inr, refl, rules}, proofs.Going.{moves_as, moves_none, still_none}, proofs.Turns.{visited, unvisited}}
+use Rattle.moo_http.{proofs.Words.{Read, inr, refl, rules}, proofs.Going.{moves_as, moves_none}, proofs.Turns.{visited}}
 use Rattle.moo_http.proofs.listen.serve_connection.Goals as goal
 
 pub returns-clause-visited : goal.returns-clause-visited
@@ -8,7 +8,4 @@ returns-clause-visited g c =
 
 -- a connection that isn't read leaves the World where it was
 pub returns-then-not-is_limited-clause-visited : goal.returns-then-not-is_limited-clause-visited
-returns-then-not-is_limited-clause-visited g c = moves_none (λ from at. unvisited _ from _ (inr (search rules)) refl)
-
-pub returns-then-not-is_limited-clause-still : goal.returns-then-not-is_limited-clause-still
-returns-then-not-is_limited-clause-still g c = still_none g.S.Store c.args.world.now
+returns-then-not-is_limited-clause-visited g c = moves_none (λ from at. (Read, (λ e. inr (search rules)), (refl, refl)))

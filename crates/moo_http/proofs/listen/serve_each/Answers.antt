@@ -1,10 +1,10 @@
-use Rattle.moo_http.{proofs.Words.{◌≡◌, ◌+◌, inl, inr, refl, subst, arith, rules}, proofs.Going.{moves_none, still_none}, proofs.Turns.{CountsOne, attended_none, passed_on}, proofs.listen.serve_each.Goals.{then-serve_next, else-serve_next}}
+use Rattle.moo_http.{proofs.Words.{[], ◌≡◌, ◌+◌, inl, inr, refl, subst, arith, rules}, proofs.Going.{moves_none, still_none}, proofs.Turns.{CountsOne, passed_on}, proofs.listen.serve_each.Goals.{then-serve_next, else-serve_next}}
 use Rattle.moo_http.proofs.listen.serve_each.Goals as goal
 
 pub loop-turn-init : goal.loop-turn-init
 loop-turn-init g c = record {
   sum = refl;
-  moves = moves_none (λ from at. attended_none g.A.Arrivals g.A.Reader.Read g.A.Reader.Incoming.fails g.A.Writer.Write c.args.arrivals.now from);
+  moves = moves_none (λ from at. ([], refl, refl, (refl, refl)));
   still = still_none g.S.Store c.args.world.now;
 }
 

@@ -1,4 +1,4 @@
-use Rattle.moo_http.{proofs.Words.{◌≡◌, ◌∙◌, Bool, true, false, true≢false, inl, inr, refl, sym}, proofs.Going.{moves_as, moves_none, still_none}, proofs.Turns.{unvisited}}
+use Rattle.moo_http.{proofs.Words.{Read, ◌≡◌, ◌∙◌, Bool, true, false, true≢false, inl, inr, refl, sym}, proofs.Going.{moves_as, moves_none}}
 use Rattle.moo_http.proofs.listen.serve_next.Goals as goal
 
 by_test : {X : Type 0} (b : Bool) → (b ≡ true → X) → (b ≡ false → X) → X
@@ -15,11 +15,8 @@ returns-clause-turn g c =
     (λ is.
     let still = served.ensures.unlimited is in
     rw still.1 (moves_none (λ from at.
-    inl (opened, served.new.connection, c.accept.new.self, c.in-Some.ensures, rw (still.0, still.2) (unvisited _ from _ (inr is) refl), c.close.ensures, (λ none. (still.0, refl, still.2))))))
+    inl (opened, served.new.connection, c.accept.new.self, c.in-Some.ensures, rw (still.0, still.2) (Read, (λ e. inr is), (refl, refl)), c.close.ensures, (λ none. (still.0, refl, still.2))))))
 
 -- if no connection came the World is where it was
 pub returns-in_default-clause-turn : goal.returns-in_default-clause-turn
 returns-in_default-clause-turn g c = moves_none (λ from at. inr (refl, refl, c.in_default.ensures))
-
-pub returns-in_default-clause-still : goal.returns-in_default-clause-still
-returns-in_default-clause-still g c = still_none g.S.Store c.args.world.now

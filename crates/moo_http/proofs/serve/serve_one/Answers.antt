@@ -1,4 +1,4 @@
-use Rattle.moo_http.{proofs.Words.{refl}, proofs.Going.{moves_as, moves_none, still_none}, proofs.Serving.{unread_at, unread_cause, nothing, served}}
+use Rattle.moo_http.{proofs.Words.{refl}, proofs.Going.{moves_as, moves_none}, proofs.Serving.{unread_at, unread_cause, nothing, served}}
 use Rattle.std.proofs.lemmas.Result.{IfErr-weaker}
 use Rattle.moo_http.proofs.serve.serve_one.Goals as goal
 
@@ -15,12 +15,6 @@ returns-in-Request-clause-served g c =
     let asks = c.in-Request in
     let takes = rw asks.is at c.in_ok-read_request.ensures.takes in
     moves_as c.serve_asked.ensures.answered (λ from to it. served c.serve_asked.result from to _ asks.is_head asks.asks_why asks.asked takes c.serve_asked.ensures.fault it)
-
-pub returns-in_err-read_request-clause-still : goal.returns-in_err-read_request-clause-still
-returns-in_err-read_request-clause-still g c = still_none g.S.Store c.args.world.now
-
-pub returns-in-Nothing-clause-still : goal.returns-in-Nothing-clause-still
-returns-in-Nothing-clause-still g c = still_none g.S.Store c.args.world.now
 
 pub returns-in_err-read_request-clause-cause : goal.returns-in_err-read_request-clause-cause
 returns-in_err-read_request-clause-cause g c = unread_cause c.from_residual.result c.in_err-read_request.field-0.0 c.from_residual.ensures.1 c.in_err-read_request.ensures.cause

@@ -1,4 +1,4 @@
-use Rattle.moo_http.{proofs.Words.{refl}, specs.declared.service.ServiceFault.TheVariants.{OutOfMemory}, proofs.Connections.{no_front, fails_early, says_all}, proofs.Going.{moves_as, moves_none, still_none}}
+use Rattle.moo_http.{proofs.Words.{refl}, specs.declared.service.ServiceFault.TheVariants.{OutOfMemory}, proofs.Connections.{no_front, fails_early, says_all}, proofs.Going.{moves_as, moves_none}}
 use Rattle.moo_http.proofs.service.serve_from.Goals as goal
 
 -- memory for the routes is refused
@@ -20,9 +20,3 @@ returns-clause-serves g c =
     moves_as served.ensures.serves
     (λ from to it. says_all _ _ c.args.duty.port c.args.duty.count say.result served.result.answered served.result.failed _ (g.W.Write.contents c.say_listening.new.output) _ served.ensures.count it
     c.in_ok-say_listening.ensures.ok say.ensures.ok say.ensures.err say.ensures.fault)
-
-pub returns-in_err-routes-clause-still : goal.returns-in_err-routes-clause-still
-returns-in_err-routes-clause-still g c = still_none g.S.Store c.args.world.now
-
-pub returns-in_err-say_listening-clause-still : goal.returns-in_err-say_listening-clause-still
-returns-in_err-say_listening-clause-still g c = still_none g.S.Store c.args.world.now

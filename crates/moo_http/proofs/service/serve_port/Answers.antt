@@ -1,4 +1,4 @@
-use Rattle.moo_http.{proofs.Words.{refl}, proofs.Going.{moves_as, moves_none, still_none}, proofs.Turns.{serves_on}}
+use Rattle.moo_http.{proofs.Words.{refl}, proofs.Going.{moves_as, moves_none}, proofs.Turns.{serves_on}}
 use Rattle.moo_http.proofs.service.serve_port.Goals as goal
 
 -- the port can't be bound
@@ -12,6 +12,3 @@ returns-clause-serves g c =
     moves_as done.ensures.serves
     (λ from to it. serves_on source.Arrivals source.Reader.Read source.Reader.Incoming.fails source.Writer.Write g.P.Ports c.args.ports.now c.listen.new.self c.close.new.self done.result c.args.duty.port c.args.duty.count
     c.in-Some.source from done.new.arrivals to _ _ c.in-Some.ensures c.close.ensures done.ensures.fault it)
-
-pub returns-in_default-clause-still : goal.returns-in_default-clause-still
-returns-in_default-clause-still g c = still_none g.S.Store c.args.world.now
