@@ -1,5 +1,5 @@
 -- Calls read one after another.
-use Rattle.moo_http_request.proofs.Words.{◌≡◌, ℕ, ◌+◌, ◌<◌, List, [], ◌∷◌, ◌++◌, Some, None, map, length, drop, get_or, refl, sym, ap, ◌∙◌, drop-cons, add-one, Bor, ◌≤◌, arith, Option, subst, drop_all, call_of, Calls, Whole, Bad, with_call, calls_from}
+use Rattle.moo_http_request.proofs.Words.{◌≡◌, ℕ, ◌+◌, ◌<◌, List, [], ◌∷◌, ◌++◌, Some, None, map, length, drop, get_or, refl, sym, ap, ◌∙◌, drop-cons, add-one, Bor, ◌≤◌, Option, drop_all, call_of, Calls, Whole, Bad, with_call, calls_from}
 use Rattle.std.specs.Option.{option_map_or}
 use Rattle.moo_world.specs.declared.call.Call.{Call}
 
@@ -59,33 +59,3 @@ calls-bad calls texts i d within e =
 pub calls-all : (calls : List Call) (texts : List (Bor (List ℕ))) (i : ℕ) → length texts ≤ i → before_calls calls (calls_from (i + 1) (texts_from texts i)) ≡ Whole calls
 calls-all calls texts i end =
     ap (λ (l : List (Bor (List ℕ))). before_calls calls (calls_from (i + 1) (map (λ text. text.now) l))) (drop_all i texts end) ∙ before_calls-none calls
-
--- there are no more calls than texts
-count : Calls → ℕ
-count (Whole calls) = length calls
-count (Bad n) = 0
-
-count-with : (call : Call) (read : Calls) → count (with_call call read) ≤ count read + 1
-unfolding count
-count-with call (Whole calls) = omega arith
-count-with call (Bad n) = omega arith
-
-count-none : count (Whole []) ≤ 0
-unfolding count
-count-none = omega arith
-
-count-by : (n : ℕ) (texts : List (List ℕ)) (found : Option Call) → count (calls_from (n + 1) texts) ≤ length texts → count (calls_by n texts found) ≤ length texts + 1
-unfolding count calls_by
-count-by n texts None h = omega arith
-count-by n texts (Some call) h = omega (arith, count-with call (calls_from (n + 1) texts), h)
-
-count-from : (n : ℕ) (texts : List (List ℕ)) → count (calls_from n texts) ≤ length texts
-count-from n [] = count-none
-count-from n (text ∷ texts) =
-    let same : count (calls_from n (text ∷ texts)) ≡ count (calls_by n texts (call_of text)) = ap count (calls_from-one n text texts (call_of text) refl) in
-    let more : count (calls_by n texts (call_of text)) ≤ length texts + 1 = count-by n texts (call_of text) (count-from (n + 1) texts) in
-    subst (λ k. k ≤ length (text ∷ texts)) (sym same) (omega (arith, more))
-
-pub calls-few : (calls : List Call) (texts : List (List ℕ)) → Whole calls ≡ calls_from 1 texts → length calls ≤ length texts
-unfolding count
-calls-few calls texts e = let same = ap count e in omega (arith, same, count-from 1 texts)

@@ -47,24 +47,16 @@ pub record IsFresh (bytes : List ℕ) : Type 0 where
   pub piece : length last ≤ 1024
   pub none : HasNoRequest before
 
-pub fresh-first : (a b : Option (List ℕ)) (x y : List ℕ) → x ≡ [] → Grows a b x y → length y ≤ length x + 1024 → IsFresh y
-fresh-first a b x y e grows small =
-    let none = ap length e in
-    record { before = []; last = y; is = refl; piece = omega (arith, small, none); none = no_empty_head }
-
-either : (m n : ℕ) → (m ≤ n) ⊎ (n < m)
-either m n = grind arith
-
 pub close_of : (bytes : List ℕ) (read : HeadRead) → IsFresh bytes → ShowsHead bytes read → IsClose bytes read
-close_of bytes (Whole found) fresh s = by (either (length (print_request s.head)) (length fresh.before))
-  where
-    by : (length (print_request s.head) ≤ length fresh.before) ⊎ (length fresh.before < length (print_request s.head)) → length bytes < found.spans.len + 1024
-    by (inl fits) =
-        absurd (fresh.none s.head (drop (length (print_request s.head)) fresh.before)
-        (s.at.reads.0, front_of fresh.before fresh.last (print_request s.head) (drop found.spans.len bytes) fits (sym fresh.is ∙ s.at.reads.1)))
-    by (inr short) =
-        let whole : length bytes ≡ length fresh.before + length fresh.last = ap length fresh.is ∙ length-append fresh.before fresh.last in
-        omega (arith, short, whole, fresh.piece, s.at.len)
+close_of bytes (Whole found) fresh s =
+    let cases : (length (print_request s.head) ≤ length fresh.before) ⊎ (length fresh.before < length (print_request s.head)) = grind arith in
+    elim cases [
+      | inl fits ↦ absurd (fresh.none s.head (drop (length (print_request s.head)) fresh.before)
+          (s.at.reads.0, front_of fresh.before fresh.last (print_request s.head) (drop found.spans.len bytes) fits (sym fresh.is ∙ s.at.reads.1)))
+      | inr short ↦ (
+          let whole : length bytes ≡ length fresh.before + length fresh.last = ap length fresh.is ∙ length-append fresh.before fresh.last in
+          omega (arith, short, whole, fresh.piece, s.at.len))
+    ]
 close_of bytes Refused fresh s = tt
 close_of bytes Empty fresh s = absurd s
 

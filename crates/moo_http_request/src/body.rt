@@ -25,7 +25,7 @@ use crate::refused::Refused;
 use crate::shape::{Shape, ShapeRead, read_json, shape_in};
 use crate::wrong::{BodyFault, ShapeFault};
 use moo_text::call_in;
-use moo_world::{Batch, Call, Calls};
+use moo_world::{Batch, Calls};
 use serde_json::Value;
 use std::alloc::{AllocError, Global};
 
@@ -33,7 +33,7 @@ use std::alloc::{AllocError, Global};
 #[derive(Drop)]
 pub enum CallsRead {
     /// Each text is a call.
-    Whole(Vec<Call>),
+    Whole(Calls),
     /// The number, from 1, of the first text that isn't one.
     Bad(u32),
 }
@@ -52,7 +52,7 @@ fn read_calls(alloc: Global, texts: &[&str]) -> Result<CallsRead, AllocError>
             None => return Ok(CallsRead::Bad(number)),
         }
     }
-    Ok(CallsRead::Whole(calls))
+    Ok(CallsRead::Whole(Calls::from_vec(calls)))
 }
 
 /// What is wrong with the text of a call, by its number from 1. Unknown if memory for the text is refused.
@@ -73,7 +73,7 @@ fn read_batch(alloc: Global, mode: Mode, shape: &Shape<'_>) -> Result<Asked, All
             Batch {
                 programmer: shape.programmer,
                 at: shape.at,
-                calls: Calls::from_vec(calls),
+                calls,
             },
         )),
         CallsRead::Bad(number) => {
