@@ -1,6 +1,5 @@
 -- Calls read one after another.
-use Rattle.moo_http_request.proofs.Words.{◌≡◌, ℕ, ◌+◌, ◌<◌, List, [], ◌∷◌, ◌++◌, Some, None, map, length, drop, get_or, refl, sym, ap, ◌∙◌, drop-cons, add-one, Bor, ◌≤◌, Option, drop_all, call_of, Calls, Whole, Bad, with_call, calls_from}
-use Rattle.std.specs.Option.{option_map_or}
+use Rattle.moo_http_request.proofs.Words.{◌≡◌, ℕ, ◌+◌, ◌<◌, List, [], ◌∷◌, ◌++◌, Some, None, map, length, drop, get_or, refl, sym, ap, ◌∙◌, drop-cons, add-one, Bor, ◌≤◌, drop_all, call_of, Calls, Whole, Bad, with_call, calls_from}
 use Rattle.moo_world.specs.declared.call.Call.{Call}
 
 -- calls before what else was read
@@ -29,31 +28,16 @@ texts_from-one texts i d within =
     let cut : drop i texts ≡ get_or texts i d ∷ drop (i + 1) texts = rw (add-one i) (drop-cons texts i d within) in
     ap (map (λ text. text.now)) cut
 
--- the calls of a text and of more, by the call that the text is
-calls_by : ℕ → List (List ℕ) → Option Call → Calls
-calls_by n texts found = option_map_or (λ call. with_call call (calls_from (n + 1) texts)) found (Bad n)
-
-calls_from-one : (n : ℕ) (text : List ℕ) (texts : List (List ℕ)) (found : Option Call) → found ≡ call_of text → calls_from n (text ∷ texts) ≡ calls_by n texts found
-unfolding calls_by
-calls_from-one n text texts found e = ap (calls_by n texts) (sym e)
-
 -- one more call
 pub calls-more : (calls : List Call) (call : Call) (texts : List (Bor (List ℕ))) (i : ℕ) (d : Bor (List ℕ)) → i < length texts → Some call ≡ call_of (get_or texts i d).now
     → before_calls calls (calls_from (i + 1) (texts_from texts i)) ≡ before_calls (calls ++ call ∷ []) (calls_from (i + 1 + 1) (texts_from texts (i + 1)))
-unfolding calls_by
 calls-more calls call texts i d within e =
-    ap (λ l. before_calls calls (calls_from (i + 1) l)) (texts_from-one texts i d within)
-    ∙ ap (before_calls calls) (calls_from-one (i + 1) (get_or texts i d).now (texts_from texts (i + 1)) (Some call) e)
-    ∙ sym (before_calls-push calls call (calls_from (i + 1 + 1) (texts_from texts (i + 1))))
+    rw (texts_from-one texts i d within) (rw (sym e) (sym (before_calls-push calls call (calls_from (i + 1 + 1) (texts_from texts (i + 1))))))
 
 -- a text that is no call
 pub calls-bad : (calls : List Call) (texts : List (Bor (List ℕ))) (i : ℕ) (d : Bor (List ℕ)) → i < length texts → None ≡ call_of (get_or texts i d).now
     → before_calls calls (calls_from (i + 1) (texts_from texts i)) ≡ Bad (i + 1)
-unfolding calls_by
-calls-bad calls texts i d within e =
-    ap (λ l. before_calls calls (calls_from (i + 1) l)) (texts_from-one texts i d within)
-    ∙ ap (before_calls calls) (calls_from-one (i + 1) (get_or texts i d).now (texts_from texts (i + 1)) None e)
-    ∙ before_calls-bad calls (i + 1)
+calls-bad calls texts i d within e = rw (texts_from-one texts i d within) (rw (sym e) (before_calls-bad calls (i + 1)))
 
 -- all texts are calls
 pub calls-all : (calls : List Call) (texts : List (Bor (List ℕ))) (i : ℕ) → length texts ≤ i → before_calls calls (calls_from (i + 1) (texts_from texts i)) ≡ Whole calls
