@@ -1,10 +1,10 @@
 -- What comes of calls that are asked each alone.
-use Rattle.moo_http.{proofs.Words.{◌≡◌, inl, inr, ℕ, List, Option, ap, sym, refl, ◌∙◌, true, false, Result, Ok, Err, IsTrue, IsErrOf, Ghosts, State, Moment, state_of_moment, Place, Works, Failed, Between, World, state_of_world, Stands, RequestOutcome, MayAnswer}, proofs.Consulting.{at_moment}, specs.Settled.{lost_by}}
+use Rattle.moo_http.{proofs.Words.{◌≡◌, inl, ℕ, List, Option, ap, sym, refl, ◌∙◌, true, false, Result, Ok, Err, IsTrue, IsErrOf, Ghosts, State, Moment, state_of_moment, Place, Works, Failed, Between, World, state_of_world, Stands, RequestOutcome, MayAnswer}, proofs.Consulting.{at_moment}, specs.Settled.{lost_by}}
 use Rattle.std.specs.Prelude.{if◌then◌else◌}
 use Rattle.moo_world.specs.Judge.{is_due}
 use Rattle.moo_text.{specs.declared.reply.Reply.{Reply}, specs.declared.reply.Reply.TheVariants.{Stale}}
 use Rattle.moo_store.specs.Answered.{answers_alone}
-use Rattle.moo_store.{specs.declared.fault.StoreFault.{StoreFault}, specs.declared.fault.StoreFault.TheVariants.{OutOfMemory, Closed}}
+use Rattle.moo_store.{specs.declared.fault.StoreFault.{StoreFault}, specs.declared.fault.StoreFault.TheVariants.{Closed}}
 use Rattle.moo_http_request.{specs.declared.asked.Asked.TheVariants.{Each as Asks}, specs.declared.each.Each.{Each}}
 use Rattle.moo_http_response.specs.declared.outcome.RequestOutcome.TheVariants as outcome
 
@@ -25,10 +25,6 @@ each_due each m seq replies due same replied =
           ∙ sym (ap (λ b. if b then outcome.Each (answers_alone s each.batches) s.seq else outcome.Replied (Stale s.seq)) (ap (is_due each.at) same ∙ due)),
       refl,
     )
-
--- memory for the answers is refused
-pub each_lost : (each : Each) (m : Moment) (fault : StoreFault) → fault ≡ OutOfMemory → MayAnswer (Works m) (Asks each) (lost_by fault) (Works m)
-each_lost each m fault e = inr (tt, ap lost_by e, refl)
 
 -- a World that tells this number is one that works
 pub each_at : {S : Type 0} (g : Ghosts S) (world : World S) (each : Each) (o : RequestOutcome) (r : Result ℕ StoreFault) (seq : ℕ) → r ≡ Ok seq

@@ -2,7 +2,7 @@
 use Rattle.moo_http.proofs.Words.{◌≡◌, ◌≢◌, false, inl, inr, ℕ, ◌+◌, List, ◌++◌, length, take, Option, refl, sym, subst, Result, Ok, Err, OnOk, OnErr, IfErr, IsErrAnd, Appends, ServiceFault, WritesFront, SaysByResult, listening_line, served_line}
 use Rattle.moo_http.specs.declared.service.ServiceFault.TheVariants as service
 use Rattle.std.specs.Prelude.{is_err}
-use Rattle.std.proofs.KnownBytes.{Appends-nil, Appends-trans}
+use Rattle.std.proofs.KnownBytes.{Appends-trans}
 use Rattle.std.proofs.Math.Seq.{take-append-add, take-length}
 
 -- what holds of a call that went well
@@ -12,9 +12,6 @@ when_ok (Err x) well holds = absurd cc
 
 pub whole_front : (text : List ℕ) (before behind : Option (List ℕ)) → Appends before behind text → WritesFront text before behind
 whole_front text before behind it = (length text, subst (λ bs. Appends before behind bs) (sym (take-length text)) it)
-
-pub no_front : (text : List ℕ) (before : Option (List ℕ)) → WritesFront text before before
-no_front text before = (0, Appends-nil before)
 
 -- a front after a text that is written whole
 pub front_behind : (first second : List ℕ) (before between behind : Option (List ℕ)) → Appends before between first → WritesFront second between behind → WritesFront (first ++ second) before behind

@@ -1,5 +1,5 @@
 -- What a batch that is run or asked, and a question, say of a World at whatever place.
-use Rattle.moo_http.{proofs.Words.{◌≡◌, ◌⊎◌, inl, inr, refl, ap, subst, arith, ◌∙◌, true, false, Result, Ok, Err, IsTrue, IfOk, IfErr, Ghosts, Batch, state_of, judge, World, state_of_world, Stands, MovesBy, RunsAt, VerdictLeads, StopsStore, Moment, rows_alone, state_of_moment, Place, Works, Failed, Between, Calls, Run, Ask, RequestOutcome, MayAnswer, HasAdvanced, IsStillOrAdvanced}, proofs.Going.{moves_as}, specs.Settled.{came_of}}
+use Rattle.moo_http.{proofs.Words.{◌≡◌, ◌⊎◌, inl, inr, refl, ap, subst, arith, true, false, Result, Ok, Err, IsTrue, IfOk, IfErr, Ghosts, Batch, state_of, judge, World, state_of_world, Stands, MovesBy, RunsAt, VerdictLeads, StopsStore, Moment, rows_alone, state_of_moment, Place, Works, Failed, Between, Calls, Ask, RequestOutcome, MayAnswer, HasAdvanced, IsStillOrAdvanced}, specs.Settled.{came_of}}
 use Rattle.std.specs.Result.{IsOkAnd}
 use Rattle.moo_rows.specs.Maps.{Maps}
 use Rattle.moo_world.specs.Judge as model
@@ -13,15 +13,10 @@ use Rattle.moo_http_response.specs.declared.outcome.RequestOutcome.TheVariants a
 
 -- ---- a run of one batch
 
-came_as : {S : Type 0} (g : Ghosts S) (was new : World S) (r : Result Reply StoreFault) → IfErr r (FailsRun g was new) → came_of r ≡ outcome_of (answer_to r)
+pub came_as : {S : Type 0} (g : Ghosts S) (was new : World S) (r : Result Reply StoreFault) → IfErr r (FailsRun g was new) → came_of r ≡ outcome_of (answer_to r)
 came_as g was new (Ok reply) fails = refl
 came_as g was new (Err fault) (inl closed) = rw closed refl
 came_as g was new (Err fault) (inr (error, is, why)) = rw is refl
-
--- this is what came of the batch
-pub ran_one : {S : Type 0} (g : Ghosts S) (was new : World S) (batch : Batch) (r : Result Reply StoreFault) (o : RequestOutcome) → o ≡ came_of r → IfErr r (FailsRun g was new)
-    → MovesBy g was new (λ from to. RunsAt from batch (answer_to r) to) → MovesBy g was new (λ from to. MayAnswer from (Calls Run batch) o to)
-ran_one g was new batch r o is fails moves = moves_as moves (λ from to runs. inl (answer_to r, runs, is ∙ came_as g was new r fails))
 
 module _ {S : Type 0} (g : Ghosts S) (was new : World S) (batch : Batch) (m : Moment) (works : was.failed ≡ false) (rows : was.rows.maps ≡ m.rows) where
   -- an accepted batch is counted

@@ -36,9 +36,3 @@ pub returns-clause-count : goal.returns-clause-count
 returns-clause-count g c =
     let all : c.loop-turn.turn ≡ c.args.count = search rules in
     subst (λ n. c.loop-turn.served.answered + c.loop-turn.served.failed ≡ n) all c.loop-turn.invariant.sum
-
-pub returns-clause-serves : goal.returns-clause-serves
-returns-clause-serves g c = c.loop-turn.invariant.moves
-
-pub returns-clause-still : goal.returns-clause-still
-returns-clause-still g c = c.loop-turn.invariant.still

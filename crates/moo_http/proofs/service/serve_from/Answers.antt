@@ -1,10 +1,11 @@
-use Rattle.moo_http.{proofs.Words.{refl}, specs.declared.service.ServiceFault.TheVariants.{OutOfMemory}, proofs.Connections.{no_front, fails_early, says_all}, proofs.Going.{moves_as, moves_none}}
+use Rattle.moo_http.{proofs.Words.{refl}, specs.declared.service.ServiceFault.TheVariants.{OutOfMemory}, proofs.Connections.{fails_early, says_all}, proofs.Going.{moves_as, moves_none}}
+use Rattle.std.proofs.KnownBytes.{Appends-nil}
 use Rattle.moo_http.proofs.service.serve_from.Goals as goal
 
 -- memory for the routes is refused
 pub returns-in_err-routes-clause-serves : goal.returns-in_err-routes-clause-serves
 returns-in_err-routes-clause-serves g c =
-    moves_none (λ from at. fails_early _ _ c.args.duty.port c.args.duty.count c.from_residual.result OutOfMemory _ _ (refl, refl) c.from_residual.ensures.1 (λ e. cc) (no_front _ _))
+    moves_none (λ from at. fails_early _ _ c.args.duty.port c.args.duty.count c.from_residual.result OutOfMemory _ _ (refl, refl) c.from_residual.ensures.1 (λ e. cc) (0, Appends-nil _))
 
 -- the first line can't be written
 pub returns-in_err-say_listening-clause-serves : goal.returns-in_err-say_listening-clause-serves
