@@ -3,15 +3,12 @@ use Rattle.moo_http.proofs.Words.{◌≡◌, ◌≢◌, false, inl, inr, ℕ, �
 use Rattle.moo_http.specs.declared.service.ServiceFault.TheVariants as service
 use Rattle.std.specs.Prelude.{is_err}
 use Rattle.std.proofs.KnownBytes.{Appends-trans}
-use Rattle.std.proofs.Math.Seq.{take-append-add, take-length}
+use Rattle.std.proofs.Math.Seq.{take-append-add}
 
 -- what holds of a call that went well
 pub when_ok : {T E P : Type 0} (r : Result T E) → false ≡ is_err r → OnOk r P → P
 when_ok (Ok x) well holds = holds
 when_ok (Err x) well holds = absurd cc
-
-pub whole_front : (text : List ℕ) (before behind : Option (List ℕ)) → Appends before behind text → WritesFront text before behind
-whole_front text before behind it = (length text, subst (λ bs. Appends before behind bs) (sym (take-length text)) it)
 
 -- a front after a text that is written whole
 pub front_behind : (first second : List ℕ) (before between behind : Option (List ℕ)) → Appends before between first → WritesFront second between behind → WritesFront (first ++ second) before behind

@@ -40,11 +40,8 @@ module _ (m : Moment) where
   verdict_leads n batch (model.Stale seq) to is before = leads_same (Works n) to is before
 
   stops_lead : (n : Moment) (batch : Batch) (v : model.Verdict) (to : Place) → StopsStore n batch v to → LeadsTo m (Works n) → LeadsTo m to
-  stops_lead n batch (model.Accepted answers end) to (next, one, is) before = leads_same (Between n next) to is between
-    where
-      between : LeadsTo m (Between n next)
-      between t (inl same) = before t same
-      between t (inr same) = subst AreLed (sym same) (leads_by n batch next before one)
+  stops_lead n batch (model.Accepted answers end) to (next, one, is) before =
+      leads_same (Between n next) to is (λ t may. elim may [ inl same ↦ before t same | inr same ↦ subst AreLed (sym same) (leads_by n batch next before one) ])
   stops_lead n batch (model.Refused call code) to is before = absurd is
   stops_lead n batch (model.NoRoom call) to is before = absurd is
   stops_lead n batch (model.Stale seq) to is before = absurd is

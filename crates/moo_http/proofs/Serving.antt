@@ -1,6 +1,5 @@
 -- What serving a request comes to.
-use Rattle.moo_http.{proofs.Words.{◌≡◌, ◌≢◌, inl, inr, ℕ, List, [], Option, refl, sym, subst, ◌∙◌, Bool, Result, Ok, Err, IfErr, IsErrAnd, Appends, Place, Takes, Asked, Nothing, Request, ServeFault, Read, Write, OutOfMemory, response_with, response_text, AnswersAsked, Exchanged, Written, Traffic}, specs.Faults.{fault_of}}
-use Rattle.std.proofs.KnownBytes.{Appends-nil}
+use Rattle.moo_http.{proofs.Words.{◌≡◌, ◌≢◌, inl, inr, ℕ, List, Option, refl, sym, subst, ◌∙◌, Bool, Result, Ok, Err, IfErr, IsErrAnd, Place, Takes, Asked, Request, ServeFault, Read, Write, OutOfMemory, response_with, response_text, AnswersAsked, Exchanged, Written, Traffic}, specs.Faults.{fault_of}}
 use Rattle.moo_http_request.specs.declared.fault.ReadFault.{ReadFault}
 use Rattle.moo_http_request.specs.declared.fault.ReadFault.TheVariants as read
 
@@ -21,11 +20,6 @@ unread_cause (Err e) read.OutOfMemory is cause = λ same. (let both : OutOfMemor
 pub written_nothing : (r : Result (Unit {0}) ServeFault) (before : Option (List ℕ)) (output : List ℕ) → IsErrAnd r (λ e. e ≡ OutOfMemory) → Written r before before output
 written_nothing (Ok x) before output is = absurd is
 written_nothing (Err e) before output is = subst (λ e. Written (Err e) before before output) (sym is) refl
-
--- ---- nothing came
-
-pub nothing : (place : Place) (bytes : Traffic) (done : Unit {0}) → bytes.after ≡ bytes.before → Takes bytes.left bytes.rest Nothing → Exchanged (Ok done) place place bytes
-nothing place bytes done unwritten takes = ([], (Nothing, takes, (refl, refl)), subst (λ after. Appends bytes.before after []) (sym unwritten) (Appends-nil bytes.before))
 
 -- ---- a request came
 

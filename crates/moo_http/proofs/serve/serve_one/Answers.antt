@@ -1,5 +1,5 @@
-use Rattle.moo_http.{proofs.Words.{refl}, proofs.Going.{moves_as, moves_none}, proofs.Serving.{unread_at, unread_cause, nothing, served}}
-use Rattle.std.proofs.lemmas.Result.{IfErr-weaker}
+use Rattle.moo_http.{proofs.Words.{[], refl, Nothing}, proofs.Going.{moves_as, moves_none}, proofs.Serving.{unread_at, unread_cause, served}}
+use Rattle.std.proofs.{KnownBytes.{Appends-nil}, lemmas.Result.{IfErr-weaker}}
 use Rattle.moo_http.proofs.serve.serve_one.Goals as goal
 
 pub returns-in_err-read_request-clause-served : goal.returns-in_err-read_request-clause-served
@@ -8,7 +8,7 @@ returns-in_err-read_request-clause-served g c = moves_none (λ from at. unread_a
 pub returns-in-Nothing-clause-served : goal.returns-in-Nothing-clause-served
 returns-in-Nothing-clause-served g c =
     let takes = rw c.in-Nothing.is at c.in_ok-read_request.ensures.takes in
-    moves_none (λ from at. nothing from _ tt refl takes)
+    moves_none (λ from at. ([], (Nothing, takes, (refl, refl)), Appends-nil _))
 
 pub returns-in-Request-clause-served : goal.returns-in-Request-clause-served
 returns-in-Request-clause-served g c =
