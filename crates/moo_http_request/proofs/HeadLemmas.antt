@@ -4,8 +4,7 @@ use Rattle.moo_http_request.specs.declared.head.TheConstants.{MAX_HEAD, MAX_LINE
 
 -- bytes are no empty input, whatever follows
 not_empty : (bytes more : List ℕ) → 0 < length bytes → bytes ++ more ≢ []
-not_empty [] more h e = omega (arith, h)
-not_empty (b ∷ bytes) more h e = cc
+not_empty bytes more h e = omega (arith, h, ap length e, length-append bytes more)
 
 -- the first bytes have more than 32 lines, whatever follows
 pub lacks-overflow : (bytes more : List ℕ) (room : ℕ) → 0 < length bytes → room ≡ MAX_LINES → RequestOverflows room bytes → Lacks (bytes ++ more)
@@ -29,9 +28,7 @@ lacks-long bytes more long none = (
 )
 
 not_nothing : (xs ys zs : List ℕ) → 0 < length ys → [] ≢ xs ++ (ys ++ zs)
-not_nothing [] [] zs h e = omega (arith, h)
-not_nothing [] (y ∷ ys) zs h e = cc
-not_nothing (x ∷ xs) ys zs h e = cc
+not_nothing xs ys zs h e = omega (arith, h, ap length e, length-append xs (ys ++ zs), length-append ys zs)
 
 -- no head is empty
 pub no_empty_head : (head : RequestHead) (rest : List ℕ) → ¬ (ReadsRequest [] head rest)

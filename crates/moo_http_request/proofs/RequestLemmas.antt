@@ -3,21 +3,18 @@ use Rattle.moo_http_request.{proofs.Words.{◌≡◌, ◌⊎◌, inl, inr, ◌+�
 use Rattle.std.proofs.KnownBytes.{Consumes-trans}
 use Rattle.moo_http_request.specs.declared.head.TheConstants.{MAX_HEAD}
 
--- the bytes of a body that was read whole
-body_is : (bytes more : List ℕ) (start n : ℕ) → start + n ≤ length bytes → take n (drop start (bytes ++ more)) ≡ slice_range bytes start (start + n)
-body_is bytes more start n fits =
-    let len = length-drop start bytes in
-    let here : n ≤ length (drop start bytes) = omega (arith, len, fits) in
-    let size : (start + n) - start ≡ n = omega arith in
-    ap (take n) (drop-append-le start bytes more (omega (arith, fits))) ∙ take-append-le n (drop start bytes) more here ∙ ap (λ k. take k (drop start bytes)) (sym size)
-
+-- a body that was read whole
 pub body_whole : (left : Option (List ℕ)) (bytes : List ℕ) (start n : ℕ) (form : Form) (asked : Asked) → start + n ≤ length bytes
     → BodyAsks form (slice_range bytes start (start + n)) asked → Settles left bytes (λ input. PlanAsks (Body form n) (drop start input) asked)
 body_whole left bytes start n form asked fits asks =
     settled left bytes (λ input. PlanAsks (Body form n) (drop start input) asked) (λ more.
     let len = length-drop start (bytes ++ more) in
     let long = length-append bytes more in
-    inl (omega (arith, len, long, fits), subst (λ b. BodyAsks form b asked) (sym (body_is bytes more start n fits)) asks))
+    let here : n ≤ length (drop start bytes) = omega (arith, length-drop start bytes, fits) in
+    let size : (start + n) - start ≡ n = omega arith in
+    let is : take n (drop start (bytes ++ more)) ≡ slice_range bytes start (start + n) =
+    ap (take n) (drop-append-le start bytes more (omega (arith, fits))) ∙ take-append-le n (drop start bytes) more here ∙ ap (λ k. take k (drop start bytes)) (sym size) in
+    inl (omega (arith, len, long, fits), subst (λ b. BodyAsks form b asked) (sym is) asks))
 
 -- the bytes of a body that is cut off
 pub body_short : (a left : Option (List ℕ)) (before bytes : List ℕ) (start n : ℕ) (form : Form) → start ≤ length before → Grows a left before bytes → length bytes < start + n → IsAtEnd left
