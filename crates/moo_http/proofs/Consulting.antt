@@ -1,12 +1,11 @@
 -- What a batch that is run or asked, and a question, say of a World at whatever place.
-use Rattle.moo_http.{proofs.Words.{◌≡◌, ◌⊎◌, inl, inr, refl, ap, subst, arith, ◌∙◌, true, false, Result, Ok, Err, IsTrue, IfOk, IfErr, Ghosts, Batch, state_of, judge, World, state_of_world, Stands, MovesBy, RunsAt, VerdictLeads, StopsStore, Moment, LeadsBy, rows_alone, state_of_moment, Place, Works, Failed, Between, Calls, Run, Ask, RequestOutcome, MayAnswer, HasAdvanced, IsStillOrAdvanced}, proofs.Going.{moves_as}, specs.Settled.{came_of}}
+use Rattle.moo_http.{proofs.Words.{◌≡◌, ◌⊎◌, inl, inr, refl, ap, subst, arith, true, false, Result, Ok, Err, IsTrue, IfOk, IfErr, Ghosts, Batch, state_of, judge, World, state_of_world, Stands, MovesBy, RunsAt, VerdictLeads, StopsStore, Moment, rows_alone, state_of_moment, Place, Works, Failed, Between, Calls, Ask, RequestOutcome, MayAnswer, HasAdvanced, IsStillOrAdvanced}, specs.Settled.{came_of}}
 use Rattle.std.specs.Result.{IsOkAnd}
-use Rattle.sqlite.specs.declared.error.Error.{Error}
 use Rattle.moo_rows.specs.Maps.{Maps}
 use Rattle.moo_world.specs.Judge as model
 use Rattle.moo_text.{specs.declared.reply.Reply.{Reply}, specs.declared.reply.Reply.TheVariants.{Accepted, Refused, Full, Stale, NoMemory}}
 use Rattle.moo_text.specs.declared.reply.Answer.TheVariants as answered
-use Rattle.moo_store.{specs.Answered.{reply_of}, specs.Moves.{FailsRun, MayReplyAsked}, specs.Stopping.{says_accepted}, specs.Text.{answer_to}, specs.declared.fault.StoreFault.{StoreFault}, specs.declared.fault.StoreFault.TheVariants.{Store, Damaged, NewerVersion, OutOfMemory, Closed}}
+use Rattle.moo_store.{specs.Answered.{reply_of}, specs.Moves.{FailsRun, MayReplyAsked}, specs.Stopping.{says_accepted}, specs.Text.{answer_to}, specs.declared.fault.StoreFault.{StoreFault}, specs.declared.fault.StoreFault.TheVariants.{Closed}}
 use Rattle.moo_http_request.{specs.declared.asked.Asked.TheVariants.{Question as Asks}, specs.declared.question.Question.{Question}}
 use Rattle.moo_http_response.specs.Outcomes.{outcome_of}
 use Rattle.moo_http_response.specs.Told.{told_of}
@@ -14,39 +13,23 @@ use Rattle.moo_http_response.specs.declared.outcome.RequestOutcome.TheVariants a
 
 -- ---- a run of one batch
 
-no_other : {S : Type 0} (g : Ghosts S) (was new : World S) {X : Type 0} (fault : StoreFault) → FailsRun g was new fault → (fault ≡ Closed → X) → ((error : Error) → fault ≡ Store error → X) → X
-no_other g was new fault (inl closed) first second = first closed
-no_other g was new fault (inr (error, is, why)) first second = second error is
-
-came_as : {S : Type 0} (g : Ghosts S) (was new : World S) (r : Result Reply StoreFault) → IfErr r (FailsRun g was new) → came_of r ≡ outcome_of (answer_to r)
+pub came_as : {S : Type 0} (g : Ghosts S) (was new : World S) (r : Result Reply StoreFault) → IfErr r (FailsRun g was new) → came_of r ≡ outcome_of (answer_to r)
 came_as g was new (Ok reply) fails = refl
-came_as g was new (Err (Store error)) fails = refl
-came_as g was new (Err (Damaged kind key)) fails = no_other g was new (Damaged kind key) fails (λ e. absurd cc) (λ error e. absurd cc)
-came_as g was new (Err NewerVersion) fails = no_other g was new NewerVersion fails (λ e. absurd cc) (λ error e. absurd cc)
-came_as g was new (Err OutOfMemory) fails = no_other g was new OutOfMemory fails (λ e. absurd cc) (λ error e. absurd cc)
-came_as g was new (Err Closed) fails = refl
-
--- this is what came of the batch
-pub ran_one : {S : Type 0} (g : Ghosts S) (was new : World S) (batch : Batch) (r : Result Reply StoreFault) (o : RequestOutcome) → o ≡ came_of r → IfErr r (FailsRun g was new)
-    → MovesBy g was new (λ from to. RunsAt from batch (answer_to r) to) → MovesBy g was new (λ from to. MayAnswer from (Calls Run batch) o to)
-ran_one g was new batch r o is fails moves =
-    moves_as g was new (λ from to. RunsAt from batch (answer_to r) to) (λ from to. MayAnswer from (Calls Run batch) o to) (λ from to runs. inl (answer_to r, runs, is ∙ came_as g was new r fails)) moves
+came_as g was new (Err fault) (inl closed) = rw closed refl
+came_as g was new (Err fault) (inr (error, is, why)) = rw is refl
 
 module _ {S : Type 0} (g : Ghosts S) (was new : World S) (batch : Batch) (m : Moment) (works : was.failed ≡ false) (rows : was.rows.maps ≡ m.rows) where
   -- an accepted batch is counted
-  led_advances : (next : Moment) (to : Place) → LeadsBy m batch next → (to ≡ Works next) ⊎ (to ≡ Failed next) → Stands g new to → HasAdvanced was new
-  led_advances next to leads (inl is) at =
+  verdict_advances : (v : model.Verdict) (to : Place) → VerdictLeads m batch v to → says_accepted (answered.Replied (reply_of v)) ≡ true → Stands g new to → HasAdvanced was new
+  verdict_advances (model.Accepted answers end) to (next, leads, inl is) accepted at =
       let there : Stands g new (Works next) = subst (λ p. Stands g new p) is at in
       let counted = ap (λ (x : Maps). x.head.seq) leads.rows.2 in
       let now = ap (λ (x : Maps). x.head.seq) (there.rows there.failed) in
       let before = ap (λ (x : Maps). x.head.seq) rows in
       (works, inr (omega (arith, counted, now, before)))
-  led_advances next to leads (inr is) at =
+  verdict_advances (model.Accepted answers end) to (next, leads, inr is) accepted at =
       let there : Stands g new (Failed next) = subst (λ p. Stands g new p) is at in
       (works, inl there.failed)
-
-  verdict_advances : (v : model.Verdict) (to : Place) → VerdictLeads m batch v to → says_accepted (answered.Replied (reply_of v)) ≡ true → Stands g new to → HasAdvanced was new
-  verdict_advances (model.Accepted answers end) to (next, leads, is) accepted at = led_advances next to leads is at
   verdict_advances (model.Refused call code) to is accepted at = absurd cc
   verdict_advances (model.NoRoom call) to is accepted at = absurd cc
   verdict_advances (model.Stale seq) to is accepted at = absurd cc
@@ -59,28 +42,16 @@ module _ {S : Type 0} (g : Ghosts S) (was new : World S) (batch : Batch) (m : Mo
   stops_advances (model.NoRoom call) to is at = absurd is
   stops_advances (model.Stale seq) to is at = absurd is
 
-  replied_advances : (reply : Reply) (to : Place) → RunsAt (Works m) batch (answered.Replied reply) to → says_accepted (answered.Replied reply) ≡ true → Stands g new to → HasAdvanced was new
-  replied_advances reply to (inl (none, same, run)) accepted at =
-      let no : says_accepted (answered.Replied NoMemory) ≡ true = subst (λ r. says_accepted (answered.Replied r) ≡ true) none accepted in
-      absurd cc
-  replied_advances reply to (inr (is, leads)) accepted at =
-      verdict_advances (judge (state_of_moment m) batch) to leads (subst (λ r. says_accepted (answered.Replied r) ≡ true) is accepted) at
-
-  by_reply : (reply : Reply) (to : Place) → (says_accepted (answered.Replied reply) ≡ false → new ≡ was) → RunsAt (Works m) batch (answered.Replied reply) to → Stands g new to → (new ≡ was) ⊎ HasAdvanced was new
-  by_reply (Accepted seq answers) to still runs at = inr (replied_advances (Accepted seq answers) to runs refl at)
-  by_reply (Refused call code) to still runs at = inl (still refl)
-  by_reply (Full call) to still runs at = inl (still refl)
-  by_reply (Stale seq) to still runs at = inl (still refl)
-  by_reply NoMemory to still runs at = inl (still refl)
-
   by_result : (r : Result Reply StoreFault) (to : Place) → IfOk r (λ reply. says_accepted (answered.Replied reply) ≡ false → new ≡ was) → IfErr r (FailsRun g was new) → RunsAt (Works m) batch (answer_to r) to → Stands g new to
       → (new ≡ was) ⊎ HasAdvanced was new
-  by_result (Ok reply) to still fails runs at = by_reply reply to still runs at
-  by_result (Err (Store error)) to still fails runs at = inr (stops_advances (judge (state_of_moment m) batch) to runs at)
-  by_result (Err (Damaged kind key)) to still fails runs at = no_other g was new (Damaged kind key) fails (λ e. absurd cc) (λ error e. absurd cc)
-  by_result (Err NewerVersion) to still fails runs at = no_other g was new NewerVersion fails (λ e. absurd cc) (λ error e. absurd cc)
-  by_result (Err OutOfMemory) to still fails runs at = no_other g was new OutOfMemory fails (λ e. absurd cc) (λ error e. absurd cc)
-  by_result (Err Closed) to still fails runs at = absurd runs
+  by_result (Ok (Accepted seq answers)) to still fails (inl (none, same, run)) at = absurd cc
+  by_result (Ok (Accepted seq answers)) to still fails (inr (is, leads)) at = inr (verdict_advances (judge (state_of_moment m) batch) to leads (subst (λ r. says_accepted (answered.Replied r) ≡ true) is refl) at)
+  by_result (Ok (Refused call code)) to still fails runs at = inl (still refl)
+  by_result (Ok (Full call)) to still fails runs at = inl (still refl)
+  by_result (Ok (Stale seq)) to still fails runs at = inl (still refl)
+  by_result (Ok NoMemory) to still fails runs at = inl (still refl)
+  by_result (Err fault) to still (inl closed) runs at = absurd (rw closed at runs)
+  by_result (Err fault) to still (inr (error, is, why)) runs at = inr (stops_advances (judge (state_of_moment m) batch) to (rw is at runs) at)
 
 -- and unless the batch was accepted, or the store failed in it, it is the very World
 pub still_one : {S : Type 0} (g : Ghosts S) (was new : World S) (batch : Batch) (r : Result Reply StoreFault) → MovesBy g was new (λ from to. RunsAt from batch (answer_to r) to)
@@ -110,13 +81,10 @@ asked g world batch (Err fault) asks closed (Between m next) at = inl (answered.
 -- what the rows of a World that works tell, it tells at whatever place
 pub told_by_rows : {S : Type 0} (g : Ghosts S) (world : World S) (question : Question) (o : RequestOutcome) → world.failed ≡ false → MayAnswer (Works (rows_alone world.rows.maps)) (Asks question) o (Works (rows_alone world.rows.maps))
     → (place : Place) → Stands g world place → MayAnswer place (Asks question) o place
-told_by_rows g world question o works told place at = by place at told
-  where
-    by : (place : Place) → Stands g world place → MayAnswer (Works (rows_alone world.rows.maps)) (Asks question) o (Works (rows_alone world.rows.maps)) → MayAnswer place (Asks question) o place
-    by (Works m) at (inl (is, same)) = inl (subst (λ (rows : Maps). o ≡ outcome.Told (told_of question (state_of rows))) (at.rows works) is, refl)
-    by (Works m) at (inr (takes, is, same)) = inr (takes, is, refl)
-    by (Failed m) at told = let failed = at.failed in absurd cc
-    by (Between m next) at told = let failed = at.failed in absurd cc
+told_by_rows g world question o works (inl (is, same)) (Works m) at = inl (subst (λ (rows : Maps). o ≡ outcome.Told (told_of question (state_of rows))) (at.rows works) is, refl)
+told_by_rows g world question o works (inr (takes, is, same)) (Works m) at = inr (takes, is, refl)
+told_by_rows g world question o works told (Failed m) at = let failed = at.failed in absurd cc
+told_by_rows g world question o works told (Between m next) at = let failed = at.failed in absurd cc
 
 -- and one that failed is closed
 pub told_closed : {S : Type 0} (g : Ghosts S) (world : World S) (question : Question) → world.failed ≡ true → (place : Place) → Stands g world place → MayAnswer place (Asks question) outcome.Closed place

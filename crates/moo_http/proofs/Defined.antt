@@ -1,5 +1,5 @@
 -- What a World that works answers, beside the defined answer.
-use Rattle.moo_http.proofs.Words.{◌≡◌, ◌≢◌, inl, inr, refl, ap, ◌∙◌, Batch, judge, left_by, Moment, Place, Works, state_at, state_of_moment, VerdictLeads, RunsAt, AsksAt, Asked, Refused, Calls, Run, Ask, RequestOutcome, response_of, MayAnswer, Comes, answer}
+use Rattle.moo_http.proofs.Words.{◌≡◌, ◌≢◌, inl, inr, refl, ap, ◌∙◌, Batch, judge, left_by, Moment, Place, Works, state_at, state_of_moment, VerdictLeads, RunsAt, AsksAt, Asked, Refused, Calls, Run, Ask, RequestOutcome, response_of, MayAnswer, answer}
 use Rattle.moo_world.specs.Judge as model
 use Rattle.moo_text.specs.declared.reply.Answer.{Answer}
 use Rattle.moo_text.specs.declared.reply.Answer.TheVariants as answered
@@ -35,15 +35,10 @@ ask_defined m batch a o to ((reply, replied, asks), same) is other = elim asks [
   | inr one ↦ (is ∙ ap outcome_of (replied ∙ ap answered.Replied one), ap state_at same)
 ]
 
-comes_defined : (m : Moment) (asked : Asked) (o : RequestOutcome) (to : Place) → Comes (Works m) asked o to → (response_of o).status ≢ 503 → IsDefined m asked o to
-comes_defined m (Refused refusal) o to comes other = (comes.0, ap state_at comes.1)
-comes_defined m (Calls Run batch) o to comes other = run_defined m batch comes.0 o to comes.1 comes.2 other
-comes_defined m (Calls Ask batch) o to comes other = ask_defined m batch comes.0 o to comes.1 comes.2 other
-comes_defined m (Each each) o to comes other = (comes.0, ap state_at comes.1)
-comes_defined m (Question question) o to comes other = (comes.0, ap state_at comes.1)
-
 pub defined : (m : Moment) (asked : Asked) (o : RequestOutcome) (to : Place) → MayAnswer (Works m) asked o to → (response_of o).status ≢ 503 → IsDefined m asked o to
-defined m asked o to answers other = elim answers [
-  | inl comes ↦ comes_defined m asked o to comes other
-  | inr none ↦ absurd (other (ap (λ x. (response_of x).status) none.1))
-]
+defined m asked o to (inr none) other = absurd (other (ap (λ x. (response_of x).status) none.1))
+defined m (Refused refusal) o to (inl comes) other = (comes.0, ap state_at comes.1)
+defined m (Calls Run batch) o to (inl comes) other = run_defined m batch comes.0 o to comes.1 comes.2 other
+defined m (Calls Ask batch) o to (inl comes) other = ask_defined m batch comes.0 o to comes.1 comes.2 other
+defined m (Each each) o to (inl comes) other = (comes.0, ap state_at comes.1)
+defined m (Question question) o to (inl comes) other = (comes.0, ap state_at comes.1)

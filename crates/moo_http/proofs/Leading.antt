@@ -1,5 +1,5 @@
 -- Whatever texts and connections make of a World, accepted batches lead to it.
-use Rattle.moo_http.{proofs.Words.{◌≡◌, ◌⊎◌, inl, inr, ℕ, List, [], ◌∷◌, ◌++◌, Option, refl, sym, subst, true, false, Result, Ok, Err, Batch, judge, Moment, LeadsBy, Place, Works, Failed, Between, state_of_moment, RunsAt, AsksAt, StopsStore, VerdictLeads, Asked, Refused, Calls, Run, Ask, RequestOutcome, Comes, MayAnswer, Traffic, Exchanged, Visited, Visit, Yields, Attended, AttendsAll, ServesOn, attended_between, Happening, visit, settle, ServeFault, Read, Write, OutOfMemory, ServiceFault, Nothing, Request}, specs.Leading.{LeadsTo}, specs.Serves.{Gets}, specs.Turns.{Happens, AfterTurns}}
+use Rattle.moo_http.{proofs.Words.{◌≡◌, inl, inr, ℕ, List, [], ◌∷◌, ◌++◌, Option, refl, sym, subst, true, false, Result, Ok, Err, Batch, judge, Moment, LeadsBy, Place, Works, Failed, Between, state_of_moment, RunsAt, AsksAt, StopsStore, VerdictLeads, Asked, Refused, Calls, Run, Ask, RequestOutcome, MayAnswer, Traffic, Exchanged, Yields, Attended, ServesOn, attended_between, Happening, visit, settle, ServeFault, Read, Write, OutOfMemory, ServiceFault, Nothing, Request}, specs.Leading.{LeadsTo}, specs.Turns.{Happens, AfterTurns}}
 use Rattle.std.specs.Prelude.{Bool}
 use Rattle.std.specs.declared.io.Read as Reading
 use Rattle.std.specs.declared.io.Write as Writing
@@ -8,15 +8,10 @@ use Rattle.moo_world.specs.Judge as model
 use Rattle.moo_text.{specs.declared.next.Next.{Next}, specs.declared.reply.Answer.{Answer}, specs.declared.fault.TextFault.{TextFault}}
 use Rattle.moo_text.specs.declared.next.Next.TheVariants.{Batch as Whole, Malformed, Truncated, End}
 use Rattle.moo_text.specs.declared.reply.Answer.TheVariants as answered
-use Rattle.moo_store.{specs.Turns.{Turn, Turns}, specs.Stopping.{EndsAs, AnswersBy}, specs.declared.course.Course.{Course}, specs.Moment.{LeadsByEach}, specs.Place.{LeavesJust}}
+use Rattle.moo_store.{specs.Turns.{Turn, Turns}, specs.Stopping.{EndsAs, AnswersBy}, specs.declared.course.Course.{Course}, specs.Moment.{LeadsByEach}, specs.Place.{LeavesJust}, proofs.Leading.{leads-join}}
 use Rattle.moo_http_request.specs.declared.asked.Asked.TheVariants.{Each, Question}
-use Rattle.moo_http_request.specs.declared.request.Received.{Received}
 use Rattle.moo_http.specs.declared.ports.Ports as Ports
 use Rattle.moo_http.specs.declared.service.ServiceFault.TheVariants as service
-
-leads_more : (m mid t : Moment) (batches : List Batch) (batch : Batch) → LeadsByEach m batches mid → LeadsBy mid batch t → LeadsByEach m (batches ++ batch ∷ []) t
-leads_more m mid t [] batch is one = (t, subst (λ (x : Moment). LeadsBy x batch t) is one, refl)
-leads_more m mid t (b ∷ bs) batch (next, first, rest) one = (next, first, leads_more next mid t bs batch rest one)
 
 module _ (m : Moment) where
   pub leads_start : LeadsTo m (Works m)
@@ -33,7 +28,7 @@ module _ (m : Moment) where
   AreLed t = (batches : List Batch) × LeadsByEach m batches t
 
   leads_by : (n : Moment) (batch : Batch) (next : Moment) → LeadsTo m (Works n) → LeadsBy n batch next → AreLed next
-  leads_by n batch next before one = let it = before n refl in (it.0 ++ batch ∷ [], leads_more m n next it.0 batch it.1 one)
+  leads_by n batch next before one = let it = before n refl in (it.0 ++ batch ∷ [], leads-join m n next it.0 (batch ∷ []) it.1 (next, one, refl))
 
   -- ---- one batch
 
@@ -45,11 +40,8 @@ module _ (m : Moment) where
   verdict_leads n batch (model.Stale seq) to is before = leads_same (Works n) to is before
 
   stops_lead : (n : Moment) (batch : Batch) (v : model.Verdict) (to : Place) → StopsStore n batch v to → LeadsTo m (Works n) → LeadsTo m to
-  stops_lead n batch (model.Accepted answers end) to (next, one, is) before = leads_same (Between n next) to is between
-    where
-      between : LeadsTo m (Between n next)
-      between t (inl same) = before t same
-      between t (inr same) = subst AreLed (sym same) (leads_by n batch next before one)
+  stops_lead n batch (model.Accepted answers end) to (next, one, is) before =
+      leads_same (Between n next) to is (λ t may. elim may [ inl same ↦ before t same | inr same ↦ subst AreLed (sym same) (leads_by n batch next before one) ])
   stops_lead n batch (model.Refused call code) to is before = absurd is
   stops_lead n batch (model.NoRoom call) to is before = absurd is
   stops_lead n batch (model.Stale seq) to is before = absurd is
@@ -94,23 +86,17 @@ module _ (m : Moment) where
 
   -- ---- connections
 
-  comes_lead : (from to : Place) (asked : Asked) (o : RequestOutcome) → Comes from asked o to → LeadsTo m from → LeadsTo m to
-  comes_lead from to (Refused refusal) o (is, same) before = leads_same from to same before
-  comes_lead from to (Calls Run batch) o (a, runs, is) before = runs_lead from to batch a runs before
-  comes_lead from to (Calls Ask batch) o (a, asks, is) before = asks_lead from to batch a asks before
-  comes_lead from to (Each each) o (is, same) before = leads_same from to same before
-  comes_lead from to (Question question) o (is, same) before = leads_same from to same before
-
   answers_lead : (from to : Place) (asked : Asked) (o : RequestOutcome) → MayAnswer from asked o to → LeadsTo m from → LeadsTo m to
-  answers_lead from to asked o (inl comes) before = comes_lead from to asked o comes before
   answers_lead from to asked o (inr (takes, is, same)) before = leads_same from to same before
-
-  gets_lead : (from to : Place) (received : Received) (output : List ℕ) → Gets from received output to → LeadsTo m from → LeadsTo m to
-  gets_lead from to Nothing output (none, same) before = leads_same from to same before
-  gets_lead from to (Request is_head asks_why asked) output (o, whys, wanted, answers, is) before = answers_lead from to asked o answers before
+  answers_lead from to (Refused refusal) o (inl (is, same)) before = leads_same from to same before
+  answers_lead from to (Calls Run batch) o (inl (a, runs, is)) before = runs_lead from to batch a runs before
+  answers_lead from to (Calls Ask batch) o (inl (a, asks, is)) before = asks_lead from to batch a asks before
+  answers_lead from to (Each each) o (inl (is, same)) before = leads_same from to same before
+  answers_lead from to (Question question) o (inl (is, same)) before = leads_same from to same before
 
   yields_lead : (from to : Place) (bytes : Traffic) (output : List ℕ) → Yields from to bytes output → LeadsTo m from → LeadsTo m to
-  yields_lead from to bytes output (received, takes, gets) before = gets_lead from to received output gets before
+  yields_lead from to bytes output (Nothing, takes, (none, same)) before = leads_same from to same before
+  yields_lead from to bytes output (Request is_head asks_why asked, takes, (o, whys, wanted, answers, is)) before = answers_lead from to asked o answers before
 
   exchanged_lead : (r : Result (Unit {0}) ServeFault) (from to : Place) (bytes : Traffic) → Exchanged r from to bytes → LeadsTo m from → LeadsTo m to
   exchanged_lead (Ok done) from to bytes (output, yields, wrote) before = yields_lead from to bytes output yields before
@@ -119,13 +105,10 @@ module _ (m : Moment) where
   exchanged_lead (Err OutOfMemory) from to bytes (unwritten, inl same) before = leads_same from to same before
   exchanged_lead (Err OutOfMemory) from to bytes (unwritten, inr (output, yields)) before = yields_lead from to bytes output yields before
 
-  visited_lead : (Unread : Type 0) (answered : Bool) (from to : Place) (bytes : Traffic) → Visited Unread answered from to bytes → LeadsTo m from → LeadsTo m to
-  visited_lead Unread true from to bytes it before = exchanged_lead (Ok tt) from to bytes it before
-  visited_lead Unread false from to bytes (fault, cause, it) before = exchanged_lead (Err fault) from to bytes it before
-
   module _ {A R W : Type 0} (source : Arrivals.Ghosts A R W) (reader : Reading.Ghosts R) (fails : R → R → Type 0) (writer : Writing.Ghosts W) where
     happens_leads : (turn : Happening) (old : A) (from : Place) (new : A) (to : Place) → Happens source reader fails writer turn old from new to → LeadsTo m from → LeadsTo m to
-    happens_leads (visit answered) old from new to (inl (opened, closed, between, handed, visited, taken, unlimited)) before = visited_lead _ answered from to _ visited before
+    happens_leads (visit true) old from new to (inl (opened, closed, between, handed, it, taken, unlimited)) before = exchanged_lead (Ok tt) from to _ it before
+    happens_leads (visit false) old from new to (inl (opened, closed, between, handed, (fault, cause, it), taken, unlimited)) before = exchanged_lead (Err fault) from to _ it before
     happens_leads (visit answered) old from new to (inr (failed, same, none)) before = leads_same from to same before
     happens_leads (settle told) old from new to (loses, same) before = leads_same from to same before
 

@@ -1,28 +1,26 @@
 -- From what the judge sees through a desk to what the peer sees.
 use Rattle.moo_http.{proofs.Words.{◌≡◌, inl, inr, ℕ, zero, suc, List, [], ◌∷◌, ◌++◌, length, take, Option, Some, None, refl, sym, ap, subst, ◌∙◌, append_assoc, append-nil, Ok, Err, Place, Keeps, Appends, Consumes, Takes, Yields, Exchanged, ServeFault, Read, Write, OutOfMemory, Traffic}, specs.Through.{Passes, FailedThrough}}
 use Rattle.std.specs.Io.KnownBytes.{append_known, prepend_known}
-use Rattle.std.proofs.KnownBytes.{Appends-nil}
+use Rattle.std.proofs.KnownBytes.{Appends-nil, Consumes-nil, Consumes-trans, Consumes-kept, prepend_known-nil}
 use Rattle.std.proofs.lemmas.List.{append_cancel_left}
 use Rattle.std.proofs.Math.Seq.{take-append_seam, take-nil}
-use Rattle.moo_http_request.specs.declared.request.Received.{Received}
 
 consumes_given : (given left rest : Option (List ℕ)) (bs : List ℕ) → Keeps (prepend_known [] given) left → Consumes left rest bs → Consumes given rest bs
-consumes_given None left rest bs p q = tt
-consumes_given (Some x) None rest bs p q = absurd p
-consumes_given (Some x) (Some y) None bs p q = absurd q
-consumes_given (Some x) (Some y) (Some z) bs p q = sym p ∙ q
+consumes_given given left rest bs kept taken = Consumes-trans given left rest [] bs (Consumes-kept given given left [] (Consumes-nil given) (subst (λ a. Keeps a left) (prepend_known-nil given) kept)) taken
 
 module _ (from to : Place) (peer judge : Traffic) (unsent : List ℕ) (it : Passes peer judge unsent) where
-  takes_given : (received : Received) → Takes judge.left judge.rest received → Takes peer.left peer.rest received
-  takes_given received taken = subst (λ rest. Takes peer.left rest received) (sym it.rest) (record {
-    given = taken.given;
-    gives = record { known = consumes_given peer.left judge.left judge.rest taken.given it.gathered taken.gives.known; sparing = taken.gives.sparing };
-    settles = taken.settles;
-    behind = taken.behind;
-  })
-
+  -- what was gathered is the peer's
   yields_given : (output : List ℕ) → Yields from to judge output → Yields from to peer output
-  yields_given output (received, takes, gets) = (received, takes_given received takes, gets)
+  yields_given output (received, taken, gets) = (
+    received,
+    subst (λ rest. Takes peer.left rest received) (sym it.rest) (record {
+      given = taken.given;
+      gives = record { known = consumes_given peer.left judge.left judge.rest taken.given it.gathered taken.gives.known; sparing = taken.gives.sparing };
+      settles = taken.settles;
+      behind = taken.behind;
+    }),
+    gets,
+  )
 
 -- a front of a front is one
 take_within : (m n : ℕ) (xs : List ℕ) → (k : ℕ) × (take m (take n xs) ≡ take k xs)
@@ -74,17 +72,14 @@ module _ (from to : Place) (peer judge : Traffic) where
     unwritten : judge.after ≡ judge.before → Keeps peer.before peer.after
     unwritten same = none_sent judge.before judge.after peer.before peer.after unsent it.front.0 it.fresh it.sent it.front.1 same
 
-    given : (output : List ℕ) → Yields from to judge output → Yields from to peer output
-    given output yields = yields_given from to peer judge unsent it output yields
-
     pub passes_front : Exchanged (Ok tt) from to judge → Exchanged (Err Write) from to peer
-    passes_front (output, yields, wrote) = let front = fronted output wrote in (output, given output yields, front.0, front.1)
+    passes_front (output, yields, wrote) = let front = fronted output wrote in (output, yields_given from to peer judge unsent it output yields, front.0, front.1)
 
     pub passes_fault : (fault : ServeFault) → Exchanged (Err fault) from to judge → FailedThrough fault from to peer
     passes_fault Write (output, yields, count, wrote) =
         let front = fronted (take count output) wrote in
         let cut = take_within front.0 count output in
-        (output, given output yields, cut.0, subst (Appends peer.before peer.after) cut.1 front.1)
+        (output, yields_given from to peer judge unsent it output yields, cut.0, subst (Appends peer.before peer.after) cut.1 front.1)
     passes_fault Read (same, still) = (same, unwritten still)
     passes_fault OutOfMemory (still, inl same) = (unwritten still, inl same)
-    passes_fault OutOfMemory (still, inr (output, yields)) = (unwritten still, inr (output, given output yields))
+    passes_fault OutOfMemory (still, inr (output, yields)) = (unwritten still, inr (output, yields_given from to peer judge unsent it output yields))

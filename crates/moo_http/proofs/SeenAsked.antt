@@ -1,5 +1,5 @@
 -- What is seen of what was asked, by what came of it, and what one place more is told with.
-use Rattle.std.proofs.Common.{◌≡◌, List, [], ◌∷◌, ◌++◌, Option, Result, Ok, Err, IfOk, String, refl, sym, subst}
+use Rattle.std.proofs.Common.{◌≡◌, List, [], ◌∷◌, ◌++◌, Option, Result, Ok, Err, IfOk, String, refl, subst}
 use Rattle.std.specs.declared.alloc.Global.{Global}
 use Rattle.moo_rows.specs.Maps.{Maps}
 use Rattle.moo_world.specs.declared.call.Batch.{Batch}
@@ -9,24 +9,25 @@ use Rattle.moo_store.{specs.declared.fault.StoreFault.{StoreFault}, specs.declar
 use Rattle.moo_reasons.{specs.Seen.{Seen, SeesRefusal}, specs.Told.{AreTold, TellsPlace}, specs.declared.line.Why.{Why}}
 use Rattle.moo_http_request.{specs.declared.asked.Asked.TheVariants.{Calls, Each}, specs.declared.each.Each.{Each as AskedEach}, specs.declared.asked.Mode.{Mode}}
 use Rattle.moo_http_response.{specs.declared.outcome.RequestOutcome.{RequestOutcome}}
+use Rattle.moo_http_response.specs.declared.outcome.RequestOutcome.TheVariants as outcome
 use Rattle.moo_http.{specs.Seen.{HasSeenAsked}, specs.Settled.{came_of, lost_by}}
+
+-- by which answers a fault is told
+lost_is : (P : RequestOutcome → Type 0) (fault : StoreFault) → P outcome.NoMemory → P outcome.Closed → P outcome.Fault → P (lost_by fault)
+lost_is P (Store error) memory closed failed = failed
+lost_is P (Damaged kind key) memory closed failed = failed
+lost_is P NewerVersion memory closed failed = failed
+lost_is P OutOfMemory memory closed failed = memory
+lost_is P Closed memory closed failed = closed
 
 module _ (maps : Maps) (kept next : Seen) where
   pub seen_one : (mode : Mode) (batch : Batch) (r : Result Reply StoreFault) (o : RequestOutcome) → o ≡ came_of r → IfOk r (λ reply. HasSeenReply SeesRefusal maps batch reply kept next)
       → HasSeenAsked maps (Calls mode batch) o kept next
-  seen_one mode batch (Ok reply) o is seen = subst (λ o. HasSeenAsked maps (Calls mode batch) o kept next) (sym is) seen
-  seen_one mode batch (Err (Store error)) o is seen = subst (λ o. HasSeenAsked maps (Calls mode batch) o kept next) (sym is) tt
-  seen_one mode batch (Err (Damaged kind key)) o is seen = subst (λ o. HasSeenAsked maps (Calls mode batch) o kept next) (sym is) tt
-  seen_one mode batch (Err NewerVersion) o is seen = subst (λ o. HasSeenAsked maps (Calls mode batch) o kept next) (sym is) tt
-  seen_one mode batch (Err OutOfMemory) o is seen = subst (λ o. HasSeenAsked maps (Calls mode batch) o kept next) (sym is) tt
-  seen_one mode batch (Err Closed) o is seen = subst (λ o. HasSeenAsked maps (Calls mode batch) o kept next) (sym is) tt
+  seen_one mode batch (Ok reply) o is seen = rw is seen
+  seen_one mode batch (Err fault) o is seen = rw is (lost_is (λ o. HasSeenAsked maps (Calls mode batch) o kept next) fault tt tt tt)
 
   pub seen_lost : (each : AskedEach) (fault : StoreFault) (o : RequestOutcome) → o ≡ lost_by fault → HasSeenAsked maps (Each each) o kept next
-  seen_lost each (Store error) o is = subst (λ o. HasSeenAsked maps (Each each) o kept next) (sym is) tt
-  seen_lost each (Damaged kind key) o is = subst (λ o. HasSeenAsked maps (Each each) o kept next) (sym is) tt
-  seen_lost each NewerVersion o is = subst (λ o. HasSeenAsked maps (Each each) o kept next) (sym is) tt
-  seen_lost each OutOfMemory o is = subst (λ o. HasSeenAsked maps (Each each) o kept next) (sym is) tt
-  seen_lost each Closed o is = subst (λ o. HasSeenAsked maps (Each each) o kept next) (sym is) tt
+  seen_lost each fault o is = rw is (lost_is (λ o. HasSeenAsked maps (Each each) o kept next) fault tt tt tt)
 
 pub told-more : (replies : List (Option Reply)) (lines : List (Option (String Global))) (reply : Option Reply) (line : Option (String Global)) (whys left rest : List Why)
     → AreTold whys replies lines left → TellsPlace left reply line rest → AreTold whys (replies ++ reply ∷ []) (lines ++ line ∷ []) rest

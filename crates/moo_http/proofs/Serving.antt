@@ -1,50 +1,25 @@
 -- What serving a request comes to.
-use Rattle.moo_http.{proofs.Words.{◌≡◌, ◌≢◌, inl, inr, ℕ, List, [], ◌++◌, Option, Some, None, refl, sym, subst, ap, ◌∙◌, append_assoc, append-nil, Bool, Result, Ok, Err, IfErr, IsErrAnd, Appends, Place, Takes, Asked, Nothing, Request, ServeFault, Read, Write, OutOfMemory, response_with, response_text, AnswersAsked, Exchanged, Written, Traffic}, specs.Faults.{fault_of}}
+use Rattle.moo_http.{proofs.Words.{◌≡◌, ◌≢◌, inl, inr, ℕ, List, Option, refl, sym, subst, ◌∙◌, Bool, Result, Ok, Err, IfErr, IsErrAnd, Place, Takes, Asked, Request, ServeFault, Read, Write, OutOfMemory, response_with, response_text, AnswersAsked, Exchanged, Written, Traffic}, specs.Faults.{fault_of}}
 use Rattle.moo_http_request.specs.declared.fault.ReadFault.{ReadFault}
 use Rattle.moo_http_request.specs.declared.fault.ReadFault.TheVariants as read
 
-pub appends_nothing : (before : Option (List ℕ)) → Appends before before []
-appends_nothing None = tt
-appends_nothing (Some bytes) = sym (append-nil bytes)
-
-pub appends_both : (a b c : Option (List ℕ)) (bs cs : List ℕ) → Appends a b bs → Appends b c cs → Appends a c (bs ++ cs)
-appends_both None b c bs cs p q = tt
-appends_both (Some x) None c bs cs p q = absurd p
-appends_both (Some x) (Some y) None bs cs p q = absurd q
-appends_both (Some x) (Some y) (Some z) bs cs p q = q ∙ ap (λ l. l ++ cs) p ∙ append_assoc x bs cs
-
 -- ---- the request wasn't read
-
-unread : (fault : ReadFault) (place : Place) (bytes : Traffic) → bytes.after ≡ bytes.before → Exchanged (Err (fault_of fault)) place place bytes
-unread read.Read place bytes unwritten = (refl, unwritten)
-unread read.OutOfMemory place bytes unwritten = (unwritten, inl refl)
 
 pub unread_at : (r : Result (Unit {0}) ServeFault) (fault : ReadFault) (place : Place) (bytes : Traffic) → IsErrAnd r (λ e. e ≡ fault_of fault) → bytes.after ≡ bytes.before → Exchanged r place place bytes
 unread_at (Ok x) fault place bytes is unwritten = absurd is
-unread_at (Err e) fault place bytes is unwritten = subst (λ e. Exchanged (Err e) place place bytes) (sym is) (unread fault place bytes unwritten)
+unread_at (Err e) read.Read place bytes is unwritten = rw is (refl, unwritten)
+unread_at (Err e) read.OutOfMemory place bytes is unwritten = rw is (unwritten, inl refl)
 
 -- why it wasn't
 pub unread_cause : {Failed : Type 0} (r : Result (Unit {0}) ServeFault) (fault : ReadFault) → IsErrAnd r (λ e. e ≡ fault_of fault) → (fault ≡ read.Read → Failed) → IfErr r (λ e. e ≡ Read → Failed)
 unread_cause (Ok x) fault is cause = tt
 unread_cause (Err e) read.Read is cause = λ same. cause refl
-unread_cause (Err e) read.OutOfMemory is cause = λ same. absurd (apart (sym is ∙ same))
-  where
-    apart : OutOfMemory ≢ Read
-    apart = λ e. cc
-
-pub cause_none : (Failed : Type 0) (r : Result (Unit {0}) ServeFault) → IfErr r (λ e. e ≢ Read) → IfErr r (λ e. e ≡ Read → Failed)
-cause_none Failed (Ok x) other = tt
-cause_none Failed (Err e) other = λ is. absurd (other is)
+unread_cause (Err e) read.OutOfMemory is cause = λ same. (let both : OutOfMemory ≡ Read = sym is ∙ same in absurd cc)
 
 -- nothing is written if memory is refused
 pub written_nothing : (r : Result (Unit {0}) ServeFault) (before : Option (List ℕ)) (output : List ℕ) → IsErrAnd r (λ e. e ≡ OutOfMemory) → Written r before before output
 written_nothing (Ok x) before output is = absurd is
 written_nothing (Err e) before output is = subst (λ e. Written (Err e) before before output) (sym is) refl
-
--- ---- nothing came
-
-pub nothing : (place : Place) (bytes : Traffic) (done : Unit {0}) → bytes.after ≡ bytes.before → Takes bytes.left bytes.rest Nothing → Exchanged (Ok done) place place bytes
-nothing place bytes done unwritten takes = ([], (Nothing, takes, (refl, refl)), subst (λ after. Appends bytes.before after []) (sym unwritten) (appends_nothing bytes.before))
 
 -- ---- a request came
 

@@ -1,5 +1,5 @@
 -- The connections that a source hands out, served one after another.
-use Rattle.moo_http.{proofs.Words.{◌≡◌, ◌≢◌, ◌⊎◌, inl, inr, ℕ, zero, suc, ◌+◌, Bool, true, false, List, [], ◌∷◌, Option, Some, None, refl, sym, subst, arith, ◌∙◌, Result, Ok, Err, is_ok, IfErr, Ghosts, World, MovesBy, Place, IsStillOrAdvanced, ServeFault, Read, ServiceFault, Exchanged, Visited, Visit, Attended, ServesFrom, attended_between, ServesOn, visit, settle, Loss, TellsLoss, TellsLosses, Traffic}, proofs.Going.{moves_as, moves_then, still_then}}
+use Rattle.moo_http.{proofs.Words.{◌≡◌, ◌≢◌, ◌⊎◌, inl, inr, ℕ, zero, suc, ◌+◌, Bool, true, false, List, [], ◌∷◌, Option, Some, None, refl, subst, arith, ◌∙◌, Result, Ok, Err, is_ok, IfErr, Ghosts, World, MovesBy, Place, IsStillOrAdvanced, ServeFault, Read, ServiceFault, Exchanged, Visited, Visit, Attended, ServesFrom, attended_between, ServesOn, visit, settle, Loss, TellsLoss, TellsLosses, Traffic}, proofs.Going.{moves_then, still_then}}
 use Rattle.std.specs.declared.io.Read as Reading
 use Rattle.std.specs.declared.io.Write as Writing
 use Rattle.moo_arrivals.specs.declared.arrivals.Arrivals as Arrivals
@@ -8,27 +8,15 @@ use Rattle.moo_http.specs.declared.service.ServiceFault.TheVariants as service
 
 -- ---- one connection
 
--- by whether it was answered
-pub visited : (Unread : Type 0) (r : Result (Unit {0}) ServeFault) (answered : Bool) (from to : Place) (bytes : Traffic) → answered ≡ is_ok r → IfErr r (λ fault. fault ≡ Read → Unread) → Exchanged r from to bytes
-    → Visited Unread answered from to bytes
-visited Unread (Ok done) answered from to bytes is cause it = subst (λ b. Visited Unread b from to bytes) (sym is) it
-visited Unread (Err fault) answered from to bytes is cause it = subst (λ b. Visited Unread b from to bytes) (sym is) (fault, cause, it)
-
--- a connection that is read, of which a fault has its cause
-pub is_unread : (Failed Unlimited : Type 0) (r : Result (Unit {0}) ServeFault) → IfErr r (λ fault. fault ≡ Read → Failed) → IfErr r (λ fault. fault ≡ Read → Failed ⊎ Unlimited)
-is_unread Failed Unlimited (Ok done) cause = tt
-is_unread Failed Unlimited (Err fault) cause = λ is. inl (cause is)
-
--- a connection that is neither read nor written
-pub unvisited : (Unread : Type 0) (place : Place) (bytes : Traffic) → Unread → bytes.after ≡ bytes.before → Visited Unread false place place bytes
-unvisited Unread place bytes cause unwritten = (Read, (λ e. cause), (refl, unwritten))
+-- by whether it was answered; of a fault of one that is read the cause is known
+pub visited : (Failed Unlimited : Type 0) (r : Result (Unit {0}) ServeFault) (answered : Bool) (from to : Place) (bytes : Traffic) → answered ≡ is_ok r → IfErr r (λ fault. fault ≡ Read → Failed) → Exchanged r from to bytes
+    → Visited (Failed ⊎ Unlimited) answered from to bytes
+visited Failed Unlimited (Ok done) answered from to bytes is cause it = rw is it
+visited Failed Unlimited (Err fault) answered from to bytes is cause it = rw is (fault, (λ same. inl (cause same)), it)
 
 -- ---- many
 
 module _ {A R W : Type 0} (source : Arrivals.Ghosts A R W) (reader : Reading.Ghosts R) (fails : R → R → Type 0) (writer : Writing.Ghosts W) where
-  pub attended_none : (old : A) (place : Place) → Attended source reader fails writer 0 0 old place old place
-  attended_none old place = ([], refl, refl, (refl, refl))
-
   -- from the connections of a source that was opened on a port and closed to those of the port
   pub serves_on : {P : Type 0} (ports : Ports.Ghosts P A R W) (first between last : P) (r : Result (Unit {0}) ServiceFault) (port count : ℕ) (old : A) (from : Place) (new : A) (to : Place) (before after : Option (List ℕ))
       → ports.listens first port (Some old) between → ports.closes between new last → IfErr r (λ fault. fault ≢ service.Port)
@@ -45,6 +33,16 @@ module _ {A R W : Type 0} (source : Arrivals.Ghosts A R W) (reader : Reading.Gho
   serves_on ports first between last (Err service.OutOfMemory) port count old from new to before after opened closed other (inr (text, (answered, failed, sum, holds, is), front)) =
       inr (text, (answered, failed, sum, (between, old, new, opened, holds, closed), is), front)
 
+-- ---- one more
+
+-- by whether one more was answered, how many were answered and failed before it and after it
+abbrev pub CountsOne : Bool → ℕ → ℕ → ℕ → ℕ → Type 0
+CountsOne result answered failed some more = ((result ≡ true) × (some ≡ answered + 1) × (more ≡ failed)) ⊎ ((result ≡ false) × (some ≡ answered) × (more ≡ failed + 1))
+
+pub counts_sum : (result : Bool) (answered failed some more : ℕ) → CountsOne result answered failed some more → some + more ≡ answered + failed + 1
+counts_sum result answered failed some more (inl (is, s, m)) = omega (arith, s, m)
+counts_sum result answered failed some more (inr (is, s, m)) = omega (arith, s, m)
+
 -- ---- answers that were lost
 
 -- asking for lost answers changes no sum
@@ -59,18 +57,13 @@ settles_all_sum loses (suc n) from to answered failed left lost (mid, some, more
     settles_all_sum loses n from mid answered failed some more earlier ∙ settles_sum loses mid to some more left lost last
 
 module _ {A R W : Type 0} (source : Arrivals.Ghosts A R W) (reader : Reading.Ghosts R) (fails : R → R → Type 0) (writer : Writing.Ghosts W) where
-  -- Some turns, and then one more, by how many were answered and failed before it and after it.
-  abbrev pub GoesOn : A → A → A → Bool → ℕ → ℕ → ℕ → ℕ → Type 0
-  GoesOn old between new result answered failed some more = (from mid to : Place) → Attended source reader fails writer answered failed old from between mid → Visit source reader fails writer result between mid new to
-      → Attended source reader fails writer some more old from new to
-
-  pub one_answered : (old between new : A) (result : Bool) (answered failed : ℕ) → result ≡ true → GoesOn old between new result answered failed (answered + 1) failed
-  one_answered old between new result answered failed is from mid to (turns, a, f, after) turn =
-      (visit true ∷ turns, omega (arith, a), f, (between, mid, after, subst (λ b. Visit source reader fails writer b between mid new to) is turn))
-
-  pub one_failed : (old between new : A) (result : Bool) (answered failed : ℕ) → result ≡ false → GoesOn old between new result answered failed answered (failed + 1)
-  one_failed old between new result answered failed is from mid to (turns, a, f, after) turn =
-      (visit false ∷ turns, a, omega (arith, f), (between, mid, after, subst (λ b. Visit source reader fails writer b between mid new to) is turn))
+  -- some turns, and then one more
+  one_more : (old : A) (from : Place) (between : A) (mid : Place) (new : A) (to : Place) (result : Bool) (answered failed some more : ℕ) → CountsOne result answered failed some more
+      → Attended source reader fails writer answered failed old from between mid → Visit source reader fails writer result between mid new to → Attended source reader fails writer some more old from new to
+  one_more old from between mid new to result answered failed some more (inl (is, s, m)) (turns, a, f, after) turn =
+      (visit true ∷ turns, omega (arith, a, s), omega (arith, f, m), (between, mid, after, subst (λ b. Visit source reader fails writer b between mid new to) is turn))
+  one_more old from between mid new to result answered failed some more (inr (is, s, m)) (turns, a, f, after) turn =
+      (visit false ∷ turns, omega (arith, a, s), omega (arith, f, m), (between, mid, after, subst (λ b. Visit source reader fails writer b between mid new to) is turn))
 
   -- after that the source was asked once for a lost answer
   pub attended_on : (old : A) (from : Place) (between new : A) (to : Place) (answered failed left lost : ℕ) → Attended source reader fails writer answered failed old from between to
@@ -96,13 +89,11 @@ module _ {A R W : Type 0} (source : Arrivals.Ghosts A R W) (reader : Reading.Gho
 
   -- after so many turns one more, and then the source was asked once for a lost answer
   pub passed_on : {S : Type 0} (g : Ghosts S) (was mid world : World S) (first between next last : A) (result : Bool) (answered failed some more left lost count : ℕ) → Passed g was mid first between answered failed count
-      → MovesBy g mid world (λ from to. Visit source reader fails writer result between from next to) → IsStillOrAdvanced g mid world → some + more ≡ count + 1 → GoesOn first between next result answered failed some more
+      → MovesBy g mid world (λ from to. Visit source reader fails writer result between from next to) → IsStillOrAdvanced g mid world → CountsOne result answered failed some more
       → TellsLoss source.loses next some more last left lost → Passed g was world first last left lost (count + 1)
-  passed_on g was mid world first between next last result answered failed some more left lost count it visits still sum goes told = record {
-    sum = sym (settles_sum source.loses next last some more left lost told) ∙ sum;
-    moves = moves_as g was world (λ from to. Attended source reader fails writer some more first from next to) (λ from to. Attended source reader fails writer left lost first from last to)
-        (λ from to attended. attended_on first from next last to some more left lost attended told)
-        (moves_then g was mid world (λ from to. Attended source reader fails writer answered failed first from between to) (λ from to. Visit source reader fails writer result between from next to)
-        (λ from to. Attended source reader fails writer some more first from next to) goes it.moves visits);
+  passed_on g was mid world first between next last result answered failed some more left lost count it visits still counts told = record {
+    sum = omega (arith, settles_sum source.loses next last some more left lost told, counts_sum result answered failed some more counts, it.sum);
+    moves = moves_then it.moves visits (λ from at to one turn.
+        attended_on first from next last to some more left lost (one_more first from between at next to result answered failed some more counts one turn) told);
     still = still_then g was mid world (λ from to. Attended source reader fails writer answered failed first from between to) it.moves it.still still;
   }

@@ -132,6 +132,7 @@ fn ask_question<S: Alter + Drop>(
 }
 
 /// Runs or asks one batch.
+#[tactic(auto, using(crate::proofs::Going::still_none))]
 fn take_batch<S: Alter + Drop>(
     world: &mut World<S>,
     mode: Mode,
@@ -149,6 +150,7 @@ fn take_batch<S: Alter + Drop>(
 }
 
 /// Does what is asked. Why a batch is refused, or each call that is asked alone, is kept in their order if it is wanted.
+#[tactic(auto, using(crate::proofs::Going::still_none))]
 pub(crate) fn consult<S: Alter + Drop>(
     alloc: Global,
     world: &mut World<S>,
@@ -162,7 +164,7 @@ pub(crate) fn consult<S: Alter + Drop>(
     ensures seen { HasSeenAsked world.old.rows.maps asked.now result (seen_by whys.old) (seen_by whys.new) }
 {
     match asked {
-        Asked::Refused(refusal) => RequestOutcome::Refused(*refusal),
+        Asked::Refused(refused) => RequestOutcome::Refused(refused.refusal()),
         Asked::Calls(mode, batch) => take_batch(world, *mode, batch, whys),
         Asked::Each(each) => ask_each(world, each, whys),
         Asked::Question(question) => ask_question(alloc, world, *question),

@@ -27,6 +27,7 @@ pub struct Served {
 }
 
 /// Serves a connection; whether it was answered. If its waits aren't limited, nothing is read and nothing is written.
+#[tactic(auto, using(crate::proofs::Going::still_none))]
 pub fn serve_connection<S: Alter + Drop, R: Incoming, W: Write>(
     means: &Means<'_>,
     connection: &mut Connection<R, W>,
@@ -62,6 +63,7 @@ pub fn serve_connection<S: Alter + Drop, R: Incoming, W: Write>(
 
 /// Takes the next connection of a source, of which so many are still to come, serves it, and gives it back to be closed; whether it was
 /// answered. If none can be taken that is noted, and nothing is done.
+#[tactic(auto, using(crate::proofs::Going::still_none))]
 pub fn serve_next<S: Alter + Drop, A: Arrivals>(
     means: &Means<'_>,
     arrivals: &mut A,

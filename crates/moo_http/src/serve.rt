@@ -14,7 +14,7 @@ use crate::fault::ServeFault;
 use crate::note::Note;
 use crate::why::answer_with_whys;
 use crate::write::write_out;
-use moo_http_request::{Asked, BodyFault, Incoming, Received, Routes, read_request};
+use moo_http_request::{Asked, Incoming, Received, Routes, read_request};
 use moo_reasons::Whys;
 use moo_store::World;
 use sqlite::Alter;
@@ -37,8 +37,6 @@ pub(crate) struct Inquiry {
     pub(crate) is_head: bool,
     /// It is to be said why what was asked is refused.
     pub(crate) asks_why: bool,
-    /// What is wrong with the body, if that is known.
-    pub(crate) wrong: Option<BodyFault>,
 }
 
 /// Does what is asked, and writes the answer, which says why it is refused if that is asked too.
@@ -69,6 +67,7 @@ fn serve_asked<S: Alter + Drop, W: Write>(
 ///
 /// The faults: Read if the reader fails, and the World is as it was; Write if the writer fails or takes no bytes, and what was asked is
 /// done; OutOfMemory if memory runs out before the World is asked or after that. An answer 200 to a batch is written after its commit.
+#[tactic(auto, using(crate::proofs::Going::still_none))]
 pub fn serve_one<S: Alter + Drop, R: Incoming, W: Write>(
     means: &Means<'_>,
     reader: &mut R,
@@ -94,8 +93,7 @@ pub fn serve_one<S: Alter + Drop, R: Incoming, W: Write>(
     // After a refusal the note says that the connection is to be closed gently.
     ensures gentle { OnOk result (ClosesGently (R.remaining reader.old) (R.remaining reader.new) note.new.closing) }
 {
-    let mut wrong = None;
-    match read_request(means.alloc, means.routes, reader, &mut wrong)? {
+    match read_request(means.alloc, means.routes, reader)? {
         Received::Nothing => Ok(()),
         Received::Request {
             is_head,
@@ -106,7 +104,6 @@ pub fn serve_one<S: Alter + Drop, R: Incoming, W: Write>(
                 asked,
                 is_head,
                 asks_why,
-                wrong,
             };
             serve_asked(means, &inquiry, writer, world, note)
         }

@@ -106,6 +106,7 @@ fn say_served<W: Write>(alloc: Global, output: &mut W, served: Served) -> Result
 ///
 /// The faults: Write if the output fails, and OutOfMemory, with a front of the two lines written: then no connection was taken, or all of
 /// them were. A connection that fails isn't a fault.
+#[tactic(auto, using(crate::proofs::Going::still_none))]
 pub fn serve_from<S: Alter + Drop, A: Arrivals, C: Clock + Eprint, W: Write>(
     tools: &Tools<'_, C>,
     arrivals: &mut A,
@@ -136,6 +137,7 @@ pub fn serve_from<S: Alter + Drop, A: Arrivals, C: Clock + Eprint, W: Write>(
 /// error has a line for each that failed and each answer of 503, at most ten in a second.
 ///
 /// The faults: Port if the port can't be bound, and nothing is written; else those of `serve_from`.
+#[tactic(auto, using(crate::proofs::Going::still_none))]
 pub fn serve_port<S: Alter + Drop, P: Ports, C: Clock + Eprint, W: Write>(
     tools: &Tools<'_, C>,
     ports: &mut P,

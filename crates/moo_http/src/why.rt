@@ -30,12 +30,15 @@ fn one_of(alloc: Global, why: Option<String>) -> Result<Vec<Option<String>>, All
     Ok(whys)
 }
 
-/// What is wrong with a body.
-fn body_why(alloc: Global, wrong: Option<&BodyFault>) -> Result<Vec<Option<String>>, AllocError> {
-    match wrong {
+/// What is wrong with a body, if it is refused.
+fn body_why(alloc: Global, asked: &Asked) -> Result<Vec<Option<String>>, AllocError> {
+    let Asked::Refused(refused) = asked else {
+        return Ok(Vec::new(alloc));
+    };
+    match refused.wrong() {
         Some(BodyFault::Shape(fault)) => one_of(alloc, Some(fault.to_string(alloc)?)),
         Some(BodyFault::Call(text)) => one_of(alloc, Some(call_why(alloc, text)?)),
-        _ => Ok(Vec::new(alloc)),
+        None => Ok(Vec::new(alloc)),
     }
 }
 
@@ -73,9 +76,9 @@ fn each_whys(
 }
 
 /// The texts that aren't calls, of calls that were asked alone.
-fn bad_texts(wrong: Option<&BodyFault>) -> &[Option<String>] {
-    match wrong {
-        Some(BodyFault::Texts(texts)) => texts,
+fn bad_texts(asked: &Asked) -> &[Option<String>] {
+    match asked {
+        Asked::Each(each) => each.batches.bad_texts(),
         _ => &[],
     }
 }
@@ -120,16 +123,15 @@ fn find_whys(
     alloc: Global,
     seen: &mut Whys,
     outcome: &RequestOutcome,
-    inquiry: &Inquiry,
+    asked: &Asked,
 ) -> Result<Vec<Option<String>>, AllocError>
     ensures { IfOk result (λ lines. TellsOutcome seen.old.seen.items outcome.now lines.items seen.new.seen.items) }
 {
-    let wrong = inquiry.wrong.as_ref();
     match outcome {
-        RequestOutcome::Refused(_) => body_why(alloc, wrong),
+        RequestOutcome::Refused(_) => body_why(alloc, asked),
         RequestOutcome::Replied(reply) => one_of(alloc, seen.next(reply)?),
-        RequestOutcome::Each(replies, _) => each_whys(alloc, seen, replies, bad_texts(wrong)),
-        RequestOutcome::NoMemory => spent_why(alloc, seen, &inquiry.asked),
+        RequestOutcome::Each(replies, _) => each_whys(alloc, seen, replies, bad_texts(asked)),
+        RequestOutcome::NoMemory => spent_why(alloc, seen, asked),
         _ => Ok(Vec::new(alloc)),
     }
 }
@@ -152,7 +154,7 @@ pub(crate) fn answer_with_whys(
     if !asks_why {
         return answer_text(alloc, outcome, asks_why, &[], is_head);
     }
-    let whys = match find_whys(alloc, seen, &outcome, inquiry) {
+    let whys = match find_whys(alloc, seen, &outcome, &inquiry.asked) {
         Ok(whys) => whys,
         Err(_) => Vec::new(alloc),
     };

@@ -1,6 +1,6 @@
 -- What reading takes from a reader, joined from call to call.
-use Rattle.moo_http_request.proofs.Words.{◌≡◌, ◌≤◌, ◌+◌, ◌-◌, ℕ, List, [], ◌++◌, true, false, Option, Some, None, length, take, refl, sym, ap, subst, ◌∙◌, append-nil, append_assoc, arith, Consumes, IsAtEnd, max, Result, Ok, Err, OnErr, length-append, Grows, TakesAtMost, Settles}
-use Rattle.std.proofs.lemmas.List.{length-take-le}
+use Rattle.moo_http_request.proofs.Words.{◌≡◌, ◌≤◌, ◌+◌, ◌-◌, ℕ, List, [], ◌++◌, true, false, Option, length, take, refl, sym, ap, subst, ◌∙◌, append-nil, append_assoc, arith, Consumes, IsAtEnd, max, Result, Ok, Err, OnErr, length-append, Grows, TakesAtMost, Settles}
+use Rattle.std.proofs.{KnownBytes.{Consumes-trans}, lemmas.List.{length-take-le}}
 
 -- so much of a front as it holds
 pub front_size : (n : ℕ) (xs ys : List ℕ) → n ≤ length xs → n ≡ length (take n (xs ++ ys))
@@ -8,23 +8,17 @@ front_size n xs ys within =
     let long = length-append xs ys in
     sym (length-take-le n (xs ++ ys) (omega (arith, long, within)))
 
-pub Consumes-then : (a b c : Option (List ℕ)) (xs ys : List ℕ) → Consumes a b xs → Consumes b c ys → Consumes a c (xs ++ ys)
-Consumes-then None b c xs ys p q = tt
-Consumes-then (Some us) None c xs ys p q = absurd p
-Consumes-then (Some us) (Some vs) None xs ys p q = absurd q
-Consumes-then (Some us) (Some vs) (Some ws) xs ys p q = p ∙ ap (λ (t : List ℕ). xs ++ t) q ∙ sym (append_assoc xs ys ws)
-
 -- what was taken stands in the bytes, where there were none before
 pub Grows-all : (a b : Option (List ℕ)) (x y : List ℕ) → x ≡ [] → Grows a b x y → Consumes a b y
 Grows-all a b x y e p = subst (Consumes a b) (sym (p.grown ∙ ap (λ (t : List ℕ). t ++ p.given) e)) p.known
 
 pub Grows-more : (a b c : Option (List ℕ)) (y z : List ℕ) → Consumes a b y → Grows b c y z → Consumes a c z
-Grows-more a b c y z p q = subst (Consumes a c) (sym q.grown) (Consumes-then a b c y q.given p q.known)
+Grows-more a b c y z p q = subst (Consumes a c) (sym q.grown) (Consumes-trans a b c y q.given p q.known)
 
 pub Grows-then : (a b c : Option (List ℕ)) (x y z : List ℕ) → Grows a b x y → Grows b c y z → Grows a c x z
 Grows-then a b c x y z p q = record {
   given = p.given ++ q.given;
-  known = Consumes-then a b c p.given q.given p.known q.known;
+  known = Consumes-trans a b c p.given q.given p.known q.known;
   grown = q.grown ∙ ap (λ (t : List ℕ). t ++ q.given) p.grown ∙ append_assoc x p.given q.given;
 }
 
@@ -35,7 +29,7 @@ taken_then a b c x y limit inside p q =
     let grown : length y ≡ length x + length p.given = ap length p.grown ∙ length-append x p.given in
     record {
       given = p.given ++ q.given;
-      known = Consumes-then a b c p.given q.given p.known q.known;
+      known = Consumes-trans a b c p.given q.given p.known q.known;
       few = omega (arith, whole, grown, inside, q.few);
     }
 
@@ -43,12 +37,6 @@ pub taken : (a b : Option (List ℕ)) (x y : List ℕ) (limit : ℕ) → length 
 taken a b x y limit inside p =
     let grown : length y ≡ length x + length p.given = ap length p.grown ∙ length-append x p.given in
     record { given = p.given; known = p.known; few = omega (arith, grown, inside) }
-
--- from nothing on
-pub taken_first : (a b c : Option (List ℕ)) (y : List ℕ) (limit : ℕ) → length y ≤ limit → Consumes a b y → TakesAtMost (limit - length y) b c → TakesAtMost limit a c
-taken_first a b c y limit inside p q =
-    let whole = length-append y q.given in
-    record { given = y ++ q.given; known = Consumes-then a b c y q.given p q.known; few = omega (arith, whole, inside, q.few) }
 
 -- what holds whatever follows
 pub settled : (left : Option (List ℕ)) (given : List ℕ) (P : List ℕ → Type 0) → ((more : List ℕ) → P (given ++ more)) → Settles left given P
@@ -61,10 +49,6 @@ settled_at_end left given P end h = record {
   at_end = λ e. end;
   holds = λ rest none. subst P (sym (ap (λ (t : List ℕ). given ++ t) (none refl) ∙ append-nil given)) h;
 }
-
--- what follows from what is settled
-pub settled_so : (left : Option (List ℕ)) (given : List ℕ) (P Q : List ℕ → Type 0) → Settles left given P → ((input : List ℕ) → P input → Q input) → Settles left given Q
-settled_so left given P Q s f = record { ended = s.ended; at_end = s.at_end; holds = λ rest none. f (given ++ rest) (s.holds rest none) }
 
 pub on_err : {A E : Type 0} (r : Result A E) (P : Type 0) → P → OnErr r P
 on_err (Ok x) P p = tt

@@ -4,8 +4,7 @@ use Rattle.moo_http_request.specs.declared.head.TheConstants.{MAX_HEAD, MAX_LINE
 
 -- bytes are no empty input, whatever follows
 not_empty : (bytes more : List ℕ) → 0 < length bytes → bytes ++ more ≢ []
-not_empty [] more h e = omega (arith, h)
-not_empty (b ∷ bytes) more h e = cc
+not_empty bytes more h e = omega (arith, h, ap length e, length-append bytes more)
 
 -- the first bytes have more than 32 lines, whatever follows
 pub lacks-overflow : (bytes more : List ℕ) (room : ℕ) → 0 < length bytes → room ≡ MAX_LINES → RequestOverflows room bytes → Lacks (bytes ++ more)
@@ -29,9 +28,7 @@ lacks-long bytes more long none = (
 )
 
 not_nothing : (xs ys zs : List ℕ) → 0 < length ys → [] ≢ xs ++ (ys ++ zs)
-not_nothing [] [] zs h e = omega (arith, h)
-not_nothing [] (y ∷ ys) zs h e = cc
-not_nothing (x ∷ xs) ys zs h e = cc
+not_nothing xs ys zs h e = omega (arith, h, ap length e, length-append xs (ys ++ zs), length-append ys zs)
 
 -- no head is empty
 pub no_empty_head : (head : RequestHead) (rest : List ℕ) → ¬ (ReadsRequest [] head rest)
@@ -47,24 +44,16 @@ pub record IsFresh (bytes : List ℕ) : Type 0 where
   pub piece : length last ≤ 1024
   pub none : HasNoRequest before
 
-pub fresh-first : (a b : Option (List ℕ)) (x y : List ℕ) → x ≡ [] → Grows a b x y → length y ≤ length x + 1024 → IsFresh y
-fresh-first a b x y e grows small =
-    let none = ap length e in
-    record { before = []; last = y; is = refl; piece = omega (arith, small, none); none = no_empty_head }
-
-either : (m n : ℕ) → (m ≤ n) ⊎ (n < m)
-either m n = grind arith
-
 pub close_of : (bytes : List ℕ) (read : HeadRead) → IsFresh bytes → ShowsHead bytes read → IsClose bytes read
-close_of bytes (Whole found) fresh s = by (either (length (print_request s.head)) (length fresh.before))
-  where
-    by : (length (print_request s.head) ≤ length fresh.before) ⊎ (length fresh.before < length (print_request s.head)) → length bytes < found.spans.len + 1024
-    by (inl fits) =
-        absurd (fresh.none s.head (drop (length (print_request s.head)) fresh.before)
-        (s.at.reads.0, front_of fresh.before fresh.last (print_request s.head) (drop found.spans.len bytes) fits (sym fresh.is ∙ s.at.reads.1)))
-    by (inr short) =
-        let whole : length bytes ≡ length fresh.before + length fresh.last = ap length fresh.is ∙ length-append fresh.before fresh.last in
-        omega (arith, short, whole, fresh.piece, s.at.len)
+close_of bytes (Whole found) fresh s =
+    let cases : (length (print_request s.head) ≤ length fresh.before) ⊎ (length fresh.before < length (print_request s.head)) = grind arith in
+    elim cases [
+      | inl fits ↦ absurd (fresh.none s.head (drop (length (print_request s.head)) fresh.before)
+          (s.at.reads.0, front_of fresh.before fresh.last (print_request s.head) (drop found.spans.len bytes) fits (sym fresh.is ∙ s.at.reads.1)))
+      | inr short ↦ (
+          let whole : length bytes ≡ length fresh.before + length fresh.last = ap length fresh.is ∙ length-append fresh.before fresh.last in
+          omega (arith, short, whole, fresh.piece, s.at.len))
+    ]
 close_of bytes Refused fresh s = tt
 close_of bytes Empty fresh s = absurd s
 

@@ -1,24 +1,20 @@
 -- What a request asks, from the bytes that were read of it.
-use Rattle.moo_http_request.{proofs.Words.{◌≡◌, ◌⊎◌, inl, inr, ◌+◌, ◌-◌, ◌<◌, ◌≤◌, ℕ, List, ◌++◌, Option, Some, length, take, drop, arith, refl, sym, ap, subst, ◌∙◌, append_assoc, length-append, length-drop, [], append-nil, false, slice_range, max, Bool, IsUtf8, Result, Ok, Err, IfOk, take-append-le, drop-append-le, Consumes, IsAtEnd, RequestHead, ReadsRequest, Asked, Form, HeadSpans, Plan, Body, Request, HeadStands, Lacks, Grows, TakesAtMost, shape_of, form_asked, Data, BodyAsks, plan_by, body_size, is_head, asks_why, PlanAsks, Receives, request, no_head, nothing, IsSparing, small, body, Takes, StopsReading, Settles, request_unique}, specs.declared.asked.Asked.TheVariants.{Refused}, specs.declared.asked.Refusal.TheVariants.{BadRequest}, specs.declared.request.Received.TheVariants.{Nothing}, specs.Head.{BeginsWithHead, HasNoHead}, proofs.Giving.{settled, settled_at_end, settled_so, Consumes-then, Grows-more}, proofs.HeadLemmas.{no_empty_head}}
-use Rattle.serde_json.specs.Read.{read}
+use Rattle.moo_http_request.{proofs.Words.{◌≡◌, ◌⊎◌, inl, inr, ◌+◌, ◌-◌, ◌<◌, ◌≤◌, ℕ, List, ◌++◌, Option, length, take, drop, arith, refl, sym, ap, subst, ◌∙◌, append_assoc, length-append, length-drop, [], append-nil, false, slice_range, max, Bool, take-append-le, drop-append-le, Consumes, IsAtEnd, RequestHead, ReadsRequest, Asked, Form, HeadSpans, Plan, Body, Request, HeadStands, Lacks, Grows, TakesAtMost, BodyAsks, plan_by, body_size, is_head, asks_why, PlanAsks, Receives, request, no_head, nothing, IsSparing, small, body, Takes, StopsReading, Settles, request_unique}, specs.declared.asked.Asked.TheVariants.{Refused}, specs.declared.asked.Refusal.TheVariants.{BadRequest}, specs.declared.request.Received.TheVariants.{Nothing}, specs.Head.{BeginsWithHead, HasNoHead}, proofs.Giving.{settled, settled_at_end, Grows-more}, proofs.HeadLemmas.{no_empty_head}}
+use Rattle.std.proofs.KnownBytes.{Consumes-trans}
 use Rattle.moo_http_request.specs.declared.head.TheConstants.{MAX_HEAD}
-use Rattle.std.specs.Option.{option_map_or}
 
--- the bytes of a body that was read whole
-body_is : (bytes more : List ℕ) (start n : ℕ) → start + n ≤ length bytes → take n (drop start (bytes ++ more)) ≡ slice_range bytes start (start + n)
-body_is bytes more start n fits =
-    let len = length-drop start bytes in
-    let here : n ≤ length (drop start bytes) = omega (arith, len, fits) in
-    let size : (start + n) - start ≡ n = omega arith in
-    ap (take n) (drop-append-le start bytes more (omega (arith, fits))) ∙ take-append-le n (drop start bytes) more here ∙ ap (λ k. take k (drop start bytes)) (sym size)
-
+-- a body that was read whole
 pub body_whole : (left : Option (List ℕ)) (bytes : List ℕ) (start n : ℕ) (form : Form) (asked : Asked) → start + n ≤ length bytes
     → BodyAsks form (slice_range bytes start (start + n)) asked → Settles left bytes (λ input. PlanAsks (Body form n) (drop start input) asked)
 body_whole left bytes start n form asked fits asks =
     settled left bytes (λ input. PlanAsks (Body form n) (drop start input) asked) (λ more.
     let len = length-drop start (bytes ++ more) in
     let long = length-append bytes more in
-    inl (omega (arith, len, long, fits), subst (λ b. BodyAsks form b asked) (sym (body_is bytes more start n fits)) asks))
+    let here : n ≤ length (drop start bytes) = omega (arith, length-drop start bytes, fits) in
+    let size : (start + n) - start ≡ n = omega arith in
+    let is : take n (drop start (bytes ++ more)) ≡ slice_range bytes start (start + n) =
+    ap (take n) (drop-append-le start bytes more (omega (arith, fits))) ∙ take-append-le n (drop start bytes) more here ∙ ap (λ k. take k (drop start bytes)) (sym size) in
+    inl (omega (arith, len, long, fits), subst (λ b. BodyAsks form b asked) (sym is) asks))
 
 -- the bytes of a body that is cut off
 pub body_short : (a left : Option (List ℕ)) (before bytes : List ℕ) (start n : ℕ) (form : Form) → start ≤ length before → Grows a left before bytes → length bytes < start + n → IsAtEnd left
@@ -27,12 +23,6 @@ body_short a left before bytes start n form inside grows short end =
     let long : length bytes ≡ length before + length grows.given = ap length grows.grown ∙ length-append before grows.given in
     let len = length-drop start bytes in
     settled_at_end left bytes (λ input. PlanAsks (Body form n) (drop start input) (Refused BadRequest)) end (inr (omega (arith, inside, long, len, short), refl))
-
--- a body that is JSON
-pub json_asks : {E : Type 0} (form : Form) (bytes : List ℕ) (r : Result Asked E) (d : Data) → IsUtf8 bytes → read bytes ≡ Some d
-    → IfOk r (λ asked. asked ≡ option_map_or (form_asked form) (shape_of d) (Refused BadRequest)) → IfOk r (BodyAsks form bytes)
-json_asks form bytes (Ok asked) d text e h = (Some d, (text, e), h)
-json_asks form bytes (Err fault) d text e h = tt
 
 -- ---- the whole
 
@@ -49,16 +39,11 @@ receives_of bytes more found plan h w asked s p e f asks =
 sparing_of : (bytes more : List ℕ) (found : HeadSpans) (plan : Plan) (s : HeadStands bytes found) → plan ≡ plan_by s.head → length bytes ≤ MAX_HEAD
     → length (bytes ++ more) ≤ max (length bytes) (found.spans.len + body_size plan) → IsSparing (bytes ++ more)
 sparing_of bytes more found plan s p few most =
-    by (max_cases (length (bytes ++ more)) (length bytes) (found.spans.len + body_size plan) most)
-  where
-    max_cases : (k m n : ℕ) → k ≤ max m n → (k ≤ m) ⊎ (k ≤ n)
-    max_cases k m n h = grind (arith, h)
-
-    by : (length (bytes ++ more) ≤ length bytes) ⊎ (length (bytes ++ more) ≤ found.spans.len + body_size plan) → IsSparing (bytes ++ more)
-    by (inl h) = small (omega (arith, h, few))
-    by (inr h) =
-        let size : body_size plan ≡ body_size (plan_by s.head) = ap body_size p in
-        body s.head (drop found.spans.len bytes ++ more) (s.begins more) (omega (arith, h, size, s.at.len))
+    let cases : (length (bytes ++ more) ≤ length bytes) ⊎ (length (bytes ++ more) ≤ found.spans.len + body_size plan) = grind (arith, most) in
+    elim cases [
+      | inl h ↦ small (omega (arith, h, few))
+      | inr h ↦ body s.head (drop found.spans.len bytes ++ more) (s.begins more) (omega (arith, h, ap body_size p, s.at.len))
+    ]
 
 -- behind the head stands the rest of its last piece, and what the plan needs
 behind_of : (bytes all given : List ℕ) (found : HeadSpans) (plan : Plan) (s : HeadStands bytes found) → plan ≡ plan_by s.head → length bytes < found.spans.len + 1024
@@ -102,7 +87,7 @@ breaks_of a b c bytes found plan s p few taken more =
     record {
       given = bytes ++ more.given;
       gives = record {
-        known = Consumes-then a b c bytes more.given taken more.known;
+        known = Consumes-trans a b c bytes more.given taken more.known;
         sparing = sparing_of bytes more.given found plan s p few (omega (arith, whole, more.few));
       };
     }
@@ -112,7 +97,7 @@ pub takes_refused : (a b : Option (List ℕ)) (given : List ℕ) → Consumes a 
 takes_refused a b given taken few lacks = record {
   given = given;
   gives = record { known = taken; sparing = small few };
-  settles = settled_so b given Lacks (λ input. Receives input (Request false false (Refused BadRequest))) lacks (λ input l. no_head l.0 l.1 refl);
+  settles = record { ended = lacks.ended; at_end = lacks.at_end; holds = λ rest none. (let l = lacks.holds rest none in no_head l.0 l.1 refl) };
   behind = λ head rest h. absurd ((subst HasNoHead (append-nil given) (lacks.holds [] (λ e. refl)).1) head rest h);
 }
 

@@ -16,15 +16,13 @@ pub texts-broken : (texts : List (List ℕ)) (d : Data) (rest : List Data) → a
 texts-broken [] d rest e = rw e refl
 texts-broken (text ∷ texts) d rest e = ap (option_map (λ rest. text ∷ rest)) (texts-broken texts d rest e)
 
-drop_one : (ds : List Data) (i : ℕ) (d : Data) → i < length ds → drop i ds ≡ get_or ds i d ∷ drop (i + 1) ds
-drop_one ds i d h = rw (add-one i) (drop-cons ds i d h)
-
 -- the same, by the place of what is no string
 pub texts-broken_at : (ds : List Data) (texts : List (List ℕ)) (i : ℕ) (d : Data) → i < length ds → get_or ds i d ≡ d → as_str d ≡ None
     → take i ds ≡ map string texts → texts_of (items_of ds) ≡ None
 texts-broken_at ds texts i d within at none front =
+    let cut : drop i ds ≡ get_or ds i d ∷ drop (i + 1) ds = rw (add-one i) (drop-cons ds i d within) in
     let whole : ds ≡ map string texts ++ d ∷ drop (i + 1) ds =
-    sym (take-append-drop i ds) ∙ ap (λ l. l ++ drop i ds) front ∙ ap (λ l. map string texts ++ l) (drop_one ds i d within ∙ ap (λ e. e ∷ drop (i + 1) ds) at) in
+    sym (take-append-drop i ds) ∙ ap (λ l. l ++ drop i ds) front ∙ ap (λ l. map string texts ++ l) (cut ∙ ap (λ e. e ∷ drop (i + 1) ds) at) in
     ap (λ l. texts_of (items_of l)) whole ∙ texts-broken texts d (drop (i + 1) ds) none
 
 all-now : (p : List ℕ → Bool) (texts : List (Bor (List ℕ))) → list_all (λ text. p text.now) texts ≡ list_all p (map (λ text. text.now) texts)

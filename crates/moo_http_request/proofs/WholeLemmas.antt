@@ -1,5 +1,5 @@
 -- When a request is whole.
-use Rattle.moo_http_request.{proofs.Words.{◌≡◌, inl, inr, ◌+◌, ◌<◌, ◌≤◌, ℕ, List, ◌++◌, length, drop, arith, sym, ap, subst, ◌∙◌, append_assoc, length-append, length-drop, take-append-le, RequestHead, ReadsRequest, request_unique, Asked, HeadSpans, Plan, Decided, Body, Request, HeadStands, Lacks, BodyAsks, plan_by, body_size, is_head, asks_why, PlanAsks, Receives, request, no_head, nothing}, specs.declared.asked.Asked.TheVariants.{Refused}, specs.declared.asked.Refusal.TheVariants.{BadRequest}, specs.declared.request.Received.{Received}, specs.Whole.{IsWhole, IsCutOff, IsWholeFrom}, proofs.HeadLemmas.{no_empty_head}}
+use Rattle.moo_http_request.{proofs.Words.{◌≡◌, inl, inr, ◌+◌, ◌<◌, ◌≤◌, ℕ, List, ◌++◌, length, drop, arith, sym, ap, subst, ◌∙◌, append_assoc, length-append, length-drop, take-append-le, ReadsRequest, request_unique, Asked, HeadSpans, Plan, Decided, Body, Request, HeadStands, Lacks, BodyAsks, plan_by, body_size, is_head, asks_why, PlanAsks, Receives, request, no_head, nothing}, specs.declared.asked.Asked.TheVariants.{Refused}, specs.declared.asked.Refusal.TheVariants.{BadRequest}, specs.declared.request.Received.{Received}, specs.Whole.{IsWhole, IsCutOff, IsWholeFrom}, proofs.HeadLemmas.{no_empty_head}}
 
 -- what a plan asks of what follows the head, once that is long enough
 plan_more : (plan : Plan) (rest more : List ℕ) (asked : Asked) → body_size plan ≤ length rest → PlanAsks plan rest asked → PlanAsks plan (rest ++ more) asked
@@ -20,44 +20,31 @@ module _ (bytes : List ℕ) (found : HeadSpans) (plan : Plan) (s : HeadStands by
   abbrev left : List ℕ → List ℕ
   left rest = drop found.spans.len bytes ++ rest
 
-  same : (rest : List ℕ) (head : RequestHead) (behind : List ℕ) → ReadsRequest (bytes ++ rest) head behind → (head ≡ s.head) × (behind ≡ left rest)
-  same rest head behind reads = request_unique (bytes ++ rest) head s.head behind (left rest) reads (s.begins rest).reads
+  -- this is asked of them
+  asked_of : (rest : List ℕ) (received : Received) → Receives (bytes ++ rest) received → (asked : Asked) × PlanAsks plan (left rest) asked × (received ≡ Request (is_head s.head) (asks_why s.head) asked)
+  asked_of rest received (nothing e f) = absurd (no_empty_head s.head (left rest) (subst (λ i. ReadsRequest i s.head (left rest)) e (s.begins rest).reads))
+  asked_of rest received (no_head x none f) = absurd (none s.head (left rest) (s.begins rest))
+  asked_of rest received (request head behind asked b asks f) =
+      let one = request_unique (bytes ++ rest) head s.head behind (left rest) b.reads (s.begins rest).reads in
+      let here = subst (λ l. PlanAsks (plan_by head) l asked) one.1 asks in
+      (asked, subst (λ q. PlanAsks q (left rest) asked) (ap plan_by one.0 ∙ sym p) here, f ∙ ap (λ h. Request (is_head h) (asks_why h) asked) one.0)
 
-  sized : (rest : List ℕ) (head : RequestHead) (behind : List ℕ) → ReadsRequest (bytes ++ rest) head behind → length (bytes ++ rest) ≡ found.spans.len + length behind
-  sized rest head behind reads =
-      let one = same rest head behind reads in
-      let tail : length behind ≡ length (drop found.spans.len bytes) + length rest = ap length one.1 ∙ length-append (drop found.spans.len bytes) rest in
-      let cut = length-drop found.spans.len bytes in
-      let inside = s.within.section.len_fits in
-      let all = length-append bytes rest in
-      omega (arith, tail, cut, inside, all)
-
-  size_is : (head : RequestHead) → head ≡ s.head → body_size (plan_by head) ≡ body_size plan
-  size_is head e = ap (λ h. body_size (plan_by h)) e ∙ sym (ap body_size p)
+  sized : (rest : List ℕ) → length (bytes ++ rest) ≡ found.spans.len + length (left rest)
+  sized rest =
+      let tail = length-append (drop found.spans.len bytes) rest in
+      omega (arith, length-append bytes rest, tail, length-drop found.spans.len bytes, s.within.section.len_fits)
 
   whole_at : (rest : List ℕ) → found.spans.len + body_size plan ≤ length (bytes ++ rest) → IsWhole (bytes ++ rest)
-  whole_at rest fits more received (nothing e f) = absurd (no_empty_head s.head (left rest) (subst (λ i. ReadsRequest i s.head (left rest)) e (s.begins rest).reads))
-  whole_at rest fits more received (no_head x none f) = absurd (none s.head (left rest) (s.begins rest))
-  whole_at rest fits more received (request head behind asked b asks f) =
-      let one = same rest head behind b.reads in
-      let size = size_is head one.0 in
-      let len = sized rest head behind b.reads in
-      let long : body_size (plan_by head) ≤ length behind = omega (arith, size, len, fits) in
-      let here = subst (λ l. PlanAsks (plan_by head) (l ++ more) asked) one.1 (plan_more (plan_by head) behind more asked long asks) in
-      let there = subst (λ l. PlanAsks (plan_by head) l asked) (append_assoc (drop found.spans.len bytes) rest more) here in
+  whole_at rest fits more received it =
+      let q = asked_of rest received it in
+      let there = subst (λ l. PlanAsks plan l q.0) (append_assoc (drop found.spans.len bytes) rest more) (plan_more plan (left rest) more q.0 (omega (arith, sized rest, fits)) q.1) in
       subst (λ input. Receives input received) (sym (append_assoc bytes rest more))
-      (request s.head (left (rest ++ more)) asked (s.begins (rest ++ more)) (subst (λ h. PlanAsks (plan_by h) (left (rest ++ more)) asked) one.0 there)
-      (f ∙ ap (λ h. Request (is_head h) (asks_why h) asked) one.0))
+      (request s.head (left (rest ++ more)) q.0 (s.begins (rest ++ more)) (subst (λ plan. PlanAsks plan (left (rest ++ more)) q.0) p there) q.2)
 
   cut_before : (rest : List ℕ) → length (bytes ++ rest) < found.spans.len + body_size plan → IsCutOff (bytes ++ rest)
-  cut_before rest short received (nothing e f) = absurd (no_empty_head s.head (left rest) (subst (λ i. ReadsRequest i s.head (left rest)) e (s.begins rest).reads))
-  cut_before rest short received (no_head x none f) = absurd (none s.head (left rest) (s.begins rest))
-  cut_before rest short received (request head behind asked b asks f) =
-      let one = same rest head behind b.reads in
-      let size = size_is head one.0 in
-      let len = sized rest head behind b.reads in
-      let less : length behind < body_size (plan_by head) = omega (arith, size, len, short) in
-      (is_head head, asks_why head, f ∙ ap (Request (is_head head) (asks_why head)) (plan_short (plan_by head) behind asked less asks))
+  cut_before rest short received it =
+      let q = asked_of rest received it in
+      (is_head s.head, asks_why s.head, q.2 ∙ ap (Request (is_head s.head) (asks_why s.head)) (plan_short plan (left rest) q.0 (omega (arith, sized rest, short)) q.1))
 
   pub ends_after_body : IsWholeFrom bytes (found.spans.len + body_size plan)
   ends_after_body = record { whole = whole_at; cut = cut_before }

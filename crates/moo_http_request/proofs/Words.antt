@@ -4,7 +4,7 @@ pub use Rattle.std.proofs.lemmas.Bool.Decides.{nat_tests}
 pub use Rattle.std.proofs.lemmas.List.{drop-append-le, drop_all, get_or-map, length-map, take-append-le, take-map, take_all, take_at, take_more}
 pub use Rattle.std.specs.Io.KnownBytes.{Consumes, IsAtEnd}
 pub use Rattle.std.specs.List.{list_all}
-pub use Rattle.std.specs.Prelude.{Err, IfOk, IsTrue, IsUtf8, Ok, OnErr, Result, max, option_and_then, slice_range, ◌↔◌}
+pub use Rattle.std.specs.Prelude.{Err, IsTrue, Ok, OnErr, Result, max, option_and_then, slice_range, ◌↔◌}
 pub use Rattle.httparse.proofs.GrammarLemmas.{print_request-append, request_unique}
 pub use Rattle.httparse.specs.Grammar.{HasNoRequest, ReadsRequest, RequestHead, print_blank, print_request}
 pub use Rattle.httparse.specs.Spans.{RequestOverflows, header_bytes}

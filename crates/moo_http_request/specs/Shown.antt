@@ -16,5 +16,5 @@ shape_read_shown (shape_read.Whole shape) = Some (shape_shown shape)
 shape_read_shown (shape_read.Bad fault) = None
 
 abbrev pub calls_shown : CallsRead → calls.Calls
-calls_shown (Whole read) = calls.Whole read.items
+calls_shown (Whole read) = calls.Whole read
 calls_shown (Bad n) = calls.Bad n

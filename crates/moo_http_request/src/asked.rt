@@ -1,7 +1,10 @@
 //! What a request asks.
 
+ghost use Rattle.std.specs.Prelude.{◌≡◌};
+
 use crate::each::Each;
 use crate::question::{Question, Topic};
+use crate::refused::Refused;
 use crate::routes::Endpoint;
 use moo_world::Batch;
 
@@ -55,11 +58,20 @@ pub enum Form {
 #[derive(Drop)]
 pub enum Asked {
     /// Nothing: it is refused.
-    Refused(Refusal),
+    Refused(Refused),
     /// A batch.
     Calls(Mode, Batch),
     /// Calls, each of which is a batch that is only asked what it would answer.
     Each(Each),
     /// Something of the world, which stays as it is.
     Question(Question),
+}
+
+impl Asked {
+    /// A refusal. Nothing is known to be wrong with a body.
+    pub(crate) fn refuse(refusal: Refusal) -> Asked
+        ensures { result ≡ Asked.Refused refusal }
+    {
+        Asked::Refused(Refused::new(refusal, None))
+    }
 }

@@ -16,15 +16,16 @@ ghost use Rattle.moo_http_request.specs.Shown.{shape_shown, calls_shown};
 ghost use Rattle.moo_http_request.specs.declared.head.TheConstants.{MAX_HEAD};
 
 use crate::asked::{Asked, Form, Mode, Refusal};
-use crate::each::{Batches, Each, bad_texts, read_each};
+use crate::each::{Each, read_each};
 use crate::fault::ReadFault;
 use crate::incoming::Incoming;
 use crate::input::read_until;
 use crate::plan::Plan;
+use crate::refused::Refused;
 use crate::shape::{Shape, ShapeRead, read_json, shape_in};
 use crate::wrong::{BodyFault, ShapeFault};
 use moo_text::call_in;
-use moo_world::{Batch, Call, Calls};
+use moo_world::{Batch, Calls};
 use serde_json::Value;
 use std::alloc::{AllocError, Global};
 
@@ -32,7 +33,7 @@ use std::alloc::{AllocError, Global};
 #[derive(Drop)]
 pub enum CallsRead {
     /// Each text is a call.
-    Whole(Vec<Call>),
+    Whole(Calls),
     /// The number, from 1, of the first text that isn't one.
     Bad(u32),
 }
@@ -51,7 +52,7 @@ fn read_calls(alloc: Global, texts: &[&str]) -> Result<CallsRead, AllocError>
             None => return Ok(CallsRead::Bad(number)),
         }
     }
-    Ok(CallsRead::Whole(calls))
+    Ok(CallsRead::Whole(Calls::from_vec(calls)))
 }
 
 /// What is wrong with the text of a call, by its number from 1. Unknown if memory for the text is refused.
@@ -61,13 +62,8 @@ fn bad_call(alloc: Global, texts: &[&str], number: u32) -> Option<BodyFault> {
     Some(BodyFault::Call(text))
 }
 
-/// The batch that a shape asks, and what is wrong with it.
-fn read_batch(
-    alloc: Global,
-    mode: Mode,
-    shape: &Shape<'_>,
-    wrong: &mut Option<BodyFault>,
-) -> Result<Asked, AllocError>
+/// The batch that a shape asks.
+fn read_batch(alloc: Global, mode: Mode, shape: &Shape<'_>) -> Result<Asked, AllocError>
     requires { length shape.now.calls.items ≤ MOST_CALLS }
     ensures { IfOk result (λ asked. asked ≡ form_asked (Form.Batch mode) (shape_shown shape.now)) }
 {
@@ -77,89 +73,59 @@ fn read_batch(
             Batch {
                 programmer: shape.programmer,
                 at: shape.at,
-                calls: Calls::from_vec(calls),
+                calls,
             },
         )),
         CallsRead::Bad(number) => {
-            *wrong = bad_call(alloc, &shape.calls, number);
-            Ok(Asked::Refused(Refusal::Malformed(number)))
+            let wrong = bad_call(alloc, &shape.calls, number);
+            Ok(Asked::Refused(Refused::new(Refusal::Malformed(number), wrong)))
         }
     }
 }
 
-/// The calls of a shape, each to be asked alone, and those of its texts that aren't calls. These are unknown if memory for them is refused.
-fn read_asked_each(
-    alloc: Global,
-    shape: &Shape<'_>,
-    wrong: &mut Option<BodyFault>,
-) -> Result<Asked, AllocError>
-    ensures { IfOk result (λ asked. asked ≡ form_asked Form.Each (shape_shown shape.now)) }
-{
-    let batches = read_each(alloc, shape.programmer, &shape.calls)?;
-    *wrong = match bad_texts(alloc, &shape.calls, &batches) {
-        Ok(texts) => Some(BodyFault::Texts(texts)),
-        Err(_) => None,
-    };
-    Ok(Asked::Each(Each {
-        at: shape.at,
-        batches: Batches::from_vec(batches),
-    }))
-}
-
-/// What a shape asks, and what is wrong with it.
-fn read_asked(
-    alloc: Global,
-    form: Form,
-    shape: &Shape<'_>,
-    wrong: &mut Option<BodyFault>,
-) -> Result<Asked, AllocError>
+/// What a shape asks.
+fn read_asked(alloc: Global, form: Form, shape: &Shape<'_>) -> Result<Asked, AllocError>
     requires { length shape.now.calls.items ≤ MOST_CALLS }
     ensures { IfOk result (λ asked. asked ≡ form_asked form (shape_shown shape.now)) }
 {
     match form {
-        Form::Batch(mode) => read_batch(alloc, mode, shape, wrong),
-        Form::Each => read_asked_each(alloc, shape, wrong),
+        Form::Batch(mode) => read_batch(alloc, mode, shape),
+        Form::Each => Ok(Asked::Each(Each {
+            at: shape.at,
+            batches: read_each(alloc, shape.programmer, &shape.calls)?,
+        })),
     }
 }
 
-/// What a JSON asks, and what is wrong with it.
-fn read_asked_json(
-    alloc: Global,
-    form: Form,
-    value: &Value,
-    wrong: &mut Option<BodyFault>,
-) -> Result<Asked, AllocError>
+/// A body that has no shape is refused.
+fn refuse_shape(fault: ShapeFault) -> Asked
+    ensures { result ≡ Asked.Refused Refusal.BadRequest }
+{
+    Asked::Refused(Refused::new(Refusal::BadRequest, Some(BodyFault::Shape(fault))))
+}
+
+/// What a JSON asks.
+fn read_asked_json(alloc: Global, form: Form, value: &Value) -> Result<Asked, AllocError>
     ensures { IfOk result (λ asked.
         asked ≡ option_map_or (form_asked form) (shape_of (view value.now)) (Asked.Refused Refusal.BadRequest)) }
 {
     match shape_in(alloc, value)? {
-        ShapeRead::Whole(shape) => read_asked(alloc, form, &shape, wrong),
-        ShapeRead::Bad(fault) => {
-            *wrong = Some(BodyFault::Shape(fault));
-            Ok(Asked::Refused(Refusal::BadRequest))
-        }
+        ShapeRead::Whole(shape) => read_asked(alloc, form, &shape),
+        ShapeRead::Bad(fault) => Ok(refuse_shape(fault)),
     }
 }
 
-/// What a body asks, and what is wrong with it.
-fn read_asked_body(
-    alloc: Global,
-    form: Form,
-    body: &[u8],
-    wrong: &mut Option<BodyFault>,
-) -> Result<Asked, AllocError>
+/// What a body asks.
+fn read_asked_body(alloc: Global, form: Form, body: &[u8]) -> Result<Asked, AllocError>
     ensures { IfOk result (BodyAsks form body.now) }
 {
     match read_json(alloc, body)? {
-        Some(value) => read_asked_json(alloc, form, &value, wrong),
-        None => {
-            *wrong = Some(BodyFault::Shape(ShapeFault::NotJson));
-            Ok(Asked::Refused(Refusal::BadRequest))
-        }
+        Some(value) => read_asked_json(alloc, form, &value),
+        None => Ok(refuse_shape(ShapeFault::NotJson)),
     }
 }
 
-/// What a body of this size asks, which begins at `start` of the bytes and goes on in the reader, and what is wrong with it.
+/// What a body of this size asks, which begins at `start` of the bytes and goes on in the reader.
 fn read_body<R: Incoming>(
     alloc: Global,
     reader: &mut R,
@@ -167,7 +133,6 @@ fn read_body<R: Incoming>(
     start: usize,
     form: Form,
     size: u64,
-    wrong: &mut Option<BodyFault>,
 ) -> Result<Asked, ReadFault>
     requires inside { start ≤ length bytes.old.items }
     requires bound { start + size ≤ 1056768 }
@@ -181,20 +146,19 @@ fn read_body<R: Incoming>(
 {
     let end = start + size as usize;
     if !read_until(reader, bytes, end)? {
-        return Ok(Asked::Refused(Refusal::BadRequest));
+        return Ok(Asked::refuse(Refusal::BadRequest));
     }
-    let asked = read_asked_body(alloc, form, &bytes[start..end], wrong)?;
+    let asked = read_asked_body(alloc, form, &bytes[start..end])?;
     Ok(asked)
 }
 
-/// What comes of a plan whose head ends at `start` of the bytes, and what is wrong with the body. Nothing is read if it is decided.
+/// What comes of a plan whose head ends at `start` of the bytes. Nothing is read if it is decided.
 pub(crate) fn follow_plan<R: Incoming>(
     alloc: Global,
     reader: &mut R,
     bytes: &mut Vec<u8>,
     start: usize,
     plan: Plan,
-    wrong: &mut Option<BodyFault>,
 ) -> Result<Asked, ReadFault>
     requires inside { start ≤ length bytes.old.items }
     requires short { start ≤ MAX_HEAD }
@@ -209,6 +173,6 @@ pub(crate) fn follow_plan<R: Incoming>(
 {
     match plan {
         Plan::Decided(asked) => Ok(asked),
-        Plan::Body(form, size) => read_body(alloc, reader, bytes, start, form, size, wrong),
+        Plan::Body(form, size) => read_body(alloc, reader, bytes, start, form, size),
     }
 }

@@ -13,6 +13,8 @@ use std::marker::Model;
 #[derive(Drop)]
 pub struct Batches {
     items: Vec<Option<Batch>>,
+    /// Each text that isn't a call, at its place. There are none if memory for them was refused.
+    bad_texts: Vec<Option<String>>,
 }
 
 impl Model for Batches {
@@ -29,18 +31,16 @@ impl Model for Batches {
 }
 
 impl Batches {
-    /// These batches.
-    pub(crate) fn from_vec(items: Vec<Option<Batch>>) -> Batches
-        ensures { result ≡ items.items }
-    {
-        Batches { items }
-    }
-
     /// The batches, in the order of the texts.
     pub fn items(&self) -> &[Option<Batch>]
         ensures { result.now ≡ self.now }
     {
         self.items.as_slice()
+    }
+
+    /// Each text that isn't a call, at its place. It may be unknown.
+    pub fn bad_texts(&self) -> &[Option<String>] {
+        self.bad_texts.as_slice()
     }
 }
 
@@ -67,23 +67,8 @@ fn read_alone(alloc: Global, programmer: ObjNo, text: &str) -> Result<Option<Bat
     }))
 }
 
-/// A batch of each text.
-pub(crate) fn read_each(
-    alloc: Global,
-    programmer: ObjNo,
-    texts: &[&str],
-) -> Result<Vec<Option<Batch>>, AllocError>
-    ensures { IfOk result (λ batches. batches.items ≡ map (λ text. alone programmer text.now) texts.now) }
-{
-    let mut batches = Vec::new(alloc);
-    for text in texts {
-        batches.push(read_alone(alloc, programmer, text)?)?;
-    }
-    Ok(batches)
-}
-
 /// Each text that isn't a call. AllocError: memory for the texts is refused.
-pub(crate) fn bad_texts(
+fn bad_texts(
     alloc: Global,
     texts: &[&str],
     batches: &[Option<Batch>],
@@ -96,4 +81,23 @@ pub(crate) fn bad_texts(
         }
     }
     Ok(bad)
+}
+
+/// A batch of each text, and the texts that aren't calls. These are unknown if memory for them is refused.
+pub(crate) fn read_each(
+    alloc: Global,
+    programmer: ObjNo,
+    texts: &[&str],
+) -> Result<Batches, AllocError>
+    ensures { IfOk result (λ batches. batches ≡ map (λ text. alone programmer text.now) texts.now) }
+{
+    let mut batches = Vec::new(alloc);
+    for text in texts {
+        batches.push(read_alone(alloc, programmer, text)?)?;
+    }
+    let bad_texts = bad_texts(alloc, texts, &batches).unwrap_or(Vec::new(alloc));
+    Ok(Batches {
+        items: batches,
+        bad_texts,
+    })
 }

@@ -111,12 +111,12 @@ fn plan_body(form: Form, bytes: &[u8], lines: &[HeaderSpan]) -> Plan
     match body_length(bytes, lines) {
         Some(length) => {
             if MAX_BODY < length {
-                Plan::Decided(Asked::Refused(Refusal::TooLarge))
+                Plan::Decided(Asked::refuse(Refusal::TooLarge))
             } else {
                 Plan::Body(form, length)
             }
         }
-        None => Plan::Decided(Asked::Refused(length_refusal(bytes, lines))),
+        None => Plan::Decided(Asked::refuse(length_refusal(bytes, lines))),
     }
 }
 
@@ -127,7 +127,7 @@ fn plan_question(topic: Topic, question: Option<Question>) -> Plan
 {
     match question {
         Some(question) => Plan::Decided(Asked::Question(question)),
-        None => Plan::Decided(Asked::Refused(Refusal::NoNumber(topic))),
+        None => Plan::Decided(Asked::refuse(Refusal::NoNumber(topic))),
     }
 }
 
@@ -172,7 +172,7 @@ fn plan_allowed(
     if is_method(method, wanted) {
         plan_endpoint(endpoint, path, bytes, lines)
     } else {
-        Plan::Decided(Asked::Refused(Refusal::NotAllowed(endpoint)))
+        Plan::Decided(Asked::refuse(Refusal::NotAllowed(endpoint)))
     }
 }
 
@@ -204,11 +204,11 @@ fn plan_route(
     match endpoint {
         Some(endpoint) => {
             if is_guarded(endpoint) && !is_for_us(bytes, lines) {
-                return Plan::Decided(Asked::Refused(Refusal::Forbidden));
+                return Plan::Decided(Asked::refuse(Refusal::Forbidden));
             }
             plan_allowed(endpoint, method, path, bytes, lines)
         }
-        None => Plan::Decided(Asked::Refused(path_refusal(path))),
+        None => Plan::Decided(Asked::refuse(path_refusal(path))),
     }
 }
 
@@ -221,7 +221,7 @@ fn plan_path(routes: &Routes, method: &[u8], path: &str, bytes: &[u8], lines: &[
     ensures bound { IsBounded result }
 {
     if is_from_page(bytes, lines) {
-        return Plan::Decided(Asked::Refused(Refusal::Forbidden));
+        return Plan::Decided(Asked::refuse(Refusal::Forbidden));
     }
     plan_route(routes.find(path), method, path.as_bytes(), bytes, lines)
 }

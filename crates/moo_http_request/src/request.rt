@@ -15,7 +15,6 @@ use crate::head::{HeadRead, HeadSpans, read_head};
 use crate::incoming::Incoming;
 use crate::plan::{self, Plan, make_plan};
 use crate::routes::Routes;
-use crate::wrong::BodyFault;
 use std::alloc::Global;
 
 /// What the bytes of a connection ask.
@@ -65,13 +64,12 @@ pub(crate) fn plan_head(routes: &Routes, bytes: &[u8], head: &HeadSpans) -> Plan
 }
 
 /// Reads what a connection asks: its head, of at most 8,192 bytes and 32 lines, and its body only if the head asks for one, of the
-/// stated length, which is at most 1,048,576 bytes. Memory is taken as the bytes come, and not by the stated length. If the body is whole
-/// and refused, what is wrong with it is put into `wrong`. Read if the reader fails; OutOfMemory if memory runs out.
+/// stated length, which is at most 1,048,576 bytes. Memory is taken as the bytes come, and not by the stated length. Read if the reader
+/// fails; OutOfMemory if memory runs out.
 pub fn read_request<R: Incoming>(
     alloc: Global,
     routes: &Routes,
     reader: &mut R,
-    wrong: &mut Option<BodyFault>,
 ) -> Result<Received, ReadFault>
     ensures takes { IfOk result (Takes (R.remaining reader.old) (R.remaining reader.new)) }
     ensures breaks { OnErr result (StopsReading (R.remaining reader.old) (R.remaining reader.new)) }
@@ -84,7 +82,7 @@ pub fn read_request<R: Incoming>(
             return Ok(Received::Request {
                 is_head: false,
                 asks_why: false,
-                asked: Asked::Refused(Refusal::BadRequest),
+                asked: Asked::refuse(Refusal::BadRequest),
             });
         }
         HeadRead::Whole(head) => head,
@@ -92,7 +90,7 @@ pub fn read_request<R: Incoming>(
     let is_head = is_head(&bytes, &head);
     let asks_why = asks_why(&bytes, &head);
     let plan = plan_head(routes, &bytes, &head);
-    let asked = follow_plan(alloc, reader, &mut bytes, head.spans.len, plan, wrong)?;
+    let asked = follow_plan(alloc, reader, &mut bytes, head.spans.len, plan)?;
     Ok(Received::Request {
         is_head,
         asks_why,

@@ -46,6 +46,4 @@ pub enum BodyFault {
     Shape(ShapeFault),
     /// This text under `calls` isn't a call.
     Call(String),
-    /// Of the calls that are asked each alone these texts aren't calls, each at its place.
-    Texts(Vec<Option<String>>),
 }

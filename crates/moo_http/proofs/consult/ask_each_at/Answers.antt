@@ -1,9 +1,7 @@
-use Rattle.moo_http.{proofs.Words.{◌≡◌, ap, sym, subst, rules, true, false, ◌∙◌, Works, state_of_moment, MayAnswer}, proofs.Apart.{each_stale, each_due, each_lost}, proofs.Consulting.{at_moment}, proofs.SeenAsked.{seen_lost}}
-use Rattle.moo_store.specs.Seeing.{HasSeenEach}
-use Rattle.moo_reasons.specs.Seen.{SeesRefusal, seen_by}
+use Rattle.moo_http.{proofs.Words.{inr, refl, ◌≡◌, ap, rules, true, false, ◌∙◌, state_of_moment}, specs.Settled.{lost_by}, proofs.Apart.{each_stale, each_due}, proofs.Consulting.{at_moment}, proofs.SeenAsked.{seen_lost}}
+use Rattle.moo_reasons.specs.Seen.{seen_by}
 use Rattle.moo_world.specs.Judge.{is_due}
 use Rattle.moo_store.specs.Answered.{answers_alone}
-use Rattle.moo_http_request.specs.declared.asked.Asked.TheVariants.{Each}
 use Rattle.moo_http.proofs.consult.ask_each_at.Goals as goal
 
 pub returns-then-not-is_due-clause-comes : goal.returns-then-not-is_due-clause-comes
@@ -19,15 +17,10 @@ returns-in-Ok-clause-comes g c m at same =
 
 pub returns-in-Err-clause-comes : goal.returns-in-Err-clause-comes
 returns-in-Err-clause-comes g c m at same =
-    subst (λ o. MayAnswer (Works m) (Each c.args.each.now) o (Works m)) (sym c.outcome_of_fault.ensures) (each_lost c.args.each.now m c.in-Err.fault (c.in-Err.ensures.replies at.failed))
+    rw c.outcome_of_fault.ensures (inr (tt, ap lost_by (c.in-Err.ensures.replies at.failed), refl))
 
 pub returns-in-Ok-clause-seen : goal.returns-in-Ok-clause-seen
-returns-in-Ok-clause-seen g c =
-    let maps = c.args.world.now.rows.maps in
-    let old = seen_by c.args.whys.now in
-    let new = seen_by c.ask_each.new.witness in
-    subst (λ replies. HasSeenEach SeesRefusal maps c.args.each.now.batches replies old new) (sym c.from_vec.ensures)
-    (subst (λ batches. HasSeenEach SeesRefusal maps batches c.in-Ok.replies.items old new) c.items.ensures c.in-Ok.ensures.seen)
+returns-in-Ok-clause-seen g c = rw c.from_vec.ensures (rw c.items.ensures at c.in-Ok.ensures.seen)
 
 pub returns-in-Err-clause-seen : goal.returns-in-Err-clause-seen
 returns-in-Err-clause-seen g c = seen_lost c.args.world.now.rows.maps (seen_by c.args.whys.now) (seen_by c.ask_each.new.witness) c.args.each.now c.in-Err.fault c.outcome_of_fault.result c.outcome_of_fault.ensures

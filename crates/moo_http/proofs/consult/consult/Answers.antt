@@ -1,31 +1,19 @@
-use Rattle.moo_http.proofs.Words.{refl, inl, Refused, MayAnswer}
-use Rattle.moo_http.proofs.Going.{moves_none, still_none}
-use Rattle.moo_http_request.specs.declared.asked.Asked.TheVariants.{Each, Question}
+use Rattle.moo_http.proofs.Words.{ap, refl, inl}
+use Rattle.moo_http.proofs.Going.{moves_none}
 use Rattle.moo_http_response.specs.declared.outcome.RequestOutcome.TheVariants as outcome
 use Rattle.moo_http.proofs.consult.consult.Goals as goal
 
 pub returns-in-Refused-clause-moves : goal.returns-in-Refused-clause-moves
-returns-in-Refused-clause-moves g c =
-    rw c.in-Refused.is (moves_none g.S.Store c.args.world.now (λ from to. MayAnswer from (Refused c.in-Refused.refusal) (outcome.Refused c.in-Refused.refusal) to) (λ from at. inl (refl, refl)))
+returns-in-Refused-clause-moves g c = rw c.in-Refused.is (moves_none (λ from at. inl (ap outcome.Refused c.refusal.ensures, refl)))
 
 pub returns-in-Calls-clause-moves : goal.returns-in-Calls-clause-moves
 returns-in-Calls-clause-moves g c = rw c.in-Calls.is c.take_batch.ensures.moves
 
 pub returns-in-Each-clause-moves : goal.returns-in-Each-clause-moves
-returns-in-Each-clause-moves g c = rw c.in-Each.is (moves_none g.S.Store c.args.world.now (λ from to. MayAnswer from (Each c.in-Each.each) c.ask_each.result to) c.ask_each.ensures.comes)
+returns-in-Each-clause-moves g c = rw c.in-Each.is (moves_none c.ask_each.ensures.comes)
 
 pub returns-in-Question-clause-moves : goal.returns-in-Question-clause-moves
-returns-in-Question-clause-moves g c =
-    rw c.in-Question.is (moves_none g.S.Store c.args.world.now (λ from to. MayAnswer from (Question c.in-Question.question) c.ask_question.result to) c.ask_question.ensures)
-
-pub returns-in-Refused-clause-still : goal.returns-in-Refused-clause-still
-returns-in-Refused-clause-still g c = still_none g.S.Store c.args.world.now
-
-pub returns-in-Each-clause-still : goal.returns-in-Each-clause-still
-returns-in-Each-clause-still g c = still_none g.S.Store c.args.world.now
-
-pub returns-in-Question-clause-still : goal.returns-in-Question-clause-still
-returns-in-Question-clause-still g c = still_none g.S.Store c.args.world.now
+returns-in-Question-clause-moves g c = rw c.in-Question.is (moves_none c.ask_question.ensures)
 
 pub returns-in-Refused-clause-seen : goal.returns-in-Refused-clause-seen
 returns-in-Refused-clause-seen g c = rw c.in-Refused.is tt

@@ -1,14 +1,11 @@
-use Rattle.moo_http.{proofs.Words.{Calls, Ask, MayAnswer}, proofs.Going.{moves_none, still_none}}
+use Rattle.moo_http.proofs.Going.{moves_none}
 use Rattle.moo_http.proofs.consult.take_batch.Goals as goal
 
 pub returns-in-Run-clause-moves : goal.returns-in-Run-clause-moves
 returns-in-Run-clause-moves g c = rw c.in-Run.is c.run_batch.ensures.moves
 
 pub returns-in-Ask-clause-moves : goal.returns-in-Ask-clause-moves
-returns-in-Ask-clause-moves g c = rw c.in-Ask.is (moves_none g.S.Store c.args.world.now (λ from to. MayAnswer from (Calls Ask c.args.batch.now) c.ask_batch.result to) c.ask_batch.ensures.comes)
-
-pub returns-in-Ask-clause-still : goal.returns-in-Ask-clause-still
-returns-in-Ask-clause-still g c = still_none g.S.Store c.args.world.now
+returns-in-Ask-clause-moves g c = rw c.in-Ask.is (moves_none c.ask_batch.ensures.comes)
 
 pub returns-in-Run-clause-seen : goal.returns-in-Run-clause-seen
 returns-in-Run-clause-seen g c = rw c.in-Run.is c.run_batch.ensures.seen

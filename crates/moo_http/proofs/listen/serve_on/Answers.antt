@@ -1,4 +1,4 @@
-use Rattle.moo_http.{proofs.Words.{sym, ◌∙◌, Attended, AttendsAll}, proofs.Going.{moves_as}, proofs.Turns.{attended_all, settles_all_sum}}
+use Rattle.moo_http.{proofs.Words.{sym, ◌∙◌}, proofs.Going.{moves_as}, proofs.Turns.{attended_all, settles_all_sum}}
 use Rattle.moo_http.proofs.listen.serve_on.Goals as goal
 
 pub returns-clause-count : goal.returns-clause-count
@@ -12,12 +12,7 @@ returns-clause-serves g c =
     let rest = c.settle_rest.ensures.tells in
     let each = c.serve_each-served in
     let now = c.settle_rest.new in
-    let first = c.args.arrivals.now in
-    moves_as g.S.Store c.args.world.now each.new.world
-    (λ from to. Attended g.A.Arrivals g.A.Reader.Read g.A.Reader.Incoming.fails g.A.Writer.Write each.result.answered each.result.failed first from each.new.arrivals to)
-    (λ from to. AttendsAll g.A.Arrivals g.A.Reader.Read g.A.Reader.Incoming.fails g.A.Writer.Write now.served.answered now.served.failed first from now.arrivals to)
-    (λ from to it. (
-      attended_all g.A.Arrivals g.A.Reader.Read g.A.Reader.Incoming.fails g.A.Writer.Write rest.0 first from each.new.arrivals now.arrivals to each.result.answered each.result.failed now.served.answered now.served.failed it rest.1,
+    moves_as each.ensures.serves (λ from to it. (
+      attended_all g.A.Arrivals g.A.Reader.Read g.A.Reader.Incoming.fails g.A.Writer.Write rest.0 c.args.arrivals.now from each.new.arrivals now.arrivals to each.result.answered each.result.failed now.served.answered now.served.failed it rest.1,
       c.settle_rest.ensures.none,
     ))
-    each.ensures.serves

@@ -9,7 +9,7 @@ pub returns-then-not-branch-clause-asks : goal.returns-then-not-branch-clause-as
 returns-then-not-branch-clause-asks g c =
     let short : length c.read_until.new.bytes.items < c.args.start + c.args.size = search rules in
     let end : IsAtEnd (g.R.Read.remaining c.read_until.new.reader) = search rules in
-    body_short _ _ _ c.read_until.new.bytes.items c.args.start c.args.size c.args.form c.requires.inside c.in_ok-read_until.ensures.grows short end
+    rw c.refuse.ensures (body_short _ _ _ c.read_until.new.bytes.items c.args.start c.args.size c.args.form c.requires.inside c.in_ok-read_until.ensures.grows short end)
 
 pub returns-in_err-asked-clause-breaks : goal.returns-in_err-asked-clause-breaks
 returns-in_err-asked-clause-breaks g c =

@@ -1,4 +1,4 @@
-use Rattle.moo_http_request.{proofs.Words.{◌≡◌, ◌<◌, ◌≤◌, length, arith, rules, refl, sym, subst, IsAtEnd, Lacks}, proofs.Giving.{Grows-all, Grows-more, settled, settled_at_end, taken_first, on_err}, proofs.HeadLemmas.{fresh-first, fresh_next, close_of, lacks-long, lacks_all}}
+use Rattle.moo_http_request.{proofs.Words.{[], ◌≡◌, ◌<◌, ◌≤◌, length, arith, rules, refl, sym, subst, IsAtEnd, Lacks}, proofs.Giving.{Grows-all, Grows-more, settled, settled_at_end, taken_then, on_err}, proofs.HeadLemmas.{no_empty_head, fresh_next, close_of, lacks-long, lacks_all}}
 use Rattle.moo_http_request.proofs.head.read_head.Goals as goal
 use Rattle.moo_http_request.specs.declared.head.TheConstants.{MAX_HEAD}
 
@@ -9,13 +9,13 @@ returns-then-len-eq-MAX_HEAD-clause-head g c =
 
 pub returns-in_err-read_more-2-clause-breaks : goal.returns-in_err-read_more-2-clause-breaks
 returns-in_err-read_more-2-clause-breaks g c =
-    on_err _ _ (taken_first _ _ _ _ MAX_HEAD c.pieces.invariant.few c.pieces.invariant.taken c.in_err-read_more-2.ensures.breaks)
+    on_err _ _ (taken_then _ _ _ [] _ MAX_HEAD c.pieces.invariant.few (record { given = c.pieces.bytes.items; known = c.pieces.invariant.taken; grown = refl }) c.in_err-read_more-2.ensures.breaks)
 
 pub pieces-init : goal.pieces-init
 pieces-init g c = record {
   some = search rules;
   few = search rules;
-  fresh = fresh-first _ _ _ _ c.requires c.in_ok-read_more.ensures.grows c.in_ok-read_more.ensures.piece;
+  fresh = fresh_next _ _ _ _ c.in_ok-read_more.ensures.grows c.in_ok-read_more.ensures.piece (rw c.requires no_empty_head);
   taken = Grows-all _ _ _ _ c.requires c.in_ok-read_more.ensures.grows;
 }
 

@@ -19,7 +19,7 @@ returns-clause-takes g c =
 
 pub returns-in-Refused-clause-takes : goal.returns-in-Refused-clause-takes
 returns-in-Refused-clause-takes g c =
-    takes_refused _ _ c.read_head.new.bytes.items c.in_ok-read_head.ensures.takes c.in_ok-read_head.ensures.few (rw c.in-Refused.is at c.in_ok-read_head.ensures.head)
+    rw c.refuse.ensures (takes_refused _ _ c.read_head.new.bytes.items c.in_ok-read_head.ensures.takes c.in_ok-read_head.ensures.few (rw c.in-Refused.is at c.in_ok-read_head.ensures.head))
 
 pub returns-in-Empty-clause-takes : goal.returns-in-Empty-clause-takes
 returns-in-Empty-clause-takes g c =
