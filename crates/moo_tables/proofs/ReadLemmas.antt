@@ -1,14 +1,10 @@
 -- What the queries of the tables answer.
-use Rattle.moo_tables.{proofs.Words.{ArePairs, slot_pairs, verb_pairs, ◌≡◌, ℕ, ℤ, List, [], ◌∷◌, map, drop, option_map, true, false, Vec, Result, Ok, Err, OnOk, IsTrue, refl, sym, ap, subst, ◌∙◌, is_eq, ordering_then, IsPermutation, Global, Contains-permutation, IsPermutation-sym, Null, Error, Row, column, value_cmp, col, eval_all, Query, Output, output, output_cmp, overlay, Schema, Table, Database, understood, State, HasCleanDisk, Shown, ShowsRows, Survives, CommitsShowing, IsUnchanged, timed, IsPlain, reads_as, never_commits, survives_weaker, survives_then, IsAscending, is_int, then-Equal, output_cmp_total, IsSound, Has, all_from, has_contained, contains_had, ascending-map, ascending_from_map, ascending_weaker, all_map, Version, First, Second, Tables, schema_of, first_schema, second_schema, slot_tree, head_table, object_table, prop_table, slot_table, slot2_table, petition_table, petition_head_table, verb_table, has_pair, cells_at, names, number_places, pair_places, found_in, numbered_in, paired_in, slot_places, verb_places, petition_places, petition_head_places, select_text, AreKeyed, Holds, Rests, HasTables, ReadsTables, FailsToRead, ListsNumbers, ListsPairs, IsRowBelow, has_key_pair, has_petitions, petition_rows, if◌then◌else◌, find-map, find_alike, plain_query, in_order, number_order, pair_order, clean_before, chosen, Selects, selects, shows_in_order, shown_rows}, proofs.SelectLemmas.{IsSelect, AsksFor, asks_for, number_columns, pair_columns}, proofs.QueryCauseLemmas.{list_stops}, proofs.ReadCauseLemmas.{stops_after}, proofs.StreamLemmas.{unchanged_then, failed_then}, proofs.SortLemmas.{rises-sort_by}, proofs.ListingLemmas.{lists_numbers, no_ties}, specs.Listing.{HasTable, ListsTable, table_in}, specs.ReadCause.{StopsQuery, HasCauseIfNotShown}, specs.Reading.{Lists, OnlyReads, ShowsAll, KeepsIfNotShown}, specs.declared.cell_table.CellTable.{CellTable}, specs.declared.cell_table.CellTable.TheVariants.{Head, Object, Prop, Slot, Verb, Petition, PetitionHead}}
+use Rattle.moo_tables.{proofs.Words.{inl, ArePairs, slot_pairs, verb_pairs, ◌≡◌, ℕ, ℤ, List, [], ◌∷◌, map, drop, option_map, true, false, Result, Ok, Err, OnOk, IsTrue, refl, sym, ap, subst, ◌∙◌, is_eq, ordering_then, IsPermutation, Contains-permutation, IsPermutation-sym, Null, Error, Row, column, value_cmp, col, eval_all, Query, Output, output, output_cmp, overlay, Schema, Table, Database, understood, State, HasCleanDisk, Shown, Survives, CommitsShowing, IsUnchanged, IsPlain, reads_as, never_commits, survives_weaker, survives_then, IsAscending, is_int, then-Equal, output_cmp_total, IsSound, Has, all_from, has_contained, contains_had, ascending-map, ascending_from_map, ascending_weaker, all_map, Version, First, Second, Tables, schema_of, first_schema, second_schema, slot_tree, head_table, object_table, prop_table, slot_table, slot2_table, petition_table, petition_head_table, verb_table, has_pair, cells_at, names, number_places, pair_places, found_in, numbered_in, paired_in, slot_places, verb_places, petition_places, petition_head_places, select_text, AreKeyed, Holds, Rests, HasTables, ReadsTables, FailsToRead, ListsNumbers, ListsPairs, IsRowBelow, has_key_pair, has_petitions, petition_rows, if◌then◌else◌, find-map, find_alike, plain_query, in_order, number_order, pair_order, clean_before, chosen, Selects, selects, shows_in_order, shown_rows}, proofs.SelectLemmas.{IsSelect, AsksFor, asks_for, number_columns, pair_columns}, proofs.QueryCauseLemmas.{list_stops}, proofs.ReadCauseLemmas.{stops_after}, proofs.StreamLemmas.{unchanged_then, failed_then}, proofs.SortLemmas.{rises-sort_by}, proofs.ListingLemmas.{lists_numbers, no_ties}, specs.Listing.{HasTable, ListsTable, table_in}, specs.ReadCause.{StopsQuery, HasCauseIfNotShown}, specs.Reading.{OnlyReads, KeepsIfNotShown}, specs.declared.cell_table.CellTable.{CellTable}, specs.declared.cell_table.CellTable.TheVariants.{Head, Object, Prop, Slot, Verb, Petition, PetitionHead}}
 use Rattle.std.specs.Result.{IsErrAnd}
+use Rattle.sqlite.specs.State.{store_error}
+use Rattle.sqlite_trees.specs.declared.error.StoreError.TheVariants.{OutOfMemory}
 use Rattle.std.{proofs.Common.{Ordering, Less, Equal}, specs.Cmp.{on_total}}
 use Rattle.sqlite_keyed.{specs.Lists.{sort_by}, proofs.SortLemmas.{sorted_is-sort_by, IsPermutation-sort_by, sort_by-map}}
-
-unchanged_as : (sql : List ℕ) (params : Row) (old new : State) (rows : List Row) → IsPlain (understood old.now.schema sql) → Shown sql params old new rows → IsUnchanged old new
-unfolding Shown
-unchanged_as sql params old new rows plain h =
-    let none = (subst IsPlain h.1.is plain).0 in
-    (subst (ShowsRows old new sql h.0 (timed params h.0.formats h.1.now) rows) none h.2).3
 
 all_chosen : (params : Row) (rows : List Row) → chosen [] params rows ≡ rows
 all_chosen params [] = refl
@@ -113,6 +109,15 @@ hands_on {old = old} {new = new} (Err x) is it = record { outside = it.outside; 
 pub answers : {A B : Type 0} {version : Version} {old new : State} {x : A} {y : B} → OnlyReads version old new (Ok x) → OnlyReads version old new (Ok y)
 answers it = record { outside = it.outside; read = it.read; failed = tt; cause = λ clean has. tt }
 
+-- memory ran out for what was read
+pub ran_out : {A B : Type 0} {version : Version} {old new : State} {x : A} → OnlyReads version old new (Ok x) → OnlyReads {A = B} version old new (Err (store_error OutOfMemory))
+ran_out it = record {
+  outside = it.outside;
+  read = tt;
+  failed = record { clean = it.read.clean; kept = λ clean has. inl (it.read.same clean has); crash = it.read.crash };
+  cause = λ clean has. inl (OutOfMemory, refl, tt);
+}
+
 pub read_then : {A B : Type 0} {version : Version} {a b c : State} {x : A} {r : Result B Error} → OnlyReads version a b (Ok x) → OnlyReads version b c r → OnlyReads version a c r
 read_then {r = Ok y} p q = record { outside = λ h. q.outside (p.outside h); read = reads_then p.read q.read; failed = tt; cause = λ clean has. tt }
 read_then {c = c} {r = Err e} p q = record { outside = λ h. q.outside (p.outside h); read = tt; failed = fails_then p.read q.failed; cause = stops_after c p.read q.failed.clean q.cause }
@@ -198,10 +203,6 @@ module _ (version : Version) (which : CellTable) (has : HasTable version which) 
         let asked = shown clean (stands (was.holds.schema ∙ ap schema_of at)) in
         table_listed old new rows tables was.holds which (subst (λ v. HasTable v which) (sym at) has) (subst (λ text. Shown text [] old new rows) (is ∙ ap (λ v. select_text (table_in v which)) (sym at)) asked)
 
-    pub listed_of : (r : Result (Vec Row Global) Error) → ShowsAll sql old new r → Lists version old new r (λ rows tables. ListsTable which rows.items tables)
-    listed_of (Err e) shown clean = tt
-    listed_of (Ok rows) shown clean = lists rows.items shown clean
-
     module _ (survives : Survives old new (CommitsShowing sql [] old)) where
       quiet : (HasCleanDisk old → HasTables (schema_of version) old) → Survives old new (λ _. ⊥)
       quiet there = survives_weaker old new _ _ (λ clean db. never_commits sql [] old db (stands (there (clean_before old new _ survives clean)))) survives
@@ -210,8 +211,3 @@ module _ (version : Version) (which : CellTable) (has : HasTable version which) 
           → HasCauseIfNotShown sql old new r → OnlyReads version old new r
       only_reads (Ok x) outside unchanged kept cause = record { outside = outside; read = record { clean = clean_before old new _ survives; same = λ clean there. unchanged clean (stands there); crash = quiet }; failed = tt; cause = λ clean there. tt }
       only_reads (Err e) outside unchanged kept cause = record { outside = outside; read = tt; failed = record { clean = clean_before old new _ survives; kept = λ clean there. kept clean (stands there); crash = quiet }; cause = list_stops known survives cause }
-
--- rows that are shown leave all as it was
-pub shown_unchanged : (sql : List ℕ) (old new : State) (r : Result (Vec Row Global) Error) → ShowsAll sql old new r → HasCleanDisk new → IsPlain (understood old.now.schema sql) → OnOk r (IsUnchanged old new)
-shown_unchanged sql old new (Err e) shown clean stands = tt
-shown_unchanged sql old new (Ok rows) shown clean stands = unchanged_as sql [] old new rows.items stands (shown clean stands)

@@ -1,20 +1,13 @@
 -- What a query of the tables answers, and what is so of the tables that it was asked of.
-use Rattle.std.specs.Prelude.{◌≡◌, ◌⊎◌, false, ℕ, List, [], Vec, Result, IfOk, OnOk, OnErr}
-use Rattle.std.specs.declared.alloc.Global.{Global}
+use Rattle.std.specs.Prelude.{◌≡◌, ◌⊎◌, false, ℕ, List, Result, IfOk, OnOk, OnErr}
 use Rattle.sqlite.specs.Given.{IsPlain}
 use Rattle.sqlite.specs.Listing.{understood}
-use Rattle.sqlite.specs.Order.{Row}
-use Rattle.sqlite.specs.State.{State, HasCleanDisk, Shown, IsUnchanged, IsRolledBack}
+use Rattle.sqlite.specs.State.{State, HasCleanDisk, IsUnchanged, IsRolledBack}
 use Rattle.sqlite.specs.declared.error.Error.{Error}
 use Rattle.moo_tables_rows.specs.declared.version.Version.{Version}
 use Rattle.moo_tables_rows.specs.Inside.{Rests, ReadsTables, FailsToRead}
 use Rattle.moo_tables_rows.specs.Tables.{Tables, schema_of}
 use Rattle.moo_tables.specs.ReadCause.{HasCauseOfReading}
-
--- the rows are all that a query without parameters answers, in its order
-abbrev pub ShowsAll : List ℕ → State → State → Result (Vec Row Global) Error → Type 0
-ShowsAll sql old new r =
-    HasCleanDisk new → IsPlain (understood old.now.schema sql) → IfOk r (λ rows. Shown sql [] old new rows.items)
 
 -- if it fails nothing changed, or the transaction was rolled back
 abbrev pub KeepsIfNotShown : {A : Type 0} → List ℕ → State → State → Result A Error → Type 0

@@ -1,14 +1,14 @@
 //! The rows of the tables, each table's in the order of its keys.
 
-ghost use Rattle.std.specs.Prelude.{◌≡◌, IfOk};
+ghost use Rattle.std.specs.Prelude.{◌≡◌, ◌++◌, IfOk};
 ghost use Rattle.sqlite.specs.Held.{state};
 ghost use Rattle.moo_tables.specs.Listing.{HasTable, ListsTable, ListsNumbers, ListsTables};
 ghost use Rattle.moo_tables.specs.Reading.{Lists, OnlyReads};
 
 use crate::cell_table::CellTable;
-use crate::query::all_rows;
+use crate::feeding::{TakeRows, feed_table};
 use moo_tables_rows::Version;
-use sqlite::{Alter, Connection, Error, Row};
+use sqlite::{Alter, Connection, Error, ErrorCode, Row};
 use std::alloc::Global;
 
 /// The rows of each table, each key once, in the order of the keys.
@@ -27,6 +27,20 @@ pub struct CellLists {
     pub petition_head: Vec<Row>,
 }
 
+/// Rows that are handed on, in one list.
+#[derive(Drop)]
+struct Listed {
+    rows: Vec<Row>,
+}
+
+impl TakeRows for Listed {
+    ghost took = { λ first rows now. now.rows.items ≡ first.rows.items ++ rows };
+
+    fn take(&mut self, mut block: Vec<Row>) -> bool {
+        self.rows.append(&mut block).is_ok()
+    }
+}
+
 /// The rows of a table, in the order of their keys.
 ///
 /// As of all that reads tables, nothing is written, and after a fault the tables are as they were, unless the fault shut the connection.
@@ -41,7 +55,14 @@ pub fn cells_of<S: Alter>(
     ensures reads { OnlyReads version (state S.Store conn.old) (state S.Store conn.new) result }
     ensures listed { Lists version (state S.Store conn.old) (state S.Store conn.new) result (λ rows tables. ListsTable table rows.items tables) }
 {
-    all_rows(alloc, conn, table.query(version))
+    let mut listed = Listed {
+        rows: Vec::new(alloc),
+    };
+    let whole = feed_table(alloc, conn, version, table, &mut listed)?;
+    if !whole {
+        return Err(Error::SqliteFailure(ErrorCode::OutOfMemory));
+    }
+    Ok(listed.rows)
 }
 
 /// The rows of `head`, of `petition` and of `petition_head`. If the version has no petitions the last two have none, and aren't asked for.

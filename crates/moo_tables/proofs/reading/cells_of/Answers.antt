@@ -1,13 +1,16 @@
-use Rattle.moo_tables.{proofs.Words.{state}, proofs.ReadLemmas.{listed_of, only_reads, shown_unchanged}}
+use Rattle.moo_tables.{proofs.Words.{sym, ap, subst, ◌∙◌, ◌++◌, append-nil}, proofs.ReadLemmas.{hands_on, answers, ran_out}, specs.Listing.{ListsTable}}
 use Rattle.moo_tables.proofs.reading.cells_of.Goals as goal
 
+pub returns-in_err-whole-clause-reads : goal.returns-in_err-whole-clause-reads
+returns-in_err-whole-clause-reads g c = hands_on c.from_residual.result c.from_residual.ensures.1 c.in_err-whole.ensures.reads
+
+pub returns-then-not-whole-clause-reads : goal.returns-then-not-whole-clause-reads
+returns-then-not-whole-clause-reads g c = ran_out c.in_ok-whole.ensures.reads
+
 pub returns-clause-reads : goal.returns-clause-reads
-returns-clause-reads g c =
-    let old = state g.S.Store c.args.conn.now in
-    let new = state g.S.Store c.all_rows.new.conn in
-    let rows = c.all_rows.result in
-    let unchanged = shown_unchanged _ old new rows c.all_rows.ensures.shown in
-    only_reads c.args.version c.args.table c.requires _ c.query.ensures old new c.all_rows.ensures.survives rows c.all_rows.ensures.outside unchanged c.all_rows.ensures.kept c.all_rows.ensures.cause
+returns-clause-reads g c = answers c.in_ok-whole.ensures.reads
 
 pub returns-clause-listed : goal.returns-clause-listed
-returns-clause-listed g c = listed_of c.args.version c.args.table c.requires _ c.query.ensures _ _ c.all_rows.result c.all_rows.ensures.shown
+returns-clause-listed g c clean tables was is =
+    let it = c.in_ok-whole.ensures.taken (sym (append-nil _)) c.if-not-whole.false in
+    subst (λ rows. ListsTable c.args.table rows tables) (sym (it.1 ∙ ap (λ l. l ++ it.0) c.new.ensures.items)) (it.2 clean tables was is)
