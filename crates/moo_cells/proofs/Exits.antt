@@ -21,8 +21,3 @@ both_some P Q S None p q f = tt
 pub whatever : {T E P : Type 0} (r : Result T E) → P → IfErr r (λ _. P)
 whatever (Ok x) it = tt
 whatever (Err e) it = it
-
--- two facts at success
-pub when_both : {T E P Q S : Type 0} (r : Result T E) → OnOk r P → OnOk r Q → (P → Q → S) → OnOk r S
-when_both (Ok x) p q f = f p q
-when_both (Err e) p q f = tt

@@ -1,11 +1,11 @@
 -- A table that is put into a map row by row, whether or not its keys differ.
-use Rattle.moo_cells.{proofs.Words.{◌≡◌, List, [], ◌∷◌, ◌++◌, Bool, true, false, cond, find, Option, Some, None, refl, sym, ap, subst, ◌∙◌, AllByRecursion, eq_by_cmp, IsTotalOrder, Ordering, FinMap, empty, get, get-empty, get-insert, IsAntisymmetric, Row, has_rowid, has_key_pair, HoldsTable, TakesRow, SaysUnread, IsLess, IsPairLess, CellFault, Key, Maps, Tables, Version, ReadsObject, ReadsProp, ReadsSlot, ReadsVerb, ReadsPetition, object_number, prop_number, slot_number, verb_number, petition_number, object_key, prop_key, slot_key, verb_key, petition_key, object_total, object_exact, prop_total, prop_exact, slot_total, slot_exact, verb_total, verb_exact, petition_total, petition_exact}, proofs.RowsLemmas.{read_of}, proofs.Keys.{objects_bear, props_bear, slots_bear, verbs_bear, petitions_bear}, proofs.Table.{Bears, held_none, held_more, held_first, tied}, proofs.Apart.{in_any_order, pairwise, holds_again, alike_numbers, alike_pairs, numbered_again, paired_again}, specs.Apart.{HaveNumbers, HavePairs, is_same_number, is_same_pair}, specs.Holding.{FillsTable, HoldsEachRow, HasWholeNumber, HasWholePair, KeepsTable, TellsKey}, specs.Filled.{FillsInSomeOrder, FillsMap}, specs.Taken.{TakesTable}}
+use Rattle.moo_cells.{proofs.Words.{◌≡◌, List, [], ◌∷◌, ◌++◌, Bool, true, false, cond, Option, Some, None, refl, sym, ap, subst, ◌∙◌, AllByRecursion, eq_by_cmp, IsTotalOrder, Ordering, FinMap, empty, entries, get, get-empty, get-insert, IsAntisymmetric, ShowEach, Row, has_rowid, has_key_pair, TakesRow, SaysUnread, IsLess, IsPairLess, CellFault, Key, Maps, Tables, Version, ReadsObject, ReadsProp, ReadsSlot, ReadsVerb, ReadsPetition, object_number, prop_number, slot_number, verb_number, petition_number, object_key, prop_key, slot_key, verb_key, petition_key, object_total, object_exact, prop_total, prop_exact, slot_total, slot_exact, verb_total, verb_exact, petition_total, petition_exact}, proofs.Beside.{each_held}, proofs.RowsLemmas.{held_fills}, proofs.Keys.{objects_bear, props_bear, slots_bear, verbs_bear, petitions_bear}, proofs.Table.{Bears, held_none, held_more, held_first, tied}, proofs.Apart.{in_any_order, pairwise, holds_again, alike_numbers, alike_pairs, numbered_again, paired_again}, specs.Apart.{HaveNumbers, HavePairs, is_same_number, is_same_pair}, specs.Holding.{FillsTable, HoldsEachRow, HasWholeNumber, HasWholePair, KeepsTable, TellsKey}, specs.Filled.{FillsInSomeOrder, FillsMap}, specs.Taken.{TakesTable}}
 use Rattle.moo_cells.proofs.OneCells.{one_some}
 use Rattle.std.{specs.List.{IsDistinct}, specs.List.Sorted.{IsPermutation}}
 use Rattle.moo_rows.specs.Maps.{object_cmp, prop_cmp, slot_cmp, verb_cmp, petition_cmp}
 use Rattle.sqlite_trees.specs.Tree.{IsAscending}
 use Rattle.sqlite.specs.State.{State, HasCleanDisk}
-use Rattle.moo_tables.specs.Listing.{ArePaired}
+use Rattle.moo_tables.{specs.Listing.{ArePaired, ListsTable}, specs.declared.cell_table.CellTable.{CellTable}}
 use Rattle.moo_tables_rows.specs.Inside.{AreKeyed, Rests}
 
 all_front : (P : Row → Type 0) (xs ys : List Row) → AllByRecursion P (xs ++ ys) → AllByRecursion P xs
@@ -63,6 +63,8 @@ keeps {has = has} {number = number} {reads = reads} key_of bears {e = e} keyed a
   front = keyed.front;
   again = keyed.again;
   held_again = λ xs ys m same apart held. holds_again has number reads e alike xs ys same (keyed.apart xs apart) held;
+  shown = each_held bears total exact;
+  each = λ rows m held. (held_fills {Apart = λ rows. ⊥} held).each;
   whole = keyed.whole;
   first = λ front r rest m key rise held unread tells. (tells.0, refl, tells.2, held_first bears front {left = r ∷ rest} {rest = rest} {r = r} refl refl (rises (front ++ r ∷ rest) rise) held unread tells.0 tells.1);
   memory = λ rows. tt;
@@ -103,33 +105,20 @@ module _ {K X : Type 0} {cmp : K → K → Ordering} {reads : K → Row → X �
       kept = kept ∙ ap (λ m. with_map m (map_of new)) was.kept ∙ last before (map_of old) (map_of new);
     }
 
-    -- rows that were put in some order are those of the table
-    pub took_table : {version : Version} {old new : State} {lists : List Row → Tables → Type 0} {before after : Maps} → map_of before ≡ empty → (cells : List Row) → FillsInSomeOrder (FillsMap map_of with_map apart holds reads) before cells after
-        → (HasCleanDisk new → (tables : Tables) → Rests old tables → tables.version ≡ version → lists cells tables) → TakesTable map_of with_map apart holds reads lists version old new before after
-    took_table none cells put listed = record {
-      cells = cells;
-      listed = listed;
-      fills = fills_again cells put.0 put.1 (put.2.fills none);
-      kept = put.2.kept;
-    }
+  pub fills_shown : (rows : List Row) (m : FinMap cmp X) → ShowEach reads rows (entries m) → FillsTable apart holds reads rows m
+  fills_shown rows m show = let held = keeps.shown rows m show in record { holds = λ apart. held; each = keeps.each rows m held }
 
--- the same of rows that were filled from the table while it was read
-pub filled_in_turn : {K X : Type 0} {cmp : K → K → Ordering} {map_of : Maps → FinMap cmp X} {with_map : Maps → FinMap cmp X → Maps} {apart in_order : List Row → Type 0} {holds : Version → List Row → (K → Option X) → Type 0} {reads : Version → K → Row → X → Type 0}
-    {unread : Version → List Row → CellFault → Type 0} {whole : Row → Type 0} {tells : Row → Key → Type 0} {lists : List Row → Tables → Type 0} {old new : State} (keep : (v : Version) → KeepsTable cmp (reads v) apart in_order (holds v) (unread v) whole tells)
-    {v w : Version} {m before last after : Maps} → w ≡ v → m ≡ before → after ≡ last → map_of before ≡ empty → (cells : List Row)
+-- rows that were filled from a table while it was read, in whichever order they were put
+pub filled_in_turn : {K X : Type 0} {cmp : K → K → Ordering} {map_of : Maps → FinMap cmp X} {with_map : Maps → FinMap cmp X → Maps} {apart in_order : List Row → Type 0} {whole : Row → Type 0} {tells : Row → Key → Type 0} {table : CellTable} {old new : State} {v w : Version} {m before last after : Maps}
+    (holds : Version → List Row → (K → Option X) → Type 0) (reads : Version → K → Row → X → Type 0) (unread : Version → List Row → CellFault → Type 0) (keep : KeepsTable cmp (reads v) apart in_order (holds v) (unread v) whole tells)
+    → w ≡ v → m ≡ before → after ≡ last → map_of before ≡ empty → (cells : List Row)
     → (KeepsTable cmp (reads w) apart in_order (holds w) (unread w) whole tells → FillsInSomeOrder (FillsMap map_of with_map apart (holds w) (reads w)) m cells last)
-    → (HasCleanDisk new → (tables : Tables) → Rests old tables → tables.version ≡ v → lists cells tables) → TakesTable map_of with_map apart (holds v) (reads v) lists v old new before after
-filled_in_turn {map_of = map_of} {with_map = with_map} {apart = apart} {holds = holds} {reads = reads} keep {v} {w} {m} {before} {last} {after} version first end none cells put listed =
-    let one = subst (λ u. FillsInSomeOrder (FillsMap map_of with_map apart (holds u) (reads u)) m cells last) version (put (keep w)) in
-    let two = subst (λ m. FillsInSomeOrder (FillsMap map_of with_map apart (holds v) (reads v)) m cells last) first one in
-    took_table (keep v) map_of with_map none cells (subst (FillsInSomeOrder (FillsMap map_of with_map apart (holds v) (reads v)) before cells) (sym end) two) listed
-
--- a map that has what the rows show, and nothing else, was filled
-pub held_fills : {J K X : Type 0} {cmp : K → K → Ordering} {Apart : List Row → Type 0} {has : J → Row → Bool} {number : K → J} {reads : K → Row → X → Type 0} {cells : List Row} {m : FinMap cmp X} → HoldsTable has number reads cells m → FillsTable Apart (HoldsEachRow has number reads) reads cells m
-held_fills {has = has} {number = number} {reads = reads} {cells = cells} {m = m} held = record {
-  holds = λ apart. held;
-  each = λ k x is. read_of (reads k) (find (has (number k)) cells) (get m k) x (held.shown k) is;
-}
+    → (HasCleanDisk new → (tables : Tables) → Rests old tables → tables.version ≡ v → ListsTable table cells tables) → TakesTable map_of with_map apart (holds v) (reads v) table v old new before after
+filled_in_turn {cmp = cmp} {map_of = map_of} {with_map = with_map} {apart = apart} {in_order = in_order} {whole = whole} {tells = tells} {v = v} {m = m} {before = before} {last = last} {after = after} holds reads unread keep version first end none cells put listed =
+    let Fills : Version → Maps → Maps → Type 0 = λ u m n. FillsInSomeOrder (FillsMap map_of with_map apart (holds u) (reads u)) m cells n in
+    let one = subst (λ u. KeepsTable cmp (reads u) apart in_order (holds u) (unread u) whole tells → Fills u m last) version put keep in
+    let it = subst (Fills v before) (sym end) (subst (λ m. Fills v m last) first one) in
+    record { cells = cells; listed = listed; fills = fills_again keep cells it.0 it.1 (it.2.fills none); kept = it.2.kept }
 
 -- ---- the five tables
 

@@ -1,6 +1,7 @@
 -- The rows of all tables.
 use Rattle.moo_cells.{proofs.Words.{◌≡◌, ℕ, ℤ, Bool, List, pos, negsuc, ◌<◌, find, Option, Some, None, sym, ap, subst, ◌∙◌, arith, get, AllByRecursion, Row, has_rowid, Maps, and_from, Tables, tables_of, has_key_pair, version_number, Kind, BadHead, Key, rank, IsBelow, NoneBefore, AreWithin, HeadIs, ReadsHead, HasHead, by_rowid, ReadsCounter, HasCounter, SaysOfHead, IsRead, ReadsObject, ReadsProp, ReadsSlot, ReadsVerb, ReadsPetition, ShowsOrNone, ShowsObject, ShowsProp, ShowsSlot, ShowsVerb, ShowsPetition, ShowsRows, HoldsTable, SaysUnread, object_number, prop_number, slot_number, verb_number, petition_number, object_key, prop_key, slot_key, verb_key, petition_key, IsLess, IsPairLess, IsNewer, IsBadHead, IsBadCell, IsMet, SaysOfCells, CellFault, Damaged, NewerVersion, OutOfMemory}, proofs.Keys.{objects_bear, props_bear, slots_bear, verbs_bear, petitions_bear}, proofs.Table.{none_unread, no_other}, proofs.Ranks.{at_head, by_key, by_rank}, specs.Unread.{IsUnread, FirstUnread}}
-use Rattle.moo_cells.{proofs.HeadLemmas.{head_known, head_not_newer}, proofs.OneCells.{one_some}}
+use Rattle.moo_cells.{proofs.Words.{Ordering, FinMap, Version, HoldsHead}, specs.Apart.{HaveNumbers, HavePairs}, specs.Holding.{FillsTable, HoldsEachRow}, proofs.Apart.{numbered, paired}, proofs.HeadLemmas.{head_known, head_not_newer}, proofs.OneCells.{one_some}}
+use Rattle.moo_tables.specs.Listing.{AreListed}
 use Rattle.moo_rows.specs.declared.row.Head.{Head as HeadRow}
 use Rattle.moo_tables.specs.declared.reading.CellLists.{CellLists}
 use Rattle.moo_damage.specs.declared.kind.Key.TheVariants.{Head}
@@ -20,72 +21,135 @@ read_of reads None (Some z) x h e = absurd h
 pub not_negative : (m n : ℕ) → negsuc n ≡ pos m → ⊥
 not_negative m n e = cc
 
--- what is read so far, in the order of the tables
-pub record ReadTables (lists : CellLists) (m : Maps) : Type 0 where
-  pub cells : Row
-  pub head_is : HeadIs (by_rowid lists.head.items) cells
-  pub head_read : ReadsHead (version_number lists.version) m.head cells
-  pub counter : ReadsCounter lists.version (by_rowid lists.petition_head.items) m.head.next_petition
-  pub objects : HoldsTable has_rowid object_number (ReadsObject lists.version) lists.object.items m.objects
-  pub props : HoldsTable has_rowid prop_number (ReadsProp lists.version) lists.prop.items m.props
-  pub slots : HoldsTable has_key_pair slot_number (ReadsSlot lists.version) lists.slot.items m.slots
-  pub verbs : HoldsTable has_key_pair verb_number (ReadsVerb lists.version) lists.verb.items m.verbs
-  pub petitions : HoldsTable has_rowid petition_number (ReadsPetition lists.version) lists.petition.items m.petitions
+-- a map that has what the rows show, and nothing else, was filled
+pub held_fills : {J K X : Type 0} {cmp : K → K → Ordering} {Apart : List Row → Type 0} {has : J → Row → Bool} {number : K → J} {reads : K → Row → X → Type 0} {cells : List Row} {m : FinMap cmp X} → HoldsTable has number reads cells m → FillsTable Apart (HoldsEachRow has number reads) reads cells m
+held_fills {has = has} {number = number} {reads = reads} {cells = cells} {m = m} held = record {
+  holds = λ apart. held;
+  each = λ k x is. read_of (reads k) (find (has (number k)) cells) (get m k) x (held.shown k) is;
+}
 
-module _ (lists : CellLists) (m : Maps) (read : ReadTables lists m) where
-  pub rows_shown : ShowsRows (tables_of lists) m
-  rows_shown = record {
-    head = read.head_is.row ∙ ap Some read.head_read.0;
-    no_head = read.head_is.alone;
-    counter = read.counter.0;
-    maps = record {
-      objects = λ n. shows_of (ReadsObject lists.version n) (ShowsObject lists.version n) (λ c x h. h.0) (find (has_rowid n.0) lists.object.items) (get m.objects n) (read.objects.shown n);
-      props = λ id. shows_of (ReadsProp lists.version id) (ShowsProp lists.version id) (λ c x h. h.0) (find (has_rowid (pos id.0)) lists.prop.items) (get m.props id) (read.props.shown id);
-      no_prop = λ n. no_other (props_bear lists.version) lists.prop.items read.props.read (negsuc n) (λ k e. not_negative k.0 n e);
-      slots = λ key. shows_of (ReadsSlot lists.version key) (ShowsSlot lists.version key) (λ c x h. h.0) (find (has_key_pair (slot_number key)) lists.slot.items) (get m.slots key) (read.slots.shown key);
-      no_slot = λ x n. no_other (slots_bear lists.version) lists.slot.items read.slots.read (x, negsuc n) (λ k e. not_negative k.1.0 n (ap (λ (p : ℤ × ℤ). p.1) e));
-      verbs = λ key. shows_of (ReadsVerb lists.version key) (ShowsVerb lists.version key) (λ c x h. h.0) (find (has_key_pair (verb_number key)) lists.verb.items) (get m.verbs key) (read.verbs.shown key);
-      no_verb = λ x n. no_other (verbs_bear lists.version) lists.verb.items read.verbs.read (x, negsuc n) (λ k e. not_negative k.1.0 n (ap (λ (p : ℤ × ℤ). p.1) e));
-      petitions = λ id. shows_of (ReadsPetition lists.version id) (ShowsPetition lists.version id) (λ c x h. h.0) (find (has_rowid (pos id.0)) lists.petition.items) (get m.petitions id) (read.petitions.shown id);
-      no_petition = λ n. no_other (petitions_bear lists.version) lists.petition.items read.petitions.read (negsuc n) (λ k e. not_negative k.0 n e);
-    };
-  }
+-- the rows of the tables of a version, in whichever lists they come
+pub record Cells : Type 0 where
+  pub version : Version
+  pub head : List Row
+  pub object : List Row
+  pub prop : List Row
+  pub slot : List Row
+  pub verb : List Row
+  pub petition : List Row
+  pub petition_head : List Row
+
+abbrev pub cells_in : CellLists → Cells
+cells_in lists = record { version = lists.version; head = lists.head.items; object = lists.object.items; prop = lists.prop.items; slot = lists.slot.items; verb = lists.verb.items; petition = lists.petition.items; petition_head = lists.petition_head.items }
+
+-- the tables that have these rows and no other
+abbrev pub tables_with : Cells → Tables
+tables_with cells = record {
+  version = cells.version;
+  head = by_rowid cells.head;
+  object = by_rowid cells.object;
+  prop = by_rowid cells.prop;
+  slot = λ key. find (has_key_pair key) cells.slot;
+  verb = λ key. find (has_key_pair key) cells.verb;
+  petition = by_rowid cells.petition;
+  petition_head = by_rowid cells.petition_head;
+}
+
+-- in no table two rows have one key
+pub record AreAllApart (cells : Cells) : Type 0 where
+  pub objects : HaveNumbers cells.object
+  pub props : HaveNumbers cells.prop
+  pub slots : HavePairs cells.slot
+  pub verbs : HavePairs cells.verb
+  pub petitions : HaveNumbers cells.petition
+
+pub listed_apart : (lists : CellLists) → AreListed lists → AreAllApart (cells_in lists)
+listed_apart lists listed = record {
+  objects = numbered lists.object.items listed.object;
+  props = numbered lists.prop.items listed.prop;
+  slots = paired lists.slot.items listed.slot;
+  verbs = paired lists.verb.items listed.verb;
+  petitions = numbered lists.petition.items listed.petition;
+}
+
+abbrev pub FillsNumbers : {K X : Type 0} {cmp : K → K → Ordering} → (K → ℤ) → (K → Row → X → Type 0) → List Row → FinMap cmp X → Type 0
+FillsNumbers number reads = FillsTable HaveNumbers (HoldsEachRow has_rowid number reads) reads
+
+abbrev pub FillsPairs : {K X : Type 0} {cmp : K → K → Ordering} → (K → ℤ × ℤ) → (K → Row → X → Type 0) → List Row → FinMap cmp X → Type 0
+FillsPairs number reads = FillsTable HavePairs (HoldsEachRow has_key_pair number reads) reads
+
+-- what was read of the tables
+pub record ReadTables (cells : Cells) (m : Maps) : Type 0 where
+  pub head : HoldsHead cells.version cells.head m.head
+  pub counter : ReadsCounter cells.version (by_rowid cells.petition_head) m.head.next_petition
+  pub objects : FillsNumbers object_number (ReadsObject cells.version) cells.object m.objects
+  pub props : FillsNumbers prop_number (ReadsProp cells.version) cells.prop m.props
+  pub slots : FillsPairs slot_number (ReadsSlot cells.version) cells.slot m.slots
+  pub verbs : FillsPairs verb_number (ReadsVerb cells.version) cells.verb m.verbs
+  pub petitions : FillsNumbers petition_number (ReadsPetition cells.version) cells.petition m.petitions
+
+module _ (cells : Cells) (m : Maps) (read : ReadTables cells m) where
+  abbrev v : Version
+  v = cells.version
+
+  pub rows_shown : AreAllApart cells → ShowsRows (tables_with cells) m
+  rows_shown apart =
+      let objects = read.objects.holds apart.objects in
+      let props = read.props.holds apart.props in
+      let slots = read.slots.holds apart.slots in
+      let verbs = read.verbs.holds apart.verbs in
+      let petitions = read.petitions.holds apart.petitions in
+      record {
+        head = read.head.1.row ∙ ap Some read.head.2.0;
+        no_head = read.head.1.alone;
+        counter = read.counter.0;
+        maps = record {
+          objects = λ n. shows_of (ReadsObject v n) (ShowsObject v n) (λ c x h. h.0) (find (has_rowid n.0) cells.object) (get m.objects n) (objects.shown n);
+          props = λ id. shows_of (ReadsProp v id) (ShowsProp v id) (λ c x h. h.0) (find (has_rowid (pos id.0)) cells.prop) (get m.props id) (props.shown id);
+          no_prop = λ n. no_other (props_bear v) cells.prop props.read (negsuc n) (λ k e. not_negative k.0 n e);
+          slots = λ key. shows_of (ReadsSlot v key) (ShowsSlot v key) (λ c x h. h.0) (find (has_key_pair (slot_number key)) cells.slot) (get m.slots key) (slots.shown key);
+          no_slot = λ x n. no_other (slots_bear v) cells.slot slots.read (x, negsuc n) (λ k e. not_negative k.1.0 n (ap (λ (p : ℤ × ℤ). p.1) e));
+          verbs = λ key. shows_of (ReadsVerb v key) (ShowsVerb v key) (λ c x h. h.0) (find (has_key_pair (verb_number key)) cells.verb) (get m.verbs key) (verbs.shown key);
+          no_verb = λ x n. no_other (verbs_bear v) cells.verb verbs.read (x, negsuc n) (λ k e. not_negative k.1.0 n (ap (λ (p : ℤ × ℤ). p.1) e));
+          petitions = λ id. shows_of (ReadsPetition v id) (ShowsPetition v id) (λ c x h. h.0) (find (has_rowid (pos id.0)) cells.petition) (get m.petitions id) (petitions.shown id);
+          no_petition = λ n. no_other (petitions_bear v) cells.petition petitions.read (negsuc n) (λ k e. not_negative k.0 n e);
+        };
+      }
 
   pub rows_within : AreWithin m
   rows_within = record {
-    top = read.head_read.1.top;
-    next_prop = read.head_read.1.next_prop;
-    next_verb = read.head_read.1.next_verb;
+    top = read.head.2.1.top;
+    next_prop = read.head.2.1.next_prop;
+    next_verb = read.head.2.1.next_verb;
     next_petition = read.counter.1;
-    objects = λ x row e. (read_of (ReadsObject lists.version x) (find (has_rowid x.0) lists.object.items) (get m.objects x) row (read.objects.shown x) e).1.1.fits;
-    props = λ id p e. let h = (read_of (ReadsProp lists.version id) (find (has_rowid (pos id.0)) lists.prop.items) (get m.props id) p (read.props.shown id) e).1.1 in (h.number.0, h.name);
-    slots = λ key s e. let h = (read_of (ReadsSlot lists.version key) (find (has_key_pair (slot_number key)) lists.slot.items) (get m.slots key) s (read.slots.shown key) e).1.1 in and_from _ _ h.owner h.state;
-    verbs = λ key v e. let h = (read_of (ReadsVerb lists.version key) (find (has_key_pair (verb_number key)) lists.verb.items) (get m.verbs key) v (read.verbs.shown key) e).1.1 in (h.number.0, h.fits);
-    petitions = λ id row e. let h = (read_of (ReadsPetition lists.version id) (find (has_rowid (pos id.0)) lists.petition.items) (get m.petitions id) row (read.petitions.shown id) e).1.1 in (h.number.0, h.fits);
+    objects = λ x row e. (read.objects.each x row e).1.1.fits;
+    props = λ id p e. let h = (read.props.each id p e).1.1 in (h.number.0, h.name);
+    slots = λ key s e. let h = (read.slots.each key s e).1.1 in and_from _ _ h.owner h.state;
+    verbs = λ key v e. let h = (read.verbs.each key v e).1.1 in (h.number.0, h.fits);
+    petitions = λ id row e. let h = (read.petitions.each id row e).1.1 in (h.number.0, h.fits);
   }
 
 -- each table after another: what was read before stays
-pub read_all : (lists : CellLists) (cells : Row) (m0 m1 m2 m3 m4 m5 : Maps) → HeadIs (by_rowid lists.head.items) cells → ReadsHead (version_number lists.version) m0.head cells
-    → ReadsCounter lists.version (by_rowid lists.petition_head.items) m0.head.next_petition
+pub read_all : (cells : Cells) (m0 m1 m2 m3 m4 m5 : Maps) → HoldsHead cells.version cells.head m0.head → ReadsCounter cells.version (by_rowid cells.petition_head) m0.head.next_petition
     → m1 ≡ record m0 { objects = m1.objects } → m2 ≡ record m1 { props = m2.props } → m3 ≡ record m2 { slots = m3.slots } → m4 ≡ record m3 { verbs = m4.verbs } → m5 ≡ record m4 { petitions = m5.petitions }
-    → HoldsTable has_rowid object_number (ReadsObject lists.version) lists.object.items m1.objects → HoldsTable has_rowid prop_number (ReadsProp lists.version) lists.prop.items m2.props
-    → HoldsTable has_key_pair slot_number (ReadsSlot lists.version) lists.slot.items m3.slots → HoldsTable has_key_pair verb_number (ReadsVerb lists.version) lists.verb.items m4.verbs
-    → HoldsTable has_rowid petition_number (ReadsPetition lists.version) lists.petition.items m5.petitions → ReadTables lists m5
-read_all lists cells m0 m1 m2 m3 m4 m5 is reads counter k1 k2 k3 k4 k5 objects props slots verbs petitions =
+    → FillsNumbers object_number (ReadsObject cells.version) cells.object m1.objects
+    → FillsNumbers prop_number (ReadsProp cells.version) cells.prop m2.props
+    → FillsPairs slot_number (ReadsSlot cells.version) cells.slot m3.slots
+    → FillsPairs verb_number (ReadsVerb cells.version) cells.verb m4.verbs
+    → FillsNumbers petition_number (ReadsPetition cells.version) cells.petition m5.petitions → ReadTables cells m5
+read_all cells m0 m1 m2 m3 m4 m5 reads counter k1 k2 k3 k4 k5 objects props slots verbs petitions =
     let head : m5.head ≡ m0.head = ap (λ (m : Maps). m.head) k5 ∙ ap (λ (m : Maps). m.head) k4 ∙ ap (λ (m : Maps). m.head) k3 ∙ ap (λ (m : Maps). m.head) k2 ∙ ap (λ (m : Maps). m.head) k1 in
     let o : m5.objects ≡ m1.objects = ap (λ (m : Maps). m.objects) k5 ∙ ap (λ (m : Maps). m.objects) k4 ∙ ap (λ (m : Maps). m.objects) k3 ∙ ap (λ (m : Maps). m.objects) k2 in
     let p : m5.props ≡ m2.props = ap (λ (m : Maps). m.props) k5 ∙ ap (λ (m : Maps). m.props) k4 ∙ ap (λ (m : Maps). m.props) k3 in
     let s : m5.slots ≡ m3.slots = ap (λ (m : Maps). m.slots) k5 ∙ ap (λ (m : Maps). m.slots) k4 in
     let v : m5.verbs ≡ m4.verbs = ap (λ (m : Maps). m.verbs) k5 in
     record {
-      cells = cells;
-      head_is = is;
-      head_read = subst (λ h. ReadsHead (version_number lists.version) h cells) (sym head) reads;
-      counter = subst (λ (h : HeadRow). ReadsCounter lists.version (by_rowid lists.petition_head.items) h.next_petition) (sym head) counter;
-      objects = subst (HoldsTable has_rowid object_number (ReadsObject lists.version) lists.object.items) (sym o) objects;
-      props = subst (HoldsTable has_rowid prop_number (ReadsProp lists.version) lists.prop.items) (sym p) props;
-      slots = subst (HoldsTable has_key_pair slot_number (ReadsSlot lists.version) lists.slot.items) (sym s) slots;
-      verbs = subst (HoldsTable has_key_pair verb_number (ReadsVerb lists.version) lists.verb.items) (sym v) verbs;
+      head = subst (λ h. HoldsHead cells.version cells.head h) (sym head) reads;
+      counter = subst (λ (h : HeadRow). ReadsCounter cells.version (by_rowid cells.petition_head) h.next_petition) (sym head) counter;
+      objects = subst (FillsNumbers object_number (ReadsObject cells.version) cells.object) (sym o) objects;
+      props = subst (FillsNumbers prop_number (ReadsProp cells.version) cells.prop) (sym p) props;
+      slots = subst (FillsPairs slot_number (ReadsSlot cells.version) cells.slot) (sym s) slots;
+      verbs = subst (FillsPairs verb_number (ReadsVerb cells.version) cells.verb) (sym v) verbs;
       petitions = petitions;
     }
 

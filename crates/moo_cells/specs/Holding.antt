@@ -2,7 +2,7 @@
 use Rattle.std.specs.Prelude.{◌≡◌, ℤ, pos, ◌<ℤ◌, ◌⊎◌, Bool, true, IsTrue, Option, List, [], ◌∷◌, ◌++◌, Some, find, ⊤}
 use Rattle.std.specs.List.{AllByRecursion}
 use Rattle.std.specs.List.Sorted.{IsPermutation}
-use Rattle.std.specs.FinMap.{FinMap, empty, get, insert}
+use Rattle.std.specs.FinMap.{FinMap, empty, entries, get, insert}
 use Rattle.std.specs.declared.cmp.Ordering.{Ordering}
 use Rattle.sqlite.specs.Order.{Row, column}
 use Rattle.sqlite_trees.specs.View.{is_int}
@@ -13,6 +13,7 @@ use Rattle.moo_rows.specs.declared.row.VerbId.{VerbId}
 use Rattle.moo_damage.specs.declared.kind.Kind.TheVariants.{BadCell}
 use Rattle.moo_damage.specs.declared.kind.Key.{Key}
 use Rattle.moo_damage.specs.declared.kind.Key.TheVariants.{Object, Prop, Slot, Verb, Petition}
+use Rattle.moo_cells.specs.Each.{ShowEach}
 use Rattle.moo_cells.specs.Reading.{IsRead}
 use Rattle.moo_cells.specs.Shows.{ShowsOrNone}
 use Rattle.moo_cells.specs.Unread.{FirstUnread}
@@ -109,6 +110,8 @@ pub record KeepsTable {K X : Type 0} (cmp : K → K → Ordering) (reads : K →
   pub front : (xs ys : List Row) → apart (xs ++ ys) → apart xs
   pub again : (xs ys : List Row) → IsPermutation xs ys → apart xs → apart ys
   pub held_again : (xs ys : List Row) (m : FinMap cmp X) → IsPermutation xs ys → apart xs → holds ys (get m) → holds xs (get m)
+  pub shown : (rows : List Row) (m : FinMap cmp X) → ShowEach reads rows (entries m) → holds rows (get m)
+  pub each : (rows : List Row) (m : FinMap cmp X) → holds rows (get m) → (key : K) (row : X) → get m key ≡ Some row → (cells : Row) × reads key cells row
   pub whole : (rows : List Row) → apart rows → AllByRecursion Whole rows
   pub first : (front : List Row) (r : Row) (rest : List Row) (m : FinMap cmp X) (key : Key) → in_order (front ++ r ∷ rest) → holds front (get m)
       → ¬ (IsRead reads r) → tells r key → unread (front ++ r ∷ rest) (Damaged BadCell key)

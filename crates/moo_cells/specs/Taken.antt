@@ -9,52 +9,44 @@ use Rattle.moo_rows.specs.Maps.{Maps}
 use Rattle.moo_tables_rows.specs.declared.version.Version.{Version}
 use Rattle.moo_tables_rows.specs.Tables.{Tables}
 use Rattle.moo_tables_rows.specs.Inside.{Rests}
-use Rattle.moo_tables.specs.Listing.{ListsNumbers, ListsPairs, has_key_pair}
+use Rattle.moo_tables.specs.declared.cell_table.CellTable.{CellTable}
+use Rattle.moo_tables.specs.declared.cell_table.CellTable.TheVariants.{Object, Prop, Slot, Verb}
+use Rattle.moo_tables.specs.Listing.{ListsTable, has_key_pair}
 use Rattle.moo_cells.specs.Apart.{HaveNumbers, HavePairs}
 use Rattle.moo_cells.specs.Holding.{FillsTable, HoldsEachRow, object_number, prop_number, slot_number, verb_number}
 use Rattle.moo_cells.specs.Reading.{ReadsObject, ReadsProp, ReadsSlot, ReadsVerb}
 
 -- the rows that list a table were read, and the other maps stay
 pub record TakesTable {K X : Type 0} {cmp : K → K → Ordering} (map_of : Maps → FinMap cmp X) (with_map : Maps → FinMap cmp X → Maps)
-    (apart : List Row → Type 0) (holds : List Row → (K → Option X) → Type 0) (reads : K → Row → X → Type 0) (lists : List Row → Tables → Type 0)
+    (apart : List Row → Type 0) (holds : List Row → (K → Option X) → Type 0) (reads : K → Row → X → Type 0) (table : CellTable)
     (version : Version) (old new : State) (before after : Maps) : Type 0 where
   pub cells : List Row
-  pub listed : HasCleanDisk new → (tables : Tables) → Rests old tables → tables.version ≡ version → lists cells tables
+  pub listed : HasCleanDisk new → (tables : Tables) → Rests old tables → tables.version ≡ version → ListsTable table cells tables
   pub fills : FillsTable apart holds reads cells (map_of after)
   pub kept : after ≡ with_map before (map_of after)
 
 abbrev pub TakesObjects : Version → State → State → Maps → Maps → Type 0
 TakesObjects version = TakesTable (λ m. m.objects) (λ m rows. record m { objects = rows }) HaveNumbers (HoldsEachRow has_rowid object_number (ReadsObject version))
-    (ReadsObject version) (λ cells tables. ListsNumbers cells tables.object) version
+    (ReadsObject version) Object version
 
 abbrev pub TakesProps : Version → State → State → Maps → Maps → Type 0
 TakesProps version = TakesTable (λ m. m.props) (λ m rows. record m { props = rows }) HaveNumbers (HoldsEachRow has_rowid prop_number (ReadsProp version))
-    (ReadsProp version) (λ cells tables. ListsNumbers cells tables.prop) version
+    (ReadsProp version) Prop version
 
 abbrev pub TakesSlots : Version → State → State → Maps → Maps → Type 0
 TakesSlots version = TakesTable (λ m. m.slots) (λ m rows. record m { slots = rows }) HavePairs (HoldsEachRow has_key_pair slot_number (ReadsSlot version))
-    (ReadsSlot version) (λ cells tables. ListsPairs cells tables.slot) version
+    (ReadsSlot version) Slot version
 
 abbrev pub TakesVerbs : Version → State → State → Maps → Maps → Type 0
 TakesVerbs version = TakesTable (λ m. m.verbs) (λ m rows. record m { verbs = rows }) HavePairs (HoldsEachRow has_key_pair verb_number (ReadsVerb version))
-    (ReadsVerb version) (λ cells tables. ListsPairs cells tables.verb) version
+    (ReadsVerb version) Verb version
 
--- the rows that list the four large tables were read one table after another, and the head and the petitions stay
+-- the four large tables were read one after another, and the head and the petitions stay
 pub record TakesTables (version : Version) (old new : State) (before after : Maps) : Type 0 where
-  pub object : List Row
-  pub prop : List Row
-  pub slot : List Row
-  pub verb : List Row
   pub with_objects : Maps
   pub with_props : Maps
   pub with_slots : Maps
-  pub listed : HasCleanDisk new → (tables : Tables) → Rests old tables → tables.version ≡ version
-      → ListsNumbers object tables.object × ListsNumbers prop tables.prop × ListsPairs slot tables.slot × ListsPairs verb tables.verb
-  pub objects : FillsTable HaveNumbers (HoldsEachRow has_rowid object_number (ReadsObject version)) (ReadsObject version) object with_objects.objects
-  pub props : FillsTable HaveNumbers (HoldsEachRow has_rowid prop_number (ReadsProp version)) (ReadsProp version) prop with_props.props
-  pub slots : FillsTable HavePairs (HoldsEachRow has_key_pair slot_number (ReadsSlot version)) (ReadsSlot version) slot with_slots.slots
-  pub verbs : FillsTable HavePairs (HoldsEachRow has_key_pair verb_number (ReadsVerb version)) (ReadsVerb version) verb after.verbs
-  pub objects_kept : with_objects ≡ record before { objects = with_objects.objects }
-  pub props_kept : with_props ≡ record with_objects { props = with_props.props }
-  pub slots_kept : with_slots ≡ record with_props { slots = with_slots.slots }
-  pub verbs_kept : after ≡ record with_slots { verbs = after.verbs }
+  pub objects : TakesObjects version old new before with_objects
+  pub props : TakesProps version old new with_objects with_props
+  pub slots : TakesSlots version old new with_props with_slots
+  pub verbs : TakesVerbs version old new with_slots after

@@ -3,113 +3,48 @@
 //!
 //! What is wrong with tables isn't told here. Whoever wants to know it reads them all (`read_tables` of `moo_tables`, `read_cells`).
 
-ghost use Rattle.std.specs.Prelude.{◌≡◌, ◌<◌, ◌^◌, IfOk, IfSome, OnOk, OnErr, true, false};
+ghost use Rattle.std.specs.Prelude.{◌≡◌, ◌<◌, ◌^◌, IfOk, IfSome, true};
 ghost use Rattle.std.specs.FinMap.{empty};
 ghost use Rattle.sqlite.specs.Held.{state};
 ghost use Rattle.sqlite.specs.State.{HasCleanDisk};
 ghost use Rattle.moo_rows.specs.Maps.{Maps, no_maps};
 ghost use Rattle.moo_world.specs.Rows.{IsGood};
-ghost use Rattle.moo_tables_rows.specs.Tables.{Tables, schema_of};
-ghost use Rattle.moo_tables_rows.specs.Inside.{AreKeyed, Rests, ReadsTables, FailsToRead};
-ghost use Rattle.moo_tables.specs.ReadCause.{HasCauseOfReading};
+ghost use Rattle.moo_tables_rows.specs.Tables.{Tables};
+ghost use Rattle.moo_tables_rows.specs.Inside.{AreKeyed, Rests};
+ghost use Rattle.moo_tables.specs.Listing.{HasTable};
+ghost use Rattle.moo_tables.specs.Reading.{OnlyReads};
 ghost use Rattle.moo_damage.specs.Limits.{AreWithin};
 ghost use Rattle.moo_cells.specs.Shows.{ShowsRows};
-ghost use Rattle.moo_cells.specs.Taken.{TakesObjects, TakesProps, TakesSlots, TakesVerbs, TakesTables};
+ghost use Rattle.moo_cells.specs.Holding.{KeepsTable};
+ghost use Rattle.moo_cells.specs.Taken.{TakesTable, TakesTables};
 
 use crate::filled::Filling;
 use crate::head::read_head;
 use crate::rows::under;
-use crate::table_row::read_table;
+use crate::table_row::{ReadRow, read_table};
 use moo_damage::damage_of;
 use moo_memory::Flat;
 use moo_rows::{ObjRow, PetitionRow, PropRow, SlotRow, VerbRow};
-use moo_tables::{
-    Version, are_numbered, feed_objects, feed_props, feed_slots, feed_verbs, small_cells_of,
-};
+use moo_tables::{CellTable, Version, are_numbered, feed_table, small_cells_of};
 use sqlite::{Alter, Connection, Error, Row};
 use std::alloc::Global;
 
-/// The rows with what each row of the table `object` shows, of which they have none yet; None if some row shows nothing, or if memory ran
-/// out.
-fn take_objects<S: Alter>(
+/// The rows with what each row of a table shows, of which they have none yet; None if some row shows nothing, or if memory ran out.
+fn take_table<R: ReadRow, S: Alter>(
     alloc: Global,
     conn: &mut Connection<S>,
     version: Version,
+    table: CellTable,
     rows: Flat,
 ) -> Result<Option<Flat>, Error>
-    requires { rows.maps.objects ≡ empty }
-    ensures outside { (state S.Store conn.old).in_transaction ≡ false → (state S.Store conn.new).in_transaction ≡ false }
-    ensures read { OnOk result (ReadsTables (schema_of version) (state S.Store conn.old) (state S.Store conn.new)) }
-    ensures taken { IfOk result (λ o. IfSome o (λ after.
-        TakesObjects version (state S.Store conn.old) (state S.Store conn.new) rows.maps after.maps)) }
-    ensures failed { OnErr result (FailsToRead (schema_of version) (state S.Store conn.old) (state S.Store conn.new)) }
-    ensures cause { HasCauseOfReading (schema_of version) (state S.Store conn.old) (state S.Store conn.new) result }
+    requires { HasTable version table }
+    ensures reads { OnlyReads version (state S.Store conn.old) (state S.Store conn.new) result }
+    ensures taken { KeepsTable R.order (R.reads version) R.apart R.in_order (R.holds version) (R.unread version) R.whole R.tells →
+        R.map_of rows.maps ≡ empty → IfOk result (λ o. IfSome o (λ after. TakesTable R.map_of R.with_map R.apart (R.holds version)
+        (R.reads version) table version (state S.Store conn.old) (state S.Store conn.new) rows.maps after.maps)) }
 {
-    let mut filling = Filling::<ObjRow>::new(alloc, version, rows);
-    let whole = feed_objects(alloc, conn, version, &mut filling)?;
-    Ok(filling.into_rows(whole))
-}
-
-/// The rows with what each row of the table `prop` shows, of which they have none yet; None if some row shows nothing, or if memory ran
-/// out.
-fn take_props<S: Alter>(
-    alloc: Global,
-    conn: &mut Connection<S>,
-    version: Version,
-    rows: Flat,
-) -> Result<Option<Flat>, Error>
-    requires { rows.maps.props ≡ empty }
-    ensures outside { (state S.Store conn.old).in_transaction ≡ false → (state S.Store conn.new).in_transaction ≡ false }
-    ensures read { OnOk result (ReadsTables (schema_of version) (state S.Store conn.old) (state S.Store conn.new)) }
-    ensures taken { IfOk result (λ o. IfSome o (λ after.
-        TakesProps version (state S.Store conn.old) (state S.Store conn.new) rows.maps after.maps)) }
-    ensures failed { OnErr result (FailsToRead (schema_of version) (state S.Store conn.old) (state S.Store conn.new)) }
-    ensures cause { HasCauseOfReading (schema_of version) (state S.Store conn.old) (state S.Store conn.new) result }
-{
-    let mut filling = Filling::<PropRow>::new(alloc, version, rows);
-    let whole = feed_props(alloc, conn, version, &mut filling)?;
-    Ok(filling.into_rows(whole))
-}
-
-/// The rows with what each row of the table `slot` shows, of which they have none yet; None if some row shows nothing, or if memory ran
-/// out.
-fn take_slots<S: Alter>(
-    alloc: Global,
-    conn: &mut Connection<S>,
-    version: Version,
-    rows: Flat,
-) -> Result<Option<Flat>, Error>
-    requires { rows.maps.slots ≡ empty }
-    ensures outside { (state S.Store conn.old).in_transaction ≡ false → (state S.Store conn.new).in_transaction ≡ false }
-    ensures read { OnOk result (ReadsTables (schema_of version) (state S.Store conn.old) (state S.Store conn.new)) }
-    ensures taken { IfOk result (λ o. IfSome o (λ after.
-        TakesSlots version (state S.Store conn.old) (state S.Store conn.new) rows.maps after.maps)) }
-    ensures failed { OnErr result (FailsToRead (schema_of version) (state S.Store conn.old) (state S.Store conn.new)) }
-    ensures cause { HasCauseOfReading (schema_of version) (state S.Store conn.old) (state S.Store conn.new) result }
-{
-    let mut filling = Filling::<SlotRow>::new(alloc, version, rows);
-    let whole = feed_slots(alloc, conn, version, &mut filling)?;
-    Ok(filling.into_rows(whole))
-}
-
-/// The rows with what each row of the table `verb` shows, of which they have none yet; None if some row shows nothing, or if memory ran
-/// out.
-fn take_verbs<S: Alter>(
-    alloc: Global,
-    conn: &mut Connection<S>,
-    version: Version,
-    rows: Flat,
-) -> Result<Option<Flat>, Error>
-    requires { rows.maps.verbs ≡ empty }
-    ensures outside { (state S.Store conn.old).in_transaction ≡ false → (state S.Store conn.new).in_transaction ≡ false }
-    ensures read { OnOk result (ReadsTables (schema_of version) (state S.Store conn.old) (state S.Store conn.new)) }
-    ensures taken { IfOk result (λ o. IfSome o (λ after.
-        TakesVerbs version (state S.Store conn.old) (state S.Store conn.new) rows.maps after.maps)) }
-    ensures failed { OnErr result (FailsToRead (schema_of version) (state S.Store conn.old) (state S.Store conn.new)) }
-    ensures cause { HasCauseOfReading (schema_of version) (state S.Store conn.old) (state S.Store conn.new) result }
-{
-    let mut filling = Filling::<VerbRow>::new(alloc, version, rows);
-    let whole = feed_verbs(alloc, conn, version, &mut filling)?;
+    let mut filling = Filling::<R>::new(alloc, version, rows);
+    let whole = feed_table(alloc, conn, version, table, &mut filling)?;
     Ok(filling.into_rows(whole))
 }
 
@@ -121,26 +56,23 @@ fn take_tables<S: Alter>(
     rows: Flat,
 ) -> Result<Option<Flat>, Error>
     requires { rows.maps ≡ record no_maps { head = rows.maps.head } }
-    ensures outside { (state S.Store conn.old).in_transaction ≡ false → (state S.Store conn.new).in_transaction ≡ false }
-    ensures read { OnOk result (ReadsTables (schema_of version) (state S.Store conn.old) (state S.Store conn.new)) }
+    ensures reads { OnlyReads version (state S.Store conn.old) (state S.Store conn.new) result }
     ensures taken { IfOk result (λ o. IfSome o (λ after.
         TakesTables version (state S.Store conn.old) (state S.Store conn.new) rows.maps after.maps)) }
-    ensures failed { OnErr result (FailsToRead (schema_of version) (state S.Store conn.old) (state S.Store conn.new)) }
-    ensures cause { HasCauseOfReading (schema_of version) (state S.Store conn.old) (state S.Store conn.new) result }
 {
-    let objects = take_objects(alloc, conn, version, rows)?;
+    let objects = take_table::<ObjRow, S>(alloc, conn, version, CellTable::Object, rows)?;
     let Some(one) = objects else {
         return Ok(None);
     };
-    let props = take_props(alloc, conn, version, one)?;
+    let props = take_table::<PropRow, S>(alloc, conn, version, CellTable::Prop, one)?;
     let Some(two) = props else {
         return Ok(None);
     };
-    let slots = take_slots(alloc, conn, version, two)?;
+    let slots = take_table::<SlotRow, S>(alloc, conn, version, CellTable::Slot, two)?;
     let Some(three) = slots else {
         return Ok(None);
     };
-    let verbs = take_verbs(alloc, conn, version, three)?;
+    let verbs = take_table::<VerbRow, S>(alloc, conn, version, CellTable::Verb, three)?;
     Ok(verbs)
 }
 
@@ -159,14 +91,11 @@ fn take_rows<S: Alter>(
     conn: &mut Connection<S>,
     version: Version,
 ) -> Result<Option<Flat>, Error>
-    ensures outside { (state S.Store conn.old).in_transaction ≡ false → (state S.Store conn.new).in_transaction ≡ false }
-    ensures read { OnOk result (ReadsTables (schema_of version) (state S.Store conn.old) (state S.Store conn.new)) }
+    ensures reads { OnlyReads version (state S.Store conn.old) (state S.Store conn.new) result }
     ensures shown { HasCleanDisk (state S.Store conn.new) → IfOk result (λ o. IfSome o (λ rows. (tables : Tables) →
         Rests (state S.Store conn.old) tables → tables.version ≡ version → ShowsRows tables rows.maps)) }
     ensures within { IfOk result (λ o. IfSome o (λ rows. AreWithin rows.maps)) }
     ensures limit { IfOk result (λ o. IfSome o (λ rows. rows.maps.head.seq < 2 ^ 63)) }
-    ensures failed { OnErr result (FailsToRead (schema_of version) (state S.Store conn.old) (state S.Store conn.new)) }
-    ensures cause { HasCauseOfReading (schema_of version) (state S.Store conn.old) (state S.Store conn.new) result }
 {
     let (head, petition, petition_head) = small_cells_of(alloc, conn, version)?;
     if !are_each_numbered(&head, &petition, &petition_head) {
@@ -193,8 +122,7 @@ pub fn read_in_turn<S: Alter>(
     conn: &mut Connection<S>,
     version: Version,
 ) -> Result<Option<Flat>, Error>
-    ensures outside { (state S.Store conn.old).in_transaction ≡ false → (state S.Store conn.new).in_transaction ≡ false }
-    ensures read { OnOk result (ReadsTables (schema_of version) (state S.Store conn.old) (state S.Store conn.new)) }
+    ensures reads { OnlyReads version (state S.Store conn.old) (state S.Store conn.new) result }
     ensures shown { HasCleanDisk (state S.Store conn.new) → IfOk result (λ o. IfSome o (λ rows. (tables : Tables) →
         Rests (state S.Store conn.old) tables → tables.version ≡ version → ShowsRows tables rows.maps)) }
     // What is read is good whatever the tables hold.
@@ -203,8 +131,6 @@ pub fn read_in_turn<S: Alter>(
     // Good rows that the tables show are the ones that are read.
     ensures one { HasCleanDisk (state S.Store conn.new) → IfOk result (λ o. IfSome o (λ rows. (tables : Tables) (m : Maps) →
         Rests (state S.Store conn.old) tables → tables.version ≡ version → ShowsRows tables m → IsGood m → rows.maps ≡ m)) }
-    ensures failed { OnErr result (FailsToRead (schema_of version) (state S.Store conn.old) (state S.Store conn.new)) }
-    ensures cause { HasCauseOfReading (schema_of version) (state S.Store conn.old) (state S.Store conn.new) result }
 {
     let taken = take_rows(alloc, conn, version)?;
     let Some(rows) = taken else {

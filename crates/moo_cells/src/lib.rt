@@ -24,7 +24,6 @@ mod showing_in_turn;
 mod slot;
 mod spent;
 mod table_row;
-mod tables;
 mod verb;
 
 pub use cells::read_cells;

@@ -1,14 +1,19 @@
-//! Rows of the table of objects.
+//! The table of objects.
 
-ghost use Rattle.std.specs.Prelude.{◌≡◌, IfOk, IfErr};
+ghost use Rattle.std.specs.Prelude.{IfOk, IfErr};
 ghost use Rattle.moo_rows.specs.declared.row.ObjRow.{ObjRow};
 ghost use Rattle.moo_cells.specs.Object.{HasFlags};
-ghost use Rattle.moo_cells.specs.Reading.{ReadsObject, IsRead};
-ghost use Rattle.moo_cells.specs.declared.fault.RowFault.TheVariants.{Unreadable};
+ghost use Rattle.moo_cells.specs.Reading.{ReadsObject};
+ghost use Rattle.sqlite.specs.Tree.{has_rowid};
+ghost use Rattle.moo_tables_rows.specs.Inside.{AreKeyed};
+ghost use Rattle.moo_cells.specs.Apart.{HaveNumbers};
+ghost use Rattle.moo_cells.specs.Holding.{object_number, object_key, IsLess, HasWholeNumber, HoldsEachRow, SaysUnread, TellsKey};
 
-use crate::cell::{flag_at, object_at, string_at};
+use crate::cell::{flag_at, int_in, object_at, string_at};
 use crate::fault::RowFault;
 use crate::literal::accept_at;
+use crate::table_row::ReadRow;
+use moo_damage::Key;
 use moo_rows::ObjRow;
 use moo_tables::Version;
 use moo_value::{MooStr, ObjNo};
@@ -41,34 +46,44 @@ fn flags_of(alloc: Global, cells: &Row) -> Result<ObjRow, RowFault>
     })
 }
 
-/// The object that these cells show.
-///
-/// Errors: `Unreadable` if they show no row within its limits, and `OutOfMemory`.
-pub(crate) fn read_object(
-    alloc: Global,
-    version: Version,
-    cells: &Row,
-) -> Result<(ObjNo, ObjRow), RowFault>
-    ensures ok { IfOk result (λ r. ReadsObject version r.0 cells.now r.1) }
-    ensures err { IfErr result (λ fault. fault ≡ Unreadable → ¬ (IsRead (ReadsObject version) cells.now)) }
-{
-    if cells.column_count() != COLUMNS {
-        return Err(RowFault::Unreadable);
+impl ReadRow for ObjRow {
+    ghost reads = { ReadsObject };
+
+    ghost apart = { HaveNumbers };
+
+    ghost in_order = { AreKeyed };
+
+    ghost holds = { λ version. HoldsEachRow has_rowid object_number (ReadsObject version) };
+
+    ghost unread = { λ version. SaysUnread has_rowid (ReadsObject version) IsLess object_key };
+
+    ghost whole = { HasWholeNumber };
+
+    ghost tells = { TellsKey has_rowid object_key };
+
+    fn read(alloc: Global, version: Version, cells: &Row) -> Result<(ObjNo, ObjRow), RowFault> {
+        if cells.column_count() != COLUMNS {
+            return Err(RowFault::Unreadable);
+        }
+        let number = object_at(cells, 0)?;
+        let owner = object_at(cells, 2)?;
+        let parent = object_at(cells, 3)?;
+        let location = object_at(cells, 4)?;
+        let flags = flags_of(alloc, cells)?;
+        let name = string_at(alloc, cells, 1)?;
+        let accept = accept_at(alloc, cells, COLUMNS - 1)?;
+        let row = ObjRow {
+            name,
+            owner,
+            parent,
+            location,
+            accept,
+            ..flags
+        };
+        Ok((number, row))
     }
-    let number = object_at(cells, 0)?;
-    let owner = object_at(cells, 2)?;
-    let parent = object_at(cells, 3)?;
-    let location = object_at(cells, 4)?;
-    let flags = flags_of(alloc, cells)?;
-    let name = string_at(alloc, cells, 1)?;
-    let accept = accept_at(alloc, cells, COLUMNS - 1)?;
-    let row = ObjRow {
-        name,
-        owner,
-        parent,
-        location,
-        accept,
-        ..flags
-    };
-    Ok((number, row))
+
+    fn key_of(cells: &Row) -> Key {
+        Key::Object(int_in(cells, 0))
+    }
 }

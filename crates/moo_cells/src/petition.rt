@@ -1,12 +1,16 @@
-//! Rows of the table of petitions.
+//! The table of petitions.
 
-ghost use Rattle.std.specs.Prelude.{◌≡◌, IfOk, IfErr};
-ghost use Rattle.moo_cells.specs.Reading.{ReadsPetition, IsRead};
-ghost use Rattle.moo_cells.specs.declared.fault.RowFault.TheVariants.{Unreadable};
+ghost use Rattle.moo_cells.specs.Reading.{ReadsPetition};
+ghost use Rattle.sqlite.specs.Tree.{has_rowid};
+ghost use Rattle.moo_tables_rows.specs.Inside.{AreKeyed};
+ghost use Rattle.moo_cells.specs.Apart.{HaveNumbers};
+ghost use Rattle.moo_cells.specs.Holding.{petition_number, petition_key, IsLess, HasWholeNumber, HoldsEachRow, SaysUnread, TellsKey};
 
-use crate::cell::{id_at, object_at};
+use crate::cell::{id_at, int_in, object_at};
 use crate::fault::RowFault;
 use crate::literal::calls_at;
+use crate::table_row::ReadRow;
+use moo_damage::Key;
 use moo_rows::{PetitionId, PetitionRow};
 use moo_tables::Version;
 use sqlite::Row;
@@ -15,22 +19,36 @@ use std::alloc::Global;
 /// How many columns the table of petitions has.
 const COLUMNS: usize = 3;
 
-/// The petition that these cells show.
-///
-/// Errors: `Unreadable` if they show no row within its limits, and `OutOfMemory`.
-pub(crate) fn read_petition(
-    alloc: Global,
-    version: Version,
-    cells: &Row,
-) -> Result<(PetitionId, PetitionRow), RowFault>
-    ensures ok { IfOk result (λ r. ReadsPetition version r.0 cells.now r.1) }
-    ensures err { IfErr result (λ fault. fault ≡ Unreadable → ¬ (IsRead (ReadsPetition version) cells.now)) }
-{
-    if cells.column_count() != COLUMNS {
-        return Err(RowFault::Unreadable);
+impl ReadRow for PetitionRow {
+    ghost reads = { ReadsPetition };
+
+    ghost apart = { HaveNumbers };
+
+    ghost in_order = { AreKeyed };
+
+    ghost holds = { λ version. HoldsEachRow has_rowid petition_number (ReadsPetition version) };
+
+    ghost unread = { λ version. SaysUnread has_rowid (ReadsPetition version) IsLess petition_key };
+
+    ghost whole = { HasWholeNumber };
+
+    ghost tells = { TellsKey has_rowid petition_key };
+
+    fn read(
+        alloc: Global,
+        version: Version,
+        cells: &Row,
+    ) -> Result<(PetitionId, PetitionRow), RowFault> {
+        if cells.column_count() != COLUMNS {
+            return Err(RowFault::Unreadable);
+        }
+        let id = id_at(cells, 0)?;
+        let who = object_at(cells, 1)?;
+        let calls = calls_at(alloc, cells, 2)?;
+        Ok((PetitionId(id), PetitionRow { who, calls }))
     }
-    let id = id_at(cells, 0)?;
-    let who = object_at(cells, 1)?;
-    let calls = calls_at(alloc, cells, 2)?;
-    Ok((PetitionId(id), PetitionRow { who, calls }))
+
+    fn key_of(cells: &Row) -> Key {
+        Key::Petition(int_in(cells, 0))
+    }
 }

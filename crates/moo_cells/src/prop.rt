@@ -1,12 +1,17 @@
-//! Rows of the table of properties.
+//! The table of properties.
 
-ghost use Rattle.std.specs.Prelude.{◌≡◌, IfOk, IfErr};
+ghost use Rattle.std.specs.Prelude.{◌≡◌};
 ghost use Rattle.moo_world.specs.World.{is_property_name};
-ghost use Rattle.moo_cells.specs.Reading.{ReadsProp, IsRead};
-ghost use Rattle.moo_cells.specs.declared.fault.RowFault.TheVariants.{Unreadable};
+ghost use Rattle.moo_cells.specs.Reading.{ReadsProp};
+ghost use Rattle.sqlite.specs.Tree.{has_rowid};
+ghost use Rattle.moo_tables_rows.specs.Inside.{AreKeyed};
+ghost use Rattle.moo_cells.specs.Apart.{HaveNumbers};
+ghost use Rattle.moo_cells.specs.Holding.{prop_number, prop_key, IsLess, HasWholeNumber, HoldsEachRow, SaysUnread, TellsKey};
 
-use crate::cell::{id_at, object_at, string_at};
+use crate::cell::{id_at, int_in, object_at, string_at};
 use crate::fault::RowFault;
+use crate::table_row::ReadRow;
+use moo_damage::Key;
 use moo_rows::{PropId, PropRow};
 use moo_tables::Version;
 use moo_value::MooStr;
@@ -25,25 +30,35 @@ fn is_property_name(name: &MooStr) -> bool
     0 < length && length <= MAX_NAME && BuiltIn::of_name(name).is_none()
 }
 
-/// The property that these cells show.
-///
-/// Errors: `Unreadable` if they show no row within its limits, and `OutOfMemory`.
-pub(crate) fn read_prop(
-    alloc: Global,
-    version: Version,
-    cells: &Row,
-) -> Result<(PropId, PropRow), RowFault>
-    ensures ok { IfOk result (λ r. ReadsProp version r.0 cells.now r.1) }
-    ensures err { IfErr result (λ fault. fault ≡ Unreadable → ¬ (IsRead (ReadsProp version) cells.now)) }
-{
-    if cells.column_count() != COLUMNS {
-        return Err(RowFault::Unreadable);
+impl ReadRow for PropRow {
+    ghost reads = { ReadsProp };
+
+    ghost apart = { HaveNumbers };
+
+    ghost in_order = { AreKeyed };
+
+    ghost holds = { λ version. HoldsEachRow has_rowid prop_number (ReadsProp version) };
+
+    ghost unread = { λ version. SaysUnread has_rowid (ReadsProp version) IsLess prop_key };
+
+    ghost whole = { HasWholeNumber };
+
+    ghost tells = { TellsKey has_rowid prop_key };
+
+    fn read(alloc: Global, version: Version, cells: &Row) -> Result<(PropId, PropRow), RowFault> {
+        if cells.column_count() != COLUMNS {
+            return Err(RowFault::Unreadable);
+        }
+        let id = id_at(cells, 0)?;
+        let definer = object_at(cells, 1)?;
+        let name = string_at(alloc, cells, 2)?;
+        if !is_property_name(&name) {
+            return Err(RowFault::Unreadable);
+        }
+        Ok((PropId(id), PropRow { definer, name }))
     }
-    let id = id_at(cells, 0)?;
-    let definer = object_at(cells, 1)?;
-    let name = string_at(alloc, cells, 2)?;
-    if !is_property_name(&name) {
-        return Err(RowFault::Unreadable);
+
+    fn key_of(cells: &Row) -> Key {
+        Key::Prop(int_in(cells, 0))
     }
-    Ok((PropId(id), PropRow { definer, name }))
 }

@@ -3,16 +3,18 @@
 //!
 //! Where they differ isn't told here. Whoever wants to know it reads them all (`read_tables` of `moo_tables`, `compare_cells`).
 
-ghost use Rattle.std.specs.Prelude.{◌≡◌, None, IfOk, OnOk, OnErr, true, false};
+ghost use Rattle.std.specs.Prelude.{◌≡◌, IfOk, true};
 ghost use Rattle.std.specs.FinMap.{entries};
 ghost use Rattle.sqlite.specs.Held.{state};
 ghost use Rattle.sqlite.specs.State.{HasCleanDisk};
-ghost use Rattle.moo_tables_rows.specs.Tables.{Tables, schema_of};
-ghost use Rattle.moo_tables_rows.specs.Inside.{Rests, ReadsTables, FailsToRead};
-ghost use Rattle.moo_tables.specs.ReadCause.{HasCauseOfReading};
+ghost use Rattle.moo_tables_rows.specs.Tables.{Tables};
+ghost use Rattle.moo_tables_rows.specs.Inside.{Rests};
+ghost use Rattle.moo_tables.specs.Listing.{HasTable};
+ghost use Rattle.moo_tables.specs.Reading.{OnlyReads};
 ghost use Rattle.moo_cells.specs.Each.{ShowEach};
+ghost use Rattle.moo_cells.specs.Holding.{KeepsTable};
 ghost use Rattle.moo_cells.specs.Shows.{ShowsRows};
-ghost use Rattle.moo_cells.specs.Taken.{TakesObjects, TakesProps, TakesSlots, TakesVerbs, TakesTables};
+ghost use Rattle.moo_cells.specs.Taken.{TakesTable, TakesTables};
 
 use crate::comparing::shows_head;
 use crate::in_turn::are_each_numbered;
@@ -20,9 +22,7 @@ use crate::showing::show_each;
 use crate::table_row::ReadRow;
 use moo_memory::Flat;
 use moo_rows::{ObjRow, PetitionRow, PropRow, Rows, SlotRow, VerbRow};
-use moo_tables::{
-    Version, object_cells_of, prop_cells_of, slot_cells_of, small_cells_of, verb_cells_of,
-};
+use moo_tables::{CellTable, Version, cells_of, small_cells_of};
 use sqlite::{Alter, Connection, Error, Row};
 use std::alloc::Global;
 
@@ -36,76 +36,22 @@ fn are_shown<R: ReadRow>(alloc: Global, version: Version, cells: &[Row], rows: &
     }
 }
 
-/// The same of the table `object` of a connection.
-fn show_objects<S: Alter>(
+/// The same of a table of a connection.
+fn show_table<R: ReadRow, S: Alter>(
     alloc: Global,
     conn: &mut Connection<S>,
     version: Version,
+    table: CellTable,
     rows: &Flat,
 ) -> Result<bool, Error>
-    ensures outside { (state S.Store conn.old).in_transaction ≡ false → (state S.Store conn.new).in_transaction ≡ false }
-    ensures read { OnOk result (ReadsTables (schema_of version) (state S.Store conn.old) (state S.Store conn.new)) }
-    ensures shown { IfOk result (λ show. show ≡ true →
-        TakesObjects version (state S.Store conn.old) (state S.Store conn.new) rows.now.maps rows.now.maps) }
-    ensures failed { OnErr result (FailsToRead (schema_of version) (state S.Store conn.old) (state S.Store conn.new)) }
-    ensures cause { HasCauseOfReading (schema_of version) (state S.Store conn.old) (state S.Store conn.new) result }
+    requires { HasTable version table }
+    ensures reads { OnlyReads version (state S.Store conn.old) (state S.Store conn.new) result }
+    ensures shown { KeepsTable R.order (R.reads version) R.apart R.in_order (R.holds version) (R.unread version) R.whole R.tells →
+        IfOk result (λ show. show ≡ true → TakesTable R.map_of R.with_map R.apart (R.holds version) (R.reads version)
+        table version (state S.Store conn.old) (state S.Store conn.new) rows.now.maps rows.now.maps) }
 {
-    let cells = object_cells_of(alloc, conn, version)?;
-    Ok(are_shown::<ObjRow>(alloc, version, &cells, rows))
-}
-
-/// The same of the table `prop` of a connection.
-fn show_props<S: Alter>(
-    alloc: Global,
-    conn: &mut Connection<S>,
-    version: Version,
-    rows: &Flat,
-) -> Result<bool, Error>
-    ensures outside { (state S.Store conn.old).in_transaction ≡ false → (state S.Store conn.new).in_transaction ≡ false }
-    ensures read { OnOk result (ReadsTables (schema_of version) (state S.Store conn.old) (state S.Store conn.new)) }
-    ensures shown { IfOk result (λ show. show ≡ true →
-        TakesProps version (state S.Store conn.old) (state S.Store conn.new) rows.now.maps rows.now.maps) }
-    ensures failed { OnErr result (FailsToRead (schema_of version) (state S.Store conn.old) (state S.Store conn.new)) }
-    ensures cause { HasCauseOfReading (schema_of version) (state S.Store conn.old) (state S.Store conn.new) result }
-{
-    let cells = prop_cells_of(alloc, conn, version)?;
-    Ok(are_shown::<PropRow>(alloc, version, &cells, rows))
-}
-
-/// The same of the table `slot` of a connection.
-fn show_slots<S: Alter>(
-    alloc: Global,
-    conn: &mut Connection<S>,
-    version: Version,
-    rows: &Flat,
-) -> Result<bool, Error>
-    ensures outside { (state S.Store conn.old).in_transaction ≡ false → (state S.Store conn.new).in_transaction ≡ false }
-    ensures read { OnOk result (ReadsTables (schema_of version) (state S.Store conn.old) (state S.Store conn.new)) }
-    ensures shown { IfOk result (λ show. show ≡ true →
-        TakesSlots version (state S.Store conn.old) (state S.Store conn.new) rows.now.maps rows.now.maps) }
-    ensures failed { OnErr result (FailsToRead (schema_of version) (state S.Store conn.old) (state S.Store conn.new)) }
-    ensures cause { HasCauseOfReading (schema_of version) (state S.Store conn.old) (state S.Store conn.new) result }
-{
-    let cells = slot_cells_of(alloc, conn, version)?;
-    Ok(are_shown::<SlotRow>(alloc, version, &cells, rows))
-}
-
-/// The same of the table `verb` of a connection.
-fn show_verbs<S: Alter>(
-    alloc: Global,
-    conn: &mut Connection<S>,
-    version: Version,
-    rows: &Flat,
-) -> Result<bool, Error>
-    ensures outside { (state S.Store conn.old).in_transaction ≡ false → (state S.Store conn.new).in_transaction ≡ false }
-    ensures read { OnOk result (ReadsTables (schema_of version) (state S.Store conn.old) (state S.Store conn.new)) }
-    ensures shown { IfOk result (λ show. show ≡ true →
-        TakesVerbs version (state S.Store conn.old) (state S.Store conn.new) rows.now.maps rows.now.maps) }
-    ensures failed { OnErr result (FailsToRead (schema_of version) (state S.Store conn.old) (state S.Store conn.new)) }
-    ensures cause { HasCauseOfReading (schema_of version) (state S.Store conn.old) (state S.Store conn.new) result }
-{
-    let cells = verb_cells_of(alloc, conn, version)?;
-    Ok(are_shown::<VerbRow>(alloc, version, &cells, rows))
+    let cells = cells_of(alloc, conn, version, table)?;
+    Ok(are_shown::<R>(alloc, version, &cells, rows))
 }
 
 /// The same of the four large tables.
@@ -115,26 +61,23 @@ fn show_tables<S: Alter>(
     version: Version,
     rows: &Flat,
 ) -> Result<bool, Error>
-    ensures outside { (state S.Store conn.old).in_transaction ≡ false → (state S.Store conn.new).in_transaction ≡ false }
-    ensures read { OnOk result (ReadsTables (schema_of version) (state S.Store conn.old) (state S.Store conn.new)) }
+    ensures reads { OnlyReads version (state S.Store conn.old) (state S.Store conn.new) result }
     ensures shown { IfOk result (λ show. show ≡ true →
         TakesTables version (state S.Store conn.old) (state S.Store conn.new) rows.now.maps rows.now.maps) }
-    ensures failed { OnErr result (FailsToRead (schema_of version) (state S.Store conn.old) (state S.Store conn.new)) }
-    ensures cause { HasCauseOfReading (schema_of version) (state S.Store conn.old) (state S.Store conn.new) result }
 {
-    let objects = show_objects(alloc, conn, version, rows)?;
+    let objects = show_table::<ObjRow, S>(alloc, conn, version, CellTable::Object, rows)?;
     if !objects {
         return Ok(false);
     }
-    let props = show_props(alloc, conn, version, rows)?;
+    let props = show_table::<PropRow, S>(alloc, conn, version, CellTable::Prop, rows)?;
     if !props {
         return Ok(false);
     }
-    let slots = show_slots(alloc, conn, version, rows)?;
+    let slots = show_table::<SlotRow, S>(alloc, conn, version, CellTable::Slot, rows)?;
     if !slots {
         return Ok(false);
     }
-    let verbs = show_verbs(alloc, conn, version, rows)?;
+    let verbs = show_table::<VerbRow, S>(alloc, conn, version, CellTable::Verb, rows)?;
     Ok(verbs)
 }
 
@@ -147,12 +90,9 @@ pub fn show_in_turn<S: Alter>(
     version: Version,
     rows: &Flat,
 ) -> Result<bool, Error>
-    ensures outside { (state S.Store conn.old).in_transaction ≡ false → (state S.Store conn.new).in_transaction ≡ false }
-    ensures read { OnOk result (ReadsTables (schema_of version) (state S.Store conn.old) (state S.Store conn.new)) }
+    ensures reads { OnlyReads version (state S.Store conn.old) (state S.Store conn.new) result }
     ensures shown { HasCleanDisk (state S.Store conn.new) → IfOk result (λ show. show ≡ true → (tables : Tables) →
         Rests (state S.Store conn.old) tables → tables.version ≡ version → ShowsRows tables rows.now.maps) }
-    ensures failed { OnErr result (FailsToRead (schema_of version) (state S.Store conn.old) (state S.Store conn.new)) }
-    ensures cause { HasCauseOfReading (schema_of version) (state S.Store conn.old) (state S.Store conn.new) result }
 {
     let (head, petition, petition_head) = small_cells_of(alloc, conn, version)?;
     if !are_each_numbered(&head, &petition, &petition_head) {

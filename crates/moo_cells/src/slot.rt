@@ -1,12 +1,15 @@
-//! Rows of the table of slots.
+//! The table of slots.
 
-ghost use Rattle.std.specs.Prelude.{◌≡◌, IfOk, IfErr};
-ghost use Rattle.moo_cells.specs.Reading.{ReadsSlot, IsRead};
-ghost use Rattle.moo_cells.specs.declared.fault.RowFault.TheVariants.{Unreadable};
+ghost use Rattle.moo_cells.specs.Reading.{ReadsSlot};
+ghost use Rattle.moo_tables.specs.Listing.{has_key_pair, ArePaired};
+ghost use Rattle.moo_cells.specs.Apart.{HavePairs};
+ghost use Rattle.moo_cells.specs.Holding.{slot_number, slot_key, IsPairLess, HasWholePair, HoldsEachRow, SaysUnread, TellsKey};
 
-use crate::cell::{bits_at, id_at, object_at};
+use crate::cell::{bits_at, id_at, int_in, object_at};
 use crate::fault::RowFault;
 use crate::literal::state_at;
+use crate::table_row::ReadRow;
+use moo_damage::Key;
 use moo_rows::{PropId, SlotRow};
 use moo_tables::Version;
 use moo_value::ObjNo;
@@ -16,24 +19,39 @@ use std::alloc::Global;
 /// How many columns the table of slots has.
 const COLUMNS: usize = 5;
 
-/// The slot that these cells of a table of slots show. Its rights are letters or a number from 0 to 7, as the version has them.
-///
-/// Errors: `Unreadable` if they show no row within its limits, and `OutOfMemory`.
-pub(crate) fn read_slot(
-    alloc: Global,
-    version: Version,
-    cells: &Row,
-) -> Result<((ObjNo, PropId), SlotRow), RowFault>
-    ensures ok { IfOk result (λ r. ReadsSlot version r.0 cells.now r.1) }
-    ensures err { IfErr result (λ fault. fault ≡ Unreadable → ¬ (IsRead (ReadsSlot version) cells.now)) }
-{
-    if cells.column_count() != COLUMNS {
-        return Err(RowFault::Unreadable);
+impl ReadRow for SlotRow {
+    ghost reads = { ReadsSlot };
+
+    ghost apart = { HavePairs };
+
+    ghost in_order = { ArePaired };
+
+    ghost holds = { λ version. HoldsEachRow has_key_pair slot_number (ReadsSlot version) };
+
+    ghost unread = { λ version. SaysUnread has_key_pair (ReadsSlot version) IsPairLess slot_key };
+
+    ghost whole = { HasWholePair };
+
+    ghost tells = { TellsKey has_key_pair slot_key };
+
+    // The rights are letters or a number from 0 to 7, as the version has them.
+    fn read(
+        alloc: Global,
+        version: Version,
+        cells: &Row,
+    ) -> Result<((ObjNo, PropId), SlotRow), RowFault> {
+        if cells.column_count() != COLUMNS {
+            return Err(RowFault::Unreadable);
+        }
+        let object = object_at(cells, 0)?;
+        let prop = id_at(cells, 1)?;
+        let owner = object_at(cells, 2)?;
+        let bits = bits_at(version, cells, 3)?;
+        let state = state_at(alloc, cells, 4)?;
+        Ok(((object, PropId(prop)), SlotRow { owner, bits, state }))
     }
-    let object = object_at(cells, 0)?;
-    let prop = id_at(cells, 1)?;
-    let owner = object_at(cells, 2)?;
-    let bits = bits_at(version, cells, 3)?;
-    let state = state_at(alloc, cells, 4)?;
-    Ok(((object, PropId(prop)), SlotRow { owner, bits, state }))
+
+    fn key_of(cells: &Row) -> Key {
+        Key::Slot(int_in(cells, 0), int_in(cells, 1))
+    }
 }

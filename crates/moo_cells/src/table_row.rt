@@ -43,6 +43,8 @@ pub(crate) trait ReadRow: KeyedRow {
     ghost tells: { Cells → Key → Type 0 };
 
     /// The row that these cells show, and its key.
+    ///
+    /// Errors: `Unreadable` if they show no row within its limits, and `OutOfMemory`.
     fn read(alloc: Global, version: Version, cells: &Row) -> Result<(Self::Key, Self), RowFault>
         ensures ok { IfOk result (λ r. reads version r.0 cells.now r.1) }
         ensures err { IfErr result (λ fault. fault ≡ Unreadable → ¬ (IsRead (reads version) cells.now)) };

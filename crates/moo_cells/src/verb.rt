@@ -1,13 +1,17 @@
-//! Rows of the table of verbs.
+//! The table of verbs.
 
-ghost use Rattle.std.specs.Prelude.{◌≡◌, IfOk, IfErr};
+ghost use Rattle.std.specs.Prelude.{IfOk, IfErr};
 ghost use Rattle.moo_cells.specs.Columns.{HasArgs};
-ghost use Rattle.moo_cells.specs.Reading.{ReadsVerb, IsRead};
-ghost use Rattle.moo_cells.specs.declared.fault.RowFault.TheVariants.{Unreadable};
+ghost use Rattle.moo_cells.specs.Reading.{ReadsVerb};
 ghost use Rattle.moo_rows.specs.declared.row.ArgSpec.{ArgSpec};
+ghost use Rattle.moo_tables.specs.Listing.{has_key_pair, ArePaired};
+ghost use Rattle.moo_cells.specs.Apart.{HavePairs};
+ghost use Rattle.moo_cells.specs.Holding.{verb_number, verb_key, IsPairLess, HasWholePair, HoldsEachRow, SaysUnread, TellsKey};
 
-use crate::cell::{id_at, object_at, object_spec_at, prep_at, string_at, verb_bits_at};
+use crate::cell::{id_at, int_in, object_at, object_spec_at, prep_at, string_at, verb_bits_at};
 use crate::fault::RowFault;
+use crate::table_row::ReadRow;
+use moo_damage::Key;
 use moo_rows::{ArgSpec, VerbId, VerbRow};
 use moo_tables::Version;
 use moo_value::ObjNo;
@@ -29,36 +33,50 @@ fn args_of(cells: &Row) -> Result<ArgSpec, RowFault>
     Ok(ArgSpec { dobj, prep, iobj })
 }
 
-/// The verb that these cells show.
-///
-/// Errors: `Unreadable` if they show no row within its limits, and `OutOfMemory`.
-pub(crate) fn read_verb(
-    alloc: Global,
-    version: Version,
-    cells: &Row,
-) -> Result<((ObjNo, VerbId), VerbRow), RowFault>
-    ensures ok { IfOk result (λ r. ReadsVerb version r.0 cells.now r.1) }
-    ensures err { IfErr result (λ fault. fault ≡ Unreadable → ¬ (IsRead (ReadsVerb version) cells.now)) }
-{
-    if cells.column_count() != COLUMNS {
-        return Err(RowFault::Unreadable);
+impl ReadRow for VerbRow {
+    ghost reads = { ReadsVerb };
+
+    ghost apart = { HavePairs };
+
+    ghost in_order = { ArePaired };
+
+    ghost holds = { λ version. HoldsEachRow has_key_pair verb_number (ReadsVerb version) };
+
+    ghost unread = { λ version. SaysUnread has_key_pair (ReadsVerb version) IsPairLess verb_key };
+
+    ghost whole = { HasWholePair };
+
+    ghost tells = { TellsKey has_key_pair verb_key };
+
+    fn read(
+        alloc: Global,
+        version: Version,
+        cells: &Row,
+    ) -> Result<((ObjNo, VerbId), VerbRow), RowFault> {
+        if cells.column_count() != COLUMNS {
+            return Err(RowFault::Unreadable);
+        }
+        let object = object_at(cells, 0)?;
+        let id = id_at(cells, 1)?;
+        let owner = object_at(cells, 3)?;
+        let bits = verb_bits_at(cells, 4)?;
+        let args = args_of(cells)?;
+        let names = string_at(alloc, cells, 2)?;
+        if check_names(&names).is_err() {
+            return Err(RowFault::Unreadable);
+        }
+        Ok((
+            (object, VerbId(id)),
+            VerbRow {
+                names,
+                owner,
+                bits,
+                args,
+            },
+        ))
     }
-    let object = object_at(cells, 0)?;
-    let id = id_at(cells, 1)?;
-    let owner = object_at(cells, 3)?;
-    let bits = verb_bits_at(cells, 4)?;
-    let args = args_of(cells)?;
-    let names = string_at(alloc, cells, 2)?;
-    if check_names(&names).is_err() {
-        return Err(RowFault::Unreadable);
+
+    fn key_of(cells: &Row) -> Key {
+        Key::Verb(int_in(cells, 0), int_in(cells, 1))
     }
-    Ok((
-        (object, VerbId(id)),
-        VerbRow {
-            names,
-            owner,
-            bits,
-            args,
-        },
-    ))
 }

@@ -1,33 +1,33 @@
 -- SQL refuses no statement that makes a table of the first version in a database without tables: why one of them fails.
-use Rattle.moo_tables.{proofs.Words.{◌≡◌, ℕ, [], false, Ok, Err, Result, IfErr, IsTrue, refl, arith, Error, Schema, Table, lacks_sequence, State, HasCleanDisk, HasNoTables, StaysInside, StopsChange, RanStatement, create_text, no_schema, head_schema, object_schema, prop_schema, slot_schema, first_schema, head_table, object_table, prop_table, slot_table, verb_table, value_cmp, IsMaking, create_head_is, create_object_is, create_prop_is, create_slot_is, create_verb_is, Ran, Tables, Sees, Holds, HasCauseIn, HasNoSlot, IsUnderWay, First, no_rows, clean_before, stays_then, stops_since, err_again}, proofs.MakingLemmas.{IsPassed, IsAt, unnumbered, made_at, making_stops}, proofs.ReadCauseLemmas.{handed_on}, specs.Migrated.{HasCauseOfMigrating}, specs.Transaction.{HasCauseOfMaking}}
+use Rattle.moo_tables.{proofs.Words.{◌≡◌, ℕ, [], Ok, Err, Result, IfErr, IsTrue, refl, arith, Error, Schema, Table, State, HasCleanDisk, HasNoTables, StaysInside, StopsChange, RanStatement, create_text, no_schema, head_schema, object_schema, prop_schema, slot_schema, first_schema, head_table, object_table, prop_table, slot_table, verb_table, value_cmp, create_head_is, create_object_is, create_prop_is, create_slot_is, create_verb_is, Ran, Tables, Sees, Holds, HasCauseIn, HasNoSlot, IsUnderWay, First, no_rows, clean_before, stays_then, stops_since, err_again}, proofs.MakingLemmas.{IsAt, Makes, made_at, making_stops}, proofs.ReadCauseLemmas.{handed_on}, specs.Migrated.{HasCauseOfMigrating}, specs.Transaction.{HasCauseOfMaking}}
 use Rattle.std.specs.Result.{IsErrAnd}
 use Rattle.sqlite_schema.specs.Names.{same_name}
 use Rattle.sqlite_trees.specs.Sound as sound
 
-head_passes : IsPassed no_schema (create_text head_table) (unnumbered head_table)
+pub head_making : Makes no_schema head_schema head_table
 unfolding same_name sound.same_name sound.begins sound.is_free_name sound.fits_kind value_cmp lib.Utf8.encode lib.Ieee.is_nan lib.Ieee.lt
-head_passes = record { letters = (create_text head_table, (refl, refl)); name = (head_table.name, (refl, refl)); own = refl; free = refl; indexes = tt; trees = omega arith; reals = refl; keys = tt; formed = refl; fit = refl }
+head_making = record { is = create_head_is; plain = refl; passes = record { letters = (create_text head_table, (refl, refl)); name = (head_table.name, (refl, refl)); own = refl; free = refl; indexes = tt; trees = omega arith; reals = refl; keys = tt; formed = refl; fit = refl } }
 
-object_passes : IsPassed head_schema (create_text object_table) (unnumbered object_table)
+pub object_making : Makes head_schema object_schema object_table
 unfolding same_name sound.same_name sound.begins sound.is_free_name sound.fits_kind value_cmp lib.Utf8.encode lib.Ieee.is_nan lib.Ieee.lt
-object_passes = record { letters = (create_text object_table, (refl, refl)); name = (object_table.name, (refl, refl)); own = refl; free = refl; indexes = tt; trees = omega arith; reals = refl; keys = tt; formed = refl; fit = refl }
+object_making = record { is = create_object_is; plain = refl; passes = record { letters = (create_text object_table, (refl, refl)); name = (object_table.name, (refl, refl)); own = refl; free = refl; indexes = tt; trees = omega arith; reals = refl; keys = tt; formed = refl; fit = refl } }
 
-prop_passes : IsPassed object_schema (create_text prop_table) (unnumbered prop_table)
+pub prop_making : Makes object_schema prop_schema prop_table
 unfolding same_name sound.same_name sound.begins sound.is_free_name sound.fits_kind value_cmp lib.Utf8.encode lib.Ieee.is_nan lib.Ieee.lt
-prop_passes = record { letters = (create_text prop_table, (refl, refl)); name = (prop_table.name, (refl, refl)); own = refl; free = refl; indexes = tt; trees = omega arith; reals = refl; keys = tt; formed = refl; fit = refl }
+prop_making = record { is = create_prop_is; plain = refl; passes = record { letters = (create_text prop_table, (refl, refl)); name = (prop_table.name, (refl, refl)); own = refl; free = refl; indexes = tt; trees = omega arith; reals = refl; keys = tt; formed = refl; fit = refl } }
 
-slot_passes : IsPassed prop_schema (create_text slot_table) (unnumbered slot_table)
+pub slot_making : Makes prop_schema slot_schema slot_table
 unfolding same_name sound.same_name sound.begins sound.is_free_name sound.fits_kind value_cmp lib.Utf8.encode lib.Ieee.is_nan lib.Ieee.lt
-slot_passes = record { letters = (create_text slot_table, (refl, refl)); name = (slot_table.name, (refl, refl)); own = refl; free = refl; indexes = (refl, tt); trees = omega arith; reals = refl; keys = (refl, tt); formed = refl; fit = refl }
+slot_making = record { is = create_slot_is; plain = refl; passes = record { letters = (create_text slot_table, (refl, refl)); name = (slot_table.name, (refl, refl)); own = refl; free = refl; indexes = (refl, tt); trees = omega arith; reals = refl; keys = (refl, tt); formed = refl; fit = refl } }
 
-verb_passes : IsPassed slot_schema (create_text verb_table) (unnumbered verb_table)
+pub verb_making : Makes slot_schema first_schema verb_table
 unfolding same_name sound.same_name sound.begins sound.is_free_name sound.fits_kind value_cmp lib.Utf8.encode lib.Ieee.is_nan lib.Ieee.lt
-verb_passes = record { letters = (create_text verb_table, (refl, refl)); name = (verb_table.name, (refl, refl)); own = refl; free = refl; indexes = (refl, tt); trees = omega arith; reals = refl; keys = (refl, tt); formed = refl; fit = refl }
+verb_making = record { is = create_verb_is; plain = refl; passes = record { letters = (create_text verb_table, (refl, refl)); name = (verb_table.name, (refl, refl)); own = refl; free = refl; indexes = (refl, tt); trees = omega arith; reals = refl; keys = (refl, tt); formed = refl; fit = refl } }
 
 -- ---- the first statement
 
 pub head_fails : {A : Type 0} (old new : State) (r : Result A Error) (e : Error) → IsErrAnd r (λ x. x ≡ e) → Ran (create_text head_table) [] old new (Err e) → HasCauseOfMaking old new r
-head_fails old new r e is ran = λ clean inside none. handed_on (StopsChange old new) r e is (making_stops no_schema head_schema head_table create_head_is refl head_passes old new e ran clean inside none.schema_is)
+head_fails old new r e is ran = λ clean inside none. handed_on (StopsChange old new) r e is (making_stops head_making old new e ran clean inside none.schema_is)
 
 -- ---- those after it
 
@@ -37,50 +37,28 @@ pub record Begins (schema : Schema) (a mid : State) : Type 0 where
   pub at : HasCleanDisk mid → HasNoTables a.now → IsAt schema mid
 
 pub begins_head : {a b : State} (count : ℕ) → StaysInside a b → RanStatement (create_text head_table) [] a b (Ok count) → Begins head_schema a b
-begins_head {a} {b} count quiet ran = record { inside = quiet; at = λ clean none. made_at no_schema head_schema head_table create_head_is refl head_passes a b count ran clean none.schema_is }
+begins_head {a} {b} count quiet ran = record { inside = quiet; at = λ clean none. made_at head_making a b count ran clean none.schema_is }
 
-module _ (before after : Schema) (table : Table) (is : IsMaking before after table) (plain : lacks_sequence after ≡ false) (passes : IsPassed before (create_text table) (unnumbered table)) {a b d : State} (first : Begins before a b) (quiet : StaysInside b d) where
-  goes_on : (count : ℕ) → RanStatement (create_text table) [] b d (Ok count) → Begins after a d
+module _ {before after : Schema} {table : Table} (it : Makes before after table) {a b d : State} (first : Begins before a b) (quiet : StaysInside b d) where
+  pub goes_on : (count : ℕ) → RanStatement (create_text table) [] b d (Ok count) → Begins after a d
   goes_on count ran = record {
     inside = stays_then first.inside quiet;
-    at = λ clean none. made_at before after table is plain passes b d count ran clean (first.at (clean_before b d _ quiet.survives clean) none).has;
+    at = λ clean none. made_at it b d count ran clean (first.at (clean_before b d _ quiet.survives clean) none).has;
   }
 
   stops_there : (e : Error) → Ran (create_text table) [] b d (Err e) → HasCleanDisk d → HasNoTables a.now → StopsChange a d e
   stops_there e ran clean none =
       let at = first.at (clean_before b d _ quiet.survives clean) none in
-      stops_since a b d e first.inside.survives.counts first.inside.survives.limit at.is_open (making_stops before after table is plain passes b d e ran clean at.inside at.has)
+      stops_since a b d e first.inside.survives.counts first.inside.survives.limit at.is_open (making_stops it b d e ran clean at.inside at.has)
 
   -- one of them fails, and its error is handed on
-  stops_early : {A : Type 0} (r : Result A Error) (e : Error) → IsErrAnd r (λ x. x ≡ e) → Ran (create_text table) [] b d (Err e) → HasCauseOfMaking a d r
+  pub stops_early : {A : Type 0} (r : Result A Error) (e : Error) → IsErrAnd r (λ x. x ≡ e) → Ran (create_text table) [] b d (Err e) → HasCauseOfMaking a d r
   stops_early r e told ran = λ clean inside none. handed_on (StopsChange a d) r e told (stops_there e ran clean none)
 
   -- the last one fails
-  stops_late : (r : Result ℕ Error) → Ran (create_text table) [] b d r → HasCauseOfMaking a d r
+  pub stops_late : (r : Result ℕ Error) → Ran (create_text table) [] b d r → HasCauseOfMaking a d r
   stops_late (Ok count) ran = λ clean inside none. tt
   stops_late (Err e) ran = λ clean inside none. stops_there e ran clean none
-
-module _ {a b d : State} where
-  pub begins_object : Begins head_schema a b → StaysInside b d → (count : ℕ) → RanStatement (create_text object_table) [] b d (Ok count) → Begins object_schema a d
-  begins_object = goes_on head_schema object_schema object_table create_object_is refl object_passes
-
-  pub begins_prop : Begins object_schema a b → StaysInside b d → (count : ℕ) → RanStatement (create_text prop_table) [] b d (Ok count) → Begins prop_schema a d
-  begins_prop = goes_on object_schema prop_schema prop_table create_prop_is refl prop_passes
-
-  pub begins_slot : Begins prop_schema a b → StaysInside b d → (count : ℕ) → RanStatement (create_text slot_table) [] b d (Ok count) → Begins slot_schema a d
-  begins_slot = goes_on prop_schema slot_schema slot_table create_slot_is refl slot_passes
-
-  pub object_fails : Begins head_schema a b → StaysInside b d → {A : Type 0} (r : Result A Error) (e : Error) → IsErrAnd r (λ x. x ≡ e) → Ran (create_text object_table) [] b d (Err e) → HasCauseOfMaking a d r
-  object_fails first quiet r e = stops_early head_schema object_schema object_table create_object_is refl object_passes first quiet r e
-
-  pub prop_fails : Begins object_schema a b → StaysInside b d → {A : Type 0} (r : Result A Error) (e : Error) → IsErrAnd r (λ x. x ≡ e) → Ran (create_text prop_table) [] b d (Err e) → HasCauseOfMaking a d r
-  prop_fails first quiet r e = stops_early object_schema prop_schema prop_table create_prop_is refl prop_passes first quiet r e
-
-  pub slot_fails : Begins prop_schema a b → StaysInside b d → {A : Type 0} (r : Result A Error) (e : Error) → IsErrAnd r (λ x. x ≡ e) → Ran (create_text slot_table) [] b d (Err e) → HasCauseOfMaking a d r
-  slot_fails first quiet r e = stops_early prop_schema slot_schema slot_table create_slot_is refl slot_passes first quiet r e
-
-  pub verb_fails : Begins slot_schema a b → StaysInside b d → (r : Result ℕ Error) → Ran (create_text verb_table) [] b d r → HasCauseOfMaking a d r
-  verb_fails = stops_late slot_schema first_schema verb_table create_verb_is refl verb_passes
 
 -- ---- the tables that the first version lacks, and the rows
 

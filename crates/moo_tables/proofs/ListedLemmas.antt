@@ -29,11 +29,6 @@ module _ {K : Type 0} (cmp : K → K → Ordering) (is_whole : Row → Bool) (ke
   goes_on all last at row k low is whole keyed above so =
       so ∙ ap (rise last) (split all at row low is) ∙ rw keyed (ap (λ b. b && rise (Some k) (drop (at + 1) all)) (and_from _ _ whole above))
 
-  -- its key is not whole
-  pub ends_torn : (all : List Row) (last : Option K) (at : ℕ) (row : Row) → at < length all → row ≡ get_or all at row → is_whole row ≡ false → rise None all ≡ rise last (drop at all) → rise None all ≡ false
-  unfolding rise
-  ends_torn all last at row low is torn so = so ∙ ap (rise last) (split all at row low is) ∙ ap (λ b. (b && is_above cmp last (key row)) && rise (Some (key row)) (drop (at + 1) all)) torn
-
   -- its key is not above the last one
   pub ends_low : (all : List Row) (last : Option K) (at : ℕ) (row : Row) (k : K) → at < length all → row ≡ get_or all at row → key row ≡ k → is_above cmp last k ≡ false → rise None all ≡ rise last (drop at all) → rise None all ≡ false
   unfolding rise

@@ -79,17 +79,23 @@ module _ (before : Schema) (text : List ℕ) (table : Table) (defined : table_de
 abbrev pub unnumbered : Table → Table
 unnumbered table = record table { tree = 0 }
 
-slot2_passes : IsPassed first_schema (create_text slot2_table) (unnumbered slot2_table)
-unfolding same_name sound.same_name sound.begins sound.is_free_name sound.fits_kind value_cmp lib.Utf8.encode lib.Ieee.is_nan lib.Ieee.lt
-slot2_passes = record { letters = (create_text slot2_table, (refl, refl)); name = (slot2_table.name, (refl, refl)); own = refl; free = refl; indexes = (refl, tt); trees = omega arith; reals = refl; keys = (refl, tt); formed = refl; fit = refl }
+-- a statement makes the table in this schema, and SQL doesn't refuse it
+pub record Makes (before after : Schema) (table : Table) : Type 0 where
+  pub is : IsMaking before after table
+  pub plain : lacks_sequence after ≡ false
+  pub passes : IsPassed before (create_text table) (unnumbered table)
 
-petition_passes : IsPassed slot2_schema (create_text petition_table) (unnumbered petition_table)
+pub slot2_making : Makes first_schema slot2_schema slot2_table
 unfolding same_name sound.same_name sound.begins sound.is_free_name sound.fits_kind value_cmp lib.Utf8.encode lib.Ieee.is_nan lib.Ieee.lt
-petition_passes = record { letters = (create_text petition_table, (refl, refl)); name = (petition_table.name, (refl, refl)); own = refl; free = refl; indexes = tt; trees = omega arith; reals = refl; keys = tt; formed = refl; fit = refl }
+slot2_making = record { is = create_slot2_is; plain = refl; passes = record { letters = (create_text slot2_table, (refl, refl)); name = (slot2_table.name, (refl, refl)); own = refl; free = refl; indexes = (refl, tt); trees = omega arith; reals = refl; keys = (refl, tt); formed = refl; fit = refl } }
 
-petition_head_passes : IsPassed petition_schema (create_text petition_head_table) (unnumbered petition_head_table)
+pub petition_making : Makes slot2_schema petition_schema petition_table
 unfolding same_name sound.same_name sound.begins sound.is_free_name sound.fits_kind value_cmp lib.Utf8.encode lib.Ieee.is_nan lib.Ieee.lt
-petition_head_passes = record { letters = (create_text petition_head_table, (refl, refl)); name = (petition_head_table.name, (refl, refl)); own = refl; free = refl; indexes = tt; trees = omega arith; reals = refl; keys = tt; formed = refl; fit = refl }
+petition_making = record { is = create_petition_is; plain = refl; passes = record { letters = (create_text petition_table, (refl, refl)); name = (petition_table.name, (refl, refl)); own = refl; free = refl; indexes = tt; trees = omega arith; reals = refl; keys = tt; formed = refl; fit = refl } }
+
+pub petition_head_making : Makes petition_schema second_schema petition_head_table
+unfolding same_name sound.same_name sound.begins sound.is_free_name sound.fits_kind value_cmp lib.Utf8.encode lib.Ieee.is_nan lib.Ieee.lt
+petition_head_making = record { is = create_petition_head_is; plain = refl; passes = record { letters = (create_text petition_head_table, (refl, refl)); name = (petition_head_table.name, (refl, refl)); own = refl; free = refl; indexes = tt; trees = omega arith; reals = refl; keys = tt; formed = refl; fit = refl } }
 
 -- ---- what each leaves, and why it fails
 
@@ -99,29 +105,14 @@ pub record IsAt (schema : Schema) (s : State) : Type 0 where
   pub inside : IsTrue s.in_transaction
   pub has : HasTables schema s
 
-module _ (before after : Schema) (table : Table) (is : IsMaking before after table) (plain : lacks_sequence after ≡ false) (passes : IsPassed before (create_text table) (unnumbered table)) (old new : State) where
+module _ {before after : Schema} {table : Table} (it : Makes before after table) (old new : State) where
   pub made_at : (count : ℕ) → RanStatement (create_text table) [] old new (Ok count) → HasCleanDisk new → HasTables before old → IsAt after new
   made_at count ran clean has =
-      let it = runs_making before after table is plain old new count has (ran clean).1 in
-      record { is_open = it.is_open; inside = (ran clean).0; has = it.made.schema_is }
+      let well = runs_making before after table it.is it.plain old new count has (ran clean).1 in
+      record { is_open = well.is_open; inside = (ran clean).0; has = well.made.schema_is }
 
   pub making_stops : (e : Error) → Ran (create_text table) [] old new (Err e) → HasCleanDisk new → IsTrue old.in_transaction → HasTables before old → StopsChange old new e
   making_stops e ran clean inside has =
-      stops_unrefused (create_text table) [] old new before has CreateTable is.command is.plain is.one refl refl e
-      (λ text told does. makes_it before (create_text table) (unnumbered table) is.defined passes after is.made plain old.step_limit (mode_of old) old.now e has
-      (subst (λ t. Does old.step_limit (mode_of old) [] old.now t None CreateTable (Err (Some e))) (told ∙ is.statement) does)) (ran clean inside)
-
-pub slot2_at : (old new : State) (count : ℕ) → RanStatement (create_text slot2_table) [] old new (Ok count) → HasCleanDisk new → HasTables first_schema old → IsAt slot2_schema new
-slot2_at = made_at first_schema slot2_schema slot2_table create_slot2_is refl slot2_passes
-
-pub petition_at : (old new : State) (count : ℕ) → RanStatement (create_text petition_table) [] old new (Ok count) → HasCleanDisk new → HasTables slot2_schema old → IsAt petition_schema new
-petition_at = made_at slot2_schema petition_schema petition_table create_petition_is refl petition_passes
-
-pub slot2_stops : (old new : State) (e : Error) → Ran (create_text slot2_table) [] old new (Err e) → HasCleanDisk new → IsTrue old.in_transaction → HasTables first_schema old → StopsChange old new e
-slot2_stops = making_stops first_schema slot2_schema slot2_table create_slot2_is refl slot2_passes
-
-pub petition_stops : (old new : State) (e : Error) → Ran (create_text petition_table) [] old new (Err e) → HasCleanDisk new → IsTrue old.in_transaction → HasTables slot2_schema old → StopsChange old new e
-petition_stops = making_stops slot2_schema petition_schema petition_table create_petition_is refl petition_passes
-
-pub petition_head_stops : (old new : State) (e : Error) → Ran (create_text petition_head_table) [] old new (Err e) → HasCleanDisk new → IsTrue old.in_transaction → HasTables petition_schema old → StopsChange old new e
-petition_head_stops = making_stops petition_schema second_schema petition_head_table create_petition_head_is refl petition_head_passes
+      stops_unrefused (create_text table) [] old new before has CreateTable it.is.command it.is.plain it.is.one refl refl e
+      (λ text told does. makes_it before (create_text table) (unnumbered table) it.is.defined it.passes after it.is.made it.plain old.step_limit (mode_of old) old.now e has
+      (subst (λ t. Does old.step_limit (mode_of old) [] old.now t None CreateTable (Err (Some e))) (told ∙ it.is.statement) does)) (ran clean inside)

@@ -1,5 +1,5 @@
 -- Why a query of our tables stops: SQL refuses none for its text, its types or its sums.
-use Rattle.moo_tables.{proofs.Words.{◌≡◌, ◌∙◌, inl, inr, ℕ, List, [], ◌∷◌, length, true, true≢false, Option, IsSome, Result, Ok, Err, refl, sym, ap, subst, Error, State, HasCleanDisk, HasTables, Survives, CommitsShowing, Schema, Term, Database, Select, RefusesQuery, FailsToQuery, FailsToShow, IsNotRun, IsNoStatement, IsSourceOf, IsPlain, command_of, timed, understood, reads_listing, accepts_program, no_fold_overflows, overlay, inner, end, IsOne, plain_query, in_order}, proofs.SelectLemmas.{IsSelect}, specs.ReadCause.{StopsQuery, FailsToList, HasCauseIfNotShown, HasCauseOfReading}}
+use Rattle.moo_tables.{proofs.Words.{◌≡◌, ◌∙◌, inl, inr, ℕ, List, [], ◌∷◌, length, true, true≢false, Option, IsSome, refl, sym, ap, subst, Error, State, HasCleanDisk, HasTables, Survives, CommitsShowing, Schema, Term, Database, Select, RefusesQuery, FailsToQuery, FailsToShow, IsNotRun, IsNoStatement, IsSourceOf, IsPlain, command_of, timed, understood, reads_listing, accepts_program, no_fold_overflows, overlay, inner, end, IsOne, plain_query, in_order}, proofs.SelectLemmas.{IsSelect}, specs.ReadCause.{StopsQuery, FailsToList}}
 use Rattle.sqlite.specs.Effect.{RefusesToRead}
 use Rattle.sqlite.specs.declared.error.Error.TheVariants.{SqliteFailure}
 use Rattle.sqlite.specs.declared.error.ErrorCode.TheVariants as code
@@ -48,7 +48,3 @@ module _ {schema : Schema} {sql : List ℕ} {tree : ℕ} {columns : List Term} {
   -- a query of our tables that stops has one of our causes
   pub list_stops : {e : Error} → (HasCleanDisk new → IsPlain (understood old.now.schema sql) → FailsToList sql old new e) → HasCleanDisk new → HasTables schema old → StopsQuery old new e
   list_stops {e} cause = λ clean has. listing_stops known old has new e (cause clean (subst (λ s. IsPlain (understood s sql)) (sym has) known.plain))
-
-  pub has_cause : {X : Type 0} (r : Result X Error) → HasCauseIfNotShown sql old new r → HasCauseOfReading schema old new r
-  has_cause (Ok x) cause = λ clean has. tt
-  has_cause (Err e) cause = list_stops cause

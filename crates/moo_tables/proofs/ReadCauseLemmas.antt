@@ -1,5 +1,5 @@
 -- Why one of several readings failed, one after another.
-use Rattle.moo_tables.{proofs.Words.{◌≡◌, ◌≤◌, inl, inr, ap, sym, subst, arith, true≢false, ◌∙◌, Result, Ok, Err, IfErr, IsTrue, IsSome, Error, Schema, State, Database, HasCleanDisk, HasCause, Survives, IsUnchanged, HasTables, ReadsTables, FailsToRead, store_error}, specs.ReadCause.{StopsQuery, HasCauseOfReading}}
+use Rattle.moo_tables.{proofs.Words.{◌≡◌, ◌≤◌, inl, inr, ap, sym, subst, arith, true≢false, ◌∙◌, Result, Ok, Err, IfErr, IsTrue, IsSome, Error, Schema, State, Database, HasCleanDisk, HasCause, Survives, IsUnchanged, HasTables, ReadsTables, store_error}, specs.ReadCause.{StopsQuery}}
 use Rattle.std.specs.Result.{IsErrAnd}
 use Rattle.sqlite.specs.declared.error.Error.TheVariants.{SqliteFailure}
 use Rattle.sqlite.specs.declared.error.ErrorCode.TheVariants as code
@@ -30,13 +30,6 @@ stops_after {schema} {old} {mid} new {e} read clean cause = λ late has.
 pub handed_on : {A : Type 0} (P : Error → Type 0) (r : Result A Error) (e : Error) → IsErrAnd r (λ x. x ≡ e) → P e → IfErr r P
 handed_on P (Ok x) e is it = absurd is
 handed_on P (Err x) e is it = subst P (sym is) it
-
--- the error of the first reading is handed on, and that of a later one
-pub cause_of_first : {A : Type 0} {schema : Schema} {old new : State} (r : Result A Error) (e : Error) → FailsToRead schema old new → IsErrAnd r (λ x. x ≡ e) → (HasCleanDisk new → HasTables schema old → StopsQuery old new e) → HasCauseOfReading schema old new r
-cause_of_first {A} {schema} {old} {new} r e failed is cause = λ clean has. handed_on (StopsQuery old new) r e is (cause clean has)
-
-pub cause_of_later : {A : Type 0} {schema : Schema} {old mid new : State} (r : Result A Error) (e : Error) → ReadsTables schema old mid → FailsToRead schema mid new → IsErrAnd r (λ x. x ≡ e) → (HasCleanDisk new → HasTables schema mid → StopsQuery mid new e) → HasCauseOfReading schema old new r
-cause_of_later {A} {schema} {old} {mid} {new} r e read failed is cause = λ clean has. handed_on (StopsQuery old new) r e is (stops_after new read failed.clean cause clean has)
 
 -- ---- what no cause is
 

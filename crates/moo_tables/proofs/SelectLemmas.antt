@@ -1,5 +1,6 @@
 -- What the texts that read a table mean.
-use Rattle.moo_tables.proofs.Words.{◌≡◌, ℕ, List, [], map, length, arith, true, false, refl, accepts_program, Select, Schema, Table, understood, reads_listing, Term, col, IsPlain, command_of, everything, Program, Version, First, Second, first_schema, second_schema, schema_of, slot_tree, number_places, pair_places, head_table, object_table, prop_table, slot_table, slot2_table, verb_table, petition_table, petition_head_table, select_text, names, IsTrue, has_petitions, has_lettered_bits, sym, true≢false, if◌then◌else◌, IsOne, MeansOne, one_is, in_order, number_order, pair_order}
+use Rattle.moo_tables.{proofs.Words.{◌≡◌, ℕ, Bool, List, [], map, length, arith, true, false, refl, accepts_program, Select, Schema, Table, understood, reads_listing, Term, col, IsPlain, command_of, everything, Program, Version, First, Second, first_schema, second_schema, schema_of, number_places, pair_places, head_table, object_table, prop_table, slot_table, slot2_table, verb_table, petition_table, petition_head_table, select_text, names, sym, true≢false, if◌then◌else◌, IsOne, MeansOne, one_is, in_order, number_order, pair_order}, specs.Listing.{table_in, HasTable}, specs.declared.cell_table.CellTable.{CellTable}, specs.declared.cell_table.CellTable.TheVariants.{Head, Object, Prop, Slot, Verb, Petition, PetitionHead}}
+use Rattle.sqlite_value.specs.declared.keys.Key.{Key}
 use Rattle.sqlite_schema.specs.Program.{lets_of}
 
 -- the text is this query of the schema, which SQL accepts, and it reads no list of tables
@@ -16,12 +17,23 @@ number_columns t = map (col 1) (number_places t)
 abbrev pub pair_columns : Table → List Term
 pair_columns t = map (col 1) (pair_places t)
 
--- every row of the table, in the order of its numbers, and of its pairs
-abbrev SelectsByNumber : Schema → Table → Type 0
-SelectsByNumber schema t = IsSelect schema (select_text t) (in_order t.tree (number_columns t) number_order) (names t)
+-- whether the key is the first two columns; else it is the first
+abbrev is_paired : CellTable → Bool
+is_paired Slot = true
+is_paired Verb = true
+is_paired _ = false
 
-abbrev SelectsByPair : Schema → Table → Type 0
-SelectsByPair schema t = IsSelect schema (select_text t) (in_order t.tree (pair_columns t) pair_order) (names t)
+abbrev pub columns_of : Version → CellTable → List Term
+columns_of version which = if is_paired which then pair_columns (table_in version which) else number_columns (table_in version which)
+
+abbrev pub order_of : CellTable → List (Term × Key)
+order_of which = if is_paired which then pair_order else number_order
+
+-- every row of the table, in the order of its keys
+abbrev pub AsksFor : Version → CellTable → List ℕ → Type 0
+AsksFor version which text =
+    let t = table_in version which in
+    IsSelect (schema_of version) text (in_order t.tree (columns_of version which) (order_of which)) (names t)
 
 selects : (schema : Schema) (t : Table) (program : Program) → MeansOne (length (select_text t)) 0 (understood schema (select_text t)) (Select program (names t)) → reads_listing schema (select_text t) ≡ false
     → accepts_program schema (lets_of program) program.body [] ≡ true → IsSelect schema (select_text t) program (names t)
@@ -31,44 +43,19 @@ selects schema t program means unlisted accepted =
 
 -- ---- the tables of both versions
 
-pub select_head : (version : Version) → SelectsByNumber (schema_of version) head_table
+pub asks_for : (version : Version) (which : CellTable) → HasTable version which → AsksFor version which (select_text (table_in version which))
 unfolding understood everything
-select_head First = selects first_schema head_table _ (refl, refl, refl, omega arith, refl) refl refl
-select_head Second = selects second_schema head_table _ (refl, refl, refl, omega arith, refl) refl refl
-
-pub select_object : (version : Version) → SelectsByNumber (schema_of version) object_table
-unfolding understood everything
-select_object First = selects first_schema object_table _ (refl, refl, refl, omega arith, refl) refl refl
-select_object Second = selects second_schema object_table _ (refl, refl, refl, omega arith, refl) refl refl
-
-pub select_prop : (version : Version) → SelectsByNumber (schema_of version) prop_table
-unfolding understood everything
-select_prop First = selects first_schema prop_table _ (refl, refl, refl, omega arith, refl) refl refl
-select_prop Second = selects second_schema prop_table _ (refl, refl, refl, omega arith, refl) refl refl
-
-pub select_verb : (version : Version) → SelectsByPair (schema_of version) verb_table
-unfolding understood everything
-select_verb First = selects first_schema verb_table _ (refl, refl, refl, omega arith, refl) refl refl
-select_verb Second = selects second_schema verb_table _ (refl, refl, refl, omega arith, refl) refl refl
-
--- ---- the slots, each version's from its own table
-
-abbrev pub slots_table : Version → Table
-slots_table version = if has_lettered_bits version then slot_table else slot2_table
-
-pub select_slot : (version : Version) → IsSelect (schema_of version) (select_text (slots_table version)) (in_order (slot_tree version) (pair_columns slot2_table) pair_order) (names slot2_table)
-unfolding understood everything
-select_slot First = selects first_schema slot_table _ (refl, refl, refl, omega arith, refl) refl refl
-select_slot Second = selects second_schema slot2_table _ (refl, refl, refl, omega arith, refl) refl refl
-
--- ---- petition and petition_head, which a version with petitions has
-
-pub select_petition : (version : Version) → IsTrue (has_petitions version) → SelectsByNumber (schema_of version) petition_table
-unfolding understood everything
-select_petition First has = absurd (true≢false (sym has))
-select_petition Second has = selects second_schema petition_table _ (refl, refl, refl, omega arith, refl) refl refl
-
-pub select_counter : (version : Version) → IsTrue (has_petitions version) → SelectsByNumber (schema_of version) petition_head_table
-unfolding understood everything
-select_counter First has = absurd (true≢false (sym has))
-select_counter Second has = selects second_schema petition_head_table _ (refl, refl, refl, omega arith, refl) refl refl
+asks_for First Head has = selects first_schema head_table _ (refl, refl, refl, omega arith, refl) refl refl
+asks_for Second Head has = selects second_schema head_table _ (refl, refl, refl, omega arith, refl) refl refl
+asks_for First Object has = selects first_schema object_table _ (refl, refl, refl, omega arith, refl) refl refl
+asks_for Second Object has = selects second_schema object_table _ (refl, refl, refl, omega arith, refl) refl refl
+asks_for First Prop has = selects first_schema prop_table _ (refl, refl, refl, omega arith, refl) refl refl
+asks_for Second Prop has = selects second_schema prop_table _ (refl, refl, refl, omega arith, refl) refl refl
+asks_for First Slot has = selects first_schema slot_table _ (refl, refl, refl, omega arith, refl) refl refl
+asks_for Second Slot has = selects second_schema slot2_table _ (refl, refl, refl, omega arith, refl) refl refl
+asks_for First Verb has = selects first_schema verb_table _ (refl, refl, refl, omega arith, refl) refl refl
+asks_for Second Verb has = selects second_schema verb_table _ (refl, refl, refl, omega arith, refl) refl refl
+asks_for First Petition has = absurd (true≢false (sym has))
+asks_for Second Petition has = selects second_schema petition_table _ (refl, refl, refl, omega arith, refl) refl refl
+asks_for First PetitionHead has = absurd (true≢false (sym has))
+asks_for Second PetitionHead has = selects second_schema petition_head_table _ (refl, refl, refl, omega arith, refl) refl refl

@@ -1,5 +1,5 @@
 -- Why the migration fails.
-use Rattle.moo_tables.{proofs.Words.{◌≡◌, inl, inr, ◌∙◌, ℕ, ℤ, List, [], ◌∷◌, true, ◌&&◌, not, None, Some, Ok, Err, Result, refl, ap, Error, Row, Trees, col, rowid, with_tree, without_all, plain, agree, differ, clashes, Keeps, Unique, Has, ids_of, all_from, all_has, some_from, some_has, Delete, Does, State, HasCleanDisk, mode_of, Tables, Holds, Sees, StaysInside, Changes, StopsChange, HasCauseIn, RanStatement, GrowsTables, IsEarlier, grown, present_schema, schema_of, slot_table, slot2_table, petition_table, petition_head_table, create_text, empty_slots_text, empty_slots, rowids_where, clean_before, only_first, stays_then, is_false, AreApart, IsAllowed, halted, each, concluded, clear_none, delete_stops, schema_seen, sound_seen, left_of, Ran, at_schema, stops, stops_since, err_again}, proofs.ReadCauseLemmas.{handed_on}, proofs.MakingLemmas.{slot2_at, petition_at, slot2_stops, petition_stops, petition_head_stops}, specs.Migrated.{HasCauseOfMigrating}}
+use Rattle.moo_tables.{proofs.Words.{◌≡◌, inl, inr, ◌∙◌, ℕ, ℤ, List, [], ◌∷◌, true, ◌&&◌, not, None, Some, Ok, Err, Result, refl, ap, Error, Row, Trees, col, rowid, with_tree, without_all, plain, agree, differ, clashes, Keeps, Unique, Has, ids_of, all_from, all_has, some_from, some_has, Delete, Does, State, HasCleanDisk, mode_of, Tables, Holds, Sees, StaysInside, Changes, StopsChange, HasCauseIn, RanStatement, GrowsTables, IsEarlier, grown, present_schema, schema_of, slot_table, slot2_table, petition_table, petition_head_table, create_text, empty_slots_text, empty_slots, rowids_where, clean_before, only_first, stays_then, is_false, AreApart, IsAllowed, halted, each, concluded, clear_none, delete_stops, schema_seen, sound_seen, left_of, Ran, at_schema, stops, stops_since, err_again}, proofs.ReadCauseLemmas.{handed_on}, proofs.MakingLemmas.{made_at, making_stops, slot2_making, petition_making, petition_head_making}, specs.Migrated.{HasCauseOfMigrating}}
 use Rattle.std.specs.Result.{IsErrAnd}
 
 -- ---- the table `slot` is emptied
@@ -41,22 +41,22 @@ emptying_fails old new (Err e) ran = λ clean tables seen.
 
 pub first_fails : {A : Type 0} (old new : State) (r : Result A Error) (e : Error) → IsErrAnd r (λ x. x ≡ e) → Ran (create_text slot2_table) [] old new (Err e) → HasCauseOfMigrating old new r
 first_fails old new r e is ran = λ clean tables inside holds earlier.
-    handed_on (StopsChange old new) r e is (slot2_stops old new e ran clean inside (holds.schema ∙ ap schema_of (only_first tables.version earlier)))
+    handed_on (StopsChange old new) r e is (making_stops slot2_making old new e ran clean inside (holds.schema ∙ ap schema_of (only_first tables.version earlier)))
 
 module _ {a b d : State} (one : StaysInside a b) (two : StaysInside b d) (count : ℕ) (made : RanStatement (create_text slot2_table) [] a b (Ok count)) where
   pub second_fails : {A : Type 0} (r : Result A Error) (e : Error) → IsErrAnd r (λ x. x ≡ e) → Ran (create_text petition_table) [] b d (Err e) → HasCauseOfMigrating a d r
   second_fails r e is ran = λ clean tables inside holds earlier.
-      let at = slot2_at a b count made (clean_before b d _ two.survives clean) (holds.schema ∙ ap schema_of (only_first tables.version earlier)) in
-      handed_on (StopsChange a d) r e is (stops_since a b d e one.survives.counts one.survives.limit at.is_open (petition_stops b d e ran clean at.inside at.has))
+      let at = made_at slot2_making a b count made (clean_before b d _ two.survives clean) (holds.schema ∙ ap schema_of (only_first tables.version earlier)) in
+      handed_on (StopsChange a d) r e is (stops_since a b d e one.survives.counts one.survives.limit at.is_open (making_stops petition_making b d e ran clean at.inside at.has))
 
   pub third_fails : {z : State} → StaysInside d z → (more : ℕ) → RanStatement (create_text petition_table) [] b d (Ok more) → (r : Result ℕ Error) → Ran (create_text petition_head_table) [] d z r → HasCauseOfMigrating a z r
   third_fails three more then (Ok _) ran = λ clean tables inside holds earlier. tt
   third_fails {z} three more then (Err e) ran = λ clean tables inside holds earlier.
       let late = clean_before d z _ three.survives clean in
-      let first = slot2_at a b count made (clean_before b d _ two.survives late) (holds.schema ∙ ap schema_of (only_first tables.version earlier)) in
-      let at = petition_at b d more then late first.has in
+      let first = made_at slot2_making a b count made (clean_before b d _ two.survives late) (holds.schema ∙ ap schema_of (only_first tables.version earlier)) in
+      let at = made_at petition_making b d more then late first.has in
       let both = stays_then one two in
-      stops_since a d z e both.survives.counts both.survives.limit at.is_open (petition_head_stops d z e ran clean at.inside at.has)
+      stops_since a d z e both.survives.counts both.survives.limit at.is_open (making_stops petition_head_making d z e ran clean at.inside at.has)
 
 -- ---- the calls after that
 

@@ -1,5 +1,5 @@
 -- A query that is read row by row.
-use Rattle.moo_tables.{proofs.Words.{◌≡◌, ◌⊎◌, ◌≤◌, refl, false, ℕ, List, [], ◌∷◌, ◌++◌, None, Some, Result, Ok, Err, OnErr, inl, inr, sym, subst, ◌∙◌, arith, Row, Schema, timed, understood, reads_listing, IsSourceOf, Held, state, Database, Error, State, HasCleanDisk, Shown, ShowsRows, Survives, CommitsShowing, IsUnchanged, IsRolledBack, Fails, FailsToQuery, FailsToShow, IsNotRun, IsNoStatement, IsPlain, begun_plain, survives_then, HasTables}, proofs.ReadCauseLemmas.{cause_from}}
+use Rattle.moo_tables.{proofs.Words.{◌≡◌, ◌⊎◌, ◌≤◌, refl, false, ℕ, List, [], ◌∷◌, ◌++◌, None, Some, Result, Ok, Err, OnErr, inl, inr, sym, subst, ◌∙◌, arith, Row, Schema, timed, understood, reads_listing, IsSourceOf, Held, state, Database, Error, State, HasCleanDisk, Shown, ShowsRows, Survives, CommitsShowing, IsUnchanged, IsRolledBack, FailsToQuery, FailsToShow, IsNotRun, IsNoStatement, IsPlain, begun_plain, survives_then, HasTables}, proofs.ReadCauseLemmas.{cause_from}}
 use Rattle.sqlite.specs.Given.{HasGiven, HasBegun, Advances, FailsToAdvance, IsRefused}
 use Rattle.sqlite.specs.Effect.{RefusesToRead}
 use Rattle.sqlite_trees.specs.declared.store.Store.{Ghosts}
@@ -88,16 +88,6 @@ module _ {S : Type 0} (g : Ghosts S) (sql : List ℕ) (old : Held S) where
   module _ (mid new : Held S) (rows : List Row) (it : IsGiving mid rows) (kept : Survives (state g mid) (state g new) (λ _. ⊥)) where
     pub survives_on : Survives (state g old) (state g new) (CommitsShowing sql [] (state g old))
     survives_on = survives_then (state g old) (state g mid) (state g new) _ _ _ (λ _ db may. may) (λ _ db none. absurd none) it.survives kept
-
-    pub failed_on : (e : Error) → (HasCleanDisk (state g new) → Fails (state g mid) (state g new) ⊥ e ⊎ IsUnchanged (state g mid) (state g new)) → HasCleanDisk (state g new) → IsPlain (understood old.schema sql) → IsUnchanged (state g old) (state g new) ⊎ IsRolledBack (state g old) (state g new)
-    failed_on e ends clean plain = go (ends clean)
-      where
-        was : IsUnchanged (state g old) (state g mid)
-        was = (it.given (omega (arith, kept.clean)) plain).1
-
-        go : Fails (state g mid) (state g new) ⊥ e ⊎ IsUnchanged (state g mid) (state g new) → IsUnchanged (state g old) (state g new) ⊎ IsRolledBack (state g old) (state g new)
-        go (inl failed) = inr (undone_then (state g old) (state g mid) (state g new) was failed.3)
-        go (inr same) = inl (unchanged_then (state g old) (state g mid) (state g new) was same)
 
     -- why a later row can't be read
     pub why_failed : (e : Error) → (HasCleanDisk (state g new) → FailsToAdvance g mid new e) → HasCleanDisk (state g new) → IsPlain (understood old.schema sql) → FailsToQuery sql [] (state g old) (state g new) e

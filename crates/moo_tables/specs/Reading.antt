@@ -1,19 +1,13 @@
 -- What a query of the tables answers, and what is so of the tables that it was asked of.
-use Rattle.std.specs.Prelude.{◌≡◌, ◌⊎◌, ℕ, List, [], Vec, Result, IfOk, OnErr}
-use Rattle.std.specs.declared.alloc.Global.{Global}
+use Rattle.std.specs.Prelude.{◌≡◌, ◌⊎◌, false, ℕ, List, Result, IfOk, OnOk, OnErr}
 use Rattle.sqlite.specs.Given.{IsPlain}
 use Rattle.sqlite.specs.Listing.{understood}
-use Rattle.sqlite.specs.Order.{Row}
-use Rattle.sqlite.specs.State.{State, HasCleanDisk, Shown, IsUnchanged, IsRolledBack}
+use Rattle.sqlite.specs.State.{State, HasCleanDisk, IsUnchanged, IsRolledBack}
 use Rattle.sqlite.specs.declared.error.Error.{Error}
 use Rattle.moo_tables_rows.specs.declared.version.Version.{Version}
-use Rattle.moo_tables_rows.specs.Inside.{Rests}
-use Rattle.moo_tables_rows.specs.Tables.{Tables}
-
--- the rows are all that a query without parameters answers, in its order
-abbrev pub ShowsAll : List ℕ → State → State → Result (Vec Row Global) Error → Type 0
-ShowsAll sql old new r =
-    HasCleanDisk new → IsPlain (understood old.now.schema sql) → IfOk r (λ rows. Shown sql [] old new rows.items)
+use Rattle.moo_tables_rows.specs.Inside.{Rests, ReadsTables, FailsToRead}
+use Rattle.moo_tables_rows.specs.Tables.{Tables, schema_of}
+use Rattle.moo_tables.specs.ReadCause.{HasCauseOfReading}
 
 -- if it fails nothing changed, or the transaction was rolled back
 abbrev pub KeepsIfNotShown : {A : Type 0} → List ℕ → State → State → Result A Error → Type 0
@@ -24,3 +18,11 @@ KeepsIfNotShown sql old new r =
 abbrev pub Lists : {A : Type 0} → Version → State → State → Result A Error → (A → Tables → Type 0) → Type 0
 Lists version old new r Listed =
     HasCleanDisk new → IfOk r (λ rows. (tables : Tables) → Rests old tables → tables.version ≡ version → Listed rows tables)
+
+-- A call that reads tables of this version and writes nothing. It fails only if the store does, or if it takes more steps than the
+-- connection allows: then too nothing changed, or the transaction was rolled back.
+pub record OnlyReads {A : Type 0} (version : Version) (old new : State) (r : Result A Error) : Type 0 where
+  pub outside : old.in_transaction ≡ false → new.in_transaction ≡ false
+  pub read : OnOk r (ReadsTables (schema_of version) old new)
+  pub failed : OnErr r (FailsToRead (schema_of version) old new)
+  pub cause : HasCauseOfReading (schema_of version) old new r

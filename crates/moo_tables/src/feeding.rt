@@ -7,12 +7,14 @@ ghost use Rattle.sqlite.specs.Listing.{understood};
 ghost use Rattle.sqlite.specs.Order.{Row as Cells};
 ghost use Rattle.sqlite.specs.State.{HasCleanDisk, Shown, Survives, CommitsShowing, IsUnchanged, IsRolledBack};
 ghost use Rattle.moo_tables.specs.Feeding.{AreTaken, AreFed};
-ghost use Rattle.moo_tables_rows.specs.Inside.{Rests, ReadsTables, FailsToRead};
-ghost use Rattle.moo_tables.specs.Listing.{ListsNumbers, ListsPairs};
-ghost use Rattle.moo_tables.specs.ReadCause.{HasCauseIfNotShown, HasCauseOfReading};
-ghost use Rattle.moo_tables_rows.specs.Tables.{Tables, schema_of};
+ghost use Rattle.moo_tables_rows.specs.Inside.{Rests};
+ghost use Rattle.moo_tables.specs.Listing.{HasTable, ListsTable};
+ghost use Rattle.moo_tables.specs.ReadCause.{HasCauseIfNotShown};
+ghost use Rattle.moo_tables.specs.Reading.{OnlyReads};
+ghost use Rattle.moo_tables_rows.specs.Tables.{Tables};
 
-use moo_tables_rows::{OBJECT, PROP, SLOT, SLOT2, VERB, Version};
+use crate::cell_table::CellTable;
+use moo_tables_rows::Version;
 use sqlite::{Alter, Connection, Error, Row};
 use std::alloc::{AllocError, Global};
 use std::mem;
@@ -83,80 +85,22 @@ pub(crate) fn feed_rows<S: Alter, T: TakeRows>(
     Ok(false)
 }
 
-/// Hands on the rows of `object`, in the order of their numbers. False if they can't be taken.
+/// Hands on the rows of a table, in the order of their keys. False if they can't be taken.
 ///
-/// As of each of these calls, nothing is written, and after a fault the tables are as they were, unless the fault shut the connection. If
-/// the tables are of the version, it fails only if the store does, or if it takes more steps than the connection allows.
-pub fn feed_objects<S: Alter, T: TakeRows>(
+/// Nothing is written, and after a fault the tables are as they were, unless the fault shut the connection. If the tables are of the
+/// version, it fails only if the store does, or if it takes more steps than the connection allows.
+pub fn feed_table<S: Alter, T: TakeRows>(
     alloc: Global,
     conn: &mut Connection<S>,
     version: Version,
+    table: CellTable,
     taker: &mut T,
 ) -> Result<bool, Error>
-    ensures outside { (state S.Store conn.old).in_transaction ≡ false → (state S.Store conn.new).in_transaction ≡ false }
-    ensures read { OnOk result (ReadsTables (schema_of version) (state S.Store conn.old) (state S.Store conn.new)) }
+    requires { HasTable version table }
+    ensures reads { OnlyReads version (state S.Store conn.old) (state S.Store conn.new) result }
     ensures taken { T.took taker.old [] taker.old → IfOk result (λ whole. whole ≡ true → AreTaken T.took taker.old taker.new (λ rows.
         HasCleanDisk (state S.Store conn.new) → (tables : Tables) → Rests (state S.Store conn.old) tables →
-        tables.version ≡ version → ListsNumbers rows tables.object)) }
-    ensures failed { OnErr result (FailsToRead (schema_of version) (state S.Store conn.old) (state S.Store conn.new)) }
-    ensures cause { HasCauseOfReading (schema_of version) (state S.Store conn.old) (state S.Store conn.new) result }
+        tables.version ≡ version → ListsTable table rows tables)) }
 {
-    feed_rows(alloc, conn, OBJECT.read, taker)
-}
-
-/// Hands on the rows of `prop`, in the order of their numbers. False if they can't be taken.
-pub fn feed_props<S: Alter, T: TakeRows>(
-    alloc: Global,
-    conn: &mut Connection<S>,
-    version: Version,
-    taker: &mut T,
-) -> Result<bool, Error>
-    ensures outside { (state S.Store conn.old).in_transaction ≡ false → (state S.Store conn.new).in_transaction ≡ false }
-    ensures read { OnOk result (ReadsTables (schema_of version) (state S.Store conn.old) (state S.Store conn.new)) }
-    ensures taken { T.took taker.old [] taker.old → IfOk result (λ whole. whole ≡ true → AreTaken T.took taker.old taker.new (λ rows.
-        HasCleanDisk (state S.Store conn.new) → (tables : Tables) → Rests (state S.Store conn.old) tables →
-        tables.version ≡ version → ListsNumbers rows tables.prop)) }
-    ensures failed { OnErr result (FailsToRead (schema_of version) (state S.Store conn.old) (state S.Store conn.new)) }
-    ensures cause { HasCauseOfReading (schema_of version) (state S.Store conn.old) (state S.Store conn.new) result }
-{
-    feed_rows(alloc, conn, PROP.read, taker)
-}
-
-/// Hands on the rows of the slots, in the order of their objects, then of their properties. False if they can't be taken.
-pub fn feed_slots<S: Alter, T: TakeRows>(
-    alloc: Global,
-    conn: &mut Connection<S>,
-    version: Version,
-    taker: &mut T,
-) -> Result<bool, Error>
-    ensures outside { (state S.Store conn.old).in_transaction ≡ false → (state S.Store conn.new).in_transaction ≡ false }
-    ensures read { OnOk result (ReadsTables (schema_of version) (state S.Store conn.old) (state S.Store conn.new)) }
-    ensures taken { T.took taker.old [] taker.old → IfOk result (λ whole. whole ≡ true → AreTaken T.took taker.old taker.new (λ rows.
-        HasCleanDisk (state S.Store conn.new) → (tables : Tables) → Rests (state S.Store conn.old) tables →
-        tables.version ≡ version → ListsPairs rows tables.slot)) }
-    ensures failed { OnErr result (FailsToRead (schema_of version) (state S.Store conn.old) (state S.Store conn.new)) }
-    ensures cause { HasCauseOfReading (schema_of version) (state S.Store conn.old) (state S.Store conn.new) result }
-{
-    if version.has_lettered_bits() {
-        return feed_rows(alloc, conn, SLOT.read, taker);
-    }
-    feed_rows(alloc, conn, SLOT2.read, taker)
-}
-
-/// Hands on the rows of `verb`, in the order of their objects, then of their numbers. False if they can't be taken.
-pub fn feed_verbs<S: Alter, T: TakeRows>(
-    alloc: Global,
-    conn: &mut Connection<S>,
-    version: Version,
-    taker: &mut T,
-) -> Result<bool, Error>
-    ensures outside { (state S.Store conn.old).in_transaction ≡ false → (state S.Store conn.new).in_transaction ≡ false }
-    ensures read { OnOk result (ReadsTables (schema_of version) (state S.Store conn.old) (state S.Store conn.new)) }
-    ensures taken { T.took taker.old [] taker.old → IfOk result (λ whole. whole ≡ true → AreTaken T.took taker.old taker.new (λ rows.
-        HasCleanDisk (state S.Store conn.new) → (tables : Tables) → Rests (state S.Store conn.old) tables →
-        tables.version ≡ version → ListsPairs rows tables.verb)) }
-    ensures failed { OnErr result (FailsToRead (schema_of version) (state S.Store conn.old) (state S.Store conn.new)) }
-    ensures cause { HasCauseOfReading (schema_of version) (state S.Store conn.old) (state S.Store conn.new) result }
-{
-    feed_rows(alloc, conn, VERB.read, taker)
+    feed_rows(alloc, conn, table.query(version), taker)
 }

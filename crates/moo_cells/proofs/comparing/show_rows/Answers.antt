@@ -14,4 +14,4 @@ returns c =
     let slots = subst (λ (rows : List Row). ShowEach (ReadsSlot version) rows (entries m.slots)) c.deref-5.ensures.value (c.in_ok-show_each-3.ensures c.if-not-branch-3.false) in
     let verbs = subst (λ (rows : List Row). ShowEach (ReadsVerb version) rows (entries m.verbs)) c.deref-6.ensures.value (c.in_ok-show_each-4.ensures c.if-not-branch-4.false) in
     IfOk-weaker c.show_each-5.result _ _ (λ show shows is.
-    all_shown c.args.lists.now m head counter objects props slots verbs (subst (λ (rows : List Row). ShowEach (ReadsPetition version) rows (entries m.petitions)) c.deref-7.ensures.value (shows is))) c.show_each-5.ensures
+    all_shown c.args.lists.now m c.requires head counter objects props slots verbs (subst (λ (rows : List Row). ShowEach (ReadsPetition version) rows (entries m.petitions)) c.deref-7.ensures.value (shows is))) c.show_each-5.ensures

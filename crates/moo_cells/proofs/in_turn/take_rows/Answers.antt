@@ -3,9 +3,7 @@ use Rattle.moo_cells.proofs.{Apart.{numbered}, FillLemmas.{petitions_keep}}
 use Rattle.moo_tables_rows.specs.Inside.{AreKeyed}
 use Rattle.moo_cells.proofs.TakenLemmas.{no_petition, same_head, taken_shown, taken_within}
 use Rattle.moo_rows.specs.Maps.{no_maps}
-use Rattle.moo_tables.proofs.ReadLemmas.{reads_then, fails_then}
-use Rattle.moo_tables_rows.proofs.InsideLemmas.{always}
-use Rattle.moo_tables.proofs.ReadCauseLemmas.{cause_of_first, cause_of_later}
+use Rattle.moo_tables.proofs.ReadLemmas.{hands_on, answers, read_then}
 use Rattle.moo_cells.proofs.in_turn.take_rows.Goals as goal
 
 pub take_tables-requires : goal.take_tables-requires
@@ -20,20 +18,14 @@ read_table-requires-clause-apart g c = let keyed : AreKeyed c.in_ok-head.petitio
 pub read_table-requires-clause-none : goal.read_table-requires-clause-none
 read_table-requires-clause-none g c = no_petition (rw c.in-Some.is at c.in_ok-all.ensures.taken) ∙ ap (λ (m : Maps). m.petitions) c.under.ensures
 
-pub returns-in_err-all-clause-failed : goal.returns-in_err-all-clause-failed
-returns-in_err-all-clause-failed g c = always c.from_residual-in_err-all.result (fails_then c.in_ok-head.ensures.read c.in_err-all.ensures.failed)
+pub returns-in_err-head-clause-reads : goal.returns-in_err-head-clause-reads
+returns-in_err-head-clause-reads g c = hands_on c.from_residual.result c.from_residual.ensures.1 c.in_err-head.ensures.reads
 
-pub returns-in_err-head-clause-failed : goal.returns-in_err-head-clause-failed
-returns-in_err-head-clause-failed g c = always c.from_residual.result c.in_err-head.ensures.failed
+pub returns-in_err-all-clause-reads : goal.returns-in_err-all-clause-reads
+returns-in_err-all-clause-reads g c = hands_on c.from_residual-in_err-all.result c.from_residual-in_err-all.ensures.1 (read_then c.in_ok-head.ensures.reads c.in_err-all.ensures.reads)
 
-pub returns-in_err-head-clause-cause : goal.returns-in_err-head-clause-cause
-returns-in_err-head-clause-cause g c = cause_of_first c.from_residual.result _ c.in_err-head.ensures.failed c.from_residual.ensures.1 c.in_err-head.ensures.cause
-
-pub returns-in_err-all-clause-cause : goal.returns-in_err-all-clause-cause
-returns-in_err-all-clause-cause g c = cause_of_later c.from_residual-in_err-all.result _ c.in_ok-head.ensures.read c.in_err-all.ensures.failed c.from_residual-in_err-all.ensures.1 c.in_err-all.ensures.cause
-
-pub returns-in-Ok-read_table-clause-read : goal.returns-in-Ok-read_table-clause-read
-returns-in-Ok-read_table-clause-read g c = reads_then c.in_ok-head.ensures.read c.in_ok-all.ensures.read
+pub returns-in-Ok-read_table-clause-reads : goal.returns-in-Ok-read_table-clause-reads
+returns-in-Ok-read_table-clause-reads g c = answers (read_then c.in_ok-head.ensures.reads c.in_ok-all.ensures.reads)
 
 -- the head of the rows is the one that was read
 
@@ -44,7 +36,7 @@ returns-in-Ok-read_table-clause-shown g c clean tables was is =
     let counted = subst (λ (rows : List Row). ReadsCounter c.args.version (by_rowid rows) c.in-Ok.first.next_petition) c.deref-5.ensures.value c.in-Ok.ensures.counter in
     let next = subst (λ (h : Head). ReadsCounter c.args.version (by_rowid c.in_ok-head.petition_head.items) h.next_petition) (sym (ap (λ (m : Maps). m.head) c.under.ensures)) counted in
     taken_shown (rw c.in-Some.is at c.in_ok-all.ensures.taken) c.in_ok-head.head c.in_ok-head.petition c.in_ok-head.petition_head _ head next c.in-Ok-read_table.ensures.kept c.in-Ok-read_table.ensures.holds
-    c.in_ok-head.ensures.read c.in_ok-head.ensures.listed c.in_ok-all.ensures.read clean tables was is
+    c.in_ok-head.ensures.reads.read c.in_ok-head.ensures.listed c.in_ok-all.ensures.reads.read clean tables was is
 
 pub returns-in-Ok-read_table-clause-within : goal.returns-in-Ok-read_table-clause-within
 returns-in-Ok-read_table-clause-within g c =

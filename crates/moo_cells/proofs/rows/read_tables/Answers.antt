@@ -1,4 +1,4 @@
-use Rattle.moo_cells.{proofs.Words.{◌∙◌, sym, ap, subst, err_from_is_err_and, Maps, tables_of, has_rowid, ReadsPetition, HoldsTable, SaysUnread, IsLess, petition_key, petition_number, SaysOfCells}, proofs.Apart.{numbered, paired}, proofs.FillLemmas.{objects_keep, props_keep, slots_keep, verbs_keep, petitions_keep}, proofs.RowsLemmas.{read_all, rows_shown, rows_within, says_object, says_prop, says_slot, says_verb, says_petition, none_met}}
+use Rattle.moo_cells.{proofs.Words.{◌∙◌, sym, ap, subst, err_from_is_err_and, Maps, tables_of, has_rowid, ReadsPetition, HoldsTable, SaysUnread, IsLess, petition_key, petition_number, SaysOfCells}, proofs.Apart.{numbered, paired}, proofs.FillLemmas.{objects_keep, props_keep, slots_keep, verbs_keep, petitions_keep}, proofs.RowsLemmas.{cells_in, held_fills, listed_apart, read_all, rows_shown, rows_within, says_object, says_prop, says_slot, says_verb, says_petition, none_met}}
 use Rattle.moo_cells.proofs.Exits.{err_then}
 use Rattle.moo_tables_rows.specs.Inside.{AreKeyed}
 use Rattle.moo_cells.proofs.rows.read_tables.Goals as goal
@@ -89,12 +89,12 @@ pub returns-clause-head : goal.returns-clause-head
 returns-clause-head c = on_ok_weaker c.read_table-5.result (λ kept. ap (λ (m : Maps). m.head) kept ∙ ap (λ (m : Maps). m.head) c.in_ok-read_table-4.ensures.kept ∙ ap (λ (m : Maps). m.head) c.in_ok-read_table-3.ensures.kept ∙ ap (λ (m : Maps). m.head) c.in_ok-read_table-2.ensures.kept ∙ ap (λ (m : Maps). m.head) c.in_ok-read_table.ensures.kept) c.read_table-5.ensures.kept
 
 pub returns-clause-shown : goal.returns-clause-shown
-returns-clause-shown c = on_ok_both c.read_table-5.result (λ kept holds. rows_shown c.args.lists c.read_table-5.new.rows.maps (read_all c.args.lists c.requires.head.0 c.args.rows.now.maps c.read_table.new.rows.maps c.read_table-2.new.rows.maps c.read_table-3.new.rows.maps c.read_table-4.new.rows.maps c.read_table-5.new.rows.maps c.requires.head.1 c.requires.head.2 c.requires.counter
-    c.in_ok-read_table.ensures.kept c.in_ok-read_table-2.ensures.kept c.in_ok-read_table-3.ensures.kept c.in_ok-read_table-4.ensures.kept kept c.in_ok-read_table.ensures.holds c.in_ok-read_table-2.ensures.holds c.in_ok-read_table-3.ensures.holds c.in_ok-read_table-4.ensures.holds holds)) c.read_table-5.ensures.kept c.read_table-5.ensures.holds
+returns-clause-shown c = on_ok_both c.read_table-5.result (λ kept holds. rows_shown (cells_in c.args.lists) c.read_table-5.new.rows.maps (read_all (cells_in c.args.lists) c.args.rows.now.maps c.read_table.new.rows.maps c.read_table-2.new.rows.maps c.read_table-3.new.rows.maps c.read_table-4.new.rows.maps c.read_table-5.new.rows.maps c.requires.head c.requires.counter
+    c.in_ok-read_table.ensures.kept c.in_ok-read_table-2.ensures.kept c.in_ok-read_table-3.ensures.kept c.in_ok-read_table-4.ensures.kept kept (held_fills c.in_ok-read_table.ensures.holds) (held_fills c.in_ok-read_table-2.ensures.holds) (held_fills c.in_ok-read_table-3.ensures.holds) (held_fills c.in_ok-read_table-4.ensures.holds) (held_fills holds)) (listed_apart c.args.lists c.requires.listed)) c.read_table-5.ensures.kept c.read_table-5.ensures.holds
 
 pub returns-clause-within : goal.returns-clause-within
-returns-clause-within c = on_ok_both c.read_table-5.result (λ kept holds. rows_within c.args.lists c.read_table-5.new.rows.maps (read_all c.args.lists c.requires.head.0 c.args.rows.now.maps c.read_table.new.rows.maps c.read_table-2.new.rows.maps c.read_table-3.new.rows.maps c.read_table-4.new.rows.maps c.read_table-5.new.rows.maps c.requires.head.1 c.requires.head.2 c.requires.counter
-    c.in_ok-read_table.ensures.kept c.in_ok-read_table-2.ensures.kept c.in_ok-read_table-3.ensures.kept c.in_ok-read_table-4.ensures.kept kept c.in_ok-read_table.ensures.holds c.in_ok-read_table-2.ensures.holds c.in_ok-read_table-3.ensures.holds c.in_ok-read_table-4.ensures.holds holds)) c.read_table-5.ensures.kept c.read_table-5.ensures.holds
+returns-clause-within c = on_ok_both c.read_table-5.result (λ kept holds. rows_within (cells_in c.args.lists) c.read_table-5.new.rows.maps (read_all (cells_in c.args.lists) c.args.rows.now.maps c.read_table.new.rows.maps c.read_table-2.new.rows.maps c.read_table-3.new.rows.maps c.read_table-4.new.rows.maps c.read_table-5.new.rows.maps c.requires.head c.requires.counter
+    c.in_ok-read_table.ensures.kept c.in_ok-read_table-2.ensures.kept c.in_ok-read_table-3.ensures.kept c.in_ok-read_table-4.ensures.kept kept (held_fills c.in_ok-read_table.ensures.holds) (held_fills c.in_ok-read_table-2.ensures.holds) (held_fills c.in_ok-read_table-3.ensures.holds) (held_fills c.in_ok-read_table-4.ensures.holds) (held_fills holds))) c.read_table-5.ensures.kept c.read_table-5.ensures.holds
 
 pub returns-clause-read : goal.returns-clause-read
 returns-clause-read c =

@@ -1,67 +1,41 @@
-use Rattle.moo_tables.proofs.ReadLemmas.{reads_then, fails_then}
-use Rattle.moo_tables_rows.proofs.InsideLemmas.{always}
-use Rattle.moo_cells.proofs.TakenLemmas.{takes_all}
-use Rattle.moo_tables.proofs.ReadCauseLemmas.{cause_of_first, cause_of_later}
+use Rattle.moo_cells.{proofs.FillLemmas.{objects_keep, props_keep, slots_keep, verbs_keep}, proofs.TakenLemmas.{takes_all}}
+use Rattle.moo_tables.proofs.ReadLemmas.{hands_on, answers, read_then}
 use Rattle.moo_cells.proofs.showing_in_turn.show_tables.Goals as goal
 
--- a transaction is open only if it was before
+pub returns-in_err-objects-clause-reads : goal.returns-in_err-objects-clause-reads
+returns-in_err-objects-clause-reads g c = hands_on c.from_residual.result c.from_residual.ensures.1 c.in_err-objects.ensures.reads
 
-pub returns-then-not-slots-clause-outside : goal.returns-then-not-slots-clause-outside
-returns-then-not-slots-clause-outside g c h = c.in_ok-slots.ensures.outside (c.in_ok-props.ensures.outside (c.in_ok-objects.ensures.outside h))
+pub returns-then-not-objects-clause-reads : goal.returns-then-not-objects-clause-reads
+returns-then-not-objects-clause-reads g c = answers c.in_ok-objects.ensures.reads
 
-pub returns-in_err-slots-clause-outside : goal.returns-in_err-slots-clause-outside
-returns-in_err-slots-clause-outside g c h = c.in_err-slots.ensures.outside (c.in_ok-props.ensures.outside (c.in_ok-objects.ensures.outside h))
+pub returns-in_err-props-clause-reads : goal.returns-in_err-props-clause-reads
+returns-in_err-props-clause-reads g c = hands_on c.from_residual-in_err-props.result c.from_residual-in_err-props.ensures.1 (read_then c.in_ok-objects.ensures.reads c.in_err-props.ensures.reads)
 
-pub returns-in_err-verbs-clause-outside : goal.returns-in_err-verbs-clause-outside
-returns-in_err-verbs-clause-outside g c h = c.in_err-verbs.ensures.outside (c.in_ok-slots.ensures.outside (c.in_ok-props.ensures.outside (c.in_ok-objects.ensures.outside h)))
+pub returns-then-not-props-clause-reads : goal.returns-then-not-props-clause-reads
+returns-then-not-props-clause-reads g c = answers (read_then c.in_ok-objects.ensures.reads c.in_ok-props.ensures.reads)
 
-pub returns-clause-outside : goal.returns-clause-outside
-returns-clause-outside g c h = c.in_ok-verbs.ensures.outside (c.in_ok-slots.ensures.outside (c.in_ok-props.ensures.outside (c.in_ok-objects.ensures.outside h)))
+pub returns-in_err-slots-clause-reads : goal.returns-in_err-slots-clause-reads
+returns-in_err-slots-clause-reads g c =
+    let two = read_then c.in_ok-objects.ensures.reads c.in_ok-props.ensures.reads in
+    hands_on c.from_residual-in_err-slots.result c.from_residual-in_err-slots.ensures.1 (read_then two c.in_err-slots.ensures.reads)
 
--- what was read
+pub returns-then-not-slots-clause-reads : goal.returns-then-not-slots-clause-reads
+returns-then-not-slots-clause-reads g c = answers (read_then (read_then c.in_ok-objects.ensures.reads c.in_ok-props.ensures.reads) c.in_ok-slots.ensures.reads)
 
-pub returns-then-not-props-clause-read : goal.returns-then-not-props-clause-read
-returns-then-not-props-clause-read g c = reads_then c.in_ok-objects.ensures.read c.in_ok-props.ensures.read
+pub returns-in_err-verbs-clause-reads : goal.returns-in_err-verbs-clause-reads
+returns-in_err-verbs-clause-reads g c =
+    let three = read_then (read_then c.in_ok-objects.ensures.reads c.in_ok-props.ensures.reads) c.in_ok-slots.ensures.reads in
+    hands_on c.from_residual-in_err-verbs.result c.from_residual-in_err-verbs.ensures.1 (read_then three c.in_err-verbs.ensures.reads)
 
-pub returns-then-not-slots-clause-read : goal.returns-then-not-slots-clause-read
-returns-then-not-slots-clause-read g c = reads_then (reads_then c.in_ok-objects.ensures.read c.in_ok-props.ensures.read) c.in_ok-slots.ensures.read
-
-pub returns-clause-read : goal.returns-clause-read
-returns-clause-read g c = reads_then (reads_then (reads_then c.in_ok-objects.ensures.read c.in_ok-props.ensures.read) c.in_ok-slots.ensures.read) c.in_ok-verbs.ensures.read
+pub returns-clause-reads : goal.returns-clause-reads
+returns-clause-reads g c =
+    let three = read_then (read_then c.in_ok-objects.ensures.reads c.in_ok-props.ensures.reads) c.in_ok-slots.ensures.reads in
+    read_then three c.in_ok-verbs.ensures.reads
 
 pub returns-clause-shown : goal.returns-clause-shown
 returns-clause-shown g c all =
-    takes_all (c.in_ok-objects.ensures.shown c.if-not-objects.false) (c.in_ok-props.ensures.shown c.if-not-props.false) (c.in_ok-slots.ensures.shown c.if-not-slots.false) (c.in_ok-verbs.ensures.shown all)
-    c.in_ok-objects.ensures.read c.in_ok-props.ensures.read c.in_ok-slots.ensures.read c.in_ok-verbs.ensures.read
-
--- what a query that fails leaves
-
-pub returns-in_err-objects-clause-failed : goal.returns-in_err-objects-clause-failed
-returns-in_err-objects-clause-failed g c = always c.from_residual.result c.in_err-objects.ensures.failed
-
-pub returns-in_err-props-clause-failed : goal.returns-in_err-props-clause-failed
-returns-in_err-props-clause-failed g c = always c.from_residual-in_err-props.result (fails_then c.in_ok-objects.ensures.read c.in_err-props.ensures.failed)
-
-pub returns-in_err-slots-clause-failed : goal.returns-in_err-slots-clause-failed
-returns-in_err-slots-clause-failed g c = always c.from_residual-in_err-slots.result (fails_then (reads_then c.in_ok-objects.ensures.read c.in_ok-props.ensures.read) c.in_err-slots.ensures.failed)
-
-pub returns-in_err-verbs-clause-failed : goal.returns-in_err-verbs-clause-failed
-returns-in_err-verbs-clause-failed g c = always c.from_residual-in_err-verbs.result (fails_then (reads_then (reads_then c.in_ok-objects.ensures.read c.in_ok-props.ensures.read) c.in_ok-slots.ensures.read) c.in_err-verbs.ensures.failed)
-
--- why it fails
-
-pub returns-in_err-objects-clause-cause : goal.returns-in_err-objects-clause-cause
-returns-in_err-objects-clause-cause g c = cause_of_first c.from_residual.result _ c.in_err-objects.ensures.failed c.from_residual.ensures.1 c.in_err-objects.ensures.cause
-
-pub returns-in_err-props-clause-cause : goal.returns-in_err-props-clause-cause
-returns-in_err-props-clause-cause g c =
-    cause_of_later c.from_residual-in_err-props.result _ c.in_ok-objects.ensures.read c.in_err-props.ensures.failed c.from_residual-in_err-props.ensures.1 c.in_err-props.ensures.cause
-
-pub returns-in_err-slots-clause-cause : goal.returns-in_err-slots-clause-cause
-returns-in_err-slots-clause-cause g c =
-    cause_of_later c.from_residual-in_err-slots.result _ (reads_then c.in_ok-objects.ensures.read c.in_ok-props.ensures.read) c.in_err-slots.ensures.failed c.from_residual-in_err-slots.ensures.1 c.in_err-slots.ensures.cause
-
-pub returns-in_err-verbs-clause-cause : goal.returns-in_err-verbs-clause-cause
-returns-in_err-verbs-clause-cause g c =
-    cause_of_later c.from_residual-in_err-verbs.result _ (reads_then (reads_then c.in_ok-objects.ensures.read c.in_ok-props.ensures.read) c.in_ok-slots.ensures.read) c.in_err-verbs.ensures.failed c.from_residual-in_err-verbs.ensures.1
-    c.in_err-verbs.ensures.cause
+    let v = c.args.version in
+    let one = c.in_ok-objects.ensures.shown (objects_keep v) c.if-not-objects.false in
+    let two = c.in_ok-props.ensures.shown (props_keep v) c.if-not-props.false in
+    let three = c.in_ok-slots.ensures.shown (slots_keep v) c.if-not-slots.false in
+    takes_all one two three (c.in_ok-verbs.ensures.shown (verbs_keep v) all) c.in_ok-objects.ensures.reads.read c.in_ok-props.ensures.reads.read c.in_ok-slots.ensures.reads.read c.in_ok-verbs.ensures.reads.read

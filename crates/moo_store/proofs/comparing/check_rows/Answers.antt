@@ -43,15 +43,15 @@ pub returns-then-shown-clause-checks : goal.returns-then-shown-clause-checks
 returns-then-shown-clause-checks g c = record {
   shown = λ clean tables rests. c.in-Ok-show_in_turn.ensures.shown clean c.if-shown.true tables rests (version_is (state g.S.Store c.args.conn.now) present tables c.in-Ok.ensures.ours rests);
   count = c.object_count.ensures;
-  rests = λ clean tables rests. rests_still g.S.Store c.args.conn.now c.show_in_turn.new.conn present c.args.own.now.maps c.in-Ok.ensures.ours c.in-Ok-show_in_turn.ensures.read clean tables rests;
+  rests = λ clean tables rests. rests_still g.S.Store c.args.conn.now c.show_in_turn.new.conn present c.args.own.now.maps c.in-Ok.ensures.ours c.in-Ok-show_in_turn.ensures.reads.read clean tables rests;
 }
 
 pub returns-then-shown-clause-keeps : goal.returns-then-shown-clause-keeps
 returns-then-shown-clause-keeps g c = record {
-  clean = c.in-Ok-show_in_turn.ensures.read.clean;
-  kept = λ clean opened tables rests. rests_still g.S.Store c.args.conn.now c.show_in_turn.new.conn present c.args.own.now.maps c.in-Ok.ensures.ours c.in-Ok-show_in_turn.ensures.read clean tables rests;
-  unread = λ clean opened tables rests. unread_read (state g.S.Store c.args.conn.now) (state g.S.Store c.show_in_turn.new.conn) c.in-Ok.ensures.ours c.in-Ok-show_in_turn.ensures.read clean;
-  crash = c.in-Ok-show_in_turn.ensures.read.crash (λ _. c.in-Ok.ensures.ours);
+  clean = c.in-Ok-show_in_turn.ensures.reads.read.clean;
+  kept = λ clean opened tables rests. rests_still g.S.Store c.args.conn.now c.show_in_turn.new.conn present c.args.own.now.maps c.in-Ok.ensures.ours c.in-Ok-show_in_turn.ensures.reads.read clean tables rests;
+  unread = λ clean opened tables rests. unread_read (state g.S.Store c.args.conn.now) (state g.S.Store c.show_in_turn.new.conn) c.in-Ok.ensures.ours c.in-Ok-show_in_turn.ensures.reads.read clean;
+  crash = c.in-Ok-show_in_turn.ensures.reads.read.crash (λ _. c.in-Ok.ensures.ours);
 }
 
 -- all were read again
@@ -62,16 +62,16 @@ returns-in-Ok-read_lists-clause-checks g c =
     checked_by (AreListed c.in-Ok-read_lists.lists) c.args.own.now.maps (tables_of c.in-Ok-read_lists.lists) (state g.S.Store c.args.conn.now) (state g.S.Store c.read_lists.new.conn) c.compare_lists.result is.shown is.count is.fault
     (λ clean tables rests.
     let is = version_is (state g.S.Store c.args.conn.now) present tables c.in-Ok.ensures.ours rests in
-    c.in-Ok-read_lists.ensures.rise clean tables is (rests_read tables c.in-Ok-show_in_turn.ensures.read (c.in-Ok-read_lists.ensures.read.clean clean) is rests))
+    c.in-Ok-read_lists.ensures.rise clean tables is (rests_read tables c.in-Ok-show_in_turn.ensures.reads.read (c.in-Ok-read_lists.ensures.read.clean clean) is rests))
     is.whole
     (λ clean tables rests.
     let is = version_is (state g.S.Store c.args.conn.now) present tables c.in-Ok.ensures.ours rests in
-    c.in-Ok-read_lists.ensures.listed clean tables is (rests_read tables c.in-Ok-show_in_turn.ensures.read (c.in-Ok-read_lists.ensures.read.clean clean) is rests))
-    (λ clean tables rests. rests_still g.S.Store c.args.conn.now c.read_lists.new.conn present c.args.own.now.maps c.in-Ok.ensures.ours (reads_then c.in-Ok-show_in_turn.ensures.read c.in-Ok-read_lists.ensures.read) clean tables rests)
+    c.in-Ok-read_lists.ensures.listed clean tables is (rests_read tables c.in-Ok-show_in_turn.ensures.reads.read (c.in-Ok-read_lists.ensures.read.clean clean) is rests))
+    (λ clean tables rests. rests_still g.S.Store c.args.conn.now c.read_lists.new.conn present c.args.own.now.maps c.in-Ok.ensures.ours (reads_then c.in-Ok-show_in_turn.ensures.reads.read c.in-Ok-read_lists.ensures.read) clean tables rests)
 
 pub returns-in-Ok-read_lists-clause-keeps : goal.returns-in-Ok-read_lists-clause-keeps
 returns-in-Ok-read_lists-clause-keeps g c =
-    let read = reads_then c.in-Ok-show_in_turn.ensures.read c.in-Ok-read_lists.ensures.read in
+    let read = reads_then c.in-Ok-show_in_turn.ensures.reads.read c.in-Ok-read_lists.ensures.read in
     record {
       clean = read.clean;
       kept = λ clean opened tables rests. rests_still g.S.Store c.args.conn.now c.read_lists.new.conn present c.args.own.now.maps c.in-Ok.ensures.ours read clean tables rests;
@@ -85,7 +85,7 @@ pub returns-in-Err-show_in_turn-clause-checks : goal.returns-in-Err-show_in_turn
 returns-in-Err-show_in_turn-clause-checks g c =
     let old = state g.S.Store c.args.conn.now in
     let new = state g.S.Store c.show_in_turn.new.conn in
-    let stops = λ (clean : HasCleanDisk new). told_so (StopsQuery old new) c.in-Err-show_in_turn.error c.failure_of.result (not_a_database old new) c.failure_of.ensures.same (c.in-Err-show_in_turn.ensures.cause clean c.in-Ok.ensures.ours) in
+    let stops = λ (clean : HasCleanDisk new). told_so (StopsQuery old new) c.in-Err-show_in_turn.error c.failure_of.result (not_a_database old new) c.failure_of.ensures.same (c.in-Err-show_in_turn.ensures.reads.cause clean c.in-Ok.ensures.ours) in
     failed c.args.own.now.maps old new c.failure_of.result c.failure_of.ensures.store stops
 
 pub returns-in-Err-read_lists-clause-checks : goal.returns-in-Err-read_lists-clause-checks
@@ -96,23 +96,23 @@ returns-in-Err-read_lists-clause-checks g c =
     let fault = c.in-Err-read_lists.fault in
     let stops = λ (clean : HasCleanDisk new).
     let early = c.in-Err-read_lists.ensures.failed.clean clean in
-    let there = has_still g.S.Store c.args.conn.now c.show_in_turn.new.conn present c.args.own.now.maps c.in-Ok.ensures.ours c.in-Ok-show_in_turn.ensures.read early in
-    stopped_after present old mid new fault c.in-Ok-show_in_turn.ensures.read c.in-Ok.ensures.ours early (c.in-Err-read_lists.ensures.cause clean there) in
+    let there = has_still g.S.Store c.args.conn.now c.show_in_turn.new.conn present c.args.own.now.maps c.in-Ok.ensures.ours c.in-Ok-show_in_turn.ensures.reads.read early in
+    stopped_after present old mid new fault c.in-Ok-show_in_turn.ensures.reads.read c.in-Ok.ensures.ours early (c.in-Err-read_lists.ensures.cause clean there) in
     failed c.args.own.now.maps old new fault c.in-Err-read_lists.ensures.fault stops
 
 pub returns-in-Err-show_in_turn-clause-keeps : goal.returns-in-Err-show_in_turn-clause-keeps
 returns-in-Err-show_in_turn-clause-keeps g c =
-    let fails = c.in-Err-show_in_turn.ensures.failed in
+    let fails = c.in-Err-show_in_turn.ensures.reads.failed in
     record {
       clean = fails.clean;
-      kept = λ clean opened tables rests. still (state g.S.Store c.args.conn.now) (state g.S.Store c.show_in_turn.new.conn) c.in-Ok.ensures.ours fails (c.show_in_turn.ensures.outside c.requires.outside) clean opened tables rests;
-      unread = λ clean opened tables rests. unread_still (state g.S.Store c.args.conn.now) (state g.S.Store c.show_in_turn.new.conn) c.in-Ok.ensures.ours fails (c.show_in_turn.ensures.outside c.requires.outside) clean opened tables rests;
+      kept = λ clean opened tables rests. still (state g.S.Store c.args.conn.now) (state g.S.Store c.show_in_turn.new.conn) c.in-Ok.ensures.ours fails (c.show_in_turn.ensures.reads.outside c.requires.outside) clean opened tables rests;
+      unread = λ clean opened tables rests. unread_still (state g.S.Store c.args.conn.now) (state g.S.Store c.show_in_turn.new.conn) c.in-Ok.ensures.ours fails (c.show_in_turn.ensures.reads.outside c.requires.outside) clean opened tables rests;
       crash = fails.crash (λ _. c.in-Ok.ensures.ours);
     }
 
 pub returns-in-Err-read_lists-clause-keeps : goal.returns-in-Err-read_lists-clause-keeps
 returns-in-Err-read_lists-clause-keeps g c =
-    let fails = fails_then c.in-Ok-show_in_turn.ensures.read c.in-Err-read_lists.ensures.failed in
+    let fails = fails_then c.in-Ok-show_in_turn.ensures.reads.read c.in-Err-read_lists.ensures.failed in
     record {
       clean = fails.clean;
       kept = λ clean opened tables rests. still (state g.S.Store c.args.conn.now) (state g.S.Store c.read_lists.new.conn) c.in-Ok.ensures.ours fails c.in-Err-read_lists.ensures.outside clean opened tables rests;

@@ -1,4 +1,4 @@
-use Rattle.moo_tables.{proofs.Words.{clean_before, on_ok, stays_then}, proofs.CreateLemmas.{makes_head, makes_object, makes_prop, makes_slot, makes_verb}, proofs.FirstLemmas.{head_fails, object_fails, prop_fails, slot_fails, verb_fails, begins_head, begins_object, begins_prop, begins_slot}}
+use Rattle.moo_tables.{proofs.Words.{clean_before, on_ok, stays_then}, proofs.CreateLemmas.{makes_head, makes_object, makes_prop, makes_slot, makes_verb}, proofs.FirstLemmas.{head_fails, begins_head, goes_on, stops_early, stops_late, object_making, prop_making, slot_making, verb_making}}
 use Rattle.moo_tables.proofs.creating.create_first_tables.Goals as goal
 
 pub returns-in_err-run-2-clause-inside : goal.returns-in_err-run-2-clause-inside
@@ -32,25 +32,25 @@ returns-in_err-run-clause-cause g c = head_fails (g.T.Run.state c.args.tx.now) (
 pub returns-in_err-run-2-clause-cause : goal.returns-in_err-run-2-clause-cause
 returns-in_err-run-2-clause-cause g c =
     let one = begins_head c.in_ok-run.field-0 c.run.ensures.inside c.in_ok-run.ensures.ran in
-    object_fails one c.run-2.ensures.inside c.from_residual-in_err-run-2.result _ c.from_residual-in_err-run-2.ensures.1 c.in_err-run-2.ensures.executes
+    stops_early object_making one c.run-2.ensures.inside c.from_residual-in_err-run-2.result _ c.from_residual-in_err-run-2.ensures.1 c.in_err-run-2.ensures.executes
 
 pub returns-in_err-run-3-clause-cause : goal.returns-in_err-run-3-clause-cause
 returns-in_err-run-3-clause-cause g c =
     let one = begins_head c.in_ok-run.field-0 c.run.ensures.inside c.in_ok-run.ensures.ran in
-    let two = begins_object one c.run-2.ensures.inside c.in_ok-run-2.field-0 c.in_ok-run-2.ensures.ran in
-    prop_fails two c.run-3.ensures.inside c.from_residual-in_err-run-3.result _ c.from_residual-in_err-run-3.ensures.1 c.in_err-run-3.ensures.executes
+    let two = goes_on object_making one c.run-2.ensures.inside c.in_ok-run-2.field-0 c.in_ok-run-2.ensures.ran in
+    stops_early prop_making two c.run-3.ensures.inside c.from_residual-in_err-run-3.result _ c.from_residual-in_err-run-3.ensures.1 c.in_err-run-3.ensures.executes
 
 pub returns-in_err-run-4-clause-cause : goal.returns-in_err-run-4-clause-cause
 returns-in_err-run-4-clause-cause g c =
     let one = begins_head c.in_ok-run.field-0 c.run.ensures.inside c.in_ok-run.ensures.ran in
-    let two = begins_object one c.run-2.ensures.inside c.in_ok-run-2.field-0 c.in_ok-run-2.ensures.ran in
-    let three = begins_prop two c.run-3.ensures.inside c.in_ok-run-3.field-0 c.in_ok-run-3.ensures.ran in
-    slot_fails three c.run-4.ensures.inside c.from_residual-in_err-run-4.result _ c.from_residual-in_err-run-4.ensures.1 c.in_err-run-4.ensures.executes
+    let two = goes_on object_making one c.run-2.ensures.inside c.in_ok-run-2.field-0 c.in_ok-run-2.ensures.ran in
+    let three = goes_on prop_making two c.run-3.ensures.inside c.in_ok-run-3.field-0 c.in_ok-run-3.ensures.ran in
+    stops_early slot_making three c.run-4.ensures.inside c.from_residual-in_err-run-4.result _ c.from_residual-in_err-run-4.ensures.1 c.in_err-run-4.ensures.executes
 
 pub returns-clause-cause : goal.returns-clause-cause
 returns-clause-cause g c =
     let one = begins_head c.in_ok-run.field-0 c.run.ensures.inside c.in_ok-run.ensures.ran in
-    let two = begins_object one c.run-2.ensures.inside c.in_ok-run-2.field-0 c.in_ok-run-2.ensures.ran in
-    let three = begins_prop two c.run-3.ensures.inside c.in_ok-run-3.field-0 c.in_ok-run-3.ensures.ran in
-    let four = begins_slot three c.run-4.ensures.inside c.in_ok-run-4.field-0 c.in_ok-run-4.ensures.ran in
-    verb_fails four c.run-5.ensures.inside c.run-5.result c.run-5.ensures.executes
+    let two = goes_on object_making one c.run-2.ensures.inside c.in_ok-run-2.field-0 c.in_ok-run-2.ensures.ran in
+    let three = goes_on prop_making two c.run-3.ensures.inside c.in_ok-run-3.field-0 c.in_ok-run-3.ensures.ran in
+    let four = goes_on slot_making three c.run-4.ensures.inside c.in_ok-run-4.field-0 c.in_ok-run-4.ensures.ran in
+    stops_late verb_making four c.run-5.ensures.inside c.run-5.result c.run-5.ensures.executes

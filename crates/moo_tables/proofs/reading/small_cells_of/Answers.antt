@@ -1,41 +1,37 @@
-use Rattle.moo_tables.{proofs.Words.{refl, state, select_text, head_table, always}, proofs.SelectLemmas.{select_head}, proofs.ReadCauseLemmas.{cause_of_first, cause_of_later}, proofs.QueryCauseLemmas.{list_stops}, proofs.ReadLemmas.{rests_read, has_read, has_failed, fails_then, reads_or, clean_or, plain_of, head_lists}}
+use Rattle.moo_tables.{proofs.Words.{sym, ap, ◌∙◌, has_petitions}, proofs.ReadLemmas.{rests_read, hands_on, answers, read_then, none_listed}}
 use Rattle.moo_tables.proofs.reading.small_cells_of.Goals as goal
 
-pub returns-in_err-head-clause-failed : goal.returns-in_err-head-clause-failed
-returns-in_err-head-clause-failed g c = always c.from_residual.result (has_failed (select_head c.args.version) c.in_err-head.ensures.survives c.in_err-head.ensures.kept)
+pub returns-in_err-head-clause-reads : goal.returns-in_err-head-clause-reads
+returns-in_err-head-clause-reads g c = hands_on c.from_residual.result c.from_residual.ensures.1 c.in_err-head.ensures.reads
 
-pub returns-in_err-petition-clause-outside : goal.returns-in_err-petition-clause-outside
-returns-in_err-petition-clause-outside g c h = c.in_err-petition.ensures.outside (c.in_ok-head.ensures.outside h)
+pub returns-then-not-has_petitions-clause-reads : goal.returns-then-not-has_petitions-clause-reads
+returns-then-not-has_petitions-clause-reads g c = answers c.in_ok-head.ensures.reads
 
-pub returns-in_err-petition-clause-failed : goal.returns-in_err-petition-clause-failed
-returns-in_err-petition-clause-failed g c =
-    let one = has_read (select_head c.args.version) c.in_ok-head.ensures.survives c.in_ok-head.head c.in_ok-head.ensures.shown in
-    always c.from_residual-in_err-petition.result (fails_then one c.in_err-petition.ensures.failed)
+pub returns-then-not-has_petitions-clause-listed : goal.returns-then-not-has_petitions-clause-listed
+returns-then-not-has_petitions-clause-listed g c clean tables was is =
+    let none = none_listed _ tables was.holds (ap has_petitions is ∙ sym c.has_petitions.ensures ∙ c.if-not-has_petitions.true) in
+    rw (c.new.ensures.items, c.new-then-not-has_petitions.ensures.items) (c.in_ok-head.ensures.listed clean tables was is, none.0, none.1)
 
-pub returns-clause-outside : goal.returns-clause-outside
-returns-clause-outside g c h = c.in_ok-petition.ensures.outside (c.in_ok-head.ensures.outside h)
+pub cells_of-requires-2 : goal.cells_of-requires-2
+cells_of-requires-2 g c = sym c.has_petitions.ensures ∙ c.if-not-has_petitions.false
 
-pub returns-clause-read : goal.returns-clause-read
-returns-clause-read g c =
-    let one = has_read (select_head c.args.version) c.in_ok-head.ensures.survives c.in_ok-head.head c.in_ok-head.ensures.shown in
-    reads_or (state g.S.Store) one c.in_ok-petition.ensures.read
+pub cells_of-requires-3 : goal.cells_of-requires-3
+cells_of-requires-3 g c = sym c.has_petitions.ensures ∙ c.if-not-has_petitions.false
+
+pub returns-in_err-petition-clause-reads : goal.returns-in_err-petition-clause-reads
+returns-in_err-petition-clause-reads g c = hands_on c.from_residual-in_err-petition.result c.from_residual-in_err-petition.ensures.1 (read_then c.in_ok-head.ensures.reads c.in_err-petition.ensures.reads)
+
+pub returns-in_err-petition_head-clause-reads : goal.returns-in_err-petition_head-clause-reads
+returns-in_err-petition_head-clause-reads g c =
+    hands_on c.from_residual-in_err-petition_head.result c.from_residual-in_err-petition_head.ensures.1 (read_then (read_then c.in_ok-head.ensures.reads c.in_ok-petition.ensures.reads) c.in_err-petition_head.ensures.reads)
+
+pub returns-clause-reads : goal.returns-clause-reads
+returns-clause-reads g c = answers (read_then (read_then c.in_ok-head.ensures.reads c.in_ok-petition.ensures.reads) c.in_ok-petition_head.ensures.reads)
 
 pub returns-clause-listed : goal.returns-clause-listed
-returns-clause-listed g c late tables was is =
-    let one = has_read (select_head c.args.version) c.in_ok-head.ensures.survives c.in_ok-head.head c.in_ok-head.ensures.shown in
-    let clean1 = clean_or (state g.S.Store) c.in_ok-petition.ensures.read late in
-    let after1 = rests_read tables one clean1 is was in
-    let beside = c.in_ok-petition.ensures.listed late tables after1 is in (
-      head_lists _ _ c.in_ok-head.head.items tables was.holds (c.in_ok-head.ensures.shown clean1 (plain_of (select_text head_table) _ tables tables.version was.holds refl (select_head tables.version).plain)),
-      beside.0,
-      beside.1,
-    )
-
-pub returns-in_err-head-clause-cause : goal.returns-in_err-head-clause-cause
-returns-in_err-head-clause-cause g c =
-    cause_of_first c.from_residual.result _ (has_failed (select_head c.args.version) c.in_err-head.ensures.survives c.in_err-head.ensures.kept) c.from_residual.ensures.1 (list_stops (select_head c.args.version) c.in_err-head.ensures.survives c.in_err-head.ensures.cause)
-
-pub returns-in_err-petition-clause-cause : goal.returns-in_err-petition-clause-cause
-returns-in_err-petition-clause-cause g c =
-    let one = has_read (select_head c.args.version) c.in_ok-head.ensures.survives c.in_ok-head.head c.in_ok-head.ensures.shown in
-    cause_of_later c.from_residual-in_err-petition.result _ one c.in_err-petition.ensures.failed c.from_residual-in_err-petition.ensures.1 c.in_err-petition.ensures.cause
+returns-clause-listed g c clean tables was is =
+    let clean2 = c.in_ok-petition_head.ensures.reads.read.clean clean in
+    let clean1 = c.in_ok-petition.ensures.reads.read.clean clean2 in
+    let after1 = rests_read tables c.in_ok-head.ensures.reads.read clean1 is was in
+    let after2 = rests_read tables c.in_ok-petition.ensures.reads.read clean2 is after1 in
+    (c.in_ok-head.ensures.listed clean1 tables was is, c.in_ok-petition.ensures.listed clean2 tables after1 is, c.in_ok-petition_head.ensures.listed clean tables after2 is)
