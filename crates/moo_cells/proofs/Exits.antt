@@ -1,5 +1,5 @@
 -- What a call's result says of what is returned after it.
-use Rattle.moo_cells.proofs.Words.{Option, Some, None, Result, Ok, Err, IfSome, IfOk, IfErr, OnOk}
+use Rattle.moo_cells.proofs.Words.{Option, Some, None, Result, Ok, Err, IfSome, IfOk, IfErr}
 
 pub both_ok : {T E : Type 0} (P Q S : T → Type 0) (r : Result T E) → IfOk r P → IfOk r Q → ((x : T) → P x → Q x → S x) → IfOk r S
 both_ok P Q S (Ok x) p q f = f x p q

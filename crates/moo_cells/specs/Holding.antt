@@ -111,7 +111,8 @@ pub record KeepsTable {K X : Type 0} (cmp : K → K → Ordering) (reads : K →
   pub again : (xs ys : List Row) → IsPermutation xs ys → apart xs → apart ys
   pub held_again : (xs ys : List Row) (m : FinMap cmp X) → IsPermutation xs ys → apart xs → holds ys (get m) → holds xs (get m)
   pub shown : (rows : List Row) (m : FinMap cmp X) → ShowEach reads rows (entries m) → holds rows (get m)
-  pub each : (rows : List Row) (m : FinMap cmp X) → holds rows (get m) → (key : K) (row : X) → get m key ≡ Some row → (cells : Row) × reads key cells row
+  pub each : (rows : List Row) (m : FinMap cmp X) → holds rows (get m) → (key : K) (row : X) → get m key ≡ Some row
+      → (cells : Row) × reads key cells row
   pub whole : (rows : List Row) → apart rows → AllByRecursion Whole rows
   pub first : (front : List Row) (r : Row) (rest : List Row) (m : FinMap cmp X) (key : Key) → in_order (front ++ r ∷ rest) → holds front (get m)
       → ¬ (IsRead reads r) → tells r key → unread (front ++ r ∷ rest) (Damaged BadCell key)

@@ -1,26 +1,19 @@
 -- What the statements do that make the tables of the present version of those of an earlier one.
-use Rattle.moo_tables.{proofs.Words.{◌≡◌, ℕ, List, [], ◌∷◌, Ok, Err, Result, OnOk, refl, sym, ap, subst, ◌∙◌, Schema, Database, Error, State, HasCleanDisk, First, Tables, schema_of, first_schema, slot2_schema, petition_schema, second_schema, slot2_table, petition_table, petition_head_table, numbered_in, paired_in, head_places, object_places, prop_places, slot_places, verb_places, petition_places, petition_head_places, with_counter, AreKeyed, HasNoSlot, Holds, Sees, StaysInside, Changes, RanStatement, IsGrown, GrowsTables, grown, no_tables, KeepsUnread, create_text, IsEarlier, IsUnderWay, no_rows, present_schema, create_slot2_is, create_petition_is, create_petition_head_is, of_version, clean_before, only_first, same_tables}, proofs.CreateLemmas.{runs_making}}
+use Rattle.moo_tables.{proofs.Words.{◌≡◌, ℕ, List, [], ◌∷◌, ◌++◌, map, false, Table, lacks_sequence, IsMaking, Ok, Err, Result, OnOk, refl, sym, ap, subst, ◌∙◌, Schema, Database, Error, State, HasCleanDisk, First, Tables, schema_of, first_schema, slot2_schema, petition_schema, second_schema, slot2_table, petition_table, petition_head_table, numbered_in, paired_in, head_places, object_places, prop_places, slot_places, verb_places, petition_places, petition_head_places, with_counter, AreKeyed, HasNoSlot, Holds, Sees, StaysInside, Changes, RanStatement, IsGrown, GrowsTables, grown, no_tables, KeepsUnread, create_text, IsEarlier, IsUnderWay, no_rows, present_schema, create_petition_head_is, of_version, clean_before, only_first, same_tables}, proofs.CreateLemmas.{emptied, runs_making}}
+use Rattle.sqlite_catalog.specs.Change.{KeepsRows}
+use Rattle.sqlite.specs.Change.{next_tree}
 
-pub makes_slot2 : (old new : State) (count : ℕ) → RanStatement (create_text slot2_table) [] old new (Ok count) → HasCleanDisk new → (base : Database) → IsGrown base first_schema [] old.now → IsGrown base slot2_schema (7 ∷ []) new.now
-makes_slot2 old new count ran = λ clean base was.
-    let it = runs_making first_schema slot2_schema slot2_table create_slot2_is refl old new count was.schema_is (ran clean).1 in
-    let same = it.made.others in
+-- a statement makes one more table of those that the first version lacks
+pub grows : {before after : Schema} {table : Table} (added : List Table) → before.tables ≡ first_schema.tables ++ added → IsMaking before after table → lacks_sequence after ≡ false → (old new : State) (count : ℕ) → RanStatement (create_text table) [] old new (Ok count) → HasCleanDisk new → (base : Database)
+    → IsGrown base before (map (λ (t : Table). t.tree) added) old.now → IsGrown base after (map (λ (t : Table). t.tree) added ++ next_tree before ∷ []) new.now
+grows {before} {after} {table} added are is plain old new count ran clean base was =
+    let it = runs_making before after table is plain old new count was.schema_is (ran clean).1 in
+    let same = subst (λ tables. KeepsRows tables old.now.trees new.now.trees) are it.made.others in
     let kept = was.same in
     record {
       schema_is = it.made.schema_is;
       same = (same.0 ∙ kept.0, (same.1.0 ∙ kept.1.0, (same.1.1.0 ∙ kept.1.1.0, (same.1.1.1.0 ∙ kept.1.1.1.0, (same.1.1.1.1.0 ∙ kept.1.1.1.1.0, tt)))));
-      empty = (it.made.empty, tt);
-    }
-
-pub makes_petition : (old new : State) (count : ℕ) → RanStatement (create_text petition_table) [] old new (Ok count) → HasCleanDisk new → (base : Database) → IsGrown base slot2_schema (7 ∷ []) old.now → IsGrown base petition_schema (7 ∷ 9 ∷ []) new.now
-makes_petition old new count ran = λ clean base was.
-    let it = runs_making slot2_schema petition_schema petition_table create_petition_is refl old new count was.schema_is (ran clean).1 in
-    let same = it.made.others in
-    let kept = was.same in
-    record {
-      schema_is = it.made.schema_is;
-      same = (same.0 ∙ kept.0, (same.1.0 ∙ kept.1.0, (same.1.1.0 ∙ kept.1.1.0, (same.1.1.1.0 ∙ kept.1.1.1.0, (same.1.1.1.1.0 ∙ kept.1.1.1.1.0, tt)))));
-      empty = (same.1.1.1.1.1.0 ∙ was.empty.0, (it.made.empty, tt));
+      empty = emptied added old.now.trees new.now.trees (next_tree before) same.1.1.1.1.1 it.made.empty was.empty;
     }
 
 pub makes_petition_head : (old new : State) (r : Result ℕ Error) → RanStatement (create_text petition_head_table) [] old new r
@@ -28,15 +21,7 @@ pub makes_petition_head : (old new : State) (r : Result ℕ Error) → RanStatem
 makes_petition_head old new (Err e) ran = tt
 makes_petition_head old new (Ok count) ran = λ clean base was.
     let it = runs_making petition_schema second_schema petition_head_table create_petition_head_is refl old new count was.schema_is (ran clean).1 in
-    let same = it.made.others in
-    let kept = was.same in (
-      record {
-        schema_is = it.made.schema_is;
-        same = (same.0 ∙ kept.0, (same.1.0 ∙ kept.1.0, (same.1.1.0 ∙ kept.1.1.0, (same.1.1.1.0 ∙ kept.1.1.1.0, (same.1.1.1.1.0 ∙ kept.1.1.1.1.0, tt)))));
-        empty = (same.1.1.1.1.1.0 ∙ was.empty.0, (same.1.1.1.1.1.1.0 ∙ was.empty.1.0, (it.made.empty, tt)));
-      },
-      record { is_open = it.is_open; inside = (ran clean).0; sound = it.sound },
-    )
+    (grows (slot2_table ∷ petition_table ∷ []) refl create_petition_head_is refl old new count ran clean base was, record { is_open = it.is_open; inside = (ran clean).0; sound = it.sound })
 
 -- what they have made are the tables of the present version
 sees_grown : (base : Database) (new : State) (tables : Tables) → IsGrown base present_schema (7 ∷ 9 ∷ 10 ∷ []) new.now → IsUnderWay new → Holds base tables → tables.version ≡ First → Sees new (grown tables) × KeepsUnread base new.now

@@ -1,16 +1,16 @@
-//! The rows of the large tables, handed on while they are read: no list of the rows of a whole table is held.
+//! The rows of a table, handed on while they are read, so that no list of a whole table need be held.
 
-ghost use Rattle.std.specs.Prelude.{◌≡◌, ◌⊎◌, List, [], ◌∷◌, ◌++◌, IfOk, OnOk, OnErr, true, false};
+ghost use Rattle.std.specs.Prelude.{◌≡◌, List, [], ◌∷◌, ◌++◌, IfOk, OnOk, true, false};
 ghost use Rattle.sqlite.specs.Held.{state};
 ghost use Rattle.sqlite.specs.Given.{IsPlain};
 ghost use Rattle.sqlite.specs.Listing.{understood};
 ghost use Rattle.sqlite.specs.Order.{Row as Cells};
-ghost use Rattle.sqlite.specs.State.{HasCleanDisk, Shown, Survives, CommitsShowing, IsUnchanged, IsRolledBack};
+ghost use Rattle.sqlite.specs.State.{HasCleanDisk, Shown, Survives, CommitsShowing, IsUnchanged};
 ghost use Rattle.moo_tables.specs.Feeding.{AreTaken, AreFed};
 ghost use Rattle.moo_tables_rows.specs.Inside.{Rests};
 ghost use Rattle.moo_tables.specs.Listing.{HasTable, ListsTable};
 ghost use Rattle.moo_tables.specs.ReadCause.{HasCauseIfNotShown};
-ghost use Rattle.moo_tables.specs.Reading.{OnlyReads};
+ghost use Rattle.moo_tables.specs.Reading.{KeepsIfNotShown, OnlyReads};
 ghost use Rattle.moo_tables_rows.specs.Tables.{Tables};
 
 use crate::cell_table::CellTable;
@@ -52,7 +52,9 @@ fn add_row<T: TakeRows>(
 }
 
 /// Hands on all rows that a query without parameters answers, in its order. False if they can't be taken.
-pub(crate) fn feed_rows<S: Alter, T: TakeRows>(
+///
+/// The store hands them out some at a time. `query_all` of a connection would hold all values at once, and keep the room for them.
+fn feed_rows<S: Alter, T: TakeRows>(
     alloc: Global,
     conn: &mut Connection<S>,
     sql: &str,
@@ -64,9 +66,7 @@ pub(crate) fn feed_rows<S: Alter, T: TakeRows>(
         Shown sql.now [] (state S.Store conn.old) (state S.Store conn.new) rows)) }
     ensures same { HasCleanDisk (state S.Store conn.new) → IsPlain (understood (state S.Store conn.old).now.schema sql.now) →
         OnOk result (IsUnchanged (state S.Store conn.old) (state S.Store conn.new)) }
-    ensures kept { HasCleanDisk (state S.Store conn.new) → IsPlain (understood (state S.Store conn.old).now.schema sql.now) →
-        OnErr result (IsUnchanged (state S.Store conn.old) (state S.Store conn.new) ⊎
-        IsRolledBack (state S.Store conn.old) (state S.Store conn.new)) }
+    ensures kept { KeepsIfNotShown sql.now (state S.Store conn.old) (state S.Store conn.new) result }
     ensures cause { HasCauseIfNotShown sql.now (state S.Store conn.old) (state S.Store conn.new) result }
     ensures survives { Survives (state S.Store conn.old) (state S.Store conn.new) (CommitsShowing sql.now [] (state S.Store conn.old)) }
 {

@@ -53,7 +53,8 @@ pub fn cells_of<S: Alter>(
 ) -> Result<Vec<Row>, Error>
     requires { HasTable version table }
     ensures reads { OnlyReads version (state S.Store conn.old) (state S.Store conn.new) result }
-    ensures listed { Lists version (state S.Store conn.old) (state S.Store conn.new) result (λ rows tables. ListsTable table rows.items tables) }
+    ensures listed { Lists version (state S.Store conn.old) (state S.Store conn.new) result
+        (λ rows tables. ListsTable table rows.items tables) }
 {
     let mut listed = Listed {
         rows: Vec::new(alloc),

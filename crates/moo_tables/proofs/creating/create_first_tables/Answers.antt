@@ -1,4 +1,4 @@
-use Rattle.moo_tables.{proofs.Words.{clean_before, on_ok, stays_then}, proofs.CreateLemmas.{makes_head, makes_object, makes_prop, makes_slot, makes_verb}, proofs.FirstLemmas.{head_fails, begins_head, goes_on, stops_early, stops_late, object_making, prop_making, slot_making, verb_making}}
+use Rattle.moo_tables.{proofs.Words.{refl, create_head_is, create_object_is, create_prop_is, create_slot_is, clean_before, on_ok, stays_then}, proofs.CreateLemmas.{makes, makes_verb}, proofs.FirstLemmas.{head_fails, begins_head, goes_on, stops_early, stops_late, object_making, prop_making, slot_making, verb_making}}
 use Rattle.moo_tables.proofs.creating.create_first_tables.Goals as goal
 
 pub returns-in_err-run-2-clause-inside : goal.returns-in_err-run-2-clause-inside
@@ -20,9 +20,9 @@ returns-clause-made g c =
     let clean4 = clean_before _ _ _ c.run-5.ensures.inside.survives clean in
     let clean3 = clean_before _ _ _ c.run-4.ensures.inside.survives clean4 in
     let clean2 = clean_before _ _ _ c.run-3.ensures.inside.survives clean3 in
-    let head = makes_head _ _ c.in_ok-run.field-0 c.in_ok-run.ensures.ran (clean_before _ _ _ c.run-2.ensures.inside.survives clean2) none in
-    let prop = makes_prop _ _ c.in_ok-run-3.field-0 c.in_ok-run-3.ensures.ran clean3 (makes_object _ _ c.in_ok-run-2.field-0 c.in_ok-run-2.ensures.ran clean2 head) in
-    last clean (makes_slot _ _ c.in_ok-run-4.field-0 c.in_ok-run-4.ensures.ran clean4 prop))
+    let head = makes create_head_is refl _ _ c.in_ok-run.field-0 c.in_ok-run.ensures.ran (clean_before _ _ _ c.run-2.ensures.inside.survives clean2) none in
+    let prop = makes create_prop_is refl _ _ c.in_ok-run-3.field-0 c.in_ok-run-3.ensures.ran clean3 (makes create_object_is refl _ _ c.in_ok-run-2.field-0 c.in_ok-run-2.ensures.ran clean2 head) in
+    last clean (makes create_slot_is refl _ _ c.in_ok-run-4.field-0 c.in_ok-run-4.ensures.ran clean4 prop))
 
 -- why one fails
 

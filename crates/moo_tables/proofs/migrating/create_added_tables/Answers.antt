@@ -1,10 +1,10 @@
-use Rattle.moo_tables.{proofs.Words.{stays_then}, proofs.GrowLemmas.{makes_slot2, makes_petition, makes_petition_head, three_made}, proofs.StopMigrateLemmas.{first_fails, second_fails, third_fails}}
+use Rattle.moo_tables.{proofs.Words.{[], ◌∷◌, refl, slot2_table, create_slot2_is, create_petition_is, stays_then}, proofs.GrowLemmas.{grows, makes_petition_head, three_made}, proofs.StopMigrateLemmas.{first_fails, second_fails, third_fails}}
 use Rattle.moo_tables.proofs.migrating.create_added_tables.Goals as goal
 
 pub returns-clause-made : goal.returns-clause-made
 returns-clause-made g c =
     three_made (g.T.Run.state c.args.tx.now) c.run-3.result c.run-2.ensures.inside c.run-3.ensures.inside
-    (makes_slot2 (g.T.Run.state c.args.tx.now) (g.T.Run.state c.run.new.self) c.in_ok-run.field-0 c.in_ok-run.ensures.ran) (makes_petition (g.T.Run.state c.run.new.self) (g.T.Run.state c.run-2.new.self) c.in_ok-run-2.field-0 c.in_ok-run-2.ensures.ran)
+    (grows [] refl create_slot2_is refl (g.T.Run.state c.args.tx.now) (g.T.Run.state c.run.new.self) c.in_ok-run.field-0 c.in_ok-run.ensures.ran) (grows (slot2_table ∷ []) refl create_petition_is refl (g.T.Run.state c.run.new.self) (g.T.Run.state c.run-2.new.self) c.in_ok-run-2.field-0 c.in_ok-run-2.ensures.ran)
     (makes_petition_head (g.T.Run.state c.run-2.new.self) (g.T.Run.state c.run-3.new.self) c.run-3.result c.run-3.ensures.ran)
 
 pub returns-in_err-run-2-clause-inside : goal.returns-in_err-run-2-clause-inside
