@@ -31,21 +31,15 @@ made_cause a b Limit Wanted More opening.Refused told is so more h = absurd (h s
 pub over_cause : (a b : ℕ) (More : Type 0) (db : Trees) (e : Error) → (schema : Schema) → IsSound schema db → FailsToOpen db (MoreFaults a b) e → (e ≡ memory) ⊎ ((0 < b) ⊎ More)
 over_cause a b More db e schema sound (inl refused) = absurd (refused.1 schema sound)
 over_cause a b More db e schema sound (inr (stored.OutOfMemory, is, h)) = inl is
-over_cause a b More db e schema sound (inr (stored.Io, is, h)) = inr (inl (some_faults a b h))
-over_cause a b More db e schema sound (inr (stored.Corrupt, is, h)) = inr (inl (some_faults a b h))
-over_cause a b More db e schema sound (inr (stored.Full, is, h)) = inr (inl (some_faults a b h))
 over_cause a b More db e schema sound (inr (stored.Broken, is, h)) = absurd h
 over_cause a b More db e schema sound (inr (stored.Unstorable, is, h)) = absurd h
+over_cause a b More db e schema sound (inr (kind, is, h)) = inr (inl (some_faults a b h))
 
 -- looking whether there is a database stopped
 pub probe_cause : (a b : ℕ) (Limit More : Type 0) (e : log.Error) (told : Error) → (e ≡ wal.OutOfMemory → told ≡ memory) → (Limit → More) → HasCause a b (OnlyIf wal.Full Limit) e → (told ≡ memory) ⊎ ((0 < b) ⊎ More)
 probe_cause a b Limit More (wal.Io io) told is more h = inr (inl (some_faults a b h))
 probe_cause a b Limit More wal.OutOfMemory told is more h = inl (is refl)
-probe_cause a b Limit More wal.Full told is more h = inr (inr (more h.1))
-probe_cause a b Limit More wal.Closed told is more h = let bad : wal.Closed ≡ wal.Full = h.0 in cc
-probe_cause a b Limit More wal.NoSuchPage told is more h = let bad : wal.NoSuchPage ≡ wal.Full = h.0 in cc
-probe_cause a b Limit More wal.Corrupt told is more h = let bad : wal.Corrupt ≡ wal.Full = h.0 in cc
-probe_cause a b Limit More wal.Exists told is more h = let bad : wal.Exists ≡ wal.Full = h.0 in cc
+probe_cause a b Limit More e told is more h = inr (inr (more h.1))
 
 -- `sqlite` didn't open it
 pub asked_cause : (kind : StoreError) (a b : ℕ) (Limit Wanted : Type 0) (e : Error) → ¬ ¬ Wanted → FailsAs kind a b Limit Wanted e → (e ≡ memory) ⊎ ((0 < b) ⊎ Limit)

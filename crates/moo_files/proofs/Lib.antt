@@ -3,7 +3,6 @@ pub mod AgainLemmas
 mod BegunLemmas
 mod BlankLemmas
 mod CauseLemmas
-mod ClosingLemmas
 mod ContentsLemmas
 pub mod MakingLemmas
 pub mod OpenedLemmas

@@ -1,6 +1,5 @@
 -- From the moment that files hold to that at which a World opens over them, and what a migration leaves of it.
-use Rattle.moo_files.{proofs.Words.{◌≡◌, inl, inr, refl, ap, ap₂, sym, subst, ◌∙◌, Some, IfSome, Trees, Image, Ghosts, FileStore, Maps, IsGood, Tables, ShowsRows, Moment, AreTreesOf, BecomesPresent, IsSparedMoment, Works, World, Stands, Opens, IsLive, over_files, HoldsTrees, IsKept, IsMigrated, schema_of}, specs.Opened.{OpensAt}, proofs.ContentsLemmas.{rests_held, shows_trees}}
-use Rattle.sqlite.{specs.State.{State as Database}, specs.Start.{FindsIn}}
+use Rattle.moo_files.{proofs.Words.{◌≡◌, inl, inr, refl, ap, ap₂, sym, subst, ◌∙◌, Some, IfSome, Trees, Image, Ghosts, FileStore, Maps, IsGood, Tables, ShowsRows, Moment, AreTreesOf, BecomesPresent, IsSparedMoment, Works, World, Stands, HasCleanDisk, Held, file_state, over_files, HoldsTrees, IsKept, IsMigrated, schema_of}, specs.Opened.{OpensAt}, specs.Connected.{IsConnected, IsNewOrFound}, proofs.ContentsLemmas.{rests_held, shows_trees}}
 use Rattle.moo_cells.{proofs.CellsLemmas.{one_good}, proofs.GoodRows.{good_within}}
 use Rattle.moo_tables.proofs.SchemaLemmas.{one_schema, one_version}
 use Rattle.moo_tables_rows.{specs.Inside.{Rests, Leaves}, specs.Version.{IsEarlier}}
@@ -11,10 +10,10 @@ use Rattle.moo_store.{specs.Current.{unread_of}, specs.Moment.{AllCells}}
 pub one_rows : (tables : Tables) (rows m : Maps) → ShowsRows tables rows → IsGood rows → ShowsRows tables m → IsGood m → rows ≡ m
 one_rows tables rows m shows good other also = one_good tables rows m shows (good_within rows good) other also
 
-module _ {D : Type 0} {g : Ghosts D} (image : Image) (store : Database) (trees : Trees) (world : World (FileStore D g)) (opens : Opens store) (live : IsLive store) (found : FindsIn image store) (holds : HoldsTrees image trees)
-    (seen : (tables : Tables) → Rests store tables → (m now : Moment) × RestsAtMoment store tables m × BecomesPresent m now × Stands over_files world (Works now)) where
-  rests_in : (tables : Tables) → Leaves trees tables → Rests store tables
-  rests_in tables leaves = rests_held image store tables opens live found (record { trees = trees; holds = holds; such = leaves })
+module _ {D : Type 0} {g : Ghosts D} {image : Image} {conn : Held (FileStore D g)} (connected : IsConnected (IsNewOrFound image) conn) (clean : HasCleanDisk (file_state conn)) (trees : Trees) (holds : HoldsTrees image trees) (world : World (FileStore D g))
+    (seen : (tables : Tables) → Rests (file_state conn) tables → (m now : Moment) × RestsAtMoment (file_state conn) tables m × BecomesPresent m now × Stands over_files world (Works now)) where
+  rests_in : (tables : Tables) → Leaves trees tables → Rests (file_state conn) tables
+  rests_in tables leaves = rests_held connected clean tables (record { trees = trees; holds = holds; such = leaves })
 
   -- the rows of the moment at which it opens are good
   good_at : (m now : Moment) → BecomesPresent m now → Stands over_files world (Works now) → IsGood m.rows
@@ -30,7 +29,7 @@ module _ {D : Type 0} {g : Ghosts D} (image : Image) (store : Database) (trees :
       let c = is.1.0 in
       let it = seen c.tables (rests_in c.tables is.1.2) in
       let rows : it.0.rows ≡ m.rows = one_rows c.tables it.0.rows m.rows it.2.shows (good_at it.0 it.1 it.3 it.4) is.1.3 is.0 in
-      let unread : unread_of store.now.trees ≡ c.unread = ap unread_of (shows_trees image store trees opens found holds) ∙ is.1.4 in
+      let unread : unread_of (file_state conn).now.trees ≡ c.unread = ap unread_of (shows_trees connected clean trees holds) ∙ is.1.4 in
       let cells : it.0.cells ≡ m.cells = it.2.are ∙ ap (λ unread. Some (record { tables = c.tables; unread = unread })) unread ∙ sym is.1.1 in
       let same : it.0 ≡ m = ap₂ (λ rows cells. record { rows = rows; cells = cells }) rows cells in
       (it.1, subst (λ m. BecomesPresent m it.1) same it.3, it.4)

@@ -1,5 +1,5 @@
 -- What the fault of an open that failed says of the files.
-use Rattle.moo_files.{proofs.Words.{◌≡◌, ◌≢◌, ◌⊎◌, inl, inr, ◌<◌, IsTrue, refl, ap, Held, FileStore, file_state, sym, subst, ◌∙◌, ∥∥₁_elim, Ghosts, Files, Image, tally_of_files, Trees, Tables, store_error, FailsToOpenFiles, HoldsDatabase, faults_left, image_of, tally_left, Error, Leftover, not_ours, IsOfStore, StoreFault, HoldsTrees, ExcusesMalformed, IsUnopened, TakesForOurs, cannot_open, malformed, Remains, IsKept}, specs.Causes.{HasCauseOr, StopsOver}, specs.Opened.{Contents, Nothing, Database, Unfit, Refuses}, specs.Connected.{Unconnects}, proofs.RemainsLemmas.{keeps_more}, proofs.CauseLemmas.{some_faults}}
+use Rattle.moo_files.{proofs.Words.{◌≡◌, ◌≢◌, ◌⊎◌, inl, inr, ◌<◌, IsTrue, refl, ap, Held, FileStore, file_state, sym, subst, ◌∙◌, ∥∥₁_elim, Ghosts, Files, Image, tally_of_files, Trees, Tables, store_error, FailsToOpenFiles, HoldsDatabase, IsNothing, faults_left, image_of, tally_left, Error, Leftover, not_ours, IsOfStore, StoreFault, HoldsTrees, ExcusesMalformed, IsUnopened, TakesForOurs, cannot_open, malformed, Remains, IsKept}, specs.Causes.{HasCauseOr, StopsOver}, specs.Opened.{Contents, Nothing, Database, Unfit, Refuses}, specs.Connected.{Unconnects}, proofs.RemainsLemmas.{keeps_more}, proofs.CauseLemmas.{some_faults, asked_cause}}
 use Rattle.moo_files.specs.declared.remains.Remains.TheVariants as remains
 use Rattle.moo_store.specs.OpeningRows.{AreMigrated, StopsOpening}
 use Rattle.moo_tables.specs.ReadCause.{StopsQuery}
@@ -12,54 +12,46 @@ use Rattle.sqlite_store.specs.Report.{named}
 use Rattle.sqlite.specs.declared.error.ErrorCode.TheVariants as codes
 use Rattle.moo_store.specs.declared.fault.StoreFault.TheVariants as faults
 
-abbrev code_of : Error → ErrorCode
-code_of (SqliteFailure code) = code
-code_of other = codes.OutOfMemory
-
 -- which fault an error of `sqlite` is told as
 abbrev IsToldAs : Error → StoreFault → Type 0
 IsToldAs error fault = (error ≡ SqliteFailure codes.OutOfMemory → fault ≡ faults.OutOfMemory) × (error ≢ SqliteFailure codes.OutOfMemory → fault ≡ faults.Store error)
 
-module _ (error : Error) (fault : StoreFault) (told : IsToldAs error fault) where
-  by_code : (code : ErrorCode) → error ≡ SqliteFailure code → code ≢ codes.OutOfMemory → fault ≡ faults.Store (SqliteFailure code)
-  by_code code is other = told.1 (λ no. other (ap code_of (sym is ∙ no))) ∙ ap faults.Store is
+own_kind : (kind : StoreError) → store_error kind ≢ SqliteFailure codes.NotADatabase
+own_kind kinds.OutOfMemory is = cc
+own_kind kind is = cc
 
-  -- a fault of the disk isn't told as files that aren't ours
-  own_kind : (kind : StoreError) → error ≡ store_error kind → fault ≢ not_ours
-  own_kind kinds.OutOfMemory is ours = let both : faults.OutOfMemory ≡ not_ours = sym (told.0 is) ∙ ours in cc
-  own_kind kinds.Io is ours = let both : faults.Store (SqliteFailure codes.SystemIoFailure) ≡ not_ours = sym (by_code codes.SystemIoFailure is (λ no. cc)) ∙ ours in cc
-  own_kind kinds.Corrupt is ours = let both : malformed ≡ not_ours = sym (by_code codes.DatabaseCorrupt is (λ no. cc)) ∙ ours in cc
-  own_kind kinds.Full is ours = let both : faults.Store (SqliteFailure codes.DiskFull) ≡ not_ours = sym (by_code codes.DiskFull is (λ no. cc)) ∙ ours in cc
-  own_kind kinds.Broken is ours = let both : faults.Store (SqliteFailure codes.Closed) ≡ not_ours = sym (by_code codes.Closed is (λ no. cc)) ∙ ours in cc
-  own_kind kinds.Unstorable is ours = let both : faults.Store (SqliteFailure codes.TooBig) ≡ not_ours = sym (by_code codes.TooBig is (λ no. cc)) ∙ ours in cc
+module _ (error : Error) (fault : StoreFault) (told : IsToldAs error fault) where
+  never_told : (code : ErrorCode) → error ≢ SqliteFailure code → fault ≢ faults.Store (SqliteFailure code)
+  never_told code other is =
+      let so = told.1 (λ memory. let both : faults.OutOfMemory ≡ faults.Store (SqliteFailure code) = sym (told.0 memory) ∙ is in cc) in
+      let both : faults.Store error ≡ faults.Store (SqliteFailure code) = sym so ∙ is in
+      other cc
 
   module _ {D : Type 0} {g : Ghosts D} (files : Files D) (image : Image) (same : image_of g files ≡ image) (trees : Trees) (holds : HoldsTrees image trees) (left : Leftover D g) where
-    no_database : ¬ ¬ ((db : Trees) × HoldsDatabase (image_of g files) db)
-    no_database none = ∥∥₁_elim holds (λ x y. absurd x) (λ held. none (trees, subst (λ i. HoldsDatabase i trees) (sym same) held))
+    wanted : ¬ ¬ (((db : Trees) × HoldsDatabase (image_of g files) db) ⊎ IsNothing (image_of g files))
+    wanted none = ∥∥₁_elim holds (λ x y. absurd x) (λ held. none (inl (trees, subst (λ i. HoldsDatabase i trees) (sym same) held)))
 
     -- what refused a sound database
     pub opened_cause : FailsToOpenFiles files left error → (fault ≡ faults.OutOfMemory) ⊎ ((0 < faults_left left) ⊎ IsFullLeft left)
-    opened_cause (inl memory) = inl (told.0 memory)
-    opened_cause (inr (inl it)) = absurd (no_database (λ some. it.1 (inl some)))
-    opened_cause (inr (inr (inl it))) = inr (inl (some_faults _ _ it.1))
-    opened_cause (inr (inr (inr it))) = inr (inr it.1)
+    opened_cause failed = elim (asked_cause _ _ _ _ _ error wanted failed) [ inl memory ↦ inl (told.0 memory) | inr disk ↦ inr disk ]
 
+    -- a fault of the disk isn't told as files that aren't ours
     pub opened_own : FailsToOpenFiles files left error → fault ≢ not_ours
-    opened_own (inl memory) ours = let both : faults.OutOfMemory ≡ not_ours = sym (told.0 memory) ∙ ours in cc
-    opened_own (inr (inl it)) ours = no_database (λ some. it.1 (inl some))
-    opened_own (inr (inr (inl it))) ours = own_kind (named (tally_of_files g (files.log, files.db)) (tally_left left)) it.0 ours
-    opened_own (inr (inr (inr it))) ours = own_kind kinds.Full it.0 ours
+    opened_own (inl memory) ours = never_told codes.NotADatabase (λ is. cc) ours
+    opened_own (inr (inl it)) ours = wanted it.1
+    opened_own (inr (inr (inl it))) ours = never_told codes.NotADatabase (λ is. own_kind (named (tally_of_files g (files.log, files.db)) (tally_left left)) (sym it.0 ∙ is)) ours
+    opened_own (inr (inr (inr it))) ours = never_told codes.NotADatabase (λ is. cc (it.0)) ours
 
     pub opened_malformed : FailsToOpenFiles files left error → fault ≡ malformed → 0 < faults_left left
-    opened_malformed (inl memory) is = absurd (let both : faults.OutOfMemory ≡ malformed = sym (told.0 memory) ∙ is in cc)
-    opened_malformed (inr (inl it)) is = absurd (no_database (λ some. it.1 (inl some)))
-    opened_malformed (inr (inr (inl it))) is = some_faults _ _ it.1
-    opened_malformed (inr (inr (inr it))) is = absurd (let both : faults.Store (SqliteFailure codes.DiskFull) ≡ malformed = sym (by_code codes.DiskFull it.0 (λ no. cc)) ∙ is in cc)
+    opened_malformed (inl memory) told_so = absurd (never_told codes.DatabaseCorrupt (λ is. cc) told_so)
+    opened_malformed (inr (inl it)) told_so = absurd (wanted it.1)
+    opened_malformed (inr (inr (inl it))) told_so = some_faults _ _ it.1
+    opened_malformed (inr (inr (inr it))) told_so = absurd (never_told codes.DatabaseCorrupt (λ is. cc (it.0)) told_so)
 
 -- before `sqlite` was asked
 pub unfit_sound : (fault : StoreFault) → (fault ≡ cannot_open) ⊎ (fault ≡ not_ours) → fault ≢ malformed
-unfit_sound fault (inl is) both = let same : cannot_open ≡ malformed = sym is ∙ both in cc
-unfit_sound fault (inr is) both = let same : not_ours ≡ malformed = sym is ∙ both in cc
+unfit_sound fault (inl is) both = cc
+unfit_sound fault (inr is) both = cc
 
 pub unfit_of_store : (fault : StoreFault) → (fault ≡ cannot_open) ⊎ (fault ≡ not_ours) → IsOfStore fault
 unfit_of_store fault (inl is) = subst IsOfStore (sym is) tt
@@ -105,37 +97,27 @@ module _ {D : Type 0} {g : Ghosts D} (old : State) (last : Held (FileStore D g))
     abbrev Stops : StoreFault → Type 0
     Stops fault = StopsOver Migrated fault last
 
-    store_stops : (e : Error) (kind : StoreError) → e ≡ store_error kind → StoreCause old (file_state last) ⊥ kind → Stops (faults.Store e)
-    store_stops e kinds.OutOfMemory is h = inl (inr (ap faults.Store is))
-    store_stops e kinds.Io is h = inr (inl (some_faults _ _ h))
-    store_stops e kinds.Corrupt is h = inr (inl (some_faults _ _ h))
-    store_stops e kinds.Full is h = inr (inl (some_faults _ _ h))
-    store_stops e kinds.Broken is h = absurd (true≢false (sym is_open ∙ h))
-    store_stops e kinds.Unstorable is h = absurd h
+    store_stops : (TooBig : Type 0) → (TooBig → Stops (faults.Store (SqliteFailure codes.TooBig))) → (e : Error) (kind : StoreError) → e ≡ store_error kind → StoreCause old (file_state last) TooBig kind → Stops (faults.Store e)
+    store_stops TooBig big e kinds.OutOfMemory is h = inl (inr (ap faults.Store is))
+    store_stops TooBig big e kinds.Broken is h = absurd (true≢false (sym is_open ∙ h))
+    store_stops TooBig big e kinds.Unstorable is h = subst Stops (ap faults.Store (sym is)) (big h)
+    store_stops TooBig big e kind is h = inr (inl (some_faults _ _ h))
 
     no_limit : IsSome old.step_limit → ⊥
     no_limit some = true≢false (sym (subst IsSome unlimited some))
 
     query_stops : (e : Error) → StopsQuery old (file_state last) e → Stops (faults.Store e)
-    query_stops e (inl h) = store_stops e h.0 h.1 h.2
+    query_stops e (inl h) = store_stops ⊥ (λ never. absurd never) e h.0 h.1 h.2
     query_stops e (inr h) = absurd (no_limit h.1)
 
-    pub change_stops : (e : Error) → Migrated → StopsChange old (file_state last) e → Stops (faults.Store e)
-    change_stops e migrated (inl (kinds.OutOfMemory, is, h)) = inl (inr (ap faults.Store is))
-    change_stops e migrated (inl (kinds.Io, is, h)) = inr (inl (some_faults _ _ h))
-    change_stops e migrated (inl (kinds.Corrupt, is, h)) = inr (inl (some_faults _ _ h))
-    change_stops e migrated (inl (kinds.Full, is, h)) = inr (inl (some_faults _ _ h))
-    change_stops e migrated (inl (kinds.Broken, is, h)) = absurd (true≢false (sym is_open ∙ h))
-    change_stops e migrated (inl (kinds.Unstorable, is, h)) = inr (inr (migrated, inl (ap faults.Store is)))
+    change_stops : (e : Error) → Migrated → StopsChange old (file_state last) e → Stops (faults.Store e)
+    change_stops e migrated (inl (kind, is, h)) = store_stops _ (λ _. inr (inr (migrated, inl refl))) e kind is h
     change_stops e migrated (inr (inl h)) = absurd (no_limit h.1)
     change_stops e migrated (inr (inr h)) = inr (inr (migrated, inr (ap faults.Store h)))
 
-  opening_stops : (tables : Tables) (e : Error) → StopsQuery old (file_state last) e ⊎ (AreMigrated tables × StopsChange old (file_state last) e) → StopsOver (AreMigrated tables) (faults.Store e) last
-  opening_stops tables e (inl h) = query_stops (AreMigrated tables) e h
-  opening_stops tables e (inr h) = change_stops (AreMigrated tables) e h.0 h.1
-
   pub stops_over : (tables : Tables) (fault : StoreFault) → StopsOpening tables old (file_state last) fault → StopsOver (AreMigrated tables) fault last
-  stops_over tables (faults.Store e) it = opening_stops tables e it
+  stops_over tables (faults.Store e) (inl h) = query_stops (AreMigrated tables) e h
+  stops_over tables (faults.Store e) (inr h) = change_stops (AreMigrated tables) e h.0 h.1
   stops_over tables faults.OutOfMemory it = inl (inl refl)
   stops_over tables fault it = absurd it
 

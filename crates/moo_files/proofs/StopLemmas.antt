@@ -1,17 +1,9 @@
 -- From what the disk leaves of the bytes of two files to a database that their store may leave.
-use Rattle.std.{specs.Prelude.{IsSome}, proofs.Common.{inl, inr, IsTrue, refl, sym, subst, ◌∙◌}, proofs.Math.Logic.{∥∥₁_elim, ∥∥₁_map}}
+use Rattle.moo_files.{proofs.Words.{inl, inr, IsTrue, refl, sym, subst, ◌∙◌, ∥∥₁_elim, ∥∥₁_map, IsSome, Ghosts, Image, outcomes, PageMap, Recovers, IsOurs, FileStore, clean_of, HasCleanDisk, Held, AreDatabases, file_state, IsCleanLeft, Trees, Leftover, State, schema_of, LeavesState, Moment, HasCellsOf, AreTreesOf, IsSparedMoment, Place, moment_of, CrashLeavesAt, HoldsSuch, HoldsTrees, IsLeftBy, IsCleanRemains, LeftoverKeeps, KeepsSuch, Remains}, specs.Stop.{DiskLeaves, IsNumberedStore, LeftStoreLeaves, BytesLeave, AreNumbered}, proofs.RemainsLemmas.{such_more}}
 use mathlib.Core.HLevel.{Σ_prop_path}
-use Rattle.sqlite_disk.specs.declared.Disk.{Ghosts}
-use Rattle.sqlite_wal.{specs.Recovery.{Image}, specs.Files.{outcomes}}
-use Rattle.sqlite_pages.specs.PageMap.{PageMap}
-use Rattle.sqlite_pool.{specs.Stored.{Recovers}, specs.StoredLaws.{recovers_once}, proofs.PoolLemmas.{pages_from}, proofs.ResealLemmas.{adopts_of}, proofs.StateLemmas.{clean_is, may_leave_is, size_is_allowed}}
-use Rattle.sqlite_store.{specs.Listing.{IsOurs}, specs.FileStore.{state, view, files, schema_in, reading, recovers}, specs.declared.store.FileStore.{FileStore}}
-use Rattle.sqlite_trees.proofs.Doubt.{clean_of}
-use Rattle.sqlite.{specs.State.{State as Database, HasCleanDisk}, specs.Held.{Held, AreDatabases}, specs.Files.{file_state, IsCleanLeft}, specs.Tree.{Trees}, specs.declared.file.Leftover.{Leftover}}
-use Rattle.moo_world.specs.Judge.{State}
-use Rattle.moo_tables_rows.specs.Tables.{schema_of}
-use Rattle.moo_store.{specs.States.{LeavesState}, specs.Moment.{Moment, HasCellsOf, AreTreesOf, IsSparedMoment}, specs.Place.{Place, moment_of, CrashLeavesAt}}
-use Rattle.moo_files.{specs.Contents.{HoldsSuch, HoldsTrees, IsLeftBy}, specs.Remains.{IsCleanRemains, LeftoverKeeps, KeepsSuch}, specs.Stop.{DiskLeaves, IsNumberedStore, LeftStoreLeaves, BytesLeave, AreNumbered}, specs.declared.remains.Remains.{Remains}, proofs.RemainsLemmas.{such_more}}
+use Rattle.sqlite_pool.{specs.StoredLaws.{recovers_once}, proofs.PoolLemmas.{pages_from}, proofs.ResealLemmas.{adopts_of}, proofs.StateLemmas.{clean_is, may_leave_is, size_is_allowed}}
+use Rattle.sqlite_store.specs.FileStore.{state, view, files, schema_in, reading, recovers}
+use Rattle.sqlite.specs.State.{State as Database}
 use Rattle.moo_files.specs.declared.remains.Remains.TheVariants as remains
 use Rattle.sqlite.specs.declared.file.Leftover.TheVariants as left
 
@@ -61,7 +53,7 @@ module _ {D : Type 0} {g : Ghosts D} where
   left_by_store now next clean sound (inl (numbered, lies)) = left_on_disk now next clean numbered sound lies
   left_by_store now next clean sound (inr holds) = holds
 
-  left_by_files : (T : Type 0) (P : Trees → Type 0) (image : Image) (rest : Leftover D g) (next : Image) → AreDatabases P → IsCleanLeft rest → LeftoverKeeps P image rest → BytesLeave {T = T} image (remains.Leftover rest) next → HoldsSuch P next
+  left_by_files : (T : Type 0) (P : Trees → Type 0) (image : Image) (rest : Leftover D g) (next : Image) → AreDatabases P → IsCleanLeft rest → LeftoverKeeps (HoldsSuch P) P image rest → BytesLeave {T = T} image (remains.Leftover rest) next → HoldsSuch P next
   left_by_files T P image (left.Files now) next sound clean keeps lies = keeps next lies
   left_by_files T P image (left.Unopened now) next sound clean keeps lies = (keeps next (may_leave_is now.pool next (sym (clean_is now.pool) ∙ clean) lies.0)).1 lies.1
   left_by_files T P image (left.Store now) next sound clean keeps lies =

@@ -82,13 +82,13 @@ module _ {D : Type 0} {g : Ghosts D} where
   abbrev pub IsResealed : Unopened D g → Image → Image → Type 0
   IsResealed now image found = NamesSize image (stored_size (state_of now).page_size) × StandsAs (state_of now).page_size image found
 
-  -- Whatever a crash leaves of files that held this image is such a database. If they were left while `sqlite` took them up and their
-  -- pages end in checksums, they may also be resealed.
-  abbrev pub LeftoverKeeps : (Trees → Type 0) → Image → Leftover D g → Type 0
-  LeftoverKeeps P image (left.Files now) = (found : Image) → outcomes g now.log now.db found → HoldsSuch P found
-  LeftoverKeeps P image (left.Unopened now) = (found : Image) → (state_of now).may_leave found →
-      (HoldsSuch P found ⊎ IsResealed now image found) × (HasNoSums image → HoldsSuch P found)
-  LeftoverKeeps P image (left.Store now) = (trees : Trees) → recovers now trees → P trees
+  -- Whatever a crash leaves of files that held this image is so, or is a database of which this is true. If they were left while `sqlite`
+  -- took them up and their pages end in checksums, they may also be resealed.
+  abbrev pub LeftoverKeeps : (Image → Type 0) → (Trees → Type 0) → Image → Leftover D g → Type 0
+  LeftoverKeeps Is P image (left.Files now) = (found : Image) → outcomes g now.log now.db found → Is found
+  LeftoverKeeps Is P image (left.Unopened now) = (found : Image) → (state_of now).may_leave found →
+      (Is found ⊎ IsResealed now image found) × (HasNoSums image → Is found)
+  LeftoverKeeps Is P image (left.Store now) = (trees : Trees) → recovers now trees → P trees
 
   -- A crash leaves what was there, or the same pages, resealed. If the pages weren't whole, it leaves what was there. It never leaves
   -- nothing, so that the next open doesn't write over it.
@@ -104,20 +104,18 @@ module _ {D : Type 0} {g : Ghosts D} where
   LeftoverSpares image (left.Unopened now) = (found : Image) → (state_of now).may_leave found → IsSparedAs now image found
   LeftoverSpares image (left.Store now) = (trees : Trees) → recovers now trees → AreFoundIn image trees
 
-  -- whatever a crash leaves of files that held nothing is nothing, a database without rows, or such a database
-  abbrev pub LeftoverBlank : (Trees → Type 0) → Leftover D g → Type 0
-  LeftoverBlank P (left.Files now) = (found : Image) → outcomes g now.log now.db found → HoldsNothingBut P found
-  LeftoverBlank P (left.Unopened now) = (found : Image) → (state_of now).may_leave found → HoldsNothingBut P found
-  LeftoverBlank P (left.Store now) = (trees : Trees) → recovers now trees → IsEmpty trees ⊎ P trees
-
 module _ {T D : Type 0} {g : Ghosts D} where
-  -- Files that held this image hold such a database, and so does what a crash leaves of them. Of files that weren't opened it is what
-  -- they held; of those that `sqlite` couldn't open nothing is said.
+  -- What files that held this image hold is so, and what a crash leaves of them. Of files that weren't opened it is what they held; of
+  -- those that `sqlite` couldn't open nothing is said. Of the databases that an open store leaves this is true.
+  abbrev pub KeepsAs : (Image → Type 0) → (Trees → Type 0) → Image → Remains T D g → Type 0
+  KeepsAs Is P image (remains.Untouched start) = Is image
+  KeepsAs Is P image (remains.NotOpened seal) = ⊤
+  KeepsAs Is P image (remains.Leftover left) = LeftoverKeeps Is P image left
+  KeepsAs Is P image (remains.Connection conn) = (trees : Trees) → (file_state conn).may_leave trees → P trees
+
+  -- files that held this image hold such a database
   abbrev pub KeepsSuch : (Trees → Type 0) → Image → Remains T D g → Type 0
-  KeepsSuch P image (remains.Untouched start) = HoldsSuch P image
-  KeepsSuch P image (remains.NotOpened seal) = ⊤
-  KeepsSuch P image (remains.Leftover left) = LeftoverKeeps P image left
-  KeepsSuch P image (remains.Connection conn) = (trees : Trees) → (file_state conn).may_leave trees → P trees
+  KeepsSuch P = KeepsAs (HoldsSuch P) P
 
   -- files that held this database hold it still, or what it was migrated to
   abbrev pub StillHoldsTrees : Image → Remains T D g → Trees → Type 0
@@ -129,10 +127,7 @@ module _ {T D : Type 0} {g : Ghosts D} where
 
   -- files that held nothing hold nothing still, a database without rows, or such a database
   abbrev pub KeepsNothingBut : (Trees → Type 0) → Image → Remains T D g → Type 0
-  KeepsNothingBut P image (remains.Untouched start) = HoldsNothingBut P image
-  KeepsNothingBut P image (remains.NotOpened seal) = ⊤
-  KeepsNothingBut P image (remains.Leftover left) = LeftoverBlank P left
-  KeepsNothingBut P image (remains.Connection conn) = (trees : Trees) → (file_state conn).may_leave trees → IsEmpty trees ⊎ P trees
+  KeepsNothingBut P = KeepsAs (HoldsNothingBut P) (λ trees. IsEmpty trees ⊎ P trees)
 
   -- Files that held this image are spared, sound or not. A connection comes back only if they read as a sound database.
   abbrev pub Spares : Image → Remains T D g → Type 0
