@@ -4,10 +4,6 @@ use Rattle.sqlite_pool.specs.Stored.{Adopts}
 use Rattle.std.{proofs.lemmas.List.{length-map}, proofs.lemmas.List.FromFn.{length-range_with_len}, specs.List.{range_with_len}}
 use Rattle.sqlite_wal.{specs.Format.{be32}, proofs.FormatLemmas.{be32-part}}
 
--- no file names a page of one byte
-one_byte : (db : List ℕ) → size_in_file db ≡ 1 → ⊥
-one_byte db one = grind arith
-
 no_byte : (first : List ℕ) → length first ≡ 0 → slice_index first 0 ≡ 83 → ⊥
 no_byte [] none byte = let never : 0 ≡ 83 = byte in omega (arith, never)
 no_byte (x ∷ xs) none byte = omega (arith, none)
@@ -29,7 +25,7 @@ named_large image size begun present names one =
             omega (arith, named, names.0 read, one, length-sealed (first_page 1024), first_length)
       ]
     ] in
-    by_log (λ ignored. one_byte image.db (sym (names.1 ignored) ∙ one))
+    by_log (λ ignored. let byte : size_in_file image.db ≡ 1 = sym (names.1 ignored) ∙ one in grind arith)
 
 pub begun_unreadable : (image : Image) (size : ℕ) → IsBlank image → NamesSize image (stored_size size) → BeginsWell (stored_size size) image → IsUnreadable size image
 begun_unreadable image size begun names begins pages found whole =

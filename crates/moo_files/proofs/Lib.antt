@@ -9,5 +9,4 @@ pub mod OpenedLemmas
 pub mod PresentLemmas
 mod RefusalLemmas
 pub mod RemainsLemmas
-pub mod StartLemmas
 pub mod StopLemmas

@@ -16,7 +16,12 @@ module _ {T D : Type 0} {g : Ghosts D} where
       (λ found kept. elim kept [ inl same ↦ inl same | inr made ↦ inr (made.0, goes found made.1) ]) image r it
 
   pub unmade_more : (P Q : Trees → Type 0) → ((trees : Trees) → P trees → Q trees) → (image : Image) (fault : StoreFault) (r : Remains T D g) → IsUnmadeIn P image fault r → IsUnmadeIn Q image fault r
-  unmade_more P Q goes image fault r it = record { of_store = it.of_store; stopped = it.stopped; spared = it.spared; kept = λ site is clean. site_more P Q goes image r site (it.kept site is clean) }
+  unmade_more P Q goes image fault r it = record {
+    of_store = it.of_store;
+    stopped = it.stopped;
+    spared = it.spared;
+    kept = λ site is clean. site_more P Q goes image r site (it.kept site is clean);
+  }
 
   -- a database that is kept as it is
   same_site : (image : Image) (r : Remains T D g) (trees : Trees) → KeepsSuch (λ found. found ≡ trees) image r → KeepsSite (λ _. ⊥) (Filled trees) image r

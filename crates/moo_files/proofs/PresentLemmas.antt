@@ -36,13 +36,6 @@ module _ {D : Type 0} {g : Ghosts D} {image : Image} {conn : Held (FileStore D g
 
 -- ---- what is kept of a database that has a moment
 
--- tables of an earlier version in a database that was migrated
-earlier_tables : (trees found : Trees) (tables : Tables) → IsMigrated trees found → Leaves trees tables → IsEarlier tables.version
-earlier_tables trees found tables migrated leaves =
-    let before = migrated.earlier in
-    let same : before.0 ≡ tables.version = one_version before.0 tables.version (one_schema tables.version trees (schema_of before.0) leaves.sound before.2) in
-    subst IsEarlier same before.1
-
 -- it has this moment still, or one of the same rows to which it was migrated
 pub spared_kept : (m : Moment) (trees found : Trees) → AreTreesOf m trees → IsKept trees found → (end : Moment) × IsSparedMoment m end × AreTreesOf end found
 spared_kept m trees found is (inl same) = (m, inl refl, subst (AreTreesOf m) (sym same) is)
@@ -51,5 +44,7 @@ spared_kept m trees found is (inr migrated) =
     let it = migrated.sound c.tables is.1.2 in
     let rows : it.0 ≡ m.rows = one_rows c.tables it.0 m.rows it.2 it.1 is.1.3 is.0 in
     let now : AllCells = record { tables = it.3.tables; unread = unread_of found } in
-    let earlier : IfSome m.cells (λ c. IsEarlier c.tables.version) = subst (λ cells. IfSome cells (λ (c : AllCells). IsEarlier c.tables.version)) (sym is.1.1) (earlier_tables trees found c.tables migrated is.1.2) in
+    let before = migrated.earlier in
+    let same : before.0 ≡ c.tables.version = one_version before.0 c.tables.version (one_schema c.tables.version trees (schema_of before.0) is.1.2.sound before.2) in
+    let earlier : IfSome m.cells (λ c. IsEarlier c.tables.version) = subst (λ cells. IfSome cells (λ (c : AllCells). IsEarlier c.tables.version)) (sym is.1.1) (subst IsEarlier same before.1) in
     (record { rows = m.rows; cells = Some now }, inr (earlier, refl), (is.0, (now, refl, it.3.leaves, subst (ShowsRows it.3.tables) rows it.3.shows, refl)))

@@ -1,5 +1,5 @@
 -- What the fault of an open that failed says of the files.
-use Rattle.moo_files.{proofs.Words.{◌≡◌, ◌≢◌, ◌⊎◌, inl, inr, ◌<◌, IsTrue, refl, ap, Held, FileStore, file_state, sym, subst, ◌∙◌, ∥∥₁_elim, Ghosts, Files, Image, tally_of_files, Trees, Tables, store_error, FailsToOpenFiles, HoldsDatabase, IsNothing, faults_left, image_of, tally_left, Error, Leftover, not_ours, IsOfStore, StoreFault, HoldsTrees, ExcusesMalformed, IsUnopened, TakesForOurs, cannot_open, malformed, Remains, IsKept}, specs.Causes.{HasCauseOr, StopsOver}, specs.Opened.{Contents, Nothing, Database, Unfit, Refuses}, specs.Connected.{Unconnects}, proofs.RemainsLemmas.{keeps_more}, proofs.CauseLemmas.{some_faults, asked_cause}}
+use Rattle.moo_files.{proofs.Words.{◌≡◌, ◌≢◌, ◌⊎◌, inl, inr, ◌<◌, IsTrue, refl, ap, Held, FileStore, file_state, sym, subst, ◌∙◌, ∥∥₁_elim, Ghosts, Files, Image, tally_of_files, Trees, Tables, store_error, FailsToOpenFiles, HoldsDatabase, IsNothing, faults_left, image_of, tally_left, Error, Leftover, not_ours, IsOfStore, StoreFault, HoldsTrees, ExcusesMalformed, IsUnopened, TakesForOurs, cannot_open, malformed, Remains, IsKept}, specs.Causes.{HasCauseOr, StopsOver}, specs.Opened.{Contents, Nothing, Database, Unfit, Refuses}, specs.Connected.{Unconnects}, proofs.RemainsLemmas.{keeps_more, by_unopened}, proofs.CauseLemmas.{some_faults, asked_cause}}
 use Rattle.moo_files.specs.declared.remains.Remains.TheVariants as remains
 use Rattle.moo_store.specs.OpeningRows.{AreMigrated, StopsOpening}
 use Rattle.moo_tables.specs.ReadCause.{StopsQuery}
@@ -59,9 +59,7 @@ unfit_of_store fault (inr is) = subst IsOfStore (sym is) tt
 
 module _ {T D : Type 0} {g : Ghosts D} where
   pub unopened_malformed : (fault : StoreFault) (r : Remains T D g) → IsUnopened r → fault ≢ malformed → ExcusesMalformed fault r
-  unopened_malformed fault (remains.Leftover left) unopened other = absurd unopened
-  unopened_malformed fault (remains.Connection conn) unopened other = absurd unopened
-  unopened_malformed fault r unopened other = other
+  unopened_malformed fault r unopened other = by_unopened (ExcusesMalformed fault) (λ start. other) (λ seal. other) r unopened
 
   pub takes_for_ours : (fault : StoreFault) (r : Remains T D g) → fault ≢ not_ours → TakesForOurs fault r
   takes_for_ours fault (remains.Untouched start) other = tt
@@ -78,12 +76,6 @@ module _ {T D : Type 0} {g : Ghosts D} where
     kept = keeps_more (λ found. found ≡ trees) (IsKept trees) (λ found same. inl same) image r it.kept;
   }
   refuses_unconnected image fault r store Unfit it = store
-
--- files that weren't opened were denied
-pub denied_cause : {T D : Type 0} {g : Ghosts D} (Over : Held (FileStore D g) → Type 0) (Denied : Type 0) (fault : StoreFault) (r : Remains T D g) → IsUnopened r → Denied → HasCauseOr Over Denied fault r
-denied_cause Over Denied fault (remains.Leftover left) unopened denied = absurd unopened
-denied_cause Over Denied fault (remains.Connection conn) unopened denied = absurd unopened
-denied_cause Over Denied fault r unopened denied = denied
 
 -- no connection to them is open
 pub unconnected_cause : {T D : Type 0} {g : Ghosts D} (Over : Held (FileStore D g) → Type 0) (Denied : Type 0) (fault : StoreFault) (r : Remains T D g) → HasCauseOr (λ _. ⊥) Denied fault r → HasCauseOr Over Denied fault r

@@ -1,6 +1,7 @@
 -- What is left of files that held an image.
 use Rattle.moo_files.{proofs.Words.{◌≡◌, ◌⊎◌, inl, inr, ℕ, ◌≤◌, false, IsTrue, refl, arith, sym, subst, ◌∙◌, ∥∥₁_elim, ∥∥₁_map, cases_eq, cases_Bool, Ghosts, Files, FileStore, Held, Image, IsIgnored, outcomes, stored_size, reserved, is_summed, StandsAs, IsUnreadable, size_by_log, size_by_file, reserved_word, state_of, Trees-set, Trees, IsNothing, IsEmpty, HoldsDatabase, NamesSize, SaysSums, BeginsWell, LeavesFiles, AreFoundIn, Finds, file_state, image_at, Leftover, IsBlank, SparesFiles, HoldsNone, HoldsTrees, HoldsSuch, HoldsNothingBut, ReadsAs, Remains, IsCleanRemains, IsUnopened, LeftoverKeeps, LeftoverSpares, KeepsAs, KeepsSuch, KeepsNothingBut, Spares}, proofs.BegunLemmas.{begun_unreadable, something, holds_none}, specs.Closing.{IsLeftOf, IsClosedFrom}, specs.Start.{HoldStart}}
 use Rattle.moo_files.specs.declared.remains.Remains.TheVariants as remains
+use Rattle.moo_files.specs.declared.pair.NotOpened.{NotOpened}
 use Rattle.sqlite_disk.specs.declared.start.Start as start
 use Rattle.sqlite_wal.specs.Recovery as raw
 use Rattle.sqlite.{specs.State.{State as Database}, specs.Start.{FindsIn}}
@@ -9,10 +10,7 @@ use Rattle.sqlite.specs.declared.file.Leftover.TheVariants as left
 -- ---- the page size of a database without sums
 
 plain_size : (size : ℕ) → is_summed size ≡ false → stored_size size ≡ size
-plain_size size plain = elim (cases_eq (reserved size) 0) [
-  | inl none ↦ omega (arith, none)
-  | inr some ↦ absurd (grind arith)
-]
+plain_size size plain = grind arith
 
 large_of : (size : ℕ) → 512 ≤ stored_size size → 504 ≤ size
 large_of size valid = let few : reserved size ≤ 8 = grind arith in omega (arith, valid)
@@ -157,15 +155,16 @@ nothing_more P Q goes image (inr it) = inr (∥∥₁_map it (such_more _ _ (emp
 
 module _ {T D : Type 0} {g : Ghosts D} where
   -- of files that weren't opened
+  pub by_unopened : (K : Remains T D g → Type 0) → ((start : T) → K (remains.Untouched start)) → ((seal : NotOpened T) → K (remains.NotOpened seal)) → (r : Remains T D g) → IsUnopened r → K r
+  by_unopened K untouched spent (remains.Untouched start) unopened = untouched start
+  by_unopened K untouched spent (remains.NotOpened seal) unopened = spent seal
+  by_unopened K untouched spent r unopened = absurd unopened
+
   pub unopened_keeps : (Is : Image → Type 0) (P : Trees → Type 0) (image : Image) (r : Remains T D g) → IsUnopened r → Is image → KeepsAs Is P image r
-  unopened_keeps Is P image (remains.Untouched start) unopened is = is
-  unopened_keeps Is P image (remains.NotOpened seal) unopened is = tt
-  unopened_keeps Is P image r unopened is = absurd unopened
+  unopened_keeps Is P image r unopened is = by_unopened (KeepsAs Is P image) (λ start. is) (λ seal. tt) r unopened
 
   pub unopened_spares : (image : Image) (r : Remains T D g) → IsUnopened r → Spares image r
-  unopened_spares image (remains.Leftover left) unopened = absurd unopened
-  unopened_spares image (remains.Connection conn) unopened = absurd unopened
-  unopened_spares image r unopened = tt
+  unopened_spares image = by_unopened (Spares image) (λ start. tt) (λ seal. tt)
 
   -- what is true of each database that is kept
   as_more : (Is Still : Image → Type 0) (P Q : Trees → Type 0) → ((found : Image) → Is found → Still found) → ((trees : Trees) → P trees → Q trees) → (image : Image) (r : Remains T D g) → KeepsAs Is P image r → KeepsAs Still Q image r

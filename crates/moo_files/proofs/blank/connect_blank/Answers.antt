@@ -1,13 +1,8 @@
-use Rattle.moo_files.{proofs.Words.{◌≡◌, ◌∙◌, false, ap, sym, subst, subst₂, inl, inr, arith, seen_image, outcomes, bytes_of, IsPageSize, are_clean, AreClean, IsBlankFile, stored_size, state_of, image, clean_of, no_doubt, IsEmpty, image_of, stored_used, refl, ∥∥₁_map, empty_is_sound}, proofs.BlankLemmas.{made_empty, on_the_way}, proofs.CauseLemmas.{made_cause, over_cause}}
+use Rattle.moo_files.{proofs.Words.{◌≡◌, ◌∙◌, false, ap, sym, subst, subst₂, inl, inr, arith, seen_image, outcomes, bytes_of, IsPageSize, are_clean, IsBlankFile, stored_size, state_of, image, clean_of, no_doubt, IsEmpty, image_of, stored_used, refl, ∥∥₁_map, empty_is_sound}, proofs.BlankLemmas.{made_empty, on_the_way}, proofs.CauseLemmas.{made_cause, over_cause}}
 use Rattle.moo_files.proofs.blank.connect_blank.Goals as goal
 use Rattle.sqlite_store.{specs.FileStore.{view}, specs.Laws.{settled_at}, specs.Build.{CanBuild}}
 use Rattle.std.proofs.lemmas.List.Elements.{All-nil}
 use Rattle.sqlite.proofs.OpenLemmas.{pool_files}
-
-pub over-requires : goal.over-requires
-over-requires g c none =
-    let e = c.in-Ok-create.ensures in
-    record { sound = e.ready.sound none; numbered = e.numbered; clean = e.ready.clean; unmarked = e.ready.unmarked }
 
 -- ---- one was made
 
@@ -21,11 +16,6 @@ returns-in-Ok-over-clause-empty g c none =
     )
 
 -- ---- there was no memory for the pager
-
-pub returns-in-Err-clause-left : goal.returns-in-Err-clause-left
-returns-in-Err-clause-left g c clean =
-    let back = c.in-Err.ensures.back in
-    (subst₂ (λ a b. AreClean g.D.Disk a b) back.0 back.1 clean, λ blank. (λ found lies. subst₂ (λ a b. outcomes g.D.Disk a b found) back.0 back.1 lies, inl refl))
 
 -- ---- making it stopped
 

@@ -24,9 +24,6 @@ returns-in-Ok-true-clause-spared g c = IfErr-weaker c.connect_blank.result _ _
     let it = left clean in
     inl (was_blank g c it.0, blank_earlier c.probe_blank.ensures.log c.probe_blank.ensures.db e.1 (it.1 (still_blank g c it.0)).0)) c.connect_blank.ensures.left
 
-pub returns-in-Ok-true-clause-cause : goal.returns-in-Ok-true-clause-cause
-returns-in-Ok-true-clause-cause g c = IfErr-weaker c.connect_blank.result _ _ (λ e left clean openable. ((left clean).1 (still_blank g c (left clean).0)).1) c.connect_blank.ensures.left
-
 -- ---- they may hold one
 
 pub returns-in-Ok-false-clause-found : goal.returns-in-Ok-false-clause-found
@@ -49,3 +46,6 @@ returns-in-Err-clause-cause g c clean openable =
     probe_cause _ _ _ _ c.in-Err.error c.probe_error.result c.probe_error.ensures
     (λ long. let too : IsTooLong (image_of g.D.Disk c.args.files) = (_, ((λ used. sym long.0.1), (λ ignored. absurd (long.0.0 ignored))), long.1) in subst IsTooLong (sym (same_image read.log read.db)) too)
     (c.in-Err.ensures.cause clean)
+
+pub returns-in-Ok-true-clause-cause : goal.returns-in-Ok-true-clause-cause
+returns-in-Ok-true-clause-cause g c = IfErr-weaker c.connect_blank.result _ _ (λ e left clean openable. ((left clean).1 (still_blank g c (left clean).0)).1) c.connect_blank.ensures.left

@@ -51,9 +51,6 @@ returns-in-Ok g c =
       numbers = λ clean. tt;
     }
 
-not_shut : (b : Bool) → (b ≡ false → ⊥) → IsTrue b
-not_shut b never = elim (cases_Bool b) [ inl on ↦ on | inr off ↦ absurd (never off) ]
-
 -- Closing failed. A store that the checkpoint left open has its trees numbered, as before. It wasn't broken before, so it wasn't shut.
 pub returns-in-Err : goal.returns-in-Err
 returns-in-Err g c =
@@ -71,8 +68,10 @@ returns-in-Err g c =
           let numbered : IsTrue (view c.rollback.new.self).is_numbered = c.rollback.ensures.undone.numbered ∙ c.into_store-store.ensures.numbered early in
           let was_shut : (view c.args.conn.store).is_open ≡ false → ⊥ = λ shut.
           let sound : (view c.rollback.new.self).is_broken ≡ false = sym (c.is_broken.ensures.shown before) ∙ c.if-is_broken.false in
-          let open_then : IsTrue (view c.rollback.new.self).is_open = not_shut (view c.rollback.new.self).is_open (λ off.
-          let broken : IsTrue (view c.rollback.new.self).is_broken = or_right (c.rollback.new.self).has_failed _ (ap not off) in true≢false (sym broken ∙ sound)) in
+          let open_then : IsTrue (view c.rollback.new.self).is_open = elim (cases_Bool (view c.rollback.new.self).is_open) [
+            | inl on ↦ on
+            | inr off ↦ let broken : IsTrue (view c.rollback.new.self).is_broken = or_right (c.rollback.new.self).has_failed _ (ap not off) in absurd (true≢false (sym broken ∙ sound))
+          ] in
           let on = (c.rollback.ensures.undone.kept before).was_open open_then in
           true≢false (sym ((c.into_store-store.ensures.undone.kept early).was_open on) ∙ shut) in
           elim why [

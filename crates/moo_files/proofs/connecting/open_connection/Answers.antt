@@ -1,4 +1,4 @@
-use Rattle.moo_files.{proofs.Words.{refl, inl, inr, image_at, HoldsSuch, HoldsNothingBut, IsEmpty}, specs.Opened.{Nothing, Database, Unfit}, proofs.RefusalLemmas.{opened_own, opened_malformed, unopened_malformed, opened_cause, denied_cause}, proofs.RemainsLemmas.{found_in, holds_same, leftover_keeps, leftover_spares, spared_none, unopened_keeps, unopened_spares}}
+use Rattle.moo_files.{proofs.Words.{refl, inl, inr, image_at, HoldsSuch, HoldsNothingBut, IsEmpty}, specs.Opened.{Nothing, Database, Unfit}, proofs.RefusalLemmas.{opened_own, opened_malformed, unopened_malformed, opened_cause}, proofs.RemainsLemmas.{found_in, holds_same, leftover_keeps, leftover_spares, spared_none, unopened_keeps}}
 use Rattle.moo_files.proofs.connecting.open_connection.Goals as goal
 use Rattle.sqlite_store.specs.Laws.{settled_at}
 use Rattle.std.specs.Prelude.{◌≡◌, ◌⊎◌}
@@ -38,12 +38,6 @@ returns-in-Err-open_files-clause-unconnects g c Unfit none clean = tt
 
 -- ---- no file was opened
 
-pub returns-in-Err-clause-refused : goal.returns-in-Err-clause-refused
-returns-in-Err-clause-refused g c = record {
-  stopped = c.in-Err.ensures.stopped;
-  spared = λ some clean. unopened_spares (image_at g.T.Start) c.in-Err.refused.1 c.in-Err.ensures.unopened;
-}
-
 pub returns-in-Err-clause-unconnects : goal.returns-in-Err-clause-unconnects
 returns-in-Err-clause-unconnects g c Nothing nothing clean =
     unopened_keeps (HoldsNothingBut (λ _. ⊥)) (λ trees. IsEmpty trees ⊎ ⊥) (image_at g.T.Start) c.in-Err.refused.1 c.in-Err.ensures.unopened (inl (inl nothing))
@@ -60,6 +54,3 @@ pub returns-in-Err-open_files-clause-cause : goal.returns-in-Err-open_files-clau
 returns-in-Err-open_files-clause-cause g c trees holds clean =
     let told = c.open_fault.ensures in
     opened_cause c.in-Err-open_files.error c.open_fault.result (told.memory, told.other) c.in-Ok.pair.0 (image_at g.T.Start) c.in-Ok.ensures.start.seen trees holds c.in-Err-open_files.left (c.in-Err-open_files.ensures.cause clean)
-
-pub returns-in-Err-clause-cause : goal.returns-in-Err-clause-cause
-returns-in-Err-clause-cause g c trees holds clean = denied_cause _ _ c.in-Err.refused.0 c.in-Err.refused.1 c.in-Err.ensures.unopened (c.in-Err.ensures.denied refl)

@@ -1,4 +1,4 @@
-use Rattle.moo_files.{proofs.Words.{sym, subst, inl, inr, image_at, IsBlank, refl}, proofs.RemainsLemmas.{found_in, spared_spares, unopened_spares}, proofs.MakingLemmas.{spared_site, unopened_site}, specs.Causes.{IsOpenable}, proofs.RefusalLemmas.{denied_cause}}
+use Rattle.moo_files.{proofs.Words.{sym, subst, inl, inr, image_at, IsBlank}, proofs.RemainsLemmas.{found_in, spared_spares, unopened_spares}, proofs.MakingLemmas.{spared_site, unopened_site}, specs.Causes.{IsOpenable}}
 use Rattle.moo_files.proofs.connecting.open_new.Goals as goal
 use Rattle.sqlite_store.specs.Laws.{settled_at}
 
@@ -44,6 +44,3 @@ returns-in-Err-clause-unmade g c =
 pub returns-in-Err-open_or_make-clause-cause : goal.returns-in-Err-open_or_make-clause-cause
 returns-in-Err-open_or_make-clause-cause g c openable clean =
     elim (c.in-Err-open_or_make.ensures.cause clean (subst IsOpenable (sym c.in-Ok.ensures.start.seen) openable)) [ inl memory ↦ inl (c.open_fault.ensures.memory memory) | inr disk ↦ inr disk ]
-
-pub returns-in-Err-clause-cause : goal.returns-in-Err-clause-cause
-returns-in-Err-clause-cause g c openable clean = denied_cause _ _ c.in-Err.refused.0 c.in-Err.refused.1 c.in-Err.ensures.unopened (c.in-Err.ensures.denied refl)

@@ -1,5 +1,5 @@
-use Rattle.moo_files.{specs.Causes.{StopsOver}, proofs.Words.{inl, inr, refl, subst, file_state, image_at, store_of, over_files}, specs.Opened.{Nothing, Database, Unfit}, proofs.PresentLemmas.{sound_at, opens_at}, proofs.ContentsLemmas.{none_below, as_found, reads_found, rests_held, shows_held, none_left, empty_other, foreign_other, unsound_other, reads_ours, own_tables, kept_or_migrated}, proofs.RefusalLemmas.{unfit_sound, unfit_of_store, refuses_unconnected, unconnected_cause, stops_over}}
-use Rattle.moo_store.{specs.OpeningRows.{AreMigrated, StopsOpening}, proofs.Causes.{says_more, says_of_store}, proofs.OpenLemmas.{refused_of_store}}
+use Rattle.moo_files.{specs.Causes.{StopsOver}, proofs.Words.{inl, inr, refl, subst, file_state, image_at, store_of, over_files}, specs.Opened.{Nothing, Database, Unfit}, proofs.PresentLemmas.{sound_at, opens_at}, proofs.ContentsLemmas.{none_below, as_found, reads_found, rests_held, shows_held, none_left, empty_other, foreign_other, unsound_other, reads_ours, own_tables, kept_or_migrated}, proofs.RefusalLemmas.{unfit_sound, unfit_of_store, refuses_unconnected, stops_over}}
+use Rattle.moo_store.{specs.OpeningRows.{AreMigrated, StopsOpening}, proofs.Causes.{says_more}, proofs.OpenLemmas.{refused_of_store}}
 use Rattle.moo_files.proofs.opening.open_from.Goals as goal
 
 -- ---- a World was opened
@@ -62,13 +62,7 @@ returns-in-Err-adopt_files-clause-refuses g c Unfit none clean =
 
 -- ---- no connection was opened
 
-pub returns-in-Err-clause-refuses : goal.returns-in-Err-clause-refuses
-returns-in-Err-clause-refuses g c held holds clean = refuses_unconnected (image_at g.T.Start) c.in-Err.fault c.in-Err.remains c.in-Err.ensures.fault held (c.in-Err.ensures.unconnects held holds clean)
-
 -- ---- `sqlite` wasn't asked
-
-pub returns-in-Some-clause-refused : goal.returns-in-Some-clause-refused
-returns-in-Some-clause-refused g c = record { stopped = c.in-Some.ensures.fault; spared = λ some clean. tt }
 
 pub returns-in-Some-clause-refuses : goal.returns-in-Some-clause-refuses
 returns-in-Some-clause-refuses g c Nothing nothing clean = (unfit_of_store c.in-Some.fault c.in-Some.ensures.fault, inl (inl nothing))
@@ -83,24 +77,7 @@ returns-in-Some-clause-refuses g c Unfit none clean = unfit_of_store c.in-Some.f
 
 -- ---- what refused a database
 
-pub returns-in-Some-clause-cause : goal.returns-in-Some-clause-cause
-returns-in-Some-clause-cause g c trees holds clean = inr (c.metadata.ensures.denied (c.in-Some.ensures.unfit refl))
-
-pub returns-in-Err-clause-cause : goal.returns-in-Err-clause-cause
-returns-in-Err-clause-cause g c trees holds clean = unconnected_cause _ _ c.in-Err.fault c.in-Err.remains (c.in-Err.ensures.cause trees holds clean)
-
-pub returns-in-Err-adopt_files-clause-cause : goal.returns-in-Err-adopt_files-clause-cause
-returns-in-Err-adopt_files-clause-cause g c trees holds clean = tt
-
 -- ---- what refused tables
-
-pub returns-in-Some-clause-stopped : goal.returns-in-Some-clause-stopped
-returns-in-Some-clause-stopped g c tables holds clean =
-    says_of_store _ tables c.in-Some.fault (unfit_of_store c.in-Some.fault c.in-Some.ensures.fault) (inr (c.metadata.ensures.denied (c.in-Some.ensures.unfit refl)))
-
-pub returns-in-Err-clause-stopped : goal.returns-in-Err-clause-stopped
-returns-in-Err-clause-stopped g c tables holds clean =
-    says_of_store _ tables c.in-Err.fault c.in-Err.ensures.fault (unconnected_cause _ _ c.in-Err.fault c.in-Err.remains (c.in-Err.ensures.cause holds.trees holds.holds clean))
 
 pub returns-in-Err-adopt_files-clause-stopped : goal.returns-in-Err-adopt_files-clause-stopped
 returns-in-Err-adopt_files-clause-stopped g c tables holds clean =
@@ -113,3 +90,6 @@ returns-in-Err-adopt_files-clause-stopped g c tables holds clean =
     says_more (StopsOpening tables (file_state conn) (file_state last) fault) (StopsOver (AreMigrated tables) fault last) tables fault
     (stops_over (file_state conn) last (connects.opened early).0.is_open connects.unlimited tables fault)
     (adopts.cause tables (rests_held (as_found connects) early tables holds) clean)
+
+pub returns-in-Err-clause-refuses : goal.returns-in-Err-clause-refuses
+returns-in-Err-clause-refuses g c held holds clean = refuses_unconnected (image_at g.T.Start) c.in-Err.fault c.in-Err.remains c.in-Err.ensures.fault held (c.in-Err.ensures.unconnects held holds clean)
