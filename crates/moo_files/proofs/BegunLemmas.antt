@@ -41,9 +41,6 @@ begun_unreadable image size begun names begins pages found whole =
     ] in
     begun_is_not_blank (sealed (first_page 1024)) first (stored_size size) image pages found is len large (byte ∙ sym gate) (λ none. let never = sym gate ∙ none in omega arith) begun
 
-long_size : (size : ℕ) (page : List ℕ) → length (take 16 (take 100 (take size page))) ≡ 16 → 16 ≤ size
-long_size size page len = omega (arith, len, length-take 16 (take 100 (take size page)), length-take 100 (take size page), length-take size page)
-
 -- the first page of a sound file is whole, whatever its size
 not_begun : (size : ℕ) (image : Image) (pages : Pages) → Adopts size image pages → IsSoundFile size pages → (other : ℕ) → 0 < other → ¬ IsBlankFile other image
 not_begun size image pages found sound other some =
@@ -51,7 +48,7 @@ not_begun size image pages found sound other some =
     let used : pages 1 ≡ Some (take size page) = ap (λ (p : Pages). p 1) (sym found.shows) ∙ trimmed_some size _ 1 page is in
     let head : header_in pages ≡ take 100 (take size page) = ap (λ (o : Option (List ℕ)). take 100 (unwrap_or o [])) used in
     let magic = ap (take 16) (sym head) ∙ sound.header.0.magic in
-    let long : 16 ≤ size = long_size size page (ap length magic) in
+    let long : 16 ≤ size = omega (arith, ap length magic, length-take 16 (take 100 (take size page)), length-take 100 (take size page), length-take size page) in
     let byte = sym (get_or-take size page 0 0 (omega (arith, long))) ∙ sym (get_or-take 100 (take size page) 0 0 (omega arith)) ∙ sym (get_or-take 16 (take 100 (take size page)) 0 0 (omega arith))
     ∙ ap (λ (b : List ℕ). slice_index b 0) magic in
     let gate = first_byte other some in

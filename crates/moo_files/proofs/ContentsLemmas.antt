@@ -1,5 +1,5 @@
 -- From what the files hold to what a connection to them keeps.
-use Rattle.moo_files.{proofs.Words.{◌≡◌, ◌≢◌, ◌⊎◌, inl, inr, ℕ, ◌≤◌, ap, arith, sym, subst, subst₂, ◌∙◌, ∥∥₁_elim, ∥∥₁_map, Trees-set, Trees, Image, HasCleanDisk, Survives, Opens, Held, IsEmpty, IsNothing, file_state, empty_is_sound, Ghosts, FileStore, State, Tables, schema_of, no_schema, ShowsState, Adopts, HoldsNone, HoldsTrees, HoldsTables, HoldsState, HasOtherTables, HasAnyTable, IsKept, ReadsAs, ReadsAsOurs, HoldsNoTable}, specs.Connected.{IsConnected, IsNewOrFound}, proofs.BegunLemmas.{holds_none}, proofs.RemainsLemmas.{found_empty}}
+use Rattle.moo_files.{proofs.Words.{◌≡◌, ◌≢◌, ◌⊎◌, inl, inr, ℕ, ◌≤◌, ap, arith, sym, subst, subst₂, ◌∙◌, ∥∥₁_elim, ∥∥₁_map, Trees-set, Trees, Image, HasCleanDisk, Survives, Opens, Held, IsEmpty, IsNothing, file_state, empty_is_sound, Ghosts, FileStore, State, Tables, schema_of, no_schema, ShowsState, Adopts, HoldsNone, HoldsTrees, HoldsTables, HoldsState, HasOtherTables, IsKept, ReadsAs, ReadsAsOurs, HoldsNoTable}, specs.Connected.{IsConnected, IsNewOrFound}, proofs.BegunLemmas.{holds_none}, proofs.RemainsLemmas.{found_empty}}
 use Rattle.sqlite.{specs.Schema.{Schema}, specs.State.{State as Database}, specs.Start.{FindsIn}, specs.Effect.{IsDatabase}}
 use Rattle.moo_store.specs.OpeningRows.{HasOthers}
 use Rattle.moo_tables.{proofs.SchemaLemmas.{some_tables, one_schema, no_other}, proofs.ReopenLemmas.{opened}}
@@ -68,14 +68,8 @@ module _ {D : Type 0} {g : Ghosts D} {image : Image} {conn : Held (FileStore D g
   is_committed : (schema : Schema) → (file_state conn).now.schema ≡ schema → IsDatabase (record { schema = schema; trees = (file_state conn).committed.trees })
   is_committed schema is = subst₂ (λ schema trees. IsDatabase (record { schema = schema; trees = trees })) is (ap (λ db. db.trees) opens.clean) sound.0
 
-  is_database : (trees : Trees) (schema : Schema) → HoldsTrees image trees → (file_state conn).now.schema ≡ schema → IsDatabase (record { schema = schema; trees = trees })
+  pub is_database : (trees : Trees) (schema : Schema) → HoldsTrees image trees → (file_state conn).now.schema ≡ schema → IsDatabase (record { schema = schema; trees = trees })
   is_database trees schema holds is = subst (λ trees. IsDatabase (record { schema = schema; trees = trees })) (has_held trees holds) (is_committed schema is)
-
-  pub foreign_other : (trees : Trees) → HoldsTrees image trees → HasOtherTables trees → HasOthers (file_state conn)
-  foreign_other trees holds others version is = others version (is_database trees (schema_of version) holds is)
-
-  pub any_table : (trees : Trees) → HoldsTrees image trees → HasAnyTable trees → (file_state conn).now.schema ≢ no_schema
-  any_table trees holds any is = any (is_database trees no_schema holds is)
 
   -- files that hold tables of ours have them as they are opened
   pub own_tables : (trees : Trees) → HoldsTrees image trees → (¬ HasOtherTables trees) → ¬ HasOthers (file_state conn)

@@ -2,7 +2,6 @@ pub mod Words
 pub mod AgainLemmas
 mod BegunLemmas
 mod BlankLemmas
-mod CauseLemmas
 mod ContentsLemmas
 pub mod MakingLemmas
 pub mod OpenedLemmas

@@ -1,5 +1,5 @@
 -- What follows of what making a world does, whatever that is; and how it is made and refused.
-use Rattle.moo_files.{proofs.Words.{◌≡◌, ◌≢◌, ◌⊎◌, inl, inr, [], refl, sym, ap, subst, ◌∙◌, Trees, HasCleanDisk, Survives, Held, IsEmpty, file_state, Ghosts, FileStore, Files, Image, image_at, Leftover, Moment, AreTreesOf, IsSparedMoment, no_schema, Error, IsOfStore, StoreFault, SparesFiles, HoldsTrees, HoldsMoment, HoldsSuch, HoldsNothingBut, HasAnyTable, IsCleanRemains, IsUnopened, KeepsSuch, Remains}, specs.Connected.{IsConnected, IsNewOrFound}, specs.Making.{Site, Empty, Filled, IsSite, TakesWorld, KeepsSite, IsUnmadeIn}, specs.Start.{HoldStart}, proofs.RemainsLemmas.{keeps_more, blank_more, holds_same, spared_keeps, spared_none, unopened_keeps}, proofs.ContentsLemmas.{shows_trees, any_table, left_only, no_tables, none_left, or_committed}}
+use Rattle.moo_files.{proofs.Words.{◌≡◌, ◌≢◌, ◌⊎◌, inl, inr, [], refl, sym, ap, subst, ◌∙◌, Trees, HasCleanDisk, Survives, Held, IsEmpty, file_state, Ghosts, FileStore, Files, Image, image_at, Leftover, Moment, AreTreesOf, IsSparedMoment, no_schema, Error, IsOfStore, StoreFault, SparesFiles, HoldsTrees, HoldsMoment, HoldsSuch, HoldsNothingBut, HasAnyTable, IsCleanRemains, IsUnopened, KeepsSuch, Remains}, specs.Connected.{IsConnected, IsNewOrFound}, specs.Making.{Site, Empty, Filled, IsSite, TakesWorld, KeepsSite, IsUnmadeIn}, specs.Start.{HoldStart}, proofs.RemainsLemmas.{keeps_more, blank_more, holds_same, spared_keeps, spared_none, unopened_keeps}, proofs.ContentsLemmas.{shows_trees, is_database, left_only, no_tables, none_left, or_committed}}
 use Rattle.sqlite_disk.specs.declared.start.Start as start
 use Rattle.sqlite.{specs.Schema.{Schema}, specs.Effect.{IsDatabase}}
 use Rattle.moo_tables.proofs.SchemaLemmas.{some_tables, one_schema, no_other}
@@ -57,7 +57,7 @@ schema_of_lists tables indexes views schema is = inr (λ none.
 module _ {D : Type 0} {g : Ghosts D} {image : Image} {old : Held (FileStore D g)} (it : IsConnected (IsNewOrFound image) old) (early : HasCleanDisk (file_state old)) where
   pub takes_world : ¬ ((file_state old).now.schema ≢ no_schema) → (site : Site) → IsSite image site → TakesWorld site
   takes_world empty Empty none = tt
-  takes_world empty (Filled trees) holds = λ any. empty (any_table it early trees holds any)
+  takes_world empty (Filled trees) holds = λ any. empty (λ is. any (is_database it early trees no_schema holds is))
 
   table_cases : ((file_state old).now.schema ≡ no_schema) ⊎ ((file_state old).now.schema ≢ no_schema)
   table_cases = let schema = (file_state old).now.schema in schema_of_lists schema.tables schema.indexes schema.views schema refl
@@ -80,18 +80,12 @@ module _ {D : Type 0} {g : Ghosts D} {image : Image} {old : Held (FileStore D g)
       elim table_cases [
         | inl none ↦ elim (or_committed old new Made (λ now. now ≡ trees) crash clean was left lies) [
           | inl same ↦ inl same
-          | inr made ↦ inr (λ any. any_table it early trees holds any none, made)
+          | inr made ↦ inr (λ any. any (is_database it early trees no_schema holds none), made)
         ]
         | inr some ↦ inl (was left (subst (λ h. (file_state h).may_leave left) (taken some) lies))
       ]
 
 -- ---- the laws
-
--- what has the cells of a moment has a table
-moment_has_table : (trees : Trees) (m : Moment) → AreTreesOf m trees → HasAnyTable trees
-moment_has_table trees m it none =
-    let version = it.1.0.tables.version in
-    some_tables version (sym (one_schema version trees no_schema it.1.2.sound none))
 
 module _ {T D : Type 0} {g : Ghosts D} (Made : Trees → Type 0) (image : Image) (fault : StoreFault) (rest : Remains T D g) (unmade : IsUnmadeIn Made image fault rest) where
   pub trees_or_made : (trees : Trees) → HoldsTrees image trees → IsCleanRemains rest → KeepsSuch (λ found. (found ≡ trees) ⊎ Made found) image rest
@@ -106,5 +100,8 @@ module _ {T D : Type 0} {g : Ghosts D} (Made : Trees → Type 0) (image : Image)
 
   pub moment_kept : (m : Moment) → HoldsMoment image m → IsCleanRemains rest → KeepsSuch (λ trees. (end : Moment) × IsSparedMoment m end × AreTreesOf end trees) image rest
   moment_kept m holds clean =
+      let it = holds.such.1 in
+      let version = it.0.tables.version in
+      let any : HasAnyTable holds.trees = (λ none. some_tables version (sym (one_schema version holds.trees no_schema it.2.sound none))) in
       keeps_more (λ found. found ≡ holds.trees) (λ trees. (end : Moment) × IsSparedMoment m end × AreTreesOf end trees) (λ found same. (m, inl refl, subst (AreTreesOf m) (sym same) holds.such)) image rest
-      (table_kept holds.trees holds.holds (moment_has_table holds.trees m holds.such) clean)
+      (table_kept holds.trees holds.holds any clean)

@@ -1,5 +1,5 @@
 -- From the moment that files hold to that at which a World opens over them, and what a migration leaves of it.
-use Rattle.moo_files.{proofs.Words.{◌≡◌, inl, inr, refl, ap, ap₂, sym, subst, ◌∙◌, Some, IfSome, Trees, Image, Ghosts, FileStore, Maps, IsGood, Tables, ShowsRows, Moment, AreTreesOf, BecomesPresent, IsSparedMoment, Works, World, Stands, HasCleanDisk, Held, file_state, over_files, HoldsTrees, IsKept, IsMigrated, schema_of}, specs.Opened.{OpensAt}, specs.Connected.{IsConnected, IsNewOrFound}, proofs.ContentsLemmas.{rests_held, shows_trees}}
+use Rattle.moo_files.{proofs.Words.{◌≡◌, inl, inr, refl, ap, ap₂, sym, subst, ◌∙◌, Some, IfSome, Trees, Image, Ghosts, FileStore, Maps, IsGood, Tables, ShowsRows, Moment, AreTreesOf, BecomesPresent, IsSparedMoment, Works, World, Stands, HasCleanDisk, Held, file_state, over_files, HoldsTrees, IsKept, schema_of}, specs.Opened.{OpensAt}, specs.Connected.{IsConnected, IsNewOrFound}, proofs.ContentsLemmas.{rests_held, shows_trees}}
 use Rattle.moo_cells.{proofs.CellsLemmas.{one_good}, proofs.GoodRows.{good_within}}
 use Rattle.moo_tables.proofs.SchemaLemmas.{one_schema, one_version}
 use Rattle.moo_tables_rows.{specs.Inside.{Rests, Leaves}, specs.Version.{IsEarlier}}

@@ -1,29 +1,74 @@
--- What the fault of an open that failed says of the files.
-use Rattle.moo_files.{proofs.Words.{◌≡◌, ◌≢◌, ◌⊎◌, inl, inr, ◌<◌, IsTrue, refl, ap, Held, FileStore, file_state, sym, subst, ◌∙◌, ∥∥₁_elim, Ghosts, Files, Image, tally_of_files, Trees, Tables, store_error, FailsToOpenFiles, HoldsDatabase, IsNothing, faults_left, image_of, tally_left, Error, Leftover, not_ours, IsOfStore, StoreFault, HoldsTrees, ExcusesMalformed, IsUnopened, TakesForOurs, cannot_open, malformed, Remains, IsKept}, specs.Causes.{HasCauseOr, StopsOver}, specs.Opened.{Contents, Nothing, Database, Unfit, Refuses}, specs.Connected.{Unconnects}, proofs.RemainsLemmas.{keeps_more, by_unopened}, proofs.CauseLemmas.{some_faults, asked_cause}}
+-- What refused a database that was to be made or opened, and what the fault says of the files.
+use Rattle.moo_files.{proofs.Words.{◌≡◌, ◌≢◌, ◌⊎◌, inl, inr, ℕ, arith, ◌<◌, IsTrue, refl, ap, Held, FileStore, file_state, sym, subst, ◌∙◌, ∥∥₁_elim, Ghosts, Files, Image, tally_of_files, Trees, Tables, store_error, FailsToOpenFiles, HoldsDatabase, IsNothing, faults_left, image_of, tally_left, Error, Leftover, not_ours, IsOfStore, StoreFault, HoldsTrees, ExcusesMalformed, IsUnopened, TakesForOurs, cannot_open, malformed, Remains, IsKept}, specs.Causes.{HasCauseOr, StopsOver, IsOpenable}, specs.Opened.{Contents, Nothing, Database, Unfit, Refuses}, specs.Connected.{Unconnects}, proofs.RemainsLemmas.{keeps_more, by_unopened}}
 use Rattle.moo_files.specs.declared.remains.Remains.TheVariants as remains
 use Rattle.moo_store.specs.OpeningRows.{AreMigrated, StopsOpening}
-use Rattle.moo_tables.specs.ReadCause.{StopsQuery}
 use Rattle.moo_tables_rows.specs.Cause.{StopsChange}
 use Rattle.std.{specs.Prelude.{None, IsSome, ⊤}, proofs.lemmas.Bool.{true≢false}}
-use Rattle.sqlite.{specs.State.{State, HasCause as StoreCause}, specs.Files.{IsFullLeft}, specs.declared.error.Error.TheVariants.{SqliteFailure}, specs.declared.error.ErrorCode.{ErrorCode}}
+use Rattle.sqlite.{specs.Schema.{Schema}, specs.Opening.{FailsAs}, specs.Steps.{FailsToOpen}, specs.State.{State, HasCause as StoreCause}, specs.Files.{IsFullLeft}, specs.declared.error.Error.TheVariants.{SqliteFailure}, specs.declared.error.ErrorCode.{ErrorCode}}
 use Rattle.sqlite_trees.specs.declared.error.StoreError.{StoreError}
 use Rattle.sqlite_trees.specs.declared.error.StoreError.TheVariants as kinds
 use Rattle.sqlite_store.specs.Report.{named}
+use Rattle.sqlite_catalog.specs.Listing.{IsSound}
+use Rattle.sqlite_disk.specs.Disk.{MoreFaults}
+use Rattle.sqlite_store.specs.Opening as store
+use Rattle.sqlite_store.specs.declared.error.OpenError.{OpenError}
+use Rattle.sqlite_store.specs.declared.error.OpenError.TheVariants as opening
+use Rattle.sqlite_wal.specs.Outcome.{HasCause, OnlyIf}
+use Rattle.sqlite_wal.specs.declared.error.Error as log
+use Rattle.sqlite_wal.specs.declared.error.Error.TheVariants as wal
 use Rattle.sqlite.specs.declared.error.ErrorCode.TheVariants as codes
 use Rattle.moo_store.specs.declared.fault.StoreFault.TheVariants as faults
 
--- which fault an error of `sqlite` is told as
-abbrev IsToldAs : Error → StoreFault → Type 0
-IsToldAs error fault = (error ≡ SqliteFailure codes.OutOfMemory → fault ≡ faults.OutOfMemory) × (error ≢ SqliteFailure codes.OutOfMemory → fault ≡ faults.Store error)
+abbrev memory : Error
+memory = SqliteFailure codes.OutOfMemory
+
+pub some_faults : (old new : ℕ) → MoreFaults old new → 0 < new
+some_faults old new more = omega (arith, more)
+
+-- making a blank database stopped
+pub made_cause : (a b : ℕ) (Limit Wanted More : Type 0) (e : OpenError) (told : Error) → (e ≡ opening.OutOfMemory → told ≡ memory) → Wanted → (Limit → More) → store.FailsToOpen a b Limit Wanted e
+    → (told ≡ memory) ⊎ ((0 < b) ⊎ More)
+made_cause a b Limit Wanted More opening.OutOfMemory told is so more h = inl (is refl)
+made_cause a b Limit Wanted More opening.Io told is so more h = inr (inl (some_faults a b h))
+made_cause a b Limit Wanted More opening.Full told is so more h = inr (inr (more h))
+made_cause a b Limit Wanted More opening.Refused told is so more h = absurd (h so)
+
+-- reading the schema of a sound database stopped
+pub over_cause : (a b : ℕ) (More : Type 0) (db : Trees) (e : Error) → (schema : Schema) → IsSound schema db → FailsToOpen db (MoreFaults a b) e → (e ≡ memory) ⊎ ((0 < b) ⊎ More)
+over_cause a b More db e schema sound (inl refused) = absurd (refused.1 schema sound)
+over_cause a b More db e schema sound (inr (kinds.OutOfMemory, is, h)) = inl is
+over_cause a b More db e schema sound (inr (kinds.Broken, is, h)) = absurd h
+over_cause a b More db e schema sound (inr (kinds.Unstorable, is, h)) = absurd h
+over_cause a b More db e schema sound (inr (kind, is, h)) = inr (inl (some_faults a b h))
+
+-- looking whether there is a database stopped
+pub probe_cause : (a b : ℕ) (Limit More : Type 0) (e : log.Error) (told : Error) → (e ≡ wal.OutOfMemory → told ≡ memory) → (Limit → More) → HasCause a b (OnlyIf wal.Full Limit) e → (told ≡ memory) ⊎ ((0 < b) ⊎ More)
+probe_cause a b Limit More (wal.Io io) told is more h = inr (inl (some_faults a b h))
+probe_cause a b Limit More wal.OutOfMemory told is more h = inl (is refl)
+probe_cause a b Limit More e told is more h = inr (inr (more h.1))
+
+-- `sqlite` didn't open it
+pub asked_cause : (kind : StoreError) (a b : ℕ) (Limit Wanted : Type 0) (e : Error) → ¬ ¬ Wanted → FailsAs kind a b Limit Wanted e → (e ≡ memory) ⊎ ((0 < b) ⊎ Limit)
+asked_cause kind a b Limit Wanted e so (inl it) = inl it
+asked_cause kind a b Limit Wanted e so (inr (inl it)) = absurd (so it.1)
+asked_cause kind a b Limit Wanted e so (inr (inr (inl it))) = inr (inl (some_faults a b it.1))
+asked_cause kind a b Limit Wanted e so (inr (inr (inr it))) = inr (inr it.1)
+
+pub is_wanted : (image : Image) → IsOpenable image → ¬ ¬ (((db : Trees) × HoldsDatabase image db) ⊎ IsNothing image)
+is_wanted image (inl nothing) never = never (inr nothing)
+is_wanted image (inr some) never = ∥∥₁_elim some (λ x y. absurd x) (λ held. never (inl held))
+
+-- ---- what a fault says of the files
 
 own_kind : (kind : StoreError) → store_error kind ≢ SqliteFailure codes.NotADatabase
 own_kind kinds.OutOfMemory is = cc
 own_kind kind is = cc
 
-module _ (error : Error) (fault : StoreFault) (told : IsToldAs error fault) where
+-- an error of `sqlite` is told as this fault
+module _ (error : Error) (fault : StoreFault) (as_memory : error ≡ memory → fault ≡ faults.OutOfMemory) (as_store : error ≢ memory → fault ≡ faults.Store error) where
   never_told : (code : ErrorCode) → error ≢ SqliteFailure code → fault ≢ faults.Store (SqliteFailure code)
   never_told code other is =
-      let so = told.1 (λ memory. let both : faults.OutOfMemory ≡ faults.Store (SqliteFailure code) = sym (told.0 memory) ∙ is in cc) in
+      let so = as_store (λ memory. let both : faults.OutOfMemory ≡ faults.Store (SqliteFailure code) = sym (as_memory memory) ∙ is in cc) in
       let both : faults.Store error ≡ faults.Store (SqliteFailure code) = sym so ∙ is in
       other cc
 
@@ -33,7 +78,7 @@ module _ (error : Error) (fault : StoreFault) (told : IsToldAs error fault) wher
 
     -- what refused a sound database
     pub opened_cause : FailsToOpenFiles files left error → (fault ≡ faults.OutOfMemory) ⊎ ((0 < faults_left left) ⊎ IsFullLeft left)
-    opened_cause failed = elim (asked_cause _ _ _ _ _ error wanted failed) [ inl memory ↦ inl (told.0 memory) | inr disk ↦ inr disk ]
+    opened_cause failed = elim (asked_cause _ _ _ _ _ error wanted failed) [ inl memory ↦ inl (as_memory memory) | inr disk ↦ inr disk ]
 
     -- a fault of the disk isn't told as files that aren't ours
     pub opened_own : FailsToOpenFiles files left error → fault ≢ not_ours
@@ -98,17 +143,14 @@ module _ {D : Type 0} {g : Ghosts D} (old : State) (last : Held (FileStore D g))
     no_limit : IsSome old.step_limit → ⊥
     no_limit some = true≢false (sym (subst IsSome unlimited some))
 
-    query_stops : (e : Error) → StopsQuery old (file_state last) e → Stops (faults.Store e)
-    query_stops e (inl h) = store_stops ⊥ (λ never. absurd never) e h.0 h.1 h.2
-    query_stops e (inr h) = absurd (no_limit h.1)
-
     change_stops : (e : Error) → Migrated → StopsChange old (file_state last) e → Stops (faults.Store e)
     change_stops e migrated (inl (kind, is, h)) = store_stops _ (λ _. inr (inr (migrated, inl refl))) e kind is h
     change_stops e migrated (inr (inl h)) = absurd (no_limit h.1)
     change_stops e migrated (inr (inr h)) = inr (inr (migrated, inr (ap faults.Store h)))
 
   pub stops_over : (tables : Tables) (fault : StoreFault) → StopsOpening tables old (file_state last) fault → StopsOver (AreMigrated tables) fault last
-  stops_over tables (faults.Store e) (inl h) = query_stops (AreMigrated tables) e h
+  stops_over tables (faults.Store e) (inl (inl h)) = store_stops (AreMigrated tables) ⊥ (λ never. absurd never) e h.0 h.1 h.2
+  stops_over tables (faults.Store e) (inl (inr h)) = absurd (no_limit (AreMigrated tables) h.1)
   stops_over tables (faults.Store e) (inr h) = change_stops (AreMigrated tables) e h.0 h.1
   stops_over tables faults.OutOfMemory it = inl (inl refl)
   stops_over tables fault it = absurd it

@@ -36,46 +36,38 @@ module _ {T D : Type 0} {g : Ghosts D} where
   -- The disk returned what was written, as long as the files were open. It is *clean*: no wrong answer of it was taken as true. A call that
   -- fails isn't a wrong answer.
   abbrev pub IsCleanRemains : Remains T D g → Type 0
-  IsCleanRemains (remains.Untouched start) = ⊤
-  IsCleanRemains (remains.NotOpened seal) = ⊤
   IsCleanRemains (remains.Leftover left) = IsCleanLeft left
   IsCleanRemains (remains.Connection conn) = HasCleanDisk (file_state conn)
+  IsCleanRemains unopened = ⊤
 
   -- no file was opened
   abbrev pub IsUnopened : Remains T D g → Type 0
-  IsUnopened (remains.Untouched start) = ⊤
-  IsUnopened (remains.NotOpened seal) = ⊤
   IsUnopened (remains.Leftover left) = ⊥
   IsUnopened (remains.Connection conn) = ⊥
+  IsUnopened unopened = ⊤
 
   -- If no file was opened, the fault is one of these: before `sqlite` was asked, that the file can't be opened or is empty; from
   -- `sqlite`, that the files can't be opened, are open elsewhere, or memory ran out.
   abbrev pub MayStopAs : StoreFault → Remains T D g → Type 0
   MayStopAs fault (remains.Untouched start) = (fault ≡ cannot_open) ⊎ (fault ≡ not_ours)
   MayStopAs fault (remains.NotOpened seal) = (fault ≡ cannot_open) ⊎ ((fault ≡ OutOfMemory) ⊎ (fault ≡ busy))
-  MayStopAs fault (remains.Leftover left) = ⊤
-  MayStopAs fault (remains.Connection conn) = ⊤
+  MayStopAs fault opened = ⊤
 
   -- if the host couldn't open the files, this is so
   abbrev pub IfNotOpened : Remains T D g → Type 0 → Type 0
-  IfNotOpened (remains.Untouched start) P = ⊤
   IfNotOpened (remains.NotOpened seal) P = P
-  IfNotOpened (remains.Leftover left) P = ⊤
-  IfNotOpened (remains.Connection conn) P = ⊤
+  IfNotOpened rest P = ⊤
 
   -- The fault doesn't say that the files aren't a database of moo. Before they are opened nothing is said: an empty file is refused so.
   abbrev pub TakesForOurs : StoreFault → Remains T D g → Type 0
   TakesForOurs fault (remains.Untouched start) = ⊤
-  TakesForOurs fault (remains.NotOpened seal) = fault ≢ not_ours
-  TakesForOurs fault (remains.Leftover left) = fault ≢ not_ours
-  TakesForOurs fault (remains.Connection conn) = fault ≢ not_ours
+  TakesForOurs fault rest = fault ≢ not_ours
 
   -- If `sqlite`, as it opens the files, calls them malformed, a call of the disk failed.
   abbrev pub ExcusesMalformed : StoreFault → Remains T D g → Type 0
-  ExcusesMalformed fault (remains.Untouched start) = fault ≢ malformed
-  ExcusesMalformed fault (remains.NotOpened seal) = fault ≢ malformed
   ExcusesMalformed fault (remains.Leftover left) = fault ≡ malformed → 0 < faults_left left
   ExcusesMalformed fault (remains.Connection conn) = ⊤
+  ExcusesMalformed fault unopened = fault ≢ malformed
 
 module _ {D : Type 0} {g : Ghosts D} where
   -- the pages that this image has, of the size that it names, with the checksums that they lacked
@@ -131,7 +123,6 @@ module _ {T D : Type 0} {g : Ghosts D} where
 
   -- Files that held this image are spared, sound or not. A connection comes back only if they read as a sound database.
   abbrev pub Spares : Image → Remains T D g → Type 0
-  Spares image (remains.Untouched start) = ⊤
-  Spares image (remains.NotOpened seal) = ⊤
   Spares image (remains.Leftover left) = LeftoverSpares image left
   Spares image (remains.Connection conn) = (trees : Trees) × ReadsAs image trees
+  Spares image unopened = ⊤

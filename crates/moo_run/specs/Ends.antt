@@ -80,9 +80,8 @@ module _ {T D : Type 0} {g : Ghosts D} where
 
   -- The words have no file, and none was opened: the start is unspent.
   abbrev pub HasNoFile : Ends T D g → Type 0
-  HasNoFile (variant.Ran conn) = ⊥
-  HasNoFile (variant.Refused remains) = ⊥
   HasNoFile (variant.NoFile start) = ⊤
+  HasNoFile ends = ⊥
 
   -- it fails at once, for a cause, over the file of this path, which held this image
   abbrev pub FailsFor : List ℕ → Image → Remains T D g → Run → Type 0

@@ -1,4 +1,4 @@
-use Rattle.moo_files.{proofs.Words.{◌≡◌, ◌∙◌, false, ap, sym, subst, subst₂, inl, inr, arith, seen_image, outcomes, bytes_of, IsPageSize, are_clean, IsBlankFile, stored_size, state_of, image, clean_of, no_doubt, IsEmpty, image_of, stored_used, refl, ∥∥₁_map, empty_is_sound}, proofs.BlankLemmas.{made_empty, on_the_way}, proofs.CauseLemmas.{made_cause, over_cause}}
+use Rattle.moo_files.{proofs.Words.{◌≡◌, ◌∙◌, false, ap, sym, subst, subst₂, inl, inr, arith, seen_image, outcomes, bytes_of, IsPageSize, are_clean, IsBlankFile, stored_size, state_of, image, clean_of, no_doubt, IsEmpty, image_of, stored_used, refl, ∥∥₁_map, empty_is_sound}, proofs.BlankLemmas.{made_empty, on_the_way}, proofs.RefusalLemmas.{made_cause, over_cause}}
 use Rattle.moo_files.proofs.blank.connect_blank.Goals as goal
 use Rattle.sqlite_store.{specs.FileStore.{view}, specs.Laws.{settled_at}, specs.Build.{CanBuild}}
 use Rattle.std.proofs.lemmas.List.Elements.{All-nil}

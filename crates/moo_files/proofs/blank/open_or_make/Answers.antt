@@ -1,4 +1,4 @@
-use Rattle.moo_files.{proofs.Words.{◌≡◌, sym, subst, inr, rules, AreClean, bytes_of, IsBlankFile, image_of, same_image, IsBlank}, proofs.BlankLemmas.{blank_earlier, files_earlier, finds_earlier}, specs.Causes.{IsOpenable}, proofs.CauseLemmas.{asked_cause, probe_cause, is_wanted}}
+use Rattle.moo_files.{proofs.Words.{◌≡◌, sym, subst, inr, rules, AreClean, bytes_of, IsBlankFile, image_of, same_image, IsBlank}, proofs.BlankLemmas.{blank_earlier, files_earlier, finds_earlier}, specs.Causes.{IsOpenable}, proofs.RefusalLemmas.{asked_cause, probe_cause, is_wanted}}
 use Rattle.std.proofs.Common.{inl}
 use Rattle.std.proofs.lemmas.Result.{IfOk-weaker, IfErr-weaker}
 use Rattle.sqlite.specs.Files.{IsTooLong}

@@ -1,4 +1,4 @@
-use Rattle.std.{proofs.Common.{◌≡◌, Bool, IsTrue, arith, sym, ap, subst, ◌∙◌, false, not, inl, inr}, proofs.lemmas.Bool.{or_right, true≢false, cases_Bool}}
+use Rattle.std.{proofs.Common.{◌≡◌, IsTrue, arith, sym, ap, subst, ◌∙◌, false, not, inl, inr}, proofs.lemmas.Bool.{or_right, true≢false, cases_Bool}}
 use Rattle.sqlite_wal.{specs.Files.{outcomes}, specs.Reads.{AreClean}, specs.Recovery.{Image}, proofs.StateLemmas.{open_from}}
 use Rattle.sqlite_pool.proofs.StateLemmas.{clean_is, may_leave_is}
 use Rattle.sqlite_store.{specs.FileStore.{state, view}, specs.Laws.{stays_at}, proofs.StepLemmas.{quiet_then}}

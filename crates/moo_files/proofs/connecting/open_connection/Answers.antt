@@ -30,8 +30,8 @@ returns-in-Err-open_files-clause-unconnects g c (Database trees) holds clean =
     let told = c.open_fault.ensures in
     let cause = c.in-Err-open_files.ensures.cause clean in
     record {
-      own = opened_own c.in-Err-open_files.error c.open_fault.result (told.memory, told.other) c.in-Ok.pair.0 (image_at g.T.Start) start.seen trees holds left cause;
-      malformed = opened_malformed c.in-Err-open_files.error c.open_fault.result (told.memory, told.other) c.in-Ok.pair.0 (image_at g.T.Start) start.seen trees holds left cause;
+      own = opened_own c.in-Err-open_files.error c.open_fault.result told.memory told.other c.in-Ok.pair.0 (image_at g.T.Start) start.seen trees holds left cause;
+      malformed = opened_malformed c.in-Err-open_files.error c.open_fault.result told.memory told.other c.in-Ok.pair.0 (image_at g.T.Start) start.seen trees holds left cause;
       kept = leftover_keeps start left trees (c.in-Err-open_files.ensures.unharmed clean) holds;
     }
 returns-in-Err-open_files-clause-unconnects g c Unfit none clean = tt
@@ -53,4 +53,4 @@ returns-in-Err-clause-unconnects g c Unfit none clean = tt
 pub returns-in-Err-open_files-clause-cause : goal.returns-in-Err-open_files-clause-cause
 returns-in-Err-open_files-clause-cause g c trees holds clean =
     let told = c.open_fault.ensures in
-    opened_cause c.in-Err-open_files.error c.open_fault.result (told.memory, told.other) c.in-Ok.pair.0 (image_at g.T.Start) c.in-Ok.ensures.start.seen trees holds c.in-Err-open_files.left (c.in-Err-open_files.ensures.cause clean)
+    opened_cause c.in-Err-open_files.error c.open_fault.result told.memory told.other c.in-Ok.pair.0 (image_at g.T.Start) c.in-Ok.ensures.start.seen trees holds c.in-Err-open_files.left (c.in-Err-open_files.ensures.cause clean)

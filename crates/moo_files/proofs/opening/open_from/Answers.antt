@@ -1,4 +1,4 @@
-use Rattle.moo_files.{specs.Causes.{StopsOver}, proofs.Words.{inl, inr, refl, subst, file_state, image_at, store_of, over_files}, specs.Opened.{Nothing, Database, Unfit}, proofs.PresentLemmas.{sound_at, opens_at}, proofs.ContentsLemmas.{none_below, as_found, reads_found, rests_held, shows_held, none_left, empty_other, foreign_other, unsound_other, reads_ours, own_tables, kept_or_migrated}, proofs.RefusalLemmas.{unfit_sound, unfit_of_store, refuses_unconnected, stops_over}}
+use Rattle.moo_files.{specs.Causes.{StopsOver}, proofs.Words.{schema_of, inl, inr, refl, subst, file_state, image_at, store_of, over_files}, specs.Opened.{Nothing, Database, Unfit}, proofs.PresentLemmas.{sound_at, opens_at}, proofs.ContentsLemmas.{none_below, as_found, reads_found, rests_held, shows_held, none_left, empty_other, is_database, unsound_other, reads_ours, own_tables, kept_or_migrated}, proofs.RefusalLemmas.{unfit_sound, unfit_of_store, refuses_unconnected, stops_over}}
 use Rattle.moo_store.{specs.OpeningRows.{AreMigrated, StopsOpening}, proofs.Causes.{says_more}, proofs.OpenLemmas.{refused_of_store}}
 use Rattle.moo_files.proofs.opening.open_from.Goals as goal
 
@@ -19,7 +19,7 @@ returns-in-Ok-adopt_files-clause-opens g c (Database trees) holds clean =
     let early = none_below _ _ adopts.crash.clean clean in
     let world = c.in-Ok-adopt_files.world in
     record {
-      ours = λ others. adopts.ours (foreign_other it early trees holds others);
+      ours = λ others. adopts.ours (λ version is. others version (is_database it early trees (schema_of version) holds is));
       sound = sound_at it early trees holds world (λ tables rests. adopts.seen tables rests clean);
       present = opens_at it early trees holds world (λ tables rests. adopts.seen tables rests clean);
       kept = kept_or_migrated it early trees (store_of over_files world) holds clean adopts.crash;
@@ -51,7 +51,7 @@ returns-in-Err-adopt_files-clause-refuses g c (Database trees) holds clean =
     let early = none_below _ _ adopts.crash.clean clean in
     record {
       state = λ s leaves. refused_of_store over_files c.in-Ok.conn last c.in-Err-adopt_files.fault adopts s (shows_held it early s (record { trees = trees; holds = holds; such = leaves })) clean;
-      other = λ others. (adopts.other (foreign_other it early trees holds others)).0;
+      other = λ others. (adopts.other (λ version is. others version (is_database it early trees (schema_of version) holds is))).0;
       ours = λ ours other. own_tables it early trees holds ours (λ version is. adopts.own version is other);
       malformed = tt;
       kept = kept_or_migrated it early trees (file_state last) holds clean adopts.crash;
