@@ -1,5 +1,5 @@
 -- Half a first page isn't a whole page of any database.
-use Rattle.moo_files.proofs.Words.{◌≡◌, ◌≤◌, ◌<◌, ℕ, List, [], ◌∷◌, length, take, unwrap_or, get_or-take, length-take, slice_index, Option, Some, true, false, ap, inl, inr, sym, ◌∙◌, arith, ∥∥₁_elim, cases_eq, Image, Pages, Trees, IsIgnored, IsBlankFile, IsSoundFile, header_in, trimmed_some, used_size, size_in_file, some_value, begun_is_not_blank, first_page, first_page_byte, stored_size, sealed, IsUnreadable, length-sealed, first_byte, NamesSize, BeginsWell, IsBlank, HoldsNone, HoldsTrees}
+use Rattle.moo_files.proofs.Words.{◌≡◌, ◌≤◌, ◌<◌, ℕ, List, [], ◌∷◌, length, take, unwrap_or, get_or-take, length-take, slice_index, Option, Some, true, false, ap, inl, inr, sym, ◌∙◌, arith, ∥∥₁_elim, cases_eq, Image, Pages, Trees, IsIgnored, IsBlankFile, IsSoundFile, header_in, trimmed_some, used_size, size_in_file, some_value, begun_is_not_blank, first_page, first_page_byte, stored_size, sealed, IsUnreadable, length-sealed, first_byte, NamesSize, BeginsWell, IsBlank, HoldsNoDatabase, HoldsTrees}
 use Rattle.sqlite_pool.specs.Stored.{Adopts}
 use Rattle.std.{proofs.lemmas.List.{length-map}, proofs.lemmas.List.FromFn.{length-range_with_len}, specs.List.{range_with_len}}
 use Rattle.sqlite_wal.{specs.Format.{be32}, proofs.FormatLemmas.{be32-part}}
@@ -54,10 +54,10 @@ not_begun size image pages found sound other some =
     let gate = first_byte other some in
     begun_is_not_blank (sealed (first_page other)) page (stored_size size) image found.stored found.found is (found.whole.sized 1 page is) (omega (arith, long)) (byte ∙ sym gate) (λ none. let never = sym gate ∙ none in omega arith)
 
-pub something : (size : ℕ) (image : Image) (pages : Pages) → Adopts size image pages → IsSoundFile size pages → ¬ HoldsNone image
+pub something : (size : ℕ) (image : Image) (pages : Pages) → Adopts size image pages → IsSoundFile size pages → ¬ HoldsNoDatabase image
 something size image pages found sound (inl (inl plain)) = not_begun size image pages found sound (used_size 4096 false) (omega arith) plain
 something size image pages found sound (inl (inr summed)) = not_begun size image pages found sound (used_size 4096 true) (omega arith) summed
 something size image pages found sound (inr half) = not_begun size image pages found sound 1024 (omega arith) half
 
-pub holds_none : {image : Image} {trees : Trees} → HoldsTrees image trees → ¬ HoldsNone image
+pub holds_none : {image : Image} {trees : Trees} → HoldsTrees image trees → ¬ HoldsNoDatabase image
 holds_none holds none = ∥∥₁_elim holds (λ x y. absurd x) (λ held. something held.0 _ held.2.pages held.2.found held.2.ours.file.sound none)

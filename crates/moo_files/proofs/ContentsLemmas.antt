@@ -1,5 +1,5 @@
 -- From what the files hold to what a connection to them keeps.
-use Rattle.moo_files.{proofs.Words.{◌≡◌, ◌≢◌, ◌⊎◌, inl, inr, ℕ, ◌≤◌, ap, arith, sym, subst, subst₂, ◌∙◌, ∥∥₁_elim, ∥∥₁_map, Trees-set, Trees, Image, HasCleanDisk, Survives, Opens, Held, IsEmpty, IsNothing, file_state, empty_is_sound, Ghosts, FileStore, State, Tables, schema_of, no_schema, ShowsState, Adopts, HoldsNone, HoldsTrees, HoldsTables, HoldsState, HasOtherTables, IsKept, ReadsAs, ReadsAsOurs, HoldsNoTable}, specs.Connected.{IsConnected, IsNewOrFound}, proofs.BegunLemmas.{holds_none}, proofs.RemainsLemmas.{found_empty}}
+use Rattle.moo_files.{proofs.Words.{◌≡◌, ◌≢◌, ◌⊎◌, inl, inr, ℕ, ◌≤◌, ap, arith, sym, subst, subst₂, ◌∙◌, ∥∥₁_elim, ∥∥₁_map, Trees-set, Trees, Image, HasCleanDisk, Survives, Opens, Held, IsEmpty, IsNothing, file_state, empty_is_sound, Ghosts, FileStore, State, Tables, schema_of, no_schema, ShowsState, Adopts, HoldsNoDatabase, HoldsTrees, HoldsTables, HoldsState, HasOtherTables, IsKept, ReadsAs, ReadsAsOurs, HoldsNoTable}, specs.Connected.{IsConnected, IsNewOrFound}, proofs.BegunLemmas.{holds_none}, proofs.RemainsLemmas.{found_empty}}
 use Rattle.sqlite.{specs.Schema.{Schema}, specs.State.{State as Database}, specs.Start.{FindsIn}, specs.Effect.{IsDatabase}}
 use Rattle.moo_store.specs.OpeningRows.{HasOthers}
 use Rattle.moo_tables.{proofs.SchemaLemmas.{some_tables, one_schema, no_other}, proofs.ReopenLemmas.{opened}}
@@ -88,23 +88,23 @@ module _ {D : Type 0} {g : Ghosts D} {image : Image} {conn : Held (FileStore D g
 
   -- ---- files that hold none
 
-  none_found : HoldsNone image → IsEmpty (file_state conn).committed.trees
+  none_found : HoldsNoDatabase image → IsEmpty (file_state conn).committed.trees
   none_found none = elim (it.found clean) [ inl made ↦ made.1 | inr found ↦ found_empty none found.reads ]
 
-  pub none_left : HoldsNone image → (left : Trees) → (file_state conn).may_leave left → IsEmpty left
+  pub none_left : HoldsNoDatabase image → (left : Trees) → (file_state conn).may_leave left → IsEmpty left
   none_left none left lies = subst IsEmpty (sym (it.left opens.is_open left lies)) (none_found none)
 
-  pub no_tables : HoldsNone image → (file_state conn).now.schema ≡ no_schema
+  pub no_tables : HoldsNoDatabase image → (file_state conn).now.schema ≡ no_schema
   no_tables none =
       let now = (file_state conn).now in
       no_other now.trees now.schema (empty_is_sound now.trees (subst IsEmpty (sym (ap (λ db. db.trees) opens.clean)) (none_found none)).1) sound.0
 
-  pub empty_other : HoldsNone image → HasOthers (file_state conn)
+  pub empty_other : HoldsNoDatabase image → HasOthers (file_state conn)
   empty_other none version is = some_tables version (sym is ∙ no_tables none)
 
   -- ---- what the files read as
 
-  reads : HoldsNone image ⊎ ReadsAs image (file_state conn).committed.trees
+  reads : HoldsNoDatabase image ⊎ ReadsAs image (file_state conn).committed.trees
   reads = elim (it.found clean) [ inl made ↦ inl (inr made.0) | inr found ↦ elim (reads_found found sound.1) [ inl nothing ↦ inl (inl nothing) | inr read ↦ inr read ] ]
 
   -- a World was opened over them, so that their tables are ours
@@ -128,5 +128,5 @@ module _ {D : Type 0} {g : Ghosts D} {image : Image} {conn : Held (FileStore D g
     | inr read ↦ inr ((file_state conn).committed.trees, read, λ any. empty (λ is. any (is_committed no_schema is)))
   ]
 
-  pub found_something : ¬ HoldsNone image → (trees : Trees) × ReadsAs image trees
+  pub found_something : ¬ HoldsNoDatabase image → (trees : Trees) × ReadsAs image trees
   found_something some = elim reads [ inl none ↦ absurd (some none) | inr read ↦ ((file_state conn).committed.trees, read) ]

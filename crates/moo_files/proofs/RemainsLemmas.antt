@@ -1,5 +1,5 @@
 -- What is left of files that held an image.
-use Rattle.moo_files.{proofs.Words.{◌≡◌, ◌⊎◌, inl, inr, ℕ, ◌≤◌, false, IsTrue, refl, arith, sym, subst, ◌∙◌, ∥∥₁_elim, ∥∥₁_map, cases_eq, cases_Bool, Ghosts, Files, FileStore, Held, Image, IsIgnored, outcomes, stored_size, reserved, is_summed, StandsAs, IsUnreadable, size_by_log, size_by_file, reserved_word, state_of, Trees-set, Trees, IsNothing, IsEmpty, HoldsDatabase, NamesSize, SaysSums, BeginsWell, LeavesFiles, AreFoundIn, Finds, file_state, image_at, Leftover, IsBlank, SparesFiles, HoldsNone, HoldsTrees, HoldsSuch, HoldsNothingBut, ReadsAs, Remains, IsCleanRemains, IsUnopened, LeftoverKeeps, LeftoverSpares, KeepsAs, KeepsSuch, KeepsNothingBut, Spares}, proofs.BegunLemmas.{begun_unreadable, something, holds_none}, specs.Closing.{IsLeftOf, IsClosedFrom}, specs.Start.{HoldStart}}
+use Rattle.moo_files.{proofs.Words.{◌≡◌, ◌⊎◌, inl, inr, ℕ, ◌≤◌, false, IsTrue, refl, arith, sym, subst, ◌∙◌, ∥∥₁_elim, ∥∥₁_map, cases_eq, cases_Bool, Ghosts, Files, FileStore, Held, Image, IsIgnored, outcomes, stored_size, reserved, is_summed, StandsAs, IsUnreadable, size_by_log, size_by_file, reserved_word, state_of, Trees-set, Trees, IsNothing, IsEmpty, HoldsDatabase, NamesSize, SaysSums, BeginsWell, LeavesFiles, AreFoundIn, Finds, file_state, image_at, Leftover, IsBlank, SparesFiles, HoldsNoDatabase, HoldsTrees, HoldsSuch, HoldsNothingBut, ReadsAs, Remains, IsCleanRemains, IsUnopened, LeftoverKeeps, LeftoverSpares, KeepsAs, KeepsSuch, KeepsNothingBut, Spares}, proofs.BegunLemmas.{begun_unreadable, something, holds_none}, specs.Closing.{IsLeftOf, IsClosedFrom}, specs.Start.{HoldStart}}
 use Rattle.moo_files.specs.declared.remains.Remains.TheVariants as remains
 use Rattle.moo_files.specs.declared.pair.NotOpened.{NotOpened}
 use Rattle.sqlite_disk.specs.declared.start.Start as start
@@ -53,7 +53,7 @@ stands_for image found trees held size same stands =
 -- ---- what `sqlite` leaves
 
 -- files that hold no database read as none
-pub found_empty : {image : Image} {db : Trees} → HoldsNone image → AreFoundIn image db → IsEmpty db
+pub found_empty : {image : Image} {db : Trees} → HoldsNoDatabase image → AreFoundIn image db → IsEmpty db
 found_empty none (inl it) = absurd (∥∥₁_elim it.4 (λ x y. absurd x) (λ ours. something it.0 _ it.1 it.3 ours.file.sound none))
 found_empty none (inr it) = it.1
 
@@ -112,7 +112,7 @@ module _ {D T : Type 0} {g : Ghosts D} {first : start.Ghosts T} {files : Files D
       ∥∥₁_elim holds (Trees-set _ _) (λ held. (leaves found lies).1 trees (subst (λ i. HoldsDatabase i trees) (sym begun.seen) held))
 
   -- of files that a blank database was to be made in, or that `sqlite` took up
-  pub spared_spares : (rest : Leftover D g) → SparesFiles files rest → ¬ HoldsNone (image_at first) → LeftoverSpares (image_at first) rest
+  pub spared_spares : (rest : Leftover D g) → SparesFiles files rest → ¬ HoldsNoDatabase (image_at first) → LeftoverSpares (image_at first) rest
   spared_spares rest (inl blank) some = absurd (some (inr (subst IsBlank begun.seen blank.0)))
   spared_spares rest (inr leaves) some = leftover_spares rest leaves (λ nothing. some (inl nothing))
 
@@ -121,15 +121,15 @@ module _ {D T : Type 0} {g : Ghosts D} {first : start.Ghosts T} {files : Files D
   spared_keeps rest trees (inr leaves) holds = leftover_keeps rest trees leaves holds
 
   -- a blank database was under way in them
-  under_way : {Half : Type 0} (found : Image) → HoldsNone (image_at first) → (Half → HoldsNone found) → outcomes g files.log files.db found ⊎ (Half ⊎ ∥ ((db : Trees) × HoldsDatabase found db × IsEmpty db) ∥₁) → HoldsNothingBut (λ _. ⊥) found
-  under_way found none half (inl was) = inl (subst HoldsNone (sym (begun.left found was)) none)
+  under_way : {Half : Type 0} (found : Image) → HoldsNoDatabase (image_at first) → (Half → HoldsNoDatabase found) → outcomes g files.log files.db found ⊎ (Half ⊎ ∥ ((db : Trees) × HoldsDatabase found db × IsEmpty db) ∥₁) → HoldsNothingBut (λ _. ⊥) found
+  under_way found none half (inl was) = inl (subst HoldsNoDatabase (sym (begun.left found was)) none)
   under_way found none half (inr (inl still)) = inl (half still)
   under_way found none half (inr (inr made)) = inr (∥∥₁_map made (λ it. record { trees = it.0; holds = ∣ it.1 ∣₁; such = inl it.2 }))
 
   -- of files that held none
-  pub spared_none : (rest : Leftover D g) → SparesFiles files rest → HoldsNone (image_at first) → LeftoverKeeps (HoldsNothingBut (λ _. ⊥)) (λ trees. IsEmpty trees ⊎ ⊥) (image_at first) rest
-  spared_none (left.Files now) (inl blank) none = λ found lies. inl (subst HoldsNone (sym (begun.left found (blank.1 found lies))) none)
-  spared_none (left.Files now) (inr leaves) none = λ found lies. inl (subst HoldsNone (sym (begun.left found (leaves found lies))) none)
+  pub spared_none : (rest : Leftover D g) → SparesFiles files rest → HoldsNoDatabase (image_at first) → LeftoverKeeps (HoldsNothingBut (λ _. ⊥)) (λ trees. IsEmpty trees ⊎ ⊥) (image_at first) rest
+  spared_none (left.Files now) (inl blank) none = λ found lies. inl (subst HoldsNoDatabase (sym (begun.left found (blank.1 found lies))) none)
+  spared_none (left.Files now) (inr leaves) none = λ found lies. inl (subst HoldsNoDatabase (sym (begun.left found (leaves found lies))) none)
   spared_none (left.Unopened now) (inl blank) none = λ found lies. plainly (under_way found none (λ half. inr half) (blank.1 found lies))
   spared_none (left.Unopened now) (inr (inl nothing)) none = λ found lies. plainly (under_way found none (λ still. inl still) (nothing.1 found lies))
   spared_none (left.Unopened now) (inr (inr leaves)) (inl nothing) = absurd (leaves.0 (subst IsNothing (sym begun.seen) nothing))

@@ -49,6 +49,6 @@ pub use Rattle.sqlite_wal.specs.PageSize.{IsPageSize, bytes_of, size_in_file}
 pub use Rattle.sqlite_wal.specs.Reads.{AreClean, OnlyReads, are_clean, tally_of_files}
 pub use Rattle.sqlite_wal.specs.Recovery.{AreWhole, Image, IsIgnored, Pages}
 pub use Rattle.moo_files.specs.Blank.{IsBlank, LeavesBlank, SparesFiles}
-pub use Rattle.moo_files.specs.Contents.{HasAnyTable, HasOtherTables, HoldsMoment, HoldsNoTable, HoldsNone, HoldsNothingBut, HoldsState, HoldsSuch, HoldsTables, HoldsTrees, IsKept, IsLeftBy, IsMigrated, ReadsAs, ReadsAsOurs}
+pub use Rattle.moo_files.specs.Contents.{HasAnyTable, HasOtherTables, HoldsMoment, HoldsNoTable, HoldsNoDatabase, HoldsNothingBut, HoldsState, HoldsSuch, HoldsTables, HoldsTrees, IsKept, IsLeftBy, IsMigrated, ReadsAs, ReadsAsOurs}
 pub use Rattle.moo_files.specs.Remains.{ExcusesMalformed, IsCleanRemains, IsUnopened, KeepsAs, KeepsNothingBut, KeepsSuch, LeftoverKeeps, LeftoverSpares, Spares, TakesForOurs, cannot_open, malformed}
 pub use Rattle.moo_files.specs.declared.remains.Remains.{Remains}

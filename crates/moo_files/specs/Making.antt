@@ -18,7 +18,7 @@ use Rattle.moo_store.specs.Moves.{Stands}
 use Rattle.moo_store.specs.World.{store_of}
 use Rattle.moo_store.specs.declared.fault.StoreFault.{StoreFault}
 use Rattle.moo_files.specs.Causes.{StopsOver}
-use Rattle.moo_files.specs.Contents.{HoldsTrees, HasAnyTable, HoldsNone, HoldsNoTable}
+use Rattle.moo_files.specs.Contents.{HoldsTrees, HasAnyTable, HoldsNoDatabase, HoldsNoTable}
 use Rattle.moo_files.specs.Opened.{Attempt}
 use Rattle.moo_files.specs.Remains.{IsCleanRemains, MayStopAs, KeepsNothingBut, KeepsSuch, Spares}
 use Rattle.moo_files.specs.declared.remains.Remains.{Remains}
@@ -34,7 +34,7 @@ pub data Site : Type 0 where
   Filled : Trees → Site
 
 abbrev pub IsSite : Image → Site → Type 0
-IsSite image Empty = HoldsNone image
+IsSite image Empty = HoldsNoDatabase image
 IsSite image (Filled trees) = HoldsTrees image trees
 
 -- a world is made in a database only if it has no table, whether the tables show a world or not
@@ -67,7 +67,7 @@ module _ {T D : Type 0} {g : Ghosts D} where
   pub record IsUnmadeIn (Made : Trees → Type 0) (image : Image) (fault : StoreFault) (rest : Remains T D g) : Type 0 where
     pub of_store : IsOfStore fault
     pub stopped : MayStopAs fault rest
-    pub spared : ¬ HoldsNone image → IsCleanRemains rest → Spares image rest
+    pub spared : ¬ HoldsNoDatabase image → IsCleanRemains rest → Spares image rest
     pub kept : (site : Site) → IsSite image site → IsCleanRemains rest → KeepsSite Made site image rest
 
   -- what making the world of these rows does

@@ -20,7 +20,7 @@ use Rattle.moo_store.specs.States.{LeavesState}
 use Rattle.moo_tables_rows.specs.Inside.{Leaves}
 use Rattle.moo_files.specs.Opened.{Contents, Nothing, Database, Unfit, Hold}
 use Rattle.moo_store.specs.declared.fault.StoreFault.{StoreFault}
-use Rattle.moo_files.specs.Contents.{HoldsTrees, HoldsTables, HoldsMoment, HoldsSuch, HoldsNone, HoldsNoTable}
+use Rattle.moo_files.specs.Contents.{HoldsTrees, HoldsTables, HoldsMoment, HoldsSuch, HoldsNoDatabase, HoldsNoTable}
 use Rattle.moo_files.specs.Contents.{HasOtherTables, HasEarlierTables, HasAnyTable, IsKept, ReadsAsOurs}
 use Rattle.moo_files.specs.Remains.{IsCleanRemains, MayStopAs, Spares, KeepsSuch, KeepsNothingBut, StillHoldsTrees}
 use Rattle.moo_files.specs.Blank.{IsBlank}
@@ -147,7 +147,7 @@ module _ {T D : Type 0} {g : Ghosts D} where
         KeepsSuch (λ found. (found ≡ trees) ⊎ LeavesNew task run found) image rest
     -- Of files that held nothing, or half a first page, a new world that can't be made leaves no more than they held, a database without
     -- rows, or that world, whole.
-    pub fresh : begins_anew task ≡ true → HoldsNone image → IsCleanRemains rest → KeepsNothingBut (LeavesNew task run) image rest
+    pub fresh : begins_anew task ≡ true → HoldsNoDatabase image → IsCleanRemains rest → KeepsNothingBut (LeavesNew task run) image rest
     -- nothing is asked of the ports
     pub rests : run.given.ports.rests
     -- if no file was opened, the line tells why; or the start is unspent, and the line tells why a dump gives no world
