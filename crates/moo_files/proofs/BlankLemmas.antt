@@ -1,19 +1,13 @@
 -- Files that hold no database yet.
-use Rattle.moo_files.proofs.Words.{◌≡◌, ◌⊎◌, ◌∙◌, true, inl, inr, ℕ, ◌≤◌, ◌<◌, [], IsTrue, ap, listed_from, Result, Ok, Err, IfOk, IfErr, arith, refl, sym, subst, ∥∥₁_map, Ghosts, Files, OnlyReads, Image, AreWhole, outcomes, IsPageSize, version_in, in_use, IsBlankFile, IsNew, reserved, stored_size, Recovers, StandsAs, IsUnreadable, trimmed_whole, not_blank, catalog_rows, all_trees, file_trees, IsOurs, state_of, Held, FileStore, Finds, file_state, HoldsDatabase, IsEmpty, IsNothing, LeavesFiles, NamesSize, BeginsWell, SaysSums, AreFoundIn, image_of, Leftover, same_image, empty_is_sound, IsBlank, LeavesBlank}
-use Rattle.sqlite_pages.specs.PageMap.{PageMap}
+use Rattle.moo_files.proofs.Words.{◌≡◌, ◌⊎◌, ◌∙◌, true, inl, inr, ℕ, ◌<◌, [], IsTrue, ap, listed_from, refl, sym, subst, ∥∥₁_map, Ghosts, Files, OnlyReads, Image, AreWhole, outcomes, PageMap, IsPageSize, version_in, in_use, IsBlankFile, IsNew, stored_size, Recovers, StandsAs, IsUnreadable, is_summed, trimmed_whole, catalog_rows, all_trees, file_trees, IsOurs, state_of, Held, FileStore, Finds, file_state, HoldsDatabase, IsEmpty, IsNothing, LeavesFiles, NamesSize, BeginsWell, SaysSums, AreFoundIn, image_of, Leftover, same_image, empty_is_sound, IsBlank, LeavesBlank}
 use Rattle.sqlite_pool.proofs.ResealLemmas.{adopts_of}
 use Rattle.std.proofs.Common.{◌^◌}
-use Rattle.sqlite_store.{specs.FileStore.{view, schema_of, IsReady}, specs.Db.{trees_in}, proofs.BuildLemmas.{new_is_empty}, proofs.ListingLemmas.{past_version, named_tree}}
+use Rattle.sqlite_store.{specs.FileStore.{view, schema_of, recovers, IsReady}, specs.Db.{trees_in}, proofs.BuildLemmas.{new_is_empty}, proofs.ListingLemmas.{past_version, named_tree}}
 use Rattle.sqlite_store.specs.Opening as store
 use Rattle.sqlite_trees.specs.Tree.{Trees}
 use Rattle.sqlite_wal.proofs.CleanLemmas.{both_clean}
 use Rattle.sqlite.specs.Files.{IsKept}
 use Rattle.sqlite.specs.declared.file.Leftover.TheVariants as left
-
-pub holds_none : (image : Image) (db : Trees) → IsBlank image → HoldsDatabase image db → ⊥
-holds_none image db blank held =
-    let large : 504 ≤ held.0 = (let few : reserved held.0 ≤ 8 = grind arith in omega (arith, held.1.0)) in
-    not_blank held.0 image held.2.pages held.2.found large held.2.ours.file.sound 1024 (omega arith) blank
 
 empty_database : (size : ℕ) (image : Image) (pages : PageMap) → IsPageSize (stored_size size) → Recovers size image pages → IsOurs size true [] pages
     → (db : Trees) × HoldsDatabase image db × IsEmpty db
@@ -80,21 +74,6 @@ module _ {D : Type 0} {g : Ghosts D} {old new : Files D} (log : OnlyReads g old.
   files_earlier (left.Unopened now) (inl it) = inl (subst IsNothing same it.0, λ image may. elim (it.1 image may) [ inl was ↦ inl (earlier image was) | inr way ↦ inr way ])
   files_earlier (left.Unopened now) (inr it) =
       let size = (state_of now).page_size in
-      inr (
-        (λ nothing. it.0 (subst IsNothing (sym same) nothing)),
-        subst (λ i. NamesSize i (stored_size size)) same it.1,
-        subst (BeginsWell (stored_size size)) same it.2,
-        (λ sums. subst (SaysSums (stored_size size)) same (it.3 sums)),
-        λ image may. kept_earlier size image (it.4 image may),
-      )
-  files_earlier (left.Store now) it = λ found lies.
-      let was = it found lies in
-      (subst (λ i. AreFoundIn i found) same was.0, λ trees held. was.1 trees (subst (λ i. HoldsDatabase i trees) (sym same) held))
-
-pub both_ok : {A E : Type 0} {P Q R : A → Type 0} (r : Result A E) → IfOk r P → IfOk r Q → ((a : A) → P a → Q a → R a) → IfOk r R
-both_ok (Ok a) it also f = f a it also
-both_ok (Err e) it also f = tt
-
-pub both_err : {A E : Type 0} {P Q R : E → Type 0} (r : Result A E) → IfErr r P → IfErr r Q → ((e : E) → P e → Q e → R e) → IfErr r R
-both_err (Ok a) it also f = tt
-both_err (Err e) it also f = f e it also
+      let says = subst (λ i. (¬ IsNothing i) × NamesSize i (stored_size size) × BeginsWell (stored_size size) i × (IsTrue (is_summed size) → SaysSums (stored_size size) i)) same (it.0, it.1, it.2, it.3) in
+      inr (says.0, says.1, says.2, says.3, λ image may. kept_earlier size image (it.4 image may))
+  files_earlier (left.Store now) it = subst (λ i. (found : Trees) → recovers now found → AreFoundIn i found × ((db : Trees) → HoldsDatabase i db → found ≡ db)) same it

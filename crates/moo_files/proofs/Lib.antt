@@ -2,13 +2,10 @@ pub mod Words
 pub mod AgainLemmas
 mod BegunLemmas
 mod BlankLemmas
-mod CauseLemmas
-mod ClosingLemmas
 mod ContentsLemmas
 pub mod MakingLemmas
 pub mod OpenedLemmas
 pub mod PresentLemmas
 mod RefusalLemmas
 pub mod RemainsLemmas
-pub mod StartLemmas
 pub mod StopLemmas

@@ -1,19 +1,14 @@
 -- What follows of what opening answers, whatever it answers: the moment that files hold.
-use Rattle.std.{specs.Prelude.{Result, IfOk, IfErr, refl}, proofs.Common.{inl, inr}, proofs.lemmas.Result.{IfOk-weaker, IfErr-weaker}}
-use Rattle.sqlite_disk.specs.declared.Disk.{Ghosts}
-use Rattle.sqlite_store.specs.declared.store.FileStore.{FileStore}
-use Rattle.sqlite_wal.specs.Recovery.{Image}
-use Rattle.sqlite.{specs.State.{HasCleanDisk}, specs.Files.{over_files}, specs.Tree.{Trees}}
+use Rattle.moo_files.{proofs.Words.{inl, inr, refl, IfOk, IfErr, Ghosts, Image, HasCleanDisk, over_files, Trees, store_of, Moment, AreTreesOf, IsSparedMoment, LeavesState, StoreFault, HoldsMoment, IsKept, IsCleanRemains, KeepsSuch, Remains}, specs.Causes.{HasCauseOr, StopsOver}, specs.Opened.{Attempt, Contents, Database, Hold, Opens, Refuses, OpensHeld, RefusesHeld}, proofs.RemainsLemmas.{keeps_more}, proofs.PresentLemmas.{spared_kept}}
+use Rattle.std.proofs.lemmas.Result.{IfOk-weaker, IfErr-weaker}
 use Rattle.moo_world.specs.Judge.{state_of}
-use Rattle.moo_store.{specs.Kept.{World}, specs.World.{store_of}, specs.Moment.{Moment, AreTreesOf, IsSparedMoment}, specs.States.{LeavesState}, specs.declared.fault.StoreFault.{StoreFault}}
 use Rattle.moo_files.specs.declared.remains.Remains.TheVariants as remains
-use Rattle.moo_files.{specs.Causes.{HasCauseOr, StopsOver}, specs.Contents.{HoldsMoment, IsKept}, specs.Remains.{IsCleanRemains, KeepsSuch}, specs.Opened.{Contents, Database, Hold, Opens, Refuses, OpensHeld, RefusesHeld}, specs.declared.remains.Remains.{Remains}, proofs.RemainsLemmas.{keeps_more}, proofs.PresentLemmas.{spared_kept}}
 
 -- the state of a moment is one that its trees show
 pub leaves_state : (m : Moment) (trees : Trees) → AreTreesOf m trees → LeavesState trees (state_of m.rows)
 leaves_state m trees it = record { rows = m.rows; good = it.0; state = refl; leaves = record { tables = it.1.0.tables; leaves = it.1.2; shows = it.1.3 } }
 
-module _ {T D : Type 0} {g : Ghosts D} (image : Image) (r : Result (World (FileStore D g)) (StoreFault × Remains T D g)) where
+module _ {T D : Type 0} {g : Ghosts D} (image : Image) (r : Attempt T D g) where
   abbrev OpensBy : Type 0
   OpensBy = (held : Contents) → Hold image held → IfOk r (λ world. HasCleanDisk (store_of over_files world) → Opens held world)
 

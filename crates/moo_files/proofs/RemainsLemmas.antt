@@ -1,18 +1,16 @@
 -- What is left of files that held an image.
-use Rattle.moo_files.{proofs.Words.{◌≡◌, ◌⊎◌, inl, inr, ℕ, ◌≤◌, true, false, IsTrue, List, [], length, take, slice_index, unwrap_or, get_or-take, length-take, ◌<◌, refl, Option, Some, arith, sym, ap, subst, ◌∙◌, ∥∥₁_elim, ∥∥₁_map, cases_eq, cases_Bool, Ghosts, Files, Image, Pages, IsIgnored, outcomes, stored_size, reserved, is_summed, StandsAs, IsUnreadable, used_size, sealed, trimmed_some, first_page, IsBlankFile, header_in, IsSoundFile, size_by_log, size_by_file, reserved_word, first_byte, some_value, begun_is_not_blank, state_of, Trees-set, Trees, IsNothing, IsEmpty, HoldsDatabase, NamesSize, SaysSums, BeginsWell, LeavesFiles, AreFoundIn, image_of, file_state, Leftover, is_something, IsBlank, LeavesBlank, SparesFiles, HoldsTrees, HoldsSuch, HoldsNothingBut, ReadsAs, Remains, IsCleanRemains, IsUnopened, LeftoverKeeps, LeftoverBlank, LeftoverSpares, KeepsSuch, KeepsNothingBut, Spares}, proofs.BegunLemmas.{begun_unreadable}, proofs.BlankLemmas.{holds_none}, specs.Closing.{IsLeftOf, IsClosedFrom}}
+use Rattle.moo_files.{proofs.Words.{◌≡◌, ◌⊎◌, inl, inr, ℕ, ◌≤◌, false, IsTrue, refl, arith, sym, subst, ◌∙◌, ∥∥₁_elim, ∥∥₁_map, cases_eq, cases_Bool, Ghosts, Files, FileStore, Held, Image, IsIgnored, outcomes, stored_size, reserved, is_summed, StandsAs, IsUnreadable, size_by_log, size_by_file, reserved_word, state_of, Trees-set, Trees, IsNothing, IsEmpty, HoldsDatabase, NamesSize, SaysSums, BeginsWell, LeavesFiles, AreFoundIn, Finds, file_state, image_at, Leftover, IsBlank, SparesFiles, HoldsNoDatabase, HoldsTrees, HoldsSuch, HoldsNothingBut, ReadsAs, Remains, IsCleanRemains, IsUnopened, LeftoverKeeps, LeftoverSpares, KeepsAs, KeepsSuch, KeepsNothingBut, Spares}, proofs.BegunLemmas.{begun_unreadable, something, holds_none}, specs.Closing.{IsLeftOf, IsClosedFrom}, specs.Start.{HoldStart}}
 use Rattle.moo_files.specs.declared.remains.Remains.TheVariants as remains
+use Rattle.moo_files.specs.declared.pair.NotOpened.{NotOpened}
+use Rattle.sqlite_disk.specs.declared.start.Start as start
 use Rattle.sqlite_wal.specs.Recovery as raw
-use Rattle.sqlite_pool.specs.Stored.{Adopts}
-use Rattle.sqlite.specs.State.{State as Database}
+use Rattle.sqlite.{specs.State.{State as Database}, specs.Start.{FindsIn}}
 use Rattle.sqlite.specs.declared.file.Leftover.TheVariants as left
 
 -- ---- the page size of a database without sums
 
 plain_size : (size : ℕ) → is_summed size ≡ false → stored_size size ≡ size
-plain_size size plain = elim (cases_eq (reserved size) 0) [
-  | inl none ↦ omega (arith, none)
-  | inr some ↦ absurd (grind arith)
-]
+plain_size size plain = grind arith
 
 large_of : (size : ℕ) → 512 ≤ stored_size size → 504 ≤ size
 large_of size valid = let few : reserved size ≤ 8 = grind arith in omega (arith, valid)
@@ -54,132 +52,93 @@ stands_for image found trees held size same stands =
 
 -- ---- what `sqlite` leaves
 
-long_size : (size : ℕ) (page : List ℕ) → length (take 16 (take 100 (take size page))) ≡ 16 → 16 ≤ size
-long_size size page len = omega (arith, len, length-take 16 (take 100 (take size page)), length-take 100 (take size page), length-take size page)
+-- files that hold no database read as none
+pub found_empty : {image : Image} {db : Trees} → HoldsNoDatabase image → AreFoundIn image db → IsEmpty db
+found_empty none (inl it) = absurd (∥∥₁_elim it.4 (λ x y. absurd x) (λ ours. something it.0 _ it.1 it.3 ours.file.sound none))
+found_empty none (inr it) = it.1
 
--- the first page of a sound file is whole, whatever its size
-not_begun : (size : ℕ) (image : Image) (pages : Pages) → Adopts size image pages → IsSoundFile size pages → (other : ℕ) → 0 < other → ¬ IsBlankFile other image
-not_begun size image pages found sound other some =
-    let (page, is) = some_value (found.stored 1) found.whole.first in
-    let used : pages 1 ≡ Some (take size page) = ap (λ (p : Pages). p 1) (sym found.shows) ∙ trimmed_some size _ 1 page is in
-    let head : header_in pages ≡ take 100 (take size page) = ap (λ (o : Option (List ℕ)). take 100 (unwrap_or o [])) used in
-    let magic = ap (take 16) (sym head) ∙ sound.header.0.magic in
-    let long : 16 ≤ size = long_size size page (ap length magic) in
-    let byte = sym (get_or-take size page 0 0 (omega (arith, long))) ∙ sym (get_or-take 100 (take size page) 0 0 (omega arith)) ∙ sym (get_or-take 16 (take 100 (take size page)) 0 0 (omega arith))
-    ∙ ap (λ (b : List ℕ). slice_index b 0) magic in
-    let gate = first_byte other some in
-    begun_is_not_blank (sealed (first_page other)) page (stored_size size) image found.stored found.found is (found.whole.sized 1 page is) (omega (arith, long)) (byte ∙ sym gate) (λ none. let never = sym gate ∙ none in omega arith)
+-- what is so is so whether the pages end in checksums or not
+plainly : {A B C : Type 0} → A → (A ⊎ B) × (C → A)
+plainly it = (inl it, λ _. it)
 
-something : (size : ℕ) (image : Image) (pages : Pages) → Adopts size image pages → IsSoundFile size pages → ¬ IsNothing image
-something size image pages found sound nothing =
-    let never = not_begun size image pages found sound in
-    elim nothing [ inl plain ↦ never (used_size 4096 false) (omega arith) plain | inr summed ↦ never (used_size 4096 true) (omega arith) summed ]
+-- files that hold the same database
+pub holds_same : {found image : Image} {trees : Trees} → found ≡ image → HoldsTrees image trees → HoldsSuch (λ now. now ≡ trees) found
+holds_same {found} {image} {trees} is holds = record { trees = trees; holds = subst (λ i. HoldsTrees i trees) (sym is) holds; such = refl }
 
--- files that hold nothing read as nothing
-pub found_empty : (image : Image) (db : Trees) → IsNothing image → AreFoundIn image db → IsEmpty db
-found_empty image db nothing (inl it) = absurd (∥∥₁_elim it.4 (λ x y. absurd x) (λ ours. something it.0 image it.1 it.3 ours.file.sound nothing))
-found_empty image db nothing (inr it) = it.1
-
--- and so do files that hold half a first page
-pub begun_empty : (image : Image) (db : Trees) → IsBlank image → AreFoundIn image db → IsEmpty db
-begun_empty image db begun (inl it) = absurd (∥∥₁_elim it.4 (λ x y. absurd x) (λ ours. not_begun it.0 image it.1 it.3 ours.file.sound 1024 (omega arith) begun))
-begun_empty image db begun (inr it) = it.1
-
-module _ {D : Type 0} {g : Ghosts D} (image : Image) (files : Files D) (same : image_of g files ≡ image) (only : (now : Image) → outcomes g files.log files.db now → now ≡ image) where
-  -- of files that held a database
-  pub leftover_keeps : (rest : Leftover D g) (trees : Trees) → LeavesFiles files rest → HoldsTrees image trees → LeftoverKeeps (λ found. found ≡ trees) image rest
-  leftover_keeps (left.Files now) trees leaves holds = λ found lies. record { trees = trees; holds = subst (λ i. HoldsTrees i trees) (sym (only found (leaves found lies))) holds; such = refl }
-  leftover_keeps (left.Unopened now) trees (inl nothing) holds = absurd (∥∥₁_elim holds (λ x y. absurd x) (λ held. is_something image trees held (subst IsNothing same nothing.0)))
-  leftover_keeps (left.Unopened now) trees (inr leaves) holds = λ found lies.
-      let size = (state_of now).page_size in
-      let names = subst (λ i. NamesSize i (stored_size size)) same leaves.1 in
-      let says = subst (λ i. IsTrue (is_summed size) → SaysSums (stored_size size) i) same leaves.3 in
-      elim (leaves.4 found lies).same [
-        | inl was ↦
-            let it : HoldsSuch (λ found. found ≡ trees) found = record { trees = trees; holds = subst (λ i. HoldsTrees i trees) (sym (only found was)) holds; such = refl } in
-            (inl it, λ _. it)
-        | inr stands ↦
-            let now_stands = subst (λ i. StandsAs size i found) same stands in (
-              inr (names, now_stands),
-              λ plain. record {
-                trees = trees;
-                holds = ∥∥₁_map holds (λ held. stands_for image found trees held size (same_size image trees held size names says (plain trees held)) now_stands);
-                such = refl;
-              },
-            )
-      ]
-  leftover_keeps (left.Store now) trees leaves holds = λ found lies.
-      ∥∥₁_elim holds (Trees-set _ _) (λ held. (leaves found lies).1 trees (subst (λ i. HoldsDatabase i trees) (sym same) held))
-
-  -- of files that held nothing
-  pub leftover_blank : (rest : Leftover D g) → LeavesFiles files rest → IsNothing image → LeftoverBlank (λ _. ⊥) rest
-  leftover_blank (left.Files now) leaves nothing = λ found lies. inl (subst IsNothing (sym (only found (leaves found lies))) nothing)
-  leftover_blank (left.Unopened now) (inl leaves) nothing = λ found lies.
-      elim (leaves.1 found lies) [
-        | inl was ↦ inl (subst IsNothing (sym (only found was)) nothing)
-        | inr later ↦ elim later [
-          | inl still ↦ inl still
-          | inr made ↦ inr (inr (∥∥₁_map made (λ it. record { trees = it.0; holds = ∣ it.1 ∣₁; such = inl it.2 })))
-        ]
-      ]
-  leftover_blank (left.Unopened now) (inr leaves) nothing = absurd (leaves.0 (subst IsNothing (sym same) nothing))
-  leftover_blank (left.Store now) leaves nothing = λ found lies. inl (found_empty image found nothing (subst (λ i. AreFoundIn i found) same (leaves found lies).0))
+module _ {D T : Type 0} {g : Ghosts D} {first : start.Ghosts T} {files : Files D} (begun : HoldStart first g files) where
+  -- what is found in them
+  pub found_in : (conn : Held (FileStore D g)) → Finds files conn → FindsIn (image_at first) (file_state conn)
+  found_in conn found = record {
+    holds = λ trees held. found.holds trees (subst (λ i. HoldsDatabase i trees) (sym begun.seen) held);
+    reads = subst (λ i. AreFoundIn i (file_state conn).committed.trees) begun.seen found.reads;
+  }
 
   -- of files that held something, be it a sound database or not
-  pub leftover_spares : (rest : Leftover D g) → LeavesFiles files rest → ¬ IsNothing image → LeftoverSpares image rest
-  leftover_spares (left.Files now) leaves some = λ found lies. only found (leaves found lies)
-  leftover_spares (left.Unopened now) (inl nothing) some = absurd (some (subst IsNothing same nothing.0))
+  pub leftover_spares : (rest : Leftover D g) → LeavesFiles files rest → ¬ IsNothing (image_at first) → LeftoverSpares (image_at first) rest
+  leftover_spares (left.Files now) leaves some = λ found lies. begun.left found (leaves found lies)
+  leftover_spares (left.Unopened now) (inl nothing) some = absurd (some (subst IsNothing begun.seen nothing.0))
   leftover_spares (left.Unopened now) (inr leaves) some = λ found lies.
       let size = (state_of now).page_size in
       let it = leaves.4 found lies in
       record {
         same = elim it.same [
-          | inl was ↦ inl (only found was)
-          | inr stands ↦ inr (subst (λ i. NamesSize i (stored_size size)) same leaves.1, subst (λ i. StandsAs size i found) same stands)
+          | inl was ↦ inl (begun.left found was)
+          | inr stands ↦ inr (subst (λ i. NamesSize i (stored_size size)) begun.seen leaves.1, subst (λ i. StandsAs size i found) begun.seen stands)
         ];
-        unread = λ unreadable. only found (it.unread (subst (IsUnreadable size) (sym same) unreadable));
-        something = λ none. it.something (λ was. some (subst IsNothing (only found was) none)) none;
+        unread = λ unreadable. begun.left found (it.unread (subst (IsUnreadable size) (sym begun.seen) unreadable));
+        something = λ none. it.something (λ was. some (subst IsNothing (begun.left found was) none)) none;
       }
-  leftover_spares (left.Store now) leaves some = λ found lies. subst (λ i. AreFoundIn i found) same (leaves found lies).0
+  leftover_spares (left.Store now) leaves some = λ found lies. subst (λ i. AreFoundIn i found) begun.seen (leaves found lies).0
+
+  -- of files that held a database
+  pub leftover_keeps : (rest : Leftover D g) (trees : Trees) → LeavesFiles files rest → HoldsTrees (image_at first) trees → LeftoverKeeps (HoldsSuch (λ now. now ≡ trees)) (λ now. now ≡ trees) (image_at first) rest
+  leftover_keeps (left.Files now) trees leaves holds = λ found lies. holds_same (begun.left found (leaves found lies)) holds
+  leftover_keeps (left.Unopened now) trees (inl nothing) holds = absurd (holds_none holds (inl (subst IsNothing begun.seen nothing.0)))
+  leftover_keeps (left.Unopened now) trees (inr leaves) holds = λ found lies.
+      let size = (state_of now).page_size in
+      let says = subst (λ i. IsTrue (is_summed size) → SaysSums (stored_size size) i) begun.seen leaves.3 in
+      elim (leftover_spares (left.Unopened now) (inr leaves) (λ nothing. holds_none holds (inl nothing)) found lies).same [
+        | inl was ↦ plainly (holds_same was holds)
+        | inr sealed ↦ (
+          inr sealed,
+          λ plain. record {
+            trees = trees;
+            holds = ∥∥₁_map holds (λ held. stands_for (image_at first) found trees held size (same_size (image_at first) trees held size sealed.0 says (plain trees held)) sealed.1);
+            such = refl;
+          },
+        )
+      ]
+  leftover_keeps (left.Store now) trees leaves holds = λ found lies.
+      ∥∥₁_elim holds (Trees-set _ _) (λ held. (leaves found lies).1 trees (subst (λ i. HoldsDatabase i trees) (sym begun.seen) held))
 
   -- of files that a blank database was to be made in, or that `sqlite` took up
-  pub spared_spares : (rest : Leftover D g) → SparesFiles files rest → ¬ IsNothing image → ¬ IsBlank image → LeftoverSpares image rest
-  spared_spares rest (inl blank) some begun = absurd (begun (subst IsBlank same blank.0))
-  spared_spares rest (inr leaves) some begun = leftover_spares rest leaves some
+  pub spared_spares : (rest : Leftover D g) → SparesFiles files rest → ¬ HoldsNoDatabase (image_at first) → LeftoverSpares (image_at first) rest
+  spared_spares rest (inl blank) some = absurd (some (inr (subst IsBlank begun.seen blank.0)))
+  spared_spares rest (inr leaves) some = leftover_spares rest leaves (λ nothing. some (inl nothing))
 
-  pub spared_keeps : (rest : Leftover D g) (trees : Trees) → SparesFiles files rest → HoldsTrees image trees → LeftoverKeeps (λ found. found ≡ trees) image rest
-  spared_keeps rest trees (inl blank) holds = absurd (∥∥₁_elim holds (λ x y. absurd x) (λ held. holds_none image trees (subst IsBlank same blank.0) held))
+  pub spared_keeps : (rest : Leftover D g) (trees : Trees) → SparesFiles files rest → HoldsTrees (image_at first) trees → LeftoverKeeps (HoldsSuch (λ now. now ≡ trees)) (λ now. now ≡ trees) (image_at first) rest
+  spared_keeps rest trees (inl blank) holds = absurd (holds_none holds (inr (subst IsBlank begun.seen blank.0)))
   spared_keeps rest trees (inr leaves) holds = leftover_keeps rest trees leaves holds
 
-  made_blank : (rest : Leftover D g) → LeavesBlank files rest → IsNothing image ⊎ IsBlank image → LeftoverBlank (λ _. ⊥) rest
-  made_blank (left.Files now) leaves nothing = λ found lies. elim nothing [
-    | inl none ↦ inl (subst IsNothing (sym (only found (leaves found lies))) none)
-    | inr none ↦ inr (inl (subst IsBlank (sym (only found (leaves found lies))) none))
-  ]
-  made_blank (left.Unopened now) leaves nothing = λ found lies.
-      elim (leaves found lies) [
-        | inl was ↦ elim nothing [ inl none ↦ inl (subst IsNothing (sym (only found was)) none) | inr none ↦ inr (inl (subst IsBlank (sym (only found was)) none)) ]
-        | inr later ↦ elim later [
-          | inl still ↦ inr (inl still)
-          | inr made ↦ inr (inr (∥∥₁_map made (λ it. record { trees = it.0; holds = ∣ it.1 ∣₁; such = inl it.2 })))
-        ]
-      ]
-  made_blank (left.Store now) leaves nothing = λ found lies. inl (leaves found lies)
+  -- a blank database was under way in them
+  under_way : {Half : Type 0} (found : Image) → HoldsNoDatabase (image_at first) → (Half → HoldsNoDatabase found) → outcomes g files.log files.db found ⊎ (Half ⊎ ∥ ((db : Trees) × HoldsDatabase found db × IsEmpty db) ∥₁) → HoldsNothingBut (λ _. ⊥) found
+  under_way found none half (inl was) = inl (subst HoldsNoDatabase (sym (begun.left found was)) none)
+  under_way found none half (inr (inl still)) = inl (half still)
+  under_way found none half (inr (inr made)) = inr (∥∥₁_map made (λ it. record { trees = it.0; holds = ∣ it.1 ∣₁; such = inl it.2 }))
 
-  pub spared_blank : (rest : Leftover D g) → SparesFiles files rest → IsNothing image → LeftoverBlank (λ _. ⊥) rest
-  spared_blank rest (inl blank) nothing = made_blank rest blank.1 (inl nothing)
-  spared_blank rest (inr leaves) nothing = leftover_blank rest leaves nothing
-
-  -- of files that held half a first page of 1,024 bytes
-  pub spared_begun : (rest : Leftover D g) → SparesFiles files rest → IsBlank image → LeftoverBlank (λ _. ⊥) rest
-  spared_begun rest (inl blank) begun = made_blank rest blank.1 (inr begun)
-  spared_begun (left.Files now) (inr leaves) begun = λ found lies. inr (inl (subst IsBlank (sym (only found (leaves found lies))) begun))
-  spared_begun (left.Unopened now) (inr (inl nothing)) begun = leftover_blank (left.Unopened now) (inl nothing) (subst IsNothing same nothing.0)
-  spared_begun (left.Unopened now) (inr (inr leaves)) begun = λ found lies.
+  -- of files that held none
+  pub spared_none : (rest : Leftover D g) → SparesFiles files rest → HoldsNoDatabase (image_at first) → LeftoverKeeps (HoldsNothingBut (λ _. ⊥)) (λ trees. IsEmpty trees ⊎ ⊥) (image_at first) rest
+  spared_none (left.Files now) (inl blank) none = λ found lies. inl (subst HoldsNoDatabase (sym (begun.left found (blank.1 found lies))) none)
+  spared_none (left.Files now) (inr leaves) none = λ found lies. inl (subst HoldsNoDatabase (sym (begun.left found (leaves found lies))) none)
+  spared_none (left.Unopened now) (inl blank) none = λ found lies. plainly (under_way found none (λ half. inr half) (blank.1 found lies))
+  spared_none (left.Unopened now) (inr (inl nothing)) none = λ found lies. plainly (under_way found none (λ still. inl still) (nothing.1 found lies))
+  spared_none (left.Unopened now) (inr (inr leaves)) (inl nothing) = absurd (leaves.0 (subst IsNothing (sym begun.seen) nothing))
+  spared_none (left.Unopened now) (inr (inr leaves)) (inr half) = λ found lies.
       let size = (state_of now).page_size in
-      let none : IsUnreadable size image = begun_unreadable image size begun (subst (λ i. NamesSize i (stored_size size)) same leaves.1) (subst (BeginsWell (stored_size size)) same leaves.2) in
-      inr (inl (subst IsBlank (sym (only found ((leaves.4 found lies).unread (subst (IsUnreadable size) (sym same) none)))) begun))
-  spared_begun (left.Store now) (inr leaves) begun = λ found lies. inl (begun_empty image found begun (subst (λ i. AreFoundIn i found) same (leaves found lies).0))
+      let none : IsUnreadable size (image_at first) = begun_unreadable (image_at first) size half (subst (λ i. NamesSize i (stored_size size)) begun.seen leaves.1) (subst (BeginsWell (stored_size size)) begun.seen leaves.2) in
+      plainly (inl (inr (subst IsBlank (sym (begun.left found ((leaves.4 found lies).unread (subst (IsUnreadable size) (sym begun.seen) none)))) half)))
+  spared_none (left.Store now) (inl blank) none = λ found lies. inl (blank.1 found lies)
+  spared_none (left.Store now) (inr leaves) none = λ found lies. inl (found_empty none (subst (λ i. AreFoundIn i found) begun.seen (leaves found lies).0))
 
 -- ---- from what `sqlite` leaves to the remains
 
@@ -191,78 +150,59 @@ empty_or P Q goes trees (inl empty) = inl empty
 empty_or P Q goes trees (inr it) = inr (goes trees it)
 
 nothing_more : (P Q : Trees → Type 0) → ((trees : Trees) → P trees → Q trees) → (image : Image) → HoldsNothingBut P image → HoldsNothingBut Q image
-nothing_more P Q goes image (inl nothing) = inl nothing
-nothing_more P Q goes image (inr (inl blank)) = inr (inl blank)
-nothing_more P Q goes image (inr (inr it)) = inr (inr (∥∥₁_map it (such_more _ _ (empty_or P Q goes) image)))
+nothing_more P Q goes image (inl none) = inl none
+nothing_more P Q goes image (inr it) = inr (∥∥₁_map it (such_more _ _ (empty_or P Q goes) image))
 
 module _ {T D : Type 0} {g : Ghosts D} where
   -- of files that weren't opened
-  pub unopened_keeps : (image : Image) (r : Remains T D g) (trees : Trees) → IsUnopened r → HoldsTrees image trees → KeepsSuch (λ found. found ≡ trees) image r
-  unopened_keeps image (remains.Untouched start) trees unopened holds = record { trees = trees; holds = holds; such = refl }
-  unopened_keeps image (remains.NotOpened seal) trees unopened holds = tt
-  unopened_keeps image r trees unopened holds = absurd unopened
+  pub by_unopened : (K : Remains T D g → Type 0) → ((start : T) → K (remains.Untouched start)) → ((seal : NotOpened T) → K (remains.NotOpened seal)) → (r : Remains T D g) → IsUnopened r → K r
+  by_unopened K untouched spent (remains.Untouched start) unopened = untouched start
+  by_unopened K untouched spent (remains.NotOpened seal) unopened = spent seal
+  by_unopened K untouched spent r unopened = absurd unopened
 
-  pub unopened_blank : (image : Image) (r : Remains T D g) → IsUnopened r → IsNothing image ⊎ IsBlank image → KeepsNothingBut (λ _. ⊥) image r
-  unopened_blank image (remains.Untouched start) unopened (inl nothing) = inl nothing
-  unopened_blank image (remains.Untouched start) unopened (inr begun) = inr (inl begun)
-  unopened_blank image (remains.NotOpened seal) unopened nothing = tt
-  unopened_blank image r unopened nothing = absurd unopened
+  pub unopened_keeps : (Is : Image → Type 0) (P : Trees → Type 0) (image : Image) (r : Remains T D g) → IsUnopened r → Is image → KeepsAs Is P image r
+  unopened_keeps Is P image r unopened is = by_unopened (KeepsAs Is P image) (λ start. is) (λ seal. tt) r unopened
 
   pub unopened_spares : (image : Image) (r : Remains T D g) → IsUnopened r → Spares image r
-  unopened_spares image (remains.Leftover left) unopened = absurd unopened
-  unopened_spares image (remains.Connection conn) unopened = absurd unopened
-  unopened_spares image r unopened = tt
+  unopened_spares image = by_unopened (Spares image) (λ start. tt) (λ seal. tt)
 
   -- what is true of each database that is kept
+  as_more : (Is Still : Image → Type 0) (P Q : Trees → Type 0) → ((found : Image) → Is found → Still found) → ((trees : Trees) → P trees → Q trees) → (image : Image) (r : Remains T D g) → KeepsAs Is P image r → KeepsAs Still Q image r
+  as_more Is Still P Q still goes image (remains.Untouched start) it = still image it
+  as_more Is Still P Q still goes image (remains.NotOpened seal) it = tt
+  as_more Is Still P Q still goes image (remains.Leftover (left.Files now)) it = λ found lies. still found (it found lies)
+  as_more Is Still P Q still goes image (remains.Leftover (left.Unopened now)) it = λ found lies.
+      let was = it found lies in
+      (elim was.0 [ inl held ↦ inl (still found held) | inr sealed ↦ inr sealed ], λ plain. still found (was.1 plain))
+  as_more Is Still P Q still goes image r it = λ trees lies. goes trees (it trees lies)
+
   pub keeps_more : (P Q : Trees → Type 0) → ((trees : Trees) → P trees → Q trees) → (image : Image) (r : Remains T D g) → KeepsSuch P image r → KeepsSuch Q image r
-  keeps_more P Q goes image (remains.Untouched start) it = such_more P Q goes image it
-  keeps_more P Q goes image (remains.NotOpened seal) it = tt
-  keeps_more P Q goes image (remains.Leftover (left.Files now)) it = λ found lies. such_more P Q goes found (it found lies)
-  keeps_more P Q goes image (remains.Leftover (left.Unopened now)) it = λ found lies.
-      let was = it found lies in (
-        elim was.0 [ inl held ↦ inl (such_more P Q goes found held) | inr sealed ↦ inr sealed ],
-        λ plain. such_more P Q goes found (was.1 plain),
-      )
-  keeps_more P Q goes image r it = λ trees lies. goes trees (it trees lies)
+  keeps_more P Q goes = as_more (HoldsSuch P) (HoldsSuch Q) P Q (such_more P Q goes) goes
 
   pub blank_more : (P Q : Trees → Type 0) → ((trees : Trees) → P trees → Q trees) → (image : Image) (r : Remains T D g) → KeepsNothingBut P image r → KeepsNothingBut Q image r
-  blank_more P Q goes image (remains.Untouched start) it = nothing_more P Q goes image it
-  blank_more P Q goes image (remains.NotOpened seal) it = tt
-  blank_more P Q goes image (remains.Leftover (left.Store now)) it = λ trees lies. empty_or P Q goes trees (it trees lies)
-  blank_more P Q goes image (remains.Connection conn) it = λ trees lies. empty_or P Q goes trees (it trees lies)
-  blank_more P Q goes image r it = λ found lies. nothing_more P Q goes found (it found lies)
+  blank_more P Q goes = as_more (HoldsNothingBut P) (HoldsNothingBut Q) (λ trees. IsEmpty trees ⊎ P trees) (λ trees. IsEmpty trees ⊎ Q trees) (nothing_more P Q goes) (empty_or P Q goes)
 
 -- ---- closing
 
-module _ {D : Type 0} {g : Ghosts D} (P : Trees → Type 0) (store : Database) where
-  closed_keeps : (image : Image) (left : Leftover D g) → IsLeftOf store left → ((trees : Trees) → store.may_leave trees → P trees) → LeftoverKeeps P image left
-  closed_keeps image (left.Files now) it keeps = λ found lies. such_more store.may_leave P keeps found (it.1 found lies)
+module _ {D : Type 0} {g : Ghosts D} (Is : Image → Type 0) (P : Trees → Type 0) (store : Database) (is : (found : Image) → HoldsSuch P found → Is found) where
+  closed_keeps : (image : Image) (left : Leftover D g) → IsLeftOf store left → ((trees : Trees) → store.may_leave trees → P trees) → LeftoverKeeps Is P image left
+  closed_keeps image (left.Files now) it keeps = λ found lies. is found (such_more store.may_leave P keeps found (it.1 found lies))
   closed_keeps image (left.Unopened now) it keeps = absurd it
   closed_keeps image (left.Store now) it keeps = λ trees lies. keeps trees (it trees lies)
 
-  closed_blank : (left : Leftover D g) → IsLeftOf store left → ((trees : Trees) → store.may_leave trees → IsEmpty trees ⊎ P trees) → LeftoverBlank P left
-  closed_blank (left.Files now) it keeps = λ found lies. inr (inr ∣ such_more store.may_leave (λ trees. IsEmpty trees ⊎ P trees) keeps found (it.1 found lies) ∣₁)
-  closed_blank (left.Unopened now) it keeps = absurd it
-  closed_blank (left.Store now) it keeps = λ trees lies. keeps trees (it trees lies)
-
-module _ {T D : Type 0} {g : Ghosts D} (P : Trees → Type 0) (image : Image) where
+module _ {T D : Type 0} {g : Ghosts D} (K : Remains T D g → Type 0) (goes : (conn : Held (FileStore D g)) (left : Leftover D g) → IsLeftOf (file_state conn) left → K (remains.Connection conn) → K (remains.Leftover left)) where
   -- what is true of the remains is true of them once they are closed
-  pub keeps_closed : (was now : Remains T D g) → IsClosedFrom was now → (IsCleanRemains was → KeepsSuch P image was) → IsCleanRemains now → KeepsSuch P image now
-  keeps_closed (remains.Connection conn) now it keeps =
-      let done : IsCleanRemains {T = T} (remains.Leftover it.0) → KeepsSuch {T = T} P image (remains.Leftover it.0) = (λ clean. let leaves = it.3 clean in closed_keeps P (file_state conn) image it.0 leaves.1 (keeps leaves.0)) in
-      subst (λ (r : Remains T D g). IsCleanRemains r → KeepsSuch P image r) (sym it.1) done
-  keeps_closed was now is keeps = subst (λ (r : Remains T D g). IsCleanRemains r → KeepsSuch P image r) (sym is) keeps
+  still_closed : (was now : Remains T D g) → IsClosedFrom was now → (IsCleanRemains was → K was) → IsCleanRemains now → K now
+  still_closed (remains.Connection conn) now it keeps = subst (λ (r : Remains T D g). IsCleanRemains r → K r) (sym it.1) (λ clean. goes conn it.0 (it.3 clean).1 (keeps (it.3 clean).0))
+  still_closed was now is keeps = subst (λ (r : Remains T D g). IsCleanRemains r → K r) (sym is) keeps
 
-  pub blank_closed : (was now : Remains T D g) → IsClosedFrom was now → (IsCleanRemains was → KeepsNothingBut P image was) → IsCleanRemains now → KeepsNothingBut P image now
-  blank_closed (remains.Connection conn) now it keeps =
-      let done : IsCleanRemains {T = T} (remains.Leftover it.0) → KeepsNothingBut {T = T} P image (remains.Leftover it.0) = (λ clean. let leaves = it.3 clean in closed_blank P (file_state conn) it.0 leaves.1 (keeps leaves.0)) in
-      subst (λ (r : Remains T D g). IsCleanRemains r → KeepsNothingBut P image r) (sym it.1) done
-  blank_closed was now is keeps = subst (λ (r : Remains T D g). IsCleanRemains r → KeepsNothingBut P image r) (sym is) keeps
+module _ {T D : Type 0} {g : Ghosts D} where
+  pub keeps_closed : (P : Trees → Type 0) (image : Image) (was now : Remains T D g) → IsClosedFrom was now → (IsCleanRemains was → KeepsSuch P image was) → IsCleanRemains now → KeepsSuch P image now
+  keeps_closed P image = still_closed (KeepsSuch P image) (λ conn. closed_keeps (HoldsSuch P) P (file_state conn) (λ found it. it) image)
 
-module _ {T D : Type 0} {g : Ghosts D} (image : Image) where
-  -- what was spared is so once it is closed, and no connection comes back over files that are no sound database
-  pub spares_closed : (was now : Remains T D g) → IsClosedFrom was now → ((trees : Trees) → ¬ ReadsAs image trees) → (IsCleanRemains was → Spares image was) → IsCleanRemains now → Spares image now
-  spares_closed (remains.Connection conn) now it none spares =
-      let done : IsCleanRemains {T = T} (remains.Leftover it.0) → Spares {T = T} image (remains.Leftover it.0) = (λ clean. let reads = spares (it.3 clean).0 in absurd (none reads.0 reads.1)) in
-      subst (λ (r : Remains T D g). IsCleanRemains r → Spares image r) (sym it.1) done
-  spares_closed was now is none spares = subst (λ (r : Remains T D g). IsCleanRemains r → Spares image r) (sym is) spares
+  pub blank_closed : (P : Trees → Type 0) (image : Image) (was now : Remains T D g) → IsClosedFrom was now → (IsCleanRemains was → KeepsNothingBut P image was) → IsCleanRemains now → KeepsNothingBut P image now
+  blank_closed P image = still_closed (KeepsNothingBut P image) (λ conn. closed_keeps (HoldsNothingBut P) (λ trees. IsEmpty trees ⊎ P trees) (file_state conn) (λ found it. inr ∣ it ∣₁) image)
+
+  -- no connection comes back over files that are no sound database
+  pub spares_closed : (image : Image) (was now : Remains T D g) → IsClosedFrom was now → ((trees : Trees) → ¬ ReadsAs image trees) → (IsCleanRemains was → Spares image was) → IsCleanRemains now → Spares image now
+  spares_closed image was now is none = still_closed (Spares image) (λ conn left leaves reads. absurd (none reads.0 reads.1)) was now is

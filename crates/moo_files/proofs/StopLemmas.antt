@@ -1,17 +1,9 @@
 -- From what the disk leaves of the bytes of two files to a database that their store may leave.
-use Rattle.std.{specs.Prelude.{IsSome}, proofs.Common.{inl, inr, IsTrue, refl, sym, subst, ◌∙◌}, proofs.Math.Logic.{∥∥₁_elim, ∥∥₁_map}}
+use Rattle.moo_files.{proofs.Words.{inl, inr, IsTrue, refl, sym, subst, ◌∙◌, ∥∥₁_elim, ∥∥₁_map, IsSome, Ghosts, Image, outcomes, PageMap, Recovers, IsOurs, FileStore, clean_of, HasCleanDisk, Held, AreDatabases, file_state, Trees, State, schema_of, LeavesState, Moment, HasCellsOf, AreTreesOf, IsSparedMoment, Place, moment_of, CrashLeavesAt, HoldsSuch, HoldsTrees, IsLeftBy, IsCleanRemains, KeepsSuch, Remains}, specs.Stop.{DiskLeaves, IsNumberedStore, LeftStoreLeaves, BytesLeave, AreNumbered}, proofs.RemainsLemmas.{such_more}}
 use mathlib.Core.HLevel.{Σ_prop_path}
-use Rattle.sqlite_disk.specs.declared.Disk.{Ghosts}
-use Rattle.sqlite_wal.{specs.Recovery.{Image}, specs.Files.{outcomes}}
-use Rattle.sqlite_pages.specs.PageMap.{PageMap}
-use Rattle.sqlite_pool.{specs.Stored.{Recovers}, specs.StoredLaws.{recovers_once}, proofs.PoolLemmas.{pages_from}, proofs.ResealLemmas.{adopts_of}, proofs.StateLemmas.{clean_is, may_leave_is, size_is_allowed}}
-use Rattle.sqlite_store.{specs.Listing.{IsOurs}, specs.FileStore.{state, view, files, schema_in, reading, recovers}, specs.declared.store.FileStore.{FileStore}}
-use Rattle.sqlite_trees.proofs.Doubt.{clean_of}
-use Rattle.sqlite.{specs.State.{State as Database, HasCleanDisk}, specs.Held.{Held, AreDatabases}, specs.Files.{file_state, IsCleanLeft}, specs.Tree.{Trees}, specs.declared.file.Leftover.{Leftover}}
-use Rattle.moo_world.specs.Judge.{State}
-use Rattle.moo_tables_rows.specs.Tables.{schema_of}
-use Rattle.moo_store.{specs.States.{LeavesState}, specs.Moment.{Moment, HasCellsOf, AreTreesOf, IsSparedMoment}, specs.Place.{Place, moment_of, CrashLeavesAt}}
-use Rattle.moo_files.{specs.Contents.{HoldsSuch, HoldsTrees, IsLeftBy}, specs.Remains.{IsCleanRemains, LeftoverKeeps, KeepsSuch}, specs.Stop.{DiskLeaves, IsNumberedStore, LeftStoreLeaves, BytesLeave, AreNumbered}, specs.declared.remains.Remains.{Remains}, proofs.RemainsLemmas.{such_more}}
+use Rattle.sqlite_pool.{specs.StoredLaws.{recovers_once}, proofs.PoolLemmas.{pages_from}, proofs.ResealLemmas.{adopts_of}, proofs.StateLemmas.{clean_is, may_leave_is, size_is_allowed}}
+use Rattle.sqlite_store.specs.FileStore.{state, view, files, schema_in, reading, recovers}
+use Rattle.sqlite.specs.State.{State as Database}
 use Rattle.moo_files.specs.declared.remains.Remains.TheVariants as remains
 use Rattle.sqlite.specs.declared.file.Leftover.TheVariants as left
 
@@ -52,7 +44,7 @@ module _ {D : Type 0} {g : Ghosts D} (it : FileStore D g) (image : Image) where
       )))) in
       record { trees = trees; holds = holds; such = allowed }
 
-pub left_by_disk : {D : Type 0} {g : Ghosts D} (conn : Held (FileStore D g)) (image : Image) → HasCleanDisk (file_state conn) → IsNumberedStore conn.store → AreDatabases (file_state conn).may_leave → DiskLeaves conn image → IsLeftBy (file_state conn) image
+pub left_by_disk : {D : Type 0} {g : Ghosts D} (conn : Held (FileStore D g)) (image : Image) → HasCleanDisk (file_state conn) → IsNumberedStore conn.store → AreDatabases (file_state conn).may_leave → DiskLeaves conn.store image → IsLeftBy (file_state conn) image
 left_by_disk conn image clean numbered sound lies = left_on_disk conn.store image (clean_of (view conn.store).is_clean clean) numbered sound lies
 
 module _ {D : Type 0} {g : Ghosts D} where
@@ -61,16 +53,13 @@ module _ {D : Type 0} {g : Ghosts D} where
   left_by_store now next clean sound (inl (numbered, lies)) = left_on_disk now next clean numbered sound lies
   left_by_store now next clean sound (inr holds) = holds
 
-  left_by_files : (T : Type 0) (P : Trees → Type 0) (image : Image) (rest : Leftover D g) (next : Image) → AreDatabases P → IsCleanLeft rest → LeftoverKeeps P image rest → BytesLeave {T = T} image (remains.Leftover rest) next → HoldsSuch P next
-  left_by_files T P image (left.Files now) next sound clean keeps lies = keeps next lies
-  left_by_files T P image (left.Unopened now) next sound clean keeps lies = (keeps next (may_leave_is now.pool next (sym (clean_is now.pool) ∙ clean) lies.0)).1 lies.1
-  left_by_files T P image (left.Store now) next sound clean keeps lies =
-      such_more (recovers now) P keeps next (left_by_store now next clean (λ trees may. sound trees (keeps trees may)) lies)
-
 -- whatever the disk leaves of files over which no task ran holds what they kept
 pub such_by_bytes : {T D : Type 0} {g : Ghosts D} (P : Trees → Type 0) (image : Image) (rest : Remains T D g) (next : Image) → AreDatabases P → IsCleanRemains rest → AreNumbered rest → HoldsSuch P image → KeepsSuch P image rest
     → BytesLeave image rest next → HoldsSuch P next
-such_by_bytes {T = T} P image (remains.Leftover rest) next sound clean numbered holds keeps lies = left_by_files T P image rest next sound clean keeps lies
+such_by_bytes P image (remains.Leftover (left.Files now)) next sound clean numbered holds keeps lies = keeps next lies
+such_by_bytes P image (remains.Leftover (left.Unopened now)) next sound clean numbered holds keeps lies = (keeps next (may_leave_is now.pool next (sym (clean_is now.pool) ∙ clean) lies.0)).1 lies.1
+such_by_bytes P image (remains.Leftover (left.Store now)) next sound clean numbered holds keeps lies =
+    such_more (recovers now) P keeps next (left_by_store now next clean (λ trees may. sound trees (keeps trees may)) lies)
 such_by_bytes P image (remains.Connection conn) next sound clean numbered holds keeps lies =
     such_more (file_state conn).may_leave P keeps next (left_by_disk conn next clean numbered (λ trees may. sound trees (keeps trees may)) lies)
 such_by_bytes P image rest next sound clean numbered holds keeps is = subst (HoldsSuch P) (sym is) holds

@@ -41,10 +41,9 @@ module _ {T D : Type 0} {g : Ghosts D} where
   -- Why files are refused: they weren't opened and that was denied, memory ran out, a call of the disk failed, or they are as long as their
   -- format allows. Or a connection to them is open, and this is so of it.
   abbrev pub HasCauseOr : (Held (FileStore D g) → Type 0) → Type 0 → StoreFault → Remains T D g → Type 0
-  HasCauseOr Over Denied fault (remains.Untouched start) = Denied
-  HasCauseOr Over Denied fault (remains.NotOpened seal) = Denied
   HasCauseOr Over Denied fault (remains.Leftover left) = (fault ≡ OutOfMemory) ⊎ ((0 < faults_left left) ⊎ IsFullLeft left)
   HasCauseOr Over Denied fault (remains.Connection conn) = Over conn
+  HasCauseOr Over Denied fault unopened = Denied
 
   -- why a sound database is refused; nothing is said once a connection is open
   abbrev pub HasCause : Type 0 → StoreFault → Remains T D g → Type 0

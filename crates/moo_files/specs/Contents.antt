@@ -45,9 +45,13 @@ HoldsState image s = HoldsSuch (λ trees. LeavesState trees s) image
 abbrev pub IsLeftBy : Database → Image → Type 0
 IsLeftBy store image = HoldsSuch store.may_leave image
 
--- a log and its file hold nothing, be it a half-made page of either size, or a database without rows, or such a database
+-- a log and its file hold nothing, be it a half-made page of either size
+abbrev pub HoldsNoDatabase : Image → Type 0
+HoldsNoDatabase image = IsNothing image ⊎ IsBlank image
+
+-- they hold nothing, or a database without rows, or such a database
 abbrev pub HoldsNothingBut : (Trees → Type 0) → Image → Type 0
-HoldsNothingBut P image = IsNothing image ⊎ (IsBlank image ⊎ ∥ HoldsSuch (λ trees. IsEmpty trees ⊎ P trees) image ∥₁)
+HoldsNothingBut P image = HoldsNoDatabase image ⊎ ∥ HoldsSuch (λ trees. IsEmpty trees ⊎ P trees) image ∥₁
 
 -- the pages of the database don't end in checksums (SQLite's cksumvfs), as those of a file that this program made don't
 abbrev pub HasNoSums : Image → Type 0
@@ -74,9 +78,9 @@ ReadsAs image trees = ∥ ((size : ℕ) × HoldsIn size image trees) ∥₁
 abbrev pub ReadsAsOurs : Image → Type 0
 ReadsAsOurs image = (trees : Trees) × ReadsAs image trees × (¬ HasOtherTables trees)
 
--- they hold half a first page, or nothing, or they read as a database without tables
+-- they hold nothing, or they read as a database without tables
 abbrev pub HoldsNoTable : Image → Type 0
-HoldsNoTable image = IsBlank image ⊎ (IsNothing image ⊎ ((trees : Trees) × ReadsAs image trees × (¬ HasAnyTable trees)))
+HoldsNoTable image = HoldsNoDatabase image ⊎ ((trees : Trees) × ReadsAs image trees × (¬ HasAnyTable trees))
 
 -- Tables of an earlier version have become others that show the same world. If they show none they don't become others.
 pub record IsMigrated (old new : Trees) : Type 0 where

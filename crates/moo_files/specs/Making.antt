@@ -5,7 +5,7 @@ use Rattle.sqlite_store.specs.declared.store.FileStore.{FileStore}
 use Rattle.sqlite_wal.specs.Recovery.{Image}
 use Rattle.sqlite.specs.State.{HasCleanDisk}
 use Rattle.sqlite.specs.Held.{Held}
-use Rattle.sqlite.specs.Files.{over_files, IsNothing}
+use Rattle.sqlite.specs.Files.{over_files}
 use Rattle.sqlite.specs.Tree.{Trees}
 use Rattle.moo_rows.specs.Maps.{Maps, Held as Rows}
 use Rattle.moo_rows.specs.Opening.{opening_maps}
@@ -17,9 +17,8 @@ use Rattle.moo_store.specs.Place.{Works}
 use Rattle.moo_store.specs.Moves.{Stands}
 use Rattle.moo_store.specs.World.{store_of}
 use Rattle.moo_store.specs.declared.fault.StoreFault.{StoreFault}
-use Rattle.moo_files.specs.Blank.{IsBlank}
 use Rattle.moo_files.specs.Causes.{StopsOver}
-use Rattle.moo_files.specs.Contents.{HoldsTrees, HasAnyTable, HoldsNoTable}
+use Rattle.moo_files.specs.Contents.{HoldsTrees, HasAnyTable, HoldsNoDatabase, HoldsNoTable}
 use Rattle.moo_files.specs.Opened.{Attempt}
 use Rattle.moo_files.specs.Remains.{IsCleanRemains, MayStopAs, KeepsNothingBut, KeepsSuch, Spares}
 use Rattle.moo_files.specs.declared.remains.Remains.{Remains}
@@ -29,21 +28,18 @@ abbrev pub rows_made : Option Rows → Maps
 rows_made None = opening_maps
 rows_made (Some rows) = rows.maps
 
--- what files may hold before a world is made in them: nothing, half a first page, as a crash may leave it then, or a database
+-- what files may hold before a world is made in them: nothing, or half a first page, as a crash may leave it then; or a database
 pub data Site : Type 0 where
   Empty : Site
-  HalfMade : Site
   Filled : Trees → Site
 
 abbrev pub IsSite : Image → Site → Type 0
-IsSite image Empty = IsNothing image
-IsSite image HalfMade = IsBlank image
+IsSite image Empty = HoldsNoDatabase image
 IsSite image (Filled trees) = HoldsTrees image trees
 
 -- a world is made in a database only if it has no table, whether the tables show a world or not
 abbrev pub TakesWorld : Site → Type 0
 TakesWorld Empty = ⊤
-TakesWorld HalfMade = ⊤
 TakesWorld (Filled trees) = ¬ HasAnyTable trees
 
 module _ {D : Type 0} {g : Ghosts D} where
@@ -65,14 +61,13 @@ module _ {T D : Type 0} {g : Ghosts D} where
   -- is so. Files without a database hold none still, or one without rows, or what was committed.
   abbrev pub KeepsSite : (Trees → Type 0) → Site → Image → Remains T D g → Type 0
   KeepsSite Made Empty image rest = KeepsNothingBut Made image rest
-  KeepsSite Made HalfMade image rest = KeepsNothingBut Made image rest
   KeepsSite Made (Filled trees) image rest = KeepsSuch (λ found. (found ≡ trees) ⊎ ((¬ HasAnyTable trees) × Made found)) image rest
 
   -- No world was made: the store failed, it had no room for it, or memory ran out. Files that held anything else are spared, sound or not.
   pub record IsUnmadeIn (Made : Trees → Type 0) (image : Image) (fault : StoreFault) (rest : Remains T D g) : Type 0 where
     pub of_store : IsOfStore fault
     pub stopped : MayStopAs fault rest
-    pub spared : ¬ IsNothing image → ¬ IsBlank image → IsCleanRemains rest → Spares image rest
+    pub spared : ¬ HoldsNoDatabase image → IsCleanRemains rest → Spares image rest
     pub kept : (site : Site) → IsSite image site → IsCleanRemains rest → KeepsSite Made site image rest
 
   -- what making the world of these rows does

@@ -36,59 +36,51 @@ module _ {T D : Type 0} {g : Ghosts D} where
   -- The disk returned what was written, as long as the files were open. It is *clean*: no wrong answer of it was taken as true. A call that
   -- fails isn't a wrong answer.
   abbrev pub IsCleanRemains : Remains T D g → Type 0
-  IsCleanRemains (remains.Untouched start) = ⊤
-  IsCleanRemains (remains.NotOpened seal) = ⊤
   IsCleanRemains (remains.Leftover left) = IsCleanLeft left
   IsCleanRemains (remains.Connection conn) = HasCleanDisk (file_state conn)
+  IsCleanRemains unopened = ⊤
 
   -- no file was opened
   abbrev pub IsUnopened : Remains T D g → Type 0
-  IsUnopened (remains.Untouched start) = ⊤
-  IsUnopened (remains.NotOpened seal) = ⊤
   IsUnopened (remains.Leftover left) = ⊥
   IsUnopened (remains.Connection conn) = ⊥
+  IsUnopened unopened = ⊤
 
   -- If no file was opened, the fault is one of these: before `sqlite` was asked, that the file can't be opened or is empty; from
   -- `sqlite`, that the files can't be opened, are open elsewhere, or memory ran out.
   abbrev pub MayStopAs : StoreFault → Remains T D g → Type 0
   MayStopAs fault (remains.Untouched start) = (fault ≡ cannot_open) ⊎ (fault ≡ not_ours)
   MayStopAs fault (remains.NotOpened seal) = (fault ≡ cannot_open) ⊎ ((fault ≡ OutOfMemory) ⊎ (fault ≡ busy))
-  MayStopAs fault (remains.Leftover left) = ⊤
-  MayStopAs fault (remains.Connection conn) = ⊤
+  MayStopAs fault opened = ⊤
 
   -- if the host couldn't open the files, this is so
   abbrev pub IfNotOpened : Remains T D g → Type 0 → Type 0
-  IfNotOpened (remains.Untouched start) P = ⊤
   IfNotOpened (remains.NotOpened seal) P = P
-  IfNotOpened (remains.Leftover left) P = ⊤
-  IfNotOpened (remains.Connection conn) P = ⊤
+  IfNotOpened rest P = ⊤
 
   -- The fault doesn't say that the files aren't a database of moo. Before they are opened nothing is said: an empty file is refused so.
   abbrev pub TakesForOurs : StoreFault → Remains T D g → Type 0
   TakesForOurs fault (remains.Untouched start) = ⊤
-  TakesForOurs fault (remains.NotOpened seal) = fault ≢ not_ours
-  TakesForOurs fault (remains.Leftover left) = fault ≢ not_ours
-  TakesForOurs fault (remains.Connection conn) = fault ≢ not_ours
+  TakesForOurs fault rest = fault ≢ not_ours
 
   -- If `sqlite`, as it opens the files, calls them malformed, a call of the disk failed.
   abbrev pub ExcusesMalformed : StoreFault → Remains T D g → Type 0
-  ExcusesMalformed fault (remains.Untouched start) = fault ≢ malformed
-  ExcusesMalformed fault (remains.NotOpened seal) = fault ≢ malformed
   ExcusesMalformed fault (remains.Leftover left) = fault ≡ malformed → 0 < faults_left left
   ExcusesMalformed fault (remains.Connection conn) = ⊤
+  ExcusesMalformed fault unopened = fault ≢ malformed
 
 module _ {D : Type 0} {g : Ghosts D} where
   -- the pages that this image has, of the size that it names, with the checksums that they lacked
   abbrev pub IsResealed : Unopened D g → Image → Image → Type 0
   IsResealed now image found = NamesSize image (stored_size (state_of now).page_size) × StandsAs (state_of now).page_size image found
 
-  -- Whatever a crash leaves of files that held this image is such a database. If they were left while `sqlite` took them up and their
-  -- pages end in checksums, they may also be resealed.
-  abbrev pub LeftoverKeeps : (Trees → Type 0) → Image → Leftover D g → Type 0
-  LeftoverKeeps P image (left.Files now) = (found : Image) → outcomes g now.log now.db found → HoldsSuch P found
-  LeftoverKeeps P image (left.Unopened now) = (found : Image) → (state_of now).may_leave found →
-      (HoldsSuch P found ⊎ IsResealed now image found) × (HasNoSums image → HoldsSuch P found)
-  LeftoverKeeps P image (left.Store now) = (trees : Trees) → recovers now trees → P trees
+  -- Whatever a crash leaves of files that held this image is so, or is a database of which this is true. If they were left while `sqlite`
+  -- took them up and their pages end in checksums, they may also be resealed.
+  abbrev pub LeftoverKeeps : (Image → Type 0) → (Trees → Type 0) → Image → Leftover D g → Type 0
+  LeftoverKeeps Is P image (left.Files now) = (found : Image) → outcomes g now.log now.db found → Is found
+  LeftoverKeeps Is P image (left.Unopened now) = (found : Image) → (state_of now).may_leave found →
+      (Is found ⊎ IsResealed now image found) × (HasNoSums image → Is found)
+  LeftoverKeeps Is P image (left.Store now) = (trees : Trees) → recovers now trees → P trees
 
   -- A crash leaves what was there, or the same pages, resealed. If the pages weren't whole, it leaves what was there. It never leaves
   -- nothing, so that the next open doesn't write over it.
@@ -104,20 +96,18 @@ module _ {D : Type 0} {g : Ghosts D} where
   LeftoverSpares image (left.Unopened now) = (found : Image) → (state_of now).may_leave found → IsSparedAs now image found
   LeftoverSpares image (left.Store now) = (trees : Trees) → recovers now trees → AreFoundIn image trees
 
-  -- whatever a crash leaves of files that held nothing is nothing, a database without rows, or such a database
-  abbrev pub LeftoverBlank : (Trees → Type 0) → Leftover D g → Type 0
-  LeftoverBlank P (left.Files now) = (found : Image) → outcomes g now.log now.db found → HoldsNothingBut P found
-  LeftoverBlank P (left.Unopened now) = (found : Image) → (state_of now).may_leave found → HoldsNothingBut P found
-  LeftoverBlank P (left.Store now) = (trees : Trees) → recovers now trees → IsEmpty trees ⊎ P trees
-
 module _ {T D : Type 0} {g : Ghosts D} where
-  -- Files that held this image hold such a database, and so does what a crash leaves of them. Of files that weren't opened it is what
-  -- they held; of those that `sqlite` couldn't open nothing is said.
+  -- What files that held this image hold is so, and what a crash leaves of them. Of files that weren't opened it is what they held; of
+  -- those that `sqlite` couldn't open nothing is said. Of the databases that an open store leaves this is true.
+  abbrev pub KeepsAs : (Image → Type 0) → (Trees → Type 0) → Image → Remains T D g → Type 0
+  KeepsAs Is P image (remains.Untouched start) = Is image
+  KeepsAs Is P image (remains.NotOpened seal) = ⊤
+  KeepsAs Is P image (remains.Leftover left) = LeftoverKeeps Is P image left
+  KeepsAs Is P image (remains.Connection conn) = (trees : Trees) → (file_state conn).may_leave trees → P trees
+
+  -- files that held this image hold such a database
   abbrev pub KeepsSuch : (Trees → Type 0) → Image → Remains T D g → Type 0
-  KeepsSuch P image (remains.Untouched start) = HoldsSuch P image
-  KeepsSuch P image (remains.NotOpened seal) = ⊤
-  KeepsSuch P image (remains.Leftover left) = LeftoverKeeps P image left
-  KeepsSuch P image (remains.Connection conn) = (trees : Trees) → (file_state conn).may_leave trees → P trees
+  KeepsSuch P = KeepsAs (HoldsSuch P) P
 
   -- files that held this database hold it still, or what it was migrated to
   abbrev pub StillHoldsTrees : Image → Remains T D g → Trees → Type 0
@@ -129,14 +119,10 @@ module _ {T D : Type 0} {g : Ghosts D} where
 
   -- files that held nothing hold nothing still, a database without rows, or such a database
   abbrev pub KeepsNothingBut : (Trees → Type 0) → Image → Remains T D g → Type 0
-  KeepsNothingBut P image (remains.Untouched start) = HoldsNothingBut P image
-  KeepsNothingBut P image (remains.NotOpened seal) = ⊤
-  KeepsNothingBut P image (remains.Leftover left) = LeftoverBlank P left
-  KeepsNothingBut P image (remains.Connection conn) = (trees : Trees) → (file_state conn).may_leave trees → IsEmpty trees ⊎ P trees
+  KeepsNothingBut P = KeepsAs (HoldsNothingBut P) (λ trees. IsEmpty trees ⊎ P trees)
 
   -- Files that held this image are spared, sound or not. A connection comes back only if they read as a sound database.
   abbrev pub Spares : Image → Remains T D g → Type 0
-  Spares image (remains.Untouched start) = ⊤
-  Spares image (remains.NotOpened seal) = ⊤
   Spares image (remains.Leftover left) = LeftoverSpares image left
   Spares image (remains.Connection conn) = (trees : Trees) × ReadsAs image trees
+  Spares image unopened = ⊤

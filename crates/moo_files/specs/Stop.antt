@@ -19,12 +19,8 @@ use Rattle.moo_files.specs.declared.remains.Remains.TheVariants as remains
 module _ {D : Type 0} {g : Ghosts D} where
   -- The disk may leave these bytes of the log and of the database file, if the process stops now: what was synced, and of all that was
   -- written since any part.
-  abbrev pub StoreLeaves : FileStore D g → Image → Type 0
-  StoreLeaves store image = let both = files store in outcomes g both.0 both.1 image
-
-  -- the same of a connection
-  abbrev pub DiskLeaves : Held (FileStore D g) → Image → Type 0
-  DiskLeaves conn image = StoreLeaves conn.store image
+  abbrev pub DiskLeaves : FileStore D g → Image → Type 0
+  DiskLeaves store image = let both = files store in outcomes g both.0 both.1 image
 
   -- Each table has the place that SQLite's own list of tables gives it. That isn't known if `sqlite` couldn't read the list, or closing
   -- shut the store.
@@ -33,30 +29,26 @@ module _ {D : Type 0} {g : Ghosts D} where
 
   -- It is so of a store that couldn't be closed too, if that is open still, or was shut before the closing.
   abbrev pub KeepsTreesNumbered : Held (FileStore D g) → Leftover D g → Type 0
-  KeepsTreesNumbered conn (left.Files now) = ⊤
-  KeepsTreesNumbered conn (left.Unopened now) = ⊤
   KeepsTreesNumbered conn (left.Store now) = IsTrue (view now).is_open ⊎ ((view conn.store).is_open ≡ false) → IsNumberedStore now
+  KeepsTreesNumbered conn now = ⊤
 
   -- Of a store that was left the disk may leave these bytes, if its trees are numbered. If they aren't, the bytes hold a database that it
   -- may leave.
   abbrev pub LeftStoreLeaves : FileStore D g → Image → Type 0
-  LeftStoreLeaves now next = (IsNumberedStore now × StoreLeaves now next) ⊎ HoldsSuch (recovers now) next
+  LeftStoreLeaves now next = (IsNumberedStore now × DiskLeaves now next) ⊎ HoldsSuch (recovers now) next
 
 module _ {T D : Type 0} {g : Ghosts D} where
   -- The same of files that held an image, over which no task ran. Those that weren't opened are as they were. (Those that `sqlite` failed
   -- to open are taken as such: it says nothing of them.) If they were being opened, their pages end in no checksums (SQLite's cksumvfs).
   abbrev pub BytesLeave : Image → Remains T D g → Image → Type 0
-  BytesLeave image (remains.Untouched start) next = next ≡ image
-  BytesLeave image (remains.NotOpened seal) next = next ≡ image
   BytesLeave image (remains.Leftover (left.Files now)) next = outcomes g now.log now.db next
   BytesLeave image (remains.Leftover (left.Unopened now)) next =
       (let both = files_of now in outcomes g both.0 both.1 next) × HasNoSums image
   BytesLeave image (remains.Leftover (left.Store now)) next = LeftStoreLeaves now next
-  BytesLeave image (remains.Connection conn) next = DiskLeaves conn next
+  BytesLeave image (remains.Connection conn) next = DiskLeaves conn.store next
+  BytesLeave image unopened next = next ≡ image
 
   -- if they have a connection, its trees are numbered
   abbrev pub AreNumbered : Remains T D g → Type 0
-  AreNumbered (remains.Untouched start) = ⊤
-  AreNumbered (remains.NotOpened seal) = ⊤
-  AreNumbered (remains.Leftover left) = ⊤
   AreNumbered (remains.Connection conn) = IsNumberedStore conn.store
+  AreNumbered rest = ⊤

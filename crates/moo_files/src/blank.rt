@@ -4,11 +4,10 @@ ghost use Rattle.std.specs.Prelude.{◌≡◌, [], IsTrue, IfOk, IfErr, false};
 ghost use Rattle.sqlite_wal.specs.PageSize.{bytes_of};
 ghost use Rattle.sqlite_wal.specs.Reads.{AreClean};
 ghost use Rattle.sqlite_wal.specs.declared.error.Error.TheVariants as log_error;
-ghost use Rattle.sqlite_trees.specs.Tree.{Trees};
 ghost use Rattle.sqlite_store.specs.Unopened.{state_of, files_of, wanted_by};
 ghost use Rattle.sqlite.specs.State.{HasCleanDisk};
 ghost use Rattle.sqlite.specs.Held.{IsNew};
-ghost use Rattle.sqlite.specs.Files.{file_state, IsOpened, HoldsDatabase, IsEmpty, IsCleanLeft, image_of};
+ghost use Rattle.sqlite.specs.Files.{file_state, IsOpened, IsEmpty, IsCleanLeft, image_of};
 ghost use Rattle.moo_files.specs.Causes.{IsOpenable, IsRefused};
 ghost use Rattle.moo_files.specs.Blank.{IsBlank, MakesOrFinds, LeavesBlank, SparesFiles};
 
@@ -87,12 +86,11 @@ fn connect_blank<D: Disk + Drop>(
     requires db { IsTrue (D.Disk.is_usable files.db) }
     requires size { bytes_of size ≡ 1024 }
     ensures opened { IfOk result (λ c. HasCleanDisk (file_state c) → IsOpened c) }
-    ensures honest { IfOk result (λ c. HasCleanDisk (file_state c) → AreClean D.Disk files.log files.db) }
-    ensures empty { IfOk result (λ c. HasCleanDisk (file_state c) → IsEmpty (file_state c).committed.trees) }
+    ensures empty { IfOk result (λ c. HasCleanDisk (file_state c) → AreClean D.Disk files.log files.db
+        × IsEmpty (file_state c).committed.trees) }
     ensures fresh { IfOk result IsNew }
-    ensures falls { IfErr result (λ e. IsCleanLeft e.1 → AreClean D.Disk files.log files.db) }
-    ensures left { IfErr result (λ e. IsCleanLeft e.1 → IsBlank (image_of D.Disk files) → LeavesBlank files e.1) }
-    ensures cause { IfErr result (λ e. IsCleanLeft e.1 → IsBlank (image_of D.Disk files) → IsRefused e.0 e.1) }
+    ensures left { IfErr result (λ e. IsCleanLeft e.1 → AreClean D.Disk files.log files.db
+        × (IsBlank (image_of D.Disk files) → LeavesBlank files e.1 × IsRefused e.0 e.1)) }
 {
     let fresh = match new_unopened(alloc, files, size, options) {
         Ok(fresh) => fresh,
@@ -121,12 +119,8 @@ pub fn open_or_make<D: Disk + Drop>(
     requires log { IsTrue (D.Disk.is_usable files.log) }
     requires db { IsTrue (D.Disk.is_usable files.db) }
     ensures opened { IfOk result (λ c. HasCleanDisk (file_state c) → IsOpened c) }
-    ensures found { IfOk result (λ c. HasCleanDisk (file_state c) → MakesOrFinds files c) }
     // So of files that hold a database it shows what they hold, and of those that hold none it shows none.
-    ensures holds { IfOk result (λ c. HasCleanDisk (file_state c) → (db : Trees) → HoldsDatabase (image_of D.Disk files) db →
-        (file_state c).committed.trees ≡ db) }
-    ensures blank { IfOk result (λ c. HasCleanDisk (file_state c) → IsBlank (image_of D.Disk files) →
-        IsEmpty (file_state c).committed.trees) }
+    ensures found { IfOk result (λ c. HasCleanDisk (file_state c) → MakesOrFinds files c) }
     ensures fresh { IfOk result IsNew }
     // After an error files that hold a database are as they were.
     ensures spared { IfErr result (λ e. IsCleanLeft e.1 → SparesFiles files e.1) }

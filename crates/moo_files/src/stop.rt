@@ -30,11 +30,11 @@ use sqlite_disk::Disk;
 pub fn disk_leaves_a_database<D: Disk>()
     // So it is if all that the connection may leave are databases.
     ensures left { (conn : Held (FileStore D D.Disk)) (image : Image) → HasCleanDisk (file_state conn) → IsNumberedStore conn.store →
-        AreDatabases (file_state conn).may_leave → DiskLeaves conn image → IsLeftBy (file_state conn) image }
+        AreDatabases (file_state conn).may_leave → DiskLeaves conn.store image → IsLeftBy (file_state conn) image }
     // So it is of the connection of a World at a place whose cells are known.
     ensures place { (conn : Held (FileStore D D.Disk)) (place : Place) (image : Image) → HasCleanDisk (file_state conn) →
-        IsNumberedStore conn.store → IsSome (moment_of place).cells → CrashLeavesAt (file_state conn) place → DiskLeaves conn image →
-        IsLeftBy (file_state conn) image }
+        IsNumberedStore conn.store → IsSome (moment_of place).cells → CrashLeavesAt (file_state conn) place →
+        DiskLeaves conn.store image → IsLeftBy (file_state conn) image }
 {}
 
 /// Files over which no task ran are stopped, at any call: while they are open still, or after they are closed. Whatever the disk then
@@ -45,12 +45,13 @@ pub fn disk_leaves_a_database<D: Disk>()
 pub fn disk_leaves_what_was_kept<T, D: Disk>()
     ensures state { (s : State) (image : Image) (rest : Remains T D D.Disk) (next : Image) → IsCleanRemains rest → AreNumbered rest →
         HoldsState image s → StillHolds image rest s → BytesLeave image rest next → HoldsState next s }
-    ensures trees { (trees : Trees) (image : Image) (rest : Remains T D D.Disk) (next : Image) → IsCleanRemains rest → AreNumbered rest →
-        HoldsTrees image trees → AreDatabases (IsKept trees) → StillHoldsTrees image rest trees → BytesLeave image rest next →
-        HoldsSuch (IsKept trees) next }
+    ensures trees { (trees : Trees) (image : Image) (rest : Remains T D D.Disk) (next : Image) → IsCleanRemains rest →
+        AreNumbered rest → HoldsTrees image trees → AreDatabases (IsKept trees) → StillHoldsTrees image rest trees →
+        BytesLeave image rest next → HoldsSuch (IsKept trees) next }
     // So they hold a moment that was spared.
-    ensures moment { (m : Moment) (image : Image) (rest : Remains T D D.Disk) (next : Image) → IsCleanRemains rest → AreNumbered rest →
-        HoldsMoment image m → KeepsSuch (λ trees. (end : Moment) × IsSparedMoment m end × AreTreesOf end trees) image rest →
+    ensures moment { (m : Moment) (image : Image) (rest : Remains T D D.Disk) (next : Image) → IsCleanRemains rest →
+        AreNumbered rest → HoldsMoment image m →
+        KeepsSuch (λ trees. (end : Moment) × IsSparedMoment m end × AreTreesOf end trees) image rest →
         BytesLeave image rest next → (end : Moment) × IsSparedMoment m end × HoldsMoment next end }
 {}
 
@@ -59,12 +60,12 @@ pub fn open_after_stop<C: Disk, T, D: Disk>()
     // The files hold a moment that the place of the World may leave. A World that is opened works at it, brought to the present version.
     ensures found { (stopped : World (FileStore C C.Disk)) (place : Place) (image : Image) (opened : Attempt T D D.Disk) →
         Stands over_files stopped place → IsSome (moment_of place).cells → HasCleanDisk (store_of over_files stopped) →
-        IsNumberedStore stopped.connection.store → DiskLeaves stopped.connection image → OpensHeld image opened →
+        IsNumberedStore stopped.connection.store → DiskLeaves stopped.connection.store image → OpensHeld image opened →
         (m : Moment) × MayBeLeft place m × HoldsMoment image m
         × IfOk opened (λ world. HasCleanDisk (store_of over_files world) → OpensAt m world) }
     // It is never called damaged.
     ensures refused { (stopped : World (FileStore C C.Disk)) (place : Place) (image : Image) (opened : Attempt T D D.Disk) →
         Stands over_files stopped place → IsSome (moment_of place).cells → HasCleanDisk (store_of over_files stopped) →
-        IsNumberedStore stopped.connection.store → DiskLeaves stopped.connection image → RefusesHeld image opened →
+        IsNumberedStore stopped.connection.store → DiskLeaves stopped.connection.store image → RefusesHeld image opened →
         IfErr opened (λ e. IsCleanRemains e.1 → IsOfStore e.0) }
 {}

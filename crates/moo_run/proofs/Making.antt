@@ -3,7 +3,7 @@ use Rattle.moo_run.{proofs.Words.{◌≡◌, inl, inr, true, false, IsTrue, refl
 use Rattle.sqlite_store.specs.declared.store.FileStore.{FileStore}
 use Rattle.sqlite.specs.Tree.{Trees}
 use Rattle.moo_store.specs.declared.fault.StoreFault.{StoreFault}
-use Rattle.moo_files.{specs.Causes.{HasCauseOr, IsDenied, IsOpenable}, specs.Making.{Empty, HalfMade, IsUnmadeIn, StopsMaking}, specs.Contents.{HoldsTrees, HasAnyTable, HoldsNoTable}, specs.Remains.{IsCleanRemains}, specs.declared.remains.Remains.{Remains}, proofs.MakingLemmas.{moment_kept, table_kept, trees_or_made}}
+use Rattle.moo_files.{specs.Causes.{HasCauseOr, IsDenied, IsOpenable}, specs.Making.{Empty, IsUnmadeIn, StopsMaking}, specs.Contents.{HoldsTrees, HasAnyTable, HoldsNoTable}, specs.Remains.{IsCleanRemains}, specs.declared.remains.Remains.{Remains}, proofs.MakingLemmas.{moment_kept, table_kept, trees_or_made}}
 use Rattle.moo_files.specs.declared.remains.Remains.TheVariants as remains
 
 never : {A : Type 0} (task : Task) → begins_anew task ≡ true → begins_anew task ≡ false → A
@@ -37,9 +37,8 @@ module _ {T D : Type 0} {g : Ghosts D} (task : Task) (image : Image) (run : Run)
     left = moment_kept (λ found. LeavesAsMade found rows) image fault rest unmade;
     spared = λ trees _ holds any. table_kept (λ found. LeavesAsMade found rows) image fault rest unmade trees holds any;
     unmade = λ trees _ holds clean. unmade_begins task.action run.given rows begins trees image rest (trees_or_made (λ found. LeavesAsMade found rows) image fault rest unmade trees holds clean);
-    spares = λ some half. unmade.spared some (half anew);
+    spares = λ some half. unmade.spared (λ none. elim none [ inl nothing ↦ some nothing | inr begun ↦ half anew begun ]);
     fresh = λ _ none clean. fresh_begins task.action run.given rows begins image rest (unmade.kept Empty none clean);
-    begun = λ _ half clean. fresh_begins task.action run.given rows begins image rest (unmade.kept HalfMade half clean);
     rests = rests;
     told = inl (fault, unmade.stopped, reports);
     cause = λ other. never task anew other;
@@ -58,7 +57,6 @@ module _ {T D : Type 0} {g : Ghosts D} (task : Task) (image : Image) (run : Run)
     unmade = λ trees _ holds clean. record { trees = trees; holds = holds; such = inl refl };
     spares = λ some half clean. tt;
     fresh = λ _ none clean. inl none;
-    begun = λ _ half clean. inr (inl half);
     rests = rests;
     told = inr (refused.0, (start, refl), failure, refused.1, reports);
     cause = λ other. never task anew other;

@@ -20,7 +20,7 @@ use Rattle.moo_store.specs.States.{LeavesState}
 use Rattle.moo_tables_rows.specs.Inside.{Leaves}
 use Rattle.moo_files.specs.Opened.{Contents, Nothing, Database, Unfit, Hold}
 use Rattle.moo_store.specs.declared.fault.StoreFault.{StoreFault}
-use Rattle.moo_files.specs.Contents.{HoldsTrees, HoldsTables, HoldsMoment, HoldsSuch, HoldsNoTable}
+use Rattle.moo_files.specs.Contents.{HoldsTrees, HoldsTables, HoldsMoment, HoldsSuch, HoldsNoDatabase, HoldsNoTable}
 use Rattle.moo_files.specs.Contents.{HasOtherTables, HasEarlierTables, HasAnyTable, IsKept, ReadsAsOurs}
 use Rattle.moo_files.specs.Remains.{IsCleanRemains, MayStopAs, Spares, KeepsSuch, KeepsNothingBut, StillHoldsTrees}
 use Rattle.moo_files.specs.Blank.{IsBlank}
@@ -80,9 +80,8 @@ module _ {T D : Type 0} {g : Ghosts D} where
 
   -- The words have no file, and none was opened: the start is unspent.
   abbrev pub HasNoFile : Ends T D g → Type 0
-  HasNoFile (variant.Ran conn) = ⊥
-  HasNoFile (variant.Refused remains) = ⊥
   HasNoFile (variant.NoFile start) = ⊤
+  HasNoFile ends = ⊥
 
   -- it fails at once, for a cause, over the file of this path, which held this image
   abbrev pub FailsFor : List ℕ → Image → Remains T D g → Run → Type 0
@@ -148,8 +147,7 @@ module _ {T D : Type 0} {g : Ghosts D} where
         KeepsSuch (λ found. (found ≡ trees) ⊎ LeavesNew task run found) image rest
     -- Of files that held nothing, or half a first page, a new world that can't be made leaves no more than they held, a database without
     -- rows, or that world, whole.
-    pub fresh : begins_anew task ≡ true → IsNothing image → IsCleanRemains rest → KeepsNothingBut (LeavesNew task run) image rest
-    pub begun : begins_anew task ≡ true → IsBlank image → IsCleanRemains rest → KeepsNothingBut (LeavesNew task run) image rest
+    pub fresh : begins_anew task ≡ true → HoldsNoDatabase image → IsCleanRemains rest → KeepsNothingBut (LeavesNew task run) image rest
     -- nothing is asked of the ports
     pub rests : run.given.ports.rests
     -- if no file was opened, the line tells why; or the start is unspent, and the line tells why a dump gives no world

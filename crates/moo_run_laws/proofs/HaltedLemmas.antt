@@ -32,7 +32,7 @@ module _ {T D : Type 0} {g : Ghosts D} where
 
   -- what the disk leaves at the end of a run may be found after it
   pub end_found : (image : Image) (ends : Ends T D g) (closed : Remains T D g) (next : Image) → IsClosedEnd ends closed → IsCleanRemains closed → EndLeaves image ends closed next
-      → IfRan ends (λ conn. IsLeftBy (file_state conn) next ⊎ (DiskLeaves conn next ⊎ IsFoundIn closed next)) (λ rest. IsFoundOf image rest next ⊎ IsFoundOf image closed next)
+      → IfRan ends (λ conn. IsLeftBy (file_state conn) next ⊎ (DiskLeaves conn.store next ⊎ IsFoundIn closed next)) (λ rest. IsFoundOf image rest next ⊎ IsFoundOf image closed next)
   end_found image (variant.Ran conn) closed next is clean bytes = inr (inr (closed_found image conn closed next is clean bytes))
   end_found image ends closed next is clean bytes = inr (inl bytes)
 

@@ -41,7 +41,7 @@ module _ {T D : Type 0} {g : Ghosts D} where
   Found image ends closed next =
       IfRan ends (λ conn. HasCleanDisk (file_state conn) × IsLeftBy (file_state conn) next) (λ rest. IsCleanRemains rest × IsLeftAfter image rest next)
       ⊎ (IsClosedEnd ends closed × IsCleanRemains closed
-      × IfRan ends (λ conn. IsLeftBy (file_state conn) next ⊎ (DiskLeaves conn next ⊎ IsFoundIn closed next)) (λ rest. IsFoundOf image rest next ⊎ IsFoundOf image closed next))
+      × IfRan ends (λ conn. IsLeftBy (file_state conn) next ⊎ (DiskLeaves conn.store next ⊎ IsFoundIn closed next)) (λ rest. IsFoundOf image rest next ⊎ IsFoundOf image closed next))
 
   -- if a task ran over the file, its disk was clean
   pub found_clean : (image : Image) (conn : Held (FileStore D g)) (closed : Remains T D g) (next : Image) → Found image (variant.Ran conn) closed next → HasCleanDisk (file_state conn)

@@ -52,12 +52,11 @@ module _ {T D : Type 0} {g : Ghosts D} where
   -- that `sqlite` failed to open are taken as such: it says nothing of them. Files with checksums on their pages (SQLite's cksumvfs), as no
   -- file of this program has, may have been resealed, and are left out.)
   abbrev pub IsLeftAfter : Image → Remains T D g → Image → Type 0
-  IsLeftAfter image (remains.Untouched start) next = next ≡ image
-  IsLeftAfter image (remains.NotOpened seal) next = next ≡ image
   IsLeftAfter image (remains.Leftover (left.Files now)) next = outcomes g now.log now.db next
   IsLeftAfter image (remains.Leftover (left.Unopened now)) next = (unopened_state now).may_leave next × HasNoSums image
   IsLeftAfter image (remains.Leftover (left.Store now)) next = HoldsSuch (recovers now) next
   IsLeftAfter image (remains.Connection conn) next = IsLeftBy (file_state conn) next
+  IsLeftAfter image unopened next = next ≡ image
 
   -- what may be found of them, whenever the process stops: any bytes that the disk leaves, or what a crash leaves
   abbrev pub IsFoundOf : Image → Remains T D g → Image → Type 0

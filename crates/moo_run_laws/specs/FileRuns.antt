@@ -50,7 +50,7 @@ module _ {S T D : Type 0} {g : HasRun.Ghosts S T D} {disk : Ghosts D} where
   -- (the second): any bytes that the disk leaves of it, or what a crash leaves, before or after.
   abbrev pub IsFoundAfter : FileRun g disk → Image → Type 0
   IsFoundAfter r next = IfRan r.ends
-      (λ conn. IsLeftBy (file_state conn) next ⊎ (DiskLeaves conn next ⊎ IsFoundIn r.closed next))
+      (λ conn. IsLeftBy (file_state conn) next ⊎ (DiskLeaves conn.store next ⊎ IsFoundIn r.closed next))
       (λ rest. IsFoundOf r.image rest next ⊎ IsFoundOf r.image r.closed next)
 
   -- what a crash leaves before the file is closed, if the disk returned until then what was written

@@ -1,53 +1,46 @@
-use Rattle.moo_files.{proofs.Words.{sym, subst, inl, inr, HoldsDatabase, AreFoundIn, file_state, image_at, IsBlank, refl}, proofs.RemainsLemmas.{spared_spares, unopened_spares}, proofs.MakingLemmas.{spared_site, unopened_site}, specs.Causes.{IsOpenable}, proofs.RefusalLemmas.{denied_cause}}
+use Rattle.moo_files.{proofs.Words.{sym, subst, inl, inr, image_at, IsBlank}, proofs.RemainsLemmas.{found_in, spared_spares, unopened_spares}, proofs.MakingLemmas.{spared_site, unopened_site}, specs.Causes.{IsOpenable}}
 use Rattle.moo_files.proofs.connecting.open_new.Goals as goal
 use Rattle.sqlite_store.specs.Laws.{settled_at}
 
 -- while it is open, a crash leaves its last commit and nothing else
 pub returns-in-Ok-open_or_make-clause-connects : goal.returns-in-Ok-open_or_make-clause-connects
 returns-in-Ok-open_or_make-clause-connects g c =
+    let it = c.in-Ok-open_or_make.ensures in
     let start = c.in-Ok.ensures.start in
+    let conn = c.in-Ok-open_or_make.made in
     record {
-      outside = c.in-Ok-open_or_make.ensures.fresh.autocommit;
-      unlimited = c.in-Ok-open_or_make.ensures.fresh.unlimited;
-      opened = c.in-Ok-open_or_make.ensures.opened;
-      found = λ clean. elim (c.in-Ok-open_or_make.ensures.found clean) [
-        | inl made ↦ inl (subst IsBlank start.seen made.0, made.1)
-        | inr found ↦ inr (record {
-          holds = λ trees held. found.holds trees (subst (λ i. HoldsDatabase i trees) (sym start.seen) held);
-          reads = subst (λ i. AreFoundIn i (file_state c.in-Ok-open_or_make.made).committed.trees) start.seen found.reads;
-        })
-      ];
-      left = λ is_open trees lies. settled_at c.in-Ok-open_or_make.made.store g.met.H.Disk.Disk.seen_may_stay trees is_open lies;
+      outside = it.fresh.autocommit;
+      unlimited = it.fresh.unlimited;
+      opened = it.opened;
+      found = λ clean. elim (it.found clean) [ inl made ↦ inl (subst IsBlank start.seen made.0, made.1) | inr found ↦ inr (found_in start conn found) ];
+      left = λ is_open trees lies. settled_at conn.store g.met.H.Disk.Disk.seen_may_stay trees is_open lies;
     }
 
 pub returns-in-Err-open_or_make-clause-unmade : goal.returns-in-Err-open_or_make-clause-unmade
 returns-in-Err-open_or_make-clause-unmade g c =
     let start = c.in-Ok.ensures.start in
     let left = c.in-Err-open_or_make.left in
+    let spared = c.in-Err-open_or_make.ensures.spared in
     record {
       of_store = c.open_fault.ensures.store;
       stopped = tt;
-      spared = λ some begun clean. spared_spares (image_at g.T.Start) c.in-Ok.pair.0 start.seen start.left left (c.in-Err-open_or_make.ensures.spared clean) some begun;
-      kept = λ site is clean. spared_site _ (image_at g.T.Start) c.in-Ok.pair.0 start.seen start.left left (c.in-Err-open_or_make.ensures.spared clean) site is;
+      spared = λ some clean. spared_spares start left (spared clean) some;
+      kept = λ site is clean. spared_site start left (spared clean) site is;
     }
 
 -- no file was opened
 pub returns-in-Err-clause-unmade : goal.returns-in-Err-clause-unmade
-returns-in-Err-clause-unmade g c = record {
-  of_store = c.in-Err.ensures.fault;
-  stopped = c.in-Err.ensures.stopped;
-  spared = λ some begun clean. unopened_spares (image_at g.T.Start) c.in-Err.refused.1 c.in-Err.ensures.unopened;
-  kept = λ site is clean. unopened_site (image_at g.T.Start) c.in-Err.refused.1 c.in-Err.ensures.unopened site is;
-}
+returns-in-Err-clause-unmade g c =
+    let it = c.in-Err.ensures in
+    record {
+      of_store = it.fault;
+      stopped = it.stopped;
+      spared = λ some clean. unopened_spares (image_at g.T.Start) c.in-Err.refused.1 it.unopened;
+      kept = λ site is clean. unopened_site (image_at g.T.Start) c.in-Err.refused.1 it.unopened site is;
+    }
 
 -- ---- what refused it
 
 pub returns-in-Err-open_or_make-clause-cause : goal.returns-in-Err-open_or_make-clause-cause
 returns-in-Err-open_or_make-clause-cause g c openable clean =
-    elim (c.in-Err-open_or_make.ensures.cause clean (subst IsOpenable (sym c.in-Ok.ensures.start.seen) openable)) [
-      | inl memory ↦ inl (c.open_fault.ensures.memory memory)
-      | inr disk ↦ inr disk
-    ]
-
-pub returns-in-Err-clause-cause : goal.returns-in-Err-clause-cause
-returns-in-Err-clause-cause g c openable clean = denied_cause _ _ c.in-Err.refused.0 c.in-Err.refused.1 c.in-Err.ensures.unopened (c.in-Err.ensures.denied refl)
+    elim (c.in-Err-open_or_make.ensures.cause clean (subst IsOpenable (sym c.in-Ok.ensures.start.seen) openable)) [ inl memory ↦ inl (c.open_fault.ensures.memory memory) | inr disk ↦ inr disk ]

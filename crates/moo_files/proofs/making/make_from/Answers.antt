@@ -1,38 +1,28 @@
-use Rattle.moo_files.{proofs.Words.{over_files, file_state, image_at, store_of, LeavesAsMade}, specs.Making.{rows_made}, proofs.ContentsLemmas.{was_clean, clean_either, no_table, found_something}, proofs.MakingLemmas.{of_loading, takes_world, has_room, keeps_site, unmade_more}, proofs.RefusalLemmas.{unconnected_cause, making_stops}}
+use Rattle.moo_files.{proofs.Words.{file_state, LeavesAsMade, image_at}, specs.Making.{rows_made}, proofs.ContentsLemmas.{none_below, clean_either, no_table, found_something}, proofs.MakingLemmas.{of_loading, takes_world, has_room, keeps_site, unmade_more}, proofs.RefusalLemmas.{unconnected_cause, making_stops}}
 use Rattle.moo_files.proofs.making.make_from.Goals as goal
 
 pub returns-in-Ok-make_files-clause-makes : goal.returns-in-Ok-make_files-clause-makes
 returns-in-Ok-make_files-clause-makes g c =
-    let conn = c.in-Ok.conn in
-    let made = c.in-Ok-make_files.ensures in
-    let early = was_clean (file_state conn) (store_of over_files c.in-Ok-make_files.world) (λ trees. LeavesAsMade trees (rows_made c.args.rows)) made.loads.crash in
+    let made = c.in-Ok-make_files.ensures.loads in
+    let it = c.in-Ok.ensures.connects in
     record {
-      unseen = made.loads.unseen;
-      seen = made.loads.seen;
-      room = λ clean.
-          let opened = c.in-Ok.ensures.connects.opened (early clean) in
-          no_table (image_at g.T.Start) (file_state conn) opened.0 opened.1 (c.in-Ok.ensures.connects.found (early clean)) made.loads.empty;
-      over = λ site is clean.
-          let opened = c.in-Ok.ensures.connects.opened (early clean) in
-          takes_world (image_at g.T.Start) conn opened.0 opened.1 (c.in-Ok.ensures.connects.found (early clean)) made.loads.empty site is;
+      unseen = made.unseen;
+      seen = made.seen;
+      room = λ clean. no_table it (none_below _ _ made.crash.clean clean) made.empty;
+      over = λ site is clean. takes_world it (none_below _ _ made.crash.clean clean) made.empty site is;
     }
 
 pub returns-in-Err-make_files-clause-makes : goal.returns-in-Err-make_files-clause-makes
 returns-in-Err-make_files-clause-makes g c =
-    let conn = c.in-Ok.conn in
     let last = c.in-Err-make_files.conn in
-    let unmade = c.in-Err-make_files.ensures in
-    let early = clean_either conn last (λ trees. LeavesAsMade trees (rows_made c.args.rows)) unmade.loads.crash in
+    let unmade = c.in-Err-make_files.ensures.loads in
+    let it = c.in-Ok.ensures.connects in
+    let early = clean_either c.in-Ok.conn last (λ trees. LeavesAsMade trees (rows_made c.args.rows)) unmade.crash in
     record {
-      of_store = of_loading unmade.loads.kind;
+      of_store = of_loading unmade.kind;
       stopped = tt;
-      spared = λ some begun clean.
-          let opened = c.in-Ok.ensures.connects.opened (early clean) in
-          found_something (image_at g.T.Start) (file_state conn) opened.0 opened.1 (c.in-Ok.ensures.connects.found (early clean)) some begun;
-      kept = λ site is clean.
-          let opened = c.in-Ok.ensures.connects.opened (early clean) in
-          keeps_site (image_at g.T.Start) conn opened.0 opened.1 (c.in-Ok.ensures.connects.found (early clean)) (λ trees. LeavesAsMade trees (rows_made c.args.rows)) last
-          c.in-Ok.ensures.connects.left (λ taken. (unmade.loads.taken taken).1) unmade.loads.crash clean _ site is;
+      spared = λ some clean. found_something it (early clean) some;
+      kept = λ site is clean. keeps_site it (early clean) (λ trees. LeavesAsMade trees (rows_made c.args.rows)) last (λ taken. (unmade.taken taken).1) unmade.crash clean _ site is;
     }
 
 -- no connection was opened
@@ -48,7 +38,6 @@ returns-in-Err-make_files-clause-cause g c openable clean site is room =
     let conn = c.in-Ok.conn in
     let last = c.in-Err-make_files.conn in
     let unmade = c.in-Err-make_files.ensures.loads in
+    let it = c.in-Ok.ensures.connects in
     let early = clean_either conn last (λ trees. LeavesAsMade trees (rows_made c.args.rows)) unmade.crash clean in
-    let opened = c.in-Ok.ensures.connects.opened early in
-    let empty = has_room (image_at g.T.Start) conn opened.0 opened.1 (c.in-Ok.ensures.connects.found early) site is room in
-    making_stops (file_state conn) last opened.0.is_open c.in-Ok.ensures.connects.unlimited c.in-Err-make_files.fault clean empty unmade.kind
+    making_stops (file_state conn) last (it.opened early).0.is_open it.unlimited c.in-Err-make_files.fault clean (has_room it early site is room) unmade.kind

@@ -34,7 +34,6 @@ returns-in-Err-clause-runs g c =
       unmade = λ trees anew. never_anew c.args.task c.requires.other anew;
       spares = λ some whole. c.in-Err.ensures.refused.spared some;
       fresh = λ anew. never_anew c.args.task c.requires.other anew;
-      begun = λ anew. never_anew c.args.task c.requires.other anew;
       rests = c.fail_to_open.ensures.host;
       told = inl (fault, c.in-Err.ensures.refused.stopped, reports);
       cause = λ other tables holds clean. (fault, c.in-Err.ensures.stopped tables holds clean, reports);

@@ -1,5 +1,5 @@
 use Rattle.moo_run.{proofs.Words.{inl, subst, subst₂, ◌∙◌, refl, file_state, over_files, image_at, given_to, Reports, Run, RunsMade}, proofs.Beginning.{begins_from, made_with, reads_on}, proofs.Connections.{runs_made}, proofs.Refusals.{tells_fault}, proofs.Making.{made_over, unmade_over, ungiven_over}}
-use Rattle.moo_files.{specs.Causes.{HasCauseOr, IsDenied, IsOpenable}, specs.Making.{rows_made, StopsMaking}, specs.Remains.{IsCleanRemains}, proofs.MakingLemmas.{occupied_never}}
+use Rattle.moo_files.{specs.Causes.{HasCauseOr, IsDenied, IsOpenable}, specs.Making.{Filled, rows_made, StopsMaking}, specs.Remains.{IsCleanRemains}}
 use Rattle.moo_run.proofs.files.run_made.Goals as goal
 
 pub returns-in-Ok-make_from-clause-runs : goal.returns-in-Ok-make_from-clause-runs
@@ -26,7 +26,7 @@ returns-in-Ok-make_from-clause-runs g c =
     (made_with store task rows run given
     (λ other it. subst₂ (λ input host. RunsMade store task rows (record { given = given_to g.S.Input.Read g.S.Host.BatchFiles g.S.Host.WorldFiles.denies g.S.Host.Ports g.S.Host.Source.Arrivals g.S.Host.Source.Reader.Read g.S.Host.Source.Reader.Incoming.fails g.S.Host.Source.Writer.Write input host last.host; before = g.S.Output.Write.contents mid.output; after = g.S.Output.Write.contents last.output; status = last.status })) (c.in-Ok.ensures.other other) c.in-Ok.ensures.rests it)
     (λ rests. rests ∙ c.in-Ok.ensures.rests) (runs_made over_files world store task rows run made.unseen made.seen early ran.runs)))
-    early (occupied_never rows image world made) made.room
+    early (λ trees holds any clean. made.over (Filled trees) holds clean any) made.room
 
 pub returns-in-Err-make_from-clause-runs : goal.returns-in-Err-make_from-clause-runs
 returns-in-Err-make_from-clause-runs g c =
