@@ -50,17 +50,15 @@ def first_error(said: str) -> str:
 
 
 def refused(compiler: Compiler, changes: list[Change]) -> dict[str, str]:
-    """The changes that don't compile, by their names, each with its first error. One that is blamed for an error is tried alone."""
-    left = changes
-    suspects: list[Change] = []
-    while left:
-        said = compiler.compile(left)
-        if not said:
-            break
-        if len(left) == 1 and not suspects:
-            return {left[0].name: first_error(said)}
-        wrong = blamed(said, left)
-        suspects += wrong
-        left = [change for change in left if change not in wrong]
-    said_of = {change.name: compiler.compile([change]) for change in suspects}
-    return {name: first_error(said) for name, said in said_of.items() if said}
+    """The changes that don't compile, by their names, each with its first error. Those that are blamed for one are tried without the others."""
+    said = compiler.compile(changes) if changes else ""
+    if not said:
+        return {}
+    if len(changes) == 1:
+        return {changes[0].name: first_error(said)}
+    wrong = blamed(said, changes)
+    if len(wrong) == len(changes):
+        # Nothing tells which.
+        wrong = changes[: len(changes) // 2]
+    others = [change for change in changes if change not in wrong]
+    return {**refused(compiler, wrong), **refused(compiler, others)}

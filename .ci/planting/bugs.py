@@ -113,15 +113,30 @@ def other_parameters(function: Function, at: int) -> Iterator[Bug]:
             yield Bug("another parameter", token.begin, token.end, other)
 
 
+def is_matched(body: list[Token], at: int) -> bool:
+    """Whether the form of an enum whose name is at a place is in a pattern."""
+    end = closing(body, at + 1) + 1 if body[at + 1].text in ("(", "{") else at + 1
+    return end < len(body) and body[end].text in ("=>", "|")
+
+
+def matched_forms(body: list[Token]) -> set[tuple[str, str]]:
+    """The enums and their forms that are in patterns of a body."""
+    places = (at for at in range(2, len(body)) if body[at - 1].text == "::")
+    return {(body[at - 2].text, body[at].text) for at in places if at + 1 < len(body) and is_matched(body, at)}
+
+
 def others(body: list[Token], at: int, declared: Declared) -> Iterator[Bug]:
-    """Another field of the same type, or another form of the same enum with the same values."""
+    """Another field of the same type, or another form of the same enum with the same values. A pattern that is there twice doesn't compile."""
     token, before = body[at], body[at - 1].text
     if before == "." and body[at + 1].text != "(":
         for name in declared.fields.get(token.text, []):
             yield Bug("another field", token.begin, token.end, name)
     if before == "::" and at > 1:
-        for name in declared.forms.get((body[at - 2].text, token.text), []):
-            yield Bug("another form", token.begin, token.end, name)
+        enum = body[at - 2].text
+        met = matched_forms(body) if is_matched(body, at) else set()
+        for name in declared.forms.get((enum, token.text), []):
+            if (enum, name) not in met:
+                yield Bug("another form", token.begin, token.end, name)
 
 
 def all_bugs(function: Function, text: str, declared: Declared) -> Iterator[Bug]:

@@ -106,6 +106,11 @@ class Bugs(unittest.TestCase):
         self.assertEqual(new_texts(IS_DARK, "no negation"), {""})
         self.assertEqual(new_texts(PLAIN, "a statement left out"), {""})
 
+    def test_no_pattern_is_made_twice(self) -> None:
+        text = "fn f(kind: Kind) -> Kind { match kind { Kind::Oil => Kind::Wax, Kind::Gas(_) | Kind::Wax => Kind::Oil, _ => kind } }"
+        found = bugs.bugs_of(functions_of("src/lib.rt", text)[0], text, DECLARED)
+        self.assertEqual(sorted(bug.new for bug in found if bug.kind == "another form"), ["Coal", "Oil", "Wax"])
+
     def test_only_the_body_is_changed_and_lines_stay(self) -> None:
         for function in FUNCTIONS:
             for bug in bugs.bugs_of(function, SOURCE, DECLARED):
