@@ -3,9 +3,9 @@
 use crate::built_ins::is_built_in;
 use crate::names::nearest_name;
 use crate::shown::{LINE_ENDS, LONG_LINE, Said};
-use crate::values::{after_mark, put_missing, put_value_reason};
-use moo_text::{is_short, skip_blanks, split_word};
-use moo_value::read_literal;
+use crate::values::{put_missing, put_value_reason};
+use moo_text::is_short;
+use moo_value::{after_mark, read_literal, skip_blanks, split_word};
 use moo_world::CallName;
 use std::alloc::AllocError;
 

@@ -1,8 +1,8 @@
 //! Why bytes aren't a value.
 
 use crate::shown::{LINE_ENDS, Said};
-use moo_text::{next_word, skip_blanks};
-use moo_value::{LiteralFault, MAX_NESTING, read_literal};
+use moo_text::next_word;
+use moo_value::{LiteralFault, MAX_NESTING, after_mark, read_literal, skip_blanks};
 use std::alloc::{AllocError, Global};
 
 /// That the bytes leave a text open at their end, or the list that they begin. What is between quotes doesn't count for the list.
@@ -28,14 +28,6 @@ fn unclosed_reason(bytes: &[u8]) -> Option<&'static [u8]> {
     match (is_text, is_list) {
         (true, _) => Some(b"a text without its closing quote"),
         (_, true) => Some(b"a list without its closing `}`"),
-        _ => None,
-    }
-}
-
-/// What follows the mark, if the bytes begin with it after blanks.
-pub(crate) fn after_mark(mark: u8, bytes: &[u8]) -> Option<&[u8]> {
-    match skip_blanks(bytes).split_first() {
-        Some((first, rest)) if *first == mark => Some(rest),
         _ => None,
     }
 }

@@ -1,6 +1,6 @@
 -- A call is read as it is spelled.
-use Rattle.moo_text.{proofs.Shared.{◌≡◌, ℕ, zero, suc, ◌≤◌, true, false, inl, inr, List, [], ◌∷◌, ◌++◌, length, Option, Some, None, refl, sym, ap, subst, ◌∙◌, append_assoc, arith, IsTrue, AllByRecursion, option_map, option_map_or, option_and_then, append-nil, Value, is_blank, is_digit, is_word, AreBlanks, Spaced, Item, SpellsToken, Fits, BeginsNo, Ends, after_blanks, word, after_word, opened_at, items_at, value_at, literal_at, chosen, folded, Call, is_short, is_all_blank, ClosesCall, SpellsArguments, SpellsCall, found, front_of, behind_mark, after_mark, closed, behind_value, values_at, arguments_of, call_name, call_behind, call_of}, proofs.Reading.{front_read, front_again_of, front_shorter, mark_taken, mark_shorter, name_found}, proofs.Headers.{then_some, map_some, le_taken, le_again, nothing_left}}
-use Rattle.moo_value.{proofs.Tokens.{word_parts, word_again}, proofs.Literals.{blanks_taken, blanks_skipped}}
+use Rattle.moo_text.{proofs.Shared.{◌≡◌, ℕ, zero, suc, ◌≤◌, true, false, inl, inr, List, [], ◌∷◌, ◌++◌, length, Option, Some, None, refl, sym, ap, subst, ◌∙◌, append_assoc, arith, IsTrue, AllByRecursion, option_map, option_map_or, option_and_then, append-nil, Value, is_blank, is_digit, is_word, AreBlanks, Spaced, Item, SpellsToken, Fits, BeginsNo, Ends, after_blanks, word, after_word, opened_at, items_at, value_at, literal_at, chosen, folded, Call, is_short, is_all_blank, ClosesCall, SpellsArguments, SpellsCall, found, front_of, behind_mark, after_mark, closed, behind_value, values_at, arguments_of, call_name, call_behind, call_of}, proofs.Reading.{front_read, front_again_of, front_shorter, mark_shorter, name_found}, proofs.Headers.{then_some, map_some, le_taken, le_again, nothing_left}}
+use Rattle.moo_value.{proofs.Items.{mark_taken}, proofs.Tokens.{word_parts, word_again}, proofs.Literals.{blanks_taken, blanks_skipped}}
 use Rattle.moo_world.specs.Names.{spelled_is}
 use Rattle.moo_text.specs.declared.line.TheConstants.{LONGEST_LINE}
 

@@ -6,7 +6,7 @@ use Rattle.moo_value.specs.declared.value.ObjNo.{ObjNo}
 use Rattle.moo_value.specs.declared.value.Value.{Value}
 use Rattle.moo_value.specs.declared.value.Value.TheVariants.{Obj}
 use Rattle.moo_value.specs.Literal.{is_digit, value_after}
-use Rattle.moo_value.specs.Reading.{after_blanks, word, after_word, literal_at, Read}
+use Rattle.moo_value.specs.Reading.{after_blanks, after_mark, word, after_word, literal_at, Read}
 use Rattle.moo_world.specs.Objects.{folded, same_text}
 use Rattle.moo_world.specs.Names.{spelling, all_names}
 use Rattle.moo_world.specs.declared.name.CallName.{CallName}
@@ -66,15 +66,6 @@ abbrev pub header_of : List ℕ → Option Header
 header_of line = if is_short line then option_and_then header_behind (option_and_then (behind_word (codes "as")) (behind_word (codes "batch") (words_of_line line))) else None
 
 -- ---- calls
-
--- what follows the mark, if it is in front
-abbrev pub behind_mark : ℕ → List ℕ → Option (List ℕ)
-behind_mark mark [] = None
-behind_mark mark (c ∷ cs) = if c == mark then Some cs else None
-
--- what follows the mark, if it is in front after blanks
-abbrev pub after_mark : ℕ → List ℕ → Option (List ℕ)
-after_mark mark b = behind_mark mark (after_blanks b)
 
 -- nothing more than a closing bracket gives these arguments
 abbrev pub closed : List Value → List ℕ → Option (List Value)

@@ -1,20 +1,13 @@
 //! Reading a call.
 
 ghost use Rattle.std.specs.Prelude.{◌≡◌, length, IfOk};
-ghost use Rattle.std.specs.Option.{option_map};
-ghost use Rattle.moo_text.specs.LineReading.{after_mark as behind_mark, arguments_of as arguments_in, values_at, call_name, call_of};
+ghost use Rattle.moo_text.specs.LineReading.{arguments_of as arguments_in, values_at, call_name, call_of};
 
-use crate::line::{is_all_blank, is_short, skip_blanks, split_word};
+use crate::line::{is_all_blank, is_short};
 use crate::literal::read_front;
+use moo_value::{after_mark, skip_blanks, split_word};
 use moo_world::{Args, Call, CallName};
 use std::alloc::{AllocError, Global};
-
-/// What follows the mark, if the bytes begin with it after blanks.
-fn after_mark(mark: u8, bytes: &[u8]) -> Option<&[u8]>
-    ensures { option_map (λ rest. rest.now) result ≡ behind_mark mark bytes.now }
-{
-    skip_blanks(bytes).strip_prefix(&[mark])
-}
 
 /// One argument at least, to the end of the line.
 fn values_of(alloc: Global, bytes: &[u8]) -> Result<Option<Args>, AllocError>

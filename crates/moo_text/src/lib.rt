@@ -21,7 +21,7 @@ pub use call_text::call_in;
 pub use fault::{TextFault, WriteFault};
 pub use feed::Feed;
 pub use header::{Header, object_of, read_header};
-pub use line::{LONGEST_LINE, is_end_line, is_short, next_word, skip_blanks, split_word};
+pub use line::{LONGEST_LINE, is_end_line, is_short, next_word};
 pub use lines::LONGEST_TEXT;
 pub use marks::Marks;
 pub use next::Next;
