@@ -9,7 +9,7 @@ ghost use Rattle.moo_rows.specs.Maps.{Maps};
 ghost use Rattle.moo_memory.specs.Changes.{AreChanges};
 ghost use Rattle.moo_world.specs.Rows.{IsGood, world_of};
 ghost use Rattle.moo_world.specs.Between.{CallKeepsNumbers};
-ghost use Rattle.moo_world.specs.Judge.{is_due, run_calls};
+ghost use Rattle.moo_world.specs.Judge.{run_calls};
 ghost use Rattle.moo_world.specs.Names.{is_grant};
 ghost use Rattle.moo_world.specs.Requests.{batch_call};
 ghost use Rattle.moo_batch.specs.Outcomes.{state_in, KeepsGoodRows, Reaches, StaysAtCheck};
@@ -26,7 +26,7 @@ use moo_calls_shared::Fault;
 use moo_memory::{ChangeList, Changes, Draft, ENDLESS};
 use moo_rows::{Head, Rows};
 use moo_value::{Code, ObjNo, Value};
-use moo_world::{Answers, Batch, Call, LAST_SEQ};
+use moo_world::{Answers, Batch, Call, LAST_SEQ, is_due};
 use std::alloc::Global;
 
 /// The call at which a batch stopped, from 1, and why.
@@ -124,16 +124,6 @@ fn run_calls<R: Rows>(
         }
     }
     Ok(Answers::from_vec(answers))
-}
-
-/// Whether the number that a batch names, if it names one, is the present one.
-fn is_due(at: Option<u64>, seq: u64) -> bool
-    ensures { result ≡ is_due at seq }
-{
-    match at {
-        None => true,
-        Some(at) => at == seq,
-    }
 }
 
 /// The changes of a batch without calls, on any rows with this head: the batch is counted. They take no memory.

@@ -5,7 +5,6 @@ ghost use Rattle.std.specs.FinMap.{get};
 ghost use Rattle.moo_world.specs.Answers.{zero};
 ghost use Rattle.moo_world.specs.Changes.{info_set};
 ghost use Rattle.moo_world.specs.Keeps.{Keeps};
-ghost use Rattle.moo_value.specs.declared.value.ObjNo.{ObjNo};
 ghost use Rattle.moo_world.specs.Objects.{folded, same_object};
 ghost use Rattle.moo_world.specs.Outcomes.{Done};
 ghost use Rattle.moo_world.specs.PropertyCalls.{may_rename, renamed_to, set_property_info, unrenamed_reason};

@@ -1,5 +1,5 @@
 -- Of plain objects the numbers were given, the links are not lost, and the chains end.
-use Rattle.moo_damage.{proofs.Words.{◌≡◌, Bool, true, false, ◌&&◌, ◌||◌, Option, None, Some, refl, sym, ap, ◌∙◌, not, is_some, unwrap_or, option_map, get, false≢true, and_parts, ObjNo, ObjRow, Maps, nothing, same_object, look_ups, world_of, is_object, is_object_seen, TreeLink, Parent, Location, link_of, is_lost, is_object_past, LinksDescend}, specs.Damage.{goes_down}, specs.Plain.{ArePlain}}
+use Rattle.moo_damage.{proofs.Words.{◌≡◌, Bool, true, false, ◌&&◌, ◌||◌, Option, None, Some, refl, ap, not, is_some, unwrap_or, option_map, get, false≢true, and_parts, ObjNo, ObjRow, Maps, nothing, same_object, look_ups, is_object_seen, TreeLink, Parent, Location, link_of, is_lost, is_object_past, LinksDescend}, specs.Damage.{goes_down}, specs.Plain.{ArePlain}}
 
 pub not_lost : (link : TreeLink) (m : Maps) (x : ObjNo) (row : ObjRow) → goes_down link m x row ≡ true → is_lost link m row ≡ false
 not_lost link m x row e = by (same_object nothing (link_of link row)) (get m.objects (link_of link row)) _ (is_object_seen (look_ups m) (link_of link row)) _ e

@@ -1,6 +1,6 @@
 //! What is wrong with rows, if anything.
 
-ghost use Rattle.std.specs.Prelude.{◌≡◌, ◌<◌, suc, true, IfOk, IfSome, IfNone, Some};
+ghost use Rattle.std.specs.Prelude.{◌≡◌, suc, true, IfOk, IfSome, IfNone};
 ghost use Rattle.moo_world.specs.Rows.{world_of, IsGood};
 ghost use Rattle.moo_world.specs.World.{IsTree};
 ghost use Rattle.moo_damage.specs.Damage.{NumbersGiven, LinksEnd, PropsRight, SlotsRight};

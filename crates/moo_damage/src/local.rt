@@ -1,6 +1,6 @@
 //! Tests of each row and its neighbours, from which the slots are just those that are owed.
 
-ghost use Rattle.std.specs.Prelude.{◌≡◌, ◌<◌, true, false, not, IfOk, Some};
+ghost use Rattle.std.specs.Prelude.{◌≡◌, ◌<◌, true, not, IfOk, Some};
 ghost use Rattle.std.specs.List.{list_any};
 ghost use Rattle.std.specs.FinMap.{entries, get};
 ghost use Rattle.moo_rows.specs.declared.row.PropRow.{PropRow};

@@ -10,7 +10,7 @@ ghost use Rattle.moo_damage.specs.Noted.{AllEnd, AreEnding, IsFirstLoop, NotesEn
 
 use crate::first::first_bad;
 use crate::kind::Kind;
-use moo_rows::{ObjRow, Rows, each_object, ordered};
+use moo_rows::{ObjRow, Rows, each_object, object_count, ordered};
 use moo_tree::is_nothing;
 use moo_value::ObjNo;
 use std::alloc::{AllocError, Global};
@@ -76,24 +76,13 @@ fn links_descend<R: Rows>(rows: &R, link: TreeLink) -> bool
     first_bad::<ObjRow, R, _>(rows, |x, row| !goes_down(rows, link, x, row)).is_none()
 }
 
-/// How many objects there are. An `Err` is a lack of memory.
-fn object_count<R: Rows>(alloc: Global, rows: &R) -> Result<usize, AllocError>
-    ensures { IfOk result (λ n. n ≡ length (entries (R.held rows.now).maps.objects)) }
-{
-    let mut objects = Vec::new(alloc);
-    for (x, _) in each_object(rows) {
-        objects.push(x)?;
-    }
-    Ok(objects.len())
-}
-
 /// The objects from x up to one that is known to end, or to the end itself; None if the chain doesn't end.
 fn climb<R: Rows>(
     alloc: Global,
     rows: &R,
     link: TreeLink,
     known: &BTreeMap<ObjNo, ()>,
-    count: usize,
+    count: u64,
     x: ObjNo,
 ) -> Result<Option<Vec<ObjNo>>, AllocError>
     requires links { LinksHold link (R.held rows.now).maps }
@@ -150,7 +139,7 @@ pub fn first_loop<R: Rows>(
     if links_descend(rows, link) {
         return Ok(None);
     }
-    let count = object_count(alloc, rows)?;
+    let count = object_count(rows);
     let mut known = BTreeMap::new(alloc);
     for (x, _row) in each_object(rows) {
         match climb(alloc, rows, link, &known, count, x)? {

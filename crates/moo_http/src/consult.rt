@@ -1,7 +1,6 @@
 //! Asking the World.
 
 ghost use Rattle.std.specs.Prelude.{◌≡◌};
-ghost use Rattle.moo_world.specs.Judge.{is_due};
 ghost use Rattle.moo_world.specs.Rows.{IsGood};
 ghost use Rattle.moo_store.specs.Moves.{Stands, MovesBy};
 ghost use Rattle.moo_store.specs.Moment.{Moment, state_of_moment, rows_alone};
@@ -18,7 +17,7 @@ use moo_reasons::Whys;
 use moo_rows::Rows;
 use moo_store::{StoreFault, World};
 use moo_text::Reply;
-use moo_world::Batch;
+use moo_world::{Batch, is_due};
 use sqlite::Alter;
 use std::alloc::Global;
 
@@ -63,16 +62,6 @@ fn ask_batch<S: Alter + Drop>(world: &World<S>, batch: &Batch, whys: &mut Whys) 
     ensures seen { HasSeenAsked world.now.rows.maps (Asked.Calls Mode.Ask batch.now) result (seen_by whys.old) (seen_by whys.new) }
 {
     outcome_of_reply(world.ask(batch, whys))
-}
-
-/// Whether the number that calls are meant for, if they name one, is the present one.
-fn is_due(at: Option<u64>, seq: u64) -> bool
-    ensures { result ≡ is_due at seq }
-{
-    match at {
-        None => true,
-        Some(at) => at == seq,
-    }
 }
 
 /// What comes of calls that are asked each alone, at this present number.

@@ -56,7 +56,7 @@ fn at_in(found: Option<&Value>) -> Option<Option<u64>>
     }
 }
 
-fn all_short(texts: &[&str]) -> bool
+fn all_within_line(texts: &[&str]) -> bool
     ensures { result ≡ list_all (λ text. nat_le (length text.now) LONGEST_LINE) texts.now }
 {
     texts.iter().all(|text| text.len() <= LONGEST_LINE)
@@ -65,7 +65,7 @@ fn all_short(texts: &[&str]) -> bool
 fn are_short(texts: &[&str]) -> bool
     ensures { result ≡ are_within (map (λ text. text.now) texts.now) }
 {
-    texts.len() <= MOST_CALLS && all_short(texts)
+    texts.len() <= MOST_CALLS && all_within_line(texts)
 }
 
 /// The JSON that the bytes are. `None` if they aren't JSON.

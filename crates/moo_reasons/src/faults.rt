@@ -4,9 +4,8 @@ use crate::built_ins::is_built_in;
 use crate::names::nearest_name;
 use crate::shown::{LONG_LINE, Said};
 use crate::values::{put_missing, put_value_reason};
-use moo_text::{
-    LineFault, call_in, call_on_line, is_end_line, read_header, skip_blanks, split_word,
-};
+use moo_text::{LineFault, call_in, call_on_line, is_end_line, read_header};
+use moo_value::{skip_blanks, split_word};
 use std::alloc::AllocError;
 
 const FORM: &[u8] = b"a batch begins with a line `batch as #N`, in small letters";

@@ -1,8 +1,8 @@
 //! Why bytes aren't a value.
 
 use crate::shown::{LINE_ENDS, Said};
-use moo_text::{LineFault, next_word, skip_blanks, values_before};
-use moo_value::{LiteralFault, MAX_NESTING};
+use moo_text::{LineFault, next_word, values_before};
+use moo_value::{LiteralFault, MAX_NESTING, after_mark, skip_blanks};
 use std::alloc::AllocError;
 
 /// That the bytes leave a text open at their end, or the list that they begin. What is between quotes doesn't count for the list.
@@ -47,7 +47,7 @@ fn put_no_value(said: &mut Said, bytes: &[u8]) -> Result<(), AllocError> {
     }
     let mut item = bytes;
     for _level in 0..MAX_NESTING {
-        let Some(inside) = skip_blanks(item).strip_prefix(&[b'{']) else {
+        let Some(inside) = after_mark(b'{', item) else {
             break;
         };
         match values_before(said.alloc, b'}', inside) {

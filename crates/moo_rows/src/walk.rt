@@ -1,6 +1,6 @@
 //! Going over the rows in the order of their keys.
 
-ghost use Rattle.std.specs.Prelude.{◌≡◌};
+ghost use Rattle.std.specs.Prelude.{◌≡◌, length};
 ghost use Rattle.std.specs.FinMap as map;
 ghost use Rattle.std.specs.Iterator.{YieldsFirstBy, item_count};
 ghost use Rattle.moo_rows.specs.Links.{defined_left};
@@ -44,6 +44,19 @@ pub fn each_object<R: Rows>(rows: &R) -> Walk<'_, R, ObjRow>
     ensures { objects_left result.last (R.held result.rows.now).maps ≡ map.entries (R.held rows.now).maps.objects }
 {
     each_row(rows)
+}
+
+/// The number of objects. Takes no memory.
+pub fn object_count<R: Rows>(rows: &R) -> u64
+    ensures { result ≡ length (map.entries (R.held rows.now).maps.objects) }
+{
+    let mut count = 0;
+    let mut last = None;
+    while let Some(x) = rows.next_object(last) {
+        count += 1;
+        last = Some(x);
+    }
+    count
 }
 
 /// The properties with their rows, in the order of their keys. Takes no memory.

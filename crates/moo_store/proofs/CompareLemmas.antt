@@ -1,10 +1,9 @@
 -- From what was read to what is said of the tables.
-use Rattle.moo_store.{proofs.Words.{◌≡◌, ◌≤◌, ◌≤ℤ◌, ℕ, ℤ, pos, negsuc, suc, zero, [], ◌∷◌, length, map, Result, Ok, Err, refl, sym, ap, subst, ◌∙◌, arith, length-append, length-map, IfOk, IfErr, OnOk, entries, HasCleanDisk, Maps, IsGood, world_of, numbers_below, Tables, Rests, ShowsRows, IsOfStore, StopsBy, StoreFault, Store, OutOfMemory, ◌⊎◌, inl, inr}, specs.OpeningRows.{not_ours}, specs.Checked.{SaysInCheck, StopsCheck, IsUnchecked, Checks}, specs.declared.fault.StoreFault.TheVariants.{Damaged, NewerVersion, Closed}, proofs.Causes.{ran_out, stops_more}}
+use Rattle.moo_store.{proofs.Words.{◌≡◌, ℕ, length, Result, Ok, Err, refl, sym, ap, subst, ◌∙◌, length-map, IfOk, IfErr, OnOk, entries, HasCleanDisk, Maps, IsGood, world_of, Tables, Rests, ShowsRows, IsOfStore, StopsBy, StoreFault, Store, OutOfMemory, ◌⊎◌, inl, inr}, specs.OpeningRows.{not_ours}, specs.Checked.{SaysInCheck, StopsCheck, IsUnchecked, Checks}, specs.declared.fault.StoreFault.TheVariants.{Damaged, NewerVersion, Closed}, proofs.Causes.{ran_out, stops_more}}
 use Rattle.moo_tables.specs.ReadCause.{StopsQuery}
 use Rattle.moo_tables_rows.specs.Inside.{IsCurrent}
 use Rattle.sqlite.specs.State.{State as Database}
-use Rattle.std.{proofs.lemmas.List.Sums.{count_by-le-length, length-filter}, proofs.lemmas.Int.{ints}}
-use Rattle.moo_world.{specs.Objects.{object_at}, specs.ObjectLists.{objects_of}, specs.World.{is_object, numbers_to}, proofs.Shown.ObjectEntries.{objects_listed}}
+use Rattle.moo_world.{specs.ObjectLists.{objects_of}, proofs.Shown.ObjectEntries.{objects_listed}}
 
 says_more : (P Q : Type 0) (own : Maps) (tables : Tables) (fault : StoreFault) → (P → Q) → SaysInCheck P own tables fault → SaysInCheck Q own tables fault
 says_more P Q own tables (Store error) more it = more it
@@ -51,21 +50,3 @@ cut_off old new t fault stops = stops_more (StopsQuery old new) (λ error. Stops
 
 pub objects_held : (t : Maps) → IsGood t → length (entries t.objects) ≡ length (objects_of (world_of t))
 objects_held t good = sym (length-map (entries t.objects) (λ e. e.0)) ∙ sym (ap length (objects_listed t good.formed.tree))
-
-length-numbers_below : (n : ℕ) → length (numbers_below n) ≡ n
-length-numbers_below zero = refl
-length-numbers_below (suc n) = length-append (numbers_below n) (n ∷ []) ∙ (let e = length-numbers_below n in omega arith)
-
-numbers_up_to : (top : ℤ) → top ≤ℤ pos 2147483647 → numbers_to top ≤ 2147483648
-numbers_up_to (pos n) h = grind (arith, ints, h)
-numbers_up_to (negsuc n) h = omega arith
-
-pub few_objects : (t : Maps) → IsGood t → length (objects_of (world_of t)) ≤ 2147483648
-few_objects t good =
-    let top = numbers_up_to (world_of t).top good.formed.limits.top.1 in
-    let all = map object_at (numbers_below (numbers_to (world_of t).top)) in
-    let fewer = count_by-le-length (is_object (world_of t)) all in
-    let is = length-filter (is_object (world_of t)) all in
-    let many = length-map (numbers_below (numbers_to (world_of t).top)) object_at in
-    let count = length-numbers_below (numbers_to (world_of t).top) in
-    omega (arith, top, fewer, is, many, count)

@@ -1,5 +1,5 @@
 -- The tables of a whole world.
-use Rattle.moo_store.{proofs.Words.{◌≡◌, Option, None, Ordering, refl, sym, ap, ◌∙◌, subst, FinMap, empty, get, get-empty, Maps, no_maps, object_cmp, prop_cmp, slot_cmp, verb_cmp, petition_cmp, ObjRow, SlotRow, PetitionRow, IsGood, state_of, present, no_schema, tables_with, Leaves, HasNoTables, no_tables, CellChanges, IsChanges, AreChanges, ShowsObject, ShowsProp, ShowsSlot, ShowsVerb, ShowsPetition, ShowsOrNone, ShowsMaps, ShowsRows, PrintsAll, Trees, all_of, all_changes, KeepsRows, LeavesState}, specs.NewTables.{LeavesAsMade, RestsAsMade}, proofs.AllRows.{all_changed}, proofs.Moments.{IsSettled}, proofs.OpenLemmas.{survives_more}, proofs.Shown.{shows-written}}
+use Rattle.moo_store.{proofs.Words.{◌≡◌, Option, None, Ordering, refl, sym, subst, FinMap, empty, get, get-empty, Maps, no_maps, object_cmp, prop_cmp, slot_cmp, verb_cmp, petition_cmp, ObjRow, SlotRow, PetitionRow, IsGood, present, no_schema, tables_with, Leaves, HasNoTables, no_tables, CellChanges, IsChanges, AreChanges, ShowsObject, ShowsProp, ShowsSlot, ShowsVerb, ShowsPetition, ShowsOrNone, ShowsMaps, ShowsRows, PrintsAll, all_of, all_changes, KeepsRows}, specs.NewTables.{LeavesAsMade, RestsAsMade}, proofs.AllRows.{all_changed}, proofs.OpenLemmas.{survives_more}, proofs.Shown.{shows-written}}
 use Rattle.moo_tables.{specs.Migrated.{HasNoSlot}, specs.Transaction.{SurvivesMaking}}
 use Rattle.sqlite.{specs.State.{State as Database, Survives}, specs.Effect.{Database as Content}}
 use Rattle.moo_rows.{specs.declared.row.PropRow.{PropRow}, specs.declared.row.VerbRow.{VerbRow}}

@@ -14,22 +14,10 @@ use crate::reading::{failure_of, read_lists, test_current};
 use moo_cells::{CellFault, compare_cells, show_in_turn};
 use moo_damage::Kind;
 use moo_memory::Flat;
-use moo_rows::{Rows, each_object};
+use moo_rows::object_count;
 use moo_tables::{CellLists, Version, are_listed};
 use sqlite::{Alter, Connection, Error, ErrorCode};
 use std::alloc::Global;
-
-/// The number of objects. Takes no memory.
-pub(crate) fn object_count<R: Rows>(rows: &R) -> u64
-    requires { IsGood (R.held rows.now).maps }
-    ensures { result ≡ length (objects_of (world_of (R.held rows.now).maps)) }
-{
-    let mut count = 0;
-    for _object in each_object(rows) {
-        count += 1;
-    }
-    count
-}
 
 /// The number of objects, if the cells of the tables show these rows.
 fn compare_lists(alloc: Global, lists: CellLists, own: &Flat) -> Result<u64, StoreFault>

@@ -1,13 +1,12 @@
 //! A World: the rows in memory, over the tables of a store.
 
 use crate::committing::commit_cells;
-use crate::comparing::object_count;
 use crate::fault::StoreFault;
 use crate::judged::reply_or_changes;
 use crate::printing::print_changes;
 use moo_batch::Witness;
 use moo_memory::{Changes, Flat, apply_changes};
-use moo_rows::Rows;
+use moo_rows::{Rows, object_count};
 use moo_tables::CellChanges;
 use moo_text::Reply;
 use moo_world::{Answers, Batch};
@@ -42,7 +41,7 @@ impl<S: Alter> Model for World<S> {
 }
 
 impl<S: Alter + Drop> World<S> {
-    ghost use Rattle.std.specs.Prelude.{◌≡◌, ◌<◌, ◌^◌, false, true, IsTrue, length, Some, IfOk, IfErr};
+    ghost use Rattle.std.specs.Prelude.{◌≡◌, ◌<◌, ◌^◌, false, IsTrue, length, Some, IfOk, IfErr};
     ghost use Rattle.std.specs.Prelude.{IfSome, IfNone, IsErrOf, IsOkAnd, Ok};
     ghost use Rattle.sqlite.specs.State.{HasCleanDisk};
     ghost use Rattle.sqlite.specs.Held.{state};

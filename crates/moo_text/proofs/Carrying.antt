@@ -1,5 +1,5 @@
 -- What the lines that are left of a text say, from one line to the next.
-use Rattle.moo_text.{proofs.Shared.{◌≡◌, ℕ, ◌+◌, ◌<◌, ◌≤◌, true, false, inl, inr, List, [], ◌∷◌, ◌++◌, length, Option, Some, None, Result, Ok, Err, IfOk, IfErr, refl, sym, ap, subst, ◌∙◌, arith, nat_lt, length-append, Call, is_short, is_blank_line, is_end_line, header_of, call_of, between, within, skipping, IsLineRead, Side, ReadsOn, ReadsLine, ReadsAlong, ReadsFirst, ReadsNext, BreaksOff, TextFault, OutOfMemory, Header, Next}, proofs.Giving.{ReadsOn-then, ReadsOn-map, ReadsOn-breaks, out_of_memory}, specs.declared.next.Next.TheVariants.{Batch as Whole, Malformed}}
+use Rattle.moo_text.{proofs.Shared.{◌≡◌, ℕ, ◌+◌, ◌<◌, ◌≤◌, true, false, inl, inr, List, [], ◌∷◌, ◌++◌, length, Option, Some, None, Result, Ok, Err, IfOk, IfErr, refl, sym, ap, subst, ◌∙◌, arith, nat_lt, length-append, Call, is_within_line, is_blank_line, is_end_line, header_of, call_of, between, within, skipping, IsLineRead, Side, ReadsOn, ReadsLine, ReadsAlong, ReadsFirst, ReadsNext, BreaksOff, TextFault, OutOfMemory, Header, Next}, proofs.Giving.{ReadsOn-then, ReadsOn-map, ReadsOn-breaks, out_of_memory}, specs.declared.next.Next.TheVariants.{Batch as Whole, Malformed}}
 use Rattle.moo_world.specs.declared.call.TheConstants.{MOST_CALLS}
 use Rattle.moo_text.specs.declared.line.TheConstants.{LONGEST_LINE}
 
@@ -10,7 +10,7 @@ pub record AreAlike (read line : List ℕ) : Type 0 where
   pub header : header_of read ≡ header_of line
   pub call : call_of read ≡ call_of line
 
-long : (line : List ℕ) → LONGEST_LINE < length line → is_short line ≡ false
+long : (line : List ℕ) → LONGEST_LINE < length line → is_within_line line ≡ false
 long line h = grind (arith, h)
 
 pub alike : (read line : List ℕ) → IsLineRead read line → AreAlike read line

@@ -1,5 +1,5 @@
 -- A header is read as it is spelled.
-use Rattle.moo_text.{proofs.Shared.{◌≡◌, ℕ, ◌≤◌, Bool, true, false, cond, inl, inr, List, [], ◌∷◌, length, Option, Some, None, refl, sym, ap, subst, ◌∙◌, arith, ◌==◌, ◌&&◌, nat_le, codes, list_all, option_map, option_and_then, eqb-true, append-nil, Value, is_digit, AreDigits, SpellsObject, Spells, InRange, an_object, chosen, same_text, same_text-Decides, is_short, words_of_line, SpellsPlace, SpellsAt, SpellsHeader, front_of, behind_word, object_value, begins_with_byte, object_of, place_number, last_place, at_of, header_behind, header_of, Header}, proofs.Reading.{front_read, front_again_of}}
+use Rattle.moo_text.{proofs.Shared.{◌≡◌, ℕ, ◌≤◌, Bool, true, false, cond, inl, inr, List, [], ◌∷◌, length, Option, Some, None, refl, sym, ap, subst, ◌∙◌, arith, ◌==◌, ◌&&◌, nat_le, codes, list_all, option_map, option_and_then, eqb-true, append-nil, Value, is_digit, AreDigits, SpellsObject, Spells, InRange, an_object, chosen, same_text, same_text-Decides, is_within_line, words_of_line, SpellsPlace, SpellsAt, SpellsHeader, front_of, behind_word, object_value, begins_with_byte, object_of, place_number, last_place, at_of, header_behind, header_of, Header}, proofs.Reading.{front_read, front_again_of}}
 use Rattle.moo_value.{specs.declared.value.ObjNo.{ObjNo}, specs.declared.value.Value.TheVariants.{Obj}}
 use Rattle.moo_text.specs.declared.line.TheConstants.{LONGEST_LINE}
 
@@ -108,7 +108,7 @@ behind_taken : (ws : List (List ℕ)) (h : Header) → header_behind ws ≡ Some
 behind_taken ws h e = grind (arith, then_some, map_some)
 
 pub header_taken : (line : List ℕ) (h : Header) → header_of line ≡ Some h → SpellsHeader h line
-header_taken line h e = elim (chosen (is_short line) (option_and_then header_behind (option_and_then (behind_word (codes "as")) (behind_word (codes "batch") (words_of_line line)))) None (Some h) e) [
+header_taken line h e = elim (chosen (is_within_line line) (option_and_then header_behind (option_and_then (behind_word (codes "as")) (behind_word (codes "batch") (words_of_line line)))) None (Some h) e) [
   | inl here ↦
       let a = then_some header_behind (option_and_then (behind_word (codes "as")) (behind_word (codes "batch") (words_of_line line))) h here.1 in
       let b = then_some (behind_word (codes "as")) (behind_word (codes "batch") (words_of_line line)) a.0 a.1 in

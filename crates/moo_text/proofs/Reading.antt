@@ -1,7 +1,7 @@
 -- Reading a header and a call from left to right.
-use Rattle.moo_text.proofs.Shared.{◌≡◌, ℕ, zero, suc, ◌-◌, ◌<◌, ◌≤◌, true, List, [], ◌∷◌, ◌++◌, length, drop, Option, Some, None, Ok, Err, refl, sym, ap, ◌∙◌, append_assoc, arith, ◌↔◌, option_map, option_and_then, list_all, eqb-true, length-append, Value, Spells, Fits, Ends, Front, literal_at, value_at, after_blanks, chosen, fits, folded, is_all_blank, found, front_of, behind_value, values_at, after_mark, call_name}
+use Rattle.moo_text.proofs.Shared.{◌≡◌, ℕ, zero, suc, ◌-◌, ◌<◌, ◌≤◌, true, List, [], ◌∷◌, ◌++◌, length, drop, Option, Some, None, Ok, Err, refl, sym, ap, ◌∙◌, append_assoc, arith, ◌↔◌, option_map, option_and_then, list_all, length-append, Value, Spells, Fits, Ends, Front, literal_at, value_at, after_blanks, fits, folded, is_all_blank, found, front_of, behind_value, values_at, after_mark, call_name}
 use Rattle.std.proofs.lemmas.List.Folds.{list_all-append}
-use Rattle.moo_value.{specs.Reading.{Read}, proofs.Literals.{front_taken, front_again, literal_again, value_taken, takes, blanks_taken}}
+use Rattle.moo_value.{specs.Reading.{Read}, proofs.Literals.{front_taken, front_again, literal_again, value_taken, takes, blanks_taken}, proofs.Items.{mark_taken}}
 use Rattle.moo_world.{specs.Names.{spelling}, specs.declared.name.CallName.{CallName}, specs.Names.{spelled_is}}
 use Rattle.moo_value.specs.declared.value.TheConstants.{MAX_NESTING}
 
@@ -82,9 +82,6 @@ pub closed_read : {mark : ℕ} {bytes : List ℕ} {values : List Value} {v : Val
 closed_read {mark = mark} {values = values} {v = v} {after = after} r close blank = grind arith
 
 -- what stands behind blanks is no longer
-pub mark_taken : (mark : ℕ) (b rest : List ℕ) → after_mark mark b ≡ Some rest → after_blanks b ≡ mark ∷ rest
-mark_taken mark b rest e = grind (arith, chosen, eqb-true)
-
 pub mark_shorter : (mark : ℕ) (b rest : List ℕ) → after_mark mark b ≡ Some rest → length rest < length b
 mark_shorter mark b rest e = let w = blanks_taken b in omega (arith, ap length w.2 ∙ length-append w.0 (after_blanks b), ap length (mark_taken mark b rest e))
 

@@ -7,22 +7,22 @@ use Rattle.moo_value.specs.Reading.{after_blanks}
 use Rattle.moo_text.specs.declared.line.TheConstants.{LONGEST_LINE}
 
 -- no line over this is blank, `end`, a header or a call
-abbrev pub is_short : List ℕ → Bool
-is_short line = nat_le (length line) LONGEST_LINE
+abbrev pub is_within_line : List ℕ → Bool
+is_within_line line = nat_le (length line) LONGEST_LINE
 
 -- spaces and tabs alone
 abbrev pub is_all_blank : List ℕ → Bool
 is_all_blank bytes = length (after_blanks bytes) == 0
 
 abbrev pub is_blank_line : List ℕ → Bool
-is_blank_line line = is_short line && is_all_blank line
+is_blank_line line = is_within_line line && is_all_blank line
 
 abbrev pub is_end_word : List ℕ → Bool
 is_end_word (a ∷ b ∷ c ∷ rest) = (a == code "e") && (b == code "n") && (c == code "d") && is_all_blank rest
 is_end_word _ = false
 
 abbrev pub is_end_line : List ℕ → Bool
-is_end_line line = is_short line && is_end_word (after_blanks line)
+is_end_line line = is_within_line line && is_end_word (after_blanks line)
 
 -- what is between blanks, in order
 abbrev pub words_of_line : List ℕ → List (List ℕ)

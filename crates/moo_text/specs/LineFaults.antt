@@ -1,10 +1,10 @@
 -- What the fault of a line says of the bytes that it points at.
 use Rattle.std.specs.Prelude.{◌≡◌, ◌≢◌, false, None, codes, ⊤}
 use Rattle.moo_value.specs.Fault.{HasFault}
-use Rattle.moo_value.specs.Reading.{word}
+use Rattle.moo_value.specs.Reading.{after_mark, word}
 use Rattle.moo_world.specs.Objects.{same_text}
 use Rattle.moo_text.specs.Line.{is_all_blank}
-use Rattle.moo_text.specs.LineReading.{object_of, after_mark, call_name}
+use Rattle.moo_text.specs.LineReading.{object_of, call_name}
 use Rattle.moo_text.specs.declared.line_fault.LineFault.{LineFault}
 use Rattle.moo_text.specs.declared.line_fault.LineFault.TheVariants.{NoObject, NoAt, NoName, NoBracket, NoValue, NoMark, NoEnd}
 

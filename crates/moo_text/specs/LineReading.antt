@@ -6,12 +6,12 @@ use Rattle.moo_value.specs.declared.value.ObjNo.{ObjNo}
 use Rattle.moo_value.specs.declared.value.Value.{Value}
 use Rattle.moo_value.specs.declared.value.Value.TheVariants.{Obj}
 use Rattle.moo_value.specs.Literal.{is_digit, value_after}
-use Rattle.moo_value.specs.Reading.{after_blanks, word, after_word, literal_at, Read}
+use Rattle.moo_value.specs.Reading.{after_blanks, after_mark, word, after_word, literal_at, Read}
 use Rattle.moo_world.specs.Objects.{folded, same_text}
 use Rattle.moo_world.specs.Names.{spelling, all_names}
 use Rattle.moo_world.specs.declared.name.CallName.{CallName}
 use Rattle.moo_world.specs.declared.call.Call.{Call}
-use Rattle.moo_text.specs.Line.{is_short, is_all_blank, words_of_line}
+use Rattle.moo_text.specs.Line.{is_within_line, is_all_blank, words_of_line}
 use Rattle.moo_text.specs.declared.header.Header.{Header}
 
 abbrev pub found : Read Value → Option (Value × List ℕ)
@@ -63,18 +63,9 @@ header_behind [] = None
 header_behind (o ∷ more) = option_and_then (λ p. option_map (λ at. record { programmer = p; at = at }) (at_of more)) (object_of o)
 
 abbrev pub header_of : List ℕ → Option Header
-header_of line = if is_short line then option_and_then header_behind (option_and_then (behind_word (codes "as")) (behind_word (codes "batch") (words_of_line line))) else None
+header_of line = if is_within_line line then option_and_then header_behind (option_and_then (behind_word (codes "as")) (behind_word (codes "batch") (words_of_line line))) else None
 
 -- ---- calls
-
--- what follows the mark, if it is in front
-abbrev pub behind_mark : ℕ → List ℕ → Option (List ℕ)
-behind_mark mark [] = None
-behind_mark mark (c ∷ cs) = if c == mark then Some cs else None
-
--- what follows the mark, if it is in front after blanks
-abbrev pub after_mark : ℕ → List ℕ → Option (List ℕ)
-after_mark mark b = behind_mark mark (after_blanks b)
 
 -- nothing more than a closing mark gives these arguments
 abbrev pub closed : List Value → List ℕ → Option (List Value)
@@ -103,4 +94,4 @@ call_behind b =
     (call_name (word b))
 
 abbrev pub call_of : List ℕ → Option Call
-call_of line = if is_short line then call_behind (after_blanks line) else None
+call_of line = if is_within_line line then call_behind (after_blanks line) else None

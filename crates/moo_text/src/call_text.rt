@@ -1,23 +1,16 @@
 //! Reading a call.
 
-ghost use Rattle.std.specs.Prelude.{◌≡◌, ◌≢◌, length, IfOk, IfErr, Some, None};
-ghost use Rattle.std.specs.Option.{option_map};
+ghost use Rattle.std.specs.Prelude.{◌≡◌, ◌≢◌, length, IfOk, IfErr, None, Some};
 ghost use Rattle.moo_text.specs.LineFaults.{Says};
 ghost use Rattle.moo_text.specs.declared.line_fault.LineFault.TheVariants.{OutOfMemory};
-ghost use Rattle.moo_text.specs.LineReading.{after_mark as behind_mark, arguments_of as arguments_in, values_at, call_name, call_of};
+ghost use Rattle.moo_text.specs.LineReading.{arguments_of as arguments_in, values_at, call_name, call_of};
 
-use crate::line::{is_all_blank, is_short, skip_blanks, split_word};
+use crate::line::{is_all_blank, is_within_line};
 use crate::line_fault::LineFault;
 use crate::literal::read_front;
+use moo_value::{after_mark, skip_blanks, split_word};
 use moo_world::{Args, Call, CallName};
 use std::alloc::{AllocError, Global};
-
-/// What follows the mark, if the bytes begin with it after blanks.
-fn after_mark(mark: u8, bytes: &[u8]) -> Option<&[u8]>
-    ensures { option_map (λ rest. rest.now) result ≡ behind_mark mark bytes.now }
-{
-    skip_blanks(bytes).strip_prefix(&[mark])
-}
 
 /// One value at least, and commas between them, to the mark that ends the line.
 pub fn values_before(alloc: Global, mark: u8, bytes: &[u8]) -> Result<Args, LineFault<'_>>
@@ -66,7 +59,7 @@ pub fn call_on_line(alloc: Global, line: &[u8]) -> Result<Call, LineFault<'_>>
     ensures err { IfErr result (λ fault. fault ≢ OutOfMemory → call_of line.now ≡ None) }
     ensures says { IfErr result Says }
 {
-    if !is_short(line) {
+    if !is_within_line(line) {
         return Err(LineFault::Long);
     }
     let front = skip_blanks(line);

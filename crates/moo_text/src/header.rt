@@ -8,7 +8,7 @@ ghost use Rattle.moo_text.specs.LineFaults.{Says};
 ghost use Rattle.moo_text.specs.declared.line_fault.LineFault.TheVariants.{OutOfMemory};
 ghost use Rattle.moo_text.specs.LineReading.{behind_word, begins_with_byte, object_value as object_in, object_of as object_spelled, place_number as place_in, last_place as last_place_in, at_of as at_in, header_of};
 
-use crate::line::{is_short, next_word};
+use crate::line::{is_within_line, next_word};
 use crate::line_fault::LineFault;
 use crate::literal::read_front;
 use moo_value::{ObjNo, Value};
@@ -110,7 +110,7 @@ pub fn read_header(alloc: Global, line: &[u8]) -> Result<Header, LineFault<'_>>
     ensures err { IfErr result (λ fault. fault ≢ OutOfMemory → header_of line.now ≡ None) }
     ensures says { IfErr result Says }
 {
-    if !is_short(line) {
+    if !is_within_line(line) {
         return Err(LineFault::Long);
     }
     let rest = after_the_word(b"batch", line).ok_or(LineFault::NoBatch)?;

@@ -22,7 +22,7 @@ pub use call_text::{call_in, call_on_line, values_before};
 pub use fault::{TextFault, WriteFault};
 pub use feed::Feed;
 pub use header::{Header, object_of, read_header};
-pub use line::{LONGEST_LINE, is_end_line, is_short, next_word, skip_blanks, split_word};
+pub use line::{LONGEST_LINE, is_end_line, is_within_line, next_word};
 pub use line_fault::LineFault;
 pub use lines::LONGEST_TEXT;
 pub use marks::Marks;

@@ -1,9 +1,10 @@
 //! What one line of a batch text is.
 
 ghost use Rattle.std.specs.Prelude.{◌≡◌, ◌∷◌, [], MatchOption};
-ghost use Rattle.moo_value.specs.Literal.{is_blank as blank_byte, is_word as word_byte};
-ghost use Rattle.moo_value.specs.Reading.{after_blanks, word, after_word};
-ghost use Rattle.moo_text.specs.Line.{is_short as short_line, is_all_blank as all_blank, is_blank_line as blank_line, is_end_line as end_line, words_of_line, until_blank, from_blank};
+ghost use Rattle.moo_value.specs.Literal.{is_blank as blank_byte};
+ghost use Rattle.moo_text.specs.Line.{is_within_line as short_line, is_all_blank as all_blank, is_blank_line as blank_line, is_end_line as end_line, words_of_line, until_blank, from_blank};
+
+use moo_value::skip_blanks;
 
 /// The most bytes of a line, its end left away.
 pub const LONGEST_LINE: usize = 262144;
@@ -14,29 +15,11 @@ fn is_blank(byte: u8) -> bool
     byte == b' ' || byte == b'\t'
 }
 
-fn is_word(byte: u8) -> bool
-    ensures { result ≡ word_byte byte }
-{
-    matches!(byte, b'0'..=b'9' | b'A'..=b'Z' | b'a'..=b'z' | b'_')
-}
-
 /// Whether a line is within the limit.
-pub fn is_short(line: &[u8]) -> bool
+pub fn is_within_line(line: &[u8]) -> bool
     ensures { result ≡ short_line line.now }
 {
     line.len() <= LONGEST_LINE
-}
-
-/// The bytes after the spaces and tabs in front.
-pub fn skip_blanks(bytes: &[u8]) -> &[u8]
-    ensures { result.now ≡ after_blanks bytes.now }
-{
-    for (i, byte) in bytes.iter().enumerate() {
-        if !is_blank(*byte) {
-            return &bytes[i..];
-        }
-    }
-    &[]
 }
 
 /// Whether there are spaces and tabs alone.
@@ -50,33 +33,20 @@ pub fn is_all_blank(bytes: &[u8]) -> bool
 pub fn is_blank_line(line: &[u8]) -> bool
     ensures { result ≡ blank_line line.now }
 {
-    is_short(line) && is_all_blank(line)
+    is_within_line(line) && is_all_blank(line)
 }
 
 /// Whether a line is `end`, with spaces and tabs before and after.
 pub fn is_end_line(line: &[u8]) -> bool
     ensures { result ≡ end_line line.now }
 {
-    if !is_short(line) {
+    if !is_within_line(line) {
         return false;
     }
     match skip_blanks(line) {
         [b'e', b'n', b'd', rest @ ..] => is_all_blank(rest),
         _ => false,
     }
-}
-
-/// The letters, digits and underscores in front, and what follows.
-pub fn split_word(bytes: &[u8]) -> (&[u8], &[u8])
-    ensures front { result.0.now ≡ word bytes.now }
-    ensures back { result.1.now ≡ after_word bytes.now }
-{
-    for (i, byte) in bytes.iter().enumerate() {
-        if !is_word(*byte) {
-            return bytes.split_at(i);
-        }
-    }
-    (bytes, &[])
 }
 
 /// What is in front of the first space or tab, and what follows.

@@ -58,7 +58,7 @@ pub struct LineReader<R> {
 }
 
 impl<R: Read> LineReader<R> {
-    ghost use Rattle.std.specs.Prelude.{◌≡◌, ◌<◌, Ok, true, false, ◌≤◌, [], min, OnOk, IfOk, IfErr, IfNone};
+    ghost use Rattle.std.specs.Prelude.{◌≡◌, ◌<◌, true, false, ◌≤◌, [], min, OnOk, IfOk, IfErr, IfNone};
     ghost use Rattle.moo_text.specs.Side.{untouched, lines_side, IsOver};
     ghost use Rattle.moo_text.specs.Given.{ReaderGives, GivesLine, TakesRoom, LinesBreakOff};
 

@@ -1,7 +1,6 @@
 //! The built-in properties.
 
 ghost use Rattle.std.specs.Prelude.{◌≡◌};
-ghost use Rattle.std.specs.List.{find};
 ghost use Rattle.moo_world.specs.Objects.{same_text, folded};
 ghost use Rattle.moo_world.specs.BuiltIns.{field_name, built_in};
 

@@ -1,6 +1,6 @@
 //! What calls answer, as values.
 
-ghost use Rattle.std.specs.Prelude.{◌≡◌, map, IfOk};
+ghost use Rattle.std.specs.Prelude.{◌≡◌, IfOk};
 ghost use Rattle.moo_world.specs.Answers.{flag, list_of, object_list, text_list};
 ghost use Rattle.moo_world.specs.Calls.{accept_value};
 

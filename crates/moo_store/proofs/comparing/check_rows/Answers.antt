@@ -1,4 +1,4 @@
-use Rattle.moo_store.{proofs.Words.{◌≡◌, ◌∙◌, IsTrue, false, refl, sym, ap, subst, state, present, schema_of, Maps, Tables, Rests, HasTables, StoreFault, Store, StopsBy, stays}, specs.Checked.{StopsCheck, IsUnchecked}, proofs.OpenLemmas.{at_rest, has_still, rests_still}, proofs.CompareLemmas.{checked_by, unchecked, unasked, cut_off}, proofs.Causes.{told_so, stopped_after}, proofs.Versions.{version_is}}
+use Rattle.moo_store.{proofs.Words.{◌≡◌, ◌∙◌, IsTrue, false, refl, sym, ap, subst, state, present, schema_of, Maps, Tables, Rests, HasTables, StoreFault, Store, StopsBy, stays}, specs.Checked.{StopsCheck, IsUnchecked}, proofs.OpenLemmas.{at_rest, has_still, rests_still}, proofs.CompareLemmas.{checked_by, objects_held, unchecked, unasked, cut_off}, proofs.Causes.{told_so, stopped_after}, proofs.Versions.{version_is}}
 use Rattle.moo_store.proofs.comparing.check_rows.Goals as goal
 use Rattle.sqlite.specs.State.{State, HasCleanDisk}
 use Rattle.moo_tables.{specs.Listing.{AreListed, tables_of}, specs.ReadCause.{StopsQuery}, proofs.ReadLemmas.{reads_then, fails_then, rests_read}, proofs.ReadCauseLemmas.{not_a_database}}
@@ -42,7 +42,7 @@ returns-in-Err-clause-keeps g c = record { clean = λ clean. clean; kept = λ cl
 pub returns-then-shown-clause-checks : goal.returns-then-shown-clause-checks
 returns-then-shown-clause-checks g c = record {
   shown = λ clean tables rests. c.in-Ok-show_in_turn.ensures.shown clean c.if-shown.true tables rests (version_is (state g.S.Store c.args.conn.now) present tables c.in-Ok.ensures.ours rests);
-  count = c.object_count.ensures;
+  count = c.object_count.ensures ∙ objects_held c.args.own.now.maps c.requires.good;
   rests = λ clean tables rests. rests_still g.S.Store c.args.conn.now c.show_in_turn.new.conn present c.args.own.now.maps c.in-Ok.ensures.ours c.in-Ok-show_in_turn.ensures.reads.read clean tables rests;
 }
 

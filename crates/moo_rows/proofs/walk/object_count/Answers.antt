@@ -1,0 +1,43 @@
+use Rattle.moo_rows.{proofs.Words.{◌≡◌, ℕ, pos, negsuc, Option, None, Some, Less, refl, sym, ap, IsSome, true≢false, get, entries, IsNext, IsPast, Maps, object_cmp, objects_left, ObjNo, ObjRow}, proofs.Walking.{past_none, objects-end, objects-step}}
+use Rattle.moo_rows.proofs.walk.object_count.Goals as goal
+use Rattle.moo_rows.proofs.walk.object_count.Invariants.{FitUpTo}
+use Rattle.std.proofs.Common.{arith, rules, suc, length, ◌+◌, ◌≤ℤ◌}
+use Rattle.std.proofs.lemmas.Int.{ints}
+use Rattle.std.proofs.lemmas.Cmp.{int_ranked}
+
+-- the next one is the first of those that were left
+one_left : (t : Maps) (last : Option ObjNo) (x : ObjNo) → IsNext t.objects last (Some x) → length (objects_left last t) ≡ suc (length (objects_left (Some x) t))
+one_left t last x next = by (get t.objects x) refl next.0
+  where
+    by : (o : Option ObjRow) → get t.objects x ≡ o → IsSome o → length (objects_left last t) ≡ suc (length (objects_left (Some x) t))
+    by None held is = absurd (true≢false (sym is))
+    by (Some row) held is = ap length (objects-step t last x row next held)
+
+fit_on : (last : Option ObjNo) (x : ObjNo) (count : ℕ) → IsPast object_cmp last x → negsuc 2147483647 ≤ℤ x.0 → FitUpTo last count → FitUpTo (Some x) (count + 1)
+fit_on None x count past low fit = omega (arith, ints, low, fit)
+fit_on (Some last) x count past low fit = omega (arith, ints, int_ranked last.0 x.0 Less (sym past), fit)
+
+pub loop-x-init : goal.loop-x-init
+loop-x-init g c = let all = ap length (past_none object_cmp (entries (g.R.Rows.held c.args.rows.now).maps.objects)) in (omega (arith, all), refl)
+
+pub overflow_add-count : goal.overflow_add-count
+overflow_add-count g c =
+    let low : negsuc 2147483647 ≤ℤ c.in-Some.x.0 = search rules in
+    let high : c.in-Some.x.0 ≤ℤ pos 2147483647 = search rules in
+    let fit = fit_on c.loop-x.last c.in-Some.x c.loop-x.count c.in-Some.ensures.1 low c.loop-x.invariant.1 in
+    omega (arith, ints, fit, high)
+
+pub loop-x-smaller : goal.loop-x-smaller
+loop-x-smaller g c = omega (arith, one_left (g.R.Rows.held c.args.rows.now).maps c.loop-x.last c.in-Some.x c.in-Some.ensures)
+
+pub loop-x-preserved : goal.loop-x-preserved
+loop-x-preserved g c =
+    let low : negsuc 2147483647 ≤ℤ c.in-Some.x.0 = search rules in (
+      omega (arith, c.loop-x.invariant.0, one_left (g.R.Rows.held c.args.rows.now).maps c.loop-x.last c.in-Some.x c.in-Some.ensures),
+      fit_on c.loop-x.last c.in-Some.x c.loop-x.count c.in-Some.ensures.1 low c.loop-x.invariant.1,
+    )
+
+pub returns : goal.returns
+returns g c =
+    let none : length (objects_left c.loop-x.last (g.R.Rows.held c.args.rows.now).maps) ≡ 0 = ap length (objects-end (g.R.Rows.held c.args.rows.now).maps c.loop-x.last c.in_default.ensures) in
+    omega (arith, c.loop-x.invariant.0, none)
