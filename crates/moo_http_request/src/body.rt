@@ -125,33 +125,6 @@ fn read_asked_body(alloc: Global, form: Form, body: &[u8]) -> Result<Asked, Allo
     }
 }
 
-/// What a body of this size asks, which begins at `start` of the bytes and goes on in the reader.
-fn read_body<R: Incoming>(
-    alloc: Global,
-    reader: &mut R,
-    bytes: &mut Vec<u8>,
-    start: usize,
-    form: Form,
-    size: u64,
-) -> Result<Asked, ReadFault>
-    requires inside { start ≤ length bytes.old.items }
-    requires bound { start + size ≤ 1056768 }
-    ensures grows { OnOk result (Grows (R.remaining reader.old) (R.remaining reader.new) bytes.old.items bytes.new.items) }
-    ensures asks { IfOk result (λ asked. Settles (R.remaining reader.new) bytes.new.items
-        (λ input. PlanAsks (Plan.Body form size) (drop start input) asked)) }
-    ensures few { OnOk result (length bytes.new.items ≤ max (length bytes.old.items) (start + size)) }
-    ensures breaks { OnErr result
-        (TakesAtMost ((start + size) - length bytes.old.items) (R.remaining reader.old) (R.remaining reader.new)) }
-    ensures cause { IfErr result (λ fault. fault ≡ ReadFault.Read → HasFailed R.fails reader.new) }
-{
-    let end = start + size as usize;
-    if !read_until(reader, bytes, end)? {
-        return Ok(Asked::refuse(Refusal::BadRequest));
-    }
-    let asked = read_asked_body(alloc, form, &bytes[start..end])?;
-    Ok(asked)
-}
-
 /// What comes of a plan whose head ends at `start` of the bytes. Nothing is read if it is decided.
 pub(crate) fn follow_plan<R: Incoming>(
     alloc: Global,
@@ -173,6 +146,13 @@ pub(crate) fn follow_plan<R: Incoming>(
 {
     match plan {
         Plan::Decided(asked) => Ok(asked),
-        Plan::Body(form, size) => read_body(alloc, reader, bytes, start, form, size),
+        Plan::Body(form, size) => {
+            let end = start + size as usize;
+            if !read_until(reader, bytes, end)? {
+                return Ok(Asked::refuse(Refusal::BadRequest));
+            }
+            let asked = read_asked_body(alloc, form, &bytes[start..end])?;
+            Ok(asked)
+        }
     }
 }
