@@ -1,7 +1,6 @@
 //! Accept lists, as calls are given them.
 
-ghost use Rattle.std.specs.Prelude.{◌≡◌, IfOk, List, Option};
-ghost use Rattle.moo_value.specs.declared.value.ObjNo.{ObjNo};
+ghost use Rattle.std.specs.Prelude.{◌≡◌, IfOk};
 ghost use Rattle.moo_world.specs.Arguments.{objects_among, object_and_accept};
 ghost use Rattle.moo_calls_shared.specs.Outcomes.{GivenOrNot};
 

@@ -4,7 +4,7 @@
 ghost use Rattle.std.specs.List.{list_all};
 ghost use Rattle.std.specs.Prelude.{◌≡◌, true, IfOk, IfErr, Ok, Err, option_map};
 ghost use Rattle.moo_world.specs.Arguments.{fits, info_in, info_and_name_in, new_property};
-ghost use Rattle.moo_world.specs.Arguments.{new_property_info, verb_info_in, texts_in, new_verb};
+ghost use Rattle.moo_world.specs.Arguments.{new_property_info};
 ghost use Rattle.moo_calls_shared.specs.Shown.{info_shown};
 
 use moo_value::{Code, MooStr, ObjNo, Value};

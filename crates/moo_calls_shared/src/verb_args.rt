@@ -3,9 +3,6 @@
 
 ghost use Rattle.std.specs.Prelude.{◌≡◌, IfOk, IfErr, Ok, Err, option_map};
 ghost use Rattle.std.specs.Result.{result_map_both};
-ghost use Rattle.moo_value.specs.declared.value.ObjNo.{ObjNo};
-ghost use Rattle.moo_world.specs.Objects.{Name};
-ghost use Rattle.moo_world.specs.declared.descriptor.Desc.{Desc};
 ghost use Rattle.moo_world.specs.Arguments.{desc_of, verb_info_in, texts_in, object_and_desc, new_verb, new_verb_info, new_verb_args};
 ghost use Rattle.moo_calls_shared.specs.Outcomes.{GivenOrNot};
 ghost use Rattle.moo_calls_shared.specs.Shown.{verb_info_shown, args_shown};

@@ -1,7 +1,7 @@
 //! A new object, with the slots that it inherits.
 //! LambdaMOO Programmer's Manual, 'Fundamental Operations on Objects': `create`.
 
-ghost use Rattle.std.specs.Prelude.{◌≡◌, ◌||◌, true, [], Some, OnOk};
+ghost use Rattle.std.specs.Prelude.{◌≡◌, ◌||◌, true, Some, OnOk};
 ghost use Rattle.moo_world.specs.Creation.{created, next_object};
 ghost use Rattle.moo_world.specs.Objects.{Name, nothing, same_object};
 ghost use Rattle.moo_world.specs.Rows.{world_of, IsGood};

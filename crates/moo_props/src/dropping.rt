@@ -12,7 +12,7 @@ ghost use Rattle.moo_world.specs.Recycling.{recycled};
 ghost use Rattle.moo_world.specs.Rows.{world_of, IsGood};
 ghost use Rattle.moo_world.specs.World.{is_object};
 ghost use Rattle.moo_props.specs.Dropped.{ListsDropped, LeavesDropped, rows_dropped};
-ghost use Rattle.moo_props.specs.Dropping.{row_linked, released_row, row_released, rows_released, linked_among, verbs_among, ids_among};
+ghost use Rattle.moo_props.specs.Dropping.{row_linked, row_released, rows_released, linked_among, verbs_among, ids_among};
 ghost use Rattle.moo_props.specs.Dropping.{props_removed, verbs_removed};
 ghost use Rattle.moo_props.specs.Slots.{ids_for, keys_by, slots_moved};
 ghost use Rattle.moo_world.specs.Keeps.{Keeps};

@@ -1,7 +1,7 @@
 //! The quota of an owner: how many more objects may be made for it.
 //! LambdaMOO Programmer's Manual, 'Fundamental Operations on Objects': `create` and `recycle`.
 
-ghost use Rattle.std.specs.Prelude.{◌≡◌, ◌+ℤ◌, is_some, true, option_map, negsuc, pos, IfSome, OnOk};
+ghost use Rattle.std.specs.Prelude.{◌≡◌, ◌+ℤ◌, is_some, true, option_map, negsuc, IfSome, OnOk};
 ghost use Rattle.std.specs.FinMap.{get};
 ghost use Rattle.moo_world.specs.Quota.{quota_name, quota_of, quota_changed, quota_returned, has_quota_left};
 ghost use Rattle.moo_world.specs.Rows.{world_of, IsGood};
