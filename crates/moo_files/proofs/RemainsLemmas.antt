@@ -1,10 +1,10 @@
 -- What is left of files that held an image.
-use Rattle.moo_files.{proofs.Words.{◌≡◌, ◌⊎◌, inl, inr, ℕ, ◌≤◌, false, IsTrue, refl, arith, sym, subst, ◌∙◌, ∥∥₁_elim, ∥∥₁_map, cases_eq, cases_Bool, Ghosts, Files, FileStore, Held, Image, IsIgnored, outcomes, stored_size, reserved, is_summed, StandsAs, IsUnreadable, size_by_log, size_by_file, reserved_word, state_of, Trees-set, Trees, IsNothing, IsEmpty, HoldsDatabase, NamesSize, SaysSums, BeginsWell, LeavesFiles, AreFoundIn, Finds, file_state, image_at, Leftover, IsBlank, SparesFiles, HoldsNoDatabase, HoldsTrees, HoldsSuch, HoldsNothingBut, ReadsAs, Remains, IsCleanRemains, IsUnopened, LeftoverKeeps, LeftoverSpares, KeepsAs, KeepsSuch, KeepsNothingBut, Spares}, proofs.BegunLemmas.{begun_unreadable, something, holds_none}, specs.Closing.{IsLeftOf, IsClosedFrom}, specs.Start.{HoldStart}}
+use Rattle.moo_files.{proofs.Words.{◌≡◌, ◌⊎◌, inl, inr, ℕ, ◌≤◌, false, IsTrue, refl, arith, sym, subst, ◌∙◌, ∥∥₁_elim, ∥∥₁_map, cases_eq, cases_Bool, Ghosts, Files, FileStore, Held, Image, IsIgnored, outcomes, stored_size, reserved, is_summed, StandsAs, IsUnreadable, size_by_log, size_by_file, reserved_word, state_of, Trees-set, Trees, IsNothing, IsEmpty, HoldsDatabase, NamesSize, SaysSums, BeginsWell, LeavesFiles, AreFoundIn, Finds, file_state, image_at, Leftover, IsBlank, SparesFiles, HoldsNoDatabase, HoldsTrees, HoldsSuch, HoldsNothingBut, ReadsAs, Remains, IsCleanRemains, IsUnopened, LeftoverKeeps, LeftoverSpares, KeepsAs, KeepsSuch, KeepsNothingBut, Spares}, proofs.BegunLemmas.{begun_unreadable, something, holds_none}, specs.Closing.{IsLeftOf, IsClosedFrom}, specs.Start.{HoldStart}, specs.Connected.{IsConnected, OnlyLeaves}}
 use Rattle.moo_files.specs.declared.remains.Remains.TheVariants as remains
 use Rattle.moo_files.specs.declared.pair.NotOpened.{NotOpened}
 use Rattle.sqlite_disk.specs.declared.start.Start as start
 use Rattle.sqlite_wal.specs.Recovery as raw
-use Rattle.sqlite.{specs.State.{State as Database}, specs.Start.{FindsIn}}
+use Rattle.sqlite.{specs.State.{State as Database, HasCleanDisk}, specs.Held.{IsNew}, specs.Files.{IsOpened}, specs.Start.{FindsIn}}
 use Rattle.sqlite.specs.declared.file.Leftover.TheVariants as left
 
 -- ---- the page size of a database without sums
@@ -64,6 +64,10 @@ plainly it = (inl it, λ _. it)
 -- files that hold the same database
 pub holds_same : {found image : Image} {trees : Trees} → found ≡ image → HoldsTrees image trees → HoldsSuch (λ now. now ≡ trees) found
 holds_same {found} {image} {trees} is holds = record { trees = trees; holds = subst (λ i. HoldsTrees i trees) (sym is) holds; such = refl }
+
+-- a new connection outside a transaction shows this, and while it is open a crash leaves its last commit and nothing else
+pub connects : {D : Type 0} {g : Ghosts D} {Shows : Database → Type 0} {conn : Held (FileStore D g)} → IsNew conn → (HasCleanDisk (file_state conn) → IsOpened conn) → (HasCleanDisk (file_state conn) → Shows (file_state conn)) → OnlyLeaves (file_state conn) → IsConnected Shows conn
+connects fresh opened found left = record { outside = fresh.autocommit; unlimited = fresh.unlimited; opened = opened; found = found; left = left }
 
 module _ {D T : Type 0} {g : Ghosts D} {first : start.Ghosts T} {files : Files D} (begun : HoldStart first g files) where
   -- what is found in them

@@ -8,7 +8,7 @@ use Rattle.sqlite.specs.Held.{Held}
 use Rattle.sqlite.specs.declared.file.Leftover.TheVariants as left
 use Rattle.moo_files.specs.Contents.{HoldsSuch}
 use Rattle.moo_files.specs.Remains.{IsCleanRemains}
-use Rattle.moo_files.specs.Stop.{StoreLeaves, BytesLeave}
+use Rattle.moo_files.specs.Stop.{DiskLeaves, BytesLeave}
 use Rattle.moo_files.specs.declared.remains.Remains.{Remains}
 use Rattle.moo_files.specs.declared.remains.Remains.TheVariants as remains
 use Rattle.moo_run_laws.specs.Again.{IfRan}
@@ -27,7 +27,7 @@ module _ {T D : Type 0} {g : Ghosts D} where
   -- the store, only those that hold a database it may leave.
   abbrev pub ClosedLeaves : Image → Held (FileStore D g) → Remains T D g → Image → Type 0
   ClosedLeaves image conn (remains.Leftover (left.Store now)) next =
-      ((¬ IsShutByClosing conn now) × StoreLeaves now next) ⊎ HoldsSuch (recovers now) next
+      ((¬ IsShutByClosing conn now) × DiskLeaves now next) ⊎ HoldsSuch (recovers now) next
   ClosedLeaves image conn closed next = BytesLeave image closed next
 
   -- the same at the end of a run: if a task ran over the files (the first function), or if none did (the second)

@@ -1,4 +1,4 @@
-use Rattle.moo_files.{proofs.Words.{refl, inl, inr, image_at, HoldsSuch, HoldsNothingBut, IsEmpty}, specs.Opened.{Nothing, Database, Unfit}, proofs.RefusalLemmas.{opened_own, opened_malformed, unopened_malformed, opened_cause}, proofs.RemainsLemmas.{found_in, holds_same, leftover_keeps, leftover_spares, spared_none, unopened_keeps}}
+use Rattle.moo_files.{proofs.Words.{refl, inl, inr, image_at, HoldsSuch, HoldsNothingBut, IsEmpty}, specs.Opened.{Nothing, Database, Unfit}, proofs.RefusalLemmas.{opened_own, opened_malformed, unopened_malformed, opened_cause}, proofs.RemainsLemmas.{connects, found_in, holds_same, leftover_keeps, leftover_spares, spared_none, unopened_keeps}}
 use Rattle.moo_files.proofs.connecting.open_connection.Goals as goal
 use Rattle.sqlite_store.specs.Laws.{settled_at}
 use Rattle.std.specs.Prelude.{◌≡◌, ◌⊎◌}
@@ -8,13 +8,7 @@ pub returns-in-Ok-open_files-clause-connects : goal.returns-in-Ok-open_files-cla
 returns-in-Ok-open_files-clause-connects g c =
     let it = c.in-Ok-open_files.ensures in
     let conn = c.in-Ok-open_files.conn in
-    record {
-      outside = it.fresh.autocommit;
-      unlimited = it.fresh.unlimited;
-      opened = it.opened;
-      found = λ clean. found_in c.in-Ok.ensures.start conn (it.found clean);
-      left = λ is_open trees lies. settled_at conn.store g.met.H.Disk.Disk.seen_may_stay trees is_open lies;
-    }
+    connects it.fresh it.opened (λ clean. found_in c.in-Ok.ensures.start conn (it.found clean)) (λ is_open trees lies. settled_at conn.store g.met.H.Disk.Disk.seen_may_stay trees is_open lies)
 
 pub returns-in-Err-open_files-clause-refused : goal.returns-in-Err-open_files-clause-refused
 returns-in-Err-open_files-clause-refused g c = record {

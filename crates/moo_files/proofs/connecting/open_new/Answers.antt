@@ -1,4 +1,4 @@
-use Rattle.moo_files.{proofs.Words.{sym, subst, inl, inr, image_at, IsBlank}, proofs.RemainsLemmas.{found_in, spared_spares, unopened_spares}, proofs.MakingLemmas.{spared_site, unopened_site}, specs.Causes.{IsOpenable}}
+use Rattle.moo_files.{proofs.Words.{sym, subst, inl, inr, image_at, IsBlank}, proofs.RemainsLemmas.{connects, found_in, spared_spares, unopened_spares}, proofs.MakingLemmas.{spared_site, unopened_site}, specs.Causes.{IsOpenable}}
 use Rattle.moo_files.proofs.connecting.open_new.Goals as goal
 use Rattle.sqlite_store.specs.Laws.{settled_at}
 
@@ -8,13 +8,8 @@ returns-in-Ok-open_or_make-clause-connects g c =
     let it = c.in-Ok-open_or_make.ensures in
     let start = c.in-Ok.ensures.start in
     let conn = c.in-Ok-open_or_make.made in
-    record {
-      outside = it.fresh.autocommit;
-      unlimited = it.fresh.unlimited;
-      opened = it.opened;
-      found = λ clean. elim (it.found clean) [ inl made ↦ inl (subst IsBlank start.seen made.0, made.1) | inr found ↦ inr (found_in start conn found) ];
-      left = λ is_open trees lies. settled_at conn.store g.met.H.Disk.Disk.seen_may_stay trees is_open lies;
-    }
+    connects it.fresh it.opened (λ clean. elim (it.found clean) [ inl made ↦ inl (subst IsBlank start.seen made.0, made.1) | inr found ↦ inr (found_in start conn found) ])
+    (λ is_open trees lies. settled_at conn.store g.met.H.Disk.Disk.seen_may_stay trees is_open lies)
 
 pub returns-in-Err-open_or_make-clause-unmade : goal.returns-in-Err-open_or_make-clause-unmade
 returns-in-Err-open_or_make-clause-unmade g c =
