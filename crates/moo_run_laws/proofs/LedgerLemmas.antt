@@ -13,7 +13,7 @@ use Rattle.moo_desk.specs.declared.leaving.Stage.TheVariants.{Lost}
 use Rattle.moo_desk.specs.declared.losses.Losses.{Losses}
 use Rattle.moo_desk.specs.declared.slot.Slot.{Slot}
 use Rattle.moo_desk.specs.Deeds.{Book, book_of, Deed, takes, steps, ends, count_taken, After, Keep, LetsGo}
-use Rattle.moo_desk.specs.Each.{Each, TakesOut}
+use Rattle.moo_desk.specs.Each.{Each}
 use Rattle.moo_desk.specs.Exchange.{with_back}
 use Rattle.moo_desk.specs.Later.{IsLater, IsGathered}
 use Rattle.moo_desk.specs.Told.{TellsOf}
@@ -156,26 +156,38 @@ module _ {R W : Type 0} {inward : Inward.Ghosts R} {incoming : Incoming.Ghosts R
   all_owed [] first last (none, same) =
       ([], refl, λ few. ([], tt, sym (ap (λ it. it.0.leaving.items) same ∙ none.1), omega (arith, ap (λ it. count_noted it.0.losses) same, ap length none.2, none.3)))
   all_owed (calls_accept None ∷ earlier) first last (between, runs, comes) =
-      let so = all_owed earlier first between runs in
-      (so.0, so.1, λ few.
-          let kept = owes_after comes.keep.deeds (book_of between.0) (book_of last.0) so.0 _ few comes.keep.after (so.2 few) in
-          (kept.0, kept.1, kept.2, omega (arith, kept.3)))
+      let so = all_owed earlier first between runs in (
+        so.0,
+        so.1,
+        λ few.
+            let kept = owes_after comes.keep.deeds (book_of between.0) (book_of last.0) so.0 _ few comes.keep.after (so.2 few) in
+            (kept.0, kept.1, kept.2, omega (arith, kept.3)),
+      )
   all_owed (calls_accept (Some it) ∷ earlier) first last (between, runs, (slot, mid, comes, (out, leaving, losses), handed)) =
-      let so = all_owed earlier first between runs in
-      (so.0, so.1, λ few.
-          let kept = owes_after comes.keep.deeds (book_of between.0) mid so.0 _ few comes.keep.after (so.2 few) in
-          (kept.0, kept.1, kept.2 ∙ sym leaving, omega (arith, kept.3, ap count_noted losses)))
+      let so = all_owed earlier first between runs in (
+        so.0,
+        so.1,
+        λ few.
+            let kept = owes_after comes.keep.deeds (book_of between.0) mid so.0 _ few comes.keep.after (so.2 few) in
+            (kept.0, kept.1, kept.2 ∙ sym leaving, omega (arith, kept.3, ap count_noted losses)),
+      )
   all_owed (calls_close given closing route ∷ earlier) first last (between, runs, (it, begins, keep, same)) =
-      let so = all_owed earlier first between runs in
-      (so.0 ++ it ∷ [], (so.0, it, so.1, begins, refl), λ few.
-          let had = so.2 (omega (arith, few, length-append so.0 (it ∷ []))) in
-          let more = given_more writer outward.peer so.0 had.0 it had.1 in
-          owes_after keep.deeds (with_back (book_of between.0) it) (book_of last.0) _ _ few keep.after (more.0, more.1, more.2 ∙ ap (λ l. l ++ it ∷ []) had.2, omega (arith, more.3, had.3)))
+      let so = all_owed earlier first between runs in (
+        so.0 ++ it ∷ [],
+        (so.0, it, so.1, begins, refl),
+        λ few.
+            let had = so.2 (omega (arith, few, length-append so.0 (it ∷ []))) in
+            let more = given_more writer outward.peer so.0 had.0 it had.1 in
+            owes_after keep.deeds (with_back (book_of between.0) it) (book_of last.0) _ _ few keep.after (more.0, more.1, more.2 ∙ ap (λ l. l ++ it ∷ []) had.2, omega (arith, more.3, had.3)),
+      )
   all_owed (calls_settle is_last told ∷ earlier) first last (between, runs, ((mid, keep, slots, leaving, tells, same), none)) =
-      let so = all_owed earlier first between runs in
-      (so.0, so.1, λ few.
-          let kept = owes_after keep.deeds (book_of between.0) mid so.0 _ few keep.after (so.2 few) in
-          (kept.0, kept.1, kept.2 ∙ sym leaving, omega (arith, kept.3, tells_of R W is_last told mid.losses last.0.losses tells)))
+      let so = all_owed earlier first between runs in (
+        so.0,
+        so.1,
+        λ few.
+            let kept = owes_after keep.deeds (book_of between.0) mid so.0 _ few keep.after (so.2 few) in
+            (kept.0, kept.1, kept.2 ∙ sym leaving, omega (arith, kept.3, tells_of R W is_last told mid.losses last.0.losses tells)),
+      )
 
   pub ledger_after : (calls : List (Call R W)) (first last : Held R W inward incoming reader outward writer × ℕ) → Runs calls first last → in_all given_in calls < 2 ^ 32 → DeskLedger calls first last
   ledger_after calls first last runs bound =
