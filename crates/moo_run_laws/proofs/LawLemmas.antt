@@ -1,8 +1,7 @@
 -- From a run over a file to what is found after it, and to the run over that.
-use Rattle.std.proofs.Common.{◌≡◌, ◌≢◌, inl, inr, ℕ, zero, suc, List, length, codes, refl, sym, ap, subst, arith}
+use Rattle.std.proofs.Common.{◌≡◌, ◌≢◌, inl, inr, ℕ, zero, suc, List, length, refl, sym, ap, subst, arith}
 use Rattle.std.proofs.lemmas.Bool.{false_from_ne_true}
-use Rattle.std.specs.Prelude.{IsSome, false}
-use Rattle.std.specs.Str.{bytes_eq}
+use Rattle.std.specs.Prelude.{IsSome}
 use Rattle.sqlite_disk.specs.declared.Disk.{Ghosts}
 use Rattle.sqlite_wal.specs.Recovery.{Image}
 use Rattle.sqlite_store.specs.declared.store.FileStore.{FileStore}
@@ -17,7 +16,7 @@ use Rattle.moo_files.{proofs.AgainLemmas.{held_after}, proofs.OpenedLemmas.{over
 use Rattle.moo_files.specs.declared.remains.Remains.TheVariants as remains
 use Rattle.moo_cli.specs.declared.{task.Task.{Task}, task.Action.TheVariants.{Serve}, task.Service.{Service}}
 use Rattle.moo_run_lines.specs.declared.failure.Failure.{Failure}
-use Rattle.moo_run.{specs.Given.{Run}, specs.Run.{begins_anew, BeginsFrom, RunsIn, StopsTask}, specs.Ends.{RefusesTables, FailsFor, EndsWith}, specs.declared.ends.Ends.{Ends}}
+use Rattle.moo_run.{specs.Given.{Run}, specs.Run.{BeginsFrom, RunsIn, StopsTask}, specs.Ends.{RefusesTables, FailsFor, EndsWith}, specs.declared.ends.Ends.{Ends}}
 use Rattle.moo_run.specs.declared.session.HasRun as HasRun
 use Rattle.moo_run.specs.declared.ends.Ends.TheVariants as variant
 use Rattle.moo_run_laws.{specs.Again.{StartsFrom, TakesUp, IsLeftAfter, IsFoundOf, IsFoundIn}, specs.FileRuns.{FileRun, run_of, IsFileRun, IsFoundOnCleanDisk, GoesTo, ServedTo}, proofs.LedLemmas.{known_at}}
@@ -49,17 +48,11 @@ pub any_at_moment : (m : Moment) (trees : Trees) → AreTreesOf m trees → HasA
 any_at_moment m trees it none = let c = it.1.0 in some_tables c.tables.version (one_schema c.tables.version trees no_schema it.1.2.sound none)
 
 known_present : (m now : Moment) (trees : Trees) → AreTreesOf m trees → BecomesPresent m now → IsSome now.cells
-known_present m now trees it becomes =
-    let there = rw it.1.1 at becomes.1 in
-    rw there.1 refl
+known_present m now trees it becomes = let there = rw it.1.1 at becomes.1 in rw there.1 refl
 
 -- a database of the moment, or of that to which it was migrated
 abbrev KeepsMoment : Moment → Trees → Type 0
 KeepsMoment m trees = (end : Moment) × IsSparedMoment m end × AreTreesOf end trees
-
--- a task that doesn't begin anew is on a file
-on_file : (task : Task) → begins_anew task ≡ false → bytes_eq task.file.now (codes ":memory:") ≡ false
-on_file task other = grind arith
 
 -- a moment that is refused was refused for a cause
 fails_for : {T D : Type 0} {g : Ghosts D} (path : List ℕ) (image : Image) (rest : Remains T D g) (run : Run) (m : Moment) (holds : HoldsMoment image m) → RefusesTables path holds.such.1.0.tables rest run → FailsFor path image rest run
@@ -124,7 +117,7 @@ takes_up r (variant.Refused rest) (inl (task, named, alone, runs, it)) m holds =
       fails_for task.file.now r.image rest (run_of r) m holds
       ((it.file (false_from_ne_true _ it.memory)).cause other holds.such.1.0.tables (record { trees = holds.trees; holds = holds.holds; such = holds.such.1.2 }) clean),
 )
-takes_up r (variant.NoFile start) (inl (task, named, alone, runs, it)) m holds = inl (task, named, λ other. absurd (it.file (on_file task other)))
+takes_up r (variant.NoFile start) (inl (task, named, alone, runs, it)) m holds = inl (task, named, λ other. absurd (it.file (grind arith)))
 takes_up r ends (inr (some, rests, usage, none)) m holds = inr (some, usage, none)
 
 -- and then this is so of each moment that is found

@@ -46,15 +46,15 @@ module _ {R W : Type 0} (writer : Writing.Ghosts W) (to : W → ℤ) where
   few_lost began fates it = absurd it
 
   -- one more is given back
-  given_more : (began : List (Leaving R W)) (fates : List (Fate R W)) (it : Leaving R W) → Becomes writer to began fates → GoesOn (began ++ it ∷ []) (still_held fates ++ it ∷ []) (count_lost fates)
-  given_more [] [] it p = (still it ∷ [], (later_same writer to it, tt), refl, refl)
-  given_more (b ∷ began) (still now ∷ fates) it p =
-      let more = given_more began fates it p.1 in
-      (still now ∷ more.0, (p.0, more.1), ap (λ l. now ∷ l) more.2, more.3)
-  given_more (b ∷ began) (ended now ∷ fates) it p =
-      let more = given_more began fates it p.2 in
-      (ended now ∷ more.0, (p.0, p.1, more.1), more.2, omega (arith, more.3))
-  given_more began fates it p = absurd p
+  given_more : (began left : List (Leaving R W)) (lost : ℕ) (it : Leaving R W) → GoesOn began left lost → GoesOn (began ++ it ∷ []) (left ++ it ∷ []) lost
+  given_more [] left lost it ([], p, holds, counts) = (still it ∷ [], (later_same writer to it, tt), ap (λ l. l ++ it ∷ []) holds, counts)
+  given_more (b ∷ began) left lost it (still now ∷ fates, p, holds, counts) =
+      let more = given_more began (still_held fates) (count_lost fates) it (fates, p.1, refl, refl) in
+      (still now ∷ more.0, (p.0, more.1), ap (λ l. now ∷ l) more.2 ∙ ap (λ l. l ++ it ∷ []) holds, more.3 ∙ counts)
+  given_more (b ∷ began) left lost it (ended now ∷ fates, p, holds, counts) =
+      let more = given_more began left (count_lost fates) it (fates, p.2, holds, refl) in
+      (ended now ∷ more.0, (p.0, p.1, more.1), more.2, omega (arith, more.3, counts))
+  given_more began left lost it (fates, p, holds, counts) = absurd p
 
   -- those that are still held go on
   sent_on : (began : List (Leaving R W)) (fates : List (Fate R W)) (ys : List (Leaving R W)) → Becomes writer to began fates → Each (IsLater writer to) (still_held fates) ys → GoesOn began ys (count_lost fates)
@@ -150,44 +150,30 @@ module _ {R W : Type 0} {inward : Inward.Ghosts R} {incoming : Incoming.Ghosts R
       let noted = noted_after it between.losses b.losses (omega (arith, so.3, more.3, few_lost writer outward.peer began more.0 more.1, few)) gone in
       (more.0, more.1, more.2 ∙ sym is, omega (arith, so.3, more.3, noted))
 
+  owes_kept : (n : ℕ) (a b last : Book (Slot R W inward incoming reader outward writer) R W) (began : List (Leaving R W)) (told now : ℕ) → Keep n a b → last.leaving ≡ b.leaving → told + count_noted b.losses ≡ now + count_noted last.losses → length began < 2 ^ 32
+      → Owes began told a → Owes began now last
+  owes_kept n a b last began told now keep leaving losses few owes =
+      let kept = owes_after keep.deeds a b began told few keep.after owes in
+      (kept.0, kept.1, kept.2 ∙ sym leaving, kept.3 ∙ losses)
+
   -- each that was given back is still held, or was answered whole, or is told of or noted as lost
   all_owed : (calls : List (Call R W)) (first last : Held R W inward incoming reader outward writer × ℕ) → Runs calls first last
       → (began : List (Leaving R W)) × AreGivenBack calls began × (length began < 2 ^ 32 → Owes began (in_all told_in calls) (book_of last.0))
   all_owed [] first last (none, same) =
       ([], refl, λ few. ([], tt, sym (ap (λ it. it.0.leaving.items) same ∙ none.1), omega (arith, ap (λ it. count_noted it.0.losses) same, ap length none.2, none.3)))
   all_owed (calls_accept None ∷ earlier) first last (between, runs, comes) =
-      let so = all_owed earlier first between runs in (
-        so.0,
-        so.1,
-        λ few.
-            let kept = owes_after comes.keep.deeds (book_of between.0) (book_of last.0) so.0 _ few comes.keep.after (so.2 few) in
-            (kept.0, kept.1, kept.2, omega (arith, kept.3)),
-      )
+      let so = all_owed earlier first between runs in
+      (so.0, so.1, λ few. owes_kept comes.came (book_of between.0) (book_of last.0) (book_of last.0) so.0 _ _ comes.keep refl (omega arith) few (so.2 few))
   all_owed (calls_accept (Some it) ∷ earlier) first last (between, runs, (slot, mid, comes, (out, leaving, losses), handed)) =
-      let so = all_owed earlier first between runs in (
-        so.0,
-        so.1,
-        λ few.
-            let kept = owes_after comes.keep.deeds (book_of between.0) mid so.0 _ few comes.keep.after (so.2 few) in
-            (kept.0, kept.1, kept.2 ∙ sym leaving, omega (arith, kept.3, ap count_noted losses)),
-      )
+      let so = all_owed earlier first between runs in
+      (so.0, so.1, λ few. owes_kept comes.came (book_of between.0) mid (book_of last.0) so.0 _ _ comes.keep leaving (omega (arith, ap count_noted losses)) few (so.2 few))
   all_owed (calls_close given closing route ∷ earlier) first last (between, runs, (it, begins, keep, same)) =
-      let so = all_owed earlier first between runs in (
-        so.0 ++ it ∷ [],
-        (so.0, it, so.1, begins, refl),
-        λ few.
-            let had = so.2 (omega (arith, few, length-append so.0 (it ∷ []))) in
-            let more = given_more writer outward.peer so.0 had.0 it had.1 in
-            owes_after keep.deeds (with_back (book_of between.0) it) (book_of last.0) _ _ few keep.after (more.0, more.1, more.2 ∙ ap (λ l. l ++ it ∷ []) had.2, omega (arith, more.3, had.3)),
-      )
+      let so = all_owed earlier first between runs in
+      let more = λ (few : length (so.0 ++ it ∷ []) < 2 ^ 32). given_more writer outward.peer so.0 _ _ it (so.2 (omega (arith, few, length-append so.0 (it ∷ [])))) in
+      (so.0 ++ it ∷ [], (so.0, it, so.1, begins, refl), λ few. owes_kept 0 (with_back (book_of between.0) it) (book_of last.0) (book_of last.0) _ _ _ keep refl (omega arith) few (more few))
   all_owed (calls_settle is_last told ∷ earlier) first last (between, runs, ((mid, keep, slots, leaving, tells, same), none)) =
-      let so = all_owed earlier first between runs in (
-        so.0,
-        so.1,
-        λ few.
-            let kept = owes_after keep.deeds (book_of between.0) mid so.0 _ few keep.after (so.2 few) in
-            (kept.0, kept.1, kept.2 ∙ sym leaving, omega (arith, kept.3, tells_of R W is_last told mid.losses last.0.losses tells)),
-      )
+      let so = all_owed earlier first between runs in
+      (so.0, so.1, λ few. owes_kept 0 (book_of between.0) mid (book_of last.0) so.0 _ _ keep leaving (omega (arith, tells_of R W is_last told mid.losses last.0.losses tells)) few (so.2 few))
 
   pub ledger_after : (calls : List (Call R W)) (first last : Held R W inward incoming reader outward writer × ℕ) → Runs calls first last → in_all given_in calls < 2 ^ 32 → DeskLedger calls first last
   ledger_after calls first last runs bound =
