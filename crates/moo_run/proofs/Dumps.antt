@@ -11,9 +11,6 @@ of_any : (text : Option (List ℕ)) (P : List ℕ → Type 0) → ((bytes : List
 of_any None P each = tt
 of_any (Some bytes) P each = each bytes
 
-too_long : (n : ℕ) {A : Type 0} → LONGEST_TEXT < n → n ≤ LONGEST_TEXT → A
-too_long n long short = absurd (omega (arith, long, short))
-
 pub no_file : (text : Option (List ℕ)) → RefusesDump text NoBatches
 no_file text = (tt, of_any text _ (λ bytes s held same short. tt))
 
@@ -22,28 +19,21 @@ pub unread : (text : Option (List ℕ)) (fault : InputFault) (failure : Failure)
 unread text read_fault.Read failure is long = subst (RefusesDump text) (sym is) (tt, of_any text _ (λ bytes s held same short. tt))
 unread text read_fault.OutOfMemory failure is long = subst (RefusesDump text) (sym is) (tt, of_any text _ (λ bytes s held same short. tt))
 unread None read_fault.TooLong failure is long = subst (RefusesDump None) (sym is) (tt, tt)
-unread (Some bytes) read_fault.TooLong failure is long = subst (RefusesDump (Some bytes)) (sym is) (tt, λ s held same short. too_long (length bytes) (long refl) short)
+unread (Some bytes) read_fault.TooLong failure is long = subst (RefusesDump (Some bytes)) (sym is) (tt, λ s held same short. absurd (omega (arith, long refl, short)))
 
 module _ (bytes : List ℕ) (limit : length bytes ≤ LONGEST_TEXT) where
-  short_enough : length bytes < 4294967295
-  short_enough = omega (arith, limit)
-
   -- its text is no dump
   pub no_dump : (text : Option (List ℕ)) (fault : LoadFault) (failure : Failure) → failure ≡ load_failure fault → IfSome text (λ all. bytes ≡ all)
       → (fault ≢ load_fault.OutOfMemory → length bytes < 4294967295 → (s : State) → IsHeld s → dump_of s ≢ bytes) → RefusesDump text failure
   no_dump text load_fault.OutOfMemory failure is whole complete = subst (RefusesDump text) (sym is) (tt, of_any text _ (λ all s held same short. tt))
-  no_dump None (load_fault.NotADump line why) failure is whole complete = subst (RefusesDump None) (sym is) (tt, tt)
-  no_dump None (load_fault.Damaged kind key) failure is whole complete = subst (RefusesDump None) (sym is) (tt, tt)
-  no_dump (Some all) (load_fault.NotADump line why) failure is whole complete = subst (RefusesDump (Some all)) (sym is) (tt, λ s held same short. absurd (complete (λ e. cc) short_enough s held (same ∙ sym whole)))
-  no_dump (Some all) (load_fault.Damaged kind key) failure is whole complete = subst (RefusesDump (Some all)) (sym is) (tt, λ s held same short. absurd (complete (λ e. cc) short_enough s held (same ∙ sym whole)))
+  no_dump None fault failure is whole complete = subst (RefusesDump None) (sym is) (tt, tt)
+  no_dump (Some all) fault failure is whole complete = subst (RefusesDump (Some all)) (sym is) (tt, λ s held same short. absurd (complete (λ e. cc) (omega (arith, limit)) s held (same ∙ sym whole)))
 
 -- what is wrong with a text that was opened isn't that its file can't be opened
 pub input_opened : (fault : InputFault) (failure : Failure) → failure ≡ read_failure fault → failure ≢ NoBatches
 input_opened read_fault.Read failure is e = let bad : Read ≡ NoBatches = sym is ∙ e in cc
-input_opened read_fault.TooLong failure is e = let bad : TooLong ≡ NoBatches = sym is ∙ e in cc
-input_opened read_fault.OutOfMemory failure is e = let bad : NoMemory ≡ NoBatches = sym is ∙ e in cc
+input_opened fault failure is e = let bad : read_failure fault ≡ NoBatches = sym is ∙ e in cc
 
 pub dump_opened : (fault : LoadFault) (failure : Failure) → failure ≡ load_failure fault → failure ≢ NoBatches
-dump_opened (load_fault.NotADump line why) failure is e = let bad : NotADump line ≡ NoBatches = sym is ∙ e in cc
-dump_opened (load_fault.Damaged kind key) failure is e = let bad : Damaged kind key ≡ NoBatches = sym is ∙ e in cc
 dump_opened load_fault.OutOfMemory failure is e = let bad : NoMemory ≡ NoBatches = sym is ∙ e in cc
+dump_opened fault failure is e = let bad : load_failure fault ≡ NoBatches = sym is ∙ e in cc

@@ -2,7 +2,6 @@ pub mod Words
 mod Beginning
 pub mod Connections
 mod Dumps
-mod Held
 mod Making
 mod Refusals
 mod Tasks

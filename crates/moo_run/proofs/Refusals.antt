@@ -1,7 +1,10 @@
--- What is reported of a file that is refused.
-use Rattle.moo_run.{proofs.Words.{◌≡◌, inl, inr, ℕ, List, Err, true, false, true≢false, ◌∙◌, begins_anew, Option, refl, sym, subst, Ghosts, Image, Moment, IsSparedMoment, AreTreesOf, Task, Reports, Tells, store_failure, Run, RunsTask, FailsAtOnce, RefusesFile, RunsFile, Failure}, specs.declared.ends.Ends.{Ends}, proofs.Connections.{of_opening, of_refusal}, specs.Ends.{RefusedOnto}}
+-- A run over a file that is taken up, or refused.
+use Rattle.moo_run.{proofs.Words.{◌≡◌, inl, inr, ℕ, List, Err, true, false, true≢false, ◌∙◌, begins_anew, is_load, IsTrue, World, Works, Stands, store_of, over_files, only_reads, Held, file_state, RunsIn, Option, refl, sym, subst, Ghosts, Image, Moment, IsSparedMoment, AreTreesOf, Task, Reports, Tells, store_failure, Run, RunsTask, FailsAtOnce, RefusesFile, RunsFile, Failure}, specs.declared.ends.Ends.{Ends}, proofs.Connections.{of_opening, of_refusal}, specs.Ends.{RanOnto, RefusedOnto}}
 use Rattle.moo_run.specs.declared.ends.Ends.TheVariants as variant
-use Rattle.moo_files.{specs.Opened.{Contents, Nothing, Database, Unfit, Hold, Refuses}, specs.Contents.{HoldsMoment}, specs.Remains.{IsCleanRemains, KeepsSuch}, specs.declared.remains.Remains.{Remains}, proofs.OpenedLemmas.{still_holds}}
+use Rattle.sqlite_store.specs.declared.store.FileStore.{FileStore}
+use Rattle.sqlite.specs.Tree.{Trees}
+use Rattle.moo_cli.specs.declared.task.{Action.{Action}, Action.TheVariants.{Load}}
+use Rattle.moo_files.{specs.Opened.{Contents, Nothing, Database, Unfit, Hold, Opens, Refuses}, specs.Contents.{HoldsMoment}, specs.Remains.{IsCleanRemains, KeepsSuch}, specs.declared.remains.Remains.{Remains}, proofs.OpenedLemmas.{still_holds}}
 use Rattle.moo_store.{specs.OpeningRows.{IsOfStore}, specs.declared.fault.StoreFault.{StoreFault}}
 
 module _ (fault : StoreFault) where
@@ -17,11 +20,25 @@ module _ (fault : StoreFault) where
   pub refuses_file : (run : Run) → Reports (store_failure fault) run.before run.after run.status → RefusesFile run
   refuses_file run reports = (store_failure fault, of_refusal fault (store_failure fault) refl, reports)
 
+-- a task that takes up its file isn't one that begins with a new world
+pub never_anew : {A : Type 0} (task : Task) → begins_anew task ≡ false → begins_anew task ≡ true → A
+never_anew task other anew = absurd (true≢false (sym anew ∙ other))
+
+loads_anew : {A : Type 0} (task : Task) → IsTrue (is_load task.action) → begins_anew task ≡ false → A
+loads_anew {A} task = by task.action
+  where
+    by : (action : Action) → IsTrue (is_load action) → begins_anew (record task { action = action }) ≡ false → A
+    by (Load dump) loads other = absurd (true≢false other)
+    by action loads other = absurd (true≢false (sym loads))
+
 module _ {T D : Type 0} {g : Ghosts D} (task : Task) (image : Image) where
   -- what a run over a file writes, whatever the file holds
   pub runs_task : (end : Ends T D g) (run : Run) → RunsFile task image end run → RunsTask task run
   runs_task (variant.Ran conn) run it = record { anew = λ anew. let ran = it.anew anew in inr (ran.0, ran.1, ran.2.0); opened = λ other. inr (it.opened other) }
-  runs_task (variant.Refused remains) run it = record { anew = λ anew. inl (it.rests, it.anew anew); opened = λ other. inl (it.rests, it.opened other) }
+  runs_task (variant.Refused remains) run it = record {
+    anew = λ anew. inl (it.rests, it.anew anew);
+    opened = λ other. inl (it.rests, elim it.told [ inl told ↦ refuses_file told.0 run told.2 | inr dump ↦ loads_anew task dump.0 other ]);
+  }
   runs_task (variant.NoFile start) run it = absurd it
 
 -- what was said of a refusal is reported
@@ -39,6 +56,15 @@ pub still_held : {T D : Type 0} {g : Ghosts D} (image : Image) (fault : StoreFau
     → ((held : Contents) → Hold image held → IsCleanRemains rest → Refuses held image fault rest) → (m : Moment) → HoldsMoment image m → IsCleanRemains rest → KeepsSuch (λ trees. (end : Moment) × IsSparedMoment m end × AreTreesOf end trees) image rest
 still_held image fault rest it m holds = still_holds image (Err (fault, rest)) it m holds
 
--- a task that takes up its file isn't one that begins with a new world
-pub never_anew : {A : Type 0} (task : Task) → begins_anew task ≡ false → begins_anew task ≡ true → A
-never_anew task other anew = absurd (true≢false (sym anew ∙ other))
+-- what was said of opening a database is said of the run over it
+pub ran_onto : {D : Type 0} {g : Ghosts D} (task : Task) (world : World (FileStore D g)) (conn : Held (FileStore D g)) (run : Run) (held : Contents) → Opens held world
+    → ((m : Moment) → Stands over_files world (Works m) → RunsIn (file_state conn) task m run)
+    → (only_reads task.action ≡ true → (found : Trees) → (file_state conn).may_leave found → (store_of over_files world).may_leave found) → RanOnto task held conn run
+ran_onto task world conn run Nothing none runs keeps = none
+ran_onto task world conn run (Database trees) it runs keeps = record {
+  ours = it.ours;
+  sound = it.sound;
+  runs = λ m is. let opens = it.present m is in (opens.0, opens.1, runs opens.0 opens.2);
+  still = λ reads found may. it.kept found (keeps reads found may);
+}
+ran_onto task world conn run Unfit none runs keeps = none

@@ -157,7 +157,7 @@ module _ {S T D : Type 0} {g : HasRun.Ghosts S T D} {disk : Ghosts D} (r : FileR
               let begun = over.anew anew in
               let made = begun.2.1 early in
               let some : IsSome made.0.cells = rw made.1.are refl in
-              (made.0, some, subst (λ (rows : Maps). BeginsFrom task.action (run_of r).given rows) (sym made.1.same) begun.1, leads_found conn task made.0 some made.2 early found)),
+              (made.0, some, subst (λ (rows : Maps). BeginsFrom task.action (run_of r).given.text rows) (sym made.1.same) begun.1, leads_found conn task made.0 some made.2 early found)),
         ),
       )
     where
