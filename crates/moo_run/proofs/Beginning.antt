@@ -1,5 +1,5 @@
 -- The world that a task begins with.
-use Rattle.moo_run.{proofs.Words.{◌≡◌, ◌⊎◌, inl, inr, ℕ, Bool, List, Option, Some, IfSome, codes, refl, sym, ap, subst, subst₂, HasCleanDisk, Place, Done, StopsTask, Reports, ◌<◌, ◌^◌, true, false, ◌||◌, bytes_eq, true≢false, cases_Bool, Maps, opening_maps, IsGood, state_of, Ghosts, Image, IsHeld, Moment, rows_alone, LeavesAsMade, Task, Given, Run, makes_world, begins_anew, is_load, dump_word, is_input, reads_input, ReadsFile, BeginsFrom, BeginsWith, RunsFrom, RunsIn, RunsMade, FailsAtOnce, RefusesDump, FailsToBegin, Failure}, specs.Run.{RefusesTask, TellsLack}}
+use Rattle.moo_run.{proofs.Words.{◌≡◌, ◌⊎◌, inl, inr, ℕ, Bool, List, Option, Some, IfSome, codes, refl, sym, ap, subst, subst₂, HasCleanDisk, Place, Done, StopsTask, Reports, ◌<◌, ◌^◌, true, false, ◌||◌, bytes_eq, true≢false, cases_Bool, Maps, opening_maps, IsGood, state_of, IsHeld, Moment, rows_alone, Task, Given, Run, makes_world, begins_anew, is_load, dump_word, is_input, reads_input, ReadsFile, BeginsWith, RunsFrom, RunsMade, FailsAtOnce, RefusesDump, FailsToBegin, Failure}, specs.Run.{RefusesTask, TellsLack}}
 use Rattle.sqlite.specs.State.{State as Database}
 use Rattle.moo_dump.specs.Dump.{dump as dump_of}
 use Rattle.moo_load.specs.RowsOf.{AreRowsOf}

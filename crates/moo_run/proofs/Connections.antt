@@ -1,5 +1,5 @@
 -- A task over a connection.
-use Rattle.moo_run.{proofs.Words.{◌≡◌, ◌⊎◌, inl, inr, ℕ, ◌<◌, List, Option, Result, Ok, Err, OnOk, arith, sym, ap, subst, subst₂, ◌∙◌, false, MatchResult, HasCleanDisk, Held, state, Task, Maps, Moment, Place, Works, rows_alone, Stands, IsMadeOf, Failure, Reports, store_failure, Given, Run, Done, StopsTask, EndsTask, RunsAction, RunsIn, RunsMade, RunsFrom, RunsUnseen, IsOpening, MayRefuse, serves, World, store_of}}
+use Rattle.moo_run.{proofs.Words.{◌≡◌, ◌⊎◌, inl, inr, ℕ, ◌<◌, List, Option, Result, Ok, Err, OnOk, arith, sym, ap, subst, subst₂, ◌∙◌, false, MatchResult, HasCleanDisk, Held, state, Task, Maps, Moment, Place, Works, rows_alone, Stands, IsMadeOf, Failure, Reports, store_failure, Given, Run, StopsTask, RunsAction, RunsIn, RunsMade, RunsFrom, RunsUnseen, IsOpening, MayRefuse, serves, World, store_of}}
 use Rattle.sqlite.{specs.State.{State as Database}, specs.Store.{Ghosts}, specs.declared.error.Error.{Error}}
 use Rattle.moo_cli.{specs.declared.task.Action.{Action}, specs.declared.task.Action.TheVariants.{Init, Check}}
 use Rattle.moo_run_lines.specs.Lines.{WritesLine}

@@ -1,5 +1,5 @@
 -- Why a dump gives no world.
-use Rattle.moo_run.proofs.Words.{◌≡◌, ◌≢◌, ◌<◌, ◌≤◌, ℕ, List, length, Option, Some, None, IfSome, refl, sym, subst, ◌∙◌, arith, State, IsHeld, read_failure, load_failure, RefusesDump, Failure, NoBatches, NoMemory, Read, TooLong, NotADump, Damaged}
+use Rattle.moo_run.proofs.Words.{◌≡◌, ◌≢◌, ◌<◌, ◌≤◌, ℕ, List, length, Option, Some, None, IfSome, refl, sym, subst, ◌∙◌, arith, State, IsHeld, read_failure, load_failure, RefusesDump, Failure, NoBatches, NoMemory, Read}
 use Rattle.moo_text.specs.declared.lines.TheConstants.{LONGEST_TEXT}
 use Rattle.moo_dump.specs.Dump.{dump as dump_of}
 use Rattle.moo_load.{specs.declared.input.InputFault.{InputFault}, specs.declared.fault.LoadFault.{LoadFault}}

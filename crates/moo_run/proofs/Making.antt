@@ -1,5 +1,5 @@
 -- A run over files in which a world is made.
-use Rattle.moo_run.{proofs.Words.{◌≡◌, ◌⊎◌, inl, inr, true, false, IsTrue, refl, sym, ◌∙◌, true≢false, HasCleanDisk, Held, file_state, over_files, store_of, Image, Ghosts, Maps, World, LeavesAsMade, Task, Run, Failure, Reports, store_failure, begins_anew, is_load, BeginsFrom, RunsMade, RanOver, RefusedOver}, specs.Run.{RefusesTask}, specs.Ends.{LeavesNew}, proofs.Beginning.{fails_to_begin}, proofs.Refusals.{fails_at_once, never_anew}}
+use Rattle.moo_run.{proofs.Words.{◌≡◌, ◌⊎◌, inl, inr, true, IsTrue, refl, HasCleanDisk, Held, file_state, over_files, store_of, Image, Ghosts, Maps, World, LeavesAsMade, Task, Run, Failure, Reports, store_failure, begins_anew, is_load, BeginsFrom, RunsMade, RanOver, RefusedOver}, specs.Run.{RefusesTask}, specs.Ends.{LeavesNew}, proofs.Beginning.{fails_to_begin}, proofs.Refusals.{fails_at_once, never_anew}}
 use Rattle.sqlite_store.specs.declared.store.FileStore.{FileStore}
 use Rattle.sqlite.specs.Tree.{Trees}
 use Rattle.moo_store.specs.declared.fault.StoreFault.{StoreFault}

@@ -1,4 +1,4 @@
-use Rattle.moo_run.{proofs.Words.{refl, sym, ap, codes, true≢false, line_of, loaded_line}, proofs.Tasks.{says}}
+use Rattle.moo_run.{proofs.Words.{codes, line_of, loaded_line}, proofs.Tasks.{says}}
 use Rattle.moo_dump.specs.Dump.{dump as dump_of}
 use Rattle.moo_run.proofs.commands.do_task.Goals as goal
 

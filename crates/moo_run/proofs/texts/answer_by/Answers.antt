@@ -1,4 +1,4 @@
-use Rattle.moo_run.{proofs.Words.{sym, subst, state, store_of, LeavesNothingNew, true≢false, Works}, proofs.Tasks.{moved, failed_there, unchanged}}
+use Rattle.moo_run.{proofs.Words.{sym, subst, state, store_of, LeavesNothingNew, Works}, proofs.Tasks.{moved, failed_there, unchanged}}
 use Rattle.moo_http.proofs.Leading.{leads_start, text_leads_to}
 use Rattle.moo_run.proofs.texts.answer_by.Goals as goal
 
