@@ -1,33 +1,25 @@
 -- The world that a task begins with.
-use Rattle.moo_run.{proofs.Words.{◌≡◌, ◌⊎◌, inl, inr, ℕ, Bool, List, Option, Some, IfSome, codes, refl, sym, ap, subst, subst₂, HasCleanDisk, Place, Done, StopsTask, Reports, ◌<◌, ◌^◌, true, false, ◌||◌, bytes_eq, true≢false, cases_Bool, Maps, opening_maps, IsGood, state_of, IsHeld, Moment, rows_alone, Task, Given, Run, makes_world, begins_anew, is_load, dump_word, is_input, reads_input, ReadsFile, BeginsWith, RunsFrom, RunsMade, FailsAtOnce, RefusesDump, FailsToBegin, Failure}, specs.Run.{RefusesTask, TellsLack}}
+use Rattle.moo_run.{proofs.Words.{◌≡◌, ◌⊎◌, inl, inr, ℕ, List, Option, Some, IfSome, codes, refl, sym, ap, subst, subst₂, HasCleanDisk, Place, Done, StopsTask, Reports, ◌<◌, true, false, bytes_eq, true≢false, cases_Bool, Maps, opening_maps, state_of, IsHeld, Moment, rows_alone, Task, Given, Run, begins_anew, is_load, dump_word, is_input, reads_input, ReadsFile, BeginsWith, RunsFrom, RunsMade, RefusesDump, Failure, ◌≢◌, ◌≤◌, length, None, ◌∙◌, arith, State, read_failure, load_failure, NoBatches, NoMemory, Read}}
 use Rattle.sqlite.specs.State.{State as Database}
 use Rattle.moo_dump.specs.Dump.{dump as dump_of}
 use Rattle.moo_load.specs.RowsOf.{AreRowsOf}
 use Rattle.moo_cli.{specs.declared.task.Action.{Action}, specs.declared.task.Action.TheVariants.{Load}, specs.Tasks.{text_word}}
+use Rattle.moo_text.specs.declared.lines.TheConstants.{LONGEST_TEXT}
+use Rattle.moo_load.{specs.declared.input.InputFault.{InputFault}, specs.declared.fault.LoadFault.{LoadFault}}
+use Rattle.moo_load.specs.declared.input.InputFault.TheVariants as read_fault
+use Rattle.moo_load.specs.declared.fault.LoadFault.TheVariants as load_fault
 
 pub begins_opening : (action : Action) (text : List ℕ → Option (List ℕ)) → is_load action ≡ false → BeginsWith action text opening_maps
 begins_opening (Load dump) text other = absurd (true≢false other)
 begins_opening action text other = refl
 
--- good rows after fewer than 2^63 batches show a well formed state
-pub held_rows : (rows : Maps) → IsGood rows → rows.head.seq < 2 ^ 63 → IsHeld (state_of rows)
-held_rows rows good limit = record { formed = record { world = good.formed; petitions = good.petitions }; limit = limit }
-
 pub begins_dumped : (action : Action) (text : List ℕ → Option (List ℕ)) (dump : List ℕ) (rows : Maps) → is_load action ≡ true → dump_word action ≡ dump → IfSome (text dump) (λ bytes. dump_of (state_of rows) ≡ bytes) → IsHeld (state_of rows) → AreRowsOf (state_of rows) rows → BeginsWith action text rows
 begins_dumped (Load word) text dump rows loads is it held numbered = (subst (λ w. IfSome (text w) (λ bytes. dump_of (state_of rows) ≡ bytes)) (sym is) it, held, numbered)
 begins_dumped action text dump rows loads is it held numbered = absurd (true≢false (sym loads))
 
--- why its dump gives no world
-pub refuses_dump : (action : Action) (given : Given) (dump : List ℕ) (failure : Failure) → dump_word action ≡ dump → RefusesDump (given.text dump) failure → TellsLack given.lacks dump failure → RefusesTask given action failure
-refuses_dump action given dump failure is it lack = subst (λ word. RefusesDump (given.text word) failure × TellsLack given.lacks word failure) (sym is) (it, lack)
-
 -- a task on `:memory:` begins with a new world
-or_true : (a b : Bool) → b ≡ true → (a || b) ≡ true
-or_true true b is = refl
-or_true false b is = is
-
 pub memory_begins : (task : Task) → bytes_eq task.file.now (codes ":memory:") ≡ true → begins_anew task ≡ true
-memory_begins task is = or_true (makes_world task.action) (bytes_eq task.file.now (codes ":memory:")) is
+memory_begins task is = grind arith
 
 -- what it reads besides its file is the word for its dump
 load_reads : (action : Action) (dump : List ℕ) → is_load action ≡ true → dump_word action ≡ dump → text_word action ≡ Some dump
@@ -72,5 +64,36 @@ made_since given contents store task rows was now old host last before mid new s
       | inr none ↦ subst (λ input. RunsMade store task rows (record { given = given input old last; before = contents before; after = new; status = status })) (other none) here
     ]
 
-pub fails_to_begin : (task : Task) (run : Run) → FailsAtOnce run → FailsToBegin task run
-fails_to_begin task run (failure, opening, reports) = (failure, inl opening, reports)
+-- ---- why a dump gives no world
+
+-- what is said of any text
+of_any : (text : Option (List ℕ)) (P : List ℕ → Type 0) → ((bytes : List ℕ) → P bytes) → IfSome text P
+of_any None P each = tt
+of_any (Some bytes) P each = each bytes
+
+pub no_file : (text : Option (List ℕ)) → RefusesDump text NoBatches
+no_file text = (tt, of_any text _ (λ bytes s held same short. tt))
+
+-- its text can't be read
+pub unread : (text : Option (List ℕ)) (fault : InputFault) (failure : Failure) → failure ≡ read_failure fault → (fault ≡ read_fault.TooLong → IfSome text (λ bytes. LONGEST_TEXT < length bytes)) → RefusesDump text failure
+unread text read_fault.Read failure is long = subst (RefusesDump text) (sym is) (tt, of_any text _ (λ bytes s held same short. tt))
+unread text read_fault.OutOfMemory failure is long = subst (RefusesDump text) (sym is) (tt, of_any text _ (λ bytes s held same short. tt))
+unread None read_fault.TooLong failure is long = subst (RefusesDump None) (sym is) (tt, tt)
+unread (Some bytes) read_fault.TooLong failure is long = subst (RefusesDump (Some bytes)) (sym is) (tt, λ s held same short. absurd (omega (arith, long refl, short)))
+
+module _ (bytes : List ℕ) (limit : length bytes ≤ LONGEST_TEXT) where
+  -- its text is no dump
+  pub no_dump : (text : Option (List ℕ)) (fault : LoadFault) (failure : Failure) → failure ≡ load_failure fault → IfSome text (λ all. bytes ≡ all)
+      → (fault ≢ load_fault.OutOfMemory → length bytes < 4294967295 → (s : State) → IsHeld s → dump_of s ≢ bytes) → RefusesDump text failure
+  no_dump text load_fault.OutOfMemory failure is whole complete = subst (RefusesDump text) (sym is) (tt, of_any text _ (λ all s held same short. tt))
+  no_dump None fault failure is whole complete = subst (RefusesDump None) (sym is) (tt, tt)
+  no_dump (Some all) fault failure is whole complete = subst (RefusesDump (Some all)) (sym is) (tt, λ s held same short. absurd (complete (λ e. cc) (omega (arith, limit)) s held (same ∙ sym whole)))
+
+-- what is wrong with a text that was opened isn't that its file can't be opened
+pub input_opened : (fault : InputFault) (failure : Failure) → failure ≡ read_failure fault → failure ≢ NoBatches
+input_opened read_fault.Read failure is e = let bad : Read ≡ NoBatches = sym is ∙ e in cc
+input_opened fault failure is e = let bad : read_failure fault ≡ NoBatches = sym is ∙ e in cc
+
+pub dump_opened : (fault : LoadFault) (failure : Failure) → failure ≡ load_failure fault → failure ≢ NoBatches
+dump_opened load_fault.OutOfMemory failure is e = let bad : NoMemory ≡ NoBatches = sym is ∙ e in cc
+dump_opened fault failure is e = let bad : load_failure fault ≡ NoBatches = sym is ∙ e in cc

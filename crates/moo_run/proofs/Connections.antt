@@ -12,21 +12,15 @@ pub of_making : {A : Type 0} {Q : Error → Type 0} (fault : StoreFault) (failur
 of_making fault failure of (inl (is, _)) = subst IsOpening (sym (of ∙ ap store_failure is)) tt
 of_making fault failure of (inr (error, is, cause)) = subst IsOpening (sym (of ∙ ap store_failure is)) tt
 
-of_store : (fault : StoreFault) → IsOfStore fault → IsOpening (store_failure fault)
+pub of_store : (fault : StoreFault) → IsOfStore fault → IsOpening (store_failure fault)
 of_store (store_fault.Store error) it = tt
 of_store store_fault.OutOfMemory it = tt
 of_store fault it = absurd it
 
-pub of_opening : (fault : StoreFault) (failure : Failure) → failure ≡ store_failure fault → IsOfStore fault → IsOpening failure
-of_opening fault failure of it = subst IsOpening (sym of) (of_store fault it)
-
 -- any fault of opening is a refusal
-each_refusal : (fault : StoreFault) → MayRefuse (store_failure fault)
+pub each_refusal : (fault : StoreFault) → MayRefuse (store_failure fault)
 each_refusal (store_fault.Store error) = tt
 each_refusal fault = tt
-
-pub of_refusal : (fault : StoreFault) (failure : Failure) → failure ≡ store_failure fault → MayRefuse failure
-of_refusal fault failure of = subst MayRefuse (sym of) (each_refusal fault)
 
 -- what stops a task says nothing of a status
 stops_as : (action : Action) (m : Moment) (end : Place) (failure : Failure) (Clean : Type 0) (run : Run) (other : ℕ) → StopsTask action m end failure Clean run → StopsTask action m end failure Clean (record run { status = other })

@@ -1,5 +1,6 @@
-use Rattle.moo_run.{proofs.Words.{inl, refl, image_at, rows_alone, Run, given_to}, proofs.Connections.{unseen}, proofs.Refusals.{ran_onto, tells_fault, refused_onto, still_held, never_anew}}
+use Rattle.moo_run.{proofs.Words.{Err, inl, refl, image_at, rows_alone, Run, given_to}, proofs.Connections.{unseen}, proofs.OverFiles.{ran_onto, tells_fault, refused_onto, never_anew}}
 use Rattle.moo_run.proofs.files.run_found.Goals as goal
+use Rattle.moo_files.proofs.OpenedLemmas.{still_holds}
 
 pub returns-in-Ok-clause-runs : goal.returns-in-Ok-clause-runs
 returns-in-Ok-clause-runs g c =
@@ -26,7 +27,7 @@ returns-in-Err-clause-runs g c =
       anew = λ anew. never_anew c.args.task c.requires.other anew;
       unfit = λ anew. never_anew c.args.task c.requires.other anew;
       over = λ other held holds clean. refused_onto (image_at g.S.File.Start) fault c.in-Err.remains run held (c.in-Err.ensures.refuses held holds clean) reports;
-      left = still_held (image_at g.S.File.Start) fault c.in-Err.remains c.in-Err.ensures.refuses;
+      left = still_holds (image_at g.S.File.Start) (Err (fault, c.in-Err.remains)) c.in-Err.ensures.refuses;
       spared = λ trees anew. never_anew c.args.task c.requires.other anew;
       unmade = λ trees anew. never_anew c.args.task c.requires.other anew;
       spares = λ some whole. c.in-Err.ensures.refused.spared some;

@@ -1,4 +1,4 @@
-use Rattle.moo_run.{proofs.Words.{inl, subst, ◌∙◌, file_state, over_files, image_at, given_to, Reports, Run}, proofs.Beginning.{made_since, reads_on}, proofs.Connections.{runs_made}, proofs.Refusals.{tells_fault}, proofs.Making.{made_over, unmade_over, ungiven_over}}
+use Rattle.moo_run.{proofs.Words.{inl, subst, ◌∙◌, file_state, over_files, image_at, given_to, Reports, Run}, proofs.Beginning.{made_since, reads_on}, proofs.Connections.{runs_made}, proofs.OverFiles.{tells_fault, made_over, unmade_over, ungiven_over}}
 use Rattle.moo_files.{specs.Causes.{HasCauseOr, IsDenied, IsOpenable}, specs.Making.{rows_made, StopsMaking}, specs.Remains.{IsCleanRemains}, proofs.MakingLemmas.{occupied_never}}
 use Rattle.moo_run.proofs.files.run_made.Goals as goal
 

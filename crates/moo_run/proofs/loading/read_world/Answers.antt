@@ -1,4 +1,4 @@
-use Rattle.moo_run.{proofs.Words.{refl, sym, ◌∙◌, RefusesDump}, proofs.Dumps.{no_file}, proofs.Tasks.{never_lacks}}
+use Rattle.moo_run.{proofs.Words.{refl, sym, ◌∙◌, RefusesDump}, proofs.Beginning.{no_file}, proofs.Tasks.{never_lacks}}
 use Rattle.moo_run.proofs.loading.read_world.Goals as goal
 
 pub returns-then-eq-clause-failure : goal.returns-then-eq-clause-failure
