@@ -22,12 +22,9 @@ pub memory_begins : (task : Task) → bytes_eq task.file.now (codes ":memory:") 
 memory_begins task is = grind arith
 
 -- what it reads besides its file is the word for its dump
-load_reads : (action : Action) (dump : List ℕ) → is_load action ≡ true → dump_word action ≡ dump → text_word action ≡ Some dump
+pub load_reads : (action : Action) (dump : List ℕ) → is_load action ≡ true → dump_word action ≡ dump → text_word action ≡ Some dump
 load_reads (Load word) dump loads is = ap Some is
 load_reads action dump loads is = absurd (true≢false (sym loads))
-
-pub reads_dump : (task : Task) (dump : List ℕ) → is_load task.action ≡ true → dump_word task.action ≡ dump → bytes_eq dump (codes "-") ≡ false → ReadsFile task dump
-reads_dump task dump loads is other = (load_reads task.action dump loads is, other)
 
 -- its files may be read of a host that is as it was
 pub reads_on : {H : Type 0} (may : H → List ℕ → Type 0) (old new : H) → new ≡ old → (task : Task) → ((path : List ℕ) → ReadsFile task path → may old path) → (path : List ℕ) → ReadsFile task path → may new path

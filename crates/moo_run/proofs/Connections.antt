@@ -1,7 +1,7 @@
 -- A task over a connection.
 use Rattle.moo_run.{proofs.Words.{◌≡◌, ◌⊎◌, inl, inr, ℕ, ◌<◌, List, Option, Result, Ok, Err, OnOk, arith, sym, ap, subst, subst₂, ◌∙◌, false, MatchResult, HasCleanDisk, Held, state, Task, Maps, Moment, Place, Works, rows_alone, Stands, IsMadeOf, Failure, Reports, store_failure, Given, Run, StopsTask, RunsAction, RunsIn, RunsMade, RunsFrom, RunsUnseen, IsOpening, MayRefuse, serves, World, store_of}}
 use Rattle.sqlite.{specs.State.{State as Database}, specs.Store.{Ghosts}, specs.declared.error.Error.{Error}}
-use Rattle.moo_cli.{specs.declared.task.Action.{Action}, specs.declared.task.Action.TheVariants.{Init, Check}}
+use Rattle.moo_cli.{specs.declared.task.Action.{Action}, specs.declared.task.Action.TheVariants.{Check}}
 use Rattle.moo_run_lines.specs.Lines.{WritesLine}
 use Rattle.moo_run_lines.specs.declared.failure.Failure.TheVariants as failed
 use Rattle.moo_store.{specs.declared.fault.StoreFault.{StoreFault}, specs.OpeningRows.{IsOfStore}}
@@ -22,10 +22,11 @@ pub each_refusal : (fault : StoreFault) → MayRefuse (store_failure fault)
 each_refusal (store_fault.Store error) = tt
 each_refusal fault = tt
 
--- what stops a task says nothing of a status
-stops_as : (action : Action) (m : Moment) (end : Place) (failure : Failure) (Clean : Type 0) (run : Run) (other : ℕ) → StopsTask action m end failure Clean run → StopsTask action m end failure Clean (record run { status = other })
-stops_as Init m end failure Clean run other it = it
-stops_as action m end failure Clean run other it = it
+-- what stops a task says nothing of a status, and what is known if less is known of the disk
+stops_when : (action : Action) (m : Moment) (end : Place) (failure : Failure) (Clean More : Type 0) → (More → Clean) → (run : Run) (other : ℕ) → StopsTask action m end failure Clean run → StopsTask action m end failure More (record run { status = other })
+stops_when Check m end failure Clean More on run other (just, inl (fault, is, of_store, same)) = (just, inl (fault, is, (λ some more. of_store some (on more)), same))
+stops_when Check m end failure Clean More on run other (just, inr front) = (just, inr front)
+stops_when action m end failure Clean More on run other it = it
 
 module _ {S : Type 0} (g : Ghosts S) (was world : World S) (conn : Held S) (is : conn ≡ world.connection) (task : Task) (m : Moment) (given : Given) (old : Option (List ℕ)) where
   -- its run
@@ -45,7 +46,7 @@ module _ {S : Type 0} (g : Ghosts S) (was world : World S) (conn : Held S) (is :
       good = it.stands.good;
       leads = it.leads;
       rests = rests;
-      writes = inr (failure, mid, stops_as task.action m it.end failure (HasCleanDisk (store_of g world)) (Wrote mid first) status it.ends, reports);
+      writes = inr (failure, mid, stops_when task.action m it.end failure (HasCleanDisk (store_of g world)) (HasCleanDisk (store_of g world)) (λ clean. clean) (Wrote mid first) status it.ends, reports);
     },
     it.stands.crash,
   )
@@ -75,12 +76,6 @@ done_if_none P (Err failure) mid new status it reports none = absurd (reports_so
 
 -- ---- less is known
 
--- what is known if less is known of the disk
-stops_when : (action : Action) (m : Moment) (end : Place) (failure : Failure) (Clean More : Type 0) → (More → Clean) → (run : Run) → StopsTask action m end failure Clean run → StopsTask action m end failure More run
-stops_when Check m end failure Clean More on run (just, inl (fault, is, of_store, same)) = (just, inl (fault, is, (λ some more. of_store some (on more)), same))
-stops_when Check m end failure Clean More on run (just, inr front) = (just, inr front)
-stops_when action m end failure Clean More on run it = it
-
 pub unseen : (task : Task) (m : Moment) (run : Run) (Clean : Type 0) → RunsFrom task m run Clean → RunsUnseen task m run
 unseen task m run Clean it = record {
   end = it.end;
@@ -89,7 +84,7 @@ unseen task m run Clean it = record {
   rests = it.rests;
   writes = elim it.writes [
     | inl done ↦ inl done
-    | inr stops ↦ inr (stops.0, stops.1, stops_when task.action m it.end stops.0 Clean ⊥ (λ none. absurd none) (record run { after = stops.1 }) stops.2, stops.3)
+    | inr stops ↦ inr (stops.0, stops.1, stops_when task.action m it.end stops.0 Clean ⊥ (λ none. absurd none) (record run { after = stops.1 }) run.status stops.2, stops.3)
   ];
 }
 

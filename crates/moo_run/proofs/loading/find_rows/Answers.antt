@@ -1,9 +1,9 @@
-use Rattle.moo_run.{proofs.Words.{true≢false, ◌∙◌, sym}, proofs.Beginning.{begins_opening, begins_dumped, reads_dump, keeps_input}}
+use Rattle.moo_run.{proofs.Words.{true≢false, ◌∙◌, sym}, proofs.Beginning.{begins_opening, begins_dumped, load_reads, keeps_input}}
 use Rattle.moo_run.proofs.loading.find_rows.Goals as goal
 use Rattle.moo_world.proofs.Shown.OpeningRows.{opening-good}
 
 pub read_world-requires : goal.read_world-requires
-read_world-requires g c = record { read = λ other. c.requires.read c.in-Some.dump.now (reads_dump c.args.task c.in-Some.dump.now c.in-Some.ensures.0 c.in-Some.ensures.1 other) }
+read_world-requires g c = record { read = λ other. c.requires.read c.in-Some.dump.now (load_reads c.args.task.action c.in-Some.dump.now c.in-Some.ensures.0 c.in-Some.ensures.1, other) }
 
 pub returns-in_default-clause-finds : goal.returns-in_default-clause-finds
 returns-in_default-clause-finds g c = record { good = opening-good; world = begins_opening c.args.task.action _ c.in_default.ensures }
