@@ -1,7 +1,7 @@
 -- A task over a connection.
-use Rattle.moo_run.{proofs.Words.{◌≡◌, ◌⊎◌, inl, inr, ℕ, ◌<◌, List, Option, Result, Ok, Err, OnOk, arith, sym, ap, subst, subst₂, ◌∙◌, false, MatchResult, HasCleanDisk, Held, state, Task, Maps, Moment, Place, Works, rows_alone, Stands, IsMadeOf, Failure, Reports, store_failure, Given, Run, Done, StopsTask, EndsTask, RunsAction, RunsIn, RunsMade, RunsFrom, RunsUnseen, IsOpening, MayRefuse, serves, World, store_of}}
+use Rattle.moo_run.{proofs.Words.{◌≡◌, ◌⊎◌, inl, inr, ℕ, ◌<◌, List, Option, Result, Ok, Err, OnOk, arith, sym, ap, subst, subst₂, ◌∙◌, false, MatchResult, HasCleanDisk, Held, state, Task, Maps, Moment, Place, Works, rows_alone, Stands, IsMadeOf, Failure, Reports, store_failure, Given, Run, StopsTask, RunsAction, RunsIn, RunsMade, RunsFrom, RunsUnseen, IsOpening, MayRefuse, serves, World, store_of}}
 use Rattle.sqlite.{specs.State.{State as Database}, specs.Store.{Ghosts}, specs.declared.error.Error.{Error}}
-use Rattle.moo_cli.{specs.declared.task.Action.{Action}, specs.declared.task.Action.TheVariants.{Init, Apply, Rehearse, Ask, Dump, Load, Check, Serve}}
+use Rattle.moo_cli.{specs.declared.task.Action.{Action}, specs.declared.task.Action.TheVariants.{Check}}
 use Rattle.moo_run_lines.specs.Lines.{WritesLine}
 use Rattle.moo_run_lines.specs.declared.failure.Failure.TheVariants as failed
 use Rattle.moo_store.{specs.declared.fault.StoreFault.{StoreFault}, specs.OpeningRows.{IsOfStore}}
@@ -12,37 +12,21 @@ pub of_making : {A : Type 0} {Q : Error → Type 0} (fault : StoreFault) (failur
 of_making fault failure of (inl (is, _)) = subst IsOpening (sym (of ∙ ap store_failure is)) tt
 of_making fault failure of (inr (error, is, cause)) = subst IsOpening (sym (of ∙ ap store_failure is)) tt
 
-of_store : (fault : StoreFault) → IsOfStore fault → IsOpening (store_failure fault)
+pub of_store : (fault : StoreFault) → IsOfStore fault → IsOpening (store_failure fault)
 of_store (store_fault.Store error) it = tt
-of_store (store_fault.Damaged kind key) it = absurd it
-of_store store_fault.NewerVersion it = absurd it
 of_store store_fault.OutOfMemory it = tt
-of_store store_fault.Closed it = absurd it
-
-pub of_opening : (fault : StoreFault) (failure : Failure) → failure ≡ store_failure fault → IsOfStore fault → IsOpening failure
-of_opening fault failure of it = subst IsOpening (sym of) (of_store fault it)
+of_store fault it = absurd it
 
 -- any fault of opening is a refusal
-each_refusal : (fault : StoreFault) → MayRefuse (store_failure fault)
+pub each_refusal : (fault : StoreFault) → MayRefuse (store_failure fault)
 each_refusal (store_fault.Store error) = tt
-each_refusal (store_fault.Damaged kind key) = tt
-each_refusal store_fault.NewerVersion = tt
-each_refusal store_fault.OutOfMemory = tt
-each_refusal store_fault.Closed = tt
+each_refusal fault = tt
 
-pub of_refusal : (fault : StoreFault) (failure : Failure) → failure ≡ store_failure fault → MayRefuse failure
-of_refusal fault failure of = subst MayRefuse (sym of) (each_refusal fault)
-
--- what stops a task says nothing of a status
-stops_as : (action : Action) (m : Moment) (end : Place) (failure : Failure) (Clean : Type 0) (run : Run) (other : ℕ) → StopsTask action m end failure Clean run → StopsTask action m end failure Clean (record run { status = other })
-stops_as Init m end failure Clean run other it = it
-stops_as (Apply texts) m end failure Clean run other it = it
-stops_as (Rehearse texts) m end failure Clean run other it = it
-stops_as (Ask texts) m end failure Clean run other it = it
-stops_as Dump m end failure Clean run other it = it
-stops_as (Load dump) m end failure Clean run other it = it
-stops_as Check m end failure Clean run other it = it
-stops_as (Serve service) m end failure Clean run other it = it
+-- what stops a task says nothing of a status, and what is known if less is known of the disk
+stops_when : (action : Action) (m : Moment) (end : Place) (failure : Failure) (Clean More : Type 0) → (More → Clean) → (run : Run) (other : ℕ) → StopsTask action m end failure Clean run → StopsTask action m end failure More (record run { status = other })
+stops_when Check m end failure Clean More on run other (just, inl (fault, is, of_store, same)) = (just, inl (fault, is, (λ some more. of_store some (on more)), same))
+stops_when Check m end failure Clean More on run other (just, inr front) = (just, inr front)
+stops_when action m end failure Clean More on run other it = it
 
 module _ {S : Type 0} (g : Ghosts S) (was world : World S) (conn : Held S) (is : conn ≡ world.connection) (task : Task) (m : Moment) (given : Given) (old : Option (List ℕ)) where
   -- its run
@@ -52,40 +36,24 @@ module _ {S : Type 0} (g : Ghosts S) (was world : World S) (conn : Held S) (is :
   abbrev pub RunsTo : Option (List ℕ) → ℕ → Type 0
   RunsTo new status = RunsIn (state g conn) task m (Wrote new status)
 
-  pub late_clean : (End : Place → Type 0) → EndsTask g was world m End → HasCleanDisk (state g conn) → HasCleanDisk (store_of g was)
-  late_clean End it clean = it.clean (subst (λ h. HasCleanDisk (state g h)) is clean)
-
-  abbrev pub IsDone : Option (List ℕ) → ℕ → Place → Type 0
-  IsDone new status end = Done task.action m end (Wrote new status)
-
-  abbrev pub IsStopped : Option (List ℕ) → ℕ → Failure → Place → Type 0
-  IsStopped new status failure end = StopsTask task.action m end failure (HasCleanDisk (store_of g world)) (Wrote new status)
-
-  pub runs_done : (new : Option (List ℕ)) (status : ℕ) → (serves task.action ≡ false → given.ports.rests) → EndsTask g was world m (IsDone new status) → RunsTo new status
-  runs_done new status rests it = subst (λ h. RunsIn (state g h) task m (Wrote new status)) (sym is) (record { end = it.end; good = it.stands.good; leads = it.leads; rests = rests; writes = inl it.ends }, it.stands.crash)
-
-  pub runs_stops : (between new : Option (List ℕ)) (failure : Failure) (first status : ℕ) → (serves task.action ≡ false → given.ports.rests) → EndsTask g was world m (IsStopped between first failure) → Reports failure between new status
-      → RunsTo new status
-  runs_stops between new failure first status rests it reports = subst (λ h. RunsIn (state g h) task m (Wrote new status)) (sym is) (
+  -- after the task of this run the status was that of what was done, or its failure was reported
+  pub runs_to : (r : Result ℕ Failure) (mid new : Option (List ℕ)) (first status : ℕ) → (serves task.action ≡ false → given.ports.rests) → RunsAction g was world task.action m (Wrote mid first) r
+      → MatchResult r (λ value. (status ≡ value) × (new ≡ mid)) (λ failure. Reports failure mid new status) → RunsTo new status
+  runs_to (Ok value) mid new first status rests it (same, unwritten) = subst₂ RunsTo (sym unwritten) (sym same) (subst (λ h. RunsIn (state g h) task m (Wrote mid value)) (sym is) (record { end = it.end; good = it.stands.good; leads = it.leads; rests = rests; writes = inl it.ends }, it.stands.crash))
+  runs_to (Err failure) mid new first status rests it reports = subst (λ h. RunsIn (state g h) task m (Wrote new status)) (sym is) (
     record {
       end = it.end;
       good = it.stands.good;
       leads = it.leads;
       rests = rests;
-      writes = inr (failure, between, stops_as task.action m it.end failure (HasCleanDisk (store_of g world)) (Wrote between first) status it.ends, reports);
+      writes = inr (failure, mid, stops_when task.action m it.end failure (HasCleanDisk (store_of g world)) (HasCleanDisk (store_of g world)) (λ clean. clean) (Wrote mid first) status it.ends, reports);
     },
     it.stands.crash,
   )
 
-  -- after the task of this run the status was that of what was done, or its failure was reported
-  pub runs_to : (r : Result ℕ Failure) (mid new : Option (List ℕ)) (first status : ℕ) → (serves task.action ≡ false → given.ports.rests) → RunsAction g was world task.action m (Wrote mid first) r
-      → MatchResult r (λ value. (status ≡ value) × (new ≡ mid)) (λ failure. Reports failure mid new status) → RunsTo new status
-  runs_to (Ok value) mid new first status rests ends (same, unwritten) = subst₂ RunsTo (sym unwritten) (sym same) (runs_done mid value rests ends)
-  runs_to (Err failure) mid new first status rests ends reports = runs_stops mid new failure first status rests ends reports
-
   pub late_clean_of : (r : Result ℕ Failure) (mid : Option (List ℕ)) (first : ℕ) → RunsAction g was world task.action m (Wrote mid first) r → HasCleanDisk (state g conn) → HasCleanDisk (store_of g was)
-  late_clean_of (Ok value) mid first ends = late_clean (IsDone mid value) ends
-  late_clean_of (Err failure) mid first ends = late_clean (IsStopped mid first failure) ends
+  late_clean_of (Ok value) mid first it clean = it.clean (subst (λ h. HasCleanDisk (state g h)) is clean)
+  late_clean_of (Err failure) mid first it clean = it.clean (subst (λ h. HasCleanDisk (state g h)) is clean)
 
 -- ---- a status of 0
 
@@ -95,20 +63,11 @@ wrote_some line known old new status some (inr it) none = omega (arith, it.2, no
 
 -- no failure has it
 reports_some : (failure : Failure) (old new : Option (List ℕ)) (status : ℕ) → Reports failure old new status → status ≡ 0 → ⊥
-reports_some failed.Usage old new status it none = wrote_some _ _ old new status (omega arith) it none
-reports_some failed.NoFile old new status it none = wrote_some _ _ old new status (omega arith) it none
-reports_some (failed.Store error) old new status it none = wrote_some _ _ old new status (omega arith) it none
 reports_some (failed.Damaged kind key) old new status (inl it) none = wrote_some _ _ old new status (omega arith) it none
 reports_some (failed.Damaged kind key) old new status (inr it) none = wrote_some _ _ old new status (omega arith) it none
-reports_some failed.NewerVersion old new status it none = wrote_some _ _ old new status (omega arith) it none
 reports_some (failed.NotADump line) old new status (inl it) none = wrote_some _ _ old new status (omega arith) it none
 reports_some (failed.NotADump line) old new status (inr it) none = wrote_some _ _ old new status (omega arith) it none
-reports_some failed.NoBatches old new status it none = wrote_some _ _ old new status (omega arith) it none
-reports_some failed.Read old new status it none = wrote_some _ _ old new status (omega arith) it none
-reports_some failed.Write old new status it none = wrote_some _ _ old new status (omega arith) it none
-reports_some failed.TooLong old new status it none = wrote_some _ _ old new status (omega arith) it none
-reports_some failed.Port old new status it none = wrote_some _ _ old new status (omega arith) it none
-reports_some failed.NoMemory old new status it none = wrote_some _ _ old new status (omega arith) it none
+reports_some failure old new status it none = wrote_some _ _ old new status (omega arith) it none
 
 -- what is so of what was done is so if the status is 0
 pub done_if_none : (P : Type 0) (r : Result ℕ Failure) (mid new : Option (List ℕ)) (status : ℕ) → OnOk r P → MatchResult r (λ value. (status ≡ value) × (new ≡ mid)) (λ failure. Reports failure mid new status) → status ≡ 0 → P
@@ -116,18 +75,6 @@ done_if_none P (Ok value) mid new status it done none = it
 done_if_none P (Err failure) mid new status it reports none = absurd (reports_some failure mid new status reports none)
 
 -- ---- less is known
-
--- what is known if less is known of the disk
-stops_when : (action : Action) (m : Moment) (end : Place) (failure : Failure) (Clean More : Type 0) → (More → Clean) → (run : Run) → StopsTask action m end failure Clean run → StopsTask action m end failure More run
-stops_when Check m end failure Clean More on run (just, inl (fault, is, of_store, same)) = (just, inl (fault, is, (λ some more. of_store some (on more)), same))
-stops_when Check m end failure Clean More on run (just, inr front) = (just, inr front)
-stops_when Init m end failure Clean More on run it = it
-stops_when (Apply texts) m end failure Clean More on run it = it
-stops_when (Rehearse texts) m end failure Clean More on run it = it
-stops_when (Ask texts) m end failure Clean More on run it = it
-stops_when Dump m end failure Clean More on run it = it
-stops_when (Load dump) m end failure Clean More on run it = it
-stops_when (Serve service) m end failure Clean More on run it = it
 
 pub unseen : (task : Task) (m : Moment) (run : Run) (Clean : Type 0) → RunsFrom task m run Clean → RunsUnseen task m run
 unseen task m run Clean it = record {
@@ -137,7 +84,7 @@ unseen task m run Clean it = record {
   rests = it.rests;
   writes = elim it.writes [
     | inl done ↦ inl done
-    | inr stops ↦ inr (stops.0, stops.1, stops_when task.action m it.end stops.0 Clean ⊥ (λ none. absurd none) (record run { after = stops.1 }) stops.2, stops.3)
+    | inr stops ↦ inr (stops.0, stops.1, stops_when task.action m it.end stops.0 Clean ⊥ (λ none. absurd none) (record run { after = stops.1 }) run.status stops.2, stops.3)
   ];
 }
 

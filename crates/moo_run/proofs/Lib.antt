@@ -1,8 +1,5 @@
 pub mod Words
 mod Beginning
 pub mod Connections
-mod Dumps
-mod Held
-mod Making
-mod Refusals
+mod OverFiles
 mod Tasks

@@ -1,38 +1,17 @@
 -- From what was done to a World to how a task ends.
-use Rattle.moo_run.{proofs.Words.{◌≡◌, ◌≢◌, NoBatches, NoMemory, Read, Write, TooLong, inl, inr, ℕ, Bool, true, false, List, Option, Result, Ok, Err, IfOk, IfErr, IfSome, IsSome, MatchResult, refl, sym, ap, ap₂, subst, if◌then◌else◌, codes, bytes_eq, HasCleanDisk, State, state_of, Moment, Place, Works, Failed, LeavesJust, rows_alone, state_of_moment, World, store_of, state_of_world, Stands, MovesBy, RunsAt, AsksAt, RehearsesAt, text_failure, store_failure, checked_line, texts_by, None, Some, true≢false, ◌∙◌, course_status, line_of, AnswersText, AnswersAs, StopsAs, StopsIn, StopsChecking, ComesOf, EndsTask, Failure}, specs.Texts.{OpenedBy, LacksBy}, specs.Run.{TellsLack}, specs.declared.texts.Manner.{Manner}}
+use Rattle.moo_run.{proofs.Words.{◌≡◌, ◌≢◌, NoBatches, Read, inl, inr, ℕ, Bool, true, false, List, Option, Result, Ok, Err, IfOk, IfErr, IfSome, IsSome, MatchResult, refl, sym, ap, ap₂, subst, if◌then◌else◌, HasCleanDisk, State, state_of, Moment, Place, Works, Failed, LeavesJust, rows_alone, state_of_moment, World, store_of, state_of_world, Stands, MovesBy, RunsAt, AsksAt, RehearsesAt, text_failure, store_failure, checked_line, None, Some, true≢false, ◌∙◌, course_status, line_of, AnswersText, AnswersAs, StopsAs, StopsIn, StopsChecking, ComesOf, EndsTask, Failure}, specs.Run.{EndsCheck, EndsText, TellsLack}, specs.declared.texts.Manner.{Manner}}
 use Rattle.moo_run.specs.declared.texts.Manner.TheVariants as manner
 use Rattle.sqlite.{specs.Store.{Ghosts}, specs.Held.{state}}
 use Rattle.moo_text.specs.declared.fault.TextFault.{TextFault}
 use Rattle.moo_text.specs.declared.reply.Answer.{Answer}
 use Rattle.moo_world.specs.declared.call.Batch.{Batch}
-use Rattle.std.specs.Prelude.{◌==◌, IsErr}
+use Rattle.std.specs.Prelude.{◌==◌}
 use Rattle.std.specs.Io.KnownBytes.{Appends}
 use Rattle.moo_text.specs.declared.fault.TextFault.TheVariants as text_fault
 use Rattle.moo_cells.specs.Shows.{ShowsRows}
-use Rattle.moo_tables_rows.specs.Inside.{Rests, IsCurrent}
 use Rattle.moo_http.{specs.Leading.{LeadsTo}, proofs.Leading.{leads_start, leads_just}}
-use Rattle.moo_store.{specs.declared.course.Course.{Course}, specs.Stopping.{EndsAs}, specs.Runs.{LeavesChecked}, specs.Checked.{Checks, IsUnchecked}, specs.Current.{unread_of}, specs.Moment.{AllCells}, specs.OpeningRows.{IsOfStore}, specs.declared.fault.StoreFault.{StoreFault}}
+use Rattle.moo_store.{specs.declared.course.Course.{Course}, specs.Stopping.{EndsAs}, specs.Runs.{LeavesChecked}, specs.Checked.{Checks, IsUnchecked}, specs.OpeningRows.{IsOfStore}, specs.declared.fault.StoreFault.{StoreFault}}
 use Rattle.moo_store.specs.declared.fault.StoreFault.TheVariants as store_fault
-
-pub given_input : (batches : List ℕ) (input : Option (List ℕ)) (files : List ℕ → Option (List ℕ)) → bytes_eq batches (codes "-") ≡ true → texts_by input files batches ≡ input
-given_input batches input files e = ap (λ (b : Bool). if b then input else files batches) e
-
-pub given_file : (batches : List ℕ) (input : Option (List ℕ)) (files : List ℕ → Option (List ℕ)) → bytes_eq batches (codes "-") ≡ false → texts_by input files batches ≡ files batches
-given_file batches input files e = ap (λ (b : Bool). if b then input else files batches) e
-
--- the text of a word, by what was opened for it
-pub none_opened : {F E : Type 0} (remaining : F → Option (List ℕ)) (files : List ℕ → Option (List ℕ)) (word : List ℕ) (input : Option (List ℕ)) (opened : Option (Result F E)) → opened ≡ None → OpenedBy remaining files word opened → texts_by input files word ≡ input
-none_opened remaining files word input opened is by = given_input word input files (subst (OpenedBy remaining files word) is by)
-
-pub some_opened : {F E : Type 0} (remaining : F → Option (List ℕ)) (files : List ℕ → Option (List ℕ)) (word : List ℕ) (input : Option (List ℕ)) (opened : Option (Result F E)) (r : Result F E) (file : F) → opened ≡ Some r → r ≡ Ok file → OpenedBy remaining files word opened
-    → texts_by input files word ≡ remaining file
-some_opened remaining files word input opened r file is ok by =
-    let both = subst (OpenedBy remaining files word) is by in
-    given_file word input files both.0 ∙ sym (subst (λ r. IfOk r (λ file. remaining file ≡ files word)) ok both.1)
-
--- the input isn't read if the word isn't `-`
-pub never_input : {A F E : Type 0} (remaining : F → Option (List ℕ)) (files : List ℕ → Option (List ℕ)) (word : List ℕ) (opened : Option (Result F E)) → opened ≡ None → OpenedBy remaining files word opened → bytes_eq word (codes "-") ≡ false → A
-never_input remaining files word opened is by other = absurd (true≢false (sym (subst (OpenedBy remaining files word) is by) ∙ other))
 
 -- ---- what comes of a text
 
@@ -65,6 +44,11 @@ module _ {S : Type 0} (g : Ghosts S) (was world : World S) (m : Moment) where
   pub ends_map : (P Q : Place → Type 0) → ((end : Place) → P end → Q end) → EndsTask g was world m P → EndsTask g was world m Q
   ends_map P Q f it = record { end = it.end; leads = it.leads; clean = it.clean; stands = it.stands; ends = f it.end it.ends }
 
+  -- of a text that was open it isn't so that its file can't be opened
+  pub any_lack : (Lack : Type 0) (how : Manner) (text old new : Option (List ℕ)) (r : Result ℕ Failure) → EndsText g was world ⊥ how m text old new r → EndsText g was world Lack how m text old new r
+  any_lack Lack how text old new (Ok status) it = it
+  any_lack Lack how text old new (Err failure) it = ends_map _ _ (λ end stops. (stops.0, λ none. absurd (stops.1 none))) it
+
   -- it was moved
   pub moved : (Way : Place → Place → Type 0) → ((to : Place) → Way (Works m) to → LeadsTo m to) → Stands g was (Works m) → MovesBy g was world Way → EndsTask g was world m (Way (Works m))
   moved Way leads stands moves =
@@ -90,29 +74,21 @@ at_rows : {S : Type 0} (g : Ghosts S) (world : World S) (m : Moment) → Stands 
 at_rows g world m stands = ap state_of (stands.rows stands.failed)
 
 -- what was said of its own state is said of the moment
-pub said_by : {S : Type 0} (g : Ghosts S) (world : World S) (m : Moment) (line : State → List ℕ) (old new : Option (List ℕ)) (status : ℕ) → Stands g world (Works m) → Appends old new (line (state_of_world world)) × (status ≡ 0)
-    → EndsTask g world world m (λ end. LeavesJust m end × Appends old new (line (state_of_moment m)) × (status ≡ 0))
-said_by g world m line old new status stands it = unchanged g world m _ stands (λ t is. is, subst (λ s. Appends old new (line s)) (at_rows g world m stands) it.0, it.1)
-
-pub unsaid_by : {S : Type 0} (g : Ghosts S) (world : World S) (m : Moment) (line : State → List ℕ) (old new : Option (List ℕ)) (failure : Failure) → Stands g world (Works m) → StopsIn (line (state_of_world world)) failure old new
-    → EndsTask g world world m (λ end. LeavesJust m end × StopsIn (line (state_of_moment m)) failure old new)
-unsaid_by g world m line old new failure stands it = unchanged g world m _ stands (λ t is. is, subst (λ s. StopsIn (line s) failure old new) (at_rows g world m stands) it)
+pub says : {S : Type 0} (g : Ghosts S) (world : World S) (m : Moment) (line : State → List ℕ) (old new : Option (List ℕ)) (r : Result ℕ Failure) → Stands g world (Works m)
+    → IfOk r (λ status. Appends old new (line (state_of_world world)) × (status ≡ 0)) → IfErr r (λ failure. StopsIn (line (state_of_world world)) failure old new)
+    → MatchResult r (λ status. EndsTask g world world m (λ end. LeavesJust m end × Appends old new (line (state_of_moment m)) × (status ≡ 0))) (λ failure. EndsTask g world world m (λ end. LeavesJust m end × StopsIn (line (state_of_moment m)) failure old new))
+says g world m line old new (Ok status) stands said none = unchanged g world m _ stands (λ t is. is, subst (λ s. Appends old new (line s)) (at_rows g world m stands) said.0, said.1)
+says g world m line old new (Err failure) stands none said = unchanged g world m _ stands (λ t is. is, subst (λ s. StopsIn (line s) failure old new) (at_rows g world m stands) said)
 
 -- a check leaves the moment
 checked_just : (m : Moment) (r : Result ℕ StoreFault) (to : Place) → LeavesChecked (Works m) r to → LeavesJust m to
 checked_just m (Ok count) to is = subst (LeavesJust m) (sym is) (λ t it. it)
 checked_just m (Err store_fault.OutOfMemory) to is = subst (LeavesJust m) (sym is) (λ t it. it)
-checked_just m (Err (store_fault.Store error)) to is = subst (LeavesJust m) (sym is.1) (λ t it. elim it [ inl same ↦ same | inr same ↦ same ])
-checked_just m (Err (store_fault.Damaged kind key)) to is = subst (LeavesJust m) (sym is.1) (λ t it. elim it [ inl same ↦ same | inr same ↦ same ])
-checked_just m (Err store_fault.NewerVersion) to is = subst (LeavesJust m) (sym is.1) (λ t it. elim it [ inl same ↦ same | inr same ↦ same ])
-checked_just m (Err store_fault.Closed) to is = subst (LeavesJust m) (sym is.1) (λ t it. elim it [ inl same ↦ same | inr same ↦ same ])
+checked_just m (Err fault) to is = subst (LeavesJust m) (sym is.1) (λ t it. elim it [ inl same ↦ same | inr same ↦ same ])
 
-some_cells : (m : Moment) → IsSome m.cells → (c : AllCells) × (m.cells ≡ Some c)
-some_cells m some = by m.cells refl some
-  where
-    by : (o : Option AllCells) → m.cells ≡ o → IsSome o → (c : AllCells) × (m.cells ≡ Some c)
-    by None is none = absurd (true≢false (sym none))
-    by (Some c) is some = (c, is)
+some_of : {A : Type 0} (P : A → Type 0) (o : Option A) → IsSome o → IfSome o P → (x : A) × P x
+some_of P None none holds = absurd (true≢false (sym none))
+some_of P (Some x) some holds = (x, holds)
 
 -- and on a clean disk it finds no damage of known cells
 checked_cause : {S : Type 0} (g : Ghosts S) (was world : World S) (m : Moment) (fault : StoreFault) (to : Place) → Stands g was (Works m) → LeavesChecked (Works m) (Err fault) to → IsUnchecked was.rows.maps (store_of g was) (store_of g world) fault
@@ -120,9 +96,8 @@ checked_cause : {S : Type 0} (g : Ghosts S) (was world : World S) (m : Moment) (
 checked_cause g was world m store_fault.OutOfMemory to stands way checks early some clean = tt
 checked_cause g was world m (store_fault.Store error) to stands way checks early some clean = tt
 checked_cause g was world m fault to stands way checks early some clean =
-    let cells = some_cells m some in
-    let rests = subst (λ o. IfSome o (λ (c : AllCells). Rests (store_of g was) c.tables × IsCurrent c.tables × ShowsRows c.tables m.rows × (unread_of (store_of g was).now.trees ≡ c.unread))) cells.1 (stands.rests (early clean) tt) in
-    checks.whole way.0 clean cells.0.tables rests.0 (subst (ShowsRows cells.0.tables) (sym (stands.rows stands.failed)) rests.2)
+    let it = some_of _ m.cells some (stands.rests (early clean) tt) in
+    checks.whole way.0 clean it.0.tables it.1.0 (subst (ShowsRows it.0.tables) (sym (stands.rows stands.failed)) it.1.2)
 
 module _ {S : Type 0} (g : Ghosts S) (was world : World S) (m : Moment) (stands : Stands g was (Works m)) where
   -- the line is that of the moment
@@ -142,43 +117,21 @@ module _ {S : Type 0} (g : Ghosts S) (was world : World S) (m : Moment) (stands 
   check_stops fault failure old is moves checks =
       after_check (Err fault) _ moves (λ to way just. (just, inl (fault, is, checked_cause g was world m fault to stands way checks moves.clean, refl)))
 
-  -- it found none, and the line tells how much there is
-  pub check_says : (count seq : ℕ) (old new : Option (List ℕ)) (status : ℕ) → MovesBy g was world (λ from to. LeavesChecked from (Ok count) to) → Checks was.rows.maps (store_of g was) (store_of g world) (Ok count)
-      → seq ≡ (state_of_world was).seq → Appends old new (checked_line seq count) × (status ≡ 0) → EndsTask g was world m (λ end. LeavesJust m end × Appends old new (line_of checked_line (state_of_moment m)) × (status ≡ 0))
-  check_says count seq old new status moves checks number said =
+  -- it found none, and the line tells how much there is, or a front of it
+  pub check_tells : (count seq : ℕ) (old new : Option (List ℕ)) (r : Result ℕ Failure) → MovesBy g was world (λ from to. LeavesChecked from (Ok count) to) → Checks was.rows.maps (store_of g was) (store_of g world) (Ok count)
+      → seq ≡ (state_of_world was).seq → IfOk r (λ status. Appends old new (checked_line seq count) × (status ≡ 0)) → IfErr r (λ failure. StopsIn (checked_line seq count) failure old new) → EndsCheck g was world m old new r
+  check_tells count seq old new (Ok status) moves checks number said none =
       after_check (Ok count) _ moves (λ to way just. (just, subst (λ line. Appends old new line) (told count seq checks number) said.0, said.1))
-
-  pub check_unsaid : (count seq : ℕ) (old new : Option (List ℕ)) (failure : Failure) → MovesBy g was world (λ from to. LeavesChecked from (Ok count) to) → Checks was.rows.maps (store_of g was) (store_of g world) (Ok count)
-      → seq ≡ (state_of_world was).seq → StopsIn (checked_line seq count) failure old new → EndsTask g was world m (λ end. StopsChecking m end failure (HasCleanDisk (store_of g world)) old new)
-  check_unsaid count seq old new failure moves checks number said =
+  check_tells count seq old new (Err failure) moves checks number none said =
       after_check (Ok count) _ moves (λ to way just. (just, inr (subst (λ line. StopsIn line failure old new) (told count seq checks number) said)))
-
--- by the result, more of what is known of either
-pub by_result : {A E : Type 0} (P Q : A → Type 0) (R T : E → Type 0) (r : Result A E) → ((a : A) → P a → Q a) → ((e : E) → R e → T e) → IfOk r P → IfErr r R → MatchResult r Q T
-by_result P Q R T (Ok a) on_ok on_err p q = on_ok a p
-by_result P Q R T (Err e) on_ok on_err p q = on_err e q
-
-pub by_either : {A E : Type 0} (P Q : A → Type 0) (R T : E → Type 0) (r : Result A E) → ((a : A) → P a → Q a) → ((e : E) → R e → T e) → MatchResult r P R → MatchResult r Q T
-by_either P Q R T (Ok a) on_ok on_err p = on_ok a p
-by_either P Q R T (Err e) on_ok on_err p = on_err e p
 
 -- ---- a file that can't be opened
 
 -- what stops an open text isn't that its file can't be opened
 pub text_opened : (fault : TextFault) (failure : Failure) → failure ≡ text_failure fault → failure ≢ NoBatches
 text_opened text_fault.Read failure is e = let bad : Read ≡ NoBatches = sym is ∙ e in cc
-text_opened text_fault.Write failure is e = let bad : Write ≡ NoBatches = sym is ∙ e in cc
-text_opened text_fault.OutOfMemory failure is e = let bad : NoMemory ≡ NoBatches = sym is ∙ e in cc
-text_opened text_fault.Long failure is e = let bad : TooLong ≡ NoBatches = sym is ∙ e in cc
+text_opened fault failure is e = let bad : text_failure fault ≡ NoBatches = sym is ∙ e in cc
 
-pub never_lacks : {A : Type 0} (lacks : List ℕ → Type 0) (word : List ℕ) (r : Result A Failure) → IfErr r (λ failure. failure ≢ NoBatches) → IfErr r (TellsLack lacks word)
-never_lacks lacks word (Ok a) opened = tt
-never_lacks lacks word (Err failure) opened = λ e. absurd (opened e)
-
-pub lacks_file : {F E : Type 0} (lacks : List ℕ → Type 0) (word : List ℕ) (opened : Option (Result F E)) (r : Result F E) (error : E) → opened ≡ Some r → r ≡ Err error → LacksBy lacks word opened → lacks word
-lacks_file {F = F} {E = E} lacks word opened r error is failed by = subst (λ (o : Result F E). IsErr o → lacks word) failed (subst (LacksBy lacks word) is by) refl
-
--- a result, and more of its failure
-pub with_failure : {A E : Type 0} (r : Result A E) (P : A → Type 0) (R T : E → Type 0) → MatchResult r P R → IfErr r T → MatchResult r P (λ e. R e × T e)
-with_failure (Ok a) P R T it more = it
-with_failure (Err e) P R T it more = (it, more)
+pub never_lacks : {A : Type 0} (lacks : List ℕ → Type 0) (word : List ℕ) (P : Failure → Type 0) (r : Result A Failure) → IfErr r (λ failure. P failure × (failure ≢ NoBatches)) → IfErr r (λ failure. P failure × TellsLack lacks word failure)
+never_lacks lacks word P (Ok a) it = tt
+never_lacks lacks word P (Err failure) it = (it.0, λ e. absurd (it.1 e))

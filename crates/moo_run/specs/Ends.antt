@@ -34,14 +34,14 @@ use Rattle.moo_cli.specs.Tasks.{NamesTask, NamesAlone}
 use Rattle.moo_run_lines.specs.Lines.{Reports, store_failure}
 use Rattle.moo_run.specs.Given.{Run}
 use Rattle.moo_run.specs.Run.{begins_anew, only_reads, is_load, RefusesTask, BeginsFrom, FailsToBegin}
-use Rattle.moo_run.specs.Run.{RunsIn, RunsMade, RunsUnseen, RunsTask, FailsAtOnce, RefusesFile, EndsUsage}
+use Rattle.moo_run.specs.Run.{RunsIn, RunsMade, RunsUnseen, RunsTask, FailsAtOnce, EndsUsage}
 use Rattle.moo_run_lines.specs.declared.failure.Failure.{Failure}
 use Rattle.moo_run.specs.declared.ends.Ends.{Ends}
 use Rattle.moo_run.specs.declared.ends.Ends.TheVariants as variant
 
 -- a database of the new world that the task begins with, each row in its printed cells
 abbrev pub LeavesNew : Task → Run → Trees → Type 0
-LeavesNew task run trees = (rows : Maps) × BeginsFrom task.action run.given rows × LeavesAsMade trees rows
+LeavesNew task run trees = (rows : Maps) × BeginsFrom task.action run.given.text rows × LeavesAsMade trees rows
 
 module _ {D : Type 0} {g : Ghosts D} where
   -- A task ran over this database: its tables are ours, and show good rows. It ran from the moment that they show, brought to the present
@@ -62,7 +62,7 @@ module _ {D : Type 0} {g : Ghosts D} where
   pub record RanOver (task : Task) (image : Image) (conn : Held (FileStore D g)) (run : Run) : Type 0 where
     -- it begins with a new world, and runs from that, which is made only if the files have room for it: never over a world or a table
     pub anew : begins_anew task ≡ true →
-        (rows : Maps) × BeginsFrom task.action run.given rows × RunsMade (file_state conn) task rows run
+        (rows : Maps) × BeginsFrom task.action run.given.text rows × RunsMade (file_state conn) task rows run
     pub room : begins_anew task ≡ true → HasCleanDisk (file_state conn) → HoldsNoTable image
     pub occupied : (trees : Trees) → begins_anew task ≡ true → HoldsTrees image trees → HasAnyTable trees →
         HasCleanDisk (file_state conn) → ⊥
@@ -134,7 +134,6 @@ module _ {T D : Type 0} {g : Ghosts D} where
     pub unfit : begins_anew task ≡ true → IsOpenable image → IsCleanRemains rest → FailsToMake task image rest run
     -- or what the file holds isn't taken up
     pub over : begins_anew task ≡ false → (held : Contents) → Hold image held → IsCleanRemains rest → RefusedOnto held image rest run
-    pub opened : begins_anew task ≡ false → RefusesFile run
     -- It holds its moment still, or, of version 1, some moment of the same rows, and so does what a crash leaves of it; and if it held
     -- anything, sound or not, it is spared.
     pub left : (m : Moment) → HoldsMoment image m → IsCleanRemains rest →

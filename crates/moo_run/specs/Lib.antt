@@ -1,4 +1,3 @@
 pub mod Ends
 pub mod Given
 pub mod Run
-pub mod Texts

@@ -103,15 +103,15 @@ serves action = false
 
 -- The rows of the new world that a task begins with. Those of a well formed state whose dump is the text of the dump, byte for byte, if
 -- that is known: properties and verbs are numbered from 1, in the order of the dump. Or the opening ones.
-abbrev pub BeginsWith : Action → Given → Maps → Type 0
-BeginsWith (Load dump) given rows =
-    IfSome (given.text dump.now) (λ bytes. dump_of (state_of rows) ≡ bytes) × IsHeld (state_of rows) × AreRowsOf (state_of rows) rows
-BeginsWith action given rows = rows ≡ opening_maps
+abbrev pub BeginsWith : Action → (List ℕ → Option (List ℕ)) → Maps → Type 0
+BeginsWith (Load dump) text rows =
+    IfSome (text dump.now) (λ bytes. dump_of (state_of rows) ≡ bytes) × IsHeld (state_of rows) × AreRowsOf (state_of rows) rows
+BeginsWith action text rows = rows ≡ opening_maps
 
 -- so it begins, and the rows are good
-pub record BeginsFrom (action : Action) (given : Given) (rows : Maps) : Type 0 where
+pub record BeginsFrom (action : Action) (text : List ℕ → Option (List ℕ)) (rows : Maps) : Type 0 where
   pub good : IsGood rows
-  pub world : BeginsWith action given rows
+  pub world : BeginsWith action text rows
 
 -- the status of a text that was answered so far: 1 if it stopped, or if an answer is `fault` or `closed`
 abbrev pub course_status : Course → ℕ
@@ -244,11 +244,12 @@ abbrev pub ShowsTables : {S : Type 0} → Ghosts S → World S → Database → 
 ShowsTables g world after = HasCleanDisk after → (tables : Tables) → Rests (store_of g world) tables → ShowsRows tables world.rows.maps
 
 module _ {S : Type 0} (g : Ghosts S) (was world : World S) where
-  -- A text of batches was answered over the World, from a moment, to its end or until it stopped; by its status.
-  abbrev pub EndsText : Manner → Moment → Option (List ℕ) → Option (List ℕ) → Option (List ℕ) → Result ℕ Failure → Type 0
-  EndsText how m text old new r = MatchResult r
+  -- A text of batches was answered over the World, from a moment, to its end or until it stopped; by its status. If its file can't be
+  -- opened, this is so.
+  abbrev pub EndsText : Type 0 → Manner → Moment → Option (List ℕ) → Option (List ℕ) → Option (List ℕ) → Result ℕ Failure → Type 0
+  EndsText Lack how m text old new r = MatchResult r
       (λ status. EndsTask g was world m (λ end. AnswersAs how m end text old new status))
-      (λ failure. EndsTask g was world m (λ end. StopsAs how m end failure text old new))
+      (λ failure. EndsTask g was world m (λ end. StopsAs how m end failure text old new × (failure ≡ NoBatches → Lack)))
 
   -- The tables were tested over the World, from a moment, and a line was written; or that stopped.
   abbrev pub EndsCheck : Moment → Option (List ℕ) → Option (List ℕ) → Result ℕ Failure → Type 0
@@ -346,13 +347,13 @@ FailsToBegin task run = (failure : Failure) × MayNotBegin task run.given failur
 -- The rows of the new world that a task begins with were found: those of its dump, or none in place of the opening ones. Or its dump gives
 -- none.
 abbrev pub FindsRows : Action → Given → Result (Option Rows) Failure → Type 0
-FindsRows action given r = MatchResult r (λ rows. BeginsFrom action given (rows_made rows))
+FindsRows action given r = MatchResult r (λ rows. BeginsFrom action given.text (rows_made rows))
     (λ failure. IsTrue (is_load action) × RefusesTask given action failure)
 
 -- a new world can't be made, and nothing is asked of the ports; or the task runs from the rows of the one that it begins with
 abbrev pub RunsNew : Task → Run → Type 0
 RunsNew task run = (run.given.ports.rests × FailsToBegin task run)
-    ⊎ ((rows : Maps) × BeginsFrom task.action run.given rows × RunsUnseen task (rows_alone rows) run)
+    ⊎ ((rows : Maps) × BeginsFrom task.action run.given.text rows × RunsUnseen task (rows_alone rows) run)
 
 -- A task ran from a new world of these rows, whatever the disk did. If it returned what was written, it ran from a moment that has each row
 -- in its printed cells, and a crash leaves what the end tells.
@@ -363,7 +364,7 @@ RunsMade store task rows run = RunsUnseen task (rows_alone rows) run
 -- A new world can't be made, and nothing is asked of the ports; or the task runs from the one that it begins with, and leaves this store.
 abbrev pub RunsAnew : Task → Run → Database → Type 0
 RunsAnew task run store = (run.given.ports.rests × FailsToBegin task run)
-    ⊎ ((rows : Maps) × BeginsFrom task.action run.given rows × RunsMade store task rows run)
+    ⊎ ((rows : Maps) × BeginsFrom task.action run.given.text rows × RunsMade store task rows run)
 
 -- the status of a mistake in the words; asking for help or the version is 0
 abbrev pub mistake_status : ErrorKind → ℕ

@@ -11,10 +11,9 @@ ghost use Rattle.moo_run_lines.specs.Lines.{loaded_line};
 ghost use Rattle.moo_run.specs.Run.{RunsAction, EndsCheck, line_of, StopsIn, ShowsTables, LeavesNothingNew};
 ghost use Rattle.moo_run.specs.Run.{only_reads, serves, reads_input, ReadsFile};
 
-use crate::host::BatchFiles;
 use crate::session::{HasRun, Session, Streams};
-use crate::texts::{Manner, answer_batches, open_batches};
-use moo_cli::{Action, Service, Task};
+use crate::texts::{Manner, answer_batches};
+use moo_cli::{Action, Batches, Service, Task};
 use moo_http::{Duty, Tools, serve_port};
 use moo_run_lines::{Failure, checked_text, loaded_text};
 use moo_store::World;
@@ -146,20 +145,13 @@ pub(crate) fn do_task<'s, S: Streams, B: Alter + Drop>(
 {
     match task.action {
         Action::Init => put_text("created\n", &mut session.output),
-        Action::Apply(batches) => {
-            let text = open_batches(&session.host, batches.path);
-            let manner = Manner::Apply(batches.options);
-            answer_batches(session, world, manner, batches.path, text)
+        Action::Apply(Batches { path, options }) => {
+            answer_batches(session, world, Manner::Apply(options), path)
         }
-        Action::Rehearse(batches) => {
-            let text = open_batches(&session.host, batches.path);
-            let manner = Manner::Rehearse(batches.options);
-            answer_batches(session, world, manner, batches.path, text)
+        Action::Rehearse(Batches { path, options }) => {
+            answer_batches(session, world, Manner::Rehearse(options), path)
         }
-        Action::Ask { batches } => {
-            let text = open_batches(&session.host, batches);
-            answer_batches(session, world, Manner::Ask, batches, text)
-        }
+        Action::Ask { batches } => answer_batches(session, world, Manner::Ask, batches),
         Action::Dump => show(world, &mut session.output),
         Action::Load { .. } => show_loaded(session.alloc, world, &mut session.output),
         Action::Check => check(session.alloc, world, &mut session.output),

@@ -92,8 +92,7 @@ fn rows_of<C: Eprint, R: Read + Drop>(
     ensures limit { IfOk result (λ rows. rows.maps.head.seq < 2 ^ 63) }
     ensures numbered { IfOk result (λ rows. AreRowsOf (state_of rows.maps) rows.maps) }
     ensures dumped { IfOk result (λ rows. IfSome (R.remaining text) (λ bytes. dump_of (state_of rows.maps) ≡ bytes)) }
-    ensures failure { IfErr result (RefusesDump (R.remaining text)) }
-    ensures opened { IfErr result (λ failure. failure ≢ Failure.NoBatches) }
+    ensures failure { IfErr result (λ failure. RefusesDump (R.remaining text) failure × (failure ≢ Failure.NoBatches)) }
 {
     let bytes = read_text(alloc, &mut text)?;
     let rows = read_told(alloc, console, path, &bytes)?;
@@ -114,8 +113,8 @@ pub(crate) fn read_world<C: Eprint, H: BatchFiles, R: Read + Drop>(
     ensures numbered { IfOk result (λ rows. AreRowsOf (state_of rows.maps) rows.maps) }
     ensures dumped { IfOk result (λ rows.
         IfSome (texts_by (R.remaining input.old) (H.text host.now) dump.now) (λ bytes. dump_of (state_of rows.maps) ≡ bytes)) }
-    ensures failure { IfErr result (RefusesDump (texts_by (R.remaining input.old) (H.text host.now) dump.now)) }
-    ensures lacks { IfErr result (TellsLack (H.lacks host.now) dump.now) }
+    ensures failure { IfErr result (λ failure. RefusesDump (texts_by (R.remaining input.old) (H.text host.now) dump.now) failure
+        × TellsLack (H.lacks host.now) dump.now failure) }
     ensures input { bytes_eq dump.now (codes "-") ≡ false → input.new ≡ input.old }
 {
     if dump == "-" {

@@ -1,12 +1,12 @@
 //! What is done with a text of batches: they are run, rehearsed or asked.
 
-ghost use Rattle.std.specs.Prelude.{◌≡◌, ◌≢◌, ◌==◌, false, codes, IfErr, if◌then◌else◌};
+ghost use Rattle.std.specs.Prelude.{◌≡◌, ◌==◌, false, codes, if◌then◌else◌};
 ghost use Rattle.std.specs.Str.{bytes_eq};
 ghost use Rattle.moo_store.specs.Moment.{Moment};
 ghost use Rattle.moo_store.specs.Place.{Works};
 ghost use Rattle.moo_store.specs.Moves.{Stands};
-ghost use Rattle.moo_run.specs.Texts.{OpenedBy, LacksBy};
-ghost use Rattle.moo_run.specs.Run.{course_status, changes_world, ComesOf, EndsTask, EndsText, TellsLack};
+ghost use Rattle.moo_store.specs.World.{store_of};
+ghost use Rattle.moo_run.specs.Run.{course_status, changes_world, ComesOf, EndsTask, EndsText, LeavesNothingNew};
 
 use crate::host::BatchFiles;
 use crate::session::{HasRun, Session, Streams};
@@ -16,7 +16,7 @@ use moo_run_lines::{Failure, explain_lost};
 use moo_store::{Course, Tally, World, apply_until, ask_text, rehearse_text};
 use moo_text::TextFault;
 use sqlite::Alter;
-use std::io::{self, Eprint, Read, Write};
+use std::io::{Eprint, Read, Write};
 
 /// What is done with the batches of a text.
 #[derive(Clone, Copy, Drop)]
@@ -57,7 +57,7 @@ fn answer_by<C: Eprint, R: Read + Drop, W: Write, B: Alter + Drop>(
 ) -> Result<Course, TextFault>
     ensures answers { (m : Moment) → Stands B.Store world.old (Works m) → EndsTask B.Store world.old world.new m (λ end.
         ComesOf manner m end (R.remaining text) (W.contents output.old) (W.contents output.new) result) }
-    ensures still { changes_world manner ≡ false → world.new.connection ≡ world.old.connection }
+    ensures still { changes_world manner ≡ false → LeavesNothingNew (store_of B.Store world.old) (store_of B.Store world.new) }
 {
     match manner {
         Manner::Apply(options) => apply_until(text, output, world, options.stop, notes),
@@ -83,9 +83,8 @@ fn answer_text<C: Eprint, R: Read + Drop, W: Write, B: Alter + Drop>(
     mut notes: StandardNotes<'_, C>,
 ) -> Result<u8, Failure>
     ensures answers { (m : Moment) → Stands B.Store world.old (Works m) → EndsText B.Store world.old world.new
-        manner m (R.remaining text) (W.contents output.old) (W.contents output.new) result }
-    ensures opened { IfErr result (λ failure. failure ≢ Failure.NoBatches) }
-    ensures still { changes_world manner ≡ false → world.new.connection ≡ world.old.connection }
+        ⊥ manner m (R.remaining text) (W.contents output.old) (W.contents output.new) result }
+    ensures still { changes_world manner ≡ false → LeavesNothingNew (store_of B.Store world.old) (store_of B.Store world.new) }
 {
     let done = answer_by(world, text, manner, output, &mut notes);
     notes.finish();
@@ -100,58 +99,39 @@ fn answer_text<C: Eprint, R: Read + Drop, W: Write, B: Alter + Drop>(
     }
 }
 
-/// The file of batches of this path, if it can be opened; or none for `-`, which is the input.
-pub(crate) fn open_batches<H: BatchFiles>(host: &H, batches: &str) -> Option<io::Result<H::Text>>
-    requires { bytes_eq batches.now (codes "-") ≡ false → H.may_read host.now batches.now }
-    ensures opened { OpenedBy H.Text.remaining (H.text host.now) batches.now result }
-    ensures lacks { LacksBy (H.lacks host.now) batches.now result }
-{
-    if batches == "-" {
-        None
-    } else {
-        Some(host.open(batches))
-    }
-}
-
-/// Does with the batches of a file that was opened, or of the input if none was, what the manner says. Standard error says why a batch isn't
+/// Does with the batches of the file of this path, or of the input for `-`, what the manner says. Standard error says why a batch isn't
 /// accepted, and what to do if the store failed in one that was run.
 pub(crate) fn answer_batches<'s, S: Streams, B: Alter + Drop>(
     session: &mut Session<'s, S>,
     world: &mut World<B>,
     manner: Manner,
     path: &str,
-    text: Option<io::Result<<S::Host as BatchFiles>::Text>>,
 ) -> Result<u8, Failure>
-    ensures answers { OpenedBy S.Host.Text.remaining (S.Host.text session.old.host) path.now text →
-        (m : Moment) → Stands B.Store world.old (Works m) →
+    requires read { bytes_eq path.now (codes "-") ≡ false → S.Host.may_read session.old.host path.now }
+    ensures answers { (m : Moment) → Stands B.Store world.old (Works m) →
         let run = ⟦<Session<'s, S> as HasRun>⟧.run session.old session.new in
-        EndsText B.Store world.old world.new manner m (run.given.text path.now) run.before run.after result }
-    ensures lacks { LacksBy (S.Host.lacks session.old.host) path.now text →
-        IfErr result (TellsLack (S.Host.lacks session.old.host) path.now) }
-    ensures still { changes_world manner ≡ false → world.new.connection ≡ world.old.connection }
+        EndsText B.Store world.old world.new (run.given.lacks path.now) manner m (run.given.text path.now) run.before run.after result }
+    ensures still { changes_world manner ≡ false → LeavesNothingNew (store_of B.Store world.old) (store_of B.Store world.new) }
     ensures rests { session.new.host ≡ session.old.host }
-    ensures input { OpenedBy S.Host.Text.remaining (S.Host.text session.old.host) path.now text →
-        bytes_eq path.now (codes "-") ≡ false → session.new.input ≡ session.old.input }
+    ensures input { bytes_eq path.now (codes "-") ≡ false → session.new.input ≡ session.old.input }
 {
     let (console, alloc) = (session.console, session.alloc);
-    match text {
-        None => {
-            let notes = StandardNotes::new(console, alloc, None);
-            answer_text(
-                world,
-                &mut session.input,
-                manner,
-                &mut session.output,
-                console,
-                notes,
-            )
+    if path == "-" {
+        let notes = StandardNotes::new(console, alloc, None);
+        return answer_text(
+            world,
+            &mut session.input,
+            manner,
+            &mut session.output,
+            console,
+            notes,
+        );
+    }
+    match session.host.open(path) {
+        Ok(file) => {
+            let notes = StandardNotes::new(console, alloc, Some(path));
+            answer_text(world, file, manner, &mut session.output, console, notes)
         }
-        Some(opened) => match opened {
-            Ok(file) => {
-                let notes = StandardNotes::new(console, alloc, Some(path));
-                answer_text(world, file, manner, &mut session.output, console, notes)
-            }
-            Err(_) => Err(Failure::NoBatches),
-        },
+        Err(_) => Err(Failure::NoBatches),
     }
 }

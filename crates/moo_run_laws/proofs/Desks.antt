@@ -1,5 +1,5 @@
 -- From what the service sees of a connection of a desk to what its peer sees.
-use Rattle.std.{proofs.Common.{◌≡◌, ◌⊎◌, inl, inr, ℕ, List, [], length, drop, refl, sym, ap, subst, ◌∙◌, arith}, specs.Io.KnownBytes.{Keeps, append_known, prepend_known}, proofs.KnownBytes.{Keeps-refl}}
+use Rattle.std.{proofs.Common.{◌≡◌, ◌⊎◌, inl, inr, ℕ, List, [], drop, refl, sym, ap, subst, ◌∙◌, arith}, specs.Io.KnownBytes.{Keeps, append_known, prepend_known}, proofs.KnownBytes.{Keeps-refl}}
 use Rattle.std.proofs.Math.ListN.{drop_of_length-le}
 use Rattle.std.specs.declared.io.Read as Reading
 use Rattle.std.specs.declared.io.Write as Writing
@@ -9,15 +9,8 @@ use Rattle.moo_http_request.specs.declared.incoming.Incoming as Incoming
 use Rattle.moo_desk.specs.declared.gate.Inward as Inward
 use Rattle.moo_desk.specs.declared.gate.Outward as Outward
 use Rattle.moo_desk.{specs.Broken.{IsBroken}, specs.declared.gathered.Coming.TheVariants.{Unread}, specs.declared.gathered.Gathered.{Gathered}, specs.declared.leaving.Leaving.{Leaving}, specs.declared.outgoing.Outgoing.{Outgoing}, specs.declared.slot.Slot.{Slot}}
-use Rattle.moo_http.{specs.Traffic.{Traffic, traffic_of}, specs.Through.{Passes}}
+use Rattle.moo_http.{specs.Traffic.{traffic_of}, specs.Through.{Passes}}
 use Rattle.moo_run_laws.specs.Desk.{PassesDesk, IsAsker, peer_of}
-
--- of an answer of which nothing is left to be sent
-pub passes_whole : (peer judge : Traffic) (unsent : List ℕ) → unsent ≡ [] → Passes peer judge unsent → Passes peer judge []
-passes_whole peer judge unsent none it = subst (λ (left : List ℕ). Passes peer judge left) none it
-
-pub none_left : (sent : ℕ) (text : List ℕ) → sent ≡ length text → drop sent text ≡ []
-none_left sent text all = drop_of_length-le text (omega (arith, all))
 
 drop_none : (n : ℕ) (bytes : List ℕ) → bytes ≡ [] → drop n bytes ≡ []
 drop_none n bytes none = ap (drop n) none ∙ drop_of_length-le [] (omega arith)

@@ -1,13 +1,14 @@
 -- What holds of moments and rows that batches lead to.
-use Rattle.moo_world.{proofs.Lemmas.{◌≡◌, ◌≢◌, ℕ, ◌+◌, ◌≤◌, ◌&&◌, Bool, true, cond, List, [], ◌∷◌, ◌++◌, arith, refl, sym, subst, ◌∙◌, ap, State}, proofs.Batches.Judging.{taken_once}, specs.declared.call.Batch.{Batch}}
-use Rattle.moo_world.specs.Judge.{Verdict, Accepted, Refused, NoRoom, Stale, judge, left_by, after, is_for, is_accepted, taken, state_of}
+use Rattle.moo_world.{proofs.Lemmas.{◌≡◌, ℕ, ◌+◌, ◌≤◌, ◌&&◌, Bool, true, cond, List, [], ◌∷◌, ◌++◌, arith, refl, sym, subst, ◌∙◌, ap, State}, proofs.Batches.Judging.{taken_once}, specs.declared.call.Batch.{Batch}}
+use Rattle.moo_world.specs.Judge.{Verdict, Accepted, judge, left_by, after, is_for, is_accepted, taken, state_of}
 use Rattle.moo_world.specs.Between.{BatchLeads}
 use Rattle.moo_world.specs.Rows.{IsGood}
 use Rattle.moo_rows.specs.Maps.{Maps}
-use Rattle.moo_store.{specs.Moment.{Moment, AllCells, KeepsCellsAt, state_of_moment, rows_alone, LeadsByEach}, specs.Place.{Place, Works, Failed, Between, MayBeLeft, moment_of}}
+use Rattle.moo_store.{specs.Moment.{Moment, AllCells, KeepsCellsAt, state_of_moment, rows_alone, LeadsByEach}, specs.Place.{Place, Between, MayBeLeft, moment_of}}
 use Rattle.std.proofs.Common.{inl}
+use Rattle.std.proofs.lemmas.Bool.{true≢false}
 use Rattle.std.specs.List.{filter}
-use Rattle.std.specs.Prelude.{Option, Some, None, IsSome, false, length, if◌then◌else◌}
+use Rattle.std.specs.Prelude.{Option, Some, None, IsSome, length, if◌then◌else◌}
 use Rattle.moo_http.specs.Leading.{LeadsTo}
 use Rattle.moo_laws.specs.NobodyRises.{NoWizardActs, KeepsRights}
 use Rattle.moo_laws.proofs.Ranks.{FormedAll, led_batch, rights_kept}
@@ -26,9 +27,6 @@ moments_keep m end batches good it none =
 
 -- ---- each of them is counted, and accepted
 
-one_more : (n : ℕ) → n ≢ n + 1
-one_more n e = omega (arith, e)
-
 counted : (b : Batch) (old new : Maps) → BatchLeads b old new → (state_of new).seq ≡ (state_of old).seq + 1
 counted b old new it = ap (λ (rows : Maps). rows.head.seq) it.2
 
@@ -44,22 +42,17 @@ led_accepted b old new it state = by (judge (state_of old) b) state
   where
     by : (v : Verdict) → state_of new ≡ left_by (state_of old) v → is_accepted v ≡ true
     by (Accepted answers next) e = refl
-    by (Refused place code) e = absurd (one_more (state_of old).seq (sym (ap (λ (s : State). s.seq) e) ∙ counted b old new it))
-    by (NoRoom place) e = absurd (one_more (state_of old).seq (sym (ap (λ (s : State). s.seq) e) ∙ counted b old new it))
-    by (Stale number) e = absurd (one_more (state_of old).seq (sym (ap (λ (s : State). s.seq) e) ∙ counted b old new it))
+    by v e = absurd (omega (arith, ap (λ (s : State). s.seq) e, counted b old new it))
 
--- one batch more among those that are meant for a number
-with_one : (f : Bool) (b : Batch) (found : List Batch) → length (if f then b ∷ found else found) ≡ cond f 1 0 + length found
-with_one f b found = grind arith
-
-and_true : (f a : Bool) → a ≡ true → (n m : ℕ) → n ≡ m → cond (f && a) 1 0 + n ≡ cond f 1 0 + m
-and_true f a e n m h = grind arith
+-- one accepted batch more among those that are meant for a number
+one_taken : (f a : Bool) (b : Batch) (found : List Batch) (n : ℕ) → a ≡ true → n ≡ length found → cond (f && a) 1 0 + n ≡ length (if f then b ∷ found else found)
+one_taken f a b found n e h = grind arith
 
 all_taken : (m end : Moment) (batches : List Batch) (number : ℕ) → LeadsByEach m batches end → taken number (state_of_moment m) batches ≡ length (filter (is_for number) batches)
 all_taken m end [] number it = refl
 all_taken m end (b ∷ bs) number (next, one, rest) =
-    and_true (is_for number b) (is_accepted (judge (state_of_moment m) b)) (led_accepted b m.rows next.rows one.rows one.state) _ _
-    (subst (λ s. taken number s bs ≡ length (filter (is_for number) bs)) one.state (all_taken next end bs number rest)) ∙ sym (with_one (is_for number b) b (filter (is_for number) bs))
+    one_taken (is_for number b) (is_accepted (judge (state_of_moment m) b)) b (filter (is_for number) bs) _ (led_accepted b m.rows next.rows one.rows one.state)
+    (subst (λ s. taken number s bs ≡ length (filter (is_for number) bs)) one.state (all_taken next end bs number rest))
 
 pub once : (m end : Moment) (batches : List Batch) (number : ℕ) → LeadsByEach m batches end → length (filter (is_for number) batches) ≤ 1
 once m end batches number it = subst (λ n. n ≤ 1) (all_taken m end batches number it) (taken_once number (state_of_moment m) batches)
@@ -77,13 +70,10 @@ led_joins m mid end (b ∷ bs) second (next, one, rest) on = (next, one, led_joi
 
 -- ---- cells
 
-not_some : {X : Type 0} → false ≡ true → X
-not_some none = absurd cc
-
 still_some : (rows next : Maps) (old new : Option AllCells) → KeepsCellsAt rows next old new → IsSome old → IsSome new
 still_some rows next (Some old) (Some new) kept some = refl
 still_some rows next (Some old) None kept some = absurd kept
-still_some rows next None new kept some = not_some some
+still_some rows next None new kept some = absurd (true≢false (sym some))
 
 -- where the cells are known they stay so
 known_after : (m end : Moment) (batches : List Batch) → LeadsByEach m batches end → IsSome m.cells → IsSome end.cells
@@ -91,9 +81,8 @@ known_after m end [] it some = subst (λ (x : Moment). IsSome x.cells) (sym it) 
 known_after m end (b ∷ bs) (next, one, rest) some = known_after next end bs rest (still_some m.rows next.rows m.cells next.cells one.kept some)
 
 may_stay : (place : Place) → MayBeLeft place (moment_of place)
-may_stay (Works m) = refl
-may_stay (Failed m) = refl
 may_stay (Between m next) = inl refl
+may_stay place = refl
 
 pub known_at : (m : Moment) (place : Place) → LeadsTo m place → IsSome m.cells → IsSome (moment_of place).cells
 known_at m place leads some = let it = leads (moment_of place) (may_stay place) in known_after m (moment_of place) it.0 it.1 some

@@ -29,7 +29,7 @@ use Rattle.moo_run.specs.declared.ends.Ends.TheVariants as variant
 abbrev pub StartsFrom : Task → Image → Given → (Moment → Type 0) → Type 0
 StartsFrom task image given From =
     (begins_anew task ≡ false → (m : Moment) → HoldsMoment image m → (now : Moment) × BecomesPresent m now × From now)
-    × (begins_anew task ≡ true → (m : Moment) × IsSome m.cells × BeginsFrom task.action given m.rows × From m)
+    × (begins_anew task ≡ true → (m : Moment) × IsSome m.cells × BeginsFrom task.action given.text m.rows × From m)
 
 module _ {T D : Type 0} {g : Ghosts D} where
   -- If words name a task that takes up its file, which held this image and this moment, on a clean disk it runs from the moment, brought to

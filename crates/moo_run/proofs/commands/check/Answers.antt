@@ -1,4 +1,4 @@
-use Rattle.moo_run.{proofs.Words.{◌≡◌, inr, refl, IfOk, IfErr, subst, ◌∙◌, NoMemory, StopsIn, state_of_world}, proofs.Tasks.{by_result, check_stops, check_says, check_unsaid}}
+use Rattle.moo_run.{proofs.Words.{◌≡◌, inr, refl, IfOk, IfErr, Err, subst, ◌∙◌, NoMemory, StopsIn, state_of_world}, proofs.Tasks.{check_stops, check_tells}}
 use Rattle.moo_run.proofs.commands.check.Goals as goal
 use Rattle.std.proofs.lemmas.Result.{err_from_is_err_and}
 use Rattle.std.proofs.KnownBytes.{Appends-nil}
@@ -11,20 +11,15 @@ returns-in_err-objects-clause-checks g c m stands =
 
 pub returns-in-Ok-clause-checks : goal.returns-in-Ok-clause-checks
 returns-in-Ok-clause-checks g c m stands =
-    let was = c.args.world.now in
-    let world = c.check.new.self in
     let old = g.W.Write.contents c.args.output.now in
     let new = g.W.Write.contents c.put_text.new.output in
     let line = c.as_str.ensures.value ∙ c.in-Ok.ensures in
     let number : c.in_ok-seq.seq ≡ (state_of_world c.args.world.now).seq = subst (λ r. IfOk r (λ n. c.in_ok-seq.seq ≡ n)) (c.in_ok-seq.ensures.number stands.failed) refl in
-    let moves = c.in_ok-objects.ensures.moves in
-    let checks = c.in_ok-objects.ensures.checks in
-    by_result _ _ _ _ c.put_text.result (λ status it. check_says g.B.Store was world m stands c.in_ok-objects.objects c.in_ok-seq.seq old new status moves checks number it)
-    (λ failure it. check_unsaid g.B.Store was world m stands c.in_ok-objects.objects c.in_ok-seq.seq old new failure moves checks number it)
+    check_tells g.B.Store c.args.world.now c.check.new.self m stands c.in_ok-objects.objects c.in_ok-seq.seq old new c.put_text.result c.in_ok-objects.ensures.moves c.in_ok-objects.ensures.checks number
     (subst (λ line. IfOk c.put_text.result (λ status. Appends old new line × (status ≡ 0))) line c.put_text.ensures.done) (subst (λ line. IfErr c.put_text.result (λ failure. StopsIn line failure old new)) line c.put_text.ensures.stops)
 
 pub returns-in-Err-clause-checks : goal.returns-in-Err-clause-checks
 returns-in-Err-clause-checks g c m stands =
     let old = g.W.Write.contents c.args.output.now in
     let number : c.in_ok-seq.seq ≡ (state_of_world c.args.world.now).seq = subst (λ r. IfOk r (λ n. c.in_ok-seq.seq ≡ n)) (c.in_ok-seq.ensures.number stands.failed) refl in
-    check_unsaid g.B.Store c.args.world.now c.check.new.self m stands c.in_ok-objects.objects c.in_ok-seq.seq old old NoMemory c.in_ok-objects.ensures.moves c.in_ok-objects.ensures.checks number (inr refl, 0, Appends-nil old)
+    check_tells g.B.Store c.args.world.now c.check.new.self m stands c.in_ok-objects.objects c.in_ok-seq.seq old old (Err NoMemory) c.in_ok-objects.ensures.moves c.in_ok-objects.ensures.checks number tt (inr refl, 0, Appends-nil old)

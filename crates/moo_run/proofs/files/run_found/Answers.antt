@@ -1,5 +1,6 @@
-use Rattle.moo_run.{proofs.Words.{inl, refl, image_at, rows_alone, Run, given_to}, proofs.Held.{ran_onto}, proofs.Connections.{unseen}, proofs.Refusals.{refuses_file, tells_fault, refused_onto, still_held, never_anew}}
+use Rattle.moo_run.{proofs.Words.{Err, inl, refl, image_at, rows_alone, Run, given_to}, proofs.Connections.{unseen}, proofs.OverFiles.{ran_onto, tells_fault, refused_onto, never_anew}}
 use Rattle.moo_run.proofs.files.run_found.Goals as goal
+use Rattle.moo_files.proofs.OpenedLemmas.{still_holds}
 
 pub returns-in-Ok-clause-runs : goal.returns-in-Ok-clause-runs
 returns-in-Ok-clause-runs g c =
@@ -19,17 +20,14 @@ returns-in-Ok-clause-runs g c =
 pub returns-in-Err-clause-runs : goal.returns-in-Err-clause-runs
 returns-in-Err-clause-runs g c =
     let fault = c.in-Err.fault in
-    let given = given_to g.S.Input.Read g.S.Host.BatchFiles g.S.Host.WorldFiles.denies g.S.Host.Ports g.S.Host.Source.Arrivals g.S.Host.Source.Reader.Read g.S.Host.Source.Reader.Incoming.fails g.S.Host.Source.Writer.Write c.args.session.now.input c.args.session.now.host c.fail_to_open.new.self.host in
-    let old = g.S.Output.Write.contents c.args.session.now.output in
-    let new = g.S.Output.Write.contents c.fail_to_open.new.self.output in
-    let run : Run = record { given = given; before = old; after = new; status = c.fail_to_open.new.self.status } in
-    let reports = tells_fault fault c.refusal_of-failure.result old new c.fail_to_open.new.self.status c.refusal_of-failure.ensures c.fail_to_open.ensures.reports in
+    let last = c.fail_to_open.new.self in
+    let run : Run = record { given = given_to g.S.Input.Read g.S.Host.BatchFiles g.S.Host.WorldFiles.denies g.S.Host.Ports g.S.Host.Source.Arrivals g.S.Host.Source.Reader.Read g.S.Host.Source.Reader.Incoming.fails g.S.Host.Source.Writer.Write c.args.session.now.input c.args.session.now.host last.host; before = g.S.Output.Write.contents c.args.session.now.output; after = g.S.Output.Write.contents last.output; status = last.status } in
+    let reports = tells_fault fault c.refusal_of-failure.result run.before run.after last.status c.refusal_of-failure.ensures c.fail_to_open.ensures.reports in
     record {
       anew = λ anew. never_anew c.args.task c.requires.other anew;
       unfit = λ anew. never_anew c.args.task c.requires.other anew;
       over = λ other held holds clean. refused_onto (image_at g.S.File.Start) fault c.in-Err.remains run held (c.in-Err.ensures.refuses held holds clean) reports;
-      opened = λ other. refuses_file fault run reports;
-      left = still_held (image_at g.S.File.Start) fault c.in-Err.remains c.in-Err.ensures.refuses;
+      left = still_holds (image_at g.S.File.Start) (Err (fault, c.in-Err.remains)) c.in-Err.ensures.refuses;
       spared = λ trees anew. never_anew c.args.task c.requires.other anew;
       unmade = λ trees anew. never_anew c.args.task c.requires.other anew;
       spares = λ some whole. c.in-Err.ensures.refused.spared some;

@@ -1,4 +1,4 @@
-use Rattle.moo_run.{proofs.Words.{inl, inr, NoMemory}, proofs.Refusals.{never_anew}}
+use Rattle.moo_run.{proofs.Words.{inl, inr, NoMemory}, proofs.OverFiles.{never_anew}}
 use Rattle.moo_run.proofs.files.run_in_memory.Goals as goal
 
 pub returns-in_default-clause-runs : goal.returns-in_default-clause-runs

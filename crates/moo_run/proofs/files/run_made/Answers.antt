@@ -1,4 +1,4 @@
-use Rattle.moo_run.{proofs.Words.{inl, subst, subst₂, ◌∙◌, refl, file_state, over_files, image_at, given_to, Reports, Run, RunsMade}, proofs.Beginning.{begins_from, made_with, reads_on}, proofs.Connections.{runs_made}, proofs.Refusals.{tells_fault}, proofs.Making.{made_over, unmade_over, ungiven_over}}
+use Rattle.moo_run.{proofs.Words.{inl, subst, ◌∙◌, file_state, over_files, image_at, given_to, Reports, Run}, proofs.Beginning.{made_since, reads_on}, proofs.Connections.{runs_made}, proofs.OverFiles.{tells_fault, made_over, unmade_over, ungiven_over}}
 use Rattle.moo_files.{specs.Causes.{HasCauseOr, IsDenied, IsOpenable}, specs.Making.{Filled, rows_made, StopsMaking}, specs.Remains.{IsCleanRemains}}
 use Rattle.moo_run.proofs.files.run_made.Goals as goal
 
@@ -9,51 +9,33 @@ returns-in-Ok-make_from-clause-runs g c =
     let was = c.args.session.now in
     let rows = rows_made c.in-Ok.rows in
     let world = c.in-Ok-make_from.world in
-    let conn = c.run_in_files.result in
-    let store = file_state conn in
-    let task = c.args.task in
+    let store = file_state c.run_in_files.result in
     let image = image_at g.S.File.Start in
     let made = c.in-Ok-make_from.ensures.makes in
     let ran = c.run_in_files.ensures in
     let early = ran.clean _ made.unseen in
-    let found = given_to g.S.Input.Read g.S.Host.BatchFiles g.S.Host.WorldFiles.denies g.S.Host.Ports g.S.Host.Source.Arrivals g.S.Host.Source.Reader.Read g.S.Host.Source.Reader.Incoming.fails g.S.Host.Source.Writer.Write was.input was.host mid.host in
-    let given = given_to g.S.Input.Read g.S.Host.BatchFiles g.S.Host.WorldFiles.denies g.S.Host.Ports g.S.Host.Source.Arrivals g.S.Host.Source.Reader.Read g.S.Host.Source.Reader.Incoming.fails g.S.Host.Source.Writer.Write was.input was.host last.host in
-    let later = given_to g.S.Input.Read g.S.Host.BatchFiles g.S.Host.WorldFiles.denies g.S.Host.Ports g.S.Host.Source.Arrivals g.S.Host.Source.Reader.Read g.S.Host.Source.Reader.Incoming.fails g.S.Host.Source.Writer.Write mid.input mid.host last.host in
-    let run : Run = record { given = later; before = g.S.Output.Write.contents mid.output; after = g.S.Output.Write.contents last.output; status = last.status } in
-    let all : Run = record { given = given; before = g.S.Output.Write.contents was.output; after = g.S.Output.Write.contents last.output; status = last.status } in
-    made_over task image all c.requires.anew rows world conn (begins_from task.action found given rows refl c.in-Ok.ensures.finds)
-    (subst (λ output. RunsMade store task rows (record { given = given; before = g.S.Output.Write.contents output; after = g.S.Output.Write.contents last.output; status = last.status })) c.in-Ok.ensures.unwritten
-    (made_with store task rows run given
-    (λ other it. subst₂ (λ input host. RunsMade store task rows (record { given = given_to g.S.Input.Read g.S.Host.BatchFiles g.S.Host.WorldFiles.denies g.S.Host.Ports g.S.Host.Source.Arrivals g.S.Host.Source.Reader.Read g.S.Host.Source.Reader.Incoming.fails g.S.Host.Source.Writer.Write input host last.host; before = g.S.Output.Write.contents mid.output; after = g.S.Output.Write.contents last.output; status = last.status })) (c.in-Ok.ensures.other other) c.in-Ok.ensures.rests it)
-    (λ rests. rests ∙ c.in-Ok.ensures.rests) (runs_made over_files world store task rows run made.unseen made.seen early ran.runs)))
+    let run : Run = record { given = given_to g.S.Input.Read g.S.Host.BatchFiles g.S.Host.WorldFiles.denies g.S.Host.Ports g.S.Host.Source.Arrivals g.S.Host.Source.Reader.Read g.S.Host.Source.Reader.Incoming.fails g.S.Host.Source.Writer.Write mid.input mid.host last.host; before = g.S.Output.Write.contents mid.output; after = g.S.Output.Write.contents last.output; status = last.status } in
+    made_over c.args.task image _ c.requires.anew rows world c.run_in_files.result c.in-Ok.ensures.finds
+    (made_since (given_to g.S.Input.Read g.S.Host.BatchFiles g.S.Host.WorldFiles.denies g.S.Host.Ports g.S.Host.Source.Arrivals g.S.Host.Source.Reader.Read g.S.Host.Source.Reader.Incoming.fails g.S.Host.Source.Writer.Write) g.S.Output.Write.contents store c.args.task rows was.input mid.input was.host mid.host last.host was.output mid.output run.after last.status c.in-Ok.ensures.other c.in-Ok.ensures.rests c.in-Ok.ensures.unwritten (λ rests. rests) (runs_made over_files world store c.args.task rows run made.unseen made.seen early ran.runs))
     early (λ trees holds any clean. made.over (Filled trees) holds clean any) made.room
 
 pub returns-in-Err-make_from-clause-runs : goal.returns-in-Err-make_from-clause-runs
 returns-in-Err-make_from-clause-runs g c =
     let last = c.fail_to_open.new.self in
-    let mid = c.find_rows.new.session in
     let was = c.args.session.now in
-    let rows = rows_made c.in-Ok.rows in
     let fault = c.in-Err-make_from.fault in
     let rest = c.in-Err-make_from.remains in
-    let task = c.args.task in
     let image = image_at g.S.File.Start in
-    let found = given_to g.S.Input.Read g.S.Host.BatchFiles g.S.Host.WorldFiles.denies g.S.Host.Ports g.S.Host.Source.Arrivals g.S.Host.Source.Reader.Read g.S.Host.Source.Reader.Incoming.fails g.S.Host.Source.Writer.Write was.input was.host mid.host in
-    let given = given_to g.S.Input.Read g.S.Host.BatchFiles g.S.Host.WorldFiles.denies g.S.Host.Ports g.S.Host.Source.Arrivals g.S.Host.Source.Reader.Read g.S.Host.Source.Reader.Incoming.fails g.S.Host.Source.Writer.Write was.input was.host last.host in
-    let old = g.S.Output.Write.contents was.output in
-    let new = g.S.Output.Write.contents last.output in
-    let run : Run = record { given = given; before = old; after = new; status = last.status } in
-    unmade_over task image run c.requires.anew fault rest rows (begins_from task.action found given rows refl c.in-Ok.ensures.finds) (c.fail_to_open.ensures.host ∙ c.in-Ok.ensures.rests)
-    (tells_fault fault c.refusal.result old new last.status (inl c.refusal.ensures) (subst (λ output. Reports c.refusal.result (g.S.Output.Write.contents output) new last.status) c.in-Ok.ensures.unwritten c.fail_to_open.ensures.reports))
+    let run : Run = record { given = given_to g.S.Input.Read g.S.Host.BatchFiles g.S.Host.WorldFiles.denies g.S.Host.Ports g.S.Host.Source.Arrivals g.S.Host.Source.Reader.Read g.S.Host.Source.Reader.Incoming.fails g.S.Host.Source.Writer.Write was.input was.host last.host; before = g.S.Output.Write.contents was.output; after = g.S.Output.Write.contents last.output; status = last.status } in
+    unmade_over c.args.task image run c.requires.anew fault rest (rows_made c.in-Ok.rows) c.in-Ok.ensures.finds (c.fail_to_open.ensures.host ∙ c.in-Ok.ensures.rests)
+    (tells_fault fault c.refusal.result run.before run.after last.status (inl c.refusal.ensures) (subst (λ output. Reports c.refusal.result (g.S.Output.Write.contents output) run.after last.status) c.in-Ok.ensures.unwritten c.fail_to_open.ensures.reports))
     c.in-Err-make_from.ensures.makes
-    (subst (λ host. IsOpenable image → IsCleanRemains rest → HasCauseOr (StopsMaking image fault) (IsDenied (g.S.Host.WorldFiles.denies host) task.file.now) fault rest) c.in-Ok.ensures.rests c.in-Err-make_from.ensures.cause)
+    (subst (λ host. IsOpenable image → IsCleanRemains rest → HasCauseOr (StopsMaking image fault) (IsDenied (g.S.Host.WorldFiles.denies host) c.args.task.file.now) fault rest) c.in-Ok.ensures.rests c.in-Err-make_from.ensures.cause)
 
 pub returns-in-Err-clause-runs : goal.returns-in-Err-clause-runs
 returns-in-Err-clause-runs g c =
     let last = c.fail.new.self in
-    let was = c.args.session.now in
-    let run : Run = record { given = given_to g.S.Input.Read g.S.Host.BatchFiles g.S.Host.WorldFiles.denies g.S.Host.Ports g.S.Host.Source.Arrivals g.S.Host.Source.Reader.Read g.S.Host.Source.Reader.Incoming.fails g.S.Host.Source.Writer.Write was.input was.host last.host; before = g.S.Output.Write.contents was.output; after = g.S.Output.Write.contents last.output; status = last.status } in
-    ungiven_over c.args.task (image_at g.S.File.Start) run c.requires.anew c.args.start c.in-Err.failure c.in-Err.ensures.finds (c.fail.ensures.host ∙ c.in-Err.ensures.rests)
+    ungiven_over c.args.task _ _ c.requires.anew c.args.start c.in-Err.failure c.in-Err.ensures.finds (c.fail.ensures.host ∙ c.in-Err.ensures.rests)
     (subst (λ output. Reports c.in-Err.failure (g.S.Output.Write.contents output) (g.S.Output.Write.contents last.output) last.status) c.in-Err.ensures.unwritten c.fail.ensures.reports)
 
 pub returns-in-Err-clause-input : goal.returns-in-Err-clause-input

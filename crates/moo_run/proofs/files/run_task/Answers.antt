@@ -1,4 +1,4 @@
-use Rattle.moo_run.{proofs.Words.{sym, ◌∙◌}, proofs.Beginning.{memory_begins}, proofs.Refusals.{runs_task}}
+use Rattle.moo_run.{proofs.Words.{sym, ◌∙◌}, proofs.Beginning.{memory_begins}, proofs.OverFiles.{runs_task}}
 use Rattle.moo_run.proofs.files.run_task.Goals as goal
 
 pub run_in_memory-requires-clause-anew : goal.run_in_memory-requires-clause-anew

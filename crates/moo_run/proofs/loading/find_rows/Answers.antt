@@ -1,31 +1,21 @@
-use Rattle.moo_run.{proofs.Words.{true≢false, ◌∙◌, sym, given_to}, proofs.Beginning.{begins_opening, begins_dumped, held_rows, refuses_dump, reads_dump, keeps_input}}
+use Rattle.moo_run.{proofs.Words.{true≢false, ◌∙◌, sym}, proofs.Beginning.{begins_opening, begins_dumped, load_reads, keeps_input}}
 use Rattle.moo_run.proofs.loading.find_rows.Goals as goal
 use Rattle.moo_world.proofs.Shown.OpeningRows.{opening-good}
 
 pub read_world-requires : goal.read_world-requires
-read_world-requires g c = record { read = λ other. c.requires.read c.in-Some.dump.now (reads_dump c.args.task c.in-Some.dump.now c.in-Some.ensures.0 c.in-Some.ensures.1 other) }
+read_world-requires g c = record { read = λ other. c.requires.read c.in-Some.dump.now (load_reads c.args.task.action c.in-Some.dump.now c.in-Some.ensures.0 c.in-Some.ensures.1, other) }
 
 pub returns-in_default-clause-finds : goal.returns-in_default-clause-finds
-returns-in_default-clause-finds g c =
-    let given = given_to g.S.Input.Read g.S.Host.BatchFiles g.S.Host.WorldFiles.denies g.S.Host.Ports g.S.Host.Source.Arrivals g.S.Host.Source.Reader.Read g.S.Host.Source.Reader.Incoming.fails g.S.Host.Source.Writer.Write c.args.session.now.input c.args.session.now.host c.args.session.now.host in
-    record {
-      good = opening-good;
-      world = begins_opening c.args.task.action given c.in_default.ensures;
-    }
+returns-in_default-clause-finds g c = record { good = opening-good; world = begins_opening c.args.task.action _ c.in_default.ensures }
 
 pub returns-in-Ok-clause-finds : goal.returns-in-Ok-clause-finds
-returns-in-Ok-clause-finds g c =
-    let given = given_to g.S.Input.Read g.S.Host.BatchFiles g.S.Host.WorldFiles.denies g.S.Host.Ports g.S.Host.Source.Arrivals g.S.Host.Source.Reader.Read g.S.Host.Source.Reader.Incoming.fails g.S.Host.Source.Writer.Write c.args.session.now.input c.args.session.now.host c.args.session.now.host in
-    let rows = c.in-Ok.rows.maps in
-    record {
-      good = c.in-Ok.ensures.good;
-      world = begins_dumped c.args.task.action given c.in-Some.dump.now rows c.in-Some.ensures.0 c.in-Some.ensures.1 c.in-Ok.ensures.dumped (held_rows rows c.in-Ok.ensures.good c.in-Ok.ensures.limit) c.in-Ok.ensures.numbered;
-    }
+returns-in-Ok-clause-finds g c = record {
+  good = c.in-Ok.ensures.good;
+  world = begins_dumped c.args.task.action _ c.in-Some.dump.now c.in-Ok.rows.maps c.in-Some.ensures.0 c.in-Some.ensures.1 c.in-Ok.ensures.dumped (record { formed = record { world = c.in-Ok.ensures.good.formed; petitions = c.in-Ok.ensures.good.petitions }; limit = c.in-Ok.ensures.limit }) c.in-Ok.ensures.numbered;
+}
 
 pub returns-in-Err-clause-finds : goal.returns-in-Err-clause-finds
-returns-in-Err-clause-finds g c =
-    let given = given_to g.S.Input.Read g.S.Host.BatchFiles g.S.Host.WorldFiles.denies g.S.Host.Ports g.S.Host.Source.Arrivals g.S.Host.Source.Reader.Read g.S.Host.Source.Reader.Incoming.fails g.S.Host.Source.Writer.Write c.args.session.now.input c.args.session.now.host c.args.session.now.host in
-    (c.in-Some.ensures.0, refuses_dump c.args.task.action given c.in-Some.dump.now c.in-Err.failure c.in-Some.ensures.1 c.in-Err.ensures.failure c.in-Err.ensures.lacks)
+returns-in-Err-clause-finds g c = (c.in-Some.ensures.0, rw c.in-Some.ensures.1 c.in-Err.ensures.failure)
 
 pub returns-in-Ok-clause-other : goal.returns-in-Ok-clause-other
 returns-in-Ok-clause-other g c other = absurd (true≢false (sym c.in-Some.ensures.0 ∙ other))

@@ -1,4 +1,4 @@
-use Rattle.moo_run.{proofs.Words.{inl, inr, subst, subst₂, ◌∙◌, refl, state, given_to, Reports, Run, RunsMade}, proofs.Beginning.{begins_from, made_with, reads_on}}
+use Rattle.moo_run.{proofs.Words.{inl, inr, subst, ◌∙◌, state, given_to, Reports}, proofs.Beginning.{made_since, reads_on}}
 use Rattle.moo_files.specs.Making.{rows_made}
 use Rattle.moo_run.proofs.over.run_over.Goals as goal
 
@@ -7,26 +7,16 @@ returns-in-Ok-clause-runs g c =
     let last = c.run_new.new.session in
     let mid = c.find_rows.new.session in
     let was = c.args.session.now in
-    let rows = rows_made c.in-Ok.rows in
-    let store = state g.B.Store c.run_new.result in
-    let task = c.args.task in
-    let found = given_to g.S.Input.Read g.S.Host.BatchFiles g.S.Host.WorldFiles.denies g.S.Host.Ports g.S.Host.Source.Arrivals g.S.Host.Source.Reader.Read g.S.Host.Source.Reader.Incoming.fails g.S.Host.Source.Writer.Write was.input was.host mid.host in
-    let given = given_to g.S.Input.Read g.S.Host.BatchFiles g.S.Host.WorldFiles.denies g.S.Host.Ports g.S.Host.Source.Arrivals g.S.Host.Source.Reader.Read g.S.Host.Source.Reader.Incoming.fails g.S.Host.Source.Writer.Write was.input was.host last.host in
-    let later = given_to g.S.Input.Read g.S.Host.BatchFiles g.S.Host.WorldFiles.denies g.S.Host.Ports g.S.Host.Source.Arrivals g.S.Host.Source.Reader.Read g.S.Host.Source.Reader.Incoming.fails g.S.Host.Source.Writer.Write mid.input mid.host last.host in
     let new = g.S.Output.Write.contents last.output in
-    let run : Run = record { given = later; before = g.S.Output.Write.contents mid.output; after = new; status = last.status } in
     elim c.run_new.ensures.runs [
       | inl fails ↦ inl (
         fails.0 ∙ c.in-Ok.ensures.rests,
         (fails.1.0, inl fails.1.1, subst (λ output. Reports fails.1.0 (g.S.Output.Write.contents output) new last.status) c.in-Ok.ensures.unwritten fails.1.2),
       )
       | inr made ↦ inr (
-        rows,
-        begins_from task.action found given rows refl c.in-Ok.ensures.finds,
-        subst (λ output. RunsMade store task rows (record { given = given; before = g.S.Output.Write.contents output; after = new; status = last.status })) c.in-Ok.ensures.unwritten
-            (made_with store task rows run given
-            (λ other it. subst₂ (λ input host. RunsMade store task rows (record { given = given_to g.S.Input.Read g.S.Host.BatchFiles g.S.Host.WorldFiles.denies g.S.Host.Ports g.S.Host.Source.Arrivals g.S.Host.Source.Reader.Read g.S.Host.Source.Reader.Incoming.fails g.S.Host.Source.Writer.Write input host last.host; before = g.S.Output.Write.contents mid.output; after = new; status = last.status })) (c.in-Ok.ensures.other other) c.in-Ok.ensures.rests it)
-            (λ rests. rests ∙ c.in-Ok.ensures.rests) made),
+        rows_made c.in-Ok.rows,
+        c.in-Ok.ensures.finds,
+        made_since (given_to g.S.Input.Read g.S.Host.BatchFiles g.S.Host.WorldFiles.denies g.S.Host.Ports g.S.Host.Source.Arrivals g.S.Host.Source.Reader.Read g.S.Host.Source.Reader.Incoming.fails g.S.Host.Source.Writer.Write) g.S.Output.Write.contents (state g.B.Store c.run_new.result) c.args.task (rows_made c.in-Ok.rows) was.input mid.input was.host mid.host last.host was.output mid.output new last.status c.in-Ok.ensures.other c.in-Ok.ensures.rests c.in-Ok.ensures.unwritten (λ rests. rests) made,
       )
     ]
 

@@ -1,10 +1,12 @@
-use Rattle.std.proofs.Common.{refl}
-use Rattle.moo_run_laws.proofs.Desks.{passes_desk, none_left, passes_whole, asker_answered, causes_desk}
+use Rattle.std.proofs.Common.{◌≡◌, [], drop, refl, arith}
+use Rattle.std.proofs.Math.ListN.{drop_of_length-le}
+use Rattle.moo_run_laws.proofs.Desks.{passes_desk, asker_answered, causes_desk}
 use Rattle.moo_run_laws.proofs.desk.exchanges_pass_the_desk.Goals as goal
 
 pub returns-clause-sent : goal.returns-clause-sent
 returns-clause-sent g c from to came slot opened closed back last it all exchanged =
-    (c.exchanges_pass_through.ensures.sent from to _ _ (passes_whole _ _ _ (none_left last.writer.sent last.writer.text.items all) (passes_desk _ _ came slot opened closed back last it (λ x. refl) (λ x. refl))) exchanged, asker_answered came slot opened closed back last it)
+    let none : drop last.writer.sent last.writer.text.items ≡ [] = drop_of_length-le last.writer.text.items (omega (arith, all)) in
+    (c.exchanges_pass_through.ensures.sent from to _ _ (rw none at (passes_desk _ _ came slot opened closed back last it (λ x. refl) (λ x. refl))) exchanged, asker_answered came slot opened closed back last it)
 
 pub returns-clause-lost : goal.returns-clause-lost
 returns-clause-lost g c from to came slot opened closed back last it exchanged =
