@@ -1,6 +1,7 @@
 -- What the asking of a text answers.
-use Rattle.moo_store.{proofs.Words.{◌≡◌, ℕ, Bool, List, Option, Result, Ok, Err, refl, ap, subst, sym, false, IsTrue, Ghosts, Batch, Maps, state_of, TextFault, Answer, Reply, World, answer_to, StoreFault, Closed}, specs.Moves.{Stands, MayReplyAsked, AsksAt}, specs.Stopping.{AnswersBy}, specs.World.{state_of_world}, specs.declared.course.Course.{Course}, proofs.Texts.{answers-follow}, specs.Moment.{Moment, state_of_moment}, specs.Place.{Place, Works, Failed, Between}}
+use Rattle.moo_store.{proofs.Words.{inl, inr, ◌≢◌, State, judge, answer_of, ◌≡◌, ℕ, Bool, List, Option, Result, Ok, Err, refl, ap, subst, sym, false, IsTrue, Ghosts, Batch, Maps, state_of, TextFault, Answer, Reply, World, answer_to, StoreFault, Closed}, specs.Moves.{Stands, MayReplyAsked, AsksAt}, specs.Stopping.{AnswersBy}, specs.World.{state_of_world}, specs.declared.course.Course.{Course}, proofs.Texts.{answers-follow}, specs.Moment.{Moment, state_of_moment}, specs.Place.{Place, Works}}
 use Rattle.std.specs.Result.{IsOkAnd, IsErrOf}
+use Rattle.moo_text.specs.declared.reply.Reply.TheVariants.{NoMemory}
 
 -- ---- one batch
 
@@ -12,8 +13,12 @@ replied_at m batch (Err fault) it = absurd it
 pub asked_at : {S : Type 0} (g : Ghosts S) (world : World S) (batch : Batch) (r : Result Reply StoreFault) → (world.failed ≡ false → IsOkAnd r (MayReplyAsked (state_of_world world) batch)) → (IsTrue world.failed → IsErrOf r Closed)
     → (place : Place) → Stands g world place → AsksAt place batch (answer_to r) place
 asked_at g world batch r asks closed (Works m) at = replied_at m batch r (subst (λ (rows : Maps). IsOkAnd r (MayReplyAsked (state_of rows) batch)) (at.rows at.failed) (asks at.failed))
-asked_at g world batch r asks closed (Failed m) at = (ap answer_to (closed at.failed), refl)
-asked_at g world batch r asks closed (Between m next) at = (ap answer_to (closed at.failed), refl)
+asked_at g world batch r asks closed place at = (ap answer_to (closed at.failed), refl)
+
+-- a reply that isn't a lack of memory is as the batch is judged
+pub judged_alone : (s : State) (batch : Batch) (reply : Reply) → reply ≢ NoMemory → MayReplyAsked s batch reply → reply ≡ answer_of s (judge s batch)
+judged_alone s batch reply other (inl none) = absurd (other none.0)
+judged_alone s batch reply other (inr is) = is
 
 -- ---- a text
 

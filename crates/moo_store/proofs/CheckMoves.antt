@@ -1,6 +1,5 @@
 -- Where a check leaves a World.
-use Rattle.moo_store.{proofs.Words.{◌≡◌, ◌≢◌, ◌∙◌, inl, inr, ℕ, true, false, Some, None, Result, Ok, Err, IfErr, MatchResult, IsTrue, refl, ap, Ghosts, HasCleanDisk, Maps, Tables, Rests, World, store_of, StoreFault, Store, OutOfMemory, Closed}, specs.Moves.{Stands, MovesBy}, specs.Runs.{LeavesChecked, fails_by}, proofs.Moving.{moves_from}, proofs.Verdicts.{not_both}, specs.Checked.{Checks, KeepsTables}, specs.Moment.{AllCells, Moment, HasAtRest}, specs.Place.{Place, Works, Failed, Between, CrashLeavesAt}}
-use Rattle.moo_store.specs.declared.fault.StoreFault.TheVariants.{Damaged, NewerVersion}
+use Rattle.moo_store.{proofs.Words.{◌≡◌, ◌≢◌, ◌∙◌, inl, inr, ℕ, true, false, Some, None, Result, Ok, Err, IfErr, MatchResult, IsTrue, refl, ap, Ghosts, HasCleanDisk, Maps, Tables, Rests, World, store_of, StoreFault, OutOfMemory, Closed}, specs.Moves.{Stands, MovesBy}, specs.Runs.{LeavesChecked, fails_by}, proofs.Moving.{moves_from}, proofs.Verdicts.{not_both}, specs.Checked.{Checks, KeepsTables}, specs.Moment.{AllCells, Moment, HasAtRest}, specs.Place.{Place, Works, Between, CrashLeavesAt}}
 use Rattle.std.specs.Prelude.{Option}
 use Rattle.sqlite.specs.State.{State as Database}
 use Rattle.moo_rows.specs.Maps.{Held}
@@ -54,10 +53,8 @@ module _ {S : Type 0} (g : Ghosts S) (old new : World S) (works : old.failed ≡
           → (to : Place) × Stands g new to × LeavesChecked (Works m) r to
       by (Ok count) m at fails worked rests = (Works m, works_on m at fails rests, refl)
       by (Err OutOfMemory) m at fails worked rests = (Works m, works_on m at fails (λ clean. rests clean refl), refl)
-      by (Err (Store error)) m at fails worked rests = (Between m m, fails_there m at fails, (worked, refl))
-      by (Err (Damaged kind key)) m at fails worked rests = (Between m m, fails_there m at fails, (worked, refl))
-      by (Err NewerVersion) m at fails worked rests = (Between m m, fails_there m at fails, (worked, refl))
       by (Err Closed) m at fails worked rests = absurd (worked refl)
+      by (Err fault) m at fails worked rests = (Between m m, fails_there m at fails, (worked, refl))
 
 -- a failed World looks at nothing
 pub closed_check : {S : Type 0} (g : Ghosts S) (world : World S) → world.failed ≡ true → MovesBy g world world (λ from to. LeavesChecked from (Err Closed) to)
@@ -65,5 +62,4 @@ closed_check g world failed = record { clean = λ c. c; closed = λ shut. refl; 
   where
     by : (from : Place) → Stands g world from → (to : Place) × Stands g world to × LeavesChecked from (Err Closed) to
     by (Works m) at = not_both world.failed at.failed failed
-    by (Failed m) at = (Failed m, at, (refl, refl))
-    by (Between m next) at = (Between m next, at, (refl, refl))
+    by from at = (from, at, (refl, refl))

@@ -1,17 +1,15 @@
 -- From what was read to what is said of the tables.
-use Rattle.moo_store.{proofs.Words.{◌≡◌, ◌≤◌, ◌≤ℤ◌, ℕ, ℤ, pos, negsuc, suc, zero, [], ◌∷◌, length, map, Result, Ok, Err, refl, sym, ap, subst, ◌∙◌, arith, length-append, length-map, IfOk, IfErr, OnOk, entries, HasCleanDisk, Maps, IsGood, world_of, numbers_below, Tables, Rests, ShowsRows, IsOfStore, StopsBy, StoreFault, Store, OutOfMemory, ◌⊎◌, inl, inr}, specs.OpeningRows.{not_ours}, specs.Checked.{SaysInCheck, StopsCheck, IsUnchecked, Checks}, specs.declared.fault.StoreFault.TheVariants.{Damaged, NewerVersion, Closed}, proofs.Causes.{ran_out, stops_more}}
-use Rattle.moo_tables.specs.ReadCause.{StopsQuery}
-use Rattle.moo_tables_rows.specs.Inside.{IsCurrent}
-use Rattle.sqlite.specs.State.{State as Database}
+use Rattle.moo_store.{proofs.Words.{IsTrue, false, present, schema_of, ◌≡◌, ◌≤◌, ◌≤ℤ◌, ℕ, ℤ, pos, negsuc, suc, zero, [], ◌∷◌, length, map, Result, Ok, Err, refl, sym, ap, subst, ◌∙◌, arith, length-append, length-map, IfOk, IfErr, OnOk, entries, HasCleanDisk, Maps, IsGood, world_of, numbers_below, Tables, Rests, ShowsRows, IsOfStore, StopsBy, StoreFault, Store, OutOfMemory, ◌⊎◌, inl, inr}, specs.OpeningRows.{not_ours}, specs.Checked.{SaysInCheck, StopsCheck, IsUnchecked, Checks, KeepsTables}, specs.Current.{unread_of}, proofs.OpenLemmas.{at_rest}, specs.declared.fault.StoreFault.TheVariants.{Damaged, NewerVersion}, proofs.Causes.{ran_out, stops_more}}
+use Rattle.moo_tables.{specs.ReadCause.{StopsQuery}, proofs.ReadLemmas.{rests_on}}
+use Rattle.moo_tables_rows.specs.Inside.{IsCurrent, FailsToRead, ReadsTables, RestsAt, HasTables, Holds}
+use Rattle.sqlite.{specs.State.{State as Database}, specs.Effect.{Database as Content}, specs.declared.error.Error.{Error}}
 use Rattle.std.{proofs.lemmas.List.Sums.{count_by-le-length, length-filter}, proofs.lemmas.Int.{ints}}
 use Rattle.moo_world.{specs.Objects.{object_at}, specs.ObjectLists.{objects_of}, specs.World.{is_object, numbers_to}, proofs.Shown.ObjectEntries.{objects_listed}}
 
 says_more : (P Q : Type 0) (own : Maps) (tables : Tables) (fault : StoreFault) → (P → Q) → SaysInCheck P own tables fault → SaysInCheck Q own tables fault
-says_more P Q own tables (Store error) more it = more it
 says_more P Q own tables (Damaged kind key) more it = it
 says_more P Q own tables NewerVersion more it = it
-says_more P Q own tables OutOfMemory more it = more it
-says_more P Q own tables Closed more it = more it
+says_more P Q own tables fault more it = more it
 
 -- what the cells that were read say, and what is known of the tables that they are, decides a check
 pub checked_by : (Listed : Type 0) (own : Maps) (cells : Tables) (old new : Database) (r : Result ℕ StoreFault) → OnOk r (ShowsRows cells own) → IfOk r (λ count. count ≡ length (objects_of (world_of own)))
@@ -46,6 +44,32 @@ unasked old t fault (inr (other, is)) = subst (StopsCheck t old old) (sym is) (i
 -- a query of them stopped
 pub cut_off : (old new : Database) (t : Tables) (fault : StoreFault) → StopsBy (StopsQuery old new) fault → StopsCheck t old new fault
 cut_off old new t fault stops = stops_more (StopsQuery old new) (λ error. StopsQuery old new error ⊎ ((¬ IsCurrent t) × (Store error ≡ not_ours))) fault (λ error it. inl it) stops
+
+pub failed : (own : Maps) (old new : Database) (fault : StoreFault) → (error : Error) × (fault ≡ Store error) → (HasCleanDisk new → StopsBy (StopsQuery old new) fault) → IsUnchecked own old new fault
+failed own old new fault it stops =
+    let none = λ (clean : HasCleanDisk new) (t : Tables) (here : Rests old t). cut_off old new t fault (stops clean) in
+    subst (λ f. (HasCleanDisk new → (t : Tables) → Rests old t → StopsCheck t old new f) → IsUnchecked own old new f) (sym it.1) (λ stops. unchecked own old new (Store it.0) tt stops (λ is. absurd cc)) none
+
+-- a reading leaves the tables
+pub keeps_read : (old new : Database) → HasTables (schema_of present) old → ReadsTables (schema_of present) old new → KeepsTables old new
+keeps_read old new has read = record {
+  clean = read.clean;
+  kept = λ clean opened tables rests. rests_on old new tables (read.same clean has) rests;
+  unread = λ clean opened tables rests. ap (λ (db : Content). unread_of db.trees) (read.same clean has).0.now_is;
+  crash = read.crash (λ _. has);
+}
+
+-- so does one that failed, unless it shut the connection
+pub keeps_failed : (old new : Database) → HasTables (schema_of present) old → FailsToRead (schema_of present) old new → new.in_transaction ≡ false → KeepsTables old new
+keeps_failed old new has fails outside = record {
+  clean = fails.clean;
+  kept = λ clean opened tables rests. (let at = back clean opened tables rests in record { is_open = opened; outside = outside; committed = at.now_is ∙ sym at.committed_is; holds = subst (λ db. Holds db tables) (sym at.now_is) rests.holds });
+  unread = λ clean opened tables rests. ap (λ (db : Content). unread_of db.trees) (back clean opened tables rests).now_is;
+  crash = fails.crash (λ _. has);
+}
+  where
+    back : HasCleanDisk new → IsTrue new.is_open → (tables : Tables) → Rests old tables → RestsAt new old.now
+    back clean opened tables rests = at_rest old new (λ _. rests.committed) outside (fails.kept clean has) opened
 
 -- ---- how many objects there are
 

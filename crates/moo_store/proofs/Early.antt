@@ -1,5 +1,5 @@
 -- How far a text was answered that stops at the first answer that isn't `accepted`.
-use Rattle.moo_store.{proofs.Words.{◌≡◌, ◌&&◌, ◌∙◌, not, ℕ, Bool, true, false, List, [], ◌∷◌, ◌++◌, Option, refl, sym, arith, items, Side, Answer, Batch, says_accepted, stops_after, AreAccepted, EndAtFirst, EndsEarly}, proofs.Going.{Going, gives_front}}
+use Rattle.moo_store.{proofs.Words.{◌≡◌, ◌&&◌, not, ℕ, Bool, true, false, List, [], ◌∷◌, ◌++◌, Option, refl, arith, items, Side, Answer, Batch, says_accepted, AreAccepted, EndAtFirst, EndsEarly}, proofs.Going.{Going, gives_front}}
 use Rattle.moo_text.specs.declared.lines.TheConstants.{LONGEST_TEXT}
 
 -- one answer more
@@ -12,21 +12,11 @@ pub at_first : (answers : List Answer) (a : Answer) → AreAccepted answers → 
 at_first answers a all one = record { before = answers; last = a; are = refl; firsts = all; refused = one }
 
 -- a text stops after an answer only if it was to stop, and the answer isn't `accepted`
-stops_by : (stop accepted r : Bool) → r ≡ (stop && not accepted) → r ≡ true → (stop ≡ true) × (accepted ≡ false)
-stops_by true false r is stops = (refl, refl)
-stops_by true true r is stops = absurd (let odd : true ≡ false = sym stops ∙ is in cc)
-stops_by false accepted r is stops = absurd (let odd : true ≡ false = sym stops ∙ is in cc)
+pub has_stopped : (stop accepted r : Bool) → r ≡ (stop && not accepted) → r ≡ true → (stop ≡ true) × (accepted ≡ false)
+has_stopped stop accepted r is stops = grind arith
 
-goes_by : (stop accepted r : Bool) → r ≡ (stop && not accepted) → r ≡ false → stop ≡ true → accepted ≡ true
-goes_by true true r is goes e = refl
-goes_by true false r is goes e = absurd (let odd : true ≡ false = sym is ∙ goes in cc)
-goes_by false accepted r is goes e = absurd (let odd : false ≡ true = e in cc)
-
-pub has_stopped : (stop : Bool) (a : Answer) (r : Bool) → r ≡ stops_after stop a → r ≡ true → (stop ≡ true) × (says_accepted a ≡ false)
-has_stopped stop a r is stops = stops_by stop (says_accepted a) r is stops
-
-pub goes_on : (stop : Bool) (a : Answer) (r : Bool) → r ≡ stops_after stop a → r ≡ false → stop ≡ true → says_accepted a ≡ true
-goes_on stop a r is goes = goes_by stop (says_accepted a) r is goes
+pub goes_on : (stop accepted r : Bool) → r ≡ (stop && not accepted) → r ≡ false → stop ≡ true → accepted ≡ true
+goes_on stop accepted r is goes e = grind arith
 
 -- a text that was to stop
 module _ {A : Type 0} (P : A → Batch → Answer → A → Type 0) (old : A) (text before : Option (List ℕ)) where
@@ -34,8 +24,9 @@ module _ {A : Type 0} (P : A → Batch → Answer → A → Type 0) (old : A) (t
   abbrev pub GoingUntil : Bool → A → Side → Option (List ℕ) → ℕ → ℕ → Type 0
   GoingUntil stop now side written b l = (p : Going P old text before now side written b l) × (stop ≡ true → AreAccepted p.answers)
 
-  pub ends_early : (now : A) (side : Side) (written : Option (List ℕ)) (b l : ℕ) (p : Going P old text before now side written b l) → EndAtFirst p.answers → EndsEarly P old now text before written b l
-  ends_early now side written b l p first = record {
+module _ {A : Type 0} {P : A → Batch → Answer → A → Type 0} {old : A} {text before : Option (List ℕ)} where
+  pub ends_early : {now : A} {side : Side} {written : Option (List ℕ)} {b l : ℕ} (p : Going P old text before now side written b l) → EndAtFirst p.answers → EndsEarly P old now text before written b l
+  ends_early {side = side} p first = record {
     given = p.read.given;
     ended = side.ended;
     front = gives_front text LONGEST_TEXT side p.read.given p.read.gives;

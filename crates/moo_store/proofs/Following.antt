@@ -12,12 +12,11 @@ module _ {A B : Type 0} (P : A → Batch → Answer → A → Type 0) (Q : B →
 
   pub turns-follow : (old new : A) (stand : B) (items : List Next) (answers : List Answer) → As old stand → Turns P old items answers new → (next : B) × As new next × Turns Q stand items answers next
   turns-follow old new stand [] [] it turns = (stand, subst (λ x. As x stand) (sym turns) it, refl)
-  turns-follow old new stand [] (a ∷ answers) it turns = absurd turns
-  turns-follow old new stand (item ∷ items) [] it turns = absurd turns
   turns-follow old new stand (item ∷ items) (a ∷ answers) it turns =
       let one = turn-follows old turns.0 stand item a it turns.1 in
       let rest = turns-follow turns.0 new one.0 items answers one.1 turns.2 in
       (rest.0, rest.1, (one.0, one.2, rest.2))
+  turns-follow old new stand items answers it turns = absurd turns
 
   abbrev pub completes-follows : (old new : A) (stand : B) (text before behind : Option (List ℕ)) (b l : ℕ) → As old stand → Completes P old new text before behind b l
       → (next : B) × As new next × Completes Q stand next text before behind b l

@@ -1,6 +1,5 @@
 pub mod Words
 pub mod Versions
-pub mod Found
 pub mod Causes
 pub mod Written
 pub mod Laid
@@ -12,7 +11,6 @@ pub mod Committed
 pub mod OpenLemmas
 pub mod CompareLemmas
 pub mod Migrated
-pub mod Current
 pub mod Opened
 pub mod Running
 pub mod Moving
@@ -31,5 +29,3 @@ pub mod TakenUp
 pub mod ListRuns
 pub mod CheckMoves
 pub mod Commits
-pub mod Alone
-pub mod SeenEach

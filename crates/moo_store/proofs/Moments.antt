@@ -1,8 +1,8 @@
 -- What a store has at rest, and what a crash leaves of it.
-use Rattle.moo_store.{proofs.Words.{◌≡◌, Bool, IsTrue, ◌∙◌, false, true, Some, None, Option, refl, sym, ap, subst, Trees, Maps, Rests, IsCurrent, ShowsRows, KeepsRows}, specs.Current.{unread_of}, specs.Moment.{AllCells, Moment, KeepsStaying, KeepsCellsAt, HasAtRest, HasCellsOf}}
+use Rattle.moo_store.{proofs.Words.{◌≡◌, IsTrue, ◌∙◌, false, true, Some, None, Option, refl, sym, ap, subst, Trees, Maps, Rests, IsCurrent, ShowsRows}, specs.Current.{unread_of}, specs.Moment.{AllCells, Moment, KeepsStaying, KeepsCellsAt, HasAtRest, HasCellsOf}}
 use Rattle.moo_tables_rows.proofs.InsideLemmas.{left_by as tables_left}
 use Rattle.std.specs.Prelude.{IfSome, IsSome}
-use Rattle.sqlite.{specs.State.{State as Database, HasCleanDisk}, specs.Effect.{Database as Content}}
+use Rattle.sqlite.{specs.State.{State as Database}, specs.Effect.{Database as Content}}
 
 -- the law of a store that is open: a crash leaves the last commit
 abbrev pub IsSettled : Database → Type 0

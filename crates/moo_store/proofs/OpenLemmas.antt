@@ -1,6 +1,6 @@
 -- From what was read of a connection to what is opened.
-use Rattle.moo_store.{proofs.Words.{◌≡◌, ◌⊎◌, inl, inr, IsTrue, false, sym, ap, subst, ◌∙◌, Trees, Ghosts, Held, state, Maps, IsGood, state_of, Version, Tables, schema_of, Rests, RestsAt, HasTables, ReadsTables, FailsToRead, stays, clean_before, ShowsRows, Adopts, IsOfStore, TakesOver, StoreFault, IsEarlier}, specs.OpeningRows.{StopsOpening, IsUnadopted}, specs.States.{ShowsState}, proofs.Causes.{says_nothing, of_store}, proofs.Versions.{version_is}}
-use Rattle.sqlite.{specs.Effect.{Database as Content}, proofs.StateLemmas.{survives_then}, specs.State.{State as Database, HasCleanDisk, IsUnchanged, IsRolledBack, Survives}}
+use Rattle.moo_store.{proofs.Words.{◌≡◌, ◌⊎◌, inl, inr, IsTrue, false, sym, ap, subst, ◌∙◌, Trees, Ghosts, Held, state, Maps, IsGood, state_of, Version, Tables, schema_of, Rests, RestsAt, HasTables, ReadsTables, FailsToRead, stays, clean_before, ShowsRows, Adopts, IsOfStore, TakesOver, StoreFault, IsEarlier}, specs.OpeningRows.{StopsOpening, IsUnadopted}, specs.States.{ShowsState}, proofs.Causes.{of_store}, proofs.Versions.{version_is}}
+use Rattle.sqlite.{specs.Effect.{Database as Content}, proofs.StateLemmas.{survives_then, survives_weaker}, specs.State.{State as Database, HasCleanDisk, IsUnchanged, IsRolledBack, Survives}}
 use Rattle.moo_tables.proofs.ReadLemmas.{rests_on}
 use Rattle.moo_world.specs.Judge.{State}
 
@@ -12,20 +12,9 @@ at_rest old new settled outside (inr back) opened =
     let was = sym (settled (back.was_open opened)) in
     record { outside = outside; now_is = both.0 ∙ was; committed_is = both.1 ∙ was }
 
--- what is committed may be told of less exactly
-pub survives_more : (old new : Database) (P Q : Trees → Type 0) → (HasCleanDisk new → (trees : Trees) → P trees → Q trees) → Survives old new P → Survives old new Q
-survives_more old new P Q more s = record {
-  clean = s.clean;
-  shield = s.shield;
-  counts = s.counts;
-  limit = s.limit;
-  closes = s.closes;
-  crash = λ clean trees left. elim (s.crash clean trees left) [ inl was ↦ inl was | inr p ↦ inr (more clean trees p) ];
-}
-
 -- where nothing was done, nothing was committed
 pub unmoved : {S : Type 0} (g : Ghosts S) (old new : Held S) (P : Trees → Type 0) → new ≡ old → Survives (state g old) (state g new) P
-unmoved g old new P same = subst (λ h. Survives (state g old) (state g h) P) (sym same) (survives_more (state g old) (state g old) (λ _. ⊥) P (λ clean trees none. absurd none) (stays (state g old)).survives)
+unmoved g old new P same = subst (λ h. Survives (state g old) (state g h) P) (sym same) (survives_weaker (state g old) (state g old) (λ _. ⊥) P (λ clean trees none. absurd none) (stays (state g old)).survives)
 
 module _ {S : Type 0} (g : Ghosts S) (old new : Held S) where
   abbrev Refused : Type 0
@@ -38,7 +27,7 @@ module _ {S : Type 0} (g : Ghosts S) (old new : Held S) where
 
   pub refused_survives : Refused → Survives (state g old) (state g new) (Adopts (state g old))
   refused_survives (inl same) = unmoved g old new (Adopts (state g old)) same
-  refused_survives (inr (version, has, fails)) = survives_more (state g old) (state g new) (λ _. ⊥) (Adopts (state g old)) (λ clean trees none. absurd none) (fails.crash (λ _. has))
+  refused_survives (inr (version, has, fails)) = survives_weaker (state g old) (state g new) (λ _. ⊥) (Adopts (state g old)) (λ clean trees none. absurd none) (fails.crash (λ _. has))
 
 -- ---- rows were read of tables of a version, and these brought to the present one
 
@@ -92,8 +81,5 @@ module _ {S : Type 0} (g : Ghosts S) (old mid : Held S) (version : Version) (row
 
 -- tables that show a state were refused: nothing is wrong with them
 module _ {S : Type 0} (g : Ghosts S) (conn last : Held S) (fault : StoreFault) (it : IsUnadopted g conn fault last) (s : State) (shows : ShowsState (state g conn) s) (clean : HasCleanDisk (state g last)) where
-  pub stops_on_state : StopsOpening shows.tables (state g conn) (state g last) fault
-  stops_on_state = says_nothing (StopsOpening shows.tables (state g conn) (state g last) fault) shows.tables shows.rows fault shows.shows shows.good (it.cause shows.tables shows.rests clean)
-
   pub refused_of_store : IsOfStore fault
   refused_of_store = of_store (StopsOpening shows.tables (state g conn) (state g last) fault) shows.tables shows.rows fault shows.shows shows.good (it.cause shows.tables shows.rests clean)

@@ -1,7 +1,7 @@
 -- The tables of a whole world.
-use Rattle.moo_store.{proofs.Words.{◌≡◌, Option, None, Ordering, refl, sym, ap, ◌∙◌, subst, FinMap, empty, get, get-empty, Maps, no_maps, object_cmp, prop_cmp, slot_cmp, verb_cmp, petition_cmp, ObjRow, SlotRow, PetitionRow, IsGood, state_of, present, no_schema, tables_with, Leaves, HasNoTables, no_tables, CellChanges, IsChanges, AreChanges, ShowsObject, ShowsProp, ShowsSlot, ShowsVerb, ShowsPetition, ShowsOrNone, ShowsMaps, ShowsRows, PrintsAll, Trees, all_of, all_changes, KeepsRows, LeavesState}, specs.NewTables.{LeavesAsMade, RestsAsMade}, proofs.AllRows.{all_changed}, proofs.Moments.{IsSettled}, proofs.OpenLemmas.{survives_more}, proofs.Shown.{shows-written}}
+use Rattle.moo_store.{proofs.Words.{◌≡◌, Option, None, Ordering, refl, sym, subst, FinMap, empty, get, get-empty, Maps, no_maps, object_cmp, prop_cmp, slot_cmp, verb_cmp, petition_cmp, ObjRow, SlotRow, PetitionRow, IsGood, present, no_schema, tables_with, Leaves, HasNoTables, no_tables, CellChanges, IsChanges, AreChanges, ShowsObject, ShowsProp, ShowsSlot, ShowsVerb, ShowsPetition, ShowsOrNone, ShowsMaps, ShowsRows, PrintsAll, all_of, all_changes, KeepsRows}, specs.NewTables.{LeavesAsMade, RestsAsMade}, proofs.AllRows.{all_changed}, proofs.Shown.{shows-written}}
 use Rattle.moo_tables.{specs.Migrated.{HasNoSlot}, specs.Transaction.{SurvivesMaking}}
-use Rattle.sqlite.{specs.State.{State as Database, Survives}, specs.Effect.{Database as Content}}
+use Rattle.sqlite.{proofs.StateLemmas.{survives_weaker}, specs.State.{State as Database, Survives}, specs.Effect.{Database as Content}}
 use Rattle.moo_rows.{specs.declared.row.PropRow.{PropRow}, specs.declared.row.VerbRow.{VerbRow}}
 
 -- no tables show no rows
@@ -44,5 +44,5 @@ pub keeps_all : (store : Database) (m : Maps) → RestsAsMade store m → KeepsR
 keeps_all store m it = record { tables = tables_with it.cells no_tables; rests = it.rests; current = refl; shows = shows_all it.cells m it.prints }
 
 pub survives_all : (old new : Database) (cells : CellChanges) (m : Maps) → PrintsAll cells m → IsGood m → SurvivesMaking cells old new → Survives old new (λ trees. LeavesAsMade trees m)
-survives_all old new cells m p good survives = survives_more old new (λ trees. Leaves trees (tables_with cells no_tables) × HasNoSlot trees) (λ trees. LeavesAsMade trees m)
+survives_all old new cells m p good survives = survives_weaker old new (λ trees. Leaves trees (tables_with cells no_tables) × HasNoSlot trees) (λ trees. LeavesAsMade trees m)
     (λ clean trees lies. record { good = good; cells = cells; prints = p; leaves = lies.0; empty = lies.1 }) survives

@@ -1,5 +1,5 @@
 -- The tables, after changes are written, show the new rows; and so do tables of an earlier version that are migrated.
-use Rattle.moo_store.{proofs.Words.{◌≡◌, ◌≢◌, ◌==◌, ℕ, ℤ, pos, negsuc, Bool, true, false, cond, List, Option, None, Some, refl, sym, ap, ◌∙◌, subst, subst₂, ◌&&◌, eq_by_cmp, get, Row, ObjNo, Head, PropId, Maps, object_cmp, prop_cmp, slot_cmp, verb_cmp, petition_cmp, Version, present, Tables, same_number, same_numbers, numbered_with, head_cells, object_cells, prop_cells, slot_cells, verb_cells, petition_cells, petition_head_cells, counter_with, tables_with, migrated, IsCurrent, CellChanges, SlotCells, AreChanges, ShowsObject, ShowsProp, ShowsSlot, ShowsVerb, ShowsPetition, ShowsOrNone, ShowsCounter, ShowsMaps, ShowsRows, IfBoth, HeadColumns, ObjectColumns, PropColumns, SlotColumns, VerbColumns, PetitionColumns, PrintEach, PrintsObject, PrintsProp, PrintsSlot, PrintsVerb, PrintsPetition, Prints, new_number, all_of, KeepsCells, IsEarlier}, proofs.AllRows.{all_changed}, proofs.Laid.{lays_object, lays_prop, lays_slot, lays_verb, lays_petition, head_columns, object_stays, prop_stays, slot_stays, verb_stays, petition_stays}, proofs.Written.{written, stays, elsewhere}}
+use Rattle.moo_store.{proofs.Words.{◌≡◌, ◌≢◌, ◌==◌, ℕ, ℤ, pos, negsuc, Bool, true, false, cond, List, Option, None, Some, refl, rules, sym, ap, ◌∙◌, subst, subst₂, ◌&&◌, eq_by_cmp, get, Row, ObjNo, Head, PropId, Maps, object_cmp, prop_cmp, slot_cmp, verb_cmp, petition_cmp, Version, present, Tables, same_number, same_numbers, numbered_with, head_cells, object_cells, prop_cells, slot_cells, verb_cells, petition_cells, petition_head_cells, counter_with, tables_with, migrated, IsCurrent, CellChanges, SlotCells, AreChanges, ShowsObject, ShowsProp, ShowsSlot, ShowsVerb, ShowsPetition, ShowsOrNone, ShowsCounter, ShowsMaps, ShowsRows, IfBoth, HeadColumns, ObjectColumns, PropColumns, SlotColumns, VerbColumns, PetitionColumns, PrintEach, PrintsObject, PrintsProp, PrintsSlot, PrintsVerb, PrintsPetition, Prints, new_number, all_of, KeepsCells, IsEarlier}, proofs.AllRows.{all_changed}, proofs.Laid.{lays_object, lays_prop, lays_slot, lays_verb, lays_petition}, proofs.Written.{written, stays, elsewhere}}
 use Rattle.moo_tables_rows.proofs.InsideLemmas.{only_first}
 use Rattle.std.{specs.Bool.{Decides}, proofs.lemmas.Bool.{and_parts}, proofs.lemmas.Bool.Decides.{Decides-int_eq, Decides-eqb}}
 use Rattle.moo_rows.{specs.declared.row.VerbId.{VerbId}, specs.declared.row.PetitionId.{PetitionId}, specs.Exact.{object_exact, prop_exact, slot_exact, verb_exact, petition_exact}, proofs.Orders.{prop_total, slot_total, verb_total, petition_total}}
@@ -96,21 +96,21 @@ counts_next (Some last) next version table current shows = go (last == next) ref
 -- the tables' cells after changes that are printed, table by table
 module _ (last : Option ℕ) (cells : CellChanges) (changes : Changes) (base new : Maps) (t : Tables) (p : Prints last base cells changes) (c : AreChanges base new changes) (current : IsCurrent t) (shows : ShowsMaps t base) where
   objects_laid : (n : ObjNo) → ShowsOrNone (ShowsObject present n) ((tables_with cells t).object n.0) (get new.objects n) × IfBoth ObjectColumns (get base.objects n) (get new.objects n) (t.object n.0) ((tables_with cells t).object n.0)
-  objects_laid = written object_cmp object_exact same_number (λ n. n.0) number_alike object_cells (ShowsObject present) ObjectColumns PrintsObject (get base.objects) object_stays (λ n. lays_object (get base.objects n) n) cells.objects.items changes.objects (get new.objects) t.object p.objects c.objects shows.objects
+  objects_laid = written object_cmp object_exact same_number (λ n. n.0) number_alike object_cells (ShowsObject present) ObjectColumns PrintsObject (get base.objects) (λ x r. search rules) (λ n. lays_object (get base.objects n) n) cells.objects.items changes.objects (get new.objects) t.object p.objects c.objects shows.objects
 
   props_laid : (id : PropId) → ShowsOrNone (ShowsProp present id) ((tables_with cells t).prop (pos id.0)) (get new.props id) × IfBoth PropColumns (get base.props id) (get new.props id) (t.prop (pos id.0)) ((tables_with cells t).prop (pos id.0))
-  props_laid = written prop_cmp prop_exact same_number (λ id. pos id.0) id_alike prop_cells (ShowsProp present) PropColumns PrintsProp (get base.props) prop_stays (λ id. lays_prop (get base.props id) id) cells.props.items changes.props (get new.props) t.prop p.props c.props shows.props
+  props_laid = written prop_cmp prop_exact same_number (λ id. pos id.0) id_alike prop_cells (ShowsProp present) PropColumns PrintsProp (get base.props) (λ x r. search rules) (λ id. lays_prop (get base.props id) id) cells.props.items changes.props (get new.props) t.prop p.props c.props shows.props
 
   slots_laid : (key : ObjNo × PropId) → ShowsOrNone (ShowsSlot present key) ((tables_with cells t).slot (key.0.0, pos key.1.0)) (get new.slots key) × IfBoth SlotColumns (get base.slots key) (get new.slots key) (t.slot (key.0.0, pos key.1.0)) ((tables_with cells t).slot (key.0.0, pos key.1.0))
   slots_laid =
       let shown = λ (key : ObjNo × PropId). subst (λ v. ShowsOrNone (ShowsSlot v key) (t.slot (key.0.0, pos key.1.0)) (get base.slots key)) current (shows.slots key) in
-      written slot_cmp slot_exact same_numbers (λ k. (k.0.0, pos k.1.0)) slot_alike slot_cells (ShowsSlot present) SlotColumns PrintsSlot (get base.slots) slot_stays (λ key. lays_slot (get base.slots key) key) cells.slots.items changes.slots (get new.slots) t.slot p.slots c.slots shown
+      written slot_cmp slot_exact same_numbers (λ k. (k.0.0, pos k.1.0)) slot_alike slot_cells (ShowsSlot present) SlotColumns PrintsSlot (get base.slots) (λ x r. search rules) (λ key. lays_slot (get base.slots key) key) cells.slots.items changes.slots (get new.slots) t.slot p.slots c.slots shown
 
   verbs_laid : (key : ObjNo × VerbId) → ShowsOrNone (ShowsVerb present key) ((tables_with cells t).verb (key.0.0, pos key.1.0)) (get new.verbs key) × IfBoth VerbColumns (get base.verbs key) (get new.verbs key) (t.verb (key.0.0, pos key.1.0)) ((tables_with cells t).verb (key.0.0, pos key.1.0))
-  verbs_laid = written verb_cmp verb_exact same_numbers (λ k. (k.0.0, pos k.1.0)) verb_alike verb_cells (ShowsVerb present) VerbColumns PrintsVerb (get base.verbs) verb_stays (λ key. lays_verb (get base.verbs key) key) cells.verbs.items changes.verbs (get new.verbs) t.verb p.verbs c.verbs shows.verbs
+  verbs_laid = written verb_cmp verb_exact same_numbers (λ k. (k.0.0, pos k.1.0)) verb_alike verb_cells (ShowsVerb present) VerbColumns PrintsVerb (get base.verbs) (λ x r. search rules) (λ key. lays_verb (get base.verbs key) key) cells.verbs.items changes.verbs (get new.verbs) t.verb p.verbs c.verbs shows.verbs
 
   petitions_laid : (id : PetitionId) → ShowsOrNone (ShowsPetition present id) ((tables_with cells t).petition (pos id.0)) (get new.petitions id) × IfBoth PetitionColumns (get base.petitions id) (get new.petitions id) (t.petition (pos id.0)) ((tables_with cells t).petition (pos id.0))
-  petitions_laid = written petition_cmp petition_exact same_number (λ id. pos id.0) petition_alike petition_cells (ShowsPetition present) PetitionColumns PrintsPetition (get base.petitions) petition_stays (λ id. lays_petition (get base.petitions id) id) cells.petitions.items changes.petitions (get new.petitions) t.petition p.petitions c.petitions shows.petitions
+  petitions_laid = written petition_cmp petition_exact same_number (λ id. pos id.0) petition_alike petition_cells (ShowsPetition present) PetitionColumns PrintsPetition (get base.petitions) (λ x r. search rules) (λ id. lays_petition (get base.petitions id) id) cells.petitions.items changes.petitions (get new.petitions) t.petition p.petitions c.petitions shows.petitions
 
   head_written : (tables_with cells t).head (pos 1) ≡ Some (head_cells present new.head)
   head_written = ap (λ b. cond b (Some (head_cells present cells.head)) (t.head (pos 1))) ((same_number-Decides (pos 1) (pos 1)).1 refl) ∙ ap (λ h. Some (head_cells present h)) (p.head ∙ c.head)
@@ -135,7 +135,7 @@ module _ (last : Option ℕ) (cells : CellChanges) (changes : Changes) (base new
 
 -- the head's cells before and after
 head_laid : (a b : Head) (old new : Option Row) → old ≡ Some (head_cells present a) → new ≡ Some (head_cells present b) → IfBoth HeadColumns (Some a) (Some b) old new
-head_laid a b old new was is = subst₂ (λ x y. IfBoth HeadColumns (Some a) (Some b) x y) (sym was) (sym is) (head_columns a b)
+head_laid a b old new was is = subst₂ (λ x y. IfBoth HeadColumns (Some a) (Some b) x y) (sym was) (sym is) (search rules)
 
 -- no number is put if it is the last one that was written
 same_number_none : (last next : ℕ) → last ≡ next → new_number (Some last) next ≡ None
@@ -179,7 +179,7 @@ shows-migrated m slots t printed earlier none shown = record {
     objects = shown.maps.objects;
     props = shown.maps.props;
     no_prop = shown.maps.no_prop;
-    slots = λ key. (written slot_cmp slot_exact same_numbers (λ k. (k.0.0, pos k.1.0)) slot_alike slot_cells (ShowsSlot present) SlotColumns PrintsSlot (λ _. None) slot_stays (λ key. lays_slot None key) slots (all_of m.slots) (get m.slots) (λ _. None) printed (all_changed slot_cmp m.slots) (λ k. tt) key).0;
+    slots = λ key. (written slot_cmp slot_exact same_numbers (λ k. (k.0.0, pos k.1.0)) slot_alike slot_cells (ShowsSlot present) SlotColumns PrintsSlot (λ _. None) (λ x r. search rules) (λ key. lays_slot None key) slots (all_of m.slots) (get m.slots) (λ _. None) printed (all_changed slot_cmp m.slots) (λ k. tt) key).0;
     no_slot = λ x n. elsewhere slot_cmp slot_exact same_numbers (λ k. (k.0.0, pos k.1.0)) slot_alike slot_cells slots (λ _. None) (x, negsuc n) (λ k. no_pair x n k.0.0 k.1.0);
     verbs = shown.maps.verbs;
     no_verb = shown.maps.no_verb;

@@ -1,8 +1,8 @@
 -- What the answers to a text are, if it stops, and if it is rehearsed.
-use Rattle.moo_store.{proofs.Words.{◌≡◌, Bool, true, false, if◌then◌else◌, List, [], ◌∷◌, ◌++◌, refl, sym, ap, subst, ◌∙◌, Next, Answer, judge, state_behind, reply_of, State, Turns, is_plain, says_accepted, AreAccepted, EndAtFirst, up_to_first, replies}, specs.Moves.{RunsAt, state_at}, specs.Rehearsed.{RehearsesAt}, proofs.Following.{turns-follow}, proofs.Standing.{plain_run}}
+use Rattle.moo_store.{proofs.Words.{◌≡◌, Bool, true, false, if◌then◌else◌, List, [], ◌∷◌, ◌++◌, refl, sym, ap, arith, subst, ◌∙◌, Next, Answer, judge, state_behind, reply_of, State, Turns, is_plain, says_accepted, AreAccepted, EndAtFirst, up_to_first, replies}, specs.Moves.{RunsAt, state_at}, specs.Rehearsed.{RehearsesAt}, proofs.Following.{turns-follow}, proofs.Standing.{plain_run}}
 use Rattle.moo_store.specs.Place.{Place}
 use Rattle.std.specs.List.{AllByRecursion}
-use Rattle.moo_text.{specs.declared.next.Next.TheVariants.{Batch as Whole, Malformed, Truncated, End}, specs.declared.reply.Reply.TheVariants.{Accepted, Refused, Full, Stale, NoMemory}}
+use Rattle.moo_text.{specs.declared.next.Next.TheVariants.{Batch as Whole}}
 use Rattle.moo_text.specs.declared.reply.Answer.TheVariants as answer
 
 abbrev ArePlain : List Answer → Type 0
@@ -29,15 +29,7 @@ up_to_end (a ∷ answers) all = ap (λ t. a ∷ t) (if_true (says_accepted a) (u
 
 -- an `accepted` answer is plain
 plain_if : (a : Answer) → says_accepted a ≡ true → is_plain a ≡ true
-plain_if (answer.Replied (Accepted seq answers)) e = refl
-plain_if (answer.Replied (Refused call code)) e = refl
-plain_if (answer.Replied (Full call)) e = refl
-plain_if (answer.Replied (Stale seq)) e = refl
-plain_if (answer.Replied NoMemory) e = e
-plain_if (answer.Malformed number) e = refl
-plain_if answer.Truncated e = refl
-plain_if answer.Fault e = e
-plain_if answer.Closed e = e
+plain_if a e = grind arith
 
 are_plain : (answers : List Answer) → AreAccepted answers → ArePlain answers
 are_plain [] all = tt
@@ -50,13 +42,9 @@ replies_on s [] left = (replies s left, refl)
 replies_on s (Whole batch ∷ done) left =
     let on = replies_on (state_behind s batch) done left in
     (on.0, ap (λ t. answer.Replied (reply_of (judge s batch)) ∷ t) on.1)
-replies_on s (Malformed number ∷ done) left =
+replies_on s (item ∷ done) left =
     let on = replies_on s done left in
-    (on.0, ap (λ t. answer.Malformed number ∷ t) on.1)
-replies_on s (Truncated ∷ done) left =
-    let on = replies_on s done left in
-    (on.0, ap (λ t. answer.Truncated ∷ t) on.1)
-replies_on s (End ∷ done) left = replies_on s done left
+    (on.0, let same = on.1 in cc)
 
 pub early_front : (from to : Place) (done left : List Next) (answers : List Answer) → Turns RunsAt from done answers to → ArePlain answers → EndAtFirst answers → answers ≡ up_to_first (replies (state_at from) (done ++ left))
 early_front from to done left answers turns plain first =

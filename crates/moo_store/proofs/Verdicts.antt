@@ -13,8 +13,7 @@ closed_moves g world batch failed = record { clean = λ c. c; closed = λ shut. 
   where
     by : (from : Place) → Stands g world from → (to : Place) × Stands g world to × RunsAt from batch answer.Closed to
     by (place.Works m) at = not_both world.failed at.failed failed
-    by (place.Failed m) at = (place.Failed m, at, (refl, refl))
-    by (place.Between m next) at = (place.Between m next, at, (refl, refl))
+    by from at = (from, at, (refl, refl))
 
 verdict_stays : (m : Moment) (batch : Batch) (v : Verdict) → acknowledged (batch ∷ []) (reply_of v ∷ []) ≡ [] → VerdictLeads m batch v (place.Works m)
 verdict_stays m batch (Accepted answers next) none = let no : batch ∷ [] ≡ [] = none in absurd cc

@@ -1,5 +1,0 @@
-use Rattle.moo_store.proofs.Words.{inr, refl}
-use Rattle.moo_store.proofs.comparing.compare_lists.Goals as goal
-
-pub returns-in-Ok-Some-clause-fault : goal.returns-in-Ok-Some-clause-fault
-returns-in-Ok-Some-clause-fault c = inr (refl, rw c.in-Ok-Some.field-0-is at c.in-Ok-Some.ensures.differs)
