@@ -1,7 +1,7 @@
 -- How far the answering of a text has come, whatever answers its batches.
-use Rattle.moo_store.proofs.Words.{◌≡◌, ◌≢◌, ◌<◌, inl, inr, ℕ, ◌+◌, ◌≤◌, Bool, true, cond, length, List, [], ◌∷◌, ◌++◌, take, append_assoc, Option, Some, None, zero-add, refl, sym, ap, subst, ◌∙◌, arith, ◌⊎◌, append-nil, Batch, items, Side, untouched, IsOver, Next, Answer, TextFault, answers_text, is_batch, is_lost_answer, Turn, Turns, GivesFrontOrAll, Completes, Halts}
+use Rattle.moo_store.proofs.Words.{false, ◌&&◌, not, says_accepted, AreAccepted, EndAtFirst, EndsEarly, ◌≡◌, ◌≢◌, ◌<◌, inl, inr, ℕ, ◌+◌, ◌≤◌, Bool, true, cond, length, List, [], ◌∷◌, ◌++◌, take, append_assoc, Option, zero-add, refl, sym, ap, subst, ◌∙◌, arith, ◌⊎◌, append-nil, Batch, items, Side, untouched, IsOver, Next, Answer, TextFault, answers_text, is_batch, is_lost_answer, Turn, Turns, GivesFrontOrAll, Completes, Halts}
 use Rattle.moo_text.specs.declared.lines.TheConstants.{LONGEST_TEXT}
-use Rattle.std.{specs.List.{count_by}, proofs.KnownBytes.{Appends-nil, Appends-trans}, specs.Io.KnownBytes.{Appends, Consumes, IsAtEnd}, proofs.lemmas.List.Sums.{sum_by-append}, proofs.lemmas.Grind.{flat_map-append}}
+use Rattle.std.{specs.List.{count_by}, proofs.KnownBytes.{Appends-nil, Appends-trans}, specs.Io.KnownBytes.{Appends}, proofs.lemmas.List.Sums.{sum_by-append}, proofs.lemmas.Grind.{flat_map-append}}
 use Rattle.moo_text.{specs.Replies.{answer_text}, specs.Given.{ReaderGives, Explains, BreaksOff, ReadsNext, ReadsItems}, specs.declared.next.Next.TheVariants.{End}, specs.declared.fault.TextFault.TheVariants.{Read, Write, OutOfMemory, Long}, proofs.Joining.{items_none, items_then, items_end, whole_items, all_given, items_stop}}
 
 -- one turn more
@@ -24,18 +24,11 @@ not_other fault other it written none is = elim it [ inl w ↦ absurd (written (
 
 -- what a reader gave stands in front of its bytes
 pub gives_front : (text : Option (List ℕ)) (room : ℕ) (c : Side) (given : List ℕ) → ReaderGives (untouched text room) c given → GivesFrontOrAll text c.ended given
-gives_front text room c given g = by text c.left g.known (g.at_end (λ e. absurd cc))
-  where
-    by : (text now : Option (List ℕ)) → Consumes text now given → (c.ended ≡ true → IsAtEnd now) → GivesFrontOrAll text c.ended given
-    by None now known end = tt
-    by (Some bytes) None known end = absurd known
-    by (Some bytes) (Some rest) known end = (rest, known, end)
+gives_front text room c given g = grind arith
 
 -- how much was given where reading was stopped
 pub counted : (count : ℕ) (fault : TextFault) → Explains LONGEST_TEXT count fault → (fault ≡ Long → count ≡ LONGEST_TEXT + 1) × (fault ≢ Long → count ≤ LONGEST_TEXT)
-counted count Write e = absurd e
-counted count Long e = ((λ is. e), λ other. absurd (other refl))
-counted count fault e = ((λ is. absurd cc), λ other. e)
+counted count fault e = grind arith
 
 module _ {A : Type 0} (P : A → Batch → Answer → A → Type 0) (old : A) (text before : Option (List ℕ)) where
   -- these items are read and answered, and their answers are written
@@ -47,6 +40,10 @@ module _ {A : Type 0} (P : A → Batch → Answer → A → Type 0) (old : A) (t
     pub wrote : Appends before written (answers_text answers)
     pub batches_are : batches ≡ count_by is_batch answers
     pub lost_are : lost ≡ count_by is_lost_answer answers
+
+  -- these items are answered; if it is to stop, each answer is `accepted`
+  abbrev pub GoingUntil : Bool → A → Side → Option (List ℕ) → ℕ → ℕ → Type 0
+  GoingUntil stop now side written b l = (p : Going now side written b l) × (stop ≡ true → AreAccepted p.answers)
 
 module _ {A : Type 0} {P : A → Batch → Answer → A → Type 0} {old : A} {text before : Option (List ℕ)} where
   abbrev pub going_starts : {side : Side} {b l : ℕ} → side ≡ untouched text LONGEST_TEXT → b ≡ 0 → l ≡ 0 → Going P old text before old side before b l
@@ -87,6 +84,23 @@ module _ {A : Type 0} {P : A → Batch → Answer → A → Type 0} {old : A} {t
         batches_are = p.batches_are;
         lost_are = p.lost_are;
       }
+
+  -- before it, since it was to stop
+  pub ends_early : {now : A} {side : Side} {written : Option (List ℕ)} {b l : ℕ} (p : Going P old text before now side written b l) → EndAtFirst p.answers → EndsEarly P old now text before written b l
+  ends_early {side = side} p first = record {
+    given = p.read.given;
+    ended = side.ended;
+    front = gives_front text LONGEST_TEXT side p.read.given p.read.gives;
+    short = omega (arith, p.read.room);
+    done = p.done;
+    whole = λ rest none. (items (side.ahead ++ rest), p.read.holds rest none);
+    answers = p.answers;
+    turns = p.turns;
+    first = first;
+    wrote = p.wrote;
+    batches_are = p.batches_are;
+    lost_are = p.lost_are;
+  }
 
   -- a fault of reading
   abbrev pub halts_before : {now : A} {side more : Side} {written : Option (List ℕ)} {b l : ℕ} {fault : TextFault} → Going P old text before now side written b l → BreaksOff side more fault → Halts P old now text before written fault
@@ -147,3 +161,21 @@ falls_at_turn P now next item a room less one falls = falls (not_end P now next 
 -- a count of answers stays within the bytes that were taken
 pub one_more : (b : Bool) (n m room less : ℕ) → n + room ≤ LONGEST_TEXT → less < room → m ≡ n + cond b 1 0 → m + less ≤ LONGEST_TEXT
 one_more b n m room less low falls is = grind arith
+
+-- ---- a text that was to stop at the first answer that isn't `accepted`
+
+-- one answer more
+pub accepted_on : (answers : List Answer) (a : Answer) → AreAccepted answers → says_accepted a ≡ true → AreAccepted (answers ++ a ∷ [])
+accepted_on [] a all one = (one, tt)
+accepted_on (x ∷ xs) a all one = (all.0, accepted_on xs a all.1 one)
+
+-- the last answer isn't `accepted`
+pub at_first : (answers : List Answer) (a : Answer) → AreAccepted answers → says_accepted a ≡ false → EndAtFirst (answers ++ a ∷ [])
+at_first answers a all one = record { before = answers; last = a; are = refl; firsts = all; refused = one }
+
+-- a text stops after an answer only if it was to stop, and the answer isn't `accepted`
+pub has_stopped : (stop accepted r : Bool) → r ≡ (stop && not accepted) → r ≡ true → (stop ≡ true) × (accepted ≡ false)
+has_stopped stop accepted r is stops = grind arith
+
+pub goes_on : (stop accepted r : Bool) → r ≡ (stop && not accepted) → r ≡ false → stop ≡ true → accepted ≡ true
+goes_on stop accepted r is goes e = grind arith

@@ -1,5 +1,5 @@
 -- A row that is printed over the cells of another shows itself, and keeps the columns that stay.
-use Rattle.moo_store.proofs.Words.{◌≡◌, ℕ, pos, List, [], ◌∷◌, Option, Some, None, Vec, refl, rules, sym, ap, ◌∙◌, subst, subst₂, Row, column, ObjNo, ObjRow, PropId, SlotRow, PetitionRow, SlotCells, present, object_cells, prop_cells, slot_cells, verb_cells, petition_cells, ShowsAccept, ShowsSlotState, ShowsObject, ShowsProp, ShowsSlot, ShowsVerb, ShowsPetition, ShowsOrNone, IfBoth, ObjectColumns, PropColumns, SlotColumns, VerbColumns, PetitionColumns, PrintsOver, PrintsObject, PrintsProp, PrintsSlot, PrintsVerb, PrintsPetition, accept_text, calls_text, state_text}
+use Rattle.moo_store.proofs.Words.{arith, ◌≡◌, ℕ, pos, List, [], ◌∷◌, Option, Some, None, Vec, refl, rules, sym, ap, ◌∙◌, subst, subst₂, Row, column, ObjNo, ObjRow, PropId, SlotRow, PetitionRow, SlotCells, present, object_cells, prop_cells, slot_cells, verb_cells, petition_cells, ShowsAccept, ShowsSlotState, ShowsObject, ShowsProp, ShowsSlot, ShowsVerb, ShowsPetition, ShowsOrNone, IfBoth, ObjectColumns, PropColumns, SlotColumns, VerbColumns, PetitionColumns, PrintsOver, PrintsObject, PrintsProp, PrintsSlot, PrintsVerb, PrintsPetition, accept_text, calls_text, state_text}
 use Rattle.std.{specs.Option.{option_map}, specs.declared.alloc.Global.{Global}}
 use Rattle.sqlite.{specs.declared.types.Value.{Value as Cell}, specs.declared.types.Value.TheVariants.{Int as Number, Text}}
 use Rattle.moo_value.{specs.declared.value.Value.TheVariants.{List as a_list}, specs.Literal.{Spells}}
@@ -65,9 +65,7 @@ slot_from : (key : ObjNo × PropId) (cells : Row) (x : SlotRow) → SlotShowing 
 slot_from key cells x it = (Number (bits_number x.bits), it.0, refl, it.1, it.2)
 
 shown_as : {X : Type 0} (P Q : Row → X → Type 0) → ((r : Row) (x : X) → P r x → Q r x) → (old : Option Row) (base : Option X) → ShowsOrNone P old base → ShowsOrNone Q old base
-shown_as P Q then None None shown = tt
-shown_as P Q then (Some r) (Some b) shown = then r b shown
-shown_as P Q then old base shown = absurd shown
+shown_as P Q then old base shown = grind arith
 
 pub lays_slot : (base : Option SlotRow) (key : ObjNo × PropId) (c : SlotCells) (row : SlotRow) (old : Option Row) → PrintsSlot base c row → ShowsOrNone (ShowsSlot present key) old base → ShowsOrNone (ShowsSlot present key) (slot_cells key c old) (Some row) × IfBoth SlotColumns base (Some row) old (slot_cells key c old)
 lays_slot base key c row old p shown =

@@ -1,10 +1,9 @@
 -- What batches and turns lead to.
-use Rattle.moo_store.proofs.Words.{◌≡◌, ◌∙◌, inl, inr, List, [], ◌∷◌, ◌++◌, sym, ap, subst, Batch, Verdict, Accepted, after, judge, Reply, reply_of, Answer, Next, Turn, Turns, acknowledged, accepted_at, accepted}
+use Rattle.moo_store.proofs.Words.{arith, ◌≡◌, ◌∙◌, inl, inr, List, [], ◌∷◌, ◌++◌, sym, ap, subst, Batch, Verdict, Accepted, after, reply_of, Answer, Next, Turn, Turns, acknowledged, accepted_at, accepted}
 use Rattle.moo_store.specs.Moves.{VerdictLeads, StopsStore, RunsAt}
-use Rattle.moo_store.{specs.Moment.{Moment, state_of_moment, LeadsByEach}, specs.Place.{Place, Works, moment_of}}
+use Rattle.moo_store.{specs.Moment.{Moment, state_of_moment, LeadsByEach}, specs.Place.{Place, moment_of}}
 use Rattle.moo_world.{specs.Numbers.{NumbersStay}, specs.Requests.{PetitionsStay, state_of}, specs.Rows.{world_of}, proofs.Batches.PetitionNumbers.{petitions_same, petitions_joined}, proofs.Shown.NumbersKept.{stay_itself, stay_joined, batches_keep_numbers}}
-use Rattle.moo_text.specs.declared.next.Next.TheVariants.{Batch as Whole, End}
-use Rattle.moo_text.specs.declared.reply.Answer.TheVariants as answer
+use Rattle.moo_text.specs.declared.next.Next.TheVariants.{Batch as Whole}
 
 -- ---- batches
 
@@ -31,23 +30,14 @@ verdict_leads m batch (Accepted answers next) to it = (it.0, it.1, elim it.2 [ i
 verdict_leads m batch v to it = ap moment_of it
 
 stops_there : (m : Moment) (batch : Batch) (v : Verdict) (to : Place) → StopsStore m batch v to → moment_of to ≡ m
-stops_there m batch (Accepted answers next) to it = ap moment_of it.2
-stops_there m batch v to it = absurd it
+stops_there m batch v to it = grind arith
 
 -- one batch leads from place to place, if it is acknowledged
 one_leads : (from : Place) (batch : Batch) (a : Answer) (to : Place) → RunsAt from batch a to → LeadsByEach (moment_of from) (accepted_at (Whole batch) a) (moment_of to)
-one_leads (Works m) batch (answer.Replied given) to it = elim it [
-  | inl none ↦ subst (λ (x : Reply). LeadsByEach m (acknowledged (batch ∷ []) (x ∷ [])) (moment_of to)) (sym none.0) (ap moment_of none.1)
-  | inr ran ↦ subst (λ (x : Reply). LeadsByEach m (acknowledged (batch ∷ []) (x ∷ [])) (moment_of to)) (sym ran.0) (verdict_leads m batch (judge (state_of_moment m) batch) to ran.1)
-]
-one_leads (Works m) batch answer.Fault to it = stops_there m batch (judge (state_of_moment m) batch) to it
-one_leads (Works m) batch a to it = absurd it
-one_leads from batch a to it = subst (λ x. LeadsByEach (moment_of from) (accepted_at (Whole batch) x) (moment_of to)) (sym it.0) (ap moment_of it.1)
+one_leads from batch a to it = grind (arith, verdict_leads, stops_there)
 
 turn_leads : (from : Place) (item : Next) (a : Answer) (to : Place) → Turn RunsAt from item a to → LeadsByEach (moment_of from) (accepted_at item a) (moment_of to)
-turn_leads from (Whole batch) a to it = one_leads from batch a to it
-turn_leads from End a to it = absurd it
-turn_leads from item a to it = ap moment_of it.1
+turn_leads from item a to it = grind (arith, one_leads)
 
 pub turns_lead : (from to : Place) (items : List Next) (answers : List Answer) → Turns RunsAt from items answers to → LeadsByEach (moment_of from) (accepted items answers) (moment_of to)
 turns_lead from to [] [] it = ap moment_of it

@@ -1,5 +1,5 @@
 -- Batches of a list that are run one after another, from place to place.
-use Rattle.moo_store.{proofs.Words.{◌≡◌, ◌∙◌, inl, inr, ℕ, suc, ◌+◌, ◌<◌, true, false, List, [], ◌∷◌, ◌++◌, append_assoc, append-nil, length-append, take, take_more, drop, length, get_or, map, Option, IsSome, Result, Ok, Err, MatchStore, IsTrue, ⊤, refl, sym, ap, subst, subst₂, arith, Ghosts, HasCleanDisk, IsGood, Batch, Reply, answer_to, acknowledged, added, says_accepted, accepted, World, store_of, Turns, KeepsFaults, IsStopped, StoreFault, Store, Closed, OutOfMemory}, specs.Moves.{Stands, MovesBy, RunsAt, FailsRun}, specs.Runs.{EndsList, RunsEach}, proofs.Going.{turns-push}, proofs.Moving.{stands_somewhere, moves_as, moves_none, moves_then}, proofs.Leading.{turns_lead}, proofs.Stopped.{faults_same, faults_then, stopped_since}, specs.Moment.{AllCells, Moment, KeepsCellsAt, LeadsByEach}, specs.Place.{Place, Works, moment_of, has_failed}, proofs.Moments.{some_cells, kept_cells, cells_at_rest}}
+use Rattle.moo_store.{proofs.Words.{◌≡◌, ◌∙◌, inl, inr, ℕ, suc, ◌+◌, ◌<◌, true, false, List, [], ◌∷◌, ◌++◌, append_assoc, append-nil, length-append, take, take_more, drop, length, get_or, map, Option, IsSome, Result, Ok, Err, MatchStore, IsTrue, ⊤, refl, sym, ap, subst, subst₂, arith, Ghosts, HasCleanDisk, IsGood, Batch, Reply, answer_to, acknowledged, added, says_accepted, accepted, World, store_of, Turns, KeepsFaults, IsStopped, StoreFault, Store, Closed, OutOfMemory}, specs.Moves.{Stands, MovesBy, RunsAt, FailsRun}, specs.Runs.{EndsList, RunsEach}, proofs.Going.{turns-push}, proofs.Moving.{stands_somewhere, moves_as, moves_none, moves_then}, proofs.Leading.{turns_lead}, proofs.Moments.{faults_same, faults_then, stopped_since, some_cells, kept_cells, cells_at_rest}, specs.Moment.{AllCells, Moment, KeepsCellsAt, LeadsByEach}, specs.Place.{Place, Works, moment_of, has_failed}}
 use Rattle.std.{proofs.Math.Seq.{drop-append_seam, drop-cons, drop-length, take-append_seam}, proofs.lemmas.List.{map-append}}
 use Rattle.moo_text.specs.declared.next.Next.TheVariants.{Batch as Whole}
 use Rattle.moo_text.specs.declared.reply.Answer.TheVariants as answer
@@ -16,8 +16,7 @@ none_without_replies [] = refl
 none_without_replies (b ∷ bs) = refl
 
 one_of : (b : Batch) (bs : List Batch) (r : Reply) → acknowledged (b ∷ bs) (r ∷ []) ≡ acknowledged (b ∷ []) (r ∷ [])
-one_of b bs (reply.Accepted seq vs) = ap (λ t. b ∷ t) (none_without_replies bs)
-one_of b bs r = none_without_replies bs
+one_of b bs r = grind (arith, none_without_replies)
 
 -- one more reply acknowledges its batch or none
 acknowledged-push : (all : List Batch) (replies : List Reply) (batch : Batch) (r : Reply) → length replies < length all → batch ≡ get_or all (length replies) batch
@@ -32,8 +31,7 @@ none_in [] second none = (refl, none)
 none_in (b ∷ bs) second none = let no : b ∷ (bs ++ second) ≡ [] = none in absurd cc
 
 unaccepted : (batch : Batch) (given : Reply) → acknowledged (batch ∷ []) (given ∷ []) ≡ [] → says_accepted (answer.Replied given) ≡ false
-unaccepted batch (reply.Accepted seq answers) none = let no : batch ∷ [] ≡ [] = none in absurd cc
-unaccepted batch given none = refl
+unaccepted batch given none = grind arith
 
 -- ---- cells that are known stay known
 
@@ -92,8 +90,7 @@ reached_next {g = g} {old} {now} {next} {all} {count} {before} {batch = batch} r
 
 -- a World that had failed answers so, and stays
 closed_there : (mid to : Place) (batch : Batch) → RunsAt mid batch answer.Closed to → IsTrue (has_failed mid) × (to ≡ mid)
-closed_there (Works m) to batch it = absurd it
-closed_there mid to batch it = (refl, it.1)
+closed_there mid to batch it = grind arith
 
 module _ {S : Type 0} {g : Ghosts S} {old now : World S} {all : List Batch} {count : ℕ} {before replies : List Reply} (p : Reached g old now all count before replies) where
   added_is : added before replies ≡ p.new
@@ -193,3 +190,6 @@ unfolding reached_first
 no_room_first g old all before behind same works =
     let p = reached_first g old all before behind same in
     ends_by p old (Err OutOfMemory) (λ from to. to ≡ from) (moves_none g old (λ from to. to ≡ from) (λ from. refl)) (λ from mid to at it. (refl, sym at.failed ∙ works, refl, it))
+
+-- what a run cites
+pub ruleset runs = (faults_same, faults_then, stood, still_at_end)

@@ -1,5 +1,5 @@
 -- Where any World stands, and what moves and stays together come to.
-use Rattle.moo_store.proofs.Words.{◌≡◌, ◌∙◌, Bool, true, false, IsTrue, refl, sym, subst, Ghosts, HasCleanDisk, IsGood, World, store_of}
+use Rattle.moo_store.proofs.Words.{arith, ◌≡◌, ◌∙◌, Bool, true, false, IsTrue, refl, sym, subst, Ghosts, HasCleanDisk, IsGood, World, store_of}
 use Rattle.moo_store.specs.Moves.{Stands, MovesBy}
 use Rattle.moo_store.{specs.Moment.{Moment, rows_alone}, specs.Place.{Place, Works, Failed}}
 use Rattle.moo_rows.specs.Opening.{opening_maps}
@@ -7,23 +7,11 @@ use Rattle.moo_world.proofs.Shown.OpeningRows.{opening-good}
 
 -- a World that works stands at its rows alone
 pub stands_alone : {S : Type 0} (g : Ghosts S) (world : World S) → world.failed ≡ false → IsGood world.rows.maps → Stands g world (Works (rows_alone world.rows.maps))
-stands_alone g world works good = record {
-  failed = works;
-  good = λ m is. subst (λ (x : Moment). IsGood x.rows) (sym is) good;
-  rows = λ _. refl;
-  rests = λ clean opened. tt;
-  crash = λ clean some. absurd cc;
-}
+stands_alone g world works good = grind arith
 
 -- one that has failed stands at any good rows
 pub fails_alone : {S : Type 0} (g : Ghosts S) (world : World S) → world.failed ≡ true → Stands g world (Failed (rows_alone opening_maps))
-fails_alone g world failed = record {
-  failed = failed;
-  good = λ m is. subst (λ (x : Moment). IsGood x.rows) (sym is) opening-good;
-  rows = λ works. (let no : true ≡ false = sym failed ∙ works in absurd cc);
-  rests = λ clean opened. tt;
-  crash = λ clean some. absurd cc;
-}
+fails_alone g world failed = grind (arith, opening-good)
 
 pub stands_somewhere : {S : Type 0} (g : Ghosts S) (world : World S) → (world.failed ≡ false → IsGood world.rows.maps) → (place : Place) × Stands g world place
 stands_somewhere {S} g world good = by world.failed refl

@@ -1,5 +1,5 @@
 -- What a crash left of a World, opened again.
-use Rattle.moo_store.{proofs.Words.{◌≡◌, ◌∙◌, Some, IsSome, refl, sym, ap, subst, Ghosts, Held, state, HasCleanDisk, IsGood, state_of, World, store_of, StoreFault, MayOpenAs, Rests, ShowsRows, IsOfStore, unread_of, Stands, AllCells, Moment, BecomesPresent, Place, Works, MayBeLeft, moment_of}, specs.Opening.{IsAdopted}, specs.OpeningRows.{IsUnadopted}, proofs.OpenLemmas.{refused_of_store}}
+use Rattle.moo_store.{proofs.Words.{rules, ◌≡◌, ◌∙◌, Some, IsSome, refl, sym, ap, subst, Ghosts, Held, state, HasCleanDisk, IsGood, state_of, World, store_of, StoreFault, MayOpenAs, Rests, ShowsRows, IsOfStore, unread_of, Stands, AllCells, Moment, BecomesPresent, Place, Works, MayBeLeft, moment_of}, specs.Opening.{IsAdopted}, specs.OpeningRows.{IsUnadopted}, proofs.OpenLemmas.{refused_of_store}}
 use Rattle.moo_tables.proofs.ReopenLemmas.{opened}
 use Rattle.moo_cells.{proofs.CellsLemmas.{one_good}, proofs.GoodRows.{good_within}}
 
@@ -40,11 +40,4 @@ module _ {S T : Type 0} (g : Ghosts S) (h : Ghosts T) (crashed : World S) (place
 
   -- if none is opened, nothing is wrong with it
   pub refused_left : (fault : StoreFault) (last : Held T) → IsLeft → IsUnadopted h found fault last → HasCleanDisk (state h last) → IsOfStore fault
-  refused_left fault last left it clean = refused_of_store h found last fault it (state_of left.m.rows) (record {
-    tables = left.cells.tables;
-    rests = left.rests;
-    rows = left.m.rows;
-    shows = left.shows;
-    good = left.good;
-    state = refl;
-  }) clean
+  refused_left fault last left it clean = refused_of_store h found last fault it (state_of left.m.rows) (search rules) clean

@@ -1,16 +1,15 @@
 -- What is printed from exact changes, written over tables that show the old rows, shows the new ones.
-use Rattle.moo_store.proofs.Words.{◌≡◌, Bool, true, false, cond, T, Option, None, Some, List, [], ◌∷◌, ◌++◌, fold, Ordering, refl, sym, ap, ◌∙◌, subst, eq_by_cmp, is_eq, find, is_sorted, Row, with_cells, cells_after, IsChanges, ShowsOrNone, IfBoth, PrintEach}
+use Rattle.moo_store.proofs.Words.{arith, IsTrue, option_map, ◌≡◌, Bool, true, false, cond, T, Option, None, Some, List, [], ◌∷◌, ◌++◌, fold, Ordering, refl, sym, ap, ◌∙◌, subst, eq_by_cmp, is_eq, find, is_sorted, Row, with_cells, cells_after, IsChanges, ShowsOrNone, IfBoth, PrintEach}
 use Rattle.moo_rows.proofs.Walking.{first_of, less_of, second_of}
 use Rattle.moo_tables_rows.proofs.KeyLemmas.{tied_as_equal}
+use Rattle.moo_value.specs.Equal.{IsExact}
 use Rattle.std.{specs.FinMap.Entries.{below_all}, proofs.lemmas.Map.Lookups.{CmpEqualImpliesEq}}
 
 no_both : {X : Type 0} (keeps : X → X → Row → Row → Type 0) (a : Option X) (old new : Option Row) → IfBoth keeps a None old new
-no_both keeps None old new = tt
-no_both keeps (Some x) old new = tt
+no_both keeps a old new = grind arith
 
 both_same : {X : Type 0} (keeps : X → X → Row → Row → Type 0) → ((x : X) (r : Row) → keeps x x r r) → (a : Option X) (cells : Option Row) → IfBoth keeps a a cells cells
-both_same keeps same (Some x) (Some r) = same x r
-both_same keeps same a cells = tt
+both_same keeps same a cells = grind arith
 
 module _ {K Z C : Type 0} (cmp : K → K → Ordering) (exact : CmpEqualImpliesEq cmp) (same : Z → Z → Bool) (at : K → Z)
     (alike : (a b : K) → same (at a) (at b) ≡ eq_by_cmp cmp a b) (over : K → C → Option Row → Option Row) where
@@ -106,3 +105,13 @@ pub one_more : {K C X : Type 0} (prints : K → C → X → Type 0) (fs : List (
 one_more prints [] [] f e p key shows = (key, shows, tt)
 one_more prints (g ∷ fs) (d ∷ es) f e p key shows = (p.0, p.1, one_more prints fs es f e p.2 key shows)
 one_more prints fs es f e p key shows = absurd p
+
+-- ---- whether a row that may be there has this in a column, where a test tells equal values
+
+pub has_part : {X V : Type 0} (same : V → V → Bool) → IsExact same → (part : X → V) (b : Bool) (old : Option X) (x : X) (v : V) → b ≡ same (part x) v → old ≡ Some x
+    → (IsTrue b → option_map part old ≡ Some v) × (option_map part old ≡ Some v → IsTrue b)
+has_part same exact part b old x v tested is =
+    let h = exact (part x) v in (
+      λ t. ap (option_map part) is ∙ ap Some (h.0 (sym tested ∙ t)),
+      λ e. tested ∙ h.1 (let here : Some (part x) ≡ Some v = ap (option_map part) (sym is) ∙ e in cc),
+    )

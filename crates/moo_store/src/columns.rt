@@ -146,7 +146,7 @@ impl Column for ValueList {
 }
 
 /// Whether a row is there, with this value.
-#[tactic(auto, using(crate::proofs::Exactly::has_part))]
+#[tactic(auto, using(crate::proofs::Written::has_part))]
 fn stays<V: Column>(old: Option<&V::Row>, value: &V) -> bool
     ensures { IsTrue result ↔ option_map V.part (option_map (λ row. row.now) old.entry) ≡ Some value.now }
 {

@@ -57,7 +57,7 @@ fn compare_lists(alloc: Global, lists: CellLists, own: &Flat) -> Result<u64, Sto
 ///
 /// The tables are compared one after another. Only if a row differs, or if memory ran out, all are read again at once, to tell what is
 /// wrong.
-#[tactic(auto, using(crate::proofs::CompareLemmas::keeps_read, crate::proofs::CompareLemmas::keeps_failed, crate::proofs::CompareLemmas::unchecked, crate::proofs::CompareLemmas::unasked, crate::proofs::CompareLemmas::failed, crate::proofs::Causes::told_so, moo_tables::proofs::ReadLemmas::reads_then, moo_tables::proofs::ReadLemmas::fails_then, moo_tables::proofs::ReadCauseLemmas::not_a_database))]
+#[tactic(auto, using(crate::proofs::CompareLemmas::checks))]
 pub(crate) fn check_rows<S: Alter>(
     alloc: Global,
     conn: &mut Connection<S>,

@@ -26,7 +26,7 @@ fn reply_with_memory(reply: Reply) -> Result<Reply, AllocError>
 }
 
 /// What a batch would come to at present.
-#[tactic(auto, using(crate::proofs::Asking::judged_alone))]
+#[tactic(auto, using(crate::proofs::Texts::judged_alone))]
 fn ask_kept<S: Alter + Drop, N: Witness>(
     world: &World<S>,
     batch: &Batch,

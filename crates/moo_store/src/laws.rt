@@ -37,7 +37,7 @@ pub fn plain_questions_are_judged()
 
 /// A text that stops at the first answer that isn't `accepted` is answered as the whole text is, up to and with that answer, if memory
 /// doesn't run out and no fault comes. If none is other than `accepted`, it is answered whole.
-#[tactic(auto, using(crate::proofs::Telling::early_front, crate::proofs::Telling::whole_front))]
+#[tactic(auto, using(crate::proofs::Standing::early_front, crate::proofs::Standing::whole_front))]
 pub fn stops_are_fronts()
     ensures early { (old new : Place) (done left : List Next) (answers : List Answer) → Turns RunsAt old done answers new →
         AllByRecursion (λ answer. is_plain answer ≡ true) answers → EndAtFirst answers →
@@ -47,7 +47,7 @@ pub fn stops_are_fronts()
 {}
 
 /// A rehearsal of a text answers what running the text answers, if memory doesn't run out and no fault comes.
-#[tactic(auto, using(crate::proofs::Telling::told_run))]
+#[tactic(auto, using(crate::proofs::Standing::told_run))]
 pub fn rehearsals_tell_runs()
     ensures { (first told old new : Place) (items : List Next) (rehearsed answers : List Answer) →
         state_at first ≡ state_at old → Turns RehearsesAt first items rehearsed told → Turns RunsAt old items answers new →

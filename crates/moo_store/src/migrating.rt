@@ -74,7 +74,7 @@ fn migrate_rows<S: Alter>(
 }
 
 /// Brings tables of this version, which show these rows, to the present version. Those of the present version stay.
-#[tactic(auto, using(crate::proofs::Migrated::rests_already))]
+#[tactic(auto, using(crate::proofs::OpenLemmas::rests_already))]
 pub(crate) fn make_current<S: Alter>(
     alloc: Global,
     conn: &mut Connection<S>,

@@ -160,7 +160,7 @@ fn read_each<S: Alter>(
 }
 
 /// The version of the tables of a connection, and the rows that they show. Nothing is written.
-#[tactic(auto, using(crate::proofs::Versions::version_is))]
+#[tactic(auto, using(crate::proofs::Moments::version_is))]
 pub(crate) fn read_rows<S: Alter>(
     alloc: Global,
     conn: &mut Connection<S>,

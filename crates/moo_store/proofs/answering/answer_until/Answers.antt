@@ -1,4 +1,4 @@
-use Rattle.moo_store.{proofs.Words.{Option, sym, subst, arith, IfNone, TextFault, feed_side, feed_room, EndsAt, is_batch, is_lost_answer, says_accepted, CompletesUntil}, proofs.Going.{going_starts, going_on, going_through, halts_before, halts_inside, one_more, falls_at_turn}, proofs.Early.{accepted_on, at_first, ends_early, has_stopped, goes_on}}
+use Rattle.moo_store.{proofs.Words.{Option, sym, subst, arith, IfNone, TextFault, feed_side, feed_room, EndsAt, is_batch, is_lost_answer, says_accepted, CompletesUntil}, proofs.Going.{going_starts, going_on, going_through, halts_before, halts_inside, one_more, falls_at_turn}, proofs.Going.{accepted_on, at_first, ends_early, has_stopped, goes_on}}
 use Rattle.moo_store.proofs.answering.answer_until.Goals as goal
 use Rattle.moo_text.specs.Given.{BreaksOff, ReadsNext}
 

@@ -1,4 +1,4 @@
-use Rattle.moo_store.{proofs.Words.{None, sym, subst, state, PrintEach, PrintsSlot, all_of}, proofs.Migrated.{keeps_migrated, rests_migrated, survives_migrated}}
+use Rattle.moo_store.{proofs.Words.{None, sym, subst, state, PrintEach, PrintsSlot, all_of}, proofs.OpenLemmas.{keeps_migrated, rests_migrated, survives_migrated}}
 use Rattle.moo_store.proofs.migrating.migrate_rows.Goals as goal
 
 pub returns-in-Ok-migrate-clause-keeps : goal.returns-in-Ok-migrate-clause-keeps

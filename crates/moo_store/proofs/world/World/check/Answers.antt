@@ -1,4 +1,4 @@
-use Rattle.moo_store.{proofs.Words.{◌≡◌, true, refl, subst, World, MovesBy}, specs.Runs.{LeavesChecked}, proofs.CheckMoves.{checked_moves, closed_check}}
+use Rattle.moo_store.{proofs.Words.{◌≡◌, true, refl, subst, World, MovesBy}, specs.Runs.{LeavesChecked}, proofs.CompareLemmas.{checked_moves, closed_check}}
 use Rattle.moo_store.proofs.world.World.check.Goals as goal
 
 pub returns-clause-moves : goal.returns-clause-moves

@@ -1,4 +1,4 @@
-use Rattle.moo_store.{proofs.Words.{◌≡◌, Bool, false, true, Some, refl, sym, subst, subst₂, IsGood, AreChanges, World, Prints, store_of, Ok, Err, Store}, specs.Committing.{CommitsTo, CommitsInto}, specs.Moves.{MovesBy, FailsRun}, proofs.Commits.{moves_on, moves_off, fails_by}, proofs.Running.{when_ok}, proofs.world.World.commit.Goals.{then-is_err, else-is_err}}
+use Rattle.moo_store.{proofs.Words.{◌≡◌, Bool, false, true, Some, refl, sym, subst, subst₂, IsGood, AreChanges, World, Prints, store_of, Ok, Err, Store}, specs.Committing.{CommitsTo, CommitsInto}, specs.Moves.{MovesBy, FailsRun}, proofs.Commits.{moves_on, moves_off, fails_by}, proofs.Verdicts.{when_ok}, proofs.world.World.commit.Goals.{then-is_err, else-is_err}}
 use Rattle.moo_store.proofs.world.World.commit.Goals as goal
 use Rattle.moo_rows.specs.Maps.{Held}
 use Rattle.moo_text.specs.declared.reply.Reply.TheVariants.{Accepted}

@@ -1,4 +1,4 @@
-use Rattle.moo_store.{proofs.Words.{◌≡◌, ◌+◌, inr, vec_len, subst, arith, true, false, World, IsGood}, proofs.Running.{when_ok}, proofs.ListRuns.{reached_first, reached_next, reached_last, reached_fault, shut_first, no_room_first, fails_since, still_at_fault, still_at_end}}
+use Rattle.moo_store.{proofs.Words.{◌≡◌, ◌+◌, inr, vec_len, subst, arith, true, false, World, IsGood}, proofs.Verdicts.{when_ok}, proofs.ListRuns.{reached_first, reached_next, reached_last, reached_fault, shut_first, no_room_first, fails_since, still_at_fault}}
 use Rattle.moo_store.proofs.world.World.run.Goals as goal
 
 -- before the first batch
@@ -45,6 +45,3 @@ returns-in-Err-clause-fault g c = inr (fails_since c.loop-batch.invariant.reache
 pub returns-clause-moves : goal.returns-clause-moves
 returns-clause-moves g c =
     reached_last c.loop-batch.invariant.reached (subst (λ (w : World _). w.failed ≡ false) c.self.view_is c.if-self.false) (omega (arith, c.loop-batch-test.false, c.loop-batch.auto.batch-index-end))
-
-pub returns-clause-still : goal.returns-clause-still
-returns-clause-still g c = still_at_end c.loop-batch.invariant.reached
