@@ -1,5 +1,5 @@
 -- The rows of a map, each as a change from none.
-use Rattle.moo_store.{proofs.Words.{◌≡◌, ◌≢◌, cond, T, ◌&&◌, List, [], ◌∷◌, ◌++◌, Option, None, Some, Ordering, refl, sym, ap, ◌∙◌, subst, true, false, eq_by_cmp, is_lt, FinMap, find, get, is_sorted, entries, entries_sorted, get-entries, IsChanges, as_changes, all_of, PrintEach, append_assoc, append-nil}, proofs.Written.{one_more}}
+use Rattle.moo_store.{proofs.Words.{arith, ◌≡◌, ◌≢◌, cond, T, ◌&&◌, List, [], ◌∷◌, ◌++◌, Option, None, Some, Ordering, refl, sym, ap, ◌∙◌, subst, true, false, eq_by_cmp, is_lt, FinMap, find, get, is_sorted, entries, entries_sorted, get-entries, IsChanges, as_changes, all_of, PrintEach, append_assoc, append-nil}, proofs.Written.{one_more}}
 use Rattle.std.{specs.Option.{option_map}, specs.FinMap.Entries.{below_all}}
 
 module _ {K X : Type 0} (cmp : K → K → Ordering) where
@@ -19,17 +19,12 @@ module _ {K X : Type 0} (cmp : K → K → Ordering) where
         | false ↦ found_change k es
       ]
 
-some_isnt : {X : Type 0} (x : X) → Some x ≢ None
-some_isnt x e = cc
-
 -- a row that is found as a change from none is a row
 row_of : {X : Type 0} (o : Option X) (row : Option X) → option_map Some o ≡ Some row → (row ≡ o) × (row ≢ None)
-row_of None row is = absurd (let no : None ≡ Some row = is in cc)
-row_of (Some x) row is = let same : Some x ≡ row = cc in (sym same, λ none. some_isnt x (same ∙ none))
+row_of o row is = grind arith
 
 none_of : {X : Type 0} (o : Option X) → option_map (λ x. Some x) o ≡ None → None ≡ o
-none_of None is = refl
-none_of (Some x) is = absurd (some_isnt (Some x) is)
+none_of o is = grind arith
 
 -- all rows are what changed from none
 pub all_changed : {K X : Type 0} (cmp : K → K → Ordering) (m : FinMap cmp X) → IsChanges cmp (λ _. None) (get m) (all_of m)

@@ -1,16 +1,15 @@
 -- How far the answering of a text has come, whatever answers its batches.
-use Rattle.moo_store.proofs.Words.{◌≡◌, ◌≢◌, ◌<◌, inl, inr, ℕ, ◌+◌, ◌≤◌, Bool, true, false, cond, length, List, [], ◌∷◌, ◌++◌, take, append_assoc, Option, Some, None, zero-add, refl, sym, ap, subst, ◌∙◌, arith, ◌⊎◌, append-nil, Batch, items, Side, untouched, IsOver, Next, Answer, TextFault, answers_text, is_batch, is_lost_answer, Turn, Turns, GivesFrontOrAll, Completes, Halts}
+use Rattle.moo_store.proofs.Words.{false, ◌&&◌, not, says_accepted, AreAccepted, EndAtFirst, EndsEarly, ◌≡◌, ◌≢◌, ◌<◌, inl, inr, ℕ, ◌+◌, ◌≤◌, Bool, true, cond, length, List, [], ◌∷◌, ◌++◌, take, append_assoc, Option, zero-add, refl, sym, ap, subst, ◌∙◌, arith, ◌⊎◌, append-nil, Batch, items, Side, untouched, IsOver, Next, Answer, TextFault, answers_text, is_batch, is_lost_answer, Turn, Turns, GivesFrontOrAll, Completes, Halts}
 use Rattle.moo_text.specs.declared.lines.TheConstants.{LONGEST_TEXT}
-use Rattle.std.{specs.List.{count_by}, proofs.KnownBytes.{Appends-nil, Appends-trans}, specs.Io.KnownBytes.{Appends, Consumes, IsAtEnd}, proofs.lemmas.List.Sums.{sum_by-append}, proofs.lemmas.Grind.{flat_map-append}}
+use Rattle.std.{specs.List.{count_by}, proofs.KnownBytes.{Appends-nil, Appends-trans}, specs.Io.KnownBytes.{Appends}, proofs.lemmas.List.Sums.{sum_by-append}, proofs.lemmas.Grind.{flat_map-append}}
 use Rattle.moo_text.{specs.Replies.{answer_text}, specs.Given.{ReaderGives, Explains, BreaksOff, ReadsNext, ReadsItems}, specs.declared.next.Next.TheVariants.{End}, specs.declared.fault.TextFault.TheVariants.{Read, Write, OutOfMemory, Long}, proofs.Joining.{items_none, items_then, items_end, whole_items, all_given, items_stop}}
 
 -- one turn more
 pub turns-push : {A : Type 0} (P : A → Batch → Answer → A → Type 0) (old now next : A) (done : List Next) (answers : List Answer) (item : Next) (a : Answer) → Turns P old done answers now → Turn P now item a next
     → Turns P old (done ++ item ∷ []) (answers ++ a ∷ []) next
 turns-push P old now next [] [] item a it one = (next, subst (λ w. Turn P w item a next) it one, refl)
-turns-push P old now next [] (x ∷ xs) item a it one = absurd it
-turns-push P old now next (i ∷ is) [] item a it one = absurd it
 turns-push P old now next (i ∷ is) (x ∷ xs) item a it one = (it.0, it.1, turns-push P it.0 now next is xs item a it.2 one)
+turns-push P old now next is xs item a it one = absurd it
 
 pub count-push : (p : Answer → Bool) (answers : List Answer) (a : Answer) → count_by p (answers ++ a ∷ []) ≡ count_by p answers + cond (p a) 1 0
 count-push p answers a = sum_by-append (λ x. cond (p x) 1 0) answers (a ∷ []) ∙ ap (λ n. count_by p answers + n) (zero-add (cond (p a) 1 0))
@@ -25,18 +24,11 @@ not_other fault other it written none is = elim it [ inl w ↦ absurd (written (
 
 -- what a reader gave stands in front of its bytes
 pub gives_front : (text : Option (List ℕ)) (room : ℕ) (c : Side) (given : List ℕ) → ReaderGives (untouched text room) c given → GivesFrontOrAll text c.ended given
-gives_front text room c given g = by text c.left g.known (g.at_end (λ e. absurd cc))
-  where
-    by : (text now : Option (List ℕ)) → Consumes text now given → (c.ended ≡ true → IsAtEnd now) → GivesFrontOrAll text c.ended given
-    by None now known end = tt
-    by (Some bytes) None known end = absurd known
-    by (Some bytes) (Some rest) known end = (rest, known, end)
+gives_front text room c given g = grind arith
 
 -- how much was given where reading was stopped
 pub counted : (count : ℕ) (fault : TextFault) → Explains LONGEST_TEXT count fault → (fault ≡ Long → count ≡ LONGEST_TEXT + 1) × (fault ≢ Long → count ≤ LONGEST_TEXT)
-counted count Write e = absurd e
-counted count Long e = ((λ is. e), λ other. absurd (other refl))
-counted count fault e = ((λ is. absurd cc), λ other. e)
+counted count fault e = grind arith
 
 module _ {A : Type 0} (P : A → Batch → Answer → A → Type 0) (old : A) (text before : Option (List ℕ)) where
   -- these items are read and answered, and their answers are written
@@ -49,8 +41,13 @@ module _ {A : Type 0} (P : A → Batch → Answer → A → Type 0) (old : A) (t
     pub batches_are : batches ≡ count_by is_batch answers
     pub lost_are : lost ≡ count_by is_lost_answer answers
 
-  abbrev pub going_starts : (side : Side) (b l : ℕ) → side ≡ untouched text LONGEST_TEXT → b ≡ 0 → l ≡ 0 → Going old side before b l
-  going_starts side b l is is_b is_l = record {
+  -- these items are answered; if it is to stop, each answer is `accepted`
+  abbrev pub GoingUntil : Bool → A → Side → Option (List ℕ) → ℕ → ℕ → Type 0
+  GoingUntil stop now side written b l = (p : Going now side written b l) × (stop ≡ true → AreAccepted p.answers)
+
+module _ {A : Type 0} {P : A → Batch → Answer → A → Type 0} {old : A} {text before : Option (List ℕ)} where
+  abbrev pub going_starts : {side : Side} {b l : ℕ} → side ≡ untouched text LONGEST_TEXT → b ≡ 0 → l ≡ 0 → Going P old text before old side before b l
+  going_starts is is_b is_l = record {
     done = [];
     read = subst (λ s. ReadsItems (untouched text LONGEST_TEXT) s []) (sym is) (items_none (untouched text LONGEST_TEXT));
     answers = [];
@@ -60,10 +57,10 @@ module _ {A : Type 0} (P : A → Batch → Answer → A → Type 0) (old : A) (t
     lost_are = is_l;
   }
 
-  abbrev pub going_on : (now next : A) (side more : Side) (written longer : Option (List ℕ)) (b l b2 l2 : ℕ) (item : Next) (a : Answer)
-      → Going now side written b l → ReadsNext side more item → Turn P now item a next → Appends written longer (answer_text a)
-      → b2 ≡ b + cond (is_batch a) 1 0 → l2 ≡ l + cond (is_lost_answer a) 1 0 → Going next more longer b2 l2
-  going_on now next side more written longer b l b2 l2 item a p took one wrote is_b is_l = record {
+  abbrev pub going_on : {now next : A} {side more : Side} {written longer : Option (List ℕ)} {b l b2 l2 : ℕ} (item : Next) (a : Answer)
+      → Going P old text before now side written b l → ReadsNext side more item → Turn P now item a next → Appends written longer (answer_text a)
+      → b2 ≡ b + cond (is_batch a) 1 0 → l2 ≡ l + cond (is_lost_answer a) 1 0 → Going P old text before next more longer b2 l2
+  going_on {now} {next} {side} {more} {written} {longer} item a p took one wrote is_b is_l = record {
     done = p.done ++ item ∷ [];
     read = items_then (untouched text LONGEST_TEXT) side more p.done item p.read took (not_end P now next item a one);
     answers = p.answers ++ a ∷ [];
@@ -74,8 +71,8 @@ module _ {A : Type 0} (P : A → Batch → Answer → A → Type 0) (old : A) (t
   }
 
   -- at the end of the text
-  abbrev pub going_through : (now : A) (side more : Side) (written : Option (List ℕ)) (b l : ℕ) → Going now side written b l → ReadsNext side more End → IsOver more → Completes P old now text before written b l
-  going_through now side more written b l p took over =
+  abbrev pub going_through : {now : A} {side more : Side} {written : Option (List ℕ)} {b l : ℕ} → Going P old text before now side written b l → ReadsNext side more End → IsOver more → Completes P old now text before written b l
+  going_through {now} {side} {more} p took over =
       let all = items_end (untouched text LONGEST_TEXT) side more p.done p.read took in
       record {
         given = all.given;
@@ -88,9 +85,26 @@ module _ {A : Type 0} (P : A → Batch → Answer → A → Type 0) (old : A) (t
         lost_are = p.lost_are;
       }
 
+  -- before it, since it was to stop
+  pub ends_early : {now : A} {side : Side} {written : Option (List ℕ)} {b l : ℕ} (p : Going P old text before now side written b l) → EndAtFirst p.answers → EndsEarly P old now text before written b l
+  ends_early {side = side} p first = record {
+    given = p.read.given;
+    ended = side.ended;
+    front = gives_front text LONGEST_TEXT side p.read.given p.read.gives;
+    short = omega (arith, p.read.room);
+    done = p.done;
+    whole = λ rest none. (items (side.ahead ++ rest), p.read.holds rest none);
+    answers = p.answers;
+    turns = p.turns;
+    first = first;
+    wrote = p.wrote;
+    batches_are = p.batches_are;
+    lost_are = p.lost_are;
+  }
+
   -- a fault of reading
-  abbrev pub halts_before : (now : A) (side more : Side) (written : Option (List ℕ)) (b l : ℕ) (fault : TextFault) → Going now side written b l → BreaksOff side more fault → Halts P old now text before written fault
-  halts_before now side more written b l fault p broke =
+  abbrev pub halts_before : {now : A} {side more : Side} {written : Option (List ℕ)} {b l : ℕ} {fault : TextFault} → Going P old text before now side written b l → BreaksOff side more fault → Halts P old now text before written fault
+  halts_before {now} {side} {more} {written} {fault = fault} p broke =
       let stop = items_stop text LONGEST_TEXT side more p.done fault p.read broke in
       record {
         given = stop.given;
@@ -113,10 +127,10 @@ module _ {A : Type 0} (P : A → Batch → Answer → A → Type 0) (old : A) (t
       }
 
   -- a fault of writing
-  abbrev pub halts_inside : (now next : A) (side more : Side) (written longer : Option (List ℕ)) (b l : ℕ) (fault : TextFault) (item : Next) (a : Answer) (count : ℕ)
-      → Going now side written b l → ReadsNext side more item → Turn P now item a next → Appends written longer (take count (answer_text a)) → (fault ≡ Write) ⊎ (fault ≡ OutOfMemory) → (fault ≢ Write → count ≡ 0)
+  abbrev pub halts_inside : {now next : A} {side more : Side} {written longer : Option (List ℕ)} {b l : ℕ} {fault : TextFault} (item : Next) (a : Answer) (count : ℕ)
+      → Going P old text before now side written b l → ReadsNext side more item → Turn P now item a next → Appends written longer (take count (answer_text a)) → (fault ≡ Write) ⊎ (fault ≡ OutOfMemory) → (fault ≢ Write → count ≡ 0)
       → Halts P old next text before longer fault
-  halts_inside now next side more written longer b l fault item a count p took one wrote writing cut =
+  halts_inside {now} {next} {side} {more} {written} {longer} {fault = fault} item a count p took one wrote writing cut =
       let read = items_then (untouched text LONGEST_TEXT) side more p.done item p.read took (not_end P now next item a one) in
       record {
         given = read.given;
@@ -146,5 +160,22 @@ falls_at_turn P now next item a room less one falls = falls (not_end P now next 
 
 -- a count of answers stays within the bytes that were taken
 pub one_more : (b : Bool) (n m room less : ℕ) → n + room ≤ LONGEST_TEXT → less < room → m ≡ n + cond b 1 0 → m + less ≤ LONGEST_TEXT
-one_more true n m room less low falls is = omega (arith, low, falls, is)
-one_more false n m room less low falls is = omega (arith, low, falls, is)
+one_more b n m room less low falls is = grind arith
+
+-- ---- a text that was to stop at the first answer that isn't `accepted`
+
+-- one answer more
+pub accepted_on : (answers : List Answer) (a : Answer) → AreAccepted answers → says_accepted a ≡ true → AreAccepted (answers ++ a ∷ [])
+accepted_on [] a all one = (one, tt)
+accepted_on (x ∷ xs) a all one = (all.0, accepted_on xs a all.1 one)
+
+-- the last answer isn't `accepted`
+pub at_first : (answers : List Answer) (a : Answer) → AreAccepted answers → says_accepted a ≡ false → EndAtFirst (answers ++ a ∷ [])
+at_first answers a all one = record { before = answers; last = a; are = refl; firsts = all; refused = one }
+
+-- a text stops after an answer only if it was to stop, and the answer isn't `accepted`
+pub has_stopped : (stop accepted r : Bool) → r ≡ (stop && not accepted) → r ≡ true → (stop ≡ true) × (accepted ≡ false)
+has_stopped stop accepted r is stops = grind arith
+
+pub goes_on : (stop accepted r : Bool) → r ≡ (stop && not accepted) → r ≡ false → stop ≡ true → accepted ≡ true
+goes_on stop accepted r is goes e = grind arith

@@ -1,16 +1,15 @@
 -- What batches and turns lead to.
-use Rattle.moo_store.proofs.Words.{◌≡◌, ◌∙◌, inl, inr, List, [], ◌∷◌, ◌++◌, sym, ap, subst, Batch, Verdict, Accepted, Refused, NoRoom, Stale, after, judge, Reply, reply_of, Answer, Next, Turn, Turns, acknowledged, accepted_at, accepted}
+use Rattle.moo_store.proofs.Words.{arith, ◌≡◌, ◌∙◌, inl, inr, List, [], ◌∷◌, ◌++◌, sym, ap, subst, Batch, Verdict, Accepted, after, reply_of, Answer, Next, Turn, Turns, acknowledged, accepted_at, accepted}
 use Rattle.moo_store.specs.Moves.{VerdictLeads, StopsStore, RunsAt}
-use Rattle.moo_store.{specs.Moment.{Moment, state_of_moment, LeadsByEach}, specs.Place.{Place, Works, Failed, Between, moment_of}}
+use Rattle.moo_store.{specs.Moment.{Moment, state_of_moment, LeadsByEach}, specs.Place.{Place, moment_of}}
 use Rattle.moo_world.{specs.Numbers.{NumbersStay}, specs.Requests.{PetitionsStay, state_of}, specs.Rows.{world_of}, proofs.Batches.PetitionNumbers.{petitions_same, petitions_joined}, proofs.Shown.NumbersKept.{stay_itself, stay_joined, batches_keep_numbers}}
-use Rattle.moo_text.specs.declared.next.Next.TheVariants.{Batch as Whole, Malformed, Truncated, End}
-use Rattle.moo_text.specs.declared.reply.Answer.TheVariants as answer
+use Rattle.moo_text.specs.declared.next.Next.TheVariants.{Batch as Whole}
 
 -- ---- batches
 
-pub leads-join : (m mid end : Moment) (first second : List Batch) → LeadsByEach m first mid → LeadsByEach mid second end → LeadsByEach m (first ++ second) end
-leads-join m mid end [] second it on = subst (λ (x : Moment). LeadsByEach x second end) it on
-leads-join m mid end (b ∷ bs) second it on = (it.0, it.1, leads-join it.0 mid end bs second it.2 on)
+pub leads_join : (m mid end : Moment) (first second : List Batch) → LeadsByEach m first mid → LeadsByEach mid second end → LeadsByEach m (first ++ second) end
+leads_join m mid end [] second it on = subst (λ (x : Moment). LeadsByEach x second end) it on
+leads_join m mid end (b ∷ bs) second it on = (it.0, it.1, leads_join it.0 mid end bs second it.2 on)
 
 pub leads_after : (m end : Moment) (batches : List Batch) → LeadsByEach m batches end → state_of_moment end ≡ after (state_of_moment m) batches
 leads_after m end [] it = ap state_of_moment it
@@ -28,38 +27,20 @@ leads_keep_petitions m end (b ∷ bs) it = petitions_joined (state_of m.rows) (s
 
 verdict_leads : (m : Moment) (batch : Batch) (v : Verdict) (to : Place) → VerdictLeads m batch v to → LeadsByEach m (acknowledged (batch ∷ []) (reply_of v ∷ [])) (moment_of to)
 verdict_leads m batch (Accepted answers next) to it = (it.0, it.1, elim it.2 [ inl on ↦ ap moment_of on | inr on ↦ ap moment_of on ])
-verdict_leads m batch (Refused call code) to it = ap moment_of it
-verdict_leads m batch (NoRoom call) to it = ap moment_of it
-verdict_leads m batch (Stale seq) to it = ap moment_of it
+verdict_leads m batch v to it = ap moment_of it
 
 stops_there : (m : Moment) (batch : Batch) (v : Verdict) (to : Place) → StopsStore m batch v to → moment_of to ≡ m
-stops_there m batch (Accepted answers next) to it = ap moment_of it.2
-stops_there m batch (Refused call code) to it = absurd it
-stops_there m batch (NoRoom call) to it = absurd it
-stops_there m batch (Stale seq) to it = absurd it
+stops_there m batch v to it = grind arith
 
 -- one batch leads from place to place, if it is acknowledged
 one_leads : (from : Place) (batch : Batch) (a : Answer) (to : Place) → RunsAt from batch a to → LeadsByEach (moment_of from) (accepted_at (Whole batch) a) (moment_of to)
-one_leads (Works m) batch (answer.Replied given) to it = elim it [
-  | inl none ↦ subst (λ (x : Reply). LeadsByEach m (acknowledged (batch ∷ []) (x ∷ [])) (moment_of to)) (sym none.0) (ap moment_of none.1)
-  | inr ran ↦ subst (λ (x : Reply). LeadsByEach m (acknowledged (batch ∷ []) (x ∷ [])) (moment_of to)) (sym ran.0) (verdict_leads m batch (judge (state_of_moment m) batch) to ran.1)
-]
-one_leads (Works m) batch answer.Fault to it = stops_there m batch (judge (state_of_moment m) batch) to it
-one_leads (Works m) batch answer.Closed to it = absurd it
-one_leads (Works m) batch (answer.Malformed number) to it = absurd it
-one_leads (Works m) batch answer.Truncated to it = absurd it
-one_leads (Failed m) batch a to it = subst (λ x. LeadsByEach m (accepted_at (Whole batch) x) (moment_of to)) (sym it.0) (ap moment_of it.1)
-one_leads (Between m next) batch a to it = subst (λ x. LeadsByEach m (accepted_at (Whole batch) x) (moment_of to)) (sym it.0) (ap moment_of it.1)
+one_leads from batch a to it = grind (arith, verdict_leads, stops_there)
 
 turn_leads : (from : Place) (item : Next) (a : Answer) (to : Place) → Turn RunsAt from item a to → LeadsByEach (moment_of from) (accepted_at item a) (moment_of to)
-turn_leads from (Whole batch) a to it = one_leads from batch a to it
-turn_leads from (Malformed number) a to it = ap moment_of it.1
-turn_leads from Truncated a to it = ap moment_of it.1
-turn_leads from End a to it = absurd it
+turn_leads from item a to it = grind (arith, one_leads)
 
 pub turns_lead : (from to : Place) (items : List Next) (answers : List Answer) → Turns RunsAt from items answers to → LeadsByEach (moment_of from) (accepted items answers) (moment_of to)
 turns_lead from to [] [] it = ap moment_of it
-turns_lead from to [] (a ∷ answers) it = absurd it
-turns_lead from to (item ∷ items) [] it = absurd it
 turns_lead from to (item ∷ items) (a ∷ answers) it =
-    leads-join (moment_of from) (moment_of it.0) (moment_of to) (accepted_at item a) (accepted items answers) (turn_leads from item a it.0 it.1) (turns_lead it.0 to items answers it.2)
+    leads_join (moment_of from) (moment_of it.0) (moment_of to) (accepted_at item a) (accepted items answers) (turn_leads from item a it.0 it.1) (turns_lead it.0 to items answers it.2)
+turns_lead from to items answers it = absurd it

@@ -1,7 +1,6 @@
 -- Batches of a list that are run one after another, from place to place.
-use Rattle.moo_store.{proofs.Words.{◌≡◌, ◌∙◌, inl, inr, ℕ, suc, ◌+◌, ◌<◌, true, false, List, [], ◌∷◌, ◌++◌, append_assoc, append-nil, length-append, take, take_more, drop, length, get_or, map, Option, IsSome, Result, Ok, Err, MatchStore, IsTrue, ⊤, refl, sym, ap, subst, subst₂, arith, Ghosts, HasCleanDisk, IsGood, Batch, Reply, answer_to, acknowledged, added, says_accepted, accepted, World, store_of, Turns, KeepsFaults, IsStopped, StoreFault, Store, Closed, OutOfMemory}, specs.Moves.{Stands, MovesBy, RunsAt, FailsRun}, specs.Runs.{EndsList, RunsEach}, proofs.Going.{turns-push}, proofs.Moving.{stands_somewhere, moves_as, moves_none, moves_then}, proofs.Leading.{turns_lead}, proofs.Stopped.{faults_same, faults_then, stopped_since}, specs.Moment.{AllCells, Moment, KeepsCellsAt, LeadsByEach}, specs.Place.{Place, Works, Failed, Between, moment_of, has_failed}, proofs.Moments.{some_cells, kept_cells, cells_at_rest}}
-use Rattle.std.{proofs.Math.Seq.{drop-append_seam, drop-cons, take-append_seam}, proofs.lemmas.List.{map-append}}
-use Rattle.sqlite.specs.declared.error.Error.{Error}
+use Rattle.moo_store.{proofs.Words.{◌≡◌, ◌∙◌, inl, inr, ℕ, suc, ◌+◌, ◌<◌, true, false, List, [], ◌∷◌, ◌++◌, append_assoc, append-nil, length-append, take, take_more, drop, length, get_or, map, Option, IsSome, Result, Ok, Err, MatchStore, IsTrue, ⊤, refl, sym, ap, subst, subst₂, arith, Ghosts, HasCleanDisk, IsGood, Batch, Reply, answer_to, acknowledged, added, says_accepted, accepted, World, store_of, Turns, KeepsFaults, IsStopped, StoreFault, Store, Closed, OutOfMemory}, specs.Moves.{Stands, MovesBy, RunsAt, FailsRun}, specs.Runs.{EndsList, RunsEach}, proofs.Going.{turns-push}, proofs.Moving.{stands_somewhere, moves_as, moves_none, moves_then}, proofs.Leading.{turns_lead}, proofs.Moments.{faults_same, faults_then, stopped_since, some_cells, kept_cells, cells_at_rest}, specs.Moment.{AllCells, Moment, KeepsCellsAt, LeadsByEach}, specs.Place.{Place, Works, moment_of, has_failed}}
+use Rattle.std.{proofs.Math.Seq.{drop-append_seam, drop-cons, drop-length, take-append_seam}, proofs.lemmas.List.{map-append}}
 use Rattle.moo_text.specs.declared.next.Next.TheVariants.{Batch as Whole}
 use Rattle.moo_text.specs.declared.reply.Answer.TheVariants as answer
 use Rattle.moo_text.specs.declared.reply.Reply.TheVariants as reply
@@ -17,11 +16,7 @@ none_without_replies [] = refl
 none_without_replies (b ∷ bs) = refl
 
 one_of : (b : Batch) (bs : List Batch) (r : Reply) → acknowledged (b ∷ bs) (r ∷ []) ≡ acknowledged (b ∷ []) (r ∷ [])
-one_of b bs (reply.Accepted seq vs) = ap (λ t. b ∷ t) (none_without_replies bs)
-one_of b bs (reply.Refused k e) = none_without_replies bs
-one_of b bs (reply.Full k) = none_without_replies bs
-one_of b bs (reply.Stale seq) = none_without_replies bs
-one_of b bs reply.NoMemory = none_without_replies bs
+one_of b bs r = grind (arith, none_without_replies)
 
 -- one more reply acknowledges its batch or none
 acknowledged-push : (all : List Batch) (replies : List Reply) (batch : Batch) (r : Reply) → length replies < length all → batch ≡ get_or all (length replies) batch
@@ -29,21 +24,14 @@ acknowledged-push : (all : List Batch) (replies : List Reply) (batch : Batch) (r
 acknowledged-push [] replies batch r low is = absurd (omega (arith, low))
 acknowledged-push (b ∷ bs) [] batch r low is = one_of b bs r ∙ ap (λ x. acknowledged (x ∷ []) (r ∷ [])) (sym is)
 acknowledged-push (b ∷ bs) (reply.Accepted seq vs ∷ rs) batch r low is = ap (λ t. b ∷ t) (acknowledged-push bs rs batch r (omega (arith, low)) is)
-acknowledged-push (b ∷ bs) (reply.Refused k e ∷ rs) batch r low is = acknowledged-push bs rs batch r (omega (arith, low)) is
-acknowledged-push (b ∷ bs) (reply.Full k ∷ rs) batch r low is = acknowledged-push bs rs batch r (omega (arith, low)) is
-acknowledged-push (b ∷ bs) (reply.Stale seq ∷ rs) batch r low is = acknowledged-push bs rs batch r (omega (arith, low)) is
-acknowledged-push (b ∷ bs) (reply.NoMemory ∷ rs) batch r low is = acknowledged-push bs rs batch r (omega (arith, low)) is
+acknowledged-push (b ∷ bs) (x ∷ rs) batch r low is = acknowledged-push bs rs batch r (omega (arith, low)) is
 
 none_in : (first second : List Batch) → first ++ second ≡ [] → (first ≡ []) × (second ≡ [])
 none_in [] second none = (refl, none)
 none_in (b ∷ bs) second none = let no : b ∷ (bs ++ second) ≡ [] = none in absurd cc
 
 unaccepted : (batch : Batch) (given : Reply) → acknowledged (batch ∷ []) (given ∷ []) ≡ [] → says_accepted (answer.Replied given) ≡ false
-unaccepted batch (reply.Accepted seq answers) none = let no : batch ∷ [] ≡ [] = none in absurd cc
-unaccepted batch (reply.Refused call code) none = refl
-unaccepted batch (reply.Full call) none = refl
-unaccepted batch (reply.Stale seq) none = refl
-unaccepted batch reply.NoMemory none = refl
+unaccepted batch given none = grind arith
 
 -- ---- cells that are known stay known
 
@@ -80,11 +68,11 @@ turned-push old mid end batches replies batch r it one =
     subst₂ (λ items answers. Turns RunsAt old items answers end) (sym (map-append Whole batches (batch ∷ []))) (sym (map-append answer.Replied replies (r ∷ [])))
     (turns-push RunsAt old mid end (map Whole batches) (map answer.Replied replies) (Whole batch) (answer.Replied r) it one)
 
-pub reached_next : {S : Type 0} (g : Ghosts S) (old now next : World S) (all : List Batch) (count : ℕ) (before replies longer : List Reply) (batch : Batch) (r : Reply)
+pub reached_next : {S : Type 0} {g : Ghosts S} {old now next : World S} {all : List Batch} {count : ℕ} {before replies longer : List Reply} {batch : Batch} (r : Reply)
     → count < length all → batch ≡ get_or all count batch → Reached g old now all count before replies → longer ≡ replies ++ r ∷ []
     → MovesBy g now next (λ from to. RunsAt from batch (answer.Replied r) to) → (says_accepted (answer.Replied r) ≡ false → next ≡ now) → KeepsFaults (store_of g now) (store_of g next)
     → Reached g old next all (count + 1) before longer
-reached_next g old now next all count before replies longer batch r low is p pushed one stays kept =
+reached_next {g = g} {old} {now} {next} {all} {count} {before} {batch = batch} r low is p pushed one stays kept =
     let more : take (count + 1) all ≡ take count all ++ batch ∷ [] = take_more all count batch low ∙ ap (λ y. take count all ++ y ∷ []) (sym is) in
     let place : count ≡ length p.new = sym p.each in
     record {
@@ -102,11 +90,9 @@ reached_next g old now next all count before replies longer batch r low is p pus
 
 -- a World that had failed answers so, and stays
 closed_there : (mid to : Place) (batch : Batch) → RunsAt mid batch answer.Closed to → IsTrue (has_failed mid) × (to ≡ mid)
-closed_there (Works m) to batch it = absurd it
-closed_there (Failed m) to batch it = (refl, it.1)
-closed_there (Between m next) to batch it = (refl, it.1)
+closed_there mid to batch it = grind arith
 
-module _ {S : Type 0} (g : Ghosts S) (old now : World S) (all : List Batch) (count : ℕ) (before replies : List Reply) (p : Reached g old now all count before replies) where
+module _ {S : Type 0} {g : Ghosts S} {old now : World S} {all : List Batch} {count : ℕ} {before replies : List Reply} (p : Reached g old now all count before replies) where
   added_is : added before replies ≡ p.new
   added_is = ap (drop (length before)) p.whole ∙ drop-append_seam before p.new
 
@@ -137,32 +123,19 @@ module _ {S : Type 0} (g : Ghosts S) (old now : World S) (all : List Batch) (cou
   -- each has a reply
   pub reached_last : old.failed ≡ false → count ≡ length all → MovesBy g old now (λ from to. RunsEach from all (added before replies) (Ok tt) to)
   reached_last works done = ends_by now (Ok tt) (λ from to. to ≡ from) (moves_none g now (λ from to. to ≡ from) (λ from. refl))
-      (λ from mid to at same. (sym at.failed ∙ works, ap (λ n. drop n all) done ∙ drop_all all, same))
-    where
-      drop_all : (xs : List Batch) → drop (length xs) xs ≡ []
-      drop_all [] = refl
-      drop_all (x ∷ xs) = drop_all xs
+      (λ from mid to at same. (sym at.failed ∙ works, ap (λ n. drop n all) done ∙ drop-length all, same))
 
   -- the batch in hand
-  module _ (batch : Batch) (new : World S) (low : count < length all) (is : batch ≡ get_or all count batch) where
+  module _ {batch : Batch} (new : World S) (low : count < length all) (is : batch ≡ get_or all count batch) where
     next_in_hand : drop count all ≡ batch ∷ drop (suc count) all
     next_in_hand = drop-cons all count batch low ∙ ap (λ b. b ∷ drop (suc count) all) (sym is)
 
     -- ..met a fault
-    ends_at_store : (error : Error) → MovesBy g now new (λ from to. RunsAt from batch answer.Fault to) → MovesBy g old new (λ from to. RunsEach from all (added before replies) (Err (Store error)) to)
-    ends_at_store error moves = ends_by new (Err (Store error)) (λ from to. RunsAt from batch answer.Fault to) moves (λ from mid to at it. (batch, drop (suc count) all, next_in_hand, it))
-
-    ends_closed : MovesBy g now new (λ from to. RunsAt from batch answer.Closed to) → MovesBy g old new (λ from to. RunsEach from all (added before replies) (Err Closed) to)
-    ends_closed moves = ends_by new (Err Closed) (λ from to. RunsAt from batch answer.Closed to) moves
-        (λ from mid to at it. (let shut = closed_there mid to batch it in (shut.0, shut.1, λ works. (batch, drop (suc count) all, next_in_hand))))
-
     pub reached_fault : (fault : StoreFault) → MovesBy g now new (λ from to. RunsAt from batch (answer_to (Err fault)) to) → FailsRun g now new fault → MovesBy g old new (λ from to. RunsEach from all (added before replies) (Err fault) to)
-    reached_fault fault moves (inl closed) =
-        subst (λ f. MovesBy g old new (λ from to. RunsEach from all (added before replies) (Err f) to)) (sym closed)
-        (ends_closed (subst (λ f. MovesBy g now new (λ from to. RunsAt from batch (answer_to (Err f)) to)) closed moves))
-    reached_fault fault moves (inr (error, stop, why)) =
-        subst (λ f. MovesBy g old new (λ from to. RunsEach from all (added before replies) (Err f) to)) (sym stop)
-        (ends_at_store error (subst (λ f. MovesBy g now new (λ from to. RunsAt from batch (answer_to (Err f)) to)) stop moves))
+    reached_fault (Store error) moves fails = ends_by new (Err (Store error)) (λ from to. RunsAt from batch answer.Fault to) moves (λ from mid to at it. (batch, drop (suc count) all, next_in_hand, it))
+    reached_fault Closed moves fails = ends_by new (Err Closed) (λ from to. RunsAt from batch answer.Closed to) moves
+        (λ from mid to at it. (let shut = closed_there mid to batch it in (shut.0, shut.1, λ works. (batch, drop (suc count) all, next_in_hand))))
+    reached_fault fault moves fails = absurd (elim fails [ inl closed ↦ cc | inr stopped ↦ (let stop = stopped.1 in cc) ])
 
     -- why, if the cells are known
     stopped_at : (fault : StoreFault) (mid to : Place) → Stands g now mid → IsSome (moment_of mid).cells → RunsAt mid batch answer.Fault to → (HasCleanDisk (store_of g new) → HasCleanDisk (store_of g now))
@@ -171,8 +144,7 @@ module _ {S : Type 0} (g : Ghosts S) (old now : World S) (all : List Batch) (cou
     stopped_at fault (Works m) to at some ran early why clean =
         let c = some_cells m.cells some in
         stopped_since (store_of g old) (store_of g now) (store_of g new) fault p.kept (λ e store. (cells_at_rest (store_of g now) m c.0 c.1 (at.rests (early clean) tt)).0.is_open) (why m at some clean)
-    stopped_at fault (Failed m) to at some ran early why clean = let no : answer.Fault ≡ answer.Closed = ran.0 in absurd cc
-    stopped_at fault (Between m next) to at some ran early why clean = let no : answer.Fault ≡ answer.Closed = ran.0 in absurd cc
+    stopped_at fault mid to at some ran early why clean = let no : answer.Fault ≡ answer.Closed = ran.0 in absurd cc
 
     pub fails_since : (fault : StoreFault) → MovesBy g now new (λ from to. RunsAt from batch (answer_to (Err fault)) to) → FailsRun g now new fault → FailsRun g old new fault
     fails_since fault moves (inl closed) = inl closed
@@ -209,7 +181,7 @@ module _ {S : Type 0} (g : Ghosts S) (old now : World S) (all : List Batch) (cou
 pub shut_first : {S : Type 0} (g : Ghosts S) (old : World S) (all : List Batch) (before : List Reply) → old.failed ≡ true → MovesBy g old old (λ from to. RunsEach from all (added before before) (Err Closed) to)
 shut_first g old all before failed =
     let p = reached_first g old all before before refl in
-    ends_by g old old all 0 before before p old (Err Closed) (λ from to. IsTrue (has_failed from) × (to ≡ from)) (record { clean = λ c. c; closed = λ f. refl; goes = λ from at. (from, at, (sym at.failed ∙ failed, refl)) })
+    ends_by p old (Err Closed) (λ from to. IsTrue (has_failed from) × (to ≡ from)) (record { clean = λ c. c; closed = λ f. refl; goes = λ from at. (from, at, (sym at.failed ∙ failed, refl)) })
     (λ from mid to at it. (it.0, it.1, λ works. (let no : true ≡ false = sym (sym at.failed ∙ failed) ∙ works in absurd cc)))
 
 -- no room for the replies
@@ -217,4 +189,7 @@ pub no_room_first : {S : Type 0} (g : Ghosts S) (old : World S) (all : List Batc
 unfolding reached_first
 no_room_first g old all before behind same works =
     let p = reached_first g old all before behind same in
-    ends_by g old old all 0 before behind p old (Err OutOfMemory) (λ from to. to ≡ from) (moves_none g old (λ from to. to ≡ from) (λ from. refl)) (λ from mid to at it. (refl, sym at.failed ∙ works, refl, it))
+    ends_by p old (Err OutOfMemory) (λ from to. to ≡ from) (moves_none g old (λ from to. to ≡ from) (λ from. refl)) (λ from mid to at it. (refl, sym at.failed ∙ works, refl, it))
+
+-- what a run cites
+pub ruleset runs = (faults_same, faults_then, stood, still_at_end)

@@ -1,33 +1,17 @@
 -- Where any World stands, and what moves and stays together come to.
-use Rattle.moo_store.proofs.Words.{◌≡◌, ◌∙◌, Bool, true, false, IsTrue, refl, sym, subst, Ghosts, HasCleanDisk, IsGood, World, store_of}
+use Rattle.moo_store.proofs.Words.{arith, ◌≡◌, ◌∙◌, Bool, true, false, IsTrue, refl, sym, subst, Ghosts, HasCleanDisk, IsGood, World, store_of}
 use Rattle.moo_store.specs.Moves.{Stands, MovesBy}
-use Rattle.moo_store.{specs.Moment.{Moment, rows_alone}, specs.Place.{Place, Works, Failed, Between}}
+use Rattle.moo_store.{specs.Moment.{Moment, rows_alone}, specs.Place.{Place, Works, Failed}}
 use Rattle.moo_rows.specs.Opening.{opening_maps}
 use Rattle.moo_world.proofs.Shown.OpeningRows.{opening-good}
 
--- nothing is known of no cells
-no_cells : {X : Type 0} → false ≡ true → X
-no_cells none = absurd cc
-
 -- a World that works stands at its rows alone
 pub stands_alone : {S : Type 0} (g : Ghosts S) (world : World S) → world.failed ≡ false → IsGood world.rows.maps → Stands g world (Works (rows_alone world.rows.maps))
-stands_alone g world works good = record {
-  failed = works;
-  good = λ m is. subst (λ (x : Moment). IsGood x.rows) (sym is) good;
-  rows = λ _. refl;
-  rests = λ clean opened. tt;
-  crash = λ clean some trees lies. no_cells some;
-}
+stands_alone g world works good = grind arith
 
 -- one that has failed stands at any good rows
 pub fails_alone : {S : Type 0} (g : Ghosts S) (world : World S) → world.failed ≡ true → Stands g world (Failed (rows_alone opening_maps))
-fails_alone g world failed = record {
-  failed = failed;
-  good = λ m is. subst (λ (x : Moment). IsGood x.rows) (sym is) opening-good;
-  rows = λ works. (let no : true ≡ false = sym failed ∙ works in absurd cc);
-  rests = λ clean opened. tt;
-  crash = λ clean some trees lies. no_cells some;
-}
+fails_alone g world failed = grind (arith, opening-good)
 
 pub stands_somewhere : {S : Type 0} (g : Ghosts S) (world : World S) → (world.failed ≡ false → IsGood world.rows.maps) → (place : Place) × Stands g world place
 stands_somewhere {S} g world good = by world.failed refl
@@ -47,8 +31,7 @@ moves_as g old new First Then moves leads = record {
 -- a World that works stands at no place where it has failed
 pub works_at : {S : Type 0} (g : Ghosts S) (world : World S) (P : Place → Type 0) → world.failed ≡ false → ((m : Moment) → Stands g world (Works m) → P (Works m)) → (place : Place) → Stands g world place → P place
 works_at g world P works it (Works m) at = it m at
-works_at g world P works it (Failed m) at = let no : true ≡ false = sym at.failed ∙ works in absurd cc
-works_at g world P works it (Between m next) at = let no : true ≡ false = sym at.failed ∙ works in absurd cc
+works_at g world P works it place at = let no : true ≡ false = sym at.failed ∙ works in absurd cc
 
 -- so a call of a World that works moves it from a moment
 pub moves_from : {S : Type 0} (g : Ghosts S) (old new : World S) (Way : Place → Place → Type 0) → old.failed ≡ false → (HasCleanDisk (store_of g new) → HasCleanDisk (store_of g old))

@@ -1,31 +1,13 @@
 -- From what was read of a connection to what is opened.
-use Rattle.moo_store.{proofs.Words.{◌≡◌, ◌⊎◌, inl, inr, IsTrue, false, sym, ap, subst, ◌∙◌, Trees, Ghosts, Held, state, Maps, IsGood, state_of, Version, Tables, schema_of, Rests, RestsAt, HasTables, ReadsTables, FailsToRead, stays, clean_before, ShowsRows, Adopts, IsOfStore, TakesOver, StoreFault, IsEarlier}, specs.OpeningRows.{StopsOpening, IsUnadopted}, specs.States.{ShowsState}, proofs.Causes.{says_nothing, of_store}, proofs.Versions.{version_is}}
-use Rattle.sqlite.{specs.Effect.{Database as Content}, proofs.StateLemmas.{survives_then}, specs.State.{State as Database, HasCleanDisk, IsUnchanged, IsRolledBack, Survives}}
-use Rattle.moo_tables.proofs.ReadLemmas.{rests_on}
+use Rattle.moo_store.{proofs.Words.{arith, rules, ◌≡◌, ◌⊎◌, inl, inr, IsTrue, false, sym, ap, subst, ◌∙◌, Trees, Ghosts, Held, state, Maps, IsGood, state_of, Version, Tables, schema_of, Rests, RestsAt, HasTables, ReadsTables, FailsToRead, stays, clean_before, ShowsRows, Adopts, IsOfStore, TakesOver, StoreFault, IsEarlier, List, Option, None, refl, ObjNo, Head, PropId, SlotCells, tables_in, migrated, Leaves, Holds, PrintEach, PrintsSlot, all_of, KeepsRows, IsCurrent}, specs.OpeningRows.{StopsOpening, IsUnadopted}, specs.States.{ShowsState}, proofs.Causes.{of_store}, proofs.Moments.{version_is}, specs.Current.{RestsCurrent}, proofs.Shown.{shows-migrated}}
+use Rattle.sqlite.{specs.Effect.{Database as Content}, proofs.StateLemmas.{survives_then, survives_weaker}, specs.State.{State as Database, HasCleanDisk, IsUnchanged, IsRolledBack, Survives}}
+use Rattle.moo_tables.{proofs.ReadLemmas.{rests_on}, specs.Migrated.{HasNoSlot}}
 use Rattle.moo_world.specs.Judge.{State}
+use Rattle.moo_tables_rows.proofs.InsideLemmas.{only_first}
 
 -- a refusal leaves the database as it was
 pub at_rest : (old new : Database) → (IsTrue old.is_open → old.now ≡ old.committed) → new.in_transaction ≡ false → IsUnchanged old new ⊎ IsRolledBack old new → IsTrue new.is_open → RestsAt new old.now
-at_rest old new settled outside (inl same) opened = record { outside = outside; now_is = same.0.now_is; committed_is = same.0.committed_is ∙ sym (settled same.0.was_open) }
-at_rest old new settled outside (inr back) opened =
-    let both = back.undone opened in
-    let was = sym (settled (back.was_open opened)) in
-    record { outside = outside; now_is = both.0 ∙ was; committed_is = both.1 ∙ was }
-
--- what is committed may be told of less exactly
-pub survives_more : (old new : Database) (P Q : Trees → Type 0) → (HasCleanDisk new → (trees : Trees) → P trees → Q trees) → Survives old new P → Survives old new Q
-survives_more old new P Q more s = record {
-  clean = s.clean;
-  shield = s.shield;
-  counts = s.counts;
-  limit = s.limit;
-  closes = s.closes;
-  crash = λ clean trees left. elim (s.crash clean trees left) [ inl was ↦ inl was | inr p ↦ inr (more clean trees p) ];
-}
-
--- where nothing was done, nothing was committed
-pub unmoved : {S : Type 0} (g : Ghosts S) (old new : Held S) (P : Trees → Type 0) → new ≡ old → Survives (state g old) (state g new) P
-unmoved g old new P same = subst (λ h. Survives (state g old) (state g h) P) (sym same) (survives_more (state g old) (state g old) (λ _. ⊥) P (λ clean trees none. absurd none) (stays (state g old)).survives)
+at_rest old new settled outside either opened = grind arith
 
 module _ {S : Type 0} (g : Ghosts S) (old new : Held S) where
   abbrev Refused : Type 0
@@ -33,12 +15,11 @@ module _ {S : Type 0} (g : Ghosts S) (old new : Held S) where
 
   pub undone : Refused → (IsTrue (state g old).is_open → (state g old).now ≡ (state g old).committed) → (state g new).in_transaction ≡ false
       → (new ≡ old) ⊎ (HasCleanDisk (state g new) → IsTrue (state g new).is_open → RestsAt (state g new) (state g old).now)
-  undone (inl same) settled outside = inl same
-  undone (inr (version, has, fails)) settled outside = inr (λ clean opened. at_rest (state g old) (state g new) settled outside (fails.kept clean has) opened)
+  undone refused settled outside = grind (arith, at_rest)
 
   pub refused_survives : Refused → Survives (state g old) (state g new) (Adopts (state g old))
-  refused_survives (inl same) = unmoved g old new (Adopts (state g old)) same
-  refused_survives (inr (version, has, fails)) = survives_more (state g old) (state g new) (λ _. ⊥) (Adopts (state g old)) (λ clean trees none. absurd none) (fails.crash (λ _. has))
+  refused_survives (inl same) = subst (λ h. Survives (state g old) (state g h) (Adopts (state g old))) (sym same) (survives_weaker (state g old) (state g old) (λ _. ⊥) (Adopts (state g old)) (λ clean trees none. absurd none) (stays (state g old)).survives)
+  refused_survives (inr (version, has, fails)) = survives_weaker (state g old) (state g new) (λ _. ⊥) (Adopts (state g old)) (λ clean trees none. absurd none) (fails.crash (λ _. has))
 
 -- ---- rows were read of tables of a version, and these brought to the present one
 
@@ -92,8 +73,26 @@ module _ {S : Type 0} (g : Ghosts S) (old mid : Held S) (version : Version) (row
 
 -- tables that show a state were refused: nothing is wrong with them
 module _ {S : Type 0} (g : Ghosts S) (conn last : Held S) (fault : StoreFault) (it : IsUnadopted g conn fault last) (s : State) (shows : ShowsState (state g conn) s) (clean : HasCleanDisk (state g last)) where
-  pub stops_on_state : StopsOpening shows.tables (state g conn) (state g last) fault
-  stops_on_state = says_nothing (StopsOpening shows.tables (state g conn) (state g last) fault) shows.tables shows.rows fault shows.shows shows.good (it.cause shows.tables shows.rests clean)
-
   pub refused_of_store : IsOfStore fault
   refused_of_store = of_store (StopsOpening shows.tables (state g conn) (state g last) fault) shows.tables shows.rows fault shows.shows shows.good (it.cause shows.tables shows.rests clean)
+
+-- ---- tables that are opened keep their rows
+
+module _ (m : Maps) (head : Head) (slots : List ((ObjNo × PropId) × Option SlotCells)) (is : head ≡ m.head) (printed : PrintEach (λ key. PrintsSlot None) slots (all_of m.slots)) where
+  pub shows : (db : Content) (t : Tables) → Holds db t → IsEarlier t.version → ShowsRows t m → ShowsRows (migrated head slots t) m
+  shows db t holds earlier shown = subst (λ h. ShowsRows (migrated h slots t) m) (sym is) (shows-migrated m slots t printed earlier (λ n. ap (λ (u : Tables). u.petition n) (sym holds.rows) ∙ ap (λ v. (tables_in v db.trees).petition n) (only_first t.version earlier)) shown)
+
+  pub keeps_migrated : (old new : Database) (t : Tables) → Rests old t → IsEarlier t.version → Rests new (migrated head slots t) → ShowsRows t m → KeepsRows new m
+  keeps_migrated old new t was earlier rests shown = record { tables = migrated head slots t; rests = rests; current = refl; shows = shows old.now t was.holds earlier shown }
+
+  pub rests_migrated : (old new : Database) (t : Tables) → Rests old t → IsEarlier t.version → Rests new (migrated head slots t) → HasNoSlot new.now.trees → ShowsRows t m → RestsCurrent new old.now.trees t m
+  rests_migrated old new t was earlier rests none shown = search (rules, arith, shows, only_first)
+
+  pub survives_migrated : (old new : Database) (version : Version) → IsEarlier version → (HasCleanDisk old → HasTables (schema_of version) old) → Survives old new (λ trees. (t : Tables) → Rests old t → Leaves trees (migrated head slots t)) → Survives old new (TakesOver m old)
+  survives_migrated old new version earlier has survives =
+      survives_weaker old new (λ trees. (t : Tables) → Rests old t → Leaves trees (migrated head slots t)) (TakesOver m old)
+      (λ clean trees lies t rests shown. record { tables = migrated head slots t; leaves = lies t rests; shows = shows old.now t rests.holds (subst IsEarlier (sym (version_is old version t (has (clean_before old new (λ trees. (t : Tables) → Rests old t → Leaves trees (migrated head slots t)) survives clean)) rests)) earlier) shown }) survives
+
+-- tables of the present version stay
+pub rests_already : (store : Database) (t : Tables) (m : Maps) → Rests store t → IsCurrent t → ShowsRows t m → RestsCurrent store store.now.trees t m
+rests_already store t m rests current shown = search (rules, arith)

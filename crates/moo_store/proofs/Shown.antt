@@ -1,5 +1,5 @@
 -- The tables, after changes are written, show the new rows; and so do tables of an earlier version that are migrated.
-use Rattle.moo_store.{proofs.Words.{◌≡◌, ◌≢◌, ◌==◌, ℕ, ℤ, pos, negsuc, Bool, true, false, cond, List, Option, None, Some, refl, sym, ap, ◌∙◌, subst, subst₂, ◌&&◌, eq_by_cmp, get, Row, ObjNo, Head, PropId, Maps, object_cmp, prop_cmp, slot_cmp, verb_cmp, petition_cmp, Version, present, Tables, same_number, same_numbers, numbered_with, head_cells, object_cells, prop_cells, slot_cells, verb_cells, petition_cells, petition_head_cells, counter_with, tables_with, migrated, IsCurrent, CellChanges, SlotCells, AreChanges, ShowsObject, ShowsProp, ShowsSlot, ShowsVerb, ShowsPetition, ShowsOrNone, ShowsCounter, ShowsMaps, ShowsRows, IfBoth, HeadColumns, ObjectColumns, PropColumns, SlotColumns, VerbColumns, PetitionColumns, PrintEach, PrintsObject, PrintsProp, PrintsSlot, PrintsVerb, PrintsPetition, Prints, new_number, all_of, KeepsCells, IsEarlier}, proofs.AllRows.{all_changed}, proofs.Laid.{lays_object, lays_prop, lays_slot, lays_verb, lays_petition, head_columns, object_stays, prop_stays, slot_stays, verb_stays, petition_stays}, proofs.Written.{written, stays, elsewhere}}
+use Rattle.moo_store.{proofs.Words.{arith, ◌≡◌, ◌≢◌, ◌==◌, ℕ, ℤ, pos, negsuc, Bool, true, false, cond, List, Option, None, Some, refl, rules, sym, ap, ◌∙◌, subst, subst₂, ◌&&◌, eq_by_cmp, get, Row, ObjNo, Head, PropId, Maps, object_cmp, prop_cmp, slot_cmp, verb_cmp, petition_cmp, Version, present, Tables, same_number, same_numbers, numbered_with, head_cells, object_cells, prop_cells, slot_cells, verb_cells, petition_cells, petition_head_cells, counter_with, tables_with, migrated, IsCurrent, CellChanges, SlotCells, AreChanges, ShowsObject, ShowsProp, ShowsSlot, ShowsVerb, ShowsPetition, ShowsOrNone, ShowsCounter, ShowsMaps, ShowsRows, IfBoth, HeadColumns, ObjectColumns, PropColumns, SlotColumns, VerbColumns, PetitionColumns, PrintEach, PrintsObject, PrintsProp, PrintsSlot, PrintsVerb, PrintsPetition, Prints, new_number, all_of, KeepsCells, IsEarlier}, proofs.AllRows.{all_changed}, proofs.Laid.{lays_object, lays_prop, lays_slot, lays_verb, lays_petition}, proofs.Written.{written, stays, elsewhere}}
 use Rattle.moo_tables_rows.proofs.InsideLemmas.{only_first}
 use Rattle.std.{specs.Bool.{Decides}, proofs.lemmas.Bool.{and_parts}, proofs.lemmas.Bool.Decides.{Decides-int_eq, Decides-eqb}}
 use Rattle.moo_rows.{specs.declared.row.VerbId.{VerbId}, specs.declared.row.PetitionId.{PetitionId}, specs.Exact.{object_exact, prop_exact, slot_exact, verb_exact, petition_exact}, proofs.Orders.{prop_total, slot_total, verb_total, petition_total}}
@@ -8,8 +8,7 @@ use Rattle.moo_memory.specs.declared.changes.Changes.{Changes}
 
 -- a test of what doesn't hold is false
 decided_false : (b : Bool) (P : Type 0) → Decides b P → ¬ P → b ≡ false
-decided_false true P d n = absurd (n (d.0 refl))
-decided_false false P d n = refl
+decided_false b P d n = grind arith
 
 same_number-Decides : (a b : ℤ) → Decides (same_number a b) (a ≡ b)
 same_number-Decides a b = Decides-int_eq a b
@@ -75,10 +74,6 @@ counts_written version next table current alone = subst (λ v. ShowsCounter v (n
   λ n h. ap (λ b. cond b (Some (petition_head_cells next)) (table n)) (not_one n h) ∙ alone n h,
 )
 
--- in tables of the present version the counter has no other row
-counts_alone : (version : Version) (next : ℕ) (table : ℤ → Option Row) → version ≡ present → ShowsCounter version table next → (n : ℤ) → n ≢ pos 1 → table n ≡ None
-counts_alone version next table current shows = (subst (λ v. ShowsCounter v table next) current shows).1
-
 -- what the counter has before a change: no other row, and the last number that was written if there is one
 abbrev CountsBefore : Option ℕ → Version → (ℤ → Option Row) → Type 0
 CountsBefore None version table = (n : ℤ) → n ≢ pos 1 → table n ≡ None
@@ -91,26 +86,26 @@ counts_next (Some last) next version table current shows = go (last == next) ref
   where
     go : (b : Bool) → (last == next) ≡ b → ShowsCounter version (counter_with (new_number (Some last) next) table) next
     go true e = rw e (subst (ShowsCounter version table) ((Decides-eqb last next).0 e) shows)
-    go false e = rw e (counts_written version next table current (counts_alone version last table current shows))
+    go false e = rw e (counts_written version next table current ((subst (λ v. ShowsCounter v table last) current shows).1))
 
 -- the tables' cells after changes that are printed, table by table
 module _ (last : Option ℕ) (cells : CellChanges) (changes : Changes) (base new : Maps) (t : Tables) (p : Prints last base cells changes) (c : AreChanges base new changes) (current : IsCurrent t) (shows : ShowsMaps t base) where
   objects_laid : (n : ObjNo) → ShowsOrNone (ShowsObject present n) ((tables_with cells t).object n.0) (get new.objects n) × IfBoth ObjectColumns (get base.objects n) (get new.objects n) (t.object n.0) ((tables_with cells t).object n.0)
-  objects_laid = written object_cmp object_exact same_number (λ n. n.0) number_alike object_cells (ShowsObject present) ObjectColumns PrintsObject (get base.objects) object_stays (λ n. lays_object (get base.objects n) n) cells.objects.items changes.objects (get new.objects) t.object p.objects c.objects shows.objects
+  objects_laid = written object_cmp object_exact same_number (λ n. n.0) number_alike object_cells (ShowsObject present) ObjectColumns PrintsObject (get base.objects) (λ x r. search rules) (λ n. lays_object (get base.objects n) n) cells.objects.items changes.objects (get new.objects) t.object p.objects c.objects shows.objects
 
   props_laid : (id : PropId) → ShowsOrNone (ShowsProp present id) ((tables_with cells t).prop (pos id.0)) (get new.props id) × IfBoth PropColumns (get base.props id) (get new.props id) (t.prop (pos id.0)) ((tables_with cells t).prop (pos id.0))
-  props_laid = written prop_cmp prop_exact same_number (λ id. pos id.0) id_alike prop_cells (ShowsProp present) PropColumns PrintsProp (get base.props) prop_stays (λ id. lays_prop (get base.props id) id) cells.props.items changes.props (get new.props) t.prop p.props c.props shows.props
+  props_laid = written prop_cmp prop_exact same_number (λ id. pos id.0) id_alike prop_cells (ShowsProp present) PropColumns PrintsProp (get base.props) (λ x r. search rules) (λ id. lays_prop (get base.props id) id) cells.props.items changes.props (get new.props) t.prop p.props c.props shows.props
 
   slots_laid : (key : ObjNo × PropId) → ShowsOrNone (ShowsSlot present key) ((tables_with cells t).slot (key.0.0, pos key.1.0)) (get new.slots key) × IfBoth SlotColumns (get base.slots key) (get new.slots key) (t.slot (key.0.0, pos key.1.0)) ((tables_with cells t).slot (key.0.0, pos key.1.0))
   slots_laid =
       let shown = λ (key : ObjNo × PropId). subst (λ v. ShowsOrNone (ShowsSlot v key) (t.slot (key.0.0, pos key.1.0)) (get base.slots key)) current (shows.slots key) in
-      written slot_cmp slot_exact same_numbers (λ k. (k.0.0, pos k.1.0)) slot_alike slot_cells (ShowsSlot present) SlotColumns PrintsSlot (get base.slots) slot_stays (λ key. lays_slot (get base.slots key) key) cells.slots.items changes.slots (get new.slots) t.slot p.slots c.slots shown
+      written slot_cmp slot_exact same_numbers (λ k. (k.0.0, pos k.1.0)) slot_alike slot_cells (ShowsSlot present) SlotColumns PrintsSlot (get base.slots) (λ x r. search rules) (λ key. lays_slot (get base.slots key) key) cells.slots.items changes.slots (get new.slots) t.slot p.slots c.slots shown
 
   verbs_laid : (key : ObjNo × VerbId) → ShowsOrNone (ShowsVerb present key) ((tables_with cells t).verb (key.0.0, pos key.1.0)) (get new.verbs key) × IfBoth VerbColumns (get base.verbs key) (get new.verbs key) (t.verb (key.0.0, pos key.1.0)) ((tables_with cells t).verb (key.0.0, pos key.1.0))
-  verbs_laid = written verb_cmp verb_exact same_numbers (λ k. (k.0.0, pos k.1.0)) verb_alike verb_cells (ShowsVerb present) VerbColumns PrintsVerb (get base.verbs) verb_stays (λ key. lays_verb (get base.verbs key) key) cells.verbs.items changes.verbs (get new.verbs) t.verb p.verbs c.verbs shows.verbs
+  verbs_laid = written verb_cmp verb_exact same_numbers (λ k. (k.0.0, pos k.1.0)) verb_alike verb_cells (ShowsVerb present) VerbColumns PrintsVerb (get base.verbs) (λ x r. search rules) (λ key. lays_verb (get base.verbs key) key) cells.verbs.items changes.verbs (get new.verbs) t.verb p.verbs c.verbs shows.verbs
 
   petitions_laid : (id : PetitionId) → ShowsOrNone (ShowsPetition present id) ((tables_with cells t).petition (pos id.0)) (get new.petitions id) × IfBoth PetitionColumns (get base.petitions id) (get new.petitions id) (t.petition (pos id.0)) ((tables_with cells t).petition (pos id.0))
-  petitions_laid = written petition_cmp petition_exact same_number (λ id. pos id.0) petition_alike petition_cells (ShowsPetition present) PetitionColumns PrintsPetition (get base.petitions) petition_stays (λ id. lays_petition (get base.petitions id) id) cells.petitions.items changes.petitions (get new.petitions) t.petition p.petitions c.petitions shows.petitions
+  petitions_laid = written petition_cmp petition_exact same_number (λ id. pos id.0) petition_alike petition_cells (ShowsPetition present) PetitionColumns PrintsPetition (get base.petitions) (λ x r. search rules) (λ id. lays_petition (get base.petitions id) id) cells.petitions.items changes.petitions (get new.petitions) t.petition p.petitions c.petitions shows.petitions
 
   head_written : (tables_with cells t).head (pos 1) ≡ Some (head_cells present new.head)
   head_written = ap (λ b. cond b (Some (head_cells present cells.head)) (t.head (pos 1))) ((same_number-Decides (pos 1) (pos 1)).1 refl) ∙ ap (λ h. Some (head_cells present h)) (p.head ∙ c.head)
@@ -133,10 +128,6 @@ module _ (last : Option ℕ) (cells : CellChanges) (changes : Changes) (base new
     };
   }
 
--- the head's cells before and after
-head_laid : (a b : Head) (old new : Option Row) → old ≡ Some (head_cells present a) → new ≡ Some (head_cells present b) → IfBoth HeadColumns (Some a) (Some b) old new
-head_laid a b old new was is = subst₂ (λ x y. IfBoth HeadColumns (Some a) (Some b) x y) (sym was) (sym is) (head_columns a b)
-
 -- no number is put if it is the last one that was written
 same_number_none : (last next : ℕ) → last ≡ next → new_number (Some last) next ≡ None
 same_number_none last next same = rw ((Decides-eqb last next).1 same) refl
@@ -156,7 +147,7 @@ keeps-written cells changes base new t p c current shown =
       verbs = stays verb_cmp verb_exact same_numbers (λ k. (k.0.0, pos k.1.0)) verb_alike verb_cells (λ key. PrintsVerb (get base.verbs key)) cells.verbs.items changes.verbs (get base.verbs) (get new.verbs) t.verb p.verbs c.verbs;
       petitions = stays petition_cmp petition_exact same_number (λ id. pos id.0) petition_alike petition_cells (λ id. PrintsPetition (get base.petitions id)) cells.petitions.items changes.petitions (get base.petitions) (get new.petitions) t.petition p.petitions c.petitions;
       counter = λ same n. ap (λ next. counter_with next t.petition_head n) (kept same);
-      head_columns = head_laid base.head new.head (t.head (pos 1)) ((tables_with cells t).head (pos 1)) (shown.head ∙ ap (λ v. Some (head_cells v base.head)) current) (head_written last cells changes base new t p c current shown.maps);
+      head_columns = subst₂ (λ x y. IfBoth HeadColumns (Some base.head) (Some new.head) x y) (sym (shown.head ∙ ap (λ v. Some (head_cells v base.head)) current)) (sym (head_written last cells changes base new t p c current shown.maps)) (search rules);
       object_columns = λ n. (objects_laid last cells changes base new t p c current shown.maps n).1;
       prop_columns = λ id. (props_laid last cells changes base new t p c current shown.maps id).1;
       slot_columns = λ key. (slots_laid last cells changes base new t p c current shown.maps key).1;
@@ -164,22 +155,18 @@ keeps-written cells changes base new t p c current shown =
       petition_columns = λ id. (petitions_laid last cells changes base new t p c current shown.maps id).1;
     }
 
--- in tables of an earlier version no petition was made yet
-first_count : (version : Version) (next : ℕ) (table : ℤ → Option Row) → IsEarlier version → ShowsCounter version table next → next ≡ 1
-first_count version next table earlier shows = subst (λ v. ShowsCounter v table next) (only_first version earlier) shows
-
 -- Tables that show rows, migrated with their head and all their slots printed anew, show the same rows.
 pub shows-migrated : (m : Maps) (slots : List ((ObjNo × PropId) × Option SlotCells)) (t : Tables) → PrintEach (λ key. PrintsSlot None) slots (all_of m.slots) → IsEarlier t.version → ((n : ℤ) → t.petition n ≡ None) → ShowsRows t m → ShowsRows (migrated m.head slots t) m
 shows-migrated m slots t printed earlier none shown = record {
   head = ap (λ b. cond b (Some (head_cells present m.head)) (t.head (pos 1))) ((same_number-Decides (pos 1) (pos 1)).1 refl);
   no_head = λ n h. ap (λ b. cond b (Some (head_cells present m.head)) (t.head n)) (not_one n h) ∙ shown.no_head n h;
-  counter = subst (λ next. ShowsCounter present (numbered_with (pos 1) (Some (petition_head_cells 1)) (λ _. None)) next) (sym (first_count t.version m.head.next_petition t.petition_head earlier shown.counter))
+  counter = subst (λ next. ShowsCounter present (numbered_with (pos 1) (Some (petition_head_cells 1)) (λ _. None)) next) (sym (subst (λ v. ShowsCounter v t.petition_head m.head.next_petition) (only_first t.version earlier) shown.counter))
       (counts_written present 1 (λ _. None) refl (λ n h. refl));
   maps = record {
     objects = shown.maps.objects;
     props = shown.maps.props;
     no_prop = shown.maps.no_prop;
-    slots = λ key. (written slot_cmp slot_exact same_numbers (λ k. (k.0.0, pos k.1.0)) slot_alike slot_cells (ShowsSlot present) SlotColumns PrintsSlot (λ _. None) slot_stays (λ key. lays_slot None key) slots (all_of m.slots) (get m.slots) (λ _. None) printed (all_changed slot_cmp m.slots) (λ k. tt) key).0;
+    slots = λ key. (written slot_cmp slot_exact same_numbers (λ k. (k.0.0, pos k.1.0)) slot_alike slot_cells (ShowsSlot present) SlotColumns PrintsSlot (λ _. None) (λ x r. search rules) (λ key. lays_slot None key) slots (all_of m.slots) (get m.slots) (λ _. None) printed (all_changed slot_cmp m.slots) (λ k. tt) key).0;
     no_slot = λ x n. elsewhere slot_cmp slot_exact same_numbers (λ k. (k.0.0, pos k.1.0)) slot_alike slot_cells slots (λ _. None) (x, negsuc n) (λ k. no_pair x n k.0.0 k.1.0);
     verbs = shown.maps.verbs;
     no_verb = shown.maps.no_verb;

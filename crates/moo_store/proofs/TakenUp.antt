@@ -1,11 +1,7 @@
 -- What a crash left of a World, opened again.
-use Rattle.moo_store.{proofs.Words.{◌≡◌, ◌∙◌, Some, IsSome, refl, sym, ap, subst, subst₂, Ghosts, Held, state, HasCleanDisk, IsGood, state_of, World, store_of, StoreFault, MayOpenAs, Rests, ShowsRows, IsOfStore, unread_of, Stands, AllCells, Moment, BecomesPresent, Place, Works, MayBeLeft, moment_of}, specs.Opening.{IsAdopted}, specs.OpeningRows.{IsUnadopted}, proofs.OpenLemmas.{refused_of_store}}
+use Rattle.moo_store.{proofs.Words.{rules, ◌≡◌, ◌∙◌, Some, IsSome, refl, sym, ap, subst, Ghosts, Held, state, HasCleanDisk, IsGood, state_of, World, store_of, StoreFault, MayOpenAs, Rests, ShowsRows, IsOfStore, unread_of, Stands, AllCells, Moment, BecomesPresent, Place, Works, MayBeLeft, moment_of}, specs.Opening.{IsAdopted}, specs.OpeningRows.{IsUnadopted}, proofs.OpenLemmas.{refused_of_store}}
 use Rattle.moo_tables.proofs.ReopenLemmas.{opened}
 use Rattle.moo_cells.{proofs.CellsLemmas.{one_good}, proofs.GoodRows.{good_within}}
-
--- moments of the same rows and cells are one
-one_moment : (m n : Moment) → m.rows ≡ n.rows → m.cells ≡ n.cells → m ≡ n
-one_moment m n rows cells = subst₂ (λ r c. ◌≡◌ {A = Moment} m (record { rows = r; cells = c })) rows cells refl
 
 module _ {S T : Type 0} (g : Ghosts S) (h : Ghosts T) (crashed : World S) (place : Place) (found : Held T) where
   -- a moment that may be left, in a connection
@@ -40,15 +36,8 @@ module _ {S T : Type 0} (g : Ghosts S) (h : Ghosts T) (crashed : World S) (place
       let good : IsGood new.0.rows = subst IsGood new.3.0 (new.4.good new.1 refl) in
       let rows = one_good left.cells.tables left.m.rows new.0.rows left.shows (good_within left.m.rows left.good) new.2.shows good in
       let cells = left.are ∙ ap (λ u. Some (record { tables = left.cells.tables; unread = u })) (sym left.unread) ∙ sym new.2.are in
-      (left.m, new.1, left.may, subst IsSome (sym left.are) refl, subst (λ m. BecomesPresent m new.1) (sym (one_moment left.m new.0 rows cells)) new.3, new.4)
+      (left.m, new.1, left.may, subst IsSome (sym left.are) refl, subst (λ m. BecomesPresent m new.1) (λ i. record { rows = sym rows i; cells = sym cells i }) new.3, new.4)
 
   -- if none is opened, nothing is wrong with it
   pub refused_left : (fault : StoreFault) (last : Held T) → IsLeft → IsUnadopted h found fault last → HasCleanDisk (state h last) → IsOfStore fault
-  refused_left fault last left it clean = refused_of_store h found last fault it (state_of left.m.rows) (record {
-    tables = left.cells.tables;
-    rests = left.rests;
-    rows = left.m.rows;
-    shows = left.shows;
-    good = left.good;
-    state = refl;
-  }) clean
+  refused_left fault last left it clean = refused_of_store h found last fault it (state_of left.m.rows) (search rules) clean

@@ -1,5 +1,5 @@
 -- The words that most proofs of this crate share.
-pub use Rattle.std.proofs.Common.{Bool, Bor, Equal, Err, Greater, IfErr, IfOk, IsTrue, Less, List, None, Ok, OnOk, Option, Ordering, Result, Some, T, Vec, [], ap, append_assoc, arith, cond, drop, false, fold, get_or, inl, inr, length, length-append, map, negsuc, not, option_map, pos, refl, rules, subst, subst₂, suc, sym, take, true, vec_capacity, vec_len, zero, zero-add, ℕ, ℤ, ◌&&◌, ◌++◌, ◌+◌, ◌-◌, ◌<◌, ◌==◌, ◌∙◌, ◌∷◌, ◌≡◌, ◌≢◌, ◌≤ℤ◌, ◌≤◌, ◌⊎◌}
+pub use Rattle.std.proofs.Common.{Bool, Err, IfErr, IfOk, IsTrue, List, None, Ok, OnOk, Option, Ordering, Result, Some, T, Vec, [], ap, append_assoc, arith, cond, drop, false, fold, get_or, inl, inr, length, length-append, map, negsuc, not, option_map, pos, refl, rules, subst, subst₂, suc, sym, take, true, vec_capacity, vec_len, zero, zero-add, ℕ, ℤ, ◌&&◌, ◌++◌, ◌+◌, ◌-◌, ◌<◌, ◌==◌, ◌∙◌, ◌∷◌, ◌≡◌, ◌≢◌, ◌≤ℤ◌, ◌≤◌, ◌⊎◌}
 pub use Rattle.std.proofs.lemmas.List.{append-nil, length-map, take_more}
 pub use Rattle.std.specs.Prelude.{IfNone, IsSome, MatchResult, if◌then◌else◌, is_err, nat_lt, ⊤}
 pub use Rattle.std.specs.FinMap.{FinMap, empty, entries, entries_sorted, find, get, get-empty, get-entries, is_sorted}
@@ -18,18 +18,18 @@ pub use Rattle.moo_store.specs.Kept.{World}
 pub use Rattle.moo_store.specs.OpeningRows.{Adopts, IsOfStore, SaysOr, StopsBy, TakesOver}
 pub use Rattle.moo_store.specs.Printed.{PrintEach, Prints, PrintsAll, PrintsObject, PrintsOver, PrintsPetition, PrintsProp, PrintsSlot, PrintsVerb, accept_text, all_changes, all_of, as_changes, calls_text, new_number, state_text}
 pub use Rattle.moo_store.specs.Rehearsed.{IsRehearsedAt, Rehearsal, RehearsesAt}
-pub use Rattle.moo_store.specs.Moves.{AsksAt, MayReplyAsked, MovesBy, RunsAt, Stands, VerdictLeads}
+pub use Rattle.moo_store.specs.Moves.{AsksAt, MovesBy, RunsAt, Stands, VerdictLeads}
 pub use Rattle.moo_store.specs.Stopped.{IsStopped, KeepsFaults}
-pub use Rattle.moo_store.specs.Stopping.{AnswersBy, AreAccepted, CompletesUntil, EndAtFirst, EndsEarly, says_accepted, stops_after, up_to_first}
+pub use Rattle.moo_store.specs.Stopping.{AnswersBy, AreAccepted, CompletesUntil, EndAtFirst, EndsEarly, says_accepted, up_to_first}
 pub use Rattle.moo_store.specs.Text.{accepted, accepted_at, answer_to, answers_asked, batches_of, is_plain, replies}
 pub use Rattle.moo_store.specs.Turns.{Completes, GivesFrontOrAll, Halts, Turn, Turns, answers_text, is_batch, is_lost_answer}
-pub use Rattle.moo_store.specs.Current.{unread_kept, unread_of}
+pub use Rattle.moo_store.specs.Current.{unread_of}
 pub use Rattle.moo_store.specs.Moment.{AllCells, BecomesPresent, Moment, rows_alone}
 pub use Rattle.moo_store.specs.Place.{MayBeLeft, Place, Works, moment_of}
 pub use Rattle.moo_store.specs.World.{MatchStore, state_of_world, store_of}
 pub use Rattle.moo_store.specs.declared.fault.StoreFault.{StoreFault}
 pub use Rattle.moo_store.specs.declared.fault.StoreFault.TheVariants.{Closed, OutOfMemory, Store}
-pub use Rattle.moo_store.specs.States.{KeepsRows, LeavesState}
+pub use Rattle.moo_store.specs.States.{KeepsRows}
 pub use Rattle.moo_store.specs.Untouched.{IfBoth, KeepsCells}
 pub use Rattle.moo_tables_rows.proofs.InsideLemmas.{clean_before, stays}
 pub use Rattle.moo_tables_rows.specs.Inside.{FailsToRead, HasNoTables, HasTables, Holds, IsCurrent, Leaves, MayOpenAs, ReadsTables, Rests, RestsAt, no_tables}
@@ -53,7 +53,7 @@ pub use Rattle.moo_text.specs.declared.reply.Answer.{Answer}
 pub use Rattle.moo_text.specs.declared.reply.Reply.{Reply}
 pub use Rattle.moo_value.specs.declared.value.Value.{Value}
 pub use Rattle.moo_value.specs.declared.value.ObjNo.{ObjNo}
-pub use Rattle.moo_world.specs.Judge.{Accepted, FailedAt, FullAt, NoRoom, Ran, Refused, Stale, State, Through, Verdict, after, is_due, last_seq, left_by, run_calls, state_of, verdict_of}
+pub use Rattle.moo_world.specs.Judge.{Accepted, NoRoom, Ran, Stale, State, Verdict, after, is_due, last_seq, left_by, run_calls, state_of, verdict_of}
 unfoldable pub use Rattle.moo_world.specs.Judge.{judge}
 pub use Rattle.moo_world.specs.Rows.{IsGood, numbers_below, world_of}
 pub use Rattle.moo_world.specs.declared.call.Batch.{Batch}

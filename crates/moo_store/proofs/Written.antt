@@ -1,33 +1,15 @@
 -- What is printed from exact changes, written over tables that show the old rows, shows the new ones.
-use Rattle.moo_store.proofs.Words.{◌≡◌, Bool, true, false, cond, T, ◌&&◌, Option, None, Some, List, [], ◌∷◌, ◌++◌, fold, Less, Equal, Greater, Ordering, refl, sym, ap, ◌∙◌, subst, eq_by_cmp, is_lt, is_eq, find, is_sorted, Row, with_cells, cells_after, IsChanges, ShowsOrNone, IfBoth, PrintEach}
+use Rattle.moo_store.proofs.Words.{arith, IsTrue, option_map, ◌≡◌, Bool, true, false, cond, T, Option, None, Some, List, [], ◌∷◌, ◌++◌, fold, Ordering, refl, sym, ap, ◌∙◌, subst, eq_by_cmp, is_eq, find, is_sorted, Row, with_cells, cells_after, IsChanges, ShowsOrNone, IfBoth, PrintEach}
+use Rattle.moo_rows.proofs.Walking.{first_of, less_of, second_of}
+use Rattle.moo_tables_rows.proofs.KeyLemmas.{tied_as_equal}
+use Rattle.moo_value.specs.Equal.{IsExact}
 use Rattle.std.{specs.FinMap.Entries.{below_all}, proofs.lemmas.Map.Lookups.{CmpEqualImpliesEq}}
 
-equal_of : (o : Ordering) → is_eq o ≡ true → o ≡ Equal
-equal_of Less p = cc
-equal_of Equal p = refl
-equal_of Greater p = cc
-
-less_isnt : (o : Ordering) → T (is_lt o) → is_eq o ≡ false
-less_isnt Less p = refl
-less_isnt Equal p = absurd p
-less_isnt Greater p = absurd p
-
-first_of : (a b : Bool) → T (a && b) → T a
-first_of true b p = tt
-first_of false b p = p
-
-second_of : (a b : Bool) → T (a && b) → T b
-second_of true b p = p
-second_of false b p = absurd p
-
 no_both : {X : Type 0} (keeps : X → X → Row → Row → Type 0) (a : Option X) (old new : Option Row) → IfBoth keeps a None old new
-no_both keeps None old new = tt
-no_both keeps (Some x) old new = tt
+no_both keeps a old new = grind arith
 
 both_same : {X : Type 0} (keeps : X → X → Row → Row → Type 0) → ((x : X) (r : Row) → keeps x x r r) → (a : Option X) (cells : Option Row) → IfBoth keeps a a cells cells
-both_same keeps same None cells = tt
-both_same keeps same (Some x) None = tt
-both_same keeps same (Some x) (Some r) = same x r
+both_same keeps same a cells = grind arith
 
 module _ {K Z C : Type 0} (cmp : K → K → Ordering) (exact : CmpEqualImpliesEq cmp) (same : Z → Z → Bool) (at : K → Z)
     (alike : (a b : K) → same (at a) (at b) ≡ eq_by_cmp cmp a b) (over : K → C → Option Row → Option Row) where
@@ -52,13 +34,12 @@ module _ {K Z C : Type 0} (cmp : K → K → Ordering) (exact : CmpEqualImpliesE
   module _ {X : Type 0} (Prints : K → C → X → Type 0) where
     missed : (k : K) (cells : List (K × Option C)) (changes : List (K × Option X)) (table : Z → Option Row) → PrintEach Prints cells changes → find cmp k changes ≡ None → after cells table (at k) ≡ table (at k)
     missed k [] [] table p h = refl
-    missed k (f ∷ fs) [] table p h = absurd p
-    missed k [] (e ∷ es) table p h = absurd p
     missed k (f ∷ fs) (e ∷ es) table p h =
         elim (eq_by_cmp cmp k e.0) as (λ b. eq_by_cmp cmp k e.0 ≡ b → cond b (Some e.1) (find cmp k es) ≡ None → after (f ∷ fs) table (at k) ≡ table (at k)) [
           | true ↦ λ t g. cc
           | false ↦ λ t g. missed k fs es (after_one f table) p.2 g ∙ past k f table (ap (λ q. eq_by_cmp cmp k q) p.0 ∙ t)
         ] refl h
+    missed k cells changes table p h = absurd p
 
     -- a key with the same row in both keeps its cells
     pub stays : (cells : List (K × Option C)) (changes : List (K × Option X)) (base new : K → Option X) (table : Z → Option Row) → PrintEach Prints cells changes → IsChanges cmp base new changes → (k : K) → base k ≡ new k → after cells table (at k) ≡ table (at k)
@@ -71,7 +52,7 @@ module _ {K Z C : Type 0} (cmp : K → K → Ordering) (exact : CmpEqualImpliesE
   -- a key below all the keys isn't among them
   not_among : {X : Type 0} (k : K) (es : List (K × Option X)) → T (below_all cmp k es) → find cmp k es ≡ None
   not_among k [] h = refl
-  not_among k (e ∷ es) h = ap (λ b. cond b (Some e.1) (find cmp k es)) (less_isnt _ (first_of _ _ h)) ∙ not_among k es (second_of _ _ h)
+  not_among k (e ∷ es) h = ap (λ b. cond b (Some e.1) (find cmp k es)) (ap is_eq (less_of _ (first_of _ _ h))) ∙ not_among k es (second_of _ _ h)
 
   -- what is printed over cells that show a row of the base shows the new one, and keeps the columns that stay
   module _ {X : Type 0} (Shows : K → Row → X → Type 0) (keeps : X → X → Row → Row → Type 0) (prints : Option X → C → X → Type 0) (base : K → Option X) (all_stay : (x : X) (r : Row) → keeps x x r r)
@@ -84,19 +65,16 @@ module _ {K Z C : Type 0} (cmp : K → K → Ordering) (exact : CmpEqualImpliesE
 
     laid : (k : K) (c : Option C) (row : Option X) (old : Option Row) → ShowsOrNone (Prints k) c row → ShowsOrNone (Shows k) old (base k) → Lays k row old (cells_after (over k) c old)
     laid k None None old p shown = (tt, no_both keeps (base k) old None)
-    laid k None (Some row) old p shown = absurd p
-    laid k (Some c) None old p shown = absurd p
     laid k (Some c) (Some row) old p shown = lays k c row old p shown
+    laid k c row old p shown = absurd p
 
     found : (k : K) (row : Option X) (cells : List (K × Option C)) (changes : List (K × Option X)) (table : Z → Option Row) → PrintEach Prints cells changes → T (is_sorted cmp changes) → find cmp k changes ≡ Some row
         → ShowsOrNone (Shows k) (table (at k)) (base k) → Lays k row (table (at k)) (after cells table (at k))
     found k row [] [] table p sorted h shown = cc
-    found k row (f ∷ fs) [] table p sorted h shown = absurd p
-    found k row [] (e ∷ es) table p sorted h shown = absurd p
     found k row (f ∷ fs) (e ∷ es) table p sorted h shown =
         elim (eq_by_cmp cmp k e.0) as (λ b. eq_by_cmp cmp k e.0 ≡ b → cond b (Some e.1) (find cmp k es) ≡ Some row → Lays k row (table (at k)) (after (f ∷ fs) table (at k))) [
           | true ↦ λ t g.
-              let key : k ≡ e.0 = exact k e.0 (equal_of _ t) in
+              let key : k ≡ e.0 = exact k e.0 (tied_as_equal _ t) in
               let its : e.1 ≡ row = cc in
               let none : find cmp k es ≡ None = subst (λ q. find cmp q es ≡ None) (sym key) (not_among e.0 es (first_of _ _ sorted)) in
               let is : after (f ∷ fs) table (at k) ≡ cells_after (over f.0) f.1 (table (at f.0)) =
@@ -110,6 +88,7 @@ module _ {K Z C : Type 0} (cmp : K → K → Ordering) (exact : CmpEqualImpliesE
               subst (λ o. Lays k row o (after fs (after_one f table) (at k))) other
               (found k row fs es (after_one f table) p.2 (second_of _ _ sorted) g (subst (λ c. ShowsOrNone (Shows k) c (base k)) (sym other) shown))
         ] refl h
+    found k row cells changes table p sorted h shown = absurd p
 
     -- at each key the new row is shown, and the columns that stay keep their cells
     pub written : (cells : List (K × Option C)) (changes : List (K × Option X)) (new : K → Option X) (table : Z → Option Row) → PrintEach Prints cells changes → IsChanges cmp base new changes
@@ -124,6 +103,15 @@ module _ {K Z C : Type 0} (cmp : K → K → Ordering) (exact : CmpEqualImpliesE
 
 pub one_more : {K C X : Type 0} (prints : K → C → X → Type 0) (fs : List (K × Option C)) (es : List (K × Option X)) (f : K × Option C) (e : K × Option X) → PrintEach prints fs es → f.0 ≡ e.0 → ShowsOrNone (prints e.0) f.1 e.1 → PrintEach prints (fs ++ f ∷ []) (es ++ e ∷ [])
 one_more prints [] [] f e p key shows = (key, shows, tt)
-one_more prints (g ∷ fs) [] f e p key shows = absurd p
-one_more prints [] (d ∷ es) f e p key shows = absurd p
 one_more prints (g ∷ fs) (d ∷ es) f e p key shows = (p.0, p.1, one_more prints fs es f e p.2 key shows)
+one_more prints fs es f e p key shows = absurd p
+
+-- ---- whether a row that may be there has this in a column, where a test tells equal values
+
+pub has_part : {X V : Type 0} (same : V → V → Bool) → IsExact same → (part : X → V) (b : Bool) (old : Option X) (x : X) (v : V) → b ≡ same (part x) v → old ≡ Some x
+    → (IsTrue b → option_map part old ≡ Some v) × (option_map part old ≡ Some v → IsTrue b)
+has_part same exact part b old x v tested is =
+    let h = exact (part x) v in (
+      λ t. ap (option_map part) is ∙ ap Some (h.0 (sym tested ∙ t)),
+      λ e. tested ∙ h.1 (let here : Some (part x) ≡ Some v = ap (option_map part) (sym is) ∙ e in cc),
+    )

@@ -70,8 +70,10 @@ fn answer_and_note<W: Write, A: Answering, N: Notes + Witness>(
 ) -> Result<Option<Answer>, TextFault>
     ensures answers { IfOk result (λ o. IfSome o (λ answer. Turn A.answered answering.old item.now answer answering.new
         × Appends (W.contents writer.old) (W.contents writer.new) (answer_text answer))) }
-    ensures ends { IfOk result (λ o. IfNone o ((item.now ≡ Next.End) × (answering.new ≡ answering.old) × (writer.new ≡ writer.old))) }
-    ensures halts { IfErr result (λ fault. (answer : Answer) × (count : ℕ) × Turn A.answered answering.old item.now answer answering.new
+    ensures ends { IfOk result (λ o. IfNone o
+        ((item.now ≡ Next.End) × (answering.new ≡ answering.old) × (writer.new ≡ writer.old))) }
+    ensures halts { IfErr result (λ fault. (answer : Answer) × (count : ℕ)
+        × Turn A.answered answering.old item.now answer answering.new
         × Appends (W.contents writer.old) (W.contents writer.new) (take count (answer_text answer))
         × ((fault ≡ TextFault.Write) ⊎ (fault ≡ TextFault.OutOfMemory)) × (fault ≢ TextFault.Write → count ≡ 0)) }
 {

@@ -29,6 +29,7 @@ impl<'a, S: Alter + Drop> Answering for Questions<'a, S> {
         self.world.allocator()
     }
 
+    #[tactic(auto, using(crate::proofs::Texts::asked_at))]
     fn answer<N: Witness>(&mut self, batch: &Batch, witness: &mut N) -> Answer {
         answered_by(self.world.ask(batch, witness))
     }

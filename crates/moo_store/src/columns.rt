@@ -146,6 +146,7 @@ impl Column for ValueList {
 }
 
 /// Whether a row is there, with this value.
+#[tactic(auto, using(crate::proofs::Written::has_part))]
 fn stays<V: Column>(old: Option<&V::Row>, value: &V) -> bool
     ensures { IsTrue result ↔ option_map V.part (option_map (λ row. row.now) old.entry) ≡ Some value.now }
 {
@@ -161,7 +162,8 @@ pub(crate) fn text_over<V: Column>(
     old: Option<&V::Row>,
     row: &V::Row,
 ) -> Result<Option<Vec<u8>>, AllocError>
-    ensures { IfOk result (λ cell. PrintsOver V.spells V.text (option_map V.part (option_map (λ row. row.now) old.entry)) (V.part row.now) cell) }
+    ensures { IfOk result (λ cell.
+        PrintsOver V.spells V.text (option_map V.part (option_map (λ row. row.now) old.entry)) (V.part row.now) cell) }
 {
     let value = V::of(row);
     if stays::<V>(old, value) {

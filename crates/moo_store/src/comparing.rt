@@ -45,6 +45,7 @@ fn compare_lists(alloc: Global, lists: CellLists, own: &Flat) -> Result<u64, Sto
 ///
 /// The tables are compared one after another. Only if a row differs, or if memory ran out, all are read again at once, to tell what is
 /// wrong.
+#[tactic(auto, using(crate::proofs::CompareLemmas::checks))]
 pub(crate) fn check_rows<S: Alter>(
     alloc: Global,
     conn: &mut Connection<S>,

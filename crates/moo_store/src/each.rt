@@ -26,6 +26,7 @@ fn reply_with_memory(reply: Reply) -> Result<Reply, AllocError>
 }
 
 /// What a batch would come to at present.
+#[tactic(auto, using(crate::proofs::Texts::judged_alone))]
 fn ask_kept<S: Alter + Drop, N: Witness>(
     world: &World<S>,
     batch: &Batch,
@@ -51,7 +52,8 @@ fn ask_alone<S: Alter + Drop, N: Witness>(
     witness: &mut N,
 ) -> Result<Option<Reply>, AllocError>
     ensures reply { world.now.failed ≡ false →
-        IfOk result (λ reply. reply ≡ option_map (λ batch. answer_of (state_of_world world.now) (judge (state_of_world world.now) batch)) batch.now) }
+        IfOk result (λ reply. reply ≡ option_map
+        (λ batch. answer_of (state_of_world world.now) (judge (state_of_world world.now) batch)) batch.now) }
     ensures ticks { NoneComeBack (N.left witness.old) (N.left witness.new) }
     ensures seen { IfOk result (λ reply.
         HasSeenPlace N.sees world.now.rows.maps batch.now reply (N.kept witness.old) (N.kept witness.new)) }
@@ -68,7 +70,8 @@ fn ask_all<S: Alter + Drop, N: Witness>(
     batches: &[Option<Batch>],
     witness: &mut N,
 ) -> Result<Vec<Option<Reply>>, AllocError>
-    ensures replies { world.now.failed ≡ false → IfOk result (λ replies. replies.items ≡ answers_alone (state_of_world world.now) batches.now) }
+    ensures replies { world.now.failed ≡ false →
+        IfOk result (λ replies. replies.items ≡ answers_alone (state_of_world world.now) batches.now) }
     ensures ticks { NoneComeBack (N.left witness.old) (N.left witness.new) }
     ensures seen { IfOk result (λ replies.
         HasSeenEach N.sees world.now.rows.maps batches.now replies.items (N.kept witness.old) (N.kept witness.new)) }
@@ -93,7 +96,8 @@ impl<S: Alter + Drop> World<S> {
         witness: &mut N,
     ) -> Result<Vec<Option<Reply>>, StoreFault>
         ensures replies { self.now.failed ≡ false → MatchResult result
-            (λ replies. replies.items ≡ answers_alone (state_of_world self.now) batches.now) (λ fault. fault ≡ StoreFault.OutOfMemory) }
+            (λ replies. replies.items ≡ answers_alone (state_of_world self.now) batches.now)
+            (λ fault. fault ≡ StoreFault.OutOfMemory) }
         ensures closed { IsTrue self.now.failed → IsErrOf result StoreFault.Closed }
         ensures ticks { NoneComeBack (N.left witness.old) (N.left witness.new) }
         ensures seen { IfOk result (λ replies.

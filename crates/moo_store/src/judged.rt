@@ -19,6 +19,7 @@ use std::alloc::Global;
 
 /// The answers and the changes of a batch that is accepted, or the reply to one that isn't. If it is refused, the witness sees why,
 /// once.
+#[tactic(auto, using(moo_batch::proofs::Ticking::of_batch, crate::proofs::Verdicts::refused_stays, crate::proofs::Verdicts::no_room_stays))]
 pub(crate) fn reply_or_changes<N: Witness>(
     alloc: Global,
     rows: &Flat,

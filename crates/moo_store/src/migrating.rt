@@ -37,6 +37,7 @@ fn print_slots(
 /// Migrates tables of an earlier version, which show these rows, to the present one in one transaction.
 ///
 /// OutOfMemory: nothing was done. Store: the store failed; if the connection is still open, the tables are those before.
+#[tactic(auto, using(crate::proofs::Causes::told_so, crate::proofs::Causes::no_change_otherwise))]
 fn migrate_rows<S: Alter>(
     alloc: Global,
     conn: &mut Connection<S>,
@@ -51,11 +52,11 @@ fn migrate_rows<S: Alter>(
         IfErr result (λ fault. (tables : Tables) → Rests (state S.Store conn.old) tables → IsEarlier tables.version →
         StopsBy (StopsChange (state S.Store conn.old) (state S.Store conn.new)) fault) }
     ensures keeps { HasCleanDisk (state S.Store conn.new) →
-        OnOk result ((tables : Tables) → Rests (state S.Store conn.old) tables → IsEarlier tables.version → ShowsRows tables rows.now.maps →
-        KeepsRows (state S.Store conn.new) rows.now.maps) }
+        OnOk result ((tables : Tables) → Rests (state S.Store conn.old) tables → IsEarlier tables.version →
+        ShowsRows tables rows.now.maps → KeepsRows (state S.Store conn.new) rows.now.maps) }
     ensures rests { HasCleanDisk (state S.Store conn.new) →
-        OnOk result ((tables : Tables) → Rests (state S.Store conn.old) tables → IsEarlier tables.version → ShowsRows tables rows.now.maps →
-        RestsCurrent (state S.Store conn.new) (state S.Store conn.old).now.trees tables rows.now.maps) }
+        OnOk result ((tables : Tables) → Rests (state S.Store conn.old) tables → IsEarlier tables.version →
+        ShowsRows tables rows.now.maps → RestsCurrent (state S.Store conn.new) (state S.Store conn.old).now.trees tables rows.now.maps) }
     ensures undone { OnErr result ((conn.new ≡ conn.old)
         ⊎ (HasCleanDisk (state S.Store conn.new) → IsTrue (state S.Store conn.new).is_open →
         RestsAt (state S.Store conn.new) (state S.Store conn.old).committed)) }
@@ -73,6 +74,7 @@ fn migrate_rows<S: Alter>(
 }
 
 /// Brings tables of this version, which show these rows, to the present version. Those of the present version stay.
+#[tactic(auto, using(crate::proofs::OpenLemmas::rests_already))]
 pub(crate) fn make_current<S: Alter>(
     alloc: Global,
     conn: &mut Connection<S>,
@@ -89,11 +91,11 @@ pub(crate) fn make_current<S: Alter>(
         IfErr result (λ fault. (tables : Tables) → Rests (state S.Store conn.old) tables → tables.version ≡ version →
         StopsBy (StopsChange (state S.Store conn.old) (state S.Store conn.new)) fault) }
     ensures keeps { HasCleanDisk (state S.Store conn.new) →
-        OnOk result ((tables : Tables) → Rests (state S.Store conn.old) tables → tables.version ≡ version → ShowsRows tables rows.now.maps →
-        KeepsRows (state S.Store conn.new) rows.now.maps) }
+        OnOk result ((tables : Tables) → Rests (state S.Store conn.old) tables → tables.version ≡ version →
+        ShowsRows tables rows.now.maps → KeepsRows (state S.Store conn.new) rows.now.maps) }
     ensures rests { HasCleanDisk (state S.Store conn.new) →
-        OnOk result ((tables : Tables) → Rests (state S.Store conn.old) tables → tables.version ≡ version → ShowsRows tables rows.now.maps →
-        RestsCurrent (state S.Store conn.new) (state S.Store conn.old).now.trees tables rows.now.maps) }
+        OnOk result ((tables : Tables) → Rests (state S.Store conn.old) tables → tables.version ≡ version →
+        ShowsRows tables rows.now.maps → RestsCurrent (state S.Store conn.new) (state S.Store conn.old).now.trees tables rows.now.maps) }
     ensures undone { OnErr result ((conn.new ≡ conn.old)
         ⊎ (HasCleanDisk (state S.Store conn.new) → IsTrue (state S.Store conn.new).is_open →
         RestsAt (state S.Store conn.new) (state S.Store conn.old).committed)) }

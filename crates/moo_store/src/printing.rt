@@ -140,6 +140,7 @@ fn new_cells<'a, K, C, V: Print<K, C>>(alloc: Global, row: &'a V) -> Result<C, A
 }
 
 /// The cells of all rows of one kind, each with its key. The only error is out of memory.
+#[tactic(auto, using(crate::proofs::AllRows::none_printed))]
 pub(crate) fn print_left<K: Copy + Drop, C: Drop, V: Print<K, C>>(
     alloc: Global,
     rows: &Flat,

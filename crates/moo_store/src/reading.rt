@@ -56,6 +56,7 @@ pub(crate) fn failure_of(error: Error) -> StoreFault
 }
 
 /// The cells of our tables, which are of this version.
+#[tactic(auto, using(moo_tables::proofs::ListedLemmas::lists_are, crate::proofs::Causes::rows_rise, crate::proofs::Causes::readings))]
 pub(crate) fn read_lists<S: Alter>(
     alloc: Global,
     conn: &mut Connection<S>,
@@ -68,7 +69,8 @@ pub(crate) fn read_lists<S: Alter>(
         IfOk result (λ lists. (tables : Tables) → tables.version ≡ version → Rests (state S.Store conn.old) tables →
         tables_of lists ≡ tables) }
     ensures rise { HasCleanDisk (state S.Store conn.new) →
-        IfOk result (λ lists. (tables : Tables) → tables.version ≡ version → Rests (state S.Store conn.old) tables → AreListed lists) }
+        IfOk result (λ lists. (tables : Tables) → tables.version ≡ version → Rests (state S.Store conn.old) tables →
+        AreListed lists) }
     ensures failed { OnErr result (FailsToRead (schema_of version) (state S.Store conn.old) (state S.Store conn.new)) }
     ensures cause { HasCleanDisk (state S.Store conn.new) → HasTables (schema_of version) (state S.Store conn.old) →
         IfErr result (StopsBy (StopsQuery (state S.Store conn.old) (state S.Store conn.new))) }
@@ -116,6 +118,7 @@ pub(crate) fn test_current<S: Alter>(alloc: Global, conn: &Connection<S>) -> Res
 }
 
 /// The rows that the tables show, which are of this version. All are read at once, and so what is wrong with them can be told.
+#[tactic(auto, using(crate::proofs::Causes::readings))]
 fn read_whole<S: Alter>(
     alloc: Global,
     conn: &mut Connection<S>,
@@ -136,6 +139,7 @@ fn read_whole<S: Alter>(
 }
 
 /// The same, one table after another. Only if they show no world, or if memory ran out, all are read again at once.
+#[tactic(auto, using(crate::proofs::Causes::readings))]
 fn read_each<S: Alter>(
     alloc: Global,
     conn: &mut Connection<S>,
@@ -156,6 +160,7 @@ fn read_each<S: Alter>(
 }
 
 /// The version of the tables of a connection, and the rows that they show. Nothing is written.
+#[tactic(auto, using(crate::proofs::Moments::version_is))]
 pub(crate) fn read_rows<S: Alter>(
     alloc: Global,
     conn: &mut Connection<S>,

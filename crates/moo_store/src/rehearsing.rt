@@ -70,7 +70,8 @@ impl Rehearsal {
         requires works { self.old.failed ≡ false }
         requires changes { (next : Maps) × AreChanges self.old.rows.maps next changes × IsGood next }
         ensures answer { result ≡ Answer.Replied (Reply.Accepted changes.head.seq answers) }
-        ensures rows { (next : Maps) → AreChanges self.old.rows.maps next changes → self.new.failed ≡ false → self.new.rows.maps ≡ next }
+        ensures rows { (next : Maps) → AreChanges self.old.rows.maps next changes → self.new.failed ≡ false →
+            self.new.rows.maps ≡ next }
     {
         let seq = changes.head.seq;
         if apply_changes(&mut self.rows, changes).is_err() {

@@ -29,6 +29,7 @@ impl<S: Alter + Drop> World<S> {
     /// One reply for each batch is added after the replies that are there, each after its commit. The faults: OutOfMemory if there
     /// is no room for the replies, before anything is done; Store if the store failed, and then the batch in hand and those after
     /// it have no reply; Closed if the World had failed.
+    #[tactic(auto, using(crate::proofs::ListRuns::runs))]
     pub fn run(&mut self, batches: &[Batch], replies: &mut Vec<Reply>) -> Result<(), StoreFault>
         // Each batch that has a reply had its turn, and leads from a moment to the next. If the store failed, so had the batch in hand.
         ensures moves { MovesBy S.Store self.old self.new

@@ -108,8 +108,9 @@ impl<S: Alter + Drop> World<S> {
         Ok(Reply::Accepted { seq, answers })
     }
 
-    /// Runs one batch, and commits it if it is accepted. If it is refused, the witness sees why, once. The faults: Store if the store failed;
-    /// Closed if the World had failed.
+    /// Runs one batch, and commits it if it is accepted. If it is refused, the witness sees why, once. The faults: Store if the store
+    /// failed; Closed if the World had failed.
+    #[tactic(auto, using(crate::proofs::Moments::faults_same))]
     pub fn run_one<N: Witness>(
         &mut self,
         batch: &Batch,

@@ -1,4 +1,4 @@
-use Rattle.moo_store.{proofs.Words.{false, Ok, Err, AsksAt}, proofs.Asking.{asks_all}, proofs.Texts.{to_its_end}}
+use Rattle.moo_store.{proofs.Words.{false, Ok, Err, AsksAt}, proofs.Texts.{asks_all, to_its_end}}
 use Rattle.moo_store.proofs.ask.ask_text.Goals as goal
 
 pub returns-in-Ok : goal.returns-in-Ok

@@ -1,4 +1,4 @@
-use Rattle.moo_store.{proofs.Words.{state}, proofs.Committed.{commits_cells}}
+use Rattle.moo_store.{proofs.Words.{state}, proofs.Commits.{commits_cells}}
 use Rattle.moo_store.proofs.committing.commit_cells.Goals as goal
 
 pub returns-clause-commits : goal.returns-clause-commits

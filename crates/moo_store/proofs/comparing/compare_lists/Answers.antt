@@ -1,8 +1,5 @@
-use Rattle.moo_store.{proofs.Words.{inr, refl, ◌∙◌}, proofs.CompareLemmas.{objects_held}}
+use Rattle.moo_store.{proofs.Words.{◌∙◌}, proofs.CompareLemmas.{objects_held}}
 use Rattle.moo_store.proofs.comparing.compare_lists.Goals as goal
-
-pub returns-in-Ok-Some-clause-fault : goal.returns-in-Ok-Some-clause-fault
-returns-in-Ok-Some-clause-fault c = inr (refl, rw c.in-Ok-Some.field-0-is at c.in-Ok-Some.ensures.differs)
 
 pub returns-in-Ok-None-clause-count : goal.returns-in-Ok-None-clause-count
 returns-in-Ok-None-clause-count c = c.object_count.ensures ∙ objects_held c.args.own.now.maps c.requires.good

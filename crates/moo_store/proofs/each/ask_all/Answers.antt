@@ -1,12 +1,17 @@
-use Rattle.moo_store.proofs.SeenEach.{seen-more}
 use Rattle.moo_store.specs.Seeing.{HasSeenEach, HasSeenPlace}
-use Rattle.moo_store.proofs.Words.{◌+◌, get_or, subst, take, take_more, [], ◌∷◌, ◌++◌, ap, sym, ◌∙◌, judge, answer_of, state_of_world}
-use Rattle.std.{proofs.Common.{rules}, specs.Prelude.{option_map}, proofs.lemmas.List.{map_more}}
-use Rattle.moo_batch.proofs.Ticking.{as_before, and_then}
+use Rattle.moo_store.proofs.Words.{Batch, List, Maps, Option, Reply, refl, ◌+◌, get_or, subst, take, take_more, [], ◌∷◌, ◌++◌, ap, sym, ◌∙◌, judge, answer_of, state_of_world}
+use Rattle.std.{specs.Prelude.{option_map}, proofs.lemmas.List.{map_more}}
+use Rattle.moo_batch.proofs.Ticking.{and_then}
 use Rattle.moo_store.proofs.each.ask_all.Goals as goal
+use Rattle.moo_batch.{specs.declared.witness.Facts.{Facts}, specs.declared.witness.Refusal.{Refusal}}
 
-pub loop-batch-init : goal.loop-batch-init
-loop-batch-init g c = record { replies = λ works. search rules; seen = search rules; ticks = as_before (g.N.Witness.left c.args.witness.now) }
+-- what a witness keeps of one place more
+module _ {Kept : Type 0} (sees : Kept → Batch → Refusal → Option Facts → Kept → Type 0) (maps : Maps) where
+  seen-more : (batches : List (Option Batch)) (replies : List (Option Reply)) (batch : Option Batch) (reply : Option Reply) (kept mid next : Kept)
+      → HasSeenEach sees maps batches replies kept mid → HasSeenPlace sees maps batch reply mid next → HasSeenEach sees maps (batches ++ batch ∷ []) (replies ++ reply ∷ []) kept next
+  seen-more [] [] batch reply kept mid next same one = (next, subst (λ k. HasSeenPlace sees maps batch reply k next) same one, refl)
+  seen-more (b ∷ batches) (r ∷ replies) batch reply kept mid next seen one = (seen.0, seen.1, seen-more batches replies batch reply seen.0 mid next seen.2 one)
+  seen-more batches replies batch reply kept mid next seen one = absurd seen
 
 pub loop-batch-preserved : goal.loop-batch-preserved
 loop-batch-preserved g c = record {

@@ -1,11 +1,6 @@
-use Rattle.moo_store.{specs.Loading.{SurvivesAsMade, name_taken}, proofs.Words.{◌≡◌, ◌∙◌, IsTrue, Some, [], inl, inr, rules, refl, sym, ap, subst, state, HasCleanDisk, World, Moment, rows_alone}, specs.NewTables.{RestsAsMade}, proofs.Opened.{has_no_tables, keeps_all, survives_all}, proofs.Committed.{shown_by}}
-use Rattle.std.proofs.lemmas.Bool.{true≢false}
-use Rattle.sqlite.{specs.declared.error.Error.TheVariants.{SqliteFailure}, specs.declared.error.ErrorCode.TheVariants.{NameTaken}}
+use Rattle.moo_store.{specs.Loading.{SurvivesAsMade}, proofs.Words.{IsTrue, Some, [], inr, refl, sym, ap, subst, state, HasCleanDisk, World, Moment, rows_alone}, specs.NewTables.{RestsAsMade}, proofs.Opened.{has_no_tables, keeps_all, survives_all}, proofs.Commits.{shown_by}}
 use Rattle.moo_tables_rows.{specs.Cells.{tables_with}, specs.Inside.{no_tables}}
 use Rattle.moo_store.proofs.loading.load_in.Goals as goal
-
-pub over-requires-clause-outside : goal.over-requires-clause-outside
-over-requires-clause-outside g c = c.in-Ok-create_tables.ensures.made.outside
 
 pub returns-in-Ok-create_tables : goal.returns-in-Ok-create_tables
 returns-in-Ok-create_tables g c =
@@ -48,27 +43,3 @@ returns-in-Err g c =
     }
 
 -- what is refused at once comes back as it is
-
-pub returns-then-not-is_new : goal.returns-then-not-is_new
-returns-then-not-is_new g c =
-    let told : _ ≡ name_taken = search rules in
-    record {
-      loads = record {
-        taken = λ taken. (told, refl);
-        kind = inr (SqliteFailure NameTaken, told, λ clean empty. absurd (true≢false (sym (c.is_new.ensures.1 empty) ∙ c.if-not-is_new.true)));
-        outside = c.requires.outside;
-        undone = inl refl;
-        crash = inl refl;
-      };
-    }
-
-pub returns-in_default : goal.returns-in_default
-returns-in_default g c = record {
-  loads = record {
-    taken = λ taken. absurd (taken (c.is_new.ensures.0 c.if-not-is_new.false));
-    kind = inl (refl, refl);
-    outside = c.requires.outside;
-    undone = inl refl;
-    crash = inl refl;
-  };
-}

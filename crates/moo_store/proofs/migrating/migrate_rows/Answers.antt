@@ -1,5 +1,4 @@
-use Rattle.moo_store.{proofs.Words.{None, inr, sym, subst, state, PrintEach, PrintsSlot, all_of}, proofs.Migrated.{keeps_migrated, survives_migrated}, proofs.Current.{rests_migrated}, proofs.Causes.{told_so, no_change_otherwise}}
-use Rattle.moo_tables_rows.specs.Cause.{StopsChange}
+use Rattle.moo_store.{proofs.Words.{None, sym, subst, state, PrintEach, PrintsSlot, all_of}, proofs.OpenLemmas.{keeps_migrated, rests_migrated, survives_migrated}}
 use Rattle.moo_store.proofs.migrating.migrate_rows.Goals as goal
 
 pub returns-in-Ok-migrate-clause-keeps : goal.returns-in-Ok-migrate-clause-keeps
@@ -21,12 +20,3 @@ pub returns-in-Ok-migrate-clause-rests : goal.returns-in-Ok-migrate-clause-rests
 returns-in-Ok-migrate-clause-rests g c clean tables rests earlier shown =
     let printed = subst (λ cells. PrintEach (λ key. PrintsSlot None) cells (all_of c.args.rows.now.maps.slots)) (sym c.deref.ensures.value) c.in-Ok.ensures in
     rests_migrated c.args.rows.now.maps c.head.result c.deref.result.now c.head.ensures printed (state g.S.Store c.args.conn.now) (state g.S.Store c.migrate.new.conn) tables rests earlier (c.in-Ok-migrate.ensures.migrates.migrated clean tables rests earlier) (c.in-Ok-migrate.ensures.migrates.emptied clean tables rests earlier) shown
-
-pub returns-clause-undone : goal.returns-clause-undone
-returns-clause-undone g c = inr c.in-Err.ensures.migrates.restored
-
-pub returns-clause-cause : goal.returns-clause-cause
-returns-clause-cause g c clean tables rests earlier =
-    let old = state g.S.Store c.args.conn.now in
-    let new = state g.S.Store c.migrate.new.conn in
-    told_so (StopsChange old new) c.in-Err.error c.failure_of.result (no_change_otherwise old new) c.failure_of.ensures.same (c.in-Err.ensures.migrates.cause clean tables rests earlier)

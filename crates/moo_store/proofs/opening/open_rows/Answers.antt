@@ -74,6 +74,3 @@ returns-in-Err-make_current-clause-brings g c =
       undone = inr (undone_late g.S.Store old mid version rows read.has read.read c.make_current.new.conn c.read_rows.ensures.settled took c.make_current.ensures.outside c.in-Err-make_current.ensures.undone);
       crash = crash g.S.Store old mid version rows read.has read.read c.make_current.new.conn took read.found.good (λ clean tables rests. read.found.shown tables (clean, rests)) (λ clean tables m rests. read.found.one tables m (clean, rests));
     }
-
-pub make_current-requires-clause-limit : goal.make_current-requires-clause-limit
-make_current-requires-clause-limit g c = c.in-Ok.ensures.reads.found.limit

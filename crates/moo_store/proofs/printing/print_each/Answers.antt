@@ -1,6 +1,5 @@
 use Rattle.moo_store.{proofs.Words.{◌≡◌, ◌+◌, [], ◌∷◌, ◌++◌, take, sym, ap, ◌∙◌, subst, refl, arith, get, take_more, ShowsOrNone, PrintEach}, proofs.Written.{one_more}}
 use Rattle.moo_store.proofs.printing.print_each.Goals as goal
-use Rattle.std.proofs.lemmas.List.{take_all}
 
 pub loop-key-preserved : goal.loop-key-preserved
 loop-key-preserved g c =
@@ -11,8 +10,3 @@ loop-key-preserved g c =
     subst (λ es. PrintEach (λ key. g.V.Print.prints (get (g.V.KeyedRow.map_of c.args.rows.now.maps) key)) c.push.new.self.items es) (sym taken)
     (subst (λ fs. PrintEach (λ key. g.V.Print.prints (get (g.V.KeyedRow.map_of c.args.rows.now.maps) key)) fs (take i items ++ x ∷ [])) (sym c.in_ok-push.ensures.items)
     (one_more (λ key. g.V.Print.prints (get (g.V.KeyedRow.map_of c.args.rows.now.maps) key)) c.loop-key.cells.items (take i items) (x.0, c.in_ok-print_row.field-0) x c.loop-key.invariant refl (subst (λ old. ShowsOrNone (g.V.Print.prints old) c.in_ok-print_row.field-0 x.1) c.find-old.ensures c.in_ok-print_row.ensures)))
-
-pub returns : goal.returns
-returns g c =
-    subst (λ es. PrintEach (λ key. g.V.Print.prints (get (g.V.KeyedRow.map_of c.args.rows.now.maps) key)) c.loop-key.cells.items es)
-    (take_all c.loop-key.key-index c.items-key-items.result.now c.loop-key-test.false ∙ c.items-key-items.ensures) c.loop-key.invariant

@@ -1,11 +1,6 @@
-use Rattle.moo_store.{proofs.Words.{Some, None, ap, sym, subst, refl, arith, length, entries, PrintEach, as_changes}, proofs.AllRows.{ArePrinted, none_printed, one_printed, all_printed}}
+use Rattle.moo_store.{proofs.Words.{Some, None, sym, subst, entries, PrintEach, as_changes}, proofs.AllRows.{ArePrinted, one_printed, all_printed}}
 use Rattle.moo_rows.{specs.Walk.{rows_left}, proofs.Walking.{past_none}}
 use Rattle.moo_store.proofs.printing.print_left.Goals as goal
-
-pub loop-next-init : goal.loop-next-init
-loop-next-init g c =
-    let all = rows_left None (g.V.KeyedRow.map_of c.args.rows.now.maps) in
-    subst (λ cells. ArePrinted (λ key. g.V.Print.prints None) cells all all) (sym c.new-cells.ensures.items) (none_printed (λ key. g.V.Print.prints None) all all refl)
 
 pub loop-next-preserved : goal.loop-next-preserved
 loop-next-preserved g c =
@@ -13,9 +8,6 @@ loop-next-preserved g c =
     subst (λ cells. ArePrinted (λ key. g.V.Print.prints None) cells (rows_left (Some c.in-Some.next.0) rows) (rows_left None rows)) (sym c.in_ok-push.ensures.items)
     (one_printed (λ key. g.V.Print.prints None) c.loop-next.cells.items (rows_left c.loop-next.last rows) (rows_left (Some c.in-Some.next.0) rows) (rows_left None rows) (c.in-Some.next.0, c.in-Some.next.1.now) c.in_ok-printed.printed
     c.in-Some.ensures.some c.in_ok-printed.ensures c.loop-next.invariant)
-
-pub loop-next-smaller : goal.loop-next-smaller
-loop-next-smaller g c = let short = ap length c.in-Some.ensures.some in omega (arith, short)
 
 pub returns : goal.returns
 returns g c =

@@ -1,4 +1,4 @@
-use Rattle.moo_store.{proofs.Words.{◌≡◌, false, sym, subst, IsGood, AreChanges, Rehearsal}, proofs.Running.{when_ok}, proofs.rehearsing.Rehearsal.accept.Goals.{then-is_err, else-is_err}}
+use Rattle.moo_store.{proofs.Words.{◌≡◌, false, sym, subst, IsGood, AreChanges, Rehearsal}, proofs.Verdicts.{when_ok}, proofs.rehearsing.Rehearsal.accept.Goals.{then-is_err, else-is_err}}
 use Rattle.moo_store.proofs.rehearsing.Rehearsal.accept.Goals as goal
 
 pub invariant_of-self-else-is_err : goal.invariant_of-self-else-is_err

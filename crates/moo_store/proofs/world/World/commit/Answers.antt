@@ -1,4 +1,4 @@
-use Rattle.moo_store.{proofs.Words.{◌≡◌, Bool, false, true, Some, refl, sym, subst, subst₂, state, IsGood, AreChanges, World, Prints, store_of, Ok, Err, KeepsFaults, Store}, specs.Committing.{CommitsTo, CommitsInto}, specs.Moves.{MovesBy, FailsRun}, proofs.Commits.{moves_on, moves_off, fails_by}, proofs.Running.{when_ok}, proofs.world.World.commit.Goals.{then-is_err, else-is_err}}
+use Rattle.moo_store.{proofs.Words.{◌≡◌, Bool, false, true, Some, refl, sym, subst, subst₂, IsGood, AreChanges, World, Prints, store_of, Ok, Err, Store}, specs.Committing.{CommitsTo, CommitsInto}, specs.Moves.{MovesBy, FailsRun}, proofs.Commits.{moves_on, moves_off, fails_by}, proofs.Verdicts.{when_ok}, proofs.world.World.commit.Goals.{then-is_err, else-is_err}}
 use Rattle.moo_store.proofs.world.World.commit.Goals as goal
 use Rattle.moo_rows.specs.Maps.{Held}
 use Rattle.moo_text.specs.declared.reply.Reply.TheVariants.{Accepted}
@@ -26,14 +26,6 @@ returns-in-Err-clause-fault g c =
     (subst (λ (w : World _). Prints (Some w.rows.maps.head.next_petition) w.rows.maps c.args.cells.now c.args.changes) (sym c.self.view_is) c.requires.printed)
     rows (subst (λ (w : World _). AreChanges w.rows.maps rows c.args.changes) (sym c.self.view_is) c.requires.changes.1) c.in-Err.error c.in-Err.ensures.commits)
 
-pub returns-in-Err-clause-kept : goal.returns-in-Err-clause-kept
-returns-in-Err-clause-kept g c =
-    let did = c.commit_cells.ensures.commits.tables in
-    subst (λ w. KeepsFaults (store_of g.S.Store w) (state g.S.Store c.commit_cells.new.conn)) c.self.view_is (record { faults = did.counts; steps = did.steps })
-
-pub returns-in-Err-clause-commits : goal.returns-in-Err-clause-commits
-returns-in-Err-clause-commits g c = subst (λ w. CommitsInto c.args.cells.now (store_of g.S.Store w) (state g.S.Store c.commit_cells.new.conn) (Err (Store c.in-Err.error))) c.self.view_is c.in-Err.ensures.commits
-
 -- the changes are in the tables, and in the rows unless memory ran out
 
 pub returns-clause-moves : goal.returns-clause-moves
@@ -49,14 +41,6 @@ returns-clause-moves g c rows exact good =
       | then-is_err w ↦ subst₂ (λ u v. MovesBy g.S.Store u v (λ from to. CommitsTo c.args.answers c.args.changes rows from (Ok (Accepted c.args.changes.head.seq c.args.answers)) to)) c.self.view_is (sym w.self-is) (made _ true (λ e. cc))
       | else-is_err w ↦ subst₂ (λ u v. MovesBy g.S.Store u v (λ from to. CommitsTo c.args.answers c.args.changes rows from (Ok (Accepted c.args.changes.head.seq c.args.answers)) to)) c.self.view_is (sym w.self-is)
           (made c.apply_changes.new.rows c.self.inside.failed (λ e. when_ok c.apply_changes.result w.if-is_err.ensures.value c.apply_changes.ensures rows here))
-    ]
-
-pub returns-clause-kept : goal.returns-clause-kept
-returns-clause-kept g c =
-    let did = c.commit_cells.ensures.commits.tables in
-    elim c.if-is_err.branch [
-      | then-is_err w ↦ subst₂ (λ u v. KeepsFaults (store_of g.S.Store u) (store_of g.S.Store v)) c.self.view_is (sym w.self-is) (record { faults = did.counts; steps = did.steps })
-      | else-is_err w ↦ subst₂ (λ u v. KeepsFaults (store_of g.S.Store u) (store_of g.S.Store v)) c.self.view_is (sym w.self-is) (record { faults = did.counts; steps = did.steps })
     ]
 
 pub returns-clause-commits : goal.returns-clause-commits

@@ -1,4 +1,4 @@
-use Rattle.moo_store.{proofs.Words.{◌≡◌, ◌<◌, Some, sym, ap, ◌∙◌, subst, true, false, Head, IsGood, Moment, Works, RunsAt, state_of, judge, Accepted, AreChanges, World, Prints, IsRun, store_of}, proofs.Verdicts.{closed_moves, still_moves, no_room_stays}, proofs.Running.{accepted_low, accepted_is_run}, proofs.Stopped.{faults_same}, proofs.Commits.{accepted_moves, accepted_still}}
+use Rattle.moo_store.{proofs.Words.{◌≡◌, ◌<◌, sym, ap, ◌∙◌, subst, true, false, Head, IsGood, Moment, Works, RunsAt, state_of, judge, Accepted, AreChanges, World, IsRun}, proofs.Verdicts.{closed_moves, still_moves, no_room_stays}, proofs.Verdicts.{accepted_run}, proofs.Commits.{accepted_moves, accepted_still}}
 use Rattle.moo_store.proofs.world.World.run_one.Goals as goal
 use Rattle.moo_world.specs.Between.{BatchLeads}
 use Rattle.moo_text.specs.declared.reply.Answer.TheVariants as answer
@@ -8,11 +8,7 @@ pub commit-requires-clause-limit : goal.commit-requires-clause-limit
 commit-requires-clause-limit g c =
     let found = c.in-Ok.ensures.accepted in
     let seq = ap (λ (h : Head). h.seq) (c.in-Ok-print_changes.ensures.head ∙ found.1.head) in
-    subst (λ n. n < 9223372036854775808) (sym seq) (accepted_low (state_of c.self.inside.rows.maps) (state_of found.0) c.args.batch.now c.in-Ok.answers found.3)
-
-pub commit-requires-clause-printed : goal.commit-requires-clause-printed
-commit-requires-clause-printed g c =
-    subst (λ (w : World _). Prints (Some w.rows.maps.head.next_petition) w.rows.maps c.in-Ok-print_changes.cells c.in-Ok.changes) c.self.view_is c.in-Ok-print_changes.ensures
+    subst (λ n. n < 9223372036854775808) (sym seq) (accepted_run (state_of c.self.inside.rows.maps) (state_of found.0) c.args.batch.now c.in-Ok.answers found.3).1
 
 pub commit-requires-clause-changes : goal.commit-requires-clause-changes
 commit-requires-clause-changes g c =
@@ -40,26 +36,17 @@ returns-in-Ok-print_changes-clause-still g c =
 
 -- nothing was committed
 
-pub returns-then-self-clause-moves : goal.returns-then-self-clause-moves
-returns-then-self-clause-moves g c = closed_moves g.S.Store c.args.self.now c.args.batch.now (subst (λ (w : World _). w.failed ≡ true) c.self.view_is c.if-self.true)
-
 pub returns-in-Err-print_changes-clause-moves : goal.returns-in-Err-print_changes-clause-moves
 returns-in-Err-print_changes-clause-moves g c =
     let found = c.in-Ok.ensures.accepted in
-    let run = accepted_is_run (state_of c.self.inside.rows.maps) (state_of found.0) c.args.batch.now c.in-Ok.answers found.3 in
+    let run = (accepted_run (state_of c.self.inside.rows.maps) (state_of found.0) c.args.batch.now c.in-Ok.answers found.3).0 in
     still_moves g.S.Store c.args.self.now c.args.batch.now reply.NoMemory (subst (λ (w : World _). w.failed ≡ false) c.self.view_is c.if-self.false)
     (no_room_stays c.args.self.now.rows.maps c.args.batch.now (subst (λ (w : World _). IsRun (state_of w.rows.maps) c.args.batch.now) c.self.view_is run))
+
+pub returns-then-self-clause-moves : goal.returns-then-self-clause-moves
+returns-then-self-clause-moves g c = closed_moves g.S.Store c.args.self.now c.args.batch.now (subst (λ (w : World _). w.failed ≡ true) c.self.view_is c.if-self.true)
 
 pub returns-in-Err-clause-moves : goal.returns-in-Err-clause-moves
 returns-in-Err-clause-moves g c =
     still_moves g.S.Store c.args.self.now c.args.batch.now c.in-Err.reply (subst (λ (w : World _). w.failed ≡ false) c.self.view_is c.if-self.false)
     (subst (λ (w : World _). (m : Moment) → m.rows ≡ w.rows.maps → RunsAt (Works m) c.args.batch.now (answer.Replied c.in-Err.reply) (Works m)) c.self.view_is c.in-Err.ensures.stays)
-
-pub returns-then-self-clause-kept : goal.returns-then-self-clause-kept
-returns-then-self-clause-kept g c = faults_same (store_of g.S.Store c.args.self.now)
-
-pub returns-in-Err-print_changes-clause-kept : goal.returns-in-Err-print_changes-clause-kept
-returns-in-Err-print_changes-clause-kept g c = faults_same (store_of g.S.Store c.args.self.now)
-
-pub returns-in-Err-clause-kept : goal.returns-in-Err-clause-kept
-returns-in-Err-clause-kept g c = faults_same (store_of g.S.Store c.args.self.now)

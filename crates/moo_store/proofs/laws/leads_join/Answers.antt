@@ -1,5 +1,0 @@
-use Rattle.moo_store.proofs.Leading.{leads-join}
-use Rattle.moo_store.proofs.laws.leads_join.Goals as goal
-
-pub returns : goal.returns
-returns c = leads-join
