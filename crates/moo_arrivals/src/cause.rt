@@ -15,7 +15,7 @@ pub enum Cause {
     /// Another connection needed its place.
     Crowded,
     /// Memory ran out.
-    NoMemory,
+    OutOfMemory,
 }
 
 impl Display for Cause {
@@ -25,7 +25,7 @@ impl Display for Cause {
             Cause::Silent => "the peer was silent",
             Cause::Late => "it took too long",
             Cause::Crowded => "its place was needed",
-            Cause::NoMemory => "out of memory",
+            Cause::OutOfMemory => "out of memory",
         })
     }
 }

@@ -4,7 +4,7 @@ use Rattle.std.specs.IoError.{error_kind}
 use Rattle.std.specs.declared.io.Error.{Error}
 use Rattle.std.specs.declared.io.ErrorKind.TheVariants.{WouldBlock}
 use Rattle.moo_arrivals.specs.declared.cause.Cause.{Cause}
-use Rattle.moo_arrivals.specs.declared.cause.Cause.TheVariants.{BrokenOff, NoMemory}
+use Rattle.moo_arrivals.specs.declared.cause.Cause.TheVariants.{BrokenOff, OutOfMemory}
 use Rattle.moo_desk.specs.declared.gathered.Filled.{Filled}
 use Rattle.moo_desk.specs.declared.gathered.Filled.TheVariants.{Grew, Waits, Ended, Failed}
 use Rattle.moo_desk.specs.declared.gathered.Gathered.{Gathered}
@@ -14,7 +14,7 @@ module _ {R : Type 0} (reads : R → Gave → R → Type 0) where
   -- the reader failed, or memory ran out
   abbrev pub FailsToFill : R → R → Cause → Type 0
   FailsToFill old new BrokenOff = (error : Error) × (error_kind error ≢ WouldBlock) × reads old (Err error) new
-  FailsToFill old new NoMemory = ⊤
+  FailsToFill old new OutOfMemory = ⊤
   FailsToFill old new other = ⊥
 
   -- The reader was read, unless memory ran out, and gave what is told; it is told if bytes came.

@@ -6,7 +6,7 @@ use Rattle.std.specs.declared.io.Error.{Error}
 use Rattle.std.specs.declared.io.ErrorKind.TheVariants.{WouldBlock}
 use Rattle.std.specs.declared.time.Duration.{Duration}
 use Rattle.moo_arrivals.specs.declared.cause.Cause.{Cause}
-use Rattle.moo_arrivals.specs.declared.cause.Cause.TheVariants.{BrokenOff, Silent, Late, Crowded, NoMemory}
+use Rattle.moo_arrivals.specs.declared.cause.Cause.TheVariants.{BrokenOff, Silent, Late, Crowded, OutOfMemory}
 use Rattle.moo_http_request.specs.declared.head.TheConstants.{MAX_HEAD}
 use Rattle.moo_desk.specs.declared.gathered.Coming.{Coming}
 use Rattle.moo_desk.specs.declared.gathered.Coming.TheVariants.{More, Nothing, Unread}
@@ -45,7 +45,7 @@ module _ {R : Type 0} (reads : R → Gave → R → Type 0) where
   MayGiveUp last since heard now Silent = IsLonger (SILENCE * 1_000_000_000) heard now
   MayGiveUp last since heard now Late = IsLonger (PATIENCE * 1_000_000_000) since now
   MayGiveUp last since heard now Crowded = IsLonger (GRACE * 1_000_000) since now
-  MayGiveUp last since heard now NoMemory = ⊤
+  MayGiveUp last since heard now OutOfMemory = ⊤
 
   -- Why nothing more comes of a request: its peer has ended, or it was given up.
   abbrev pub MayStop : R → (since heard looked : Duration) → Cause → Coming → Type 0

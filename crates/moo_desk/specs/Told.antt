@@ -1,6 +1,6 @@
 -- Losses that are noted, and told of.
 use Rattle.std.specs.Prelude.{◌≡◌, ◌⊎◌, ◌+◌, ◌-◌, ◌^◌, min, [], ◌∷◌, ◌++◌, Option, Some, None}
-use Rattle.moo_arrivals.specs.declared.cause.Cause.TheVariants.{NoMemory}
+use Rattle.moo_arrivals.specs.declared.cause.Cause.TheVariants.{OutOfMemory}
 use Rattle.moo_arrivals.specs.declared.cause.Loss.{Loss}
 use Rattle.moo_arrivals.specs.declared.route.Route.TheVariants.{Unknown}
 use Rattle.moo_desk.specs.declared.losses.Losses.{Losses}
@@ -17,4 +17,4 @@ TellsOf old None new = (old.all.items ≡ []) × (old.more ≡ 0) × (new.all.it
 TellsOf old (Some loss) new =
     ((old.all.items ≡ new.all.items ++ loss ∷ []) × (new.more ≡ old.more))
     ⊎ ((old.all.items ≡ []) × (new.all.items ≡ []) × (old.more ≡ new.more + 1)
-    × (loss ≡ record { route = Unknown; cause = NoMemory }))
+    × (loss ≡ record { route = Unknown; cause = OutOfMemory }))

@@ -283,7 +283,7 @@ impl<'a, G: Gate + Drop, C: Clock> Desk<'a, G, C> {
             Ok(()) => {}
             Err(back) => {
                 let mut lost = back.value;
-                lost.give_up(Cause::NoMemory);
+                lost.give_up(Cause::OutOfMemory);
                 self.held.note_loss(lost);
             }
         }

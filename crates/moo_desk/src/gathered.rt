@@ -77,7 +77,7 @@ impl<R: Inward> Gathered<R> {
         let mut piece = [0; PIECE];
         let room = (limit - self.bytes.len()).min(piece.len());
         if self.bytes.reserve(room).is_err() {
-            return Filled::Failed(Cause::NoMemory);
+            return Filled::Failed(Cause::OutOfMemory);
         }
         match self.reader.take_in(&mut piece[..room]) {
             Ok(0) => Filled::Ended,

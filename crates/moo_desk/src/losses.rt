@@ -47,7 +47,7 @@ impl Losses {
         self.more -= 1;
         Some(Loss {
             route: Route::Unknown,
-            cause: Cause::NoMemory,
+            cause: Cause::OutOfMemory,
         })
     }
 }

@@ -1,5 +1,5 @@
 -- The world that a task begins with.
-use Rattle.moo_run.{proofs.Words.{◌≡◌, ◌⊎◌, inl, inr, ℕ, List, Option, Some, IfSome, codes, refl, sym, ap, subst, subst₂, HasCleanDisk, Place, Done, StopsTask, Reports, ◌<◌, true, false, bytes_eq, true≢false, cases_Bool, Maps, opening_maps, state_of, IsHeld, Moment, rows_alone, Task, Given, Run, begins_anew, is_load, dump_word, is_input, reads_input, ReadsFile, BeginsWith, RunsFrom, RunsMade, RefusesDump, Failure, ◌≢◌, ◌≤◌, length, None, ◌∙◌, arith, State, read_failure, load_failure, NoBatches, NoMemory, Read}}
+use Rattle.moo_run.{proofs.Words.{◌≡◌, ◌⊎◌, inl, inr, ℕ, List, Option, Some, IfSome, codes, refl, sym, ap, subst, subst₂, HasCleanDisk, Place, Done, StopsTask, Reports, ◌<◌, true, false, bytes_eq, true≢false, cases_Bool, Maps, opening_maps, state_of, IsHeld, Moment, rows_alone, Task, Given, Run, begins_anew, is_load, dump_word, is_input, reads_input, ReadsFile, BeginsWith, RunsFrom, RunsMade, RefusesDump, Failure, ◌≢◌, ◌≤◌, length, None, ◌∙◌, arith, State, read_failure, load_failure, NoBatches, OutOfMemory, Read}}
 use Rattle.sqlite.specs.State.{State as Database}
 use Rattle.moo_dump.specs.Dump.{dump as dump_of}
 use Rattle.moo_load.specs.RowsOf.{AreRowsOf}
@@ -92,5 +92,5 @@ input_opened read_fault.Read failure is e = let bad : Read ≡ NoBatches = sym i
 input_opened fault failure is e = let bad : read_failure fault ≡ NoBatches = sym is ∙ e in cc
 
 pub dump_opened : (fault : LoadFault) (failure : Failure) → failure ≡ load_failure fault → failure ≢ NoBatches
-dump_opened load_fault.OutOfMemory failure is e = let bad : NoMemory ≡ NoBatches = sym is ∙ e in cc
+dump_opened load_fault.OutOfMemory failure is e = let bad : OutOfMemory ≡ NoBatches = sym is ∙ e in cc
 dump_opened fault failure is e = let bad : load_failure fault ≡ NoBatches = sym is ∙ e in cc

@@ -28,4 +28,4 @@ pub use Rattle.moo_run.specs.Given.{Given, Run, given_to, texts_by}
 pub use Rattle.moo_run_lines.specs.Lines.{Reports, Tells, checked_line, load_failure, loaded_line, read_failure, service_failure, store_failure, text_failure}
 pub use Rattle.moo_run.specs.Run.{AnswersAs, AnswersText, BeginsFrom, BeginsWith, ComesOf, Done, EndsTask, EndsText, FailsAtOnce, FailsToBegin, FindsRows, IsOpening, KeepsInput, LeavesNothingNew, MayRefuse, ReadsFile, RefusesDump, RefusesFile, RunsAction, RunsAnew, RunsFrom, RunsIn, RunsMade, RunsNew, RunsTask, RunsUnseen, ShowsTables, StopsAs, StopsChecking, StopsIn, StopsServing, StopsTask, StopsText, course_status, line_of, begins_anew, dump_word, is_input, is_load, makes_world, only_reads, reads_input, serves}
 pub use Rattle.moo_run_lines.specs.declared.failure.Failure.{Failure}
-pub use Rattle.moo_run_lines.specs.declared.failure.Failure.TheVariants.{Damaged, NewerVersion, NoBatches, NoMemory, NotADump, Read, Store, TooLong, Write}
+pub use Rattle.moo_run_lines.specs.declared.failure.Failure.TheVariants.{Damaged, NewerVersion, NoBatches, OutOfMemory, NotADump, Read, Store, TooLong, Write}

@@ -49,7 +49,7 @@ use Rattle.moo_cli.specs.Tasks.{NamesTask, NamesAlone, NamesNone, text_word, mis
 use Rattle.moo_run_lines.specs.Lines.{Reports, WritesLine, text_failure, store_failure, loaded_line, checked_line}
 use Rattle.moo_run_lines.specs.declared.failure.Failure.{Failure}
 use Rattle.moo_run_lines.specs.declared.failure.Failure.TheVariants.{Usage, NoFile, Store, Damaged, NewerVersion, NotADump, NoBatches}
-use Rattle.moo_run_lines.specs.declared.failure.Failure.TheVariants.{Read, TooLong, Write, Port, NoMemory}
+use Rattle.moo_run_lines.specs.declared.failure.Failure.TheVariants.{Read, TooLong, Write, Port, OutOfMemory}
 
 -- ---- tasks
 
@@ -192,7 +192,7 @@ Done (Serve service) m end run =
 
 -- a front of a text is written, since the writer failed or memory ran out
 abbrev pub StopsIn : List ℕ → Failure → Option (List ℕ) → Option (List ℕ) → Type 0
-StopsIn text failure old new = ((failure ≡ Write) ⊎ (failure ≡ NoMemory)) × (count : ℕ) × Appends old new (take count text)
+StopsIn text failure old new = ((failure ≡ Write) ⊎ (failure ≡ OutOfMemory)) × (count : ℕ) × Appends old new (take count text)
 
 -- The port can't be listened on, and nothing is done. Or what is said of the service stops in its first line, and no connection is taken
 -- from the port; or after the last one.
@@ -290,7 +290,7 @@ RunsUnseen task m run = RunsFrom task m run ⊥
 -- a failure of the store, or memory ran out
 abbrev pub IsOpening : Failure → Type 0
 IsOpening (Store error) = ⊤
-IsOpening NoMemory = ⊤
+IsOpening OutOfMemory = ⊤
 IsOpening failure = ⊥
 
 -- why a file isn't opened, whatever it holds: it is missing, damaged or of a later version, or one of these two
@@ -314,14 +314,14 @@ IsOfDump Read = ⊤
 IsOfDump TooLong = ⊤
 IsOfDump (NotADump line) = ⊤
 IsOfDump (Damaged kind key) = ⊤
-IsOfDump NoMemory = ⊤
+IsOfDump OutOfMemory = ⊤
 IsOfDump failure = ⊥
 
 -- why a dump gives no text: it is missing, can't be read, or memory ran out
 abbrev pub GivesNoText : Failure → Type 0
 GivesNoText NoBatches = ⊤
 GivesNoText Read = ⊤
-GivesNoText NoMemory = ⊤
+GivesNoText OutOfMemory = ⊤
 GivesNoText failure = ⊥
 
 -- Why the dump of this text gives no world, if the text is known. That of a well formed state, of at most 1,073,741,824 bytes, is refused
@@ -377,7 +377,7 @@ mistake_status mistake = 2
 abbrev pub EndsUsage : List (List ℕ) → Option (List ℕ) → Option (List ℕ) → ℕ → Type 0
 EndsUsage words old new status =
     ((mistake : ErrorKind) × IsAmong mistake (mistakes words) × (text : List ℕ) × WritesLine text (mistake_status mistake) old new status)
-    ⊎ Reports NoMemory old new status
+    ⊎ Reports OutOfMemory old new status
     ⊎ (NamesNone words × Reports Usage old new status)
 
 -- a file is refused, and nothing is asked of the ports; or the task runs from good rows

@@ -61,7 +61,7 @@ fn check<W: Write, B: Alter + Drop>(
     let objects = world.check()?;
     match checked_text(alloc, seq, objects) {
         Ok(line) => put_text(line.as_str(), output),
-        Err(_) => Err(Failure::NoMemory),
+        Err(_) => Err(Failure::OutOfMemory),
     }
 }
 
@@ -79,7 +79,7 @@ fn put_loaded<W: Write>(
 {
     match loaded_text(alloc, seq, objects) {
         Ok(line) => put_text(line.as_str(), output),
-        Err(_) => Err(Failure::NoMemory),
+        Err(_) => Err(Failure::OutOfMemory),
     }
 }
 

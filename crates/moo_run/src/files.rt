@@ -165,7 +165,7 @@ fn run_in_memory<'s, S: Streams>(session: &mut Session<'s, S>, task: Task<'_>)
     ensures input { reads_input task.entry ≡ false → session.new.input ≡ session.old.input }
 {
     let Ok(conn) = Connection::open_in_memory(session.alloc) else {
-        return session.fail(Failure::NoMemory);
+        return session.fail(Failure::OutOfMemory);
     };
     let _conn = run_over(session, conn, task);
 }

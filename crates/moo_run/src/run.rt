@@ -35,10 +35,10 @@ fn put_mistake<'s, S: Streams>(session: &mut Session<'s, S>, error: &clap::Error
 {
     let kind = error.kind();
     if kind == ErrorKind::OutOfMemory {
-        return session.fail(Failure::NoMemory);
+        return session.fail(Failure::OutOfMemory);
     }
     let Ok(text) = error.to_string(session.alloc) else {
-        return session.fail(Failure::NoMemory);
+        return session.fail(Failure::OutOfMemory);
     };
     session.status = put_line(text.as_str(), mistake_status(kind), &mut session.output);
 }

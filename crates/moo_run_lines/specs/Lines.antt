@@ -19,7 +19,7 @@ use Rattle.moo_load.specs.declared.fault.LoadFault.{LoadFault}
 use Rattle.moo_load.specs.declared.fault.LoadFault.TheVariants as load_fault
 use Rattle.moo_run_lines.specs.declared.failure.Failure.{Failure}
 use Rattle.moo_run_lines.specs.declared.failure.Failure.TheVariants.{Usage, NoFile, Store, Damaged, NewerVersion, NotADump, NoBatches}
-use Rattle.moo_run_lines.specs.declared.failure.Failure.TheVariants.{Read, Write, TooLong, Port, NoMemory}
+use Rattle.moo_run_lines.specs.declared.failure.Failure.TheVariants.{Read, Write, TooLong, Port, OutOfMemory}
 
 -- ---- failures
 
@@ -36,7 +36,7 @@ word_of Read = codes "moo: read fault\n"
 word_of Write = []
 word_of TooLong = codes "moo: input too long\n"
 word_of Port = codes "moo: cannot listen\n"
-word_of NoMemory = codes "moo: no memory\n"
+word_of OutOfMemory = codes "moo: no memory\n"
 
 abbrev pub status_of : Failure → ℕ
 status_of Usage = 2
@@ -50,20 +50,20 @@ status_of Read = 1
 status_of Write = 1
 status_of TooLong = 1
 status_of Port = 1
-status_of NoMemory = 4
+status_of OutOfMemory = 4
 
 -- what stops a text, the making or the opening of a world, a dump, or the service, as a failure
 abbrev pub text_failure : TextFault → Failure
 text_failure text_fault.Read = Read
 text_failure text_fault.Write = Write
-text_failure text_fault.OutOfMemory = NoMemory
+text_failure text_fault.OutOfMemory = OutOfMemory
 text_failure text_fault.Long = TooLong
 
 abbrev pub store_failure : StoreFault → Failure
 store_failure (store_fault.Store error) = Store error
 store_failure (store_fault.Damaged kind key) = Damaged kind key
 store_failure store_fault.NewerVersion = NewerVersion
-store_failure store_fault.OutOfMemory = NoMemory
+store_failure store_fault.OutOfMemory = OutOfMemory
 store_failure store_fault.Closed = Store (SqliteFailure code.Closed)
 
 -- The failure tells of this fault of opening. A missing file is told apart, for what is said on standard error.
@@ -73,23 +73,23 @@ Tells fault failure =
 
 abbrev pub dump_failure : DumpFault → Failure
 dump_failure dump_fault.Write = Write
-dump_failure dump_fault.OutOfMemory = NoMemory
+dump_failure dump_fault.OutOfMemory = OutOfMemory
 dump_failure dump_fault.Closed = Store (SqliteFailure code.Closed)
 
 abbrev pub service_failure : ServiceFault → Failure
 service_failure service_fault.Port = Port
 service_failure service_fault.Write = Write
-service_failure service_fault.OutOfMemory = NoMemory
+service_failure service_fault.OutOfMemory = OutOfMemory
 
 abbrev pub read_failure : InputFault → Failure
 read_failure read_fault.Read = Read
 read_failure read_fault.TooLong = TooLong
-read_failure read_fault.OutOfMemory = NoMemory
+read_failure read_fault.OutOfMemory = OutOfMemory
 
 abbrev pub load_failure : LoadFault → Failure
 load_failure (load_fault.NotADump line why) = NotADump line
 load_failure (load_fault.Damaged kind key) = Damaged kind key
-load_failure load_fault.OutOfMemory = NoMemory
+load_failure load_fault.OutOfMemory = OutOfMemory
 
 -- The line is written, and this status answered. Or the writer fails on the way: a front of the line is written, and the status is
 -- that of a failed writer.
@@ -102,10 +102,10 @@ WritesLine line known old new status =
 abbrev pub Reports : Failure → Option (List ℕ) → Option (List ℕ) → ℕ → Type 0
 Reports (Damaged kind key) old new status =
     WritesLine (codes "moo: damaged " ++ (kind_text kind ++ (codes " " ++ (key_text key ++ codes "\n")))) 3 old new status
-    ⊎ WritesLine (word_of NoMemory) (status_of NoMemory) old new status
+    ⊎ WritesLine (word_of OutOfMemory) (status_of OutOfMemory) old new status
 Reports (NotADump line) old new status =
     WritesLine (codes "moo: not a dump, line " ++ (decimal line ++ codes "\n")) 3 old new status
-    ⊎ WritesLine (word_of NoMemory) (status_of NoMemory) old new status
+    ⊎ WritesLine (word_of OutOfMemory) (status_of OutOfMemory) old new status
 Reports failure old new status = WritesLine (word_of failure) (status_of failure) old new status
 
 -- ---- what is done

@@ -37,7 +37,7 @@ pub enum Failure {
     /// The port can't be listened on.
     Port,
     /// Memory ran out.
-    NoMemory,
+    OutOfMemory,
 }
 
 impl Failure {
@@ -55,7 +55,7 @@ impl Failure {
             Failure::Write => "",
             Failure::TooLong => "moo: input too long\n",
             Failure::Port => "moo: cannot listen\n",
-            Failure::NoMemory => "moo: no memory\n",
+            Failure::OutOfMemory => "moo: no memory\n",
         }
     }
 
@@ -74,7 +74,7 @@ impl Failure {
             | Failure::Port => 1,
             Failure::Usage => 2,
             Failure::Damaged(_, _) | Failure::NewerVersion | Failure::NotADump(_) => 3,
-            Failure::NoMemory => 4,
+            Failure::OutOfMemory => 4,
         }
     }
 }
@@ -86,7 +86,7 @@ impl From<TextFault> for Failure {
         match fault {
             TextFault::Read => Failure::Read,
             TextFault::Write => Failure::Write,
-            TextFault::OutOfMemory => Failure::NoMemory,
+            TextFault::OutOfMemory => Failure::OutOfMemory,
             TextFault::Long => Failure::TooLong,
         }
     }
@@ -100,7 +100,7 @@ impl From<StoreFault> for Failure {
             StoreFault::Store(error) => Failure::Store(error),
             StoreFault::Damaged(kind, key) => Failure::Damaged(kind, key),
             StoreFault::NewerVersion => Failure::NewerVersion,
-            StoreFault::OutOfMemory => Failure::NoMemory,
+            StoreFault::OutOfMemory => Failure::OutOfMemory,
             StoreFault::Closed => Failure::Store(Error::SqliteFailure(ErrorCode::Closed)),
         }
     }
@@ -112,7 +112,7 @@ impl From<DumpFault> for Failure {
     fn from(fault: DumpFault) -> Failure {
         match fault {
             DumpFault::Write => Failure::Write,
-            DumpFault::OutOfMemory => Failure::NoMemory,
+            DumpFault::OutOfMemory => Failure::OutOfMemory,
             DumpFault::Closed => Failure::Store(Error::SqliteFailure(ErrorCode::Closed)),
         }
     }
@@ -125,7 +125,7 @@ impl From<ServiceFault> for Failure {
         match fault {
             ServiceFault::Port => Failure::Port,
             ServiceFault::Write => Failure::Write,
-            ServiceFault::OutOfMemory => Failure::NoMemory,
+            ServiceFault::OutOfMemory => Failure::OutOfMemory,
         }
     }
 }
@@ -137,7 +137,7 @@ impl From<InputFault> for Failure {
         match fault {
             InputFault::Read => Failure::Read,
             InputFault::TooLong => Failure::TooLong,
-            InputFault::OutOfMemory => Failure::NoMemory,
+            InputFault::OutOfMemory => Failure::OutOfMemory,
         }
     }
 }
@@ -149,7 +149,7 @@ impl From<LoadFault> for Failure {
         match fault {
             LoadFault::NotADump(line, _) => Failure::NotADump(line),
             LoadFault::Damaged(kind, key) => Failure::Damaged(kind, key),
-            LoadFault::OutOfMemory => Failure::NoMemory,
+            LoadFault::OutOfMemory => Failure::OutOfMemory,
         }
     }
 }

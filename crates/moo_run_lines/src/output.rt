@@ -104,12 +104,16 @@ pub fn explain_lost<C: Eprint>(console: &C, tally: Tally) {
 fn put_made_line<W: Write>(line: Result<String, AllocError>, status: u8, output: &mut W) -> u8
     ensures { MatchResult line
         (λ text. WritesLine text.bytes.items status (W.contents output.old) (W.contents output.new) result)
-        (λ _. WritesLine (word_of Failure.NoMemory) (status_of Failure.NoMemory)
+        (λ _. WritesLine (word_of Failure.OutOfMemory) (status_of Failure.OutOfMemory)
         (W.contents output.old) (W.contents output.new) result) }
 {
     match line {
         Ok(line) => put_line(line.as_str(), status, output),
-        Err(_) => put_line(Failure::NoMemory.word(), Failure::NoMemory.status(), output),
+        Err(_) => put_line(
+            Failure::OutOfMemory.word(),
+            Failure::OutOfMemory.status(),
+            output,
+        ),
     }
 }
 

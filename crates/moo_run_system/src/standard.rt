@@ -47,11 +47,11 @@ fn borrow_words<'a>(alloc: Global, words: &'a [String]) -> Result<Vec<&'a str>, 
 
 /// Why the words can't be read: memory ran out, or one of them isn't UTF-8.
 fn words_failure(error: &io::Error) -> Failure
-    ensures memory { error_kind error.now ≡ ErrorKind.OutOfMemory → result ≡ Failure.NoMemory }
+    ensures memory { error_kind error.now ≡ ErrorKind.OutOfMemory → result ≡ Failure.OutOfMemory }
     ensures other { error_kind error.now ≢ ErrorKind.OutOfMemory → result ≡ Failure.Usage }
 {
     match error.kind() {
-        ErrorKind::OutOfMemory => Failure::NoMemory,
+        ErrorKind::OutOfMemory => Failure::OutOfMemory,
         _ => Failure::Usage,
     }
 }
@@ -69,12 +69,12 @@ pub fn run_given<'s, S: Streams>(
         ReadsFile task path → S.Host.may_read session.old.host path) }
     // The outcome of the words is that of `run_to_end`; or memory runs out before that, and their file isn't opened.
     ensures read { IfOk words (λ words. let run = ⟦<Session<'s, S> as HasRun>⟧.run session.old session.new in
-        (Reports Failure.NoMemory run.before run.after run.status × IsUntouched result × run.given.ports.rests)
+        (Reports Failure.OutOfMemory run.before run.after run.status × IsUntouched result × run.given.ports.rests)
         ⊎ RunsClosed (map string_bytes words.items) (image_at S.File.Start) result run) }
     ensures input { IfOk words (λ words. KeepsInput (map string_bytes words.items) session.old.input session.new.input) }
     // If they can't be read, the line says whether memory ran out, no file is opened, and nothing is asked of the ports or read.
     ensures memory { IfErr words (λ error. error_kind error ≡ ErrorKind.OutOfMemory →
-        Reports Failure.NoMemory (S.Output.contents session.old.output) (S.Output.contents session.new.output) session.new.status) }
+        Reports Failure.OutOfMemory (S.Output.contents session.old.output) (S.Output.contents session.new.output) session.new.status) }
     ensures unread { IfErr words (λ error. error_kind error ≢ ErrorKind.OutOfMemory →
         Reports Failure.Usage (S.Output.contents session.old.output) (S.Output.contents session.new.output) session.new.status) }
     ensures unopened { IfErr words (λ _.
@@ -96,7 +96,7 @@ pub fn run_given<'s, S: Streams>(
         session.status = report(
             session.alloc,
             session.console,
-            Failure::NoMemory,
+            Failure::OutOfMemory,
             &mut session.output,
         );
         return Remains::Untouched(start);

@@ -1,4 +1,4 @@
-use Rattle.moo_run.{proofs.Words.{◌≡◌, inr, refl, IfOk, IfErr, Err, subst, ◌∙◌, NoMemory, StopsIn, state_of_world}, proofs.Tasks.{check_stops, check_tells}}
+use Rattle.moo_run.{proofs.Words.{◌≡◌, inr, refl, IfOk, IfErr, Err, subst, ◌∙◌, OutOfMemory, StopsIn, state_of_world}, proofs.Tasks.{check_stops, check_tells}}
 use Rattle.moo_run.proofs.commands.check.Goals as goal
 use Rattle.std.proofs.lemmas.Result.{err_from_is_err_and}
 use Rattle.std.proofs.KnownBytes.{Appends-nil}
@@ -22,4 +22,4 @@ pub returns-in-Err-clause-checks : goal.returns-in-Err-clause-checks
 returns-in-Err-clause-checks g c m stands =
     let old = g.W.Write.contents c.args.output.now in
     let number : c.in_ok-seq.seq ≡ (state_of_world c.args.world.now).seq = subst (λ r. IfOk r (λ n. c.in_ok-seq.seq ≡ n)) (c.in_ok-seq.ensures.number stands.failed) refl in
-    check_tells g.B.Store c.args.world.now c.check.new.self m stands c.in_ok-objects.objects c.in_ok-seq.seq old old (Err NoMemory) c.in_ok-objects.ensures.moves c.in_ok-objects.ensures.checks number tt (inr refl, 0, Appends-nil old)
+    check_tells g.B.Store c.args.world.now c.check.new.self m stands c.in_ok-objects.objects c.in_ok-seq.seq old old (Err OutOfMemory) c.in_ok-objects.ensures.moves c.in_ok-objects.ensures.checks number tt (inr refl, 0, Appends-nil old)

@@ -1,9 +1,9 @@
-use Rattle.moo_run.{proofs.Words.{inl, inr, NoMemory}, proofs.OverFiles.{never_anew}}
+use Rattle.moo_run.{proofs.Words.{inl, inr, OutOfMemory}, proofs.OverFiles.{never_anew}}
 use Rattle.moo_run.proofs.files.run_in_memory.Goals as goal
 
 pub returns-in_default-clause-runs : goal.returns-in_default-clause-runs
 returns-in_default-clause-runs g c = record {
-  anew = λ anew. inl (c.fail.ensures.host, (NoMemory, inl tt, c.fail.ensures.reports));
+  anew = λ anew. inl (c.fail.ensures.host, (OutOfMemory, inl tt, c.fail.ensures.reports));
   opened = λ other. never_anew c.args.task other c.requires.anew;
 }
 
