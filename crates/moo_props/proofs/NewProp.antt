@@ -63,8 +63,7 @@ module _ (m : LookUps) (sound : AreSound m) (wf : IsWellFormed (world_shown m)) 
   -- ---- slots
 
   first_of_two : (l : List Slot) (o : Option Slot) → slice_get (l ++ cons_option o []) 0 ≡ option_or (slice_get l 0) o
-  first_of_two [] None = refl
-  first_of_two [] (Some k) = refl
+  first_of_two [] o = grind arith
   first_of_two (k ∷ l) o = refl
 
   or_none : (o : Option Slot) → option_or o None ≡ o
@@ -104,8 +103,7 @@ module _ (m : LookUps) (sound : AreSound m) (wf : IsWellFormed (world_shown m)) 
       owner_is = ap (λ o. unwrap_or (option_map (λ (k : WorldObject). k.row.owner) o) nothing) (object_seen m y r e)
 
       by : (u : Bool) → under y ≡ u → (b : Bool) → same_text (folded name) n ≡ b → option_or (old y n) (if b then option_map (slot_seen x) (if u then Some (made y) else None) else None) ≡ (if u then (if b then Some (if same_object x y then s else fresh r.owner s) else old y n) else old y n)
-      by false u true f = or_none (old y n)
-      by false u false f = or_none (old y n)
+      by false u b f = grind (arith, or_none)
       by true u false f = or_none (old y n)
       by true u true f =
           ap (λ o. option_or o (Some (slot_seen x (made y)))) (ap (old y) (sym ((same_text-Decides (folded name) n).0 f)) ∙ none_yet y r e u)

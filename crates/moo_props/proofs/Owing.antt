@@ -1,5 +1,5 @@
 -- What is owed along a list of definers, by the rows of properties.
-use Rattle.moo_props.{proofs.Words.{arith, ◌||◌, ◌≡◌, ℕ, Bool, true, false, Option, None, Some, List, [], ◌∷◌, refl, sym, ap, ◌∙◌, inl, inr, ◌&&◌, is_some, unwrap_or, if◌then◌else◌, option_map, option_and_then, filter_map, list_any, cons_option, AllByRecursion, get, entries, get-entries, false≢true, and_parts, or_cases, or_right, none-some, same_Some, ObjNo, ObjRow, PropId, PropRow, Maps, prop_cmp, prop_exact, prop_total, Name, Property, same_object, same_property, is_among, same_object-Decides, World, WorldObject, Slot, IsWellFormed, is_object, chain, property_names_of, defined_by, defined_by_any, property_named, slot_of, LookUps, IsSound, look_ups, world_of, numbers_below, name_on, prop_id, decided_alike, any-append, no_slot, names_shown, is_object_seen, owed_listed, Chain-chain, chain_of_none, any_map, IsGood, SlotRow, name_of, slot_seen, defines, definer_among, named_owed, cond_some, some_of}, proofs.Cases.{none_of, passing, some_map}, proofs.Gains.{defines_pair}, proofs.Walked.{all_held, any_held, slot_here}}
+use Rattle.moo_props.{proofs.Words.{arith, ◌||◌, ◌≡◌, ℕ, Bool, true, false, Option, None, Some, List, [], ◌∷◌, refl, sym, ap, ◌∙◌, inl, inr, ◌&&◌, is_some, unwrap_or, if◌then◌else◌, option_map, option_and_then, filter_map, list_any, cons_option, AllByRecursion, get, entries, get-entries, false≢true, and_parts, or_cases, or_right, same_Some, ObjNo, ObjRow, PropId, PropRow, Maps, prop_cmp, prop_exact, prop_total, Name, Property, same_object, same_property, is_among, same_object-Decides, World, WorldObject, Slot, IsWellFormed, is_object, chain, property_names_of, defined_by, defined_by_any, property_named, slot_of, LookUps, IsSound, look_ups, world_of, numbers_below, name_on, prop_id, decided_alike, any-append, no_slot, names_shown, is_object_seen, owed_listed, Chain-chain, chain_of_none, any_map, IsGood, SlotRow, name_of, slot_seen, defines, definer_among, named_owed, cond_some, some_of}, proofs.Cases.{none_of, passing, some_map}, proofs.Gains.{defines_pair}, proofs.Walked.{all_held, any_held, slot_here}}
 use Rattle.moo_world.proofs.Inheritance.Keeping.{same_property-is}
 
 -- ---- lists
@@ -7,10 +7,7 @@ use Rattle.moo_world.proofs.Inheritance.Keeping.{same_property-is}
 -- one that passes, of those of which all is said
 one_passing : {A : Type 0} (P : A → Type 0) (test : A → Bool) (l : List A) → AllByRecursion P l → list_any test l ≡ true → (a : A) × P a × (test a ≡ true)
 one_passing {A = A} P test [] h e = absurd (false≢true e)
-one_passing {A = A} P test (x ∷ l) h e = elim (or_cases (test x) (list_any test l) e) [
-  | inl k ↦ (x, h.0, k)
-  | inr k ↦ one_passing P test l h.1 k
-]
+one_passing {A = A} P test (x ∷ l) h e = grind (arith, one_passing P test l)
 
 any_pair : (test : Property → Bool) (l : List Property) (p : Property) → list_any (same_property p) l ≡ true → test p ≡ true → list_any test l ≡ true
 any_pair test [] p h k = absurd (false≢true h)
@@ -41,11 +38,7 @@ module _ (t : Maps) (sound : IsSound t) where
       here = sym (any_map test (λ n. (d, n)) (property_names_of w d)) ∙ h
 
       row : (id : ℕ) (n : Name) → test (d, n) ≡ true → (o : Option PropRow) → m.prop id ≡ o → option_and_then (λ (p : PropRow). if same_object p.definer d then Some p.name else None) o ≡ Some n → (id : ℕ) × (p : PropRow) × (m.prop id ≡ Some p) × (p.definer ≡ d) × (test (p.definer, p.name) ≡ true)
-      row id n k None g e = absurd (none-some n e)
-      row id n k (Some p) g e =
-          let parts = cond_some (same_object p.definer d) p.name n e in
-          let own : p.definer ≡ d = (same_object-Decides p.definer d).0 parts.0 in
-          (id, p, g, own, (λ i. test (own i, parts.1 i)) ∙ k)
+      row id n k o g e = grind (arith, cond_some, same_object-Decides)
 
       by : (o : Option ObjRow) → m.object d ≡ o → (id : ℕ) × (p : PropRow) × (m.prop id ≡ Some p) × (p.definer ≡ d) × (test (p.definer, p.name) ≡ true)
       by None g = absurd (false≢true (sym (ap (λ (o : Option WorldObject). list_any (λ n. test (d, n)) (unwrap_or (option_map (λ r. r.defines) o) [])) (none_of (w.object d) (is_object_seen m d ∙ ap is_some g))) ∙ here))
