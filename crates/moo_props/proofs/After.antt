@@ -104,8 +104,7 @@ module _ (t : Maps) (sound : IsSound t) (x q : ObjNo) (may : MayReparent (world_
           same v g = sym g ∙ h.held
 
           kept : (v : Option SlotRow) → m.slot y id ≡ v → v ≡ Some h.row → slot_of w y n ≡ Some s
-          kept None g k = absurd (none-some h.row k)
-          kept (Some r) g k = seen r g (sym (same_Some r h.row k))
+          kept v g k = grind (arith, seen)
 
           came : (v : Option SlotRow) → m.slot q id ≡ v → is_among h.prop.definer coming ≡ true → option_map (fresh_row (owner_of w y)) v ≡ Some h.row → Some s ≡ option_map (fresh (owner_of w y)) (slot_of w q n)
           came None g c k = absurd (none-some h.row k)
@@ -141,9 +140,7 @@ module _ (t : Maps) (sound : IsSound t) (x q : ObjNo) (may : MayReparent (world_
               at k = tested (is_among k.1.prop.definer coming) refl (is_among k.1.prop.definer going) refl
                 where
                   tested : (g : Bool) → is_among k.1.prop.definer coming ≡ g → (l : Bool) → is_among k.1.prop.definer going ≡ l → None ≡ unless_defined_by going (Some s)
-                  tested g hg true hl = sym (ap (λ b. if b then None else Some s) (ap (λ (z : Slot). is_among z.definer going) k.2 ∙ hl))
-                  tested true hg false hl = let p = gained_named n k.0 k.1.prop k.1.there k.1.name hg in absurd (none-some p.0 (sym ho ∙ p.1))
-                  tested false hg false hl = absurd (not_here k.0 k.1.prop k.1.row k.1.there (settled y k.0 k.1.prop true false false k.1.there hu hg hl ∙ k.1.held) k.1.name)
+                  tested g hg l hl = grind (arith, gained_named n k.0 k.1.prop k.1.there k.1.name, not_here k.0 k.1.prop k.1.row k.1.there, settled y k.0 k.1.prop true false false k.1.there hu, k.2)
 
           by : (u : Bool) → is_among x (chain w y) ≡ u → (o : Option Property) → property_named (defined_by_any w coming) n ≡ o → (v : Option Slot) → slot_of w y n ≡ v → None ≡ (if u then elim o [ Some p ↦ option_map (fresh (owner_of w y)) (slot_of w q n) | None ↦ unless_defined_by going v ] else v)
           by false hu o ho None e = refl

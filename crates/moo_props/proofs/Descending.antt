@@ -126,10 +126,7 @@ module _ (t : Maps) (tree : IsTree (world_of t)) where
         (λ z h. met o z (filter_passes (λ y. is_among x (chain w y)) (objects_of w) z h))
       where
         under : (z : ObjNo) → is_among z (x ∷ descendants w x) ≡ true → is_among x (chain w z) ≡ true
-        under z h = elim (or_cases (same_object z x) (is_among z (descendants w x)) h) [
-          | inl e ↦ ap (λ q. is_among x (chain w q)) ((same_object-Decides z x).0 e) ∙ own_among t tree x o
-          | inr g ↦ met_under (levels_below w x) x z (own_among t tree x o) g
-        ]
+        under z h = grind (arith, or_cases, same_object-Decides, own_among t tree x o, met_under (levels_below w x) x z)
 
         listed : (z : ObjNo) → is_among x (chain w z) ≡ true → is_among z (subtree_of w x) ≡ true
         listed z h = among_filter (λ y. is_among x (chain w y)) (objects_of w) z (object_listed w tree z (is_there t tree x z h)) h

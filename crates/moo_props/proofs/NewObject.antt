@@ -1,5 +1,5 @@
 -- Rows with a new object show the world with that object, and are good ones.
-use Rattle.moo_props.{proofs.Words.{◌||◌, ◌≡◌, ℕ, Bool, true, false, Option, None, Some, [], refl, sym, ap, ◌∙◌, subst, ◌⊎◌, inl, inr, pos, arith, is_some, slice_get, ◌+ℤ◌, if◌then◌else◌, option_map, option_and_then, filter_map, list_any, false≢true, or_cases, ints, ObjNo, ObjRow, PropRow, SlotRow, created, Name, Property, nothing, same_object, same_property, folded, same_object-Decides, World, WorldObject, Slot, IsWellFormed, is_object, chain, defined_by_any, property_named, slot_of, fresh, with_slots, without_slots, LookUps, AreSound, numbers_below, slot_on, object_shown, world_shown, SameButSlots-rebuilt, no_slot, is_object_seen, Chain-chain, chain_of_none, new_row, fresh_row, slots_shown, false_from_ne_true, slice_get-map}, proofs.Shared.{changed, none_of, put_some, some_map, same_by_objects}, proofs.Cases.{none_map}, proofs.Numbers.{no_names, nothing_below}, proofs.NewSlots.{with_new}}
+use Rattle.moo_props.{proofs.Words.{◌||◌, ◌≡◌, ℕ, Bool, true, false, Option, None, Some, [], refl, sym, ap, ◌∙◌, subst, ◌⊎◌, inl, inr, pos, arith, is_some, slice_get, ◌+ℤ◌, if◌then◌else◌, option_map, option_and_then, filter_map, list_any, false≢true, or_cases, ints, ObjNo, ObjRow, PropRow, SlotRow, created, Name, Property, nothing, same_object, same_property, folded, same_object-Decides, World, WorldObject, IsWellFormed, is_object, chain, defined_by_any, property_named, slot_of, fresh, with_slots, without_slots, LookUps, AreSound, numbers_below, slot_on, object_shown, world_shown, SameButSlots-rebuilt, no_slot, is_object_seen, Chain-chain, chain_of_none, new_row, fresh_row, slots_shown, false_from_ne_true, slice_get-map}, proofs.Shared.{changed, none_of, put_some, some_map, same_by_objects}, proofs.Cases.{none_map}, proofs.Numbers.{no_names, nothing_below}, proofs.NewSlots.{with_new}}
 use Rattle.std.specs.Prelude.{◌<ℤ◌}
 use Rattle.moo_world.{specs.Creation.{plain_object, object_added, next_object}, specs.Arguments.{is_number}, specs.World.{has_property, slot_for}, proofs.Inheritance.Creating.{IsWellFormed-created, chain_x, owed_still, owed_x}, proofs.Inheritance.Rebuilding.{slot_of-rebuilt}, proofs.Shown.Slots.{here-slot_on}}
 use Rattle.moo_world.proofs.Ownership.Created.{slot_old}
@@ -76,11 +76,7 @@ module _ (m : LookUps) (sound : AreSound m) (wf : IsWellFormed (world_shown m)) 
   -- ---- the slots of the rebuilt world
 
   owed_none : (n : Name) → property_named (defined_by_any w (chain w q)) n ≡ None → slot_of w q n ≡ None
-  owed_none n e = by (is_object w q) refl
-    where
-      by : (b : Bool) → is_object w q ≡ b → slot_of w q n ≡ None
-      by true h = none_map (λ (k : Slot). k.definer) (slot_of w q n) (wf.slots q (chain w q) n h (Chain-chain w wf.tree q h) ∙ ap (option_map (λ p. p.0)) e)
-      by false h = no_slot (w.object q) n h
+  owed_none n e = grind (arith, none_map, no_slot, wf.slots q (chain w q) n, Chain-chain w wf.tree q)
 
   rebuilt_new : (n : Name) → slot_of (created w x q owner) x n ≡ option_map (fresh owner) (slot_of w q n)
   rebuilt_new n =

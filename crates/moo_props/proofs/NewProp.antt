@@ -54,11 +54,7 @@ module _ (m : LookUps) (sound : AreSound m) (wf : IsWellFormed (world_shown m)) 
       after = names_shown (with_prop m prop) y r e
 
       by : (b : Bool) → same_object x y ≡ b → filter_map (name_on m2 y) (numbers_below (next + 1)) ≡ (if b then filter_map (name_on m y) (numbers_below next) ++ name ∷ [] else filter_map (name_on m y) (numbers_below next))
-      by true f =
-          sym after
-          ∙ subst (λ z. m.object z ≡ Some r → property_names_of (world_shown (with_prop m prop)) z ≡ property_names_of (world_shown m) z ++ name ∷ []) ((same_object-Decides x y).0 f) (λ g. names_with_prop m prop r g) e
-          ∙ ap (λ l. l ++ name ∷ []) (names_shown m y r e)
-      by false f = sym after ∙ other_names_with_prop m prop y r e f ∙ names_shown m y r e
+      by b f = grind (arith, after, (same_object-Decides x y).0, names_with_prop m prop r, other_names_with_prop m prop y r e, names_shown m y r e)
 
   -- ---- slots
 
@@ -103,11 +99,7 @@ module _ (m : LookUps) (sound : AreSound m) (wf : IsWellFormed (world_shown m)) 
       owner_is = ap (λ o. unwrap_or (option_map (λ (k : WorldObject). k.row.owner) o) nothing) (object_seen m y r e)
 
       by : (u : Bool) → under y ≡ u → (b : Bool) → same_text (folded name) n ≡ b → option_or (old y n) (if b then option_map (slot_seen x) (if u then Some (made y) else None) else None) ≡ (if u then (if b then Some (if same_object x y then s else fresh r.owner s) else old y n) else old y n)
-      by false u b f = grind (arith, or_none)
-      by true u false f = or_none (old y n)
-      by true u true f =
-          ap (λ o. option_or o (Some (slot_seen x (made y)))) (ap (old y) (sym ((same_text-Decides (folded name) n).0 f)) ∙ none_yet y r e u)
-          ∙ ap Some (seen y (owner_of w y) (same_object x y) ∙ ap (λ o. if same_object x y then s else fresh o s) owner_is)
+      by u hu b hb = grind (arith, or_none, none_yet y r e, (same_text-Decides (folded name) n).0, seen, owner_is)
 
   -- ---- the world
 

@@ -1,5 +1,5 @@
 -- What is owed along a list of definers, by the rows of properties.
-use Rattle.moo_props.{proofs.Words.{arith, ◌||◌, ◌≡◌, ℕ, Bool, true, false, Option, None, Some, List, [], ◌∷◌, refl, sym, ap, ◌∙◌, inl, inr, ◌&&◌, is_some, unwrap_or, if◌then◌else◌, option_map, option_and_then, filter_map, list_any, cons_option, AllByRecursion, get, entries, get-entries, false≢true, and_parts, or_cases, or_right, same_Some, ObjNo, ObjRow, PropId, PropRow, Maps, prop_cmp, prop_exact, prop_total, Name, Property, same_object, same_property, is_among, same_object-Decides, World, WorldObject, Slot, IsWellFormed, is_object, chain, property_names_of, defined_by, defined_by_any, property_named, slot_of, LookUps, IsSound, look_ups, world_of, numbers_below, name_on, prop_id, decided_alike, any-append, no_slot, names_shown, is_object_seen, owed_listed, Chain-chain, chain_of_none, any_map, IsGood, SlotRow, name_of, slot_seen, defines, definer_among, named_owed, cond_some, some_of}, proofs.Cases.{none_of, passing, some_map}, proofs.Gains.{defines_pair}, proofs.Walked.{all_held, any_held, slot_here}}
+use Rattle.moo_props.{proofs.Words.{arith, ◌||◌, ◌≡◌, ℕ, Bool, true, false, Option, None, Some, List, [], ◌∷◌, refl, sym, ap, ◌∙◌, ◌&&◌, is_some, unwrap_or, if◌then◌else◌, option_map, option_and_then, filter_map, list_any, cons_option, AllByRecursion, get, entries, get-entries, false≢true, and_parts, or_cases, same_Some, ObjNo, ObjRow, PropId, PropRow, Maps, prop_cmp, prop_exact, prop_total, Name, Property, same_object, same_property, is_among, same_object-Decides, World, WorldObject, Slot, IsWellFormed, is_object, chain, property_names_of, defined_by, defined_by_any, property_named, slot_of, LookUps, IsSound, look_ups, world_of, numbers_below, name_on, prop_id, decided_alike, any-append, no_slot, names_shown, is_object_seen, owed_listed, Chain-chain, chain_of_none, any_map, IsGood, SlotRow, name_of, slot_seen, defines, definer_among, named_owed, cond_some, some_of}, proofs.Cases.{none_of, passing, some_map}, proofs.Gains.{defines_pair}, proofs.Walked.{all_held, any_held, slot_here}}
 use Rattle.moo_world.proofs.Inheritance.Keeping.{same_property-is}
 
 -- ---- lists
@@ -48,10 +48,7 @@ module _ (t : Maps) (sound : IsSound t) where
 
   owed_row : (test : Property → Bool) (l : List ObjNo) → list_any test (defined_by_any w l) ≡ true → (id : ℕ) × (p : PropRow) × (m.prop id ≡ Some p) × (is_among p.definer l ≡ true) × (test (p.definer, p.name) ≡ true)
   owed_row test [] h = absurd (false≢true h)
-  owed_row test (d ∷ l) h = elim (or_cases (list_any test (defined_by w d)) (list_any test (defined_by_any w l)) (sym (any-append test (defined_by w d) (defined_by_any w l)) ∙ h)) [
-    | inl k ↦ let a = named_row d test k in (a.0, a.1, a.2, ap (λ b. b || is_among a.1.definer l) ((same_object-Decides a.1.definer d).1 a.3), a.4)
-    | inr k ↦ let a = owed_row test l k in (a.0, a.1, a.2, or_right (same_object a.1.definer d) (is_among a.1.definer l) a.3, a.4)
-  ]
+  owed_row test (d ∷ l) h = grind (arith, any-append test (defined_by w d) (defined_by_any w l), named_row d test, same_object-Decides, owed_row test l)
 
   -- what passes of what is owed, by the rows
   pub any_owed : (test : Property → Bool) (l : List ObjNo) → list_any test (defined_by_any w l) ≡ list_any (λ e. is_among e.1.definer l && test (e.1.definer, e.1.name)) (entries t.props)
@@ -73,9 +70,7 @@ pub has_owed : (w : World) → IsWellFormed w → (x : ObjNo) (n : Name) → is_
 has_owed w wf x n = by (is_object w x) refl
   where
     by : (b : Bool) → is_object w x ≡ b → is_some (slot_of w x n) ≡ is_some (property_named (defined_by_any w (chain w x)) n)
-    by true o =
-        sym (some_map (λ (s : Slot). s.definer) (slot_of w x n)) ∙ ap is_some (wf.slots x (chain w x) n o (Chain-chain w wf.tree x o))
-        ∙ some_map (λ (p : Property). p.0) (property_named (defined_by_any w (chain w x)) n)
+    by true o = grind (arith, some_map, wf.slots x (chain w x) n o (Chain-chain w wf.tree x o))
     by false o = ap is_some (no_slot (w.object x) n o) ∙ sym (ap (λ l. is_some (property_named (defined_by_any w l) n)) (chain_of_none w x o))
 
 -- who defines a slot is in the chain
