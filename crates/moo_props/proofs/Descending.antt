@@ -98,10 +98,7 @@ module _ (t : Maps) (tree : IsTree (world_of t)) where
         let b = in_branch (below n w) z (children_of w y) h in
         let k = listed_child t tree b.0 y b.1 in
         let here : is_among x (chain w b.0) ≡ true = ap (is_among x) (chain_up b.0 y k.0 k.1 k.2) ∙ or_right (same_object x b.0) (is_among x (chain w y)) u in
-        elim (or_cases (same_object z b.0) (is_among z (below n w b.0)) b.2) [
-          | inl e ↦ ap (λ q. is_among x (chain w q)) ((same_object-Decides z b.0).0 e) ∙ here
-          | inr g ↦ met_under n b.0 z here g
-        ]
+        grind (arith, b.2, here, or_cases, (same_object-Decides z b.0).0, met_under n b.0 z here)
 
     -- a child of what is met is met, if there are levels left
     closed : (n : ℕ) (y p z : ObjNo) (r : ObjRow) → get t.objects z ≡ Some r → r.parent ≡ p → is_among p (y ∷ below n w y) ≡ true → depth z ≤ n + depth y → is_among z (below n w y) ≡ true

@@ -1,5 +1,5 @@
 -- What the slots are after they are removed and put one by one.
-use Rattle.moo_props.{proofs.Cases.{cond_again, cond_and, cond_same, cond_twice}, proofs.Folds.{all_change, all_of_change}, proofs.Words.{arith, ◌||◌, ◌≡◌, Bool, cond, Option, None, Some, List, [], ◌∷◌, refl, sym, ap, ◌∙◌, ◌&&◌, is_some, option_map, Decides, eq_by_cmp, list_any, AllByRecursion, FinMap, get, get-insert, get-remove, and_parts, ObjNo, PropId, SlotRow, Held, prop_cmp, slot_cmp, prop_exact, slot_exact, prop_total, slot_total, same_object, same_object-Decides, key-Decides, decided_alike, Origin, slots_moved, origins, fresh_of, slot_removed, slot_put, without_on, with_fresh, fresh_row, ids_for, and-false}}
+use Rattle.moo_props.{proofs.Cases.{cond_again, cond_and, cond_same, cond_twice}, proofs.Folds.{all_change, all_of_change}, proofs.Words.{arith, ◌≡◌, Bool, cond, Option, None, Some, List, [], ◌∷◌, refl, sym, ap, ◌∙◌, ◌&&◌, is_some, option_map, Decides, eq_by_cmp, list_any, AllByRecursion, FinMap, get, get-insert, get-remove, and_parts, ObjNo, PropId, SlotRow, Held, prop_cmp, slot_cmp, prop_exact, slot_exact, prop_total, slot_total, same_object, same_object-Decides, key-Decides, decided_alike, Origin, slots_moved, origins, fresh_of, slot_removed, slot_put, without_on, with_fresh, fresh_row, ids_for, and-false}}
 
 abbrev pub is_id : PropId → PropId → Bool
 is_id j id = eq_by_cmp prop_cmp j id

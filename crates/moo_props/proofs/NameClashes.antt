@@ -1,5 +1,5 @@
 -- Clashes of names, by what each object defines itself.
-use Rattle.moo_props.{proofs.Words.{arith, ◌||◌, ◌≡◌, Bool, true, false, None, Option, Some, List, [], ◌∷◌, ◌++◌, map, refl, sym, ap, ◌∙◌, is_some, unwrap_or, if◌then◌else◌, option_map, option_or, int_eq, filter, find, list_any, entries, is_object, IsGood, PropId, PropRow, Slot, ObjNo, defined_left, Maps, clashes, subtree_of, Name, Property, nothing, same_object, same_text, folded, defines_name, first_to_define, first_to_meet, walk_down, World, IsWellFormed, chain, Chain-chain, chain_of_none, no_slot, property_names_of, defined_by, defined_by_any, definer_of_name, definer_of_slot, property_named, slot_of, shares_property_name, IsSound, world_of, prop_id, any-append, any_map, meets_on}, proofs.Shared.{has_owed}, proofs.DefinedNames.{names_listed}, proofs.Descending.{any_walked}, proofs.Walked.{found_any}, proofs.WholeWalks.{props_all}}
+use Rattle.moo_props.{proofs.Words.{arith, ◌||◌, ◌≡◌, Bool, None, Option, Some, List, [], ◌∷◌, ◌++◌, map, refl, sym, ap, ◌∙◌, is_some, unwrap_or, if◌then◌else◌, option_map, option_or, int_eq, filter, find, list_any, entries, is_object, IsGood, PropId, PropRow, Slot, ObjNo, defined_left, Maps, clashes, subtree_of, Name, Property, nothing, same_object, same_text, folded, defines_name, first_to_define, first_to_meet, walk_down, World, IsWellFormed, chain, Chain-chain, chain_of_none, no_slot, property_names_of, defined_by, defined_by_any, definer_of_name, definer_of_slot, property_named, slot_of, shares_property_name, IsSound, world_of, prop_id, any-append, any_map, meets_on}, proofs.Shared.{has_owed}, proofs.DefinedNames.{names_listed}, proofs.Descending.{any_walked}, proofs.Walked.{found_any}, proofs.WholeWalks.{props_all}}
 use Rattle.std.proofs.lemmas.List.Folds.{find-append}
 
 -- ---- the first that passes
@@ -51,8 +51,7 @@ module _ (w : World) where
     first_above x n = by (is_object w x) refl
       where
         by : (b : Bool) → is_object w x ≡ b → find (λ y. defines_name w y n) (chain w x) ≡ definer_of_slot w x (folded n)
-        by true o = first_defines (chain w x) n ∙ sym (wf.slots x (chain w x) (folded n) o (Chain-chain w wf.tree x o))
-        by false o = ap (find (λ y. defines_name w y n)) (chain_of_none w x o) ∙ sym (ap (option_map (λ (s : Slot). s.definer)) (no_slot (w.object x) (folded n) o))
+        by b o = grind (arith, first_defines (chain w x) n, wf.slots x (chain w x) (folded n), Chain-chain w wf.tree x, chain_of_none w x, no_slot)
 
     -- y defines a name of a slot that new has
     pub meets_by_slots : (new y : ObjNo) → list_any (λ m. is_some (slot_of w new (folded m))) (property_names_of w y) ≡ meets_on w new y

@@ -1,5 +1,5 @@
 -- What is owed along a list of definers, by the rows of properties.
-use Rattle.moo_props.{proofs.Words.{arith, ◌||◌, ◌≡◌, ℕ, Bool, true, false, Option, None, Some, List, [], ◌∷◌, refl, sym, ap, ◌∙◌, ◌&&◌, is_some, unwrap_or, if◌then◌else◌, option_map, option_and_then, filter_map, list_any, cons_option, AllByRecursion, get, entries, get-entries, false≢true, and_parts, or_cases, same_Some, ObjNo, ObjRow, PropId, PropRow, Maps, prop_cmp, prop_exact, prop_total, Name, Property, same_object, same_property, is_among, same_object-Decides, World, WorldObject, Slot, IsWellFormed, is_object, chain, property_names_of, defined_by, defined_by_any, property_named, slot_of, LookUps, IsSound, look_ups, world_of, numbers_below, name_on, prop_id, decided_alike, any-append, no_slot, names_shown, is_object_seen, owed_listed, Chain-chain, chain_of_none, any_map, IsGood, SlotRow, name_of, slot_seen, defines, definer_among, named_owed, cond_some, some_of}, proofs.Cases.{none_of, passing, some_map}, proofs.Gains.{defines_pair}, proofs.Walked.{all_held, any_held, slot_here}}
+use Rattle.moo_props.{proofs.Words.{arith, ◌≡◌, ℕ, Bool, true, false, Option, None, Some, List, [], ◌∷◌, refl, sym, ap, ◌∙◌, ◌&&◌, is_some, unwrap_or, if◌then◌else◌, option_map, option_and_then, filter_map, list_any, cons_option, AllByRecursion, get, entries, get-entries, false≢true, and_parts, or_cases, same_Some, ObjNo, ObjRow, PropId, PropRow, Maps, prop_cmp, prop_exact, prop_total, Name, Property, same_object, same_property, is_among, same_object-Decides, World, WorldObject, Slot, IsWellFormed, is_object, chain, property_names_of, defined_by, defined_by_any, property_named, slot_of, LookUps, IsSound, look_ups, world_of, numbers_below, name_on, prop_id, decided_alike, any-append, no_slot, names_shown, is_object_seen, owed_listed, Chain-chain, chain_of_none, any_map, IsGood, SlotRow, name_of, slot_seen, defines, definer_among, named_owed, cond_some, some_of}, proofs.Cases.{none_of, passing, some_map}, proofs.Gains.{defines_pair}, proofs.Walked.{all_held, any_held, slot_here}}
 use Rattle.moo_world.proofs.Inheritance.Keeping.{same_property-is}
 
 -- ---- lists
