@@ -116,15 +116,7 @@ module _ (t : Maps) (sound : IsSound t) (x q : ObjNo) (may : MayReparent (world_
           definer k = ap (option_map (λ (z : Slot). z.definer)) k ∙ ap (λ (z : Slot). Some z.definer) e
 
           by : (u : Bool) → is_among x (chain w y) ≡ u → (g : Bool) → is_among h.prop.definer coming ≡ g → (l : Bool) → is_among h.prop.definer going ≡ l → (o : Option Property) → property_named (defined_by_any w coming) n ≡ o → Some s ≡ worded u o
-          by false hu g hg l hl o ho = sym (kept (m.slot y id) refl (same _ (settled y id h.prop false g l h.there hu hg hl)))
-          by true hu true hg l hl None ho = let k = gained_named n id h.prop h.there h.name hg in absurd (none-some k.0 (sym ho ∙ k.1))
-          by true hu true hg l hl (Some p) ho = came (m.slot q id) refl hg (same _ (settled y id h.prop true true l h.there hu hg hl))
-          by true hu false hg true hl o ho = absurd (none-some h.row (same _ (settled y id h.prop true false true h.there hu hg hl)))
-          by true hu false hg false hl o ho = rest (kept (m.slot y id) refl (same _ (settled y id h.prop true false false h.there hu hg hl))) o ho
-            where
-              rest : slot_of w y n ≡ Some s → (o : Option Property) → property_named (defined_by_any w coming) n ≡ o → Some s ≡ worded true o
-              rest k (Some p) g = absurd (no_both y yo hu n h.prop.definer p (definer k) hl g)
-              rest k None g = sym (ap (unless_defined_by going) k ∙ ap (λ b. if b then None else Some s) (ap (λ (z : Slot). is_among z.definer going) e ∙ hl))
+          by u hu g hg l hl o ho = grind (arith, settled y id h.prop u g l h.there hu hg hl, h.held, kept (m.slot y id) refl, came (m.slot q id) refl, gained_named n id h.prop h.there h.name, no_both y yo, definer, ap (λ (z : Slot). is_among z.definer going) e)
 
       -- and where the rows have none it has none
       lacked : slot_of (world_of t2) y n ≡ None → None ≡ worded (is_among x (chain w y)) (property_named (defined_by_any w coming) n)

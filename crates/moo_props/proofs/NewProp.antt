@@ -131,8 +131,7 @@ module _ (m : LookUps) (sound : AreSound m) (wf : IsWellFormed (world_shown m)) 
   origin y j h = grind (arith, eqb-true)
 
   rows_of : (y : ObjNo) (j : ℕ) → Origin y j → (is_some (m.object y) ≡ true) × (is_some (m2.prop j) ≡ true)
-  rows_of y j (new e u) = (there y u, ap (λ k. is_some (if eqb k next then Some prop else m.prop k)) e ∙ ap (λ b. is_some (if b then Some prop else m.prop next)) is_next)
-  rows_of y j (before_it h) = let r = sound.slots y j h in (r.0, put_some (eqb j next) prop (m.prop j) r.1)
+  rows_of y j o = grind (arith, there, put_some, is_next, sound.slots y j)
 
   -- the property of an old slot is an old one
   old_prop : (y : ObjNo) (j : ℕ) (p : PropRow) → is_some (m.slot y j) ≡ true → m2.prop j ≡ Some p → m.prop j ≡ Some p

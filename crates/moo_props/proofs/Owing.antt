@@ -1,5 +1,5 @@
 -- What is owed along a list of definers, by the rows of properties.
-use Rattle.moo_props.{proofs.Words.{arith, ◌≡◌, ℕ, Bool, true, false, Option, None, Some, List, [], ◌∷◌, refl, sym, ap, ◌∙◌, ◌&&◌, is_some, unwrap_or, if◌then◌else◌, option_map, option_and_then, filter_map, list_any, cons_option, AllByRecursion, get, entries, get-entries, false≢true, and_parts, or_cases, same_Some, ObjNo, ObjRow, PropId, PropRow, Maps, prop_cmp, prop_exact, prop_total, Name, Property, same_object, same_property, is_among, same_object-Decides, World, WorldObject, Slot, IsWellFormed, is_object, chain, property_names_of, defined_by, defined_by_any, property_named, slot_of, LookUps, IsSound, look_ups, world_of, numbers_below, name_on, prop_id, decided_alike, any-append, no_slot, names_shown, is_object_seen, owed_listed, Chain-chain, chain_of_none, any_map, IsGood, SlotRow, name_of, slot_seen, defines, definer_among, named_owed, cond_some, some_of}, proofs.Cases.{none_of, passing, some_map}, proofs.Gains.{defines_pair}, proofs.Walked.{all_held, any_held, slot_here}}
+use Rattle.moo_props.{proofs.Words.{arith, ◌≡◌, ℕ, Bool, true, false, Option, None, Some, List, [], ◌∷◌, refl, sym, ap, ◌∙◌, ◌&&◌, is_some, unwrap_or, if◌then◌else◌, option_map, option_and_then, filter_map, list_any, AllByRecursion, get, entries, get-entries, false≢true, and_parts, or_cases, same_Some, ObjNo, ObjRow, PropId, PropRow, Maps, prop_cmp, prop_exact, prop_total, Name, Property, same_object, same_property, is_among, same_object-Decides, World, WorldObject, Slot, IsWellFormed, is_object, chain, property_names_of, defined_by, defined_by_any, property_named, slot_of, LookUps, IsSound, look_ups, world_of, numbers_below, name_on, prop_id, decided_alike, any-append, no_slot, names_shown, is_object_seen, owed_listed, Chain-chain, chain_of_none, any_map, IsGood, SlotRow, name_of, slot_seen, defines, definer_among, named_owed, cond_some, some_of}, proofs.Cases.{none_of, passing, some_map}, proofs.Gains.{defines_pair}, proofs.Walked.{all_held, any_held, slot_here}}
 use Rattle.moo_world.proofs.Inheritance.Keeping.{same_property-is}
 
 -- ---- lists
@@ -15,10 +15,7 @@ any_pair test (y ∷ l) p h k = grind (arith, same_property-is p y, any_pair tes
 
 any_number : {X : Type 0} (h : ℕ → Option X) (test : X → Bool) (l : List ℕ) → list_any test (filter_map h l) ≡ true → (k : ℕ) × (v : X) × (h k ≡ Some v) × (test v ≡ true)
 any_number h test [] e = absurd (false≢true e)
-any_number {X} h test (k ∷ l) e = by (h k) refl e (any_number h test l)
-  where
-    by : (o : Option X) → h k ≡ o → list_any test (cons_option o (filter_map h l)) ≡ true → (list_any test (filter_map h l) ≡ true → (k : ℕ) × (v : X) × (h k ≡ Some v) × (test v ≡ true)) → (k : ℕ) × (v : X) × (h k ≡ Some v) × (test v ≡ true)
-    by b g e r = grind (arith, or_cases)
+any_number {X} h test (k ∷ l) e = grind (arith, or_cases, any_number h test l)
 
 module _ (t : Maps) (sound : IsSound t) where
   abbrev m : LookUps
