@@ -1,5 +1,5 @@
 -- Rows with a new property show the world with it, and are sound.
-use Rattle.moo_props.{proofs.Words.{◌≡◌, ℕ, ◌+◌, ◌<◌, Bool, true, false, eqb, Option, None, Some, List, [], ◌∷◌, ◌++◌, refl, sym, ap, ◌∙◌, subst, arith, ◌&&◌, is_some, unwrap_or, slice_get, if◌then◌else◌, option_map, option_and_then, option_or, filter_map, cons_option, eqb-true, eq-eqb, filter_map-append, none-some, same_Some, ObjNo, Value, ObjRow, PropRow, SlotRow, Set, clashes, property_added, Name, nothing, same_object, same_text, folded, is_among, same_object-Decides, same_text-Decides, World, WorldObject, Slot, IsWellFormed, is_object, is_property_name, chain, owner_of, property_names_of, fresh, slot_fits, LookUps, AreSound, numbers_below, name_on, slot_on, slot_seen, object_shown, world_shown, names_shown, is_object_seen, object_seen, Chain-chain, fresh_of, some_of, slots_shown, ne_eqb}, proofs.Shared.{has_owed, none_of, object_of_chain, put_some, same_below, seen_at}}
+use Rattle.moo_props.{proofs.Words.{slot_shown, ◌≡◌, ℕ, ◌+◌, ◌<◌, Bool, true, false, eqb, Option, None, Some, List, [], ◌∷◌, ◌++◌, refl, sym, ap, ◌∙◌, subst, arith, ◌&&◌, is_some, unwrap_or, slice_get, if◌then◌else◌, option_map, option_and_then, option_or, filter_map, cons_option, eqb-true, eq-eqb, filter_map-append, same_Some, ObjNo, Value, ObjRow, PropRow, SlotRow, Set, clashes, property_added, Name, nothing, same_object, same_text, folded, is_among, same_object-Decides, same_text-Decides, World, WorldObject, Slot, IsWellFormed, is_object, is_property_name, chain, owner_of, property_names_of, fresh, slot_fits, LookUps, AreSound, numbers_below, name_on, slot_on, slot_seen, object_shown, world_shown, names_shown, is_object_seen, object_seen, Chain-chain, fresh_of, some_of, slots_shown, ne_eqb}, proofs.Shared.{has_owed, none_of, object_of_chain, put_some, same_below}}
 use Rattle.std.proofs.Common.{add-one}
 use Rattle.moo_rows.specs.declared.row.Bits.{Bits}
 use Rattle.moo_world.{proofs.Shown.RowLaws.{with_prop, names_with_prop, other_names_with_prop}, proofs.Inheritance.Insertion.{IsWellFormed-property_added, none_owed}}
@@ -141,11 +141,7 @@ module _ (m : LookUps) (sound : AreSound m) (wf : IsWellFormed (world_shown m)) 
   new_prop j p e f = same_Some prop p (sym (ap (λ k. if eqb k next then Some prop else m.prop k) e ∙ ap (λ b. if b then Some prop else m.prop next) is_next) ∙ f)
 
   clash : (y : ObjNo) (j : ℕ) (r : PropRow) → under y ≡ true → is_some (m.slot y j) ≡ true → m.prop j ≡ Some r → folded name ≡ folded r.name → ⊥
-  clash y j r u h e n =
-      let k = some_of (m.slot y j) h in
-      let o = some_of (m.object y) (sound.slots y j h).0 in
-      let found = seen_at m sound y (folded name) j (record { prop = r; row = k.0; there = e; held = k.1; name = sym n }) in
-      none-some (slot_seen r.definer k.0) (sym (none_yet y o.0 o.1 u) ∙ sym (slots_shown m y (folded name) o.0 o.1) ∙ found)
+  clash y j r u h e n = grind (arith, some_of, slot_shown, slots_shown m y (folded name), none_yet y, sound.slots y j h)
 
   one_name : (y : ObjNo) (i j : ℕ) (p r : PropRow) → Origin y i → Origin y j → m2.prop i ≡ Some p → m2.prop j ≡ Some r → folded p.name ≡ folded r.name → i ≡ j
   one_name y i j p r b o g h n = grind (arith, old_prop, clash, new_prop)

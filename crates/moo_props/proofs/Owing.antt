@@ -1,5 +1,5 @@
 -- What is owed along a list of definers, by the rows of properties.
-use Rattle.moo_props.{proofs.Words.{arith, ◌≡◌, ℕ, Bool, true, false, Option, None, Some, List, [], ◌∷◌, refl, sym, ap, ◌∙◌, ◌&&◌, is_some, unwrap_or, if◌then◌else◌, option_map, option_and_then, filter_map, list_any, AllByRecursion, get, entries, get-entries, false≢true, and_parts, or_cases, same_Some, ObjNo, ObjRow, PropId, PropRow, Maps, prop_cmp, prop_exact, prop_total, Name, Property, same_object, same_property, is_among, same_object-Decides, World, WorldObject, Slot, IsWellFormed, is_object, chain, property_names_of, defined_by, defined_by_any, property_named, slot_of, LookUps, IsSound, look_ups, world_of, numbers_below, name_on, prop_id, decided_alike, any-append, no_slot, names_shown, is_object_seen, owed_listed, Chain-chain, chain_of_none, any_map, IsGood, SlotRow, name_of, slot_seen, defines, definer_among, named_owed, cond_some, some_of}, proofs.Cases.{none_of, passing, some_map}, proofs.Gains.{defines_pair}, proofs.Walked.{all_held, any_held, slot_here}}
+use Rattle.moo_props.{proofs.Words.{arith, ◌≡◌, ℕ, Bool, true, false, Option, None, Some, List, [], ◌∷◌, refl, sym, ap, ◌∙◌, ◌&&◌, is_some, unwrap_or, if◌then◌else◌, option_map, option_and_then, filter_map, list_any, AllByRecursion, get, entries, get-entries, false≢true, and_parts, or_cases, ObjNo, ObjRow, PropId, PropRow, Maps, prop_cmp, prop_exact, prop_total, Name, Property, same_object, same_property, is_among, same_object-Decides, World, WorldObject, Slot, IsWellFormed, is_object, chain, property_names_of, defined_by, defined_by_any, property_named, slot_of, LookUps, IsSound, look_ups, world_of, numbers_below, name_on, prop_id, decided_alike, any-append, no_slot, names_shown, is_object_seen, owed_listed, Chain-chain, chain_of_none, any_map, IsGood, SlotRow, name_of, slot_seen, defines, definer_among, named_owed, cond_some}, proofs.Cases.{none_of, passing, some_map}, proofs.Gains.{defines_pair}, proofs.Walked.{all_held, any_held, slot_here}}
 use Rattle.moo_world.proofs.Inheritance.Keeping.{same_property-is}
 
 -- ---- lists
@@ -72,12 +72,7 @@ has_owed w wf x n = by (is_object w x) refl
 
 -- who defines a slot is in the chain
 pub definer_in : (w : World) → IsWellFormed w → (z : ObjNo) → is_object w z ≡ true → (n : Name) (s : Slot) → slot_of w z n ≡ Some s → is_among s.definer (chain w z) ≡ true
-definer_in w wf z zo n s e =
-    let owed = property_named (defined_by_any w (chain w z)) n in
-    let definer : Some s.definer ≡ option_map (λ (p : Property). p.0) owed = sym (ap (option_map (λ (s : Slot). s.definer)) e) ∙ wf.slots z (chain w z) n zo (Chain-chain w wf.tree z zo) in
-    let p = some_of owed (sym (some_map (λ (p : Property). p.0) owed) ∙ ap is_some (sym definer)) in
-    ap (λ d. is_among d (chain w z)) (same_Some s.definer p.0.0 (definer ∙ ap (option_map (λ (p : Property). p.0)) p.1))
-    ∙ (definer_among w p.0 (chain w z) (named_owed w (chain w z) n p.0 p.1)).0
+definer_in w wf z zo n s e = grind (arith, wf.slots z (chain w z) n zo (Chain-chain w wf.tree z zo), definer_among w, named_owed w (chain w z) n)
 
 -- so an object with a slot of a property that x defines is under x
 pub own_under : (t : Maps) → IsGood t → (x z : ObjNo) (j : PropId) (k : SlotRow) → get t.slots (z, j) ≡ Some k → defines t x j ≡ true → is_among x (chain (world_of t) z) ≡ true
