@@ -1,15 +1,12 @@
 -- With good rows nothing is wrong.
-use Rattle.moo_damage.{proofs.Words.{◌≡◌, ℕ, ◌<◌, ℤ, pos, Bool, true, false, ◌||◌, ◌&&◌, Option, None, Some, List, [], ◌∷◌, refl, sym, ap, ◌∙◌, subst, inl, inr, arith, ◌≤ℤ◌, int_lt, nat_lt, nat_le, not, is_some, unwrap_or, option_map, get, entries, false≢true, and_parts, or_cases, nat_tests, ints, none-some, same_Some, ObjNo, ObjRow, PropId, PropRow, SlotRow, Clear, Maps, Property, same_object, same_text, folded, is_among, same_object-Decides, same_text-Decides, IsGood, look_ups, world_of, world_shown, prop_id, World, Climbs, Chain, is_object, chain, defined_by_any, property_named, some_of, is_object_seen, Chain-chain, nothing_is_no_object, entries_held, is_clear, share_name, is_double, is_owed, IsClean, defines, Set, slot_seen, named_owed, definer_among, slot_shown, slot_on_heir}, proofs.Apart.{one_passing}, proofs.Good.{parents_seen, places_seen}, proofs.Chained.{chain_object}}
+use Rattle.moo_damage.{proofs.Words.{◌≡◌, ℕ, ◌<◌, ℤ, pos, Bool, true, false, ◌||◌, ◌&&◌, Some, refl, sym, ap, ◌∙◌, subst, arith, ◌≤ℤ◌, int_lt, nat_le, not, is_some, unwrap_or, option_map, get, nat_tests, ints, ObjNo, ObjRow, PropId, PropRow, SlotRow, Clear, Maps, same_object, folded, is_among, same_object-Decides, IsGood, look_ups, world_of, world_shown, prop_id, World, Climbs, is_object, chain, some_of, is_object_seen, is_clear, is_owed, IsClean, defines, Set, slot_seen, slot_shown, slot_on_heir}, proofs.Good.{parents_seen, places_seen}, proofs.Chained.{chain_object}}
 use Rattle.moo_rows.specs.declared.row.SlotState.{SlotState}
-use Rattle.moo_world.specs.World.{Slot}
+use Rattle.moo_tree.proofs.Searching.{own_among}
+use Rattle.moo_props.proofs.Owing.{definer_in}
+use Rattle.moo_damage.proofs.Nearby.{not_double}
 
 not_past : (x top : ℤ) → (pos 0 ≤ℤ x) × (x ≤ℤ top) → (int_lt x (pos 0) || int_lt top x) ≡ false
-not_past x top h = by (int_lt x (pos 0)) refl (int_lt top x) refl
-  where
-    by : (a : Bool) → int_lt x (pos 0) ≡ a → (b : Bool) → int_lt top x ≡ b → (a || b) ≡ false
-    by true e b k = absurd (omega (arith, ints, h.0, e))
-    by false e true k = absurd (omega (arith, ints, h.1, k))
-    by false e false k = refl
+not_past x top h = grind (arith, ints, h.0, h.1)
 
 below : (n next : ℕ) → n < next → nat_le next n ≡ false
 below n next l = grind (arith, nat_tests)
@@ -33,43 +30,13 @@ module _ (m : Maps) (g : IsGood m) where
       let o : is_object w x ≡ true = is_object_seen (look_ups m) x ∙ k.0 in
       let r = some_of (get m.objects x) k.0 in
       let shown = slot_shown (look_ups m) g.sound x r.0 r.1 id p.0 s p.1 e in
-      let is : Some p.0.definer ≡ option_map (λ q. q.0) (property_named (defined_by_any w (chain w x)) (folded p.0.name)) = sym (ap (option_map (λ (z : Slot). z.definer)) shown) ∙ g.formed.slots x (chain w x) (folded p.0.name) o (Chain-chain w g.formed.tree x o) in
-      (p.0, p.1, found p.0 (property_named (defined_by_any w (chain w x)) (folded p.0.name)) refl is)
-    where
-      found : (p : PropRow) (o : Option Property) → property_named (defined_by_any w (chain w x)) (folded p.name) ≡ o → Some p.definer ≡ option_map (λ q. q.0) o → is_among p.definer (chain w x) ≡ true
-      found p None h k = absurd (none-some p.definer (sym k))
-      found p (Some q) h k =
-          let among = (definer_among w q (chain w x) (named_owed w (chain w x) (folded p.name) q h)).0 in
-          ap (λ z. is_among z (chain w x)) (same_Some p.definer q.0 k) ∙ among
+      (p.0, p.1, definer_in w g.formed x o (folded p.0.name) (slot_seen p.0.definer s) shown)
 
   -- two properties of one name that are owed to one object are one
   one_owed : (x : ObjNo) (i j : ℕ) (p q : PropRow) → get m.props (prop_id i) ≡ Some p → get m.props (prop_id j) ≡ Some q → is_among p.definer (chain w x) ≡ true → is_among q.definer (chain w x) ≡ true → folded p.name ≡ folded q.name → i ≡ j
   one_owed x i j p q e f a b n =
       let o = chain_object w x p.definer a in
       g.sound.one_name x i j p q (slot_on_heir m g.sound g.formed x o i p e a) (slot_on_heir m g.sound g.formed x o j q f b) e f n
-
-  own : (d : ObjNo) → is_object w d ≡ true → is_among d (chain w d) ≡ true
-  own d o = by (chain w d) (Chain-chain w g.formed.tree d o)
-    where
-      by : (l : List ObjNo) → Chain w d l → is_among d l ≡ true
-      by [] c = absurd (false≢true (sym (nothing_is_no_object w g.formed.tree) ∙ sym (ap (is_object w) c) ∙ o))
-      by (y ∷ l) c = ap (λ b. b || is_among d l) ((same_object-Decides d y).1 c.0)
-
-  not_double : (id : PropId) (p : PropRow) → get m.props id ≡ Some p → (b : Bool) → is_double m id p ≡ b → b ≡ false
-  not_double id p e false h = refl
-  not_double id p e true h =
-      let k = one_passing (λ e. get m.props e.0 ≡ Some e.1) (λ e. nat_lt e.0.0 id.0 && share_name w p e.1) (entries m.props) (entries_held m g.sound) h in
-      let parts = and_parts (nat_lt k.0.0.0 id.0) (share_name w p k.0.1) k.2 in
-      let more = and_parts (same_text (folded p.name) (folded k.0.1.name)) (is_among k.0.1.definer (chain w p.definer) || is_among p.definer (chain w k.0.1.definer)) parts.1 in
-      let names = (same_text-Decides (folded p.name) (folded k.0.1.name)).0 more.0 in
-      let here : is_object w p.definer ≡ true = is_object_seen (look_ups m) p.definer ∙ g.sound.definers id.0 p e in
-      let there : is_object w k.0.1.definer ≡ true = is_object_seen (look_ups m) k.0.1.definer ∙ g.sound.definers k.0.0.0 k.0.1 k.1 in
-      let one : id.0 ≡ k.0.0.0 = elim (or_cases (is_among k.0.1.definer (chain w p.definer)) (is_among p.definer (chain w k.0.1.definer)) more.1) [
-        | inl a ↦ one_owed p.definer id.0 k.0.0.0 p k.0.1 e k.1 (own p.definer here) a names
-        | inr a ↦ one_owed k.0.1.definer id.0 k.0.0.0 p k.0.1 e k.1 a (own k.0.1.definer there) names
-      ] in
-      let less : k.0.0.0 < id.0 = grind (arith, nat_tests, parts.0) in
-      absurd (omega (arith, one, less))
 
   owed_true : (key : ObjNo × PropId) (s : SlotRow) → get m.slots key ≡ Some s → is_owed m key ≡ true
   owed_true key s e = let k = among_chain key.0 key.1.0 s e in ap (λ o. unwrap_or (option_map (λ (p : PropRow). is_among p.definer (chain w key.0)) o) false) k.1 ∙ k.2
@@ -101,7 +68,7 @@ module _ (m : Maps) (g : IsGood m) where
     locations = λ x row e. let c = g.formed.tree.locations x (object_there x row e) in (c.0, subst (λ link. Climbs link x c.0) (places_seen m) c.1);
     props = record {
       definers = λ id p e. ap not (is_object_seen (look_ups m) p.definer ∙ g.sound.definers id.0 p e);
-      names = λ id p e. not_double id p e (is_double m id p) refl;
+      names = not_double m (λ i j p q e f b n. one_owed p.definer i.0 j.0 p q e f (own_among m g.formed.tree p.definer (is_object_seen (look_ups m) p.definer ∙ g.sound.definers i.0 p e)) b n);
     };
     slots = record {
       owed = λ key s e. ap not (owed_true key s e);

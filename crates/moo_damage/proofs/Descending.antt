@@ -1,6 +1,6 @@
 -- If each link goes to nothing, or to an object that has a lesser number or ends the chain, each chain ends.
-use Rattle.moo_damage.{proofs.Words.{◌≡◌, Bool, true, false, ◌||◌, Option, None, Some, Ordering, Equal, Greater, is_lt, false≢true, or_cases, unwrap_or, option_map, nothing, same_object, same_object-Decides, List, [], ◌∷◌, Less, refl, sym, ap, ◌∙◌, subst, inl, inr, ⊤, T, AllByRecursion, eq_by_cmp, is_eq, get, find, entries, get-entries, is_sorted, entries_sorted, key-Decides, none-some, ObjNo, ObjRow, Maps, object_cmp, object_exact, object_total, TreeLink, link_of, HasEnd, LinksHold, LinksDescend}, proofs.Ending.{step_up}, proofs.Firsts.{none_below, held_entries}}
-use Rattle.moo_rows.proofs.Walking.{first_of, second_of, elsewhere}
+use Rattle.moo_damage.{proofs.Words.{◌≡◌, Bool, true, false, ◌||◌, Option, None, Some, Ordering, Equal, Greater, is_lt, false≢true, or_cases, unwrap_or, option_map, nothing, same_object, same_object-Decides, List, [], ◌∷◌, Less, refl, sym, ap, ◌∙◌, subst, inl, inr, ⊤, T, AllByRecursion, eq_by_cmp, is_eq, get, find, entries, get-entries, is_sorted, entries_sorted, key-Decides, none-some, ObjNo, ObjRow, Maps, object_cmp, object_exact, object_total, TreeLink, link_of, HasEnd, LinksHold, LinksDescend}, proofs.Ending.{step_up}, proofs.Firsts.{held_entries}}
+use Rattle.moo_rows.proofs.Walking.{below, elsewhere, first_of, second_of}
 
 less_of : (o : Ordering) → is_lt o ≡ true → o ≡ Less
 less_of Less e = refl
@@ -33,7 +33,7 @@ module _ (link : TreeLink) (m : Maps) (holds : LinksHold link m) (down : LinksDe
   one_more x es s there before k r e none = by (eq_by_cmp object_cmp k x.0) refl
     where
       lesser : (y : ObjNo) (r : ObjRow) → object_cmp y x.0 ≡ Less → get m.objects y ≡ Some r → HasEnd link m y
-      lesser y r less e = before y r e (elsewhere object_cmp y x es (ap is_eq less) ∙ none_below (λ _ _. ⊤) (λ _ _. ⊤) object_cmp object_total object_exact y x.0 es less (first_of _ _ s))
+      lesser y r less e = before y r e (elsewhere object_cmp y x es (ap is_eq less) ∙ below object_cmp object_total y x.0 es less (first_of _ _ s))
 
       by : (b : Bool) → eq_by_cmp object_cmp k x.0 ≡ b → HasEnd link m k
       by true h = subst (HasEnd link m) (sym ((key-Decides object_cmp object_total object_exact k x.0).0 h)) (ends_next x.0 x.1 there lesser)

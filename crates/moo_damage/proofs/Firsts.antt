@@ -4,7 +4,7 @@ use Rattle.moo_damage.proofs.Apart.{one_passing}
 use Rattle.moo_damage.specs.First.{MaySay, SaysOfRow}
 use denote.Ref.{Bor}
 use Rattle.std.{specs.FinMap.Entries.{below_all}, specs.Fn.{Shared}}
-use Rattle.moo_rows.proofs.Walking.{first_of, second_of, less_of, elsewhere, here}
+use Rattle.moo_rows.proofs.Walking.{below, first_of, second_of, less_of, elsewhere, here}
 
 -- the first bad one of a list of entries, each one before it being right; None if each is right
 abbrev pub FirstIn : {K X : Type 0} → (right bad : K → X → Type 0) → List (K × X) → Option K → Type 0
@@ -29,10 +29,6 @@ module _ {K X : Type 0} (right bad : K → X → Type 0) where
         by true h g rec = subst (λ v. right k v) (same_Some x.1 r g) (subst (λ j. right j x.1) (sym ((key-Decides cmp total exact k x.0).0 h)) f.0)
         by false h g rec = rec g
 
-    pub none_below : (k x : K) (es : List (K × X)) → cmp k x ≡ Less → T (below_all cmp x es) → find cmp k es ≡ None
-    none_below k x [] l h = refl
-    none_below k x (e ∷ es) l h = elsewhere cmp k e es (ap is_eq (total.trans k x e.0 l (less_of _ (first_of _ _ h)))) ∙ none_below k x es l (second_of _ _ h)
-
     above_first : (x k : K) (r : X) (es : List (K × X)) → T (below_all cmp x es) → find cmp k es ≡ Some r → cmp x k ≡ Less
     above_first x k r [] h e = absurd (none-some r e)
     above_first x k r (y ∷ es) h e = by (eq_by_cmp cmp k y.0) refl e (above_first x k r es (second_of _ _ h))
@@ -52,7 +48,7 @@ module _ {K X : Type 0} (right bad : K → X → Type 0) where
           x.1,
           here cmp x.0 x es (ap is_eq (tied_itself total x.0)),
           f.0,
-          λ k r l e. absurd (none-some r (sym (elsewhere cmp k x es (ap is_eq l) ∙ none_below k x.0 es l (first_of _ _ s)) ∙ e)),
+          λ k r l e. absurd (none-some r (sym (elsewhere cmp k x es (ap is_eq l) ∙ below cmp total k x.0 es l (first_of _ _ s)) ∙ e)),
         )
     found_at (x ∷ es) s key (inl f) = more (found_at es (second_of _ _ s) key f.1)
       where

@@ -1,6 +1,9 @@
 -- Rows within the limits that nothing is wrong with are sound, their world is well formed, and petitions stand as they may.
 use Rattle.moo_damage.{proofs.Words.{◌≡◌, ◌≢◌, ℕ, ◌<◌, ◌≤◌, ℤ, pos, negsuc, Bool, true, false, ◌||◌, ◌&&◌, Option, None, Some, List, [], ◌∷◌, refl, sym, ap, ◌∙◌, subst, ◌⊎◌, inl, inr, arith, ◌≤ℤ◌, int_lt, nat_lt, nat_le, not, is_some, unwrap_or, if◌then◌else◌, option_map, filter_map, list_any, list_all, IsDistinct, AllByRecursion, get, entries, get-entries, false≢true, both_ways, and_parts, or_parts, or_cases, or_left, or_right, cases_lt, nat_tests, ints, none-some, same_Some, ObjNo, ObjRow, PropRow, SlotRow, Clear, prop_exact, Maps, prop_cmp, prop_total, Name, Property, nothing, same_object, same_text, folded, is_among, same_object-Decides, same_text-Decides, IsGood, look_ups, world_of, world_shown, numbers_below, prop_id, World, Climbs, IsTree, Chain, is_object, parent_of, chain, defined_by_any, property_named, Climbs-once, some_of, is_object_seen, chain_is, Chain-chain, no_parent, entries_held, any_held, TreeLink, Parent, Location, is_clear, next_of, link_of, share_name, is_double, is_clear_definer, is_lost, LinksEnd, LinksHold, IsClean, option_and_then, LookUps, AreSound, object_shown, name_on, verb_id, WorldObject, KeepsLimits, NamesDiffer, location_of, property_names_of, defined_by, slot_of, slot_fits, row_fits, verb_fits, is_property_name, without_slots, named_so, found_among, names_shown, defines_pair, any_owed, NumbersGiven}, specs.Limits.{AreWithin}, proofs.Apart.{both_true, all_map, none_any, one_passing, all_made, distinct_append, all_numbers, distinct_numbers, distinct_mapped}, proofs.Chained.{chain_object, not_false}}
 use Rattle.moo_world.{specs.Petitions.{PetitionsStand}, specs.World.{Slot}, proofs.Inheritance.Keeping.{named_is}, proofs.Shown.Slots.{SlotHere, slot_from, no_slot_from}, proofs.Ancestry.Subtrees.{owed_listed}}
+use Rattle.moo_tree.proofs.Searching.{a_row}
+use Rattle.moo_props.proofs.Cases.{no_value, passing}
+use Rattle.moo_world.proofs.Ownership.Kept.{slotted}
 
 or_swap : (a b : Bool) → (a || b) ≡ true → (b || a) ≡ true
 or_swap a b e = elim (or_cases a b e) [ inl k ↦ or_right b a k | inr k ↦ or_left b a k ]
@@ -22,16 +25,14 @@ unfolding world_shown
 parents_seen m = λ i x. by x (get m.objects x) i
   where
     by : (x : ObjNo) (o : Option ObjRow) → option_map (λ (r : WorldObject). r.row.parent) (option_map (object_shown (look_ups m) x) o) ≡ option_map (link_of Parent) o
-    by x None = refl
-    by x (Some row) = refl
+    by x o = grind arith
 
 pub places_seen : (m : Maps) → location_of (world_of m) ≡ next_of Location m
 unfolding world_shown
 places_seen m = λ i x. by x (get m.objects x) i
   where
     by : (x : ObjNo) (o : Option ObjRow) → option_map (λ (r : WorldObject). r.row.location) (option_map (object_shown (look_ups m) x) o) ≡ option_map (link_of Location) o
-    by x None = refl
-    by x (Some row) = refl
+    by x o = grind arith
 
 limits_seen : (m : Maps) → AreWithin m → KeepsLimits (without_slots (world_of m))
 unfolding world_shown
@@ -52,12 +53,7 @@ limits_seen m fit = record {
     names x (Some row) = all_made (name_on (look_ups m) x) is_property_name (numbers_below m.head.next_prop) (λ i u e. named i u (get m.props (prop_id i)) refl e)
       where
         named : (i : ℕ) (u : Name) (o : Option PropRow) → get m.props (prop_id i) ≡ o → option_and_then (λ (p : PropRow). if same_object p.definer x then Some p.name else None) o ≡ Some u → is_property_name u ≡ true
-        named i u None g e = absurd (none-some u e)
-        named i u (Some p) g e = tested (same_object p.definer x) e
-          where
-            tested : (b : Bool) → (if b then Some p.name else None) ≡ Some u → is_property_name u ≡ true
-            tested false k = absurd (none-some u k)
-            tested true k = subst (λ v. is_property_name v ≡ true) (same_Some p.name u k) (fit.props (prop_id i) p g).1
+        named i u o g e = grind (arith, fit.props (prop_id i))
 
     verbs : (x : ObjNo) (o : Option ObjRow) → list_all verb_fits (unwrap_or (option_map (λ (r : WorldObject). r.verbs) (option_map (λ (r : WorldObject). record r { slot = λ n. None }) (option_map (object_shown (look_ups m) x) o))) []) ≡ true
     verbs x None = refl
@@ -71,36 +67,24 @@ numbers_seen : (m : Maps) (x : ObjNo) → (pos 0 ≤ℤ x.0) × (x.0 ≤ℤ m.he
 unfolding world_shown
 numbers_seen m x h = h
 
-row_in : (m : Maps) (x : ObjNo) → is_object (world_of m) x ≡ true → (row : ObjRow) × (get m.objects x ≡ Some row)
-row_in m x o = some_of (get m.objects x) (sym (is_object_seen (look_ups m) x) ∙ o)
-
 -- given numbers, and chains that end, are trees
 pub tree_of : (m : Maps) → NumbersGiven m → LinksEnd Parent m → LinksEnd Location m → IsTree (world_of m)
 tree_of m numbers chains locations = record {
-  numbers = λ x o. let k = row_in m x o in numbers_seen m x (given x.0 m.head.top (numbers.objects x k.0 k.1));
-  chains = λ x o. let k = row_in m x o in let c = chains x k.0 k.1 in (c.0, subst (λ link. Climbs link x c.0) (sym (parents_seen m)) c.1);
-  locations = λ x o. let k = row_in m x o in let c = locations x k.0 k.1 in (c.0, subst (λ link. Climbs link x c.0) (sym (places_seen m)) c.1);
+  numbers = λ x o. let k = a_row m x o in numbers_seen m x (given x.0 m.head.top (numbers.objects x k.0 k.1));
+  chains = λ x o. let k = a_row m x o in let c = chains x k.0 k.1 in (c.0, subst (λ link. Climbs link x c.0) (sym (parents_seen m)) c.1);
+  locations = λ x o. let k = a_row m x o in let c = locations x k.0 k.1 in (c.0, subst (λ link. Climbs link x c.0) (sym (places_seen m)) c.1);
 }
 
 -- what has been given its number is not nothing
 pub nothing_there : (m : Maps) → NumbersGiven m → get m.objects nothing ≡ None
-nothing_there m numbers = by (get m.objects nothing) refl
-  where
-    by : (o : Option ObjRow) → get m.objects nothing ≡ o → o ≡ None
-    by None e = refl
-    by (Some row) e = absurd (false≢true (sym (numbers.objects nothing row e)))
+nothing_there m numbers = no_value (get m.objects nothing) (λ row e. false≢true (sym (numbers.objects nothing row e)))
 
 -- links that are not lost hold
 pub links_hold : (link : TreeLink) (m : Maps) → NumbersGiven m → ((x : ObjNo) (row : ObjRow) → get m.objects x ≡ Some row → is_lost link m row ≡ false) → LinksHold link m
 links_hold link m numbers found = record { links = λ x row e. by (link_of link row) (found x row e); nothing = nothing_there m numbers }
   where
     by : (y : ObjNo) → (not (same_object nothing y) && not (is_object (world_of m) y)) ≡ false → (y ≡ nothing) ⊎ (is_some (get m.objects y) ≡ true)
-    by y e = tested (same_object nothing y) refl (is_object (world_of m) y) refl e
-      where
-        tested : (a : Bool) → same_object nothing y ≡ a → (b : Bool) → is_object (world_of m) y ≡ b → (not a && not b) ≡ false → (y ≡ nothing) ⊎ (is_some (get m.objects y) ≡ true)
-        tested true h b k q = inl (sym ((same_object-Decides nothing y).0 h))
-        tested false h true k q = inr (sym (is_object_seen (look_ups m) y) ∙ k)
-        tested false h false k q = absurd (false≢true (sym q))
+    by y e = grind (arith, same_object-Decides, is_object_seen)
 
 module _ (m : Maps) (fit : AreWithin m) (clean : IsClean m) where
   abbrev r : LookUps
@@ -109,19 +93,12 @@ module _ (m : Maps) (fit : AreWithin m) (clean : IsClean m) where
   abbrev w : World
   w = world_of m
 
-  row_there : (x : ObjNo) → is_object w x ≡ true → (row : ObjRow) × (get m.objects x ≡ Some row)
-  row_there x o = row_in m x o
-
   pub tree : IsTree w
   tree = tree_of m clean.numbers clean.chains clean.locations
 
   -- a slot is of a property that is owed
   owed_row : (x : ObjNo) (id : ℕ) (s : SlotRow) → get m.slots (x, prop_id id) ≡ Some s → (p : PropRow) × (get m.props (prop_id id) ≡ Some p) × (is_among p.definer (chain w x) ≡ true)
-  owed_row x id s e = by (get m.props (prop_id id)) refl (not_false _ (clean.slots.owed (x, prop_id id) s e))
-    where
-      by : (o : Option PropRow) → get m.props (prop_id id) ≡ o → unwrap_or (option_map (λ (p : PropRow). is_among p.definer (chain w x)) o) false ≡ true → (p : PropRow) × (get m.props (prop_id id) ≡ Some p) × (is_among p.definer (chain w x) ≡ true)
-      by None g k = absurd (false≢true k)
-      by (Some p) g k = (p, g, k)
+  owed_row x id s e = passing (λ (p : PropRow). is_among p.definer (chain w x)) (get m.props (prop_id id)) (not_false _ (clean.slots.owed (x, prop_id id) s e))
 
   -- of two objects of one chain one stands in the other's
   comparable : (l : List ObjNo) (x d e : ObjNo) → Chain w x l → is_among d l ≡ true → is_among e l ≡ true → (is_among e (chain w d) || is_among d (chain w e)) ≡ true
@@ -202,7 +179,7 @@ module _ (m : Maps) (fit : AreWithin m) (clean : IsClean m) where
     there = chain_object w d d (ap (is_among d) chain_d ∙ or_left (same_object d d) (is_among d l) ((same_object-Decides d d).1 refl))
 
     listed : property_names_of w d ≡ filter_map (name_on r d) (numbers_below m.head.next_prop)
-    listed = let k = row_there d there in names_shown r d k.0 k.1
+    listed = let k = a_row m d there in names_shown r d k.0 k.1
 
     own_names : IsDistinct (λ a b. same_text (folded a) (folded b)) (property_names_of w d)
     own_names =
@@ -260,11 +237,11 @@ module _ (m : Maps) (fit : AreWithin m) (clean : IsClean m) where
   slots x l n o c = by (slot_of w x n) refl (property_named (defined_by_any w l) n) refl
     where
       row : (row : ObjRow) × (get m.objects x ≡ Some row)
-      row = row_there x o
+      row = a_row m x o
 
       by : (a : Option Slot) → slot_of w x n ≡ a → (b : Option Property) → property_named (defined_by_any w l) n ≡ b → option_map (λ s. s.definer) a ≡ option_map (λ p. p.0) b
       by (Some s) e b f =
-          let k = slot_from r x n (row_there x o).0 (row_there x o).1 s e in
+          let k = slot_from r x n (a_row m x o).0 (a_row m x o).1 s e in
           let h = k.1 in
           let u = owed_row x k.0 h.row h.held in
           let same : u.0 ≡ h.prop = same_Some u.0 h.prop (sym u.1 ∙ h.there) in
@@ -281,25 +258,16 @@ module _ (m : Maps) (fit : AreWithin m) (clean : IsClean m) where
           let parts = and_parts (is_among k.0.1.definer l) (same_text (folded k.0.1.name) n) k.2 in
           let among : is_among k.0.1.definer (chain w x) ≡ true = ap (is_among k.0.1.definer) (chain_is w tree x l c) ∙ parts.0 in
           let owed : unwrap_or (option_map (λ p. is_among p.definer (chain w x)) (get m.props k.0.0)) false ≡ true = ap (λ o. unwrap_or (option_map (λ (p : PropRow). is_among p.definer (chain w x)) o) false) k.1 ∙ among in
-          let s = there (unwrap_or (option_map (λ p. is_among p.definer (chain w x)) (get m.props k.0.0)) false) (get m.slots (x, k.0.0)) (get m.slots (x, k.0.0)) refl owed (clean.slots.there x (row_there x o).0 (row_there x o).1 k.0.0 k.0.1 k.1) in
+          let s = there (unwrap_or (option_map (λ p. is_among p.definer (chain w x)) (get m.props k.0.0)) false) (get m.slots (x, k.0.0)) (get m.slots (x, k.0.0)) refl owed (clean.slots.there x (a_row m x o).0 (a_row m x o).1 k.0.0 k.0.1 k.1) in
           let h : SlotHere r x n k.0.0.0 = record { prop = k.0.1; row = s.0; there = k.1; held = s.1; name = (same_text-Decides (folded k.0.1.name) n).0 parts.1 } in
-          absurd (no_slot_from r x n (row_there x o).0 (row_there x o).1 e k.0.0.0 (below k.0.0.0 m.head.next_prop (clean.numbers.props k.0.0 k.0.1 k.1)) h)
+          absurd (no_slot_from r x n (a_row m x o).0 (a_row m x o).1 e k.0.0.0 (below k.0.0.0 m.head.next_prop (clean.numbers.props k.0.0 k.0.1 k.1)) h)
         where
           there : {S : Type 0} (a : Bool) (o p : Option S) → p ≡ o → a ≡ true → (a && not (is_some o)) ≡ false → (s : S) × (p ≡ Some s)
-          there true None p g h k = absurd (false≢true (sym k))
-          there true (Some s) p g h k = (s, g)
-          there false o p g h k = absurd (false≢true h)
-
-  slot_object : (x : ObjNo) (n : Name) (s : Slot) → slot_of w x n ≡ Some s → is_object w x ≡ true
-  slot_object x n s e = by (w.object x) e
-    where
-      by : (o : Option WorldObject) → option_and_then (λ (k : WorldObject). k.slot n) o ≡ Some s → is_some o ≡ true
-      by None k = absurd (none-some s k)
-      by (Some k) h = refl
+          there a o p g h k = grind arith
 
   set : (x : ObjNo) (n : Name) (s : Slot) → slot_of w x n ≡ Some s → s.definer ≡ x → s.state ≢ Clear
   set x n s e d h =
-      let row = row_there x (slot_object x n s e) in
+      let row = a_row m x (slotted w x n s e) in
       let k = slot_from r x n row.0 row.1 s e in
       let clear : is_clear k.1.row.state ≡ true = ap is_clear (sym (ap (λ (z : Slot). z.state) k.2) ∙ h) in
       let own : k.1.prop.definer ≡ x = sym (ap (λ (z : Slot). z.definer) k.2) ∙ d in
@@ -308,7 +276,7 @@ module _ (m : Maps) (fit : AreWithin m) (clean : IsClean m) where
 
   fits : (x : ObjNo) (n : Name) (s : Slot) → slot_of w x n ≡ Some s → slot_fits s ≡ true
   fits x n s e =
-      let row = row_there x (slot_object x n s e) in
+      let row = a_row m x (slotted w x n s e) in
       let k = slot_from r x n row.0 row.1 s e in
       ap slot_fits k.2 ∙ fit.slots (x, prop_id k.0) k.1.row k.1.held
 

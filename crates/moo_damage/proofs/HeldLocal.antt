@@ -1,17 +1,17 @@
 -- Slots that are just those that are owed, with names apart, hold locally.
-use Rattle.moo_damage.{proofs.Words.{◌≡◌, ◌<◌, ◌≤◌, true, false, ◌||◌, ◌&&◌, Option, None, Some, List, [], ◌∷◌, refl, sym, ap, ◌∙◌, subst, ◌⊎◌, inl, inr, arith, nat_lt, not, is_some, unwrap_or, option_map, get, entries, get-entries, false≢true, both_ways, or_cases, or_left, or_right, cases_lt, nat_tests, none-some, same_Some, ObjNo, ObjRow, PropId, PropRow, prop_exact, Maps, prop_cmp, prop_total, same_object, folded, is_among, same_object-Decides, same_text-Decides, look_ups, world_of, World, IsTree, Chain, is_object, parent_of, chain, some_of, is_object_seen, Chain-chain, chain_is, no_parent, defines, any_held, Parent, link_of, lacks_definer, share_name, is_double, has_slot, comes_down, AreLocal, SlotsHold}, proofs.Apart.{both_true}, proofs.Good.{parents_seen}, proofs.Chained.{chain_object, not_false}}
+use Rattle.moo_damage.{proofs.Words.{◌≡◌, ◌<◌, ◌≤◌, true, false, ◌||◌, ◌&&◌, Some, ◌∷◌, refl, sym, ap, ◌∙◌, subst, ◌⊎◌, inl, inr, arith, nat_lt, not, is_some, unwrap_or, option_map, get, entries, get-entries, both_ways, or_cases, or_left, or_right, cases_lt, nat_tests, same_Some, ObjNo, ObjRow, PropId, PropRow, prop_exact, Maps, prop_cmp, prop_total, same_object, folded, is_among, same_object-Decides, same_text-Decides, look_ups, world_of, World, IsTree, chain, some_of, defines, any_held, lacks_definer, share_name, is_double, has_slot, comes_down, AreLocal, SlotsHold}, proofs.Apart.{both_true}, proofs.Chained.{chain_object, not_false}}
+use Rattle.moo_tree.proofs.Searching.{a_row}
+use Rattle.moo_props.proofs.Cases.{passing}
+use Rattle.moo_world.proofs.Shown.Seen.{chain_of_row}
 
 module _ (m : Maps) (t : IsTree (world_of m)) (ids : (id : PropId) (p : PropRow) → get m.props id ≡ Some p → 0 < id.0) (definers : (id : PropId) (p : PropRow) → get m.props id ≡ Some p → lacks_definer m p ≡ false) (h : SlotsHold m) where
   abbrev w : World
   w = world_of m
 
-  row_at : (x : ObjNo) → is_object w x ≡ true → (row : ObjRow) × (get m.objects x ≡ Some row)
-  row_at x o = some_of (get m.objects x) (sym (is_object_seen (look_ups m) x) ∙ o)
-
   -- what is owed is there
   owed_there : (x : ObjNo) (id : PropId) (p : PropRow) → get m.props id ≡ Some p → is_among p.definer (chain w x) ≡ true → has_slot m x id ≡ true
   owed_there x id p e a =
-      let row = row_at x (chain_object w x p.definer a) in
+      let row = a_row m x (chain_object w x p.definer a) in
       let owed : unwrap_or (option_map (λ (p : PropRow). is_among p.definer (chain w x)) (get m.props id)) false ≡ true = ap (λ o. unwrap_or (option_map (λ (p : PropRow). is_among p.definer (chain w x)) o) false) e ∙ a in
       not_false (has_slot m x id) (ap (λ b. b && not (has_slot m x id)) (sym owed) ∙ h.there x row.0 row.1 id p e)
 
@@ -19,25 +19,11 @@ module _ (m : Maps) (t : IsTree (world_of m)) (ids : (id : PropId) (p : PropRow)
   there_owed : (x : ObjNo) (id : PropId) → has_slot m x id ≡ true → (p : PropRow) × (get m.props id ≡ Some p) × (is_among p.definer (chain w x) ≡ true)
   there_owed x id e =
       let s = some_of (get m.slots (x, id)) e in
-      by (get m.props id) refl (not_false _ (h.owed (x, id) s.0 s.1))
-    where
-      by : (o : Option PropRow) → get m.props id ≡ o → unwrap_or (option_map (λ (p : PropRow). is_among p.definer (chain w x)) o) false ≡ true → (p : PropRow) × (get m.props id ≡ Some p) × (is_among p.definer (chain w x) ≡ true)
-      by None g k = absurd (false≢true k)
-      by (Some p) g k = (p, g, k)
+      passing (λ (p : PropRow). is_among p.definer (chain w x)) (get m.props id) (not_false _ (h.owed (x, id) s.0 s.1))
 
   -- one step up
   step : (x : ObjNo) (row : ObjRow) → get m.objects x ≡ Some row → chain w x ≡ x ∷ chain w row.parent
-  step x row e = first (chain w x) (Chain-chain w t x (is_object_seen (look_ups m) x ∙ ap is_some e))
-    where
-      up : parent_of w x ≡ Some row.parent
-      up = ap (λ (f : ObjNo → Option ObjNo). f x) (parents_seen m) ∙ ap (option_map (link_of Parent)) e
-
-      first : (l : List ObjNo) → Chain w x l → l ≡ x ∷ chain w row.parent
-      first [] p = absurd (none-some row.parent (sym (no_parent w t) ∙ sym (ap (parent_of w) p) ∙ up))
-      first (y ∷ l) p =
-          let same : p.1 ≡ row.parent = same_Some p.1 row.parent (sym p.2 ∙ up) in
-          let rest : l ≡ chain w row.parent = sym (chain_is w t row.parent l (subst (λ n. Chain w n l) same p.3)) in
-          λ i. sym p.0 i ∷ rest i
+  step x row e = chain_of_row (look_ups m) t x row (sym e)
 
   own_chain : (x : ObjNo) (row : ObjRow) → get m.objects x ≡ Some row → is_among x (chain w x) ≡ true
   own_chain x row e = ap (is_among x) (step x row e) ∙ or_left (same_object x x) (is_among x (chain w row.parent)) ((same_object-Decides x x).1 refl)
@@ -45,7 +31,7 @@ module _ (m : Maps) (t : IsTree (world_of m)) (ids : (id : PropId) (p : PropRow)
   from_slot : (x : ObjNo) (id : PropId) → has_slot m x id ≡ true → comes_down m (x, id) ≡ true
   from_slot x id e =
       let k = there_owed x id e in
-      let r = row_at x (chain_object w x k.0.definer k.2) in
+      let r = a_row m x (chain_object w x k.0.definer k.2) in
       ap (λ o. unwrap_or (option_map (λ (row : ObjRow). defines m x id || has_slot m row.parent id) o) false) r.1
       ∙ by k.0 k.1 r.0 (or_cases (same_object k.0.definer x) (is_among k.0.definer (chain w r.0.parent)) (sym (ap (is_among k.0.definer) (step x r.0 r.1)) ∙ k.2))
     where
@@ -80,7 +66,7 @@ module _ (m : Maps) (t : IsTree (world_of m)) (ids : (id : PropId) (p : PropRow)
   are_local = record {
     numbered = ids;
     own = λ id p e.
-        let r = row_at p.definer (not_false _ (definers id p e)) in
+        let r = a_row m p.definer (not_false _ (definers id p e)) in
         owed_there p.definer id p e (own_chain p.definer r.0 r.1);
     from = λ key s e. from_slot key.0 key.1 (ap is_some e);
     down = λ x row e id low u. down_slot x row e id u;

@@ -1,5 +1,7 @@
 -- Slots that hold locally are just those that are owed, and their names are apart.
-use Rattle.moo_damage.{proofs.Words.{◌≡◌, ◌<◌, Bool, true, false, ◌||◌, ◌&&◌, Option, None, Some, List, [], ◌∷◌, refl, sym, ap, ◌∙◌, subst, ◌⊎◌, inl, inr, arith, nat_lt, not, is_some, unwrap_or, option_map, get, entries, false≢true, and_parts, or_cases, or_left, or_right, nat_tests, none-some, same_Some, ObjNo, ObjRow, PropId, PropRow, prop_exact, Maps, prop_total, same_object, same_text, folded, is_among, same_object-Decides, same_text-Decides, look_ups, world_of, World, IsTree, Chain, is_object, parent_of, chain, some_of, is_object_seen, Chain-chain, nothing_is_no_object, defines, Parent, link_of, share_name, is_double, has_slot, AreLocal, SlotsHold}, proofs.Apart.{one_passing}, proofs.Firsts.{held_entries}, proofs.Good.{parents_seen}, proofs.Chained.{chain_object}}
+use Rattle.moo_damage.{proofs.Words.{◌≡◌, Bool, true, false, ◌||◌, ◌&&◌, Option, Some, List, [], ◌∷◌, refl, sym, ap, ◌∙◌, subst, ◌⊎◌, inl, inr, arith, not, is_some, unwrap_or, option_map, get, false≢true, or_cases, or_left, or_right, same_Some, ObjNo, ObjRow, PropId, PropRow, Maps, same_object, is_among, same_object-Decides, look_ups, world_of, World, IsTree, Chain, is_object, parent_of, chain, some_of, is_object_seen, Chain-chain, nothing_is_no_object, defines, Parent, link_of, has_slot, AreLocal, SlotsHold}, proofs.Good.{parents_seen}, proofs.Chained.{chain_object}}
+use Rattle.moo_props.proofs.Cases.{passing}
+use Rattle.moo_damage.proofs.Nearby.{not_double}
 
 module _ (m : Maps) (t : IsTree (world_of m)) (h : AreLocal m) where
   abbrev w : World
@@ -16,8 +18,7 @@ module _ (m : Maps) (t : IsTree (world_of m)) (h : AreLocal m) where
   row_with x p e = by (get m.objects x) refl (sym (ap (λ (f : ObjNo → Option ObjNo). f x) (parents_seen m)) ∙ e)
     where
       by : (o : Option ObjRow) → get m.objects x ≡ o → option_map (link_of Parent) o ≡ Some p → (row : ObjRow) × (get m.objects x ≡ Some row) × (row.parent ≡ p)
-      by None g k = absurd (none-some p k)
-      by (Some row) g k = (row, g, same_Some row.parent p k)
+      by o g k = grind arith
 
   abbrev Owed : List ObjNo → PropId → Type 0
   Owed l id = (p : PropRow) × (get m.props id ≡ Some p) × (is_among p.definer l ≡ true)
@@ -26,18 +27,10 @@ module _ (m : Maps) (t : IsTree (world_of m)) (h : AreLocal m) where
   at_slot : (x : ObjNo) (id : PropId) → has_slot m x id ≡ true → (row : ObjRow) × (get m.objects x ≡ Some row) × ((defines m x id || has_slot m row.parent id) ≡ true)
   at_slot x id e =
       let s = some_of (get m.slots (x, id)) e in
-      by (get m.objects x) refl (h.from (x, id) s.0 s.1)
-    where
-      by : (o : Option ObjRow) → get m.objects x ≡ o → unwrap_or (option_map (λ (row : ObjRow). defines m x id || has_slot m row.parent id) o) false ≡ true → (row : ObjRow) × (get m.objects x ≡ Some row) × ((defines m x id || has_slot m row.parent id) ≡ true)
-      by None g k = absurd (false≢true k)
-      by (Some row) g k = (row, g, k)
+      passing (λ (row : ObjRow). defines m x id || has_slot m row.parent id) (get m.objects x) (h.from (x, id) s.0 s.1)
 
   defined : (x : ObjNo) (id : PropId) → defines m x id ≡ true → (p : PropRow) × (get m.props id ≡ Some p) × (p.definer ≡ x)
-  defined x id e = by (get m.props id) refl e
-    where
-      by : (o : Option PropRow) → get m.props id ≡ o → unwrap_or (option_map (λ (p : PropRow). same_object p.definer x) o) false ≡ true → (p : PropRow) × (get m.props id ≡ Some p) × (p.definer ≡ x)
-      by None g k = absurd (false≢true k)
-      by (Some p) g k = (p, g, (same_object-Decides p.definer x).0 k)
+  defined x id e = let p = passing (λ (p : PropRow). same_object p.definer x) (get m.props id) e in (p.0, p.1, (same_object-Decides p.0.definer x).0 p.2)
 
   -- climbing: the property of a slot is owed
   slot_owed : (l : List ObjNo) (x : ObjNo) (id : PropId) → Chain w x l → has_slot m x id ≡ true → Owed l id
@@ -71,21 +64,6 @@ module _ (m : Maps) (t : IsTree (world_of m)) (h : AreLocal m) where
   in_chain : (x : ObjNo) (id : PropId) (p : PropRow) → get m.props id ≡ Some p → is_among p.definer (chain w x) ≡ true → has_slot m x id ≡ true
   in_chain x id p f a = owed_slot (chain w x) x id p f (Chain-chain w t x (chain_object w x p.definer a)) a
 
-  not_double : (id : PropId) (p : PropRow) → get m.props id ≡ Some p → (b : Bool) → is_double m id p ≡ b → b ≡ false
-  not_double id p e false g = refl
-  not_double id p e true g =
-      let k = one_passing (λ e. get m.props e.0 ≡ Some e.1) (λ e. nat_lt e.0.0 id.0 && share_name w p e.1) (entries m.props) (held_entries (λ (i : PropId) (r : PropRow). ⊥) (λ (i : PropId) (r : PropRow). ⊥) prop_total prop_exact m.props) g in
-      let parts = and_parts (nat_lt k.0.0.0 id.0) (share_name w p k.0.1) k.2 in
-      let more = and_parts (same_text (folded p.name) (folded k.0.1.name)) (is_among k.0.1.definer (chain w p.definer) || is_among p.definer (chain w k.0.1.definer)) parts.1 in
-      let names = (same_text-Decides (folded p.name) (folded k.0.1.name)).0 more.0 in
-      let one : id ≡ k.0.0 = elim (or_cases (is_among k.0.1.definer (chain w p.definer)) (is_among p.definer (chain w k.0.1.definer)) more.1) [
-        | inl a ↦ h.apart id k.0.0 p k.0.1 e k.1 (in_chain p.definer k.0.0 k.0.1 k.1 a) names
-        | inr a ↦ sym (h.apart k.0.0 id k.0.1 p k.1 e (in_chain k.0.1.definer id p e a) (sym names))
-      ] in
-      let same : id.0 ≡ k.0.0.0 = ap (λ (z : PropId). z.0) one in
-      let less : k.0.0.0 < id.0 = grind (arith, nat_tests, parts.0) in
-      absurd (omega (arith, same, less))
-
   not_missing : (x : ObjNo) (id : PropId) (p : PropRow) → get m.props id ≡ Some p → (b : Bool) → is_among p.definer (chain w x) ≡ b → (b && not (has_slot m x id)) ≡ false
   not_missing x id p e false g = refl
   not_missing x id p e true g = ap not (in_chain x id p e g)
@@ -98,7 +76,7 @@ module _ (m : Maps) (t : IsTree (world_of m)) (h : AreLocal m) where
 
   pub slots_hold : SlotsHold m
   slots_hold = record {
-    names = λ id p e. not_double id p e (is_double m id p) refl;
+    names = not_double m (λ i j p q e f b n. ap (λ (z : PropId). z.0) (h.apart i j p q e f (in_chain p.definer j q f b) n));
     owed = λ key s e. not_strange key.0 key.1 (ap is_some e);
     there = λ x row o id p e. ap (λ b. unwrap_or (option_map (λ (q : PropRow). is_among q.definer (chain w x)) b) false && not (is_some (get m.slots (x, id)))) e ∙ not_missing x id p e (is_among p.definer (chain w x)) refl;
   }

@@ -1,22 +1,27 @@
 -- What the tests of all rows say of each.
-use Rattle.moo_damage.proofs.Words.{◌≡◌, ◌<◌, Bool, true, false, ◌&&◌, ◌||◌, cond, Some, List, [], ◌∷◌, Ordering, Less, refl, sym, ap, ◌∙◌, not, IsTotalOrder, tied_itself, nat_cmp_is, int_eq, ordering_then, list_any, FinMap, get, entries, get-entries, both_ways, Decides-int_eq, CmpEqualImpliesEq, ObjNo, PropId, PropRow, SlotRow, object_exact, prop_exact, slot_exact, Maps, prop_cmp, slot_cmp, slots_of_left, is_past, object_total, prop_total, slot_total, some_of, any_held, DefinersApart, has_slot, comes_down, lacks_one_of, AreLocal, is_lt, filter}
+use Rattle.moo_damage.proofs.Words.{arith, and_parts, or_cases, nat_lt, nat_tests, inl, inr, is_double, share_name, world_of, chain, is_among, folded, same_text, same_text-Decides, ◌≡◌, ◌<◌, Bool, true, false, ◌&&◌, ◌||◌, Some, Ordering, Less, refl, sym, ap, ◌∙◌, not, IsTotalOrder, tied_itself, nat_cmp_is, int_eq, ordering_then, list_any, FinMap, get, entries, get-entries, both_ways, Decides-int_eq, CmpEqualImpliesEq, ObjNo, PropId, PropRow, SlotRow, object_exact, prop_exact, slot_exact, Maps, prop_cmp, slot_cmp, slots_of_left, is_past, object_total, prop_total, slot_total, some_of, any_held, DefinersApart, has_slot, comes_down, lacks_one_of, AreLocal, is_lt}
 use Rattle.moo_damage.proofs.Chained.{not_false}
+use Rattle.moo_props.proofs.Walked.{all_held, any_filter}
+use Rattle.std.proofs.lemmas.Bool.{false_from_ne_true, true_from_ne_false}
+use Rattle.moo_damage.proofs.Apart.{one_passing}
 
 -- where none passes, no row does
 pub none_held : {K X : Type 0} (cmp : K → K → Ordering) (total : IsTotalOrder cmp) (exact : CmpEqualImpliesEq cmp) (rows : FinMap cmp X) (test : K × X → Bool) (k : K) (v : X) → get rows k ≡ Some v → list_any test (entries rows) ≡ false → test (k, v) ≡ false
-none_held cmp total exact rows test k v e h = by (test (k, v)) refl
-  where
-    by : (b : Bool) → test (k, v) ≡ b → b ≡ false
-    by false g = refl
-    by true g = absurd (both_ways (list_any test (entries rows)) h (any_held cmp total exact test k v (entries rows) (sym (get-entries rows k) ∙ e) g))
+none_held cmp total exact rows test k v e h = false_from_ne_true (test (k, v)) (λ g. both_ways (list_any test (entries rows)) h (any_held cmp total exact test k v (entries rows) (sym (get-entries rows k) ∙ e) g))
 
-pub any_filtered : {A : Type 0} (p test : A → Bool) (l : List A) → list_any p (filter test l) ≡ list_any (λ a. test a && p a) l
-any_filtered p test [] = refl
-any_filtered p test (x ∷ l) = by (test x) (any_filtered p test l)
-  where
-    by : (b : Bool) → list_any p (filter test l) ≡ list_any (λ a. test a && p a) l → list_any p (cond b (x ∷ filter test l) (filter test l)) ≡ ((b && p x) || list_any (λ a. test a && p a) l)
-    by true r = ap (λ b. p x || b) r
-    by false r = r
+-- where two properties of one name, of which one is owed to the other's definer, are one, none is a second one
+pub not_double : (m : Maps) → ((i j : PropId) (p q : PropRow) → get m.props i ≡ Some p → get m.props j ≡ Some q → is_among q.definer (chain (world_of m) p.definer) ≡ true → folded p.name ≡ folded q.name → i.0 ≡ j.0) → (id : PropId) (p : PropRow) → get m.props id ≡ Some p → is_double m id p ≡ false
+not_double m one id p e = false_from_ne_true (is_double m id p) (λ h.
+    let k = one_passing (λ e. get m.props e.0 ≡ Some e.1) (λ e. nat_lt e.0.0 id.0 && share_name (world_of m) p e.1) (entries m.props) (all_held prop_total prop_exact m.props) h in
+    let parts = and_parts (nat_lt k.0.0.0 id.0) (share_name (world_of m) p k.0.1) k.2 in
+    let more = and_parts (same_text (folded p.name) (folded k.0.1.name)) (is_among k.0.1.definer (chain (world_of m) p.definer) || is_among p.definer (chain (world_of m) k.0.1.definer)) parts.1 in
+    let names = (same_text-Decides (folded p.name) (folded k.0.1.name)).0 more.0 in
+    let less : k.0.0.0 < id.0 = grind (arith, nat_tests, parts.0) in
+    let same : id.0 ≡ k.0.0.0 = elim (or_cases (is_among k.0.1.definer (chain (world_of m) p.definer)) (is_among p.definer (chain (world_of m) k.0.1.definer)) more.1) [
+      | inl a ↦ one id k.0.0 p k.0.1 e k.1 a names
+      | inr a ↦ sym (one k.0.0 id k.0.1 p k.1 e a (sym names))
+    ] in
+    omega (arith, same, less))
 
 module _ (m : Maps) where
   -- where none of the slots of x passes, no slot of x does
@@ -24,8 +29,8 @@ module _ (m : Maps) where
   none_walked x test id s low e h =
       sym (λ i. past i && (own i && test ((x, id), s)))
       ∙ none_held slot_cmp slot_total slot_exact m.slots (λ e. is_past slot_cmp (Some (x, record { 0 = 0 })) e.0 && (int_eq e.0.0.0 x.0 && test e)) (x, id) s e
-      (sym (any_filtered test (λ e. int_eq e.0.0.0 x.0) _
-      ∙ any_filtered (λ e. int_eq e.0.0.0 x.0 && test e) (λ e. is_past slot_cmp (Some (x, record { 0 = 0 })) e.0) (entries m.slots)) ∙ h)
+      (sym (any_filter test (λ e. int_eq e.0.0.0 x.0) _
+      ∙ any_filter (λ e. int_eq e.0.0.0 x.0 && test e) (λ e. is_past slot_cmp (Some (x, record { 0 = 0 })) e.0) (entries m.slots)) ∙ h)
     where
       own : int_eq x.0 x.0 ≡ true
       own = (Decides-int_eq x.0 x.0).1 refl
@@ -37,11 +42,7 @@ module _ (m : Maps) where
 
   -- a slot of x that passes is met
   pub met : (x : ObjNo) (test : (ObjNo × PropId) × SlotRow → Bool) (id : PropId) (s : SlotRow) → 0 < id.0 → get m.slots (x, id) ≡ Some s → test ((x, id), s) ≡ true → list_any test (slots_of_left x (record { 0 = 0 }) m) ≡ true
-  met x test id s low e h = by (list_any test (slots_of_left x (record { 0 = 0 }) m)) refl
-    where
-      by : (b : Bool) → list_any test (slots_of_left x (record { 0 = 0 }) m) ≡ b → b ≡ true
-      by true g = refl
-      by false g = sym (none_walked x test id s low e g) ∙ h
+  met x test id s low e h = true_from_ne_false _ (λ g. both_ways (test ((x, id), s)) (none_walked x test id s low e g) h)
 
   pub local : ((id : PropId) (p : PropRow) → get m.props id ≡ Some p → 0 < id.0)
       → list_any (λ e. not (has_slot m e.1.definer e.0)) (entries m.props) ≡ false

@@ -1,11 +1,9 @@
 -- Where two maps differ first.
-use Rattle.moo_damage.{proofs.Words.{◌≡◌, Option, None, Some, Ordering, Less, Equal, Greater, refl, sym, ap, ◌∙◌, subst, IsTotalOrder, match_ordering, ordering_reverse, FinMap, get, CmpEqualImpliesEq, IsFirstUnlike, lesser}, specs.Differences.{IsLeastUnlike}}
+use Rattle.moo_damage.{proofs.Words.{arith, ◌≡◌, Option, None, Some, Ordering, Less, Equal, Greater, refl, sym, ap, ◌∙◌, subst, IsTotalOrder, match_ordering, ordering_reverse, FinMap, get, CmpEqualImpliesEq, IsFirstUnlike, lesser}, specs.Differences.{IsLeastUnlike}}
 
 -- what each of two has the other has too, so both have the same
 both_agree : {X : Type 0} (a b : Option X) → ((r : X) → a ≡ Some r → b ≡ Some r) → ((r : X) → b ≡ Some r → a ≡ Some r) → a ≡ b
-both_agree (Some r) b f g = sym (f r refl)
-both_agree None (Some r) f g = g r refl
-both_agree None None f g = refl
+both_agree a b f g = grind arith
 
 module _ {K X : Type 0} {cmp : K → K → Ordering} (total : IsTotalOrder cmp) (exact : CmpEqualImpliesEq cmp) (a b : FinMap cmp X) where
   by_order : (x y : K) (o : Ordering) → cmp y x ≡ o → IsLeastUnlike a b (Some x) → IsLeastUnlike b a (Some y) → IsFirstUnlike a b (match_ordering o (Some y) (Some x) (Some x))

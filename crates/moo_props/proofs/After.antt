@@ -104,8 +104,7 @@ module _ (t : Maps) (sound : IsSound t) (x q : ObjNo) (may : MayReparent (world_
           same v g = sym g ∙ h.held
 
           kept : (v : Option SlotRow) → m.slot y id ≡ v → v ≡ Some h.row → slot_of w y n ≡ Some s
-          kept None g k = absurd (none-some h.row k)
-          kept (Some r) g k = seen r g (sym (same_Some r h.row k))
+          kept v g k = grind (arith, seen)
 
           came : (v : Option SlotRow) → m.slot q id ≡ v → is_among h.prop.definer coming ≡ true → option_map (fresh_row (owner_of w y)) v ≡ Some h.row → Some s ≡ option_map (fresh (owner_of w y)) (slot_of w q n)
           came None g c k = absurd (none-some h.row k)
@@ -117,15 +116,7 @@ module _ (t : Maps) (sound : IsSound t) (x q : ObjNo) (may : MayReparent (world_
           definer k = ap (option_map (λ (z : Slot). z.definer)) k ∙ ap (λ (z : Slot). Some z.definer) e
 
           by : (u : Bool) → is_among x (chain w y) ≡ u → (g : Bool) → is_among h.prop.definer coming ≡ g → (l : Bool) → is_among h.prop.definer going ≡ l → (o : Option Property) → property_named (defined_by_any w coming) n ≡ o → Some s ≡ worded u o
-          by false hu g hg l hl o ho = sym (kept (m.slot y id) refl (same _ (settled y id h.prop false g l h.there hu hg hl)))
-          by true hu true hg l hl None ho = let k = gained_named n id h.prop h.there h.name hg in absurd (none-some k.0 (sym ho ∙ k.1))
-          by true hu true hg l hl (Some p) ho = came (m.slot q id) refl hg (same _ (settled y id h.prop true true l h.there hu hg hl))
-          by true hu false hg true hl o ho = absurd (none-some h.row (same _ (settled y id h.prop true false true h.there hu hg hl)))
-          by true hu false hg false hl o ho = rest (kept (m.slot y id) refl (same _ (settled y id h.prop true false false h.there hu hg hl))) o ho
-            where
-              rest : slot_of w y n ≡ Some s → (o : Option Property) → property_named (defined_by_any w coming) n ≡ o → Some s ≡ worded true o
-              rest k (Some p) g = absurd (no_both y yo hu n h.prop.definer p (definer k) hl g)
-              rest k None g = sym (ap (unless_defined_by going) k ∙ ap (λ b. if b then None else Some s) (ap (λ (z : Slot). is_among z.definer going) e ∙ hl))
+          by u hu g hg l hl o ho = grind (arith, settled y id h.prop u g l h.there hu hg hl, h.held, kept (m.slot y id) refl, came (m.slot q id) refl, gained_named n id h.prop h.there h.name, no_both y yo, definer, ap (λ (z : Slot). is_among z.definer going) e)
 
       -- and where the rows have none it has none
       lacked : slot_of (world_of t2) y n ≡ None → None ≡ worded (is_among x (chain w y)) (property_named (defined_by_any w coming) n)
@@ -141,9 +132,7 @@ module _ (t : Maps) (sound : IsSound t) (x q : ObjNo) (may : MayReparent (world_
               at k = tested (is_among k.1.prop.definer coming) refl (is_among k.1.prop.definer going) refl
                 where
                   tested : (g : Bool) → is_among k.1.prop.definer coming ≡ g → (l : Bool) → is_among k.1.prop.definer going ≡ l → None ≡ unless_defined_by going (Some s)
-                  tested g hg true hl = sym (ap (λ b. if b then None else Some s) (ap (λ (z : Slot). is_among z.definer going) k.2 ∙ hl))
-                  tested true hg false hl = let p = gained_named n k.0 k.1.prop k.1.there k.1.name hg in absurd (none-some p.0 (sym ho ∙ p.1))
-                  tested false hg false hl = absurd (not_here k.0 k.1.prop k.1.row k.1.there (settled y k.0 k.1.prop true false false k.1.there hu hg hl ∙ k.1.held) k.1.name)
+                  tested g hg l hl = grind (arith, gained_named n k.0 k.1.prop k.1.there k.1.name, not_here k.0 k.1.prop k.1.row k.1.there, settled y k.0 k.1.prop true false false k.1.there hu, k.2)
 
           by : (u : Bool) → is_among x (chain w y) ≡ u → (o : Option Property) → property_named (defined_by_any w coming) n ≡ o → (v : Option Slot) → slot_of w y n ≡ v → None ≡ (if u then elim o [ Some p ↦ option_map (fresh (owner_of w y)) (slot_of w q n) | None ↦ unless_defined_by going v ] else v)
           by false hu o ho None e = refl

@@ -1,7 +1,8 @@
 -- The names that an object defines are those of the properties' entries that have it as definer.
-use Rattle.moo_props.{proofs.Words.{◌≡◌, ◌≢◌, ℕ, zero, suc, ◌≤◌, true, cond, T, Option, None, Some, List, [], ◌∷◌, ◌++◌, map, Less, refl, sym, ap, ◌∙◌, subst, inl, inr, arith, append-nil, is_some, option_map, nat_cmp_is, filter, filter_map, cons_option, AllByRecursion, eq_by_cmp, get, get-entries, is_sorted, entries, entries_sorted, filter_map-append, ObjNo, PropId, PropRow, Maps, prop_cmp, prop_exact, prop_total, Name, same_object, property_names_of, IsSound, look_ups, world_of, world_shown, numbers_below, name_on, prop_id, key-Decides, false_from_ne_true, cases_eq, cases_lt, lt-ltb, le-ltb}, proofs.Cases.{cond_same}, proofs.Numbers.{no_names}}
+use Rattle.moo_props.{proofs.Words.{◌≡◌, ◌≢◌, ℕ, zero, suc, ◌≤◌, true, cond, T, Option, None, Some, List, [], ◌∷◌, ◌++◌, map, Less, refl, sym, ap, ◌∙◌, subst, arith, append-nil, option_map, nat_cmp_is, filter, filter_map, cons_option, AllByRecursion, eq_by_cmp, get, get-entries, is_sorted, entries, entries_sorted, filter_map-append, ObjNo, PropId, PropRow, Maps, prop_cmp, prop_exact, prop_total, Name, same_object, property_names_of, IsSound, look_ups, world_of, world_shown, numbers_below, name_on, prop_id, key-Decides, cases_eq, lt-ltb, le-ltb}, proofs.Numbers.{no_names}}
 use Rattle.std.{specs.Prelude.{nat_lt}, specs.FinMap.{find}, specs.FinMap.Entries.{same_entries, find-append}}
 use Rattle.moo_world.proofs.Shown.EntriesInOrder.{all_then, sorted_then, past_each}
+use Rattle.std.proofs.lemmas.Bool.Decides.{nat_tests}
 
 -- the names of those of these entries that x defines
 abbrev pub names_among : ObjNo → List (PropId × PropRow) → List Name
@@ -48,28 +49,15 @@ module _ (t : Maps) where
   found j (suc n) = ap (find prop_cmp (prop_id j)) (next n) ∙ by (row_at n) refl (found j n)
     where
       higher : j ≢ n → cond (nat_lt j n) (row_at j) None ≡ cond (nat_lt j (suc n)) (row_at j) None
-      higher ne = elim (cases_lt j n) [
-        | inl l ↦ ap (λ b. cond b (row_at j) None) (lt-ltb j n l ∙ sym (lt-ltb j (suc n) (omega arith)))
-        | inr l ↦ ap (λ b. cond b (row_at j) None) (le-ltb j n l ∙ sym (le-ltb j (suc n) (omega arith)))
-      ]
+      higher ne = grind (arith, nat_tests)
 
       here : j ≡ n → cond (nat_lt j (suc n)) (row_at j) None ≡ row_at n
       here e = ap (λ b. cond b (row_at j) None) (lt-ltb j (suc n) (omega arith)) ∙ ap row_at e
 
       by : (o : Option PropRow) → row_at n ≡ o → find prop_cmp (prop_id j) (by_number n) ≡ cond (nat_lt j n) (row_at j) None
           → find prop_cmp (prop_id j) (by_number n ++ cons_option (option_map (λ p. (prop_id n, p)) o) []) ≡ cond (nat_lt j (suc n)) (row_at j) None
-      by None g f =
-          ap (find prop_cmp (prop_id j)) (append-nil (by_number n)) ∙ f
-          ∙ elim (cases_eq j n) [
-            | inl e ↦ ap (λ b. cond b (row_at j) None) (le-ltb j n (omega arith)) ∙ sym (here e ∙ g)
-            | inr ne ↦ higher ne
-          ]
-      by (Some p) g f =
-          find-append prop_cmp prop_total (by_number n) (prop_id n) p (prop_id j) (past_each prop_cmp prop_total (by_number n) (prop_id n) (all_lower n n (omega arith)))
-          ∙ elim (cases_eq j n) [
-            | inl e ↦ ap (λ b. cond b (Some p) (find prop_cmp (prop_id j) (by_number n))) ((ties j n).1 e) ∙ sym (here e ∙ g)
-            | inr ne ↦ ap (λ b. cond b (Some p) (find prop_cmp (prop_id j) (by_number n))) (false_from_ne_true (eq_by_cmp prop_cmp (prop_id j) (prop_id n)) (λ e. ne ((ties j n).0 e))) ∙ f ∙ higher ne
-          ]
+      by None g f = grind (arith, append-nil (by_number n), cases_eq j n, here, higher)
+      by (Some p) g f = grind (arith, find-append prop_cmp prop_total (by_number n) (prop_id n) p (prop_id j) (past_each prop_cmp prop_total (by_number n) (prop_id n) (all_lower n n (omega arith))), ties j n, here, higher)
 
   named : (x : ObjNo) (l : List ℕ) → names_among x (filter_map entry_at l) ≡ filter_map (name_on (look_ups t) x) l
   named x [] = refl
@@ -80,11 +68,7 @@ module _ (t : Maps) where
     all_entries = same_entries prop_cmp prop_total prop_exact (by_number t.head.next_prop) (entries t.props) (sorted t.head.next_prop) (entries_sorted t.props) (λ q. found q.0 t.head.next_prop ∙ held q ∙ get-entries t.props q)
       where
         held : (q : PropId) → cond (nat_lt q.0 t.head.next_prop) (get t.props q) None ≡ get t.props q
-        held q = by (get t.props q) refl
-          where
-            by : (o : Option PropRow) → get t.props q ≡ o → cond (nat_lt q.0 t.head.next_prop) o None ≡ o
-            by None e = cond_same (nat_lt q.0 t.head.next_prop) None
-            by (Some p) e = ap (λ b. cond b (Some p) None) (lt-ltb q.0 t.head.next_prop (sound.props_below q.0 (ap is_some e)).1)
+        held q = grind (arith, nat_tests, sound.props_below q.0)
 
     -- the names in the order of definition are those of the entries in the order of their numbers
     pub names_listed : (x : ObjNo) → names_among x (entries t.props) ≡ property_names_of (world_of t) x

@@ -1,23 +1,17 @@
 -- The walk down from an object meets what is under it, and nothing else.
-use Rattle.moo_props.{proofs.Words.{◌||◌, ◌≡◌, ℕ, zero, suc, ◌+◌, ◌≤◌, Bool, true, false, cond, None, Some, List, [], ◌∷◌, ◌++◌, map, length, drop, refl, sym, ap, ◌∙◌, subst, inl, inr, arith, append_assoc, append-nil, is_some, list_any, get, true≢false, or_left, or_right, or_cases, ObjNo, ObjRow, ChildOf, IsFirst, is_linked, Maps, object_cmp, nothing, same_object, is_among, same_object-Decides, same_object-eq, subtree_of, look_ups, world_of, World, IsTree, Chain, is_object, parent_of, chain, numbers_to, Chain-chain, no_parent, is_among-append, decided_alike, chain_of_row, is_object_seen, after_below, walk_after, from_here, false_from_ne_true, some_of, if◌then◌else◌, walk_down}, proofs.Cases.{passing}, proofs.Gains.{object_of_chain}, specs.Descent.{children_past, descendants, branches, after_branch}}
+use Rattle.moo_props.{proofs.Words.{◌||◌, ◌≡◌, ℕ, zero, suc, ◌+◌, ◌≤◌, Bool, true, false, cond, None, Some, List, [], ◌∷◌, ◌++◌, map, length, drop, refl, sym, ap, ◌∙◌, subst, inl, inr, arith, append_assoc, append-nil, or-false, is_some, list_any, get, true≢false, or_right, or_cases, ObjNo, ObjRow, ChildOf, IsFirst, is_linked, Maps, object_cmp, nothing, same_object, is_among, same_object-Decides, same_object-eq, subtree_of, look_ups, world_of, World, IsTree, Chain, is_object, parent_of, chain, numbers_to, Chain-chain, no_parent, is_among-append, decided_alike, chain_of_row, is_object_seen, after_below, walk_after, from_here, false_from_ne_true, some_of, if◌then◌else◌, walk_down}, proofs.Cases.{passing}, proofs.Gains.{object_of_chain}, specs.Descent.{children_past, descendants, branches, after_branch}}
 use Rattle.std.specs.List.{flat_map}
 use Rattle.moo_rows.{specs.Links.{has_link, ties_of}, proofs.Linking.{linked-end, linked-step}}
 use Rattle.moo_world.{specs.ObjectLists.{children_of, objects_of, below, levels_below}, proofs.Ancestry.Ancestors.{same_object-self}, proofs.Ancestry.Chains.{Climbs-bound, Climbs-once}, proofs.Ancestry.Subtrees.{among_filter, object_listed}, proofs.Ancestry.Trees.{parents_below}, proofs.Ancestry.Upward.{filter_passes}}
-use Rattle.moo_tree.{proofs.Listing.{children_listed}, proofs.Searching.{child_listed, listed_child, is_there}}
+use Rattle.moo_tree.{proofs.Listing.{children_listed}, proofs.Searching.{along, among-first, child_listed, is_there, listed_child, own_among}}
 
 -- ---- lists
-
-first_among : (c : ObjNo) (l : List ObjNo) → is_among c (c ∷ l) ≡ true
-first_among c l = or_left (same_object c c) (is_among c l) (same_object-self c)
 
 -- an object of a list, or one that it leads to
 module _ (f : ObjNo → List ObjNo) (z : ObjNo) where
   in_branch : (l : List ObjNo) → is_among z (flat_map (λ c. c ∷ f c) l) ≡ true → (c : ObjNo) × (is_among c l ≡ true) × (is_among z (c ∷ f c) ≡ true)
   in_branch [] h = absurd (true≢false (sym h))
-  in_branch (c ∷ l) h = elim (or_cases (is_among z (c ∷ f c)) (is_among z (flat_map (λ c. c ∷ f c) l)) (sym (is_among-append z (c ∷ f c) (flat_map (λ c. c ∷ f c) l)) ∙ h)) [
-    | inl g ↦ (c, first_among c l, g)
-    | inr g ↦ let b = in_branch l g in (b.0, or_right (same_object b.0 c) (is_among b.0 l) b.1, b.2)
-  ]
+  in_branch (c ∷ l) h = grind (arith, is_among-append z (c ∷ f c) (flat_map (λ c. c ∷ f c) l), among-first c l, in_branch l)
 
   branch_in : (l : List ObjNo) (c : ObjNo) → is_among c l ≡ true → is_among z (c ∷ f c) ≡ true → is_among z (flat_map (λ c. c ∷ f c) l) ≡ true
   branch_in [] c k h = absurd (true≢false (sym k))
@@ -30,7 +24,7 @@ module _ (test : ObjNo → Bool) where
 
   any_within : (l m : List ObjNo) → ((z : ObjNo) → is_among z l ≡ true → is_among z m ≡ true) → list_any test l ≡ true → list_any test m ≡ true
   any_within [] m f h = absurd (true≢false (sym h))
-  any_within (z ∷ l) m f h = grind (arith, any_of_member m z, first_among z l, f z, any_within l m (λ y k. f y (or_right (same_object y z) (is_among y l) k)))
+  any_within (z ∷ l) m f h = grind (arith, any_of_member m z, among-first z l, f z, any_within l m (λ y k. f y (or_right (same_object y z) (is_among y l) k)))
 
   any_alike : (l m : List ObjNo) → ((z : ObjNo) → is_among z l ≡ true → is_among z m ≡ true) → ((z : ObjNo) → is_among z m ≡ true → is_among z l ≡ true) → list_any test l ≡ list_any test m
   any_alike l m f g = decided_alike _ _ (list_any test m ≡ true) (any_within l m f, any_within m l g) (λ e. e, λ e. e)
@@ -78,13 +72,13 @@ module _ (t : Maps) (tree : IsTree (world_of t)) where
     where
       none : (l : List ObjNo) → ((c : ObjNo) → is_among c l ≡ true → ⊥) → [] ≡ branches w l
       none [] h = refl
-      none (c ∷ l) h = absurd (h c (first_among c l))
+      none (c ∷ l) h = absurd (h c (among-first c l))
 
       alike : (n : ℕ) (l : List ObjNo) → ((c : ObjNo) → is_among c l ≡ true → levels_below w c ≡ n) → flat_map (λ c. c ∷ below n w c) l ≡ branches w l
       alike n [] h = refl
       alike n (c ∷ l) h =
           let rest = alike n l (λ d k. h d (or_right (same_object d c) (is_among d l) k)) in
-          let same = sym (h c (first_among c l)) in
+          let same = sym (h c (among-first c l)) in
           λ i. (c ∷ below (same i) w c) ++ rest i
 
       by : (n : ℕ) → levels_below w y ≡ n → below n w y ≡ branches w (children_of w y)
@@ -104,46 +98,23 @@ module _ (t : Maps) (tree : IsTree (world_of t)) where
         let b = in_branch (below n w) z (children_of w y) h in
         let k = listed_child t tree b.0 y b.1 in
         let here : is_among x (chain w b.0) ≡ true = ap (is_among x) (chain_up b.0 y k.0 k.1 k.2) ∙ or_right (same_object x b.0) (is_among x (chain w y)) u in
-        elim (or_cases (same_object z b.0) (is_among z (below n w b.0)) b.2) [
-          | inl e ↦ ap (λ q. is_among x (chain w q)) ((same_object-Decides z b.0).0 e) ∙ here
-          | inr g ↦ met_under n b.0 z here g
-        ]
+        grind (arith, b.2, here, or_cases, (same_object-Decides z b.0).0, met_under n b.0 z here)
 
     -- a child of what is met is met, if there are levels left
     closed : (n : ℕ) (y p z : ObjNo) (r : ObjRow) → get t.objects z ≡ Some r → r.parent ≡ p → is_among p (y ∷ below n w y) ≡ true → depth z ≤ n + depth y → is_among z (below n w y) ≡ true
-    closed zero y p z r e q h d = elim (or_cases (same_object p y) false h) [
-      | inl k ↦ absurd (omega (arith, d, ap length (chain_up z p r e q), ap depth ((same_object-Decides p y).0 k)))
-      | inr k ↦ absurd (true≢false (sym k))
-    ]
+    closed zero y p z r e q h d = absurd (omega (arith, d, ap length (chain_up z p r e q), ap depth ((same_object-Decides p y).0 (sym (or-false (same_object p y)) ∙ h))))
     closed (suc n) y p z r e q h d = elim (or_cases (same_object p y) (is_among p (below (suc n) w y)) h) [
-      | inl k ↦ branch_in (below n w) z (children_of w y) z (child_listed t tree z y r e (q ∙ (same_object-Decides p y).0 k)) (first_among z (below n w z))
+      | inl k ↦ branch_in (below n w) z (children_of w y) z (child_listed t tree z y r e (q ∙ (same_object-Decides p y).0 k)) (among-first z (below n w z))
       | inr k ↦
           let b = in_branch (below n w) p (children_of w y) k in
           branch_in (below n w) z (children_of w y) b.0 b.1 (or_right (same_object z b.0) (is_among z (below n w b.0)) (closed n b.0 p z r e q b.2 (omega (arith, d, deeper y b.0 b.1))))
     ]
 
-    -- what holds of x, and of each child of what it holds of, holds of all under x
-    along : (P : ObjNo → Type 0) → (is_object w x ≡ true → P x) → ((z p : ObjNo) (r : ObjRow) → get t.objects z ≡ Some r → r.parent ≡ p → P p → P z) → (l : List ObjNo) (z : ObjNo) → chain w z ≡ l → is_among x l ≡ true → P z
-    along P start more [] z e h = absurd (true≢false (sym h))
-    along P start more (a ∷ l) z e h =
-        let row = has_row x z (ap (is_among x) e ∙ h) in
-        let whole : a ∷ l ≡ z ∷ chain w row.0.parent = sym e ∙ chain_up z row.0.parent row.0 row.1 refl in
-        let rest : chain w row.0.parent ≡ l = sym (ap (drop 1) whole) in
-        elim (or_cases (same_object x z) (is_among x (chain w row.0.parent)) (sym (ap (is_among x) whole) ∙ h)) [
-          | inl k ↦ let same = (same_object-Decides x z).0 k in subst P same (start (ap (is_object w) same ∙ there z row.0 row.1))
-          | inr k ↦ more z row.0.parent row.0 row.1 refl (along P start more l row.0.parent rest (ap (is_among x) (sym rest) ∙ k))
-        ]
-
     -- all under x is met from x on
     met : is_object w x ≡ true → (z : ObjNo) → is_among x (chain w z) ≡ true → is_among z (x ∷ descendants w x) ≡ true
-    met o z h = along (λ y. is_among y (x ∷ descendants w x) ≡ true) (λ _. first_among x (descendants w x))
-        (λ y p r e q k. or_right (same_object y x) (is_among y (descendants w x)) (closed (levels_below w x) x p y r e q k (omega (arith, deep y (there y r e)))))
+    met o z h = along t tree x (λ y. is_among y (x ∷ descendants w x) ≡ true) (λ _. among-first x (descendants w x))
+        (λ y r e k. or_right (same_object y x) (is_among y (descendants w x)) (closed (levels_below w x) x r.parent y r e refl k (omega (arith, deep y (there y r e)))))
         (chain w z) z refl h
-
-    pub own_among : is_object w x ≡ true → is_among x (chain w x) ≡ true
-    own_among o =
-        let r = some_of (get t.objects x) (sym (is_object_seen (look_ups t) x) ∙ o) in
-        ap (is_among x) (chain_up x r.0.parent r.0 r.1 refl) ∙ first_among x (chain w r.0.parent)
 
     -- what is met from x on is x's subtree
     any_met : (test : ObjNo → Bool) → is_object w x ≡ true → list_any test (x ∷ descendants w x) ≡ list_any test (subtree_of w x)
@@ -152,10 +123,7 @@ module _ (t : Maps) (tree : IsTree (world_of t)) where
         (λ z h. met o z (filter_passes (λ y. is_among x (chain w y)) (objects_of w) z h))
       where
         under : (z : ObjNo) → is_among z (x ∷ descendants w x) ≡ true → is_among x (chain w z) ≡ true
-        under z h = elim (or_cases (same_object z x) (is_among z (descendants w x)) h) [
-          | inl e ↦ ap (λ q. is_among x (chain w q)) ((same_object-Decides z x).0 e) ∙ own_among o
-          | inr g ↦ met_under (levels_below w x) x z (own_among o) g
-        ]
+        under z h = grind (arith, or_cases, same_object-Decides, own_among t tree x o, met_under (levels_below w x) x z)
 
         listed : (z : ObjNo) → is_among x (chain w z) ≡ true → is_among z (subtree_of w x) ≡ true
         listed z h = among_filter (λ y. is_among x (chain w y)) (objects_of w) z (object_listed w tree z (is_there t tree x z h)) h
@@ -163,16 +131,12 @@ module _ (t : Maps) (tree : IsTree (world_of t)) where
     -- and if it isn't an object nothing is
     none_met : (test : ObjNo → Bool) → is_object w x ≡ false → list_any test (subtree_of w x) ≡ false
     none_met test lacking = any_alike test (subtree_of w x) []
-        (λ z h. absurd (true≢false (sym (along (λ y. is_object w x ≡ true) (λ o. o) (λ y p r e q k. k) (chain w z) z refl (filter_passes (λ y. is_among x (chain w y)) (objects_of w) z h)) ∙ lacking)))
+        (λ z h. absurd (true≢false (sym (along t tree x (λ y. is_object w x ≡ true) (λ o. o) (λ y r e k. k) (chain w z) z refl (filter_passes (λ y. is_among x (chain w y)) (objects_of w) z h)) ∙ lacking)))
         (λ z h. absurd (true≢false (sym h)))
 
     -- so the walk down meets x's subtree
     pub any_walked : (test : ObjNo → Bool) → list_any test (walk_down w x) ≡ list_any test (subtree_of w x)
-    any_walked test = by (is_object w x) refl
-      where
-        by : (b : Bool) → is_object w x ≡ b → list_any test (if b then x ∷ descendants w x else []) ≡ list_any test (subtree_of w x)
-        by true o = any_met test o
-        by false o = sym (none_met test o)
+    any_walked test = grind (arith, any_met test, none_met test)
 
     -- ---- what comes next
 

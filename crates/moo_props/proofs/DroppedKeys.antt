@@ -1,5 +1,5 @@
 -- The slots that are removed with an object are those that go with it.
-use Rattle.moo_props.{proofs.Words.{arith, ◌≡◌, true, false, Some, List, [], ◌∷◌, refl, sym, ap, ◌∙◌, inl, inr, ◌&&◌, is_some, unwrap_or, option_map, eq_by_cmp, int_eq, list_any, AllByRecursion, get, entries, get-entries, entries_sorted, false≢true, or_cases, ObjNo, ObjRow, PropId, slot_exact, Maps, slot_cmp, slot_total, same_object, is_among, same_object-Decides, chain, IsGood, look_ups, world_of, decided_alike, any-append, goes_with, dropped_keys, ids_for, ids_among, defines, ArePresent, AreAscending, owners_under, props_of, keys_on, some_of, listed, own_entries, all_made, is_object_seen, and-false, keys_by}, proofs.Shared.{Entry, has_id, is_id, is_id-Decides, key_parts, object_of_chain, own_among, slot_on_heir, under_is, walk, walk_held}, proofs.Ascending.{rises_made, keys_rise, props_rise, under_rise, ascend}, proofs.LessRows.{is_own_id}, proofs.NewSlots.{has_all}, proofs.SameKeys.{holds, unique}, proofs.WalkOrder.{walk_own, walk_ids_rise}}
+use Rattle.moo_props.{proofs.Words.{arith, ◌≡◌, true, false, Some, List, [], ◌∷◌, refl, sym, ap, ◌∙◌, ◌&&◌, is_some, unwrap_or, option_map, eq_by_cmp, int_eq, list_any, AllByRecursion, get, entries, get-entries, entries_sorted, false≢true, ObjNo, ObjRow, PropId, slot_exact, Maps, slot_cmp, slot_total, same_object, is_among, same_object-Decides, chain, IsGood, look_ups, world_of, decided_alike, any-append, goes_with, dropped_keys, ids_for, ids_among, defines, ArePresent, AreAscending, owners_under, props_of, keys_on, some_of, listed, own_entries, all_made, is_object_seen, and-false, keys_by}, proofs.Shared.{Entry, has_id, is_id-Decides, key_parts, object_of_chain, own_among, slot_on_heir, under_is, walk, walk_held}, proofs.Ascending.{rises_made, keys_rise, props_rise, under_rise, ascend}, proofs.LessRows.{is_own_id}, proofs.NewSlots.{has_all}, proofs.SameKeys.{holds, unique}, proofs.WalkOrder.{walk_own, walk_ids_rise}}
 use Rattle.std.specs.FinMap.{find}
 
 -- ---- what the code lists
@@ -47,10 +47,7 @@ module _ (t : Maps) (good : IsGood t) (x : ObjNo) (row : ObjRow) (here : get t.o
     where
       each : (l : List Entry) → AllByRecursion (λ (e : Entry). (get t.slots e.0 ≡ Some e.1) × (int_eq e.0.0.0 x.0 ≡ true)) l → AllByRecursion (λ (e : Entry). e.0.0 ≡ x) l → has_id j (ids_among l) ≡ true → is_some (get t.slots (x, j)) ≡ true
       each [] h a e = absurd (false≢true e)
-      each (k ∷ l) h a e = elim (or_cases (is_id j k.0.1) (has_id j (ids_among l)) e) [
-        | inl f ↦ (λ i. is_some (get t.slots (sym a.0 i, (is_id-Decides j k.0.1).0 f i))) ∙ ap is_some h.0.0
-        | inr f ↦ each l h.1 a.1 f
-      ]
+      each (k ∷ l) h a e = grind (arith, is_id-Decides, each l)
 
   same_keys : (z : ObjNo) (j : PropId) → (is_among x (chain (world_of t) z) && has_id j (ids_for x all own z)) ≡ (is_some (get t.slots (z, j)) && goes_with t x (z, j))
   same_keys z j = grind (arith, (same_object-Decides x z).0, own_among t good.formed.tree x (is_object_seen (look_ups t) x ∙ ap is_some here), walked j, is_own_id t good x row here (record { maps = t; writes = 0; base = record { maps = t; most = 0; is_spent = false } }) refl j, own_slot z j)

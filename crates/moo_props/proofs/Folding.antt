@@ -1,5 +1,5 @@
 -- What the slots are after they are removed and put one by one.
-use Rattle.moo_props.{proofs.Cases.{cond_again, cond_and, cond_same, cond_twice}, proofs.Folds.{all_change, all_of_change}, proofs.Words.{arith, ◌||◌, ◌≡◌, Bool, true, false, cond, Option, None, Some, List, [], ◌∷◌, refl, sym, ap, ◌∙◌, ◌&&◌, is_some, option_map, Decides, eq_by_cmp, list_any, cons_option, AllByRecursion, FinMap, get, get-insert, get-remove, and_parts, none-some, same_Some, ObjNo, PropId, SlotRow, Held, prop_cmp, slot_cmp, prop_exact, slot_exact, prop_total, slot_total, same_object, same_object-Decides, key-Decides, decided_alike, Origin, slots_moved, origin_of, origins, fresh_of, slot_removed, slot_put, without_on, with_fresh, fresh_row, ids_for, and-false}}
+use Rattle.moo_props.{proofs.Cases.{cond_again, cond_and, cond_same, cond_twice}, proofs.Folds.{all_change, all_of_change}, proofs.Words.{arith, ◌≡◌, Bool, cond, Option, None, Some, List, [], ◌∷◌, refl, sym, ap, ◌∙◌, ◌&&◌, is_some, option_map, Decides, eq_by_cmp, list_any, AllByRecursion, FinMap, get, get-insert, get-remove, and_parts, ObjNo, PropId, SlotRow, Held, prop_cmp, slot_cmp, prop_exact, slot_exact, prop_total, slot_total, same_object, same_object-Decides, key-Decides, decided_alike, Origin, slots_moved, origins, fresh_of, slot_removed, slot_put, without_on, with_fresh, fresh_row, ids_for, and-false}}
 
 abbrev pub is_id : PropId → PropId → Bool
 is_id j id = eq_by_cmp prop_cmp j id
@@ -39,25 +39,7 @@ slot_at-fresh y z owner j (o ∷ os) held = grind (arith, slot_at-fresh y z owne
 module _ (slots : FinMap slot_cmp SlotRow) (q : ObjNo) where
   pub fresh_in-origins : (owner : ObjNo) (j : PropId) (o : Option SlotRow) → get slots (q, j) ≡ o → (ids : List PropId) (g : Option SlotRow) → fresh_in owner (origins slots q ids) j g ≡ cond (has_id j ids && is_some o) (option_map (fresh_row owner) o) g
   fresh_in-origins owner j o e [] g = refl
-  fresh_in-origins owner j o e (id ∷ ids) g = by (λ p h k. fresh_in-origins owner j p h ids k) (get slots (q, id)) refl (is_id j id) refl o e
-    where
-      same_slot : is_id j id ≡ true → get slots (q, id) ≡ get slots (q, j)
-      same_slot h = ap (λ k. get slots (q, k)) (sym ((is_id-Decides j id).0 h))
-
-      by : ((o : Option SlotRow) → get slots (q, j) ≡ o → (g : Option SlotRow) → fresh_in owner (origins slots q ids) j g ≡ cond (has_id j ids && is_some o) (option_map (fresh_row owner) o) g) → (p : Option SlotRow) → get slots (q, id) ≡ p → (b : Bool) → is_id j id ≡ b → (o : Option SlotRow) → get slots (q, j) ≡ o
-          → fresh_in owner (cons_option (option_map (origin_of id) p) (origins slots q ids)) j g ≡ cond ((b || has_id j ids) && is_some o) (option_map (fresh_row owner) o) g
-      by r None h true k None e = r None e g ∙ ap (λ v. cond v None g) (and-false (has_id j ids))
-      by r None h true k (Some s) e = absurd (none-some s (sym h ∙ same_slot k ∙ e))
-      by r None h false k o e = r o e g
-      by r (Some p) h true k None e = absurd (none-some p (sym e ∙ sym (same_slot k) ∙ h))
-      by r (Some p) h true k (Some s) e =
-          let same : p ≡ s = same_Some p s (sym h ∙ same_slot k ∙ e) in
-          r (Some s) e (cond (is_id j id) (Some (fresh_row owner p)) g)
-          ∙ (λ i. cond (has_id j ids && true) (Some (fresh_row owner s)) (cond (k i) (Some (fresh_row owner (same i))) g))
-          ∙ cond_same (has_id j ids && true) (Some (fresh_row owner s))
-      by r (Some p) h false k o e =
-          r o e (cond (is_id j id) (Some (fresh_row owner p)) g)
-          ∙ ap (λ b. cond (has_id j ids && is_some o) (option_map (fresh_row owner) o) (cond b (Some (fresh_row owner p)) g)) k
+  fresh_in-origins owner j o e (id ∷ ids) g = grind (arith, is_id-Decides j id, cond_same, and-false, fresh_in-origins owner j o e ids)
 
 -- the fresh ones of one property are there whatever was
 fresh_alike : (owner : ObjNo) (j : PropId) (os : List Origin) (g : Option SlotRow) → fresh_in owner os j g ≡ cond (list_any (λ o. is_id j o.id) os) (fresh_in owner os j None) g

@@ -29,10 +29,10 @@ module _ (t : Maps) (good : IsGood t) (x : ObjNo) (n : Name) where
       (passing (λ (p : PropRow). is_alike p.name n) (get t.props q) both.0, both.1)
 
   -- what isn't kept for the hash of the name isn't one of the name
-  pub hashed-covers : (names : FinMap hashed_cmp ⊤) → HoldsNames t x names → (q : PropId) → is_some (get names (name_hash n, q)) ≡ false → has_under_name t x n q ≡ false
-  hashed-covers names holds q lacks = false_from_ne_true (has_under_name t x n q) (λ h.
+  pub hashed-covers : (names : FinMap hashed_cmp ⊤) → HoldsNames t x names → (hash : ℕ) → hash ≡ name_hash n → (q : PropId) → is_some (get names (hash, q)) ≡ false → has_under_name t x n q ≡ false
+  hashed-covers names holds hash same q lacks = false_from_ne_true (has_under_name t x n q) (λ h.
       let p = parts q h in
-      both_ways (is_some (get names (name_hash n, q))) lacks (ap (λ k. is_some (get names (k, q))) (sym (one_hash p.0.0.name n p.0.2)) ∙ holds q p.0.0 p.0.1 p.1))
+      both_ways (is_some (get names (hash, q))) lacks (ap (λ k. is_some (get names (k, q))) (same ∙ sym (one_hash p.0.0.name n p.0.2)) ∙ holds q p.0.0 p.0.1 p.1))
 
   pub one_is_named : (q : PropId) → has_under_name t x n q ≡ true → is_some (slot_of (world_of t) x (folded n)) ≡ true
   unfolding folded

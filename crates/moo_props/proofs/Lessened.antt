@@ -1,5 +1,5 @@
 -- Rows without an object show the world without it, and are sound.
-use Rattle.moo_props.{proofs.Words.{arith, ◌||◌, ◌≡◌, ℕ, Bool, true, false, Option, None, Some, [], ◌∷◌, refl, sym, ap, ◌∙◌, is_some, unwrap_or, if◌then◌else◌, option_map, filter_map, ObjNo, ObjRow, PropRow, unless_defined_by, Name, nothing, same_object, same_object-Decides, recycled, World, WorldObject, IsWellFormed, is_object, slot_of, with_slots, without_slots, LookUps, AreSound, numbers_below, name_on, slot_seen, object_shown, world_shown, SameButSlots-rebuilt, objects_same, is_object_seen, object_seen, released_row, SlotHere, is_among, or_parts}, proofs.Shared.{kept_slots, left_some, left_value, some_map, same_by_objects}}
+use Rattle.moo_props.{proofs.Words.{arith, ◌||◌, ◌≡◌, ℕ, Bool, true, false, Option, None, Some, [], ◌∷◌, refl, sym, ap, ◌∙◌, is_some, unwrap_or, if◌then◌else◌, option_map, ObjNo, ObjRow, PropRow, unless_defined_by, Name, nothing, same_object, same_object-Decides, recycled, World, WorldObject, IsWellFormed, is_object, slot_of, with_slots, without_slots, LookUps, AreSound, name_on, slot_seen, object_shown, world_shown, SameButSlots-rebuilt, objects_same, is_object_seen, object_seen, released_row, SlotHere, is_among, or_parts}, proofs.Shared.{kept_slots, left_some, left_value, some_map, same_by_objects}}
 use Rattle.moo_world.{proofs.Shown.ObjectEntries.{same_object-symm}, specs.Recycling.{released, object_removed}, proofs.Inheritance.Recycling.{recycle_law}}
 
 -- x defines the property under a number
@@ -45,14 +45,7 @@ module _ (m : LookUps) (sound : AreSound m) (wf : IsWellFormed (world_shown m)) 
       at : (y : ObjNo) (b : Bool) → same_object x y ≡ b → (o : Option ObjRow)
           → option_map (with_slots (λ n. None)) (option_map (object_shown m2 y) (if b then None else option_map (released_row x row.parent) o))
           ≡ option_map (with_slots (λ n. None)) (if b then None else option_map (released x row.parent) (option_map (object_shown m y) o))
-      at y true e o = refl
-      at y false e None = refl
-      at y false e (Some r) = λ i. Some (record {
-        row = released_row x row.parent r;
-        defines = filter_map (names y e i) (numbers_below m.head.next_prop);
-        slot = λ n. None;
-        verbs = filter_map (λ j. if e i then None else m.verb y j) (numbers_below m.head.next_verb);
-      })
+      at y b e o = grind (arith, names)
 
   links : without_slots (world_shown m2) ≡ without_slots s
   links = bare ∙ ap (λ q. without_slots (record w { object = λ y. if same_object x y then None else option_map (released x q) (w.object y) })) (sym (ap (λ o. unwrap_or (option_map (λ (r : WorldObject). r.row.parent) o) nothing) (object_seen m x row here)))

@@ -1,6 +1,7 @@
 -- What the steps of a change of parent come to.
 use Rattle.moo_props.{proofs.Words.{◌≡◌, ◌+◌, Bool, true, false, cond, Option, None, Some, List, [], ◌∷◌, map, length, refl, sym, ap, ◌∙◌, subst, arith, length-append, ◌&&◌, is_some, unwrap_or, drop, if◌then◌else◌, option_map, filter, list_any, AllByRecursion, FinMap, get, insert, entries, get-entries, get-insert, entries_sorted, ObjNo, ObjRow, PropId, PropRow, SlotRow, Maps, Held, wrote, object_cmp, prop_cmp, slot_cmp, object_exact, prop_exact, object_total, prop_total, same_object, is_among, nothing, same_object-Decides, World, WorldObject, chain, owner_of, reparented, IsSound, look_ups, world_of, MayReparent, ancestors, lost, gained, chain_of_row, chain_of_no_row, object_seen, object_key, Origin, owners_under, is_only_of, props_only_of, slots_moved, relinked, relinked_list, props_of, is_defined_among, slot_after, row_after, IsSameButSlotsAndObjects, origins, fresh_of, slot_removed, slot_put, without_on, with_fresh, keys_on, keys_over, fresh_row, listed, own_entries, all_made, cond_both, ◌≤◌, keys_by}, proofs.Cases.{passing}, proofs.Folding.{has_id, is_id, all_moved, fresh_in, fresh_in-origins}, proofs.Folds.{all_keep, all_write, but_slots, same_base, same_maps}, proofs.Definers.{only_lost, only_gained}, proofs.Gains.{slot_on_new}, proofs.After.{world_after, sound_after}}
 use Rattle.std.specs.FinMap.{find}
+use Rattle.std.proofs.lemmas.List.{length-map}
 
 -- ---- only slots change, and each change is counted
 
@@ -11,10 +12,6 @@ pub keeps-moved : (lost : ObjNo → List PropId) (os : List Origin) (es : List (
 keeps-moved lost os es held =
     all_keep (λ e h. with_fresh e.0 e.1 os (without_on e.0 (lost e.0) h)) but_slots
     (λ e h. keeps-fresh e.0 e.1 os (without_on e.0 (lost e.0) h) ∙ all_keep (slot_removed e.0) but_slots (λ id h. refl) (lost e.0) h) es held
-
-length-made : {A B : Type 0} (f : A → B) (l : List A) → length (map f l) ≡ length l
-length-made f [] = refl
-length-made f (x ∷ l) = omega (arith, length-made f l)
 
 pub writes-moved : (lost : ObjNo → List PropId) (os : List Origin) (ids : List PropId) → length os ≤ length ids → (es : List (ObjNo × ObjNo)) (held : Held) → (slots_moved lost os es held).writes ≤ held.writes + (length (keys_by lost es) + length (keys_over ids es))
 writes-moved lost os ids few [] held = omega arith
@@ -27,8 +24,8 @@ writes-moved lost os ids few (e ∷ es) held =
       all_write (slot_removed e.0) (λ id h. omega arith) (lost e.0) held,
       length-append (keys_on e.0 (lost e.0)) (keys_by lost es),
       length-append (keys_on e.0 ids) (keys_over ids es),
-      length-made {B = ObjNo × PropId} (λ (id : PropId). (e.0, id)) (lost e.0),
-      length-made {B = ObjNo × PropId} (λ (id : PropId). (e.0, id)) ids,
+      length-map {B = ObjNo × PropId} (lost e.0) (λ (id : PropId). (e.0, id)),
+      length-map {B = ObjNo × PropId} ids (λ (id : PropId). (e.0, id)),
     )
 
 pub no_keys : (es : List (ObjNo × ObjNo)) → keys_over [] es ≡ []
@@ -157,5 +154,4 @@ module _ (t : Maps) (sound : IsSound t) (x q : ObjNo) (may : MayReparent (world_
         moved = writes-moved (λ y. lost_ids) (origins t.slots q gained_ids) gained_ids (few_origins t.slots q gained_ids) (owners_under t x) held
 
         by : (b : Bool) → (if b then held1 else wrote held1 (record (held1.maps) { objects = insert held1.maps.objects x (changed row) })).writes ≤ held.writes + (length (keys_over lost_ids (owners_under t x)) + length (keys_over gained_ids (owners_under t x)) + length (if b then [] else x ∷ []))
-        by true = omega (arith, moved)
-        by false = omega (arith, moved)
+        by b = grind (arith, moved)

@@ -1,24 +1,18 @@
 -- Clashes of names, by what each object defines itself.
-use Rattle.moo_props.{proofs.Words.{◌||◌, ◌≡◌, Bool, true, false, None, Option, Some, List, [], ◌∷◌, ◌++◌, map, refl, sym, ap, ◌∙◌, is_some, unwrap_or, if◌then◌else◌, option_map, option_or, int_eq, filter, find, list_any, entries, is_object, IsGood, PropId, PropRow, Slot, ObjNo, defined_left, Maps, clashes, subtree_of, Name, Property, nothing, same_object, same_text, folded, defines_name, first_to_define, first_to_meet, walk_down, World, IsWellFormed, chain, Chain-chain, chain_of_none, no_slot, property_names_of, defined_by, defined_by_any, definer_of_name, definer_of_slot, property_named, slot_of, shares_property_name, IsSound, world_of, prop_id, any-append, any_map, meets_on}, proofs.Shared.{has_owed}, proofs.DefinedNames.{names_listed}, proofs.Descending.{any_walked}, proofs.Walked.{found_any}, proofs.WholeWalks.{props_all}}
+use Rattle.moo_props.{proofs.Words.{arith, ◌||◌, ◌≡◌, Bool, None, Option, Some, List, [], ◌∷◌, ◌++◌, map, refl, sym, ap, ◌∙◌, is_some, unwrap_or, if◌then◌else◌, option_map, option_or, int_eq, filter, find, list_any, entries, is_object, IsGood, PropId, PropRow, Slot, ObjNo, defined_left, Maps, clashes, subtree_of, Name, Property, nothing, same_object, same_text, folded, defines_name, first_to_define, first_to_meet, walk_down, World, IsWellFormed, chain, Chain-chain, chain_of_none, no_slot, property_names_of, defined_by, defined_by_any, definer_of_name, definer_of_slot, property_named, slot_of, shares_property_name, IsSound, world_of, prop_id, any-append, any_map, meets_on}, proofs.Shared.{has_owed}, proofs.DefinedNames.{names_listed}, proofs.Descending.{any_walked}, proofs.Walked.{found_any}, proofs.WholeWalks.{props_all}}
 use Rattle.std.proofs.lemmas.List.Folds.{find-append}
 
 -- ---- the first that passes
 
 -- what is found, by whether any is
 first_if_any : {A : Type 0} (found : Option A) (any : Bool) (other : A) → is_some found ≡ any → found ≡ (if any then Some (unwrap_or found other) else None)
-first_if_any None any other e = ap (λ b. if b then Some other else None) e
-first_if_any (Some v) any other e = ap (λ b. if b then Some v else None) e
+first_if_any found any other e = grind arith
 
 map_or : {A B : Type 0} (f : A → B) (a b : Option A) → option_map f (option_or a b) ≡ option_or (option_map f a) (option_map f b)
-map_or f None b = refl
-map_or f (Some v) b = refl
+map_or f o b = grind arith
 
 first_or : {A : Type 0} (test : A → Bool) (a : A) (l : List A) → option_or (if test a then Some a else None) (find test l) ≡ find test (a ∷ l)
-first_or {A = A} test a l = by (test a) (find test l)
-  where
-    by : (b : Bool) (rest : Option A) → option_or (if b then Some a else None) rest ≡ (if b then Some a else rest)
-    by true rest = refl
-    by false rest = refl
+first_or test a l = grind arith
 
 -- ---- what the objects of a list define
 
@@ -31,12 +25,7 @@ module _ (w : World) where
   -- y defines the name
   own_definer : (y : ObjNo) (n : Name) (names : List Name) → option_map (λ (p : Property). p.0) (find (λ p. same_text (folded p.1) n) (map (λ m. (y, m)) names)) ≡ (if list_any (λ m. same_text (folded m) n) names then Some y else None)
   own_definer y n [] = refl
-  own_definer y n (m ∷ names) = by (same_text (folded m) n) (own_definer y n names)
-    where
-      by : (b : Bool) → option_map (λ (p : Property). p.0) (find (λ p. same_text (folded p.1) n) (map (λ m. (y, m)) names)) ≡ (if list_any (λ m. same_text (folded m) n) names then Some y else None)
-          → option_map (λ (p : Property). p.0) (if b then Some (y, m) else find (λ p. same_text (folded p.1) n) (map (λ m. (y, m)) names)) ≡ (if b || list_any (λ m. same_text (folded m) n) names then Some y else None)
-      by true e = refl
-      by false e = e
+  own_definer y n (m ∷ names) = grind (arith, own_definer y n names)
 
   -- the first of them that defines the name
   first_defines : (l : List ObjNo) (n : Name) → find (λ y. defines_name w y n) l ≡ definer_of_name (defined_by_any w l) (folded n)
@@ -62,8 +51,7 @@ module _ (w : World) where
     first_above x n = by (is_object w x) refl
       where
         by : (b : Bool) → is_object w x ≡ b → find (λ y. defines_name w y n) (chain w x) ≡ definer_of_slot w x (folded n)
-        by true o = first_defines (chain w x) n ∙ sym (wf.slots x (chain w x) (folded n) o (Chain-chain w wf.tree x o))
-        by false o = ap (find (λ y. defines_name w y n)) (chain_of_none w x o) ∙ sym (ap (option_map (λ (s : Slot). s.definer)) (no_slot (w.object x) (folded n) o))
+        by b o = grind (arith, first_defines (chain w x) n, wf.slots x (chain w x) (folded n), Chain-chain w wf.tree x, chain_of_none w x, no_slot)
 
     -- y defines a name of a slot that new has
     pub meets_by_slots : (new y : ObjNo) → list_any (λ m. is_some (slot_of w new (folded m))) (property_names_of w y) ≡ meets_on w new y

@@ -1,13 +1,8 @@
 -- Rows with a new object show the world with that object, and are good ones.
-use Rattle.moo_props.{proofs.Words.{◌||◌, ◌≡◌, ℕ, Bool, true, false, Option, None, Some, List, [], ◌∷◌, refl, sym, ap, ◌∙◌, subst, ◌⊎◌, inl, inr, pos, arith, is_some, slice_get, ◌+ℤ◌, if◌then◌else◌, option_map, option_and_then, filter_map, list_any, false≢true, or_cases, ints, ObjNo, ObjRow, PropRow, SlotRow, created, Name, Property, nothing, same_object, same_property, folded, same_object-Decides, World, WorldObject, Slot, IsWellFormed, Chain, is_object, chain, defined_by_any, owner_of, property_named, slot_of, fresh, with_slots, without_slots, numbers_to, read_in, read_along, read_of, LookUps, AreSound, numbers_below, slot_on, object_shown, world_shown, named_owed, SameButSlots-rebuilt, no_slot, is_object_seen, Chain-chain, chain_of_none, new_row, fresh_row, slots_shown, false_from_ne_true, slice_get-map}, proofs.Shared.{changed, none_of, put_some, some_map, same_by_objects}, proofs.Cases.{none_map}, proofs.Numbers.{no_names, nothing_below}, proofs.NewSlots.{with_new}}
+use Rattle.moo_props.{proofs.Words.{◌||◌, ◌≡◌, ℕ, Bool, true, false, Option, None, Some, [], refl, sym, ap, ◌∙◌, subst, ◌⊎◌, inl, inr, pos, arith, is_some, slice_get, ◌+ℤ◌, if◌then◌else◌, option_map, option_and_then, filter_map, list_any, false≢true, or_cases, ints, ObjNo, ObjRow, PropRow, SlotRow, created, Name, Property, nothing, same_object, same_property, folded, same_object-Decides, World, WorldObject, IsWellFormed, is_object, chain, defined_by_any, property_named, slot_of, fresh, with_slots, without_slots, LookUps, AreSound, numbers_below, slot_on, object_shown, world_shown, SameButSlots-rebuilt, no_slot, is_object_seen, Chain-chain, chain_of_none, new_row, fresh_row, slots_shown, false_from_ne_true, slice_get-map}, proofs.Shared.{changed, none_of, put_some, some_map, same_by_objects}, proofs.Cases.{none_map}, proofs.Numbers.{no_names, nothing_below}, proofs.NewSlots.{with_new}}
 use Rattle.std.specs.Prelude.{◌<ℤ◌}
-use Rattle.moo_world.{specs.Creation.{plain_object, object_added, next_object}, specs.Arguments.{is_number}, specs.World.{has_property, slot_for, SameButSlots, climb}, proofs.Inheritance.Creating.{IsWellFormed-created, chain_x, chain_other, owed_still, owed_x}, proofs.Inheritance.Rebuilding.{slot_of-rebuilt, parents_same}, proofs.Ancestry.Trees.{linked}, proofs.Shown.Slots.{here-slot_on}}
-
--- ---- lists
-
-same_chain : (a b : World) → SameButSlots a b → (x : ObjNo) → chain a x ≡ chain b x
-unfolding chain
-same_chain a b same x = λ i. climb (numbers_to (ap (λ (k : World). k.top) same i)) (parents_same a b same i) x
+use Rattle.moo_world.{specs.Creation.{plain_object, object_added, next_object}, specs.Arguments.{is_number}, specs.World.{has_property, slot_for}, proofs.Inheritance.Creating.{IsWellFormed-created, chain_x, owed_still, owed_x}, proofs.Inheritance.Rebuilding.{slot_of-rebuilt}, proofs.Shown.Slots.{here-slot_on}}
+use Rattle.moo_world.proofs.Ownership.Created.{slot_old}
 
 module _ (m : LookUps) (sound : AreSound m) where
   -- the slots of any number, object or not
@@ -81,11 +76,7 @@ module _ (m : LookUps) (sound : AreSound m) (wf : IsWellFormed (world_shown m)) 
   -- ---- the slots of the rebuilt world
 
   owed_none : (n : Name) → property_named (defined_by_any w (chain w q)) n ≡ None → slot_of w q n ≡ None
-  owed_none n e = by (is_object w q) refl
-    where
-      by : (b : Bool) → is_object w q ≡ b → slot_of w q n ≡ None
-      by true h = none_map (λ (k : Slot). k.definer) (slot_of w q n) (wf.slots q (chain w q) n h (Chain-chain w wf.tree q h) ∙ ap (option_map (λ p. p.0)) e)
-      by false h = no_slot (w.object q) n h
+  owed_none n e = grind (arith, none_map, no_slot, wf.slots q (chain w q) n, Chain-chain w wf.tree q)
 
   rebuilt_new : (n : Name) → slot_of (created w x q owner) x n ≡ option_map (fresh owner) (slot_of w q n)
   rebuilt_new n =
@@ -99,18 +90,8 @@ module _ (m : LookUps) (sound : AreSound m) (wf : IsWellFormed (world_shown m)) 
       by : (o : Option Property) → property_named (defined_by_any w (chain w q)) n ≡ o → slot_for w s q x n o ≡ option_map (fresh owner) (slot_of w q n)
       by b e = grind (arith, owed_none, not_owed, is_x)
 
-  rebuilt_other : (y : ObjNo) (n : Name) → is_object w y ≡ true → slot_of (created w x q owner) y n ≡ slot_of w y n
-  rebuilt_other y n o =
-      slot_of-rebuilt w s q y n
-      ∙ ap (slot_for w s q y n) (ap (λ k. property_named k n) (owed_still w x q owner wf free next_is.1 next_is.0 parent_is (chain s y) ∙ ap (defined_by_any w) (chain_other w x q owner wf free next_is.1 next_is.0 parent_is y o)))
-      ∙ by (property_named (defined_by_any w (chain w y)) n) refl
-    where
-      by : (v : Option Property) → property_named (defined_by_any w (chain w y)) n ≡ v → slot_for w s q y n v ≡ slot_of w y n
-      by None e = sym (none_map (λ (k : Slot). k.definer) (slot_of w y n) (wf.slots y (chain w y) n o (Chain-chain w wf.tree y o) ∙ ap (option_map (λ p. p.0)) e))
-      by (Some p) e = ap (λ b. if b then slot_of w y n else option_map (fresh (owner_of s y)) (slot_of w q n)) (named_owed w (chain w y) n p e)
-
   pub world_new : world_shown m2 ≡ created w x q owner
-  world_new = same_by_objects (world_shown m2) (created w x q owner) (links ∙ sym (SameButSlots-rebuilt w s q)) (λ y n e. grind (arith, same_object-Decides, slots_of_new, rebuilt_new, slots_of_other, rebuilt_other, is_object_seen))
+  world_new = same_by_objects (world_shown m2) (created w x q owner) (links ∙ sym (SameButSlots-rebuilt w s q)) (λ y n e. grind (arith, same_object-Decides, slots_of_new, rebuilt_new, slots_of_other, slot_old w x q owner wf is_next parent, is_object_seen))
 
   pub formed_new : is_number owner ≡ true → IsWellFormed (world_shown m2)
   formed_new numbered = subst IsWellFormed (sym world_new) (IsWellFormed-created w x q owner wf free next_is.1 next_is.0 parent_is numbered)
@@ -137,17 +118,3 @@ module _ (m : LookUps) (sound : AreSound m) (wf : IsWellFormed (world_shown m)) 
     one_name = one_name2;
     verbs = λ y id e. let r = sound.verbs y id e in (still y r.0, r.1, r.2);
   }
-
-  -- ---- what the objects read
-
-  chain_made : (o : ObjNo) → is_object w o ≡ true → chain (created w x q owner) o ≡ chain w o
-  chain_made o h = same_chain (created w x q owner) s (SameButSlots-rebuilt w s q) o ∙ chain_other w x q owner wf free next_is.1 next_is.0 parent_is o h
-
-  pub reads_new : (o : ObjNo) (n : Name) → is_object w o ≡ true → read_of (created w x q owner) o n ≡ read_of w o n
-  reads_new o n h = ap (read_along (created w x q owner) n) (chain_made o h) ∙ along (chain w o) o (Chain-chain w wf.tree o h)
-    where
-      along : (l : List ObjNo) (z : ObjNo) → Chain w z l → read_along (created w x q owner) n l ≡ read_along w n l
-      along [] z c = refl
-      along (y ∷ l) z c =
-          let yo : is_object w y ≡ true = subst (λ k. is_object w k ≡ true) c.0 (linked (w.object z) (λ r. r.row.parent) c.1 c.2) in
-          λ i. read_in (rebuilt_other y n yo i) (along l c.1 c.3 i)

@@ -1,5 +1,5 @@
 -- Rows with a new property show the world with it, and are sound.
-use Rattle.moo_props.{proofs.Words.{◌≡◌, ℕ, ◌+◌, ◌<◌, Bool, true, false, eqb, Option, None, Some, List, [], ◌∷◌, ◌++◌, refl, sym, ap, ◌∙◌, subst, arith, ◌&&◌, is_some, unwrap_or, slice_get, if◌then◌else◌, option_map, option_and_then, option_or, filter_map, cons_option, eqb-true, eq-eqb, filter_map-append, none-some, same_Some, ObjNo, Value, ObjRow, PropRow, SlotRow, Set, clashes, property_added, Name, nothing, same_object, same_text, folded, is_among, same_object-Decides, same_text-Decides, World, WorldObject, Slot, IsWellFormed, is_object, is_property_name, chain, owner_of, property_names_of, fresh, slot_fits, LookUps, AreSound, numbers_below, name_on, slot_on, slot_seen, object_shown, world_shown, names_shown, is_object_seen, object_seen, Chain-chain, fresh_of, some_of, slots_shown, ne_eqb}, proofs.Shared.{has_owed, none_of, object_of_chain, put_some, same_below, seen_at}}
+use Rattle.moo_props.{proofs.Words.{slot_shown, ◌≡◌, ℕ, ◌+◌, ◌<◌, Bool, true, false, eqb, Option, None, Some, List, [], ◌∷◌, ◌++◌, refl, sym, ap, ◌∙◌, subst, arith, ◌&&◌, is_some, unwrap_or, slice_get, if◌then◌else◌, option_map, option_and_then, option_or, filter_map, cons_option, eqb-true, eq-eqb, filter_map-append, same_Some, ObjNo, Value, ObjRow, PropRow, SlotRow, Set, clashes, property_added, Name, nothing, same_object, same_text, folded, is_among, same_object-Decides, same_text-Decides, World, WorldObject, Slot, IsWellFormed, is_object, is_property_name, chain, owner_of, property_names_of, fresh, slot_fits, LookUps, AreSound, numbers_below, name_on, slot_on, slot_seen, object_shown, world_shown, names_shown, is_object_seen, object_seen, Chain-chain, fresh_of, some_of, slots_shown, ne_eqb}, proofs.Shared.{has_owed, none_of, object_of_chain, put_some, same_below}}
 use Rattle.std.proofs.Common.{add-one}
 use Rattle.moo_rows.specs.declared.row.Bits.{Bits}
 use Rattle.moo_world.{proofs.Shown.RowLaws.{with_prop, names_with_prop, other_names_with_prop}, proofs.Inheritance.Insertion.{IsWellFormed-property_added, none_owed}}
@@ -54,17 +54,12 @@ module _ (m : LookUps) (sound : AreSound m) (wf : IsWellFormed (world_shown m)) 
       after = names_shown (with_prop m prop) y r e
 
       by : (b : Bool) → same_object x y ≡ b → filter_map (name_on m2 y) (numbers_below (next + 1)) ≡ (if b then filter_map (name_on m y) (numbers_below next) ++ name ∷ [] else filter_map (name_on m y) (numbers_below next))
-      by true f =
-          sym after
-          ∙ subst (λ z. m.object z ≡ Some r → property_names_of (world_shown (with_prop m prop)) z ≡ property_names_of (world_shown m) z ++ name ∷ []) ((same_object-Decides x y).0 f) (λ g. names_with_prop m prop r g) e
-          ∙ ap (λ l. l ++ name ∷ []) (names_shown m y r e)
-      by false f = sym after ∙ other_names_with_prop m prop y r e f ∙ names_shown m y r e
+      by b f = grind (arith, after, (same_object-Decides x y).0, names_with_prop m prop r, other_names_with_prop m prop y r e, names_shown m y r e)
 
   -- ---- slots
 
   first_of_two : (l : List Slot) (o : Option Slot) → slice_get (l ++ cons_option o []) 0 ≡ option_or (slice_get l 0) o
-  first_of_two [] None = refl
-  first_of_two [] (Some k) = refl
+  first_of_two [] o = grind arith
   first_of_two (k ∷ l) o = refl
 
   or_none : (o : Option Slot) → option_or o None ≡ o
@@ -104,12 +99,7 @@ module _ (m : LookUps) (sound : AreSound m) (wf : IsWellFormed (world_shown m)) 
       owner_is = ap (λ o. unwrap_or (option_map (λ (k : WorldObject). k.row.owner) o) nothing) (object_seen m y r e)
 
       by : (u : Bool) → under y ≡ u → (b : Bool) → same_text (folded name) n ≡ b → option_or (old y n) (if b then option_map (slot_seen x) (if u then Some (made y) else None) else None) ≡ (if u then (if b then Some (if same_object x y then s else fresh r.owner s) else old y n) else old y n)
-      by false u true f = or_none (old y n)
-      by false u false f = or_none (old y n)
-      by true u false f = or_none (old y n)
-      by true u true f =
-          ap (λ o. option_or o (Some (slot_seen x (made y)))) (ap (old y) (sym ((same_text-Decides (folded name) n).0 f)) ∙ none_yet y r e u)
-          ∙ ap Some (seen y (owner_of w y) (same_object x y) ∙ ap (λ o. if same_object x y then s else fresh o s) owner_is)
+      by u hu b hb = grind (arith, or_none, none_yet y r e, (same_text-Decides (folded name) n).0, seen, owner_is)
 
   -- ---- the world
 
@@ -141,8 +131,7 @@ module _ (m : LookUps) (sound : AreSound m) (wf : IsWellFormed (world_shown m)) 
   origin y j h = grind (arith, eqb-true)
 
   rows_of : (y : ObjNo) (j : ℕ) → Origin y j → (is_some (m.object y) ≡ true) × (is_some (m2.prop j) ≡ true)
-  rows_of y j (new e u) = (there y u, ap (λ k. is_some (if eqb k next then Some prop else m.prop k)) e ∙ ap (λ b. is_some (if b then Some prop else m.prop next)) is_next)
-  rows_of y j (before_it h) = let r = sound.slots y j h in (r.0, put_some (eqb j next) prop (m.prop j) r.1)
+  rows_of y j o = grind (arith, there, put_some, is_next, sound.slots y j)
 
   -- the property of an old slot is an old one
   old_prop : (y : ObjNo) (j : ℕ) (p : PropRow) → is_some (m.slot y j) ≡ true → m2.prop j ≡ Some p → m.prop j ≡ Some p
@@ -152,11 +141,7 @@ module _ (m : LookUps) (sound : AreSound m) (wf : IsWellFormed (world_shown m)) 
   new_prop j p e f = same_Some prop p (sym (ap (λ k. if eqb k next then Some prop else m.prop k) e ∙ ap (λ b. if b then Some prop else m.prop next) is_next) ∙ f)
 
   clash : (y : ObjNo) (j : ℕ) (r : PropRow) → under y ≡ true → is_some (m.slot y j) ≡ true → m.prop j ≡ Some r → folded name ≡ folded r.name → ⊥
-  clash y j r u h e n =
-      let k = some_of (m.slot y j) h in
-      let o = some_of (m.object y) (sound.slots y j h).0 in
-      let found = seen_at m sound y (folded name) j (record { prop = r; row = k.0; there = e; held = k.1; name = sym n }) in
-      none-some (slot_seen r.definer k.0) (sym (none_yet y o.0 o.1 u) ∙ sym (slots_shown m y (folded name) o.0 o.1) ∙ found)
+  clash y j r u h e n = grind (arith, some_of, slot_shown, slots_shown m y (folded name), none_yet y, sound.slots y j h)
 
   one_name : (y : ObjNo) (i j : ℕ) (p r : PropRow) → Origin y i → Origin y j → m2.prop i ≡ Some p → m2.prop j ≡ Some r → folded p.name ≡ folded r.name → i ≡ j
   one_name y i j p r b o g h n = grind (arith, old_prop, clash, new_prop)

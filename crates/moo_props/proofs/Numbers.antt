@@ -1,5 +1,5 @@
 -- What a function gives over numbers, by what it gives at each.
-use Rattle.moo_props.{proofs.Words.{◌≡◌, ℕ, zero, suc, ◌<◌, Bool, Option, None, Some, List, [], ◌∷◌, ◌++◌, map, refl, sym, ap, ◌∙◌, arith, if◌then◌else◌, option_map, filter, filter_map, cons_option, filter_map-append, slice_get, numbers_below, LookUps, AreSound, ObjNo, PropRow, Name, name_on, option_and_then, same_object, same_object-Decides, none-some, false≢true, is_some, cond_some}, proofs.Cases.{no_value}}
+use Rattle.moo_props.{proofs.Words.{◌≡◌, ℕ, zero, suc, ◌<◌, Bool, Option, None, Some, List, [], ◌∷◌, ◌++◌, map, refl, sym, ◌∙◌, arith, if◌then◌else◌, option_map, filter, filter_map, cons_option, filter_map-append, slice_get, numbers_below, LookUps, AreSound, ObjNo, name_on, same_object-Decides}, proofs.Cases.{no_value}}
 use Rattle.moo_world.proofs.Shown.Numbered.{first_from, no_first}
 
 -- what passes a test
@@ -31,10 +31,4 @@ nothing_below h n none = no_first (filter_map h (numbers_below n)) (no_value (sl
 
 -- what isn't an object defines nothing
 pub no_names : (m : LookUps) → AreSound m → (x : ObjNo) → m.object x ≡ None → filter_map (name_on m x) (numbers_below m.head.next_prop) ≡ []
-no_names m sound x none = nothing_below (name_on m x) m.head.next_prop (λ id n e. by id n (m.prop id) refl e)
-  where
-    by : (id : ℕ) (n : Name) (o : Option PropRow) → m.prop id ≡ o → option_and_then (λ (p : PropRow). if same_object p.definer x then Some p.name else None) o ≡ Some n → ⊥
-    by id n None g e = none-some n e
-    by id n (Some p) g e =
-        let own = (same_object-Decides p.definer x).0 (cond_some (same_object p.definer x) p.name n e).0 in
-        false≢true (ap is_some (sym none ∙ ap m.object (sym own)) ∙ sound.definers id p g)
+no_names m sound x none = nothing_below (name_on m x) m.head.next_prop (λ id n e. grind (arith, sound.definers id, same_object-Decides))

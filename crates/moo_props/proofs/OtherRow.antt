@@ -1,5 +1,5 @@
 -- The names that objects define once another row, or none, is under the number of a property of x.
-use Rattle.moo_props.{proofs.Words.{arith, ◌≡◌, ℕ, Bool, true, false, eqb, Option, None, Some, refl, sym, ap, ◌∙◌, if◌then◌else◌, option_and_then, get, both_ways, eqb-true, eq-eqb, ObjNo, PropRow, Maps, Name, same_object, same_text, folded, same_object-Decides, same_text-Decides, LookUps, IsGood, look_ups, prop_id, false_from_ne_true}, proofs.Gains.{one_prop}}
+use Rattle.moo_props.{proofs.Words.{arith, ◌≡◌, ℕ, Bool, true, false, eqb, Option, None, Some, refl, sym, ◌∙◌, if◌then◌else◌, option_and_then, get, eqb-true, eq-eqb, ObjNo, PropRow, Maps, Name, same_object, same_text, folded, same_object-Decides, same_text-Decides, LookUps, IsGood, look_ups, prop_id}, proofs.Gains.{one_prop}}
 
 module _ (t : Maps) (good : IsGood t) (x : ObjNo) (id : ℕ) (p : PropRow) (there : get t.props (prop_id id) ≡ Some p) (own : p.definer ≡ x) where
   abbrev m : LookUps
@@ -19,13 +19,10 @@ module _ (t : Maps) (good : IsGood t) (x : ObjNo) (id : ℕ) (p : PropRow) (ther
     own_names change none it others j = by (eqb j id) refl (m.prop j) refl
       where
         stays : (r : PropRow) → m.prop j ≡ Some r → eqb j id ≡ false → (c : Bool) → same_object r.definer x ≡ c → (if c then Some r.name else None) ≡ change (if c then Some r.name else None)
-        stays r e f false g = sym none
-        stays r e f true g = sym (others r.name (false_from_ne_true _ (λ h. both_ways (eqb j id) f (only j r e ((same_object-Decides r.definer x).0 g) ((same_text-Decides (folded r.name) (folded p.name)).0 h)))))
+        stays r e f c g = grind (arith, none, others r.name, only j r e, same_object-Decides, same_text-Decides)
 
         by : (b : Bool) → eqb j id ≡ b → (o : Option PropRow) → m.prop j ≡ o → name_in x (if b then put else o) ≡ change (name_in x o)
-        by true f o e = sym (ap (λ o. change (name_in x o)) (sym e ∙ ap m.prop (eqb-true j id f) ∙ there) ∙ ap (λ b. change (if b then Some p.name else None)) ((same_object-Decides p.definer x).1 own) ∙ it)
-        by false f None e = sym none
-        by false f (Some r) e = stays r e f (same_object r.definer x) refl
+        by b f o e = grind (arith, eqb-true j id, there, own, (same_object-Decides p.definer x).1 own, it, none, stays)
 
     -- and those of another object stay, if the row isn't its own
     pub other_names : (y : ObjNo) → same_object x y ≡ false → name_in y put ≡ None → (j : ℕ) → name_in y (if eqb j id then put else m.prop j) ≡ name_in y (m.prop j)

@@ -1,5 +1,5 @@
 -- What is owed along a list of definers, by the rows of properties.
-use Rattle.moo_props.{proofs.Words.{arith, ◌||◌, ◌≡◌, ℕ, Bool, true, false, Option, None, Some, List, [], ◌∷◌, refl, sym, ap, ◌∙◌, inl, inr, ◌&&◌, is_some, unwrap_or, if◌then◌else◌, option_map, option_and_then, filter_map, list_any, cons_option, AllByRecursion, get, entries, get-entries, false≢true, and_parts, or_cases, or_right, none-some, same_Some, ObjNo, ObjRow, PropId, PropRow, Maps, prop_cmp, prop_exact, prop_total, Name, Property, same_object, same_property, is_among, same_object-Decides, World, WorldObject, Slot, IsWellFormed, is_object, chain, property_names_of, defined_by, defined_by_any, property_named, slot_of, LookUps, IsSound, look_ups, world_of, numbers_below, name_on, prop_id, decided_alike, any-append, no_slot, names_shown, is_object_seen, owed_listed, Chain-chain, chain_of_none, any_map, IsGood, SlotRow, name_of, slot_seen, defines, definer_among, named_owed, cond_some, some_of}, proofs.Cases.{none_of, passing, some_map}, proofs.Gains.{defines_pair}, proofs.Walked.{all_held, any_held, slot_here}}
+use Rattle.moo_props.{proofs.Words.{arith, ◌≡◌, ℕ, Bool, true, false, Option, None, Some, List, [], ◌∷◌, refl, sym, ap, ◌∙◌, ◌&&◌, is_some, unwrap_or, if◌then◌else◌, option_map, option_and_then, filter_map, list_any, AllByRecursion, get, entries, get-entries, false≢true, and_parts, or_cases, ObjNo, ObjRow, PropId, PropRow, Maps, prop_cmp, prop_exact, prop_total, Name, Property, same_object, same_property, is_among, same_object-Decides, World, WorldObject, Slot, IsWellFormed, is_object, chain, property_names_of, defined_by, defined_by_any, property_named, slot_of, LookUps, IsSound, look_ups, world_of, numbers_below, name_on, prop_id, decided_alike, any-append, no_slot, names_shown, is_object_seen, owed_listed, Chain-chain, chain_of_none, any_map, IsGood, SlotRow, name_of, slot_seen, defines, definer_among, named_owed, cond_some}, proofs.Cases.{none_of, passing, some_map}, proofs.Gains.{defines_pair}, proofs.Walked.{all_held, any_held, slot_here}}
 use Rattle.moo_world.proofs.Inheritance.Keeping.{same_property-is}
 
 -- ---- lists
@@ -7,10 +7,7 @@ use Rattle.moo_world.proofs.Inheritance.Keeping.{same_property-is}
 -- one that passes, of those of which all is said
 one_passing : {A : Type 0} (P : A → Type 0) (test : A → Bool) (l : List A) → AllByRecursion P l → list_any test l ≡ true → (a : A) × P a × (test a ≡ true)
 one_passing {A = A} P test [] h e = absurd (false≢true e)
-one_passing {A = A} P test (x ∷ l) h e = elim (or_cases (test x) (list_any test l) e) [
-  | inl k ↦ (x, h.0, k)
-  | inr k ↦ one_passing P test l h.1 k
-]
+one_passing {A = A} P test (x ∷ l) h e = grind (arith, one_passing P test l)
 
 any_pair : (test : Property → Bool) (l : List Property) (p : Property) → list_any (same_property p) l ≡ true → test p ≡ true → list_any test l ≡ true
 any_pair test [] p h k = absurd (false≢true h)
@@ -18,10 +15,7 @@ any_pair test (y ∷ l) p h k = grind (arith, same_property-is p y, any_pair tes
 
 any_number : {X : Type 0} (h : ℕ → Option X) (test : X → Bool) (l : List ℕ) → list_any test (filter_map h l) ≡ true → (k : ℕ) × (v : X) × (h k ≡ Some v) × (test v ≡ true)
 any_number h test [] e = absurd (false≢true e)
-any_number {X} h test (k ∷ l) e = by (h k) refl e (any_number h test l)
-  where
-    by : (o : Option X) → h k ≡ o → list_any test (cons_option o (filter_map h l)) ≡ true → (list_any test (filter_map h l) ≡ true → (k : ℕ) × (v : X) × (h k ≡ Some v) × (test v ≡ true)) → (k : ℕ) × (v : X) × (h k ≡ Some v) × (test v ≡ true)
-    by b g e r = grind (arith, or_cases)
+any_number {X} h test (k ∷ l) e = grind (arith, or_cases, any_number h test l)
 
 module _ (t : Maps) (sound : IsSound t) where
   abbrev m : LookUps
@@ -41,11 +35,7 @@ module _ (t : Maps) (sound : IsSound t) where
       here = sym (any_map test (λ n. (d, n)) (property_names_of w d)) ∙ h
 
       row : (id : ℕ) (n : Name) → test (d, n) ≡ true → (o : Option PropRow) → m.prop id ≡ o → option_and_then (λ (p : PropRow). if same_object p.definer d then Some p.name else None) o ≡ Some n → (id : ℕ) × (p : PropRow) × (m.prop id ≡ Some p) × (p.definer ≡ d) × (test (p.definer, p.name) ≡ true)
-      row id n k None g e = absurd (none-some n e)
-      row id n k (Some p) g e =
-          let parts = cond_some (same_object p.definer d) p.name n e in
-          let own : p.definer ≡ d = (same_object-Decides p.definer d).0 parts.0 in
-          (id, p, g, own, (λ i. test (own i, parts.1 i)) ∙ k)
+      row id n k o g e = grind (arith, cond_some, same_object-Decides)
 
       by : (o : Option ObjRow) → m.object d ≡ o → (id : ℕ) × (p : PropRow) × (m.prop id ≡ Some p) × (p.definer ≡ d) × (test (p.definer, p.name) ≡ true)
       by None g = absurd (false≢true (sym (ap (λ (o : Option WorldObject). list_any (λ n. test (d, n)) (unwrap_or (option_map (λ r. r.defines) o) [])) (none_of (w.object d) (is_object_seen m d ∙ ap is_some g))) ∙ here))
@@ -55,10 +45,7 @@ module _ (t : Maps) (sound : IsSound t) where
 
   owed_row : (test : Property → Bool) (l : List ObjNo) → list_any test (defined_by_any w l) ≡ true → (id : ℕ) × (p : PropRow) × (m.prop id ≡ Some p) × (is_among p.definer l ≡ true) × (test (p.definer, p.name) ≡ true)
   owed_row test [] h = absurd (false≢true h)
-  owed_row test (d ∷ l) h = elim (or_cases (list_any test (defined_by w d)) (list_any test (defined_by_any w l)) (sym (any-append test (defined_by w d) (defined_by_any w l)) ∙ h)) [
-    | inl k ↦ let a = named_row d test k in (a.0, a.1, a.2, ap (λ b. b || is_among a.1.definer l) ((same_object-Decides a.1.definer d).1 a.3), a.4)
-    | inr k ↦ let a = owed_row test l k in (a.0, a.1, a.2, or_right (same_object a.1.definer d) (is_among a.1.definer l) a.3, a.4)
-  ]
+  owed_row test (d ∷ l) h = grind (arith, any-append test (defined_by w d) (defined_by_any w l), named_row d test, same_object-Decides, owed_row test l)
 
   -- what passes of what is owed, by the rows
   pub any_owed : (test : Property → Bool) (l : List ObjNo) → list_any test (defined_by_any w l) ≡ list_any (λ e. is_among e.1.definer l && test (e.1.definer, e.1.name)) (entries t.props)
@@ -80,19 +67,12 @@ pub has_owed : (w : World) → IsWellFormed w → (x : ObjNo) (n : Name) → is_
 has_owed w wf x n = by (is_object w x) refl
   where
     by : (b : Bool) → is_object w x ≡ b → is_some (slot_of w x n) ≡ is_some (property_named (defined_by_any w (chain w x)) n)
-    by true o =
-        sym (some_map (λ (s : Slot). s.definer) (slot_of w x n)) ∙ ap is_some (wf.slots x (chain w x) n o (Chain-chain w wf.tree x o))
-        ∙ some_map (λ (p : Property). p.0) (property_named (defined_by_any w (chain w x)) n)
+    by true o = grind (arith, some_map, wf.slots x (chain w x) n o (Chain-chain w wf.tree x o))
     by false o = ap is_some (no_slot (w.object x) n o) ∙ sym (ap (λ l. is_some (property_named (defined_by_any w l) n)) (chain_of_none w x o))
 
 -- who defines a slot is in the chain
 pub definer_in : (w : World) → IsWellFormed w → (z : ObjNo) → is_object w z ≡ true → (n : Name) (s : Slot) → slot_of w z n ≡ Some s → is_among s.definer (chain w z) ≡ true
-definer_in w wf z zo n s e =
-    let owed = property_named (defined_by_any w (chain w z)) n in
-    let definer : Some s.definer ≡ option_map (λ (p : Property). p.0) owed = sym (ap (option_map (λ (s : Slot). s.definer)) e) ∙ wf.slots z (chain w z) n zo (Chain-chain w wf.tree z zo) in
-    let p = some_of owed (sym (some_map (λ (p : Property). p.0) owed) ∙ ap is_some (sym definer)) in
-    ap (λ d. is_among d (chain w z)) (same_Some s.definer p.0.0 (definer ∙ ap (option_map (λ (p : Property). p.0)) p.1))
-    ∙ (definer_among w p.0 (chain w z) (named_owed w (chain w z) n p.0 p.1)).0
+definer_in w wf z zo n s e = grind (arith, wf.slots z (chain w z) n zo (Chain-chain w wf.tree z zo), definer_among w, named_owed w (chain w z) n)
 
 -- so an object with a slot of a property that x defines is under x
 pub own_under : (t : Maps) → IsGood t → (x z : ObjNo) (j : PropId) (k : SlotRow) → get t.slots (z, j) ≡ Some k → defines t x j ≡ true → is_among x (chain (world_of t) z) ≡ true

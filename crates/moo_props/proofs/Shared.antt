@@ -8,6 +8,6 @@ pub use Rattle.moo_props.proofs.KeptSlots.{kept_slots, same_by_objects}
 pub use Rattle.moo_props.proofs.Gains.{object_of_chain, slot_on_heir}
 pub use Rattle.moo_props.proofs.Owing.{has_owed, own_under}
 pub use Rattle.moo_props.proofs.Folding.{has_id, is_id, is_id-Decides, key_parts}
-pub use Rattle.moo_props.proofs.Descending.{own_among}
+pub use Rattle.moo_tree.proofs.Searching.{own_among}
 pub use Rattle.moo_props.proofs.Definers.{new_is, no_clash}
 pub use Rattle.moo_props.proofs.Moved.{keeps-fresh, under_is}

@@ -1,5 +1,5 @@
 -- Rows without a property show the world without it, and are sound.
-use Rattle.moo_props.{proofs.Words.{arith, ◌≡◌, ℕ, Bool, true, false, cond, eqb, Option, None, Some, [], ◌∷◌, refl, sym, ap, ◌∙◌, subst, ◌&&◌, not, is_some, unwrap_or, if◌then◌else◌, unsigned_tied, option_map, filter, filter_map, get, remove, get-remove, both_ways, and_parts, eqb-true, same_Some, ObjNo, ObjRow, PropId, PropRow, Maps, Held, wrote, prop_total, property_removed, Name, nothing, same_object, same_text, folded, same_object-Decides, same_text-Decides, World, WorldObject, Slot, is_object, slot_of, with_slots, without_slots, LookUps, AreSound, IsGood, look_ups, world_of, world_shown, numbers_below, name_on, slot_seen, object_shown, prop_id, SameButSlots-rebuilt, is_object_seen, defines, spelling_of, owners_under, SlotHere, false_from_ne_true, slots_moved}, proofs.Shared.{kept_slots, left_some, left_value, own_under, passing, same_maps, same_by_objects}, proofs.Moved.{keeps-moved, slots_of_moved}, proofs.OtherRow.{only, own_names, other_names}, proofs.Numbers.{fewer, kept}}
+use Rattle.moo_props.{proofs.Words.{arith, ◌≡◌, ℕ, Bool, true, false, cond, eqb, Option, None, Some, [], ◌∷◌, refl, sym, ap, ◌∙◌, ◌&&◌, not, is_some, unwrap_or, if◌then◌else◌, unsigned_tied, option_map, filter, filter_map, get, remove, get-remove, both_ways, and_parts, eqb-true, ObjNo, ObjRow, PropId, PropRow, Maps, Held, wrote, prop_total, property_removed, Name, nothing, same_object, same_text, folded, same_object-Decides, same_text-Decides, World, WorldObject, Slot, is_object, slot_of, with_slots, without_slots, LookUps, AreSound, IsGood, look_ups, world_of, world_shown, numbers_below, name_on, slot_seen, object_shown, prop_id, SameButSlots-rebuilt, is_object_seen, defines, spelling_of, owners_under, SlotHere, false_from_ne_true, slots_moved}, proofs.Shared.{kept_slots, left_some, left_value, own_under, passing, same_maps, same_by_objects}, proofs.Moved.{keeps-moved, slots_of_moved}, proofs.OtherRow.{only, own_names, other_names}, proofs.Numbers.{fewer, kept}}
 use Rattle.moo_world.proofs.Inheritance.Shorter.{s, kept_slot, undefined_law}
 
 -- the look-ups without a property and its slots
@@ -46,9 +46,7 @@ module _ (t : Maps) (good : IsGood t) (x : ObjNo) (id : ℕ) (p : PropRow) (ther
       at : (y : ObjNo) (b : Bool) → same_object x y ≡ b → (o : Option ObjRow)
           → option_map (with_slots (λ n. None)) (option_map (object_shown m2 y) o)
           ≡ option_map (with_slots (λ n. None)) (option_map (λ (r : WorldObject). if b then record r { defines = filter named r.defines } else r) (option_map (object_shown m y) o))
-      at y b e None = refl
-      at y true e (Some r) = λ i. Some (record { row = r; defines = subst (λ z. filter_map (name_on m2 z) (numbers_below m.head.next_prop) ≡ filter named (filter_map (name_on m z) (numbers_below m.head.next_prop))) ((same_object-Decides x y).0 e) names_of_x i; slot = λ n. None; verbs = filter_map (m.verb y) (numbers_below m.head.next_verb) })
-      at y false e (Some r) = λ i. Some (record { row = r; defines = filter_map (names_of_other y e i) (numbers_below m.head.next_prop); slot = λ n. None; verbs = filter_map (m.verb y) (numbers_below m.head.next_verb) })
+      at y b e o = grind (arith, same_object-Decides, names_of_x, names_of_other)
 
   -- ---- sound rows
 
@@ -82,13 +80,7 @@ module _ (t : Maps) (good : IsGood t) (x : ObjNo) (id : ℕ) (p : PropRow) (ther
           (record { prop = h.prop; row = h.row; there = q.1; held = k.1; name = h.name }, refl, other)
 
       after : (j : ℕ) (h : SlotHere m y n j) → gone (slot_seen h.prop.definer h.row) ≡ false → SlotHere m2 y n j
-      after j h f =
-          let other : eqb j id ≡ false = false_from_ne_true (eqb j id) (λ e.
-          let same : h.prop ≡ p = same_Some h.prop p (sym h.there ∙ ap m.prop (eqb-true j id e) ∙ there) in
-          let mine = (same_object-Decides h.prop.definer x).1 (ap (λ (r : PropRow). r.definer) same ∙ own) in
-          let called = (same_text-Decides n (folded p.name)).1 (sym h.name ∙ ap (λ (r : PropRow). folded r.name) same) in
-          both_ways (gone (slot_seen h.prop.definer h.row)) f (λ i. mine i && called i)) in
-          record { prop = h.prop; row = h.row; there = ap (λ b. if b then None else m.prop j) other ∙ h.there; held = ap (λ b. if b then None else m.slot y j) other ∙ h.held; name = h.name }
+      after j h f = grind (arith, eqb-true, there, own, h.there, h.name, h.held, same_object-Decides, same_text-Decides)
 
   pub world_shorter : world_shown m2 ≡ v
   world_shorter = same_by_objects (world_shown m2) v (links ∙ sym (SameButSlots-rebuilt w (s w good.formed x p.name) nothing)) (λ y n e.

@@ -26,8 +26,7 @@ module _ (t : Maps) (sound : IsSound t) (x : ObjNo) (id : PropId) (k : SlotRow) 
   same = λ i. record w { object = λ y. at y (same_object x y) refl (w.object y) refl i }
     where
       slots : (r : WorldObject) → r.slot (folded prop.0.name) ≡ Some (slot_seen prop.0.definer k) → (n : Name) (b : Bool) → same_text (folded prop.0.name) n ≡ b → (if b then Some (slot_seen prop.0.definer next) else r.slot n) ≡ (if b then option_map change (r.slot n) else r.slot n)
-      slots r h n true e = sym (ap (option_map change) (ap r.slot (sym ((same_text-Decides (folded prop.0.name) n).0 e)) ∙ h) ∙ ap Some (agrees prop.0.definer))
-      slots r h n false e = refl
+      slots r h n b e = grind (arith, agrees prop.0.definer, same_text-Decides)
 
       at : (y : ObjNo) (b : Bool) → same_object x y ≡ b → (o : Option WorldObject) → w.object y ≡ o
           → option_map (λ (r : WorldObject). if b then record r { slot = λ n. if same_text (folded prop.0.name) n then Some (slot_seen prop.0.definer next) else r.slot n } else r) o

@@ -1,5 +1,5 @@
 -- What an object reads, by the rows.
-use Rattle.moo_props.{proofs.Words.{◌≡◌, true, Some, sym, ap, ◌∙◌, inl, inr, is_some, get, or_cases, same_Some, ObjNo, Value, ObjRow, PropId, PropRow, SlotRow, Clear, Set, Maps, same_object, is_among, same_object-Decides, World, IsWellFormed, chain, slot_of, read_of, LookUps, IsSound, look_ups, world_of, slot_seen, is_object_seen, chain_of_row, object_seen, name_of, some_of}, proofs.Shared.{object_of_chain, slot_here, slot_on_heir}, proofs.Owing.{definer_in}}
+use Rattle.moo_props.{proofs.Words.{arith, ◌≡◌, true, Some, sym, ap, ◌∙◌, is_some, get, same_Some, ObjNo, Value, ObjRow, PropId, PropRow, SlotRow, Clear, Set, Maps, is_among, same_object-Decides, World, IsWellFormed, chain, slot_of, read_of, LookUps, IsSound, look_ups, world_of, slot_seen, is_object_seen, chain_of_row, object_seen, name_of, some_of}, proofs.Shared.{object_of_chain, slot_here, slot_on_heir}, proofs.Owing.{definer_in}}
 use Rattle.moo_world.proofs.Shown.Reading.{read_step}
 
 module _ (t : Maps) (sound : IsSound t) (wf : IsWellFormed (world_of t)) (x : ObjNo) (id : PropId) (k : SlotRow) (held : get t.slots (x, id) ≡ Some k) where
@@ -31,10 +31,7 @@ module _ (t : Maps) (sound : IsSound t) (wf : IsWellFormed (world_of t)) (x : Ob
         s.2 ∙ ap (λ z. elim z [ Clear ↦ read_of w s.0.row.parent (name_of t id) | Set u ↦ Some u ]) clear ∙ ap (λ z. read_of w z.row.parent (name_of t id)) same
 
     definer_above : is_among prop.0.definer (chain w r.parent) ≡ true
-    definer_above = elim (or_cases (same_object prop.0.definer x) (is_among prop.0.definer (chain w r.parent)) (sym (ap (is_among prop.0.definer) (chain_of_row m wf.tree x r (sym there))) ∙ definer_in w wf x (is_object_seen m x ∙ rows_there.0) (name_of t id) (slot_seen prop.0.definer k) slot_read)) [
-      | inl h ↦ absurd (wf.set x (name_of t id) (slot_seen prop.0.definer k) slot_read ((same_object-Decides prop.0.definer x).0 h) clear)
-      | inr h ↦ h
-    ]
+    definer_above = grind (arith, chain_of_row m wf.tree x r (sym there), definer_in w wf x (is_object_seen m x ∙ rows_there.0) (name_of t id) (slot_seen prop.0.definer k) slot_read, wf.set x (name_of t id) (slot_seen prop.0.definer k) slot_read, (same_object-Decides prop.0.definer x).0)
 
     -- the parent has the property too
     pub parent_has : is_some (get t.slots (r.parent, id)) ≡ true

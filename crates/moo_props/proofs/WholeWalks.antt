@@ -1,5 +1,6 @@
 -- In a good world the walks that begin below the least number go over all rows.
-use Rattle.moo_props.{proofs.Words.{◌||◌, ◌≡◌, ◌≢◌, ◌<◌, T, Option, None, Some, List, [], ◌∷◌, map, Less, Ordering, negsuc, refl, sym, ap, ◌∙◌, arith, is_some, IsTotalOrder, tied_itself, nat_cmp_is, int_eq, filter, FinMap, get, is_sorted, entries, entries_sorted, get-entries, true≢false, ints, ObjNo, ObjRow, VerbId, VerbRow, ChildOf, Within, object_exact, IsFirst, defined_left, Maps, object_cmp, prop_cmp, is_past, entries_past, verbs_of_left, object_total, prop_total, first_of, nothing, same_object, same_object-eq, IsGood, look_ups, prop_id, verb_id, is_object_seen, links_to, linked_among, verbs_among, props_of, or-false, IsSound}, specs.Dropping.{row_linked}}
+use Rattle.moo_props.{proofs.Words.{◌||◌, ◌≡◌, ◌≢◌, ◌<◌, T, Option, None, Some, List, [], ◌∷◌, map, Less, Ordering, negsuc, refl, sym, ap, ◌∙◌, arith, is_some, IsTotalOrder, tied_itself, nat_cmp_is, int_eq, filter, FinMap, get, is_sorted, entries, entries_sorted, get-entries, ints, ObjNo, ObjRow, VerbId, ChildOf, Within, object_exact, IsFirst, defined_left, Maps, object_cmp, prop_cmp, is_past, entries_past, verbs_of_left, object_total, prop_total, first_of, nothing, same_object, same_object-eq, IsGood, look_ups, prop_id, verb_id, is_object_seen, links_to, linked_among, verbs_among, props_of, or-false, IsSound}, specs.Dropping.{row_linked}}
+use Rattle.moo_props.proofs.Cases.{passing}
 use Rattle.std.{specs.Cmp.{int_cmp_is}, specs.Ordering.{is_eq}, specs.FinMap.{find}}
 use Rattle.moo_rows.{proofs.Firsts.{first-alike, first-end, first-step}, proofs.OfObject.{verbs_of_left-all}, proofs.Walking.{here, keeps, past_test, all_past}}
 use Rattle.moo_rows.specs.Links as links
@@ -36,11 +37,7 @@ module _ (t : Maps) (good : IsGood t) (x : ObjNo) where
   verb_keys = ap (map (λ e. e.0)) (verbs_of_left-all x t positive)
     where
       positive : (id : VerbId) → get t.verbs (x, id) ≢ None → 0 < id.0
-      positive id held = by (get t.verbs (x, id)) refl
-        where
-          by : (o : Option VerbRow) → get t.verbs (x, id) ≡ o → 0 < id.0
-          by None e = absurd (held e)
-          by (Some row) e = (good.sound.verbs x id.0 (ap is_some e)).1
+      positive id held = grind (arith, good.sound.verbs x id.0)
 
   -- ---- objects by parent or place
 
@@ -58,16 +55,13 @@ module _ (t : Maps) (x from : ObjNo) where
   linked-first = first-alike object_cmp (λ y. links.is_linked t (ChildOf x) y || links.is_linked t (Within x) y) (λ y. row_linked x (get t.objects y)) (λ y. alike (get t.objects y)) from
     where
       alike : (o : Option ObjRow) → (links.row_has (ChildOf x) o || links.row_has (Within x) o) ≡ row_linked x o
-      alike None = refl
-      alike (Some row) = λ i. same_object-eq x row.parent i || same_object-eq x row.location i
+      alike o = grind (arith, same_object-eq)
 
   pub linked-end : IsFirst object_cmp (λ y. row_linked x (get t.objects y)) from None → linked_among x (entries_past object_cmp (Some from) (entries t.objects)) ≡ []
   linked-end h = ap (map (λ e. e.0)) (first-end object_total object_exact (links_to x) t.objects from h)
 
   pub linked-step : (y : ObjNo) → IsFirst object_cmp (λ y. row_linked x (get t.objects y)) from (Some y)
       → linked_among x (entries_past object_cmp (Some from) (entries t.objects)) ≡ y ∷ linked_among x (entries_past object_cmp (Some y) (entries t.objects))
-  linked-step y h = by (get t.objects y) refl
-    where
-      by : (o : Option ObjRow) → get t.objects y ≡ o → linked_among x (entries_past object_cmp (Some from) (entries t.objects)) ≡ y ∷ linked_among x (entries_past object_cmp (Some y) (entries t.objects))
-      by None e = absurd (true≢false (sym h.0 ∙ ap (row_linked x) e))
-      by (Some row) e = ap (map (λ e. e.0)) (first-step object_total object_exact (links_to x) t.objects from y row h e)
+  linked-step y h =
+      let r = passing (links_to x) (get t.objects y) h.0 in
+      ap (map (λ e. e.0)) (first-step object_total object_exact (links_to x) t.objects from y r.0 h r.1)

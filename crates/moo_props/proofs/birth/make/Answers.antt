@@ -1,5 +1,6 @@
-use Rattle.moo_props.{proofs.Words.{FitsSigned, w32, rules, ◌≡◌, refl, ap, ◌∙◌, Maps, Held, look_ups, world_shown, World, read_of, number_within, with_new_row, origins_among, with_fresh, numbers_same, beside_world}, proofs.Shared.{good_by, keeps-fresh, same_base, same_maps, walk}, proofs.NewSlots.{with_new, look_ups-new}, proofs.NewObject.{world_new, formed_new, sound_new, reads_new, no_row}}
+use Rattle.moo_props.{proofs.Words.{FitsSigned, w32, rules, ◌≡◌, refl, ap, ◌∙◌, Maps, Held, look_ups, world_of, world_shown, World, read_of, number_within, with_new_row, origins_among, with_fresh, numbers_same, beside_world}, proofs.Shared.{good_by, keeps-fresh, same_base, same_maps, walk}, proofs.NewSlots.{with_new, look_ups-new}, proofs.NewObject.{world_new, formed_new, sound_new, no_row}}
 use Rattle.moo_props.proofs.birth.make.Goals as goal
+use Rattle.moo_world.proofs.Ownership.Created.{read_old}
 
 abbrev t : (g : _) → goal.After-drop-inherited-2 g → Maps
 t g c = (g.R.Rows.held c.args.rows.now).maps
@@ -32,4 +33,4 @@ returns-clause-kept g c =
 pub returns-clause-reads : goal.returns-clause-reads
 returns-clause-reads g c o n h =
     ap (λ (w : World). read_of w o n) (returns-clause-world g c)
-    ∙ reads_new (look_ups (t g c)) c.requires.good.sound c.requires.good.formed c.args.x c.args.parent c.args.owner c.requires.next c.requires.parent o n h
+    ∙ read_old (world_of (t g c)) c.args.x c.args.parent c.args.owner c.requires.good.formed c.requires.next c.requires.parent o n h

@@ -1,4 +1,4 @@
-use Rattle.moo_props.{proofs.Words.{[], ◌∷◌, sym, ap, ◌∙◌, if◌then◌else◌, world_of}, proofs.Descending.{top_walk, own_among}, specs.Descent.{descendants}}
+use Rattle.moo_props.{proofs.Words.{[], ◌∷◌, sym, ap, ◌∙◌, if◌then◌else◌, world_of}, proofs.Shared.{own_among}, proofs.Descending.{top_walk}, specs.Descent.{descendants}}
 use Rattle.moo_props.proofs.descent.subtree_top.Goals as goal
 
 pub returns-then-valid-clause-top : goal.returns-then-valid-clause-top
