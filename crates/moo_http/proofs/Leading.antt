@@ -8,7 +8,7 @@ use Rattle.moo_world.specs.Judge as model
 use Rattle.moo_text.{specs.declared.next.Next.{Next}, specs.declared.reply.Answer.{Answer}, specs.declared.fault.TextFault.{TextFault}}
 use Rattle.moo_text.specs.declared.next.Next.TheVariants.{Batch as Whole, Malformed, Truncated, End}
 use Rattle.moo_text.specs.declared.reply.Answer.TheVariants as answered
-use Rattle.moo_store.{specs.Turns.{Turn, Turns}, specs.Stopping.{EndsAs, AnswersBy}, specs.declared.course.Course.{Course}, specs.Moment.{LeadsByEach}, specs.Place.{LeavesJust}, proofs.Leading.{leads-join}}
+use Rattle.moo_store.{specs.Turns.{Turn, Turns}, specs.Stopping.{EndsAs, AnswersBy}, specs.declared.course.Course.{Course}, specs.Moment.{LeadsByEach}, specs.Place.{LeavesJust}, proofs.Leading.{leads_join}}
 use Rattle.moo_http_request.specs.declared.asked.Asked.TheVariants.{Each, Question}
 use Rattle.moo_http.specs.declared.ports.Ports as Ports
 use Rattle.moo_http.specs.declared.service.ServiceFault.TheVariants as service
@@ -28,7 +28,7 @@ module _ (m : Moment) where
   AreLed t = (batches : List Batch) × LeadsByEach m batches t
 
   leads_by : (n : Moment) (batch : Batch) (next : Moment) → LeadsTo m (Works n) → LeadsBy n batch next → AreLed next
-  leads_by n batch next before one = let it = before n refl in (it.0 ++ batch ∷ [], leads-join m n next it.0 (batch ∷ []) it.1 (next, one, refl))
+  leads_by n batch next before one = let it = before n refl in (it.0 ++ batch ∷ [], leads_join m n next it.0 (batch ∷ []) it.1 (next, one, refl))
 
   -- ---- one batch
 
