@@ -7,7 +7,7 @@ ghost use Rattle.moo_world.specs.Arguments.{object_and_value, object_text_and_va
 
 use moo_value::{Code, MooStr, ObjNo, Value};
 
-/// No values.
+/// No values; E_ARGS if there are any.
 pub fn no_values(args: &[Value]) -> Result<(), Code>
     ensures { result ≡ no_values args.now }
 {

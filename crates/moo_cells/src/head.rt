@@ -67,7 +67,7 @@ fn seq_in(number: i64) -> Option<u64>
     u64::try_from(number).ok()
 }
 
-/// The greatest number of an object.
+/// The greatest number of an object, from its cell; `None` if that isn't -1 to 2,147,483,647.
 fn top_in(number: i64) -> Option<i32>
     ensures some { IfSome result (λ top. number ≡ top) }
     ensures within { IfSome result (λ top. (negsuc 0 ≤ℤ top) × (top ≤ℤ pos 2147483647)) }

@@ -66,15 +66,15 @@ impl<R: Inward + OpenStream + Drop, W: Outward + OpenStream + Drop> Held<R, W> {
         self.count() >= MOST
     }
 
-    /// The place of the oldest unfinished request that may be ended.
-    fn stale(&self, now: Duration) -> Option<usize>
+    /// The place of the first unfinished request that may be ended.
+    fn first_stale(&self, now: Duration) -> Option<usize>
         ensures { IsFirstPlace (IsStale now) self.now.slots.items result }
     {
         first(&self.slots, &Stale { now })
     }
 
     /// The place of a connection that only waits for its peer's last bytes.
-    fn lingering(&self) -> Option<usize>
+    fn first_lingering(&self) -> Option<usize>
         ensures { IsFirstPlace IsLingering self.now.leaving.items result }
     {
         first(&self.leaving, &Lingerer)
@@ -99,9 +99,9 @@ impl<R: Inward + OpenStream + Drop, W: Outward + OpenStream + Drop> Held<R, W> {
         if self.count() <= MOST {
             return;
         }
-        if let Some(place) = self.lingering() {
+        if let Some(place) = self.first_lingering() {
             self.cut_answer(place);
-        } else if let Some(place) = self.stale(now) {
+        } else if let Some(place) = self.first_stale(now) {
             self.cut_request(place, now);
         }
     }
@@ -130,7 +130,8 @@ impl<R: Inward + OpenStream + Drop, W: Outward + OpenStream + Drop> Held<R, W> {
         }
     }
 
-    /// Does what can be done for those that were judged; whether anything changed.
+    /// Steps each connection whose request was judged and that is due, and lets go of those that are over; whether anything went, came or was
+    /// let go.
     pub fn send_all(&mut self, now: Duration) -> bool
         ensures { Goes self.old self.new }
     {

@@ -71,8 +71,11 @@ pub fn read_request<R: Incoming>(
     routes: &Routes,
     reader: &mut R,
 ) -> Result<Received, ReadFault>
+    // What is answered is what the bytes ask, whatever follows them, and few more are taken.
     ensures takes { IfOk result (Takes (R.remaining reader.old) (R.remaining reader.new)) }
+    // After a fault it has taken some bytes, and no more than it needed.
     ensures breaks { OnErr result (StopsReading (R.remaining reader.old) (R.remaining reader.new)) }
+    // Read is answered only if the reader failed.
     ensures cause { IfErr result (λ fault. fault ≡ ReadFault.Read → HasFailed R.fails reader.new) }
 {
     let mut bytes = Vec::new(alloc);

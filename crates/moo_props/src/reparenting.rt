@@ -140,8 +140,9 @@ fn relink<R: Rows>(
     Ok(ObjList::from_vec(list))
 }
 
-/// Puts x under another parent: x and all under it lose the slots of definers that they are under no more, and get
-/// fresh ones of those that they are under now. What is listed is ascending. Under the present parent nothing is written.
+/// Puts x under another parent: x and all under it lose the slots of definers that they are under no more, and get fresh ones of those
+/// that they are under now. Listed are the slots that went, those that came, and x if it has another parent; the slots ascend. Under
+/// the present parent nothing is written.
 ///
 /// The only error is out of memory, after which the rows may be half changed.
 ///

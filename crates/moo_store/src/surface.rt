@@ -31,7 +31,8 @@ impl<S: Alter + Drop> World<S> {
     /// it have no reply; Closed if the World had failed.
     #[tactic(auto, using(crate::proofs::ListRuns::runs))]
     pub fn run(&mut self, batches: &[Batch], replies: &mut Vec<Reply>) -> Result<(), StoreFault>
-        // Each batch that has a reply had its turn, and leads from a moment to the next. If the store failed, so had the batch in hand.
+        // Each batch that has a reply had its turn, and leads from a moment to the next. If the store failed, the batch in hand had its
+        // turn too, without a reply.
         ensures moves { MovesBy S.Store self.old self.new
             (λ from to. RunsEach from batches.now (added replies.old.items replies.new.items) result to) }
         ensures stood { take (length replies.old.items) replies.new.items ≡ replies.old.items }

@@ -90,8 +90,10 @@ impl<S: Alter + Drop> World<S> {
         requires printed { Prints (Some self.old.rows.maps.head.next_petition) self.old.rows.maps cells.now changes }
         requires limit { cells.now.head.seq < 2 ^ 63 }
         requires changes { (next : Maps) × AreChanges self.old.rows.maps next changes × IsGood next }
+        // The World goes on to the next moment, of these rows; or its store failed between the two.
         ensures moves { (rows : Maps) → AreChanges self.old.rows.maps rows changes → IsGood rows →
             MovesBy S.Store self.old self.new (λ from to. CommitsTo answers changes rows from result to) }
+        // Of the store: these cells are committed if there is a reply.
         ensures commits { CommitsInto cells.now (store_of S.Store self.old) (store_of S.Store self.new) result }
         ensures fault { IfErr result (FailsRun S.Store self.old self.new) }
         ensures kept { KeepsFaults (store_of S.Store self.old) (store_of S.Store self.new) }

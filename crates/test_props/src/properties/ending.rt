@@ -26,7 +26,7 @@ fn look_at_gone(rt: &impl Abort, gone: &Dropped) {
 }
 
 /// Whether an object is there, and has this parent.
-fn is_parent_of<R: Rows>(rows: &R, x: ObjNo, parent: ObjNo) -> bool {
+fn has_parent<R: Rows>(rows: &R, x: ObjNo, parent: ObjNo) -> bool {
     match rows.object(x) {
         Some(row) => row.parent == parent,
         None => false,
@@ -42,7 +42,7 @@ fn drop_fifth<R: Rows>(rt: &impl Abort, alloc: Global, rows: &mut R) -> Result<(
     drop(gone);
     assert!(rt; !valid(rows, ObjNo(5)));
     assert!(rt; valid(rows, ObjNo(6)), "#6 stays");
-    assert!(rt; is_parent_of(rows, ObjNo(6), ObjNo(4)));
+    assert!(rt; has_parent(rows, ObjNo(6), ObjNo(4)));
     assert!(rt; read(alloc, rows, &[(6, "a", Some(10)), (6, "b", None)])?);
     Ok(())
 }

@@ -1,7 +1,7 @@
 use Rattle.std.proofs.Common.{subst}
 use Rattle.moo_desk.specs.Choices.{IsLingering}
 use Rattle.moo_desk.specs.Each.{IsFirstPlace}
-use Rattle.moo_desk.proofs.held.Held.lingering.Goals as goal
+use Rattle.moo_desk.proofs.held.Held.first_lingering.Goals as goal
 
 pub returns : goal.returns
 returns g c = subst (λ l. IsFirstPlace IsLingering l c.first.result) c.deref.ensures.value c.first.ensures.first
