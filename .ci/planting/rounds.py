@@ -23,6 +23,8 @@ WAITS_FOR = re.compile(r"it calls|it passes|a call of|rests on")
 # An error that is only in a proof, of a name that is gone.
 GONE = re.compile(r"proofs/.*(has no field|is not in scope|has no `|was not admitted)")
 TOLD = re.compile(r": error|^note: ")
+# A note of a function whose goals wait for another function, and no fault of its own.
+NOT_TRIED = "has not tried the goals of"
 
 
 @dataclass
@@ -34,6 +36,16 @@ class Plant:
     change: Change
     lines: range
     kind: str = NEW
+
+
+def reasons(words: str, told: list[str]) -> list[str]:
+    """Why a function isn't proved, by its line and the errors and notes above it."""
+    _, _, given = words.partition(": ")
+    if given:
+        return given.split("; ")
+    # 'not proved; it calls `f`, which is not proved': its proof may be at fault too.
+    what, *waits = words.split("; ")
+    return waits if waits and all(NOT_TRIED in line for line in told) else [what]
 
 
 class Verdict:
@@ -61,8 +73,7 @@ class Verdict:
         if any("could not tell" in words for words, _ in lacking):
             return NOT_JUDGED
         # One with a goal of its own that isn't proved is refused, whatever it calls.
-        reasons = [part for words, _ in lacking for part in words.partition(": ")[2].split("; ")]
-        if all(WAITS_FOR.search(part) for part in reasons):
+        if all(WAITS_FOR.search(part) for words, told in lacking for part in reasons(words, told)):
             return WAITS
         told = [line for _, some in lacking for line in some]
         return BY_A_NAME if told and all(GONE.search(line) for line in told) else REFUSED

@@ -136,6 +136,13 @@ class Rounds(unittest.TestCase):
         self.assertEqual([verdict.kind(each) for each in FUNCTIONS], [rounds.REFUSED, rounds.STAYS, rounds.WAITS, rounds.BY_A_NAME])
         self.assertEqual(rounds.Verdict("").kind(BURN), rounds.NOT_JUDGED)
 
+    def test_a_proof_by_hand_may_wait_too(self) -> None:
+        untried = "note: `search` has not tried the goals of `f`, which wait for a callee's proof: some may be open after it"
+        line = "fn house::house::lamp::inner::plain: not proved; it calls `house::other`, which is not proved"
+        for above, kind in ((untried, rounds.WAITS), (f"{untried}\nnote: src/a.rt:1:1: it is not proved that a", rounds.REFUSED)):
+            with self.subTest(kind):
+                self.assertEqual(rounds.Verdict(f"{above}\n{line}").kind(PLAIN), kind)
+
     def test_those_that_wait_are_tried_again(self) -> None:
         plants = [rounds.Plant(each, register.Survivor(each.path, "", ""), Change(each.path, {}), range(1)) for each in FUNCTIONS]
         trial = Waiting(plants)
