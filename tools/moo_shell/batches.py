@@ -11,11 +11,11 @@ from moo_shell.losing import told_losses
 from moo_shell.manual import Manual
 from moo_shell.meant import signs_advice
 from moolib import errors
-from moolib.batches import LONGEST_BATCH, Item, local_names, resolved, written_calls
+from moolib.batches import Item, local_names, resolved, written_calls
 from moolib.calls import READING, call_name
 from moolib.errors import Failed, Stale
 from moolib.lines import did_you_mean, hint, strange_letter
-from moolib.service import Answer, Patience
+from moolib.service import MOST_CALLS, Answer, Patience
 
 
 @dataclasses.dataclass(frozen=True)
@@ -99,8 +99,8 @@ class Batches:
     @staticmethod
     def test_length(items: list[Item]) -> None:
         """A batch isn't longer than a service takes."""
-        if len(items) > LONGEST_BATCH:
-            raise Failed(f"a batch has at most {LONGEST_BATCH} calls, and this one has {len(items)}", items[LONGEST_BATCH].place)
+        if len(items) > MOST_CALLS:
+            raise Failed(f"a batch has at most {MOST_CALLS} calls, and this one has {len(items)}", items[MOST_CALLS].place)
 
     def prepared(self, items: list[Item], who: int, names: Mapping[str, str], at: Optional[int]) -> tuple[list[str], int]:
         """The calls of a batch, and the number of the world that they are for."""

@@ -17,7 +17,6 @@ from moolib.errors import Failed
 from moolib.lines import pieces, value_of
 from moolib.service import LONGEST_BODY, Answer
 
-LONGEST_BATCH = 1000
 # So often a batch is asked until all names are known.
 MOST_ROUNDS = 32
 # What calls would answer in the world of one number.

@@ -6,6 +6,8 @@ from typing import Any
 
 from moo_web.interface.interface import ALWAYS, ROUTES, ApiRoute, Outcome, Word
 from moo_web.paths import PART
+from moolib.calls import LONGEST_CALL
+from moolib.service import MOST_CALLS
 
 VERSION = "3.0.3"
 NUMBER = {"type": "string", "pattern": "^#-?[0-9]{1,10}$", "example": "#4"}
@@ -29,7 +31,7 @@ def many(inner: Any) -> dict[str, Any]:
 
 CALL = {
     "oneOf": [
-        {"type": "string", "maxLength": 262_144, "example": "$room = create(#1)"},
+        {"type": "string", "maxLength": LONGEST_CALL, "example": "$room = create(#1)"},
         {"type": "array", "minItems": 1, "items": {}, "description": "with ?json alone", "example": ["set", {"obj": 4}, "name", "Inn"]},
     ]
 }
@@ -40,7 +42,7 @@ BATCH = {
 LOSS = shape_of({"object": NUMBER, "property": {"type": "string"}, "value": {"type": "string"}})
 SHAPES: dict[str, dict[str, Any]] = {
     "calls": shape_of(
-        {"calls": {**many(CALL), "maxItems": 1000}}, at={**COUNT, "nullable": True},
+        {"calls": {**many(CALL), "maxItems": MOST_CALLS}}, at={**COUNT, "nullable": True},
         words={"type": "string", "maxLength": 1000, "description": "for /api/batch: why it is sent"},
         **{"as": {**NUMBER, "description": "one's own number"}},
     ),
