@@ -2,7 +2,7 @@
 -- object, counted from 0.
 -- From the LambdaMOO Programmer's Manual: 'Operations on Verbs'. The manual doesn't say which verb a word means if several match: here, as
 -- in LambdaMOO 1.8, the first of the object itself. That 0 and a number below it are E_VERBNF is this server's own.
-use Rattle.std.specs.Prelude.{ℕ, zero, suc, ℤ, pos, negsuc, nat_lt, length, Option, None, Some, if◌then◌else◌}
+use Rattle.std.specs.Prelude.{ℕ, suc, ℤ, pos, nat_lt, length, Option, None, Some, if◌then◌else◌}
 use Rattle.std.specs.Option.{option_map, option_and_then}
 use Rattle.std.specs.List.{position}
 use Rattle.moo_value.specs.declared.value.ObjNo.{ObjNo}
@@ -17,8 +17,7 @@ use Rattle.moo_world.specs.Matching.{one_matches}
 -- the place that a number from 1 on stands for
 abbrev pub place_numbered : ℤ → Option ℕ
 place_numbered (pos (suc place)) = Some place
-place_numbered (pos zero) = None
-place_numbered (negsuc number) = None
+place_numbered number = None
 
 -- the place, if the object has a verb there
 abbrev pub place_within : World → ObjNo → ℕ → Option ℕ
