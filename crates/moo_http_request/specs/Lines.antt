@@ -33,9 +33,8 @@ is_coded lines = nat_lt 0 (length (values_of (codes "transfer-encoding") lines))
 
 -- the one text
 abbrev pub only : List (List ℕ) → Option (List ℕ)
-only [] = None
 only (text ∷ []) = Some text
-only (text ∷ other ∷ texts) = None
+only texts = None
 
 -- the text, if no coding is named
 abbrev pub unless_coded : List (List ℕ) → Option (List ℕ) → Option (List ℕ)
