@@ -38,9 +38,8 @@ is_why target = is_why_query (after_first (λ b. b == 63) target)
 
 -- the method of a route
 abbrev pub method_of : Endpoint → Method
-method_of (Batch mode) = Post
-method_of Each = Post
 method_of (About topic) = Get
+method_of endpoint = Post
 
 abbrev pub method_text : Method → List ℕ
 method_text Get = codes "GET"
