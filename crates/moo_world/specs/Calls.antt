@@ -194,7 +194,7 @@ named_call world programmer SetVerbArgs args =
     given (new_verb_args args) λ (object, (descriptor, verb_args)). set_verb_args world programmer object descriptor verb_args
 named_call world programmer SetAccept args = given (object_and_accept args) λ (object, list). set_accept world programmer object list
 -- the calls of petitions need more than the world: `batch_call` says what they do, and never asks for them here
-named_call world programmer of_petitions args = fails Unasked
+named_call world programmer name args = fails Unasked
 
 -- A call on the world. The programmer has to be an object. Each call that a petition holds is made in this way, by the wizard who grants
 -- it. A call of a batch is `batch_call`, in Requests, which knows the calls of petitions too.
