@@ -151,8 +151,7 @@ set_accept world programmer object list = do
 
 -- ---- each call by its name
 
--- The call of this name: its arguments are read by their shape, E_ARGS for a wrong number of them and E_TYPE for a wrong type (Arguments).
--- The rest are calls of petitions, which aren't asked of a world alone.
+-- the call of this name: its arguments are read by their shape, E_ARGS for a wrong number of them and E_TYPE for a wrong type (Arguments)
 abbrev pub named_call : World → ObjNo → CallName → List Value → Outcome World
 named_call world programmer Valid args = given (one_object args) (valid world)
 named_call world programmer Parent args = given (one_object args) (parent world)
@@ -193,7 +192,7 @@ named_call world programmer SetVerbInfo args =
 named_call world programmer SetVerbArgs args =
     given (new_verb_args args) λ (object, (descriptor, verb_args)). set_verb_args world programmer object descriptor verb_args
 named_call world programmer SetAccept args = given (object_and_accept args) λ (object, list). set_accept world programmer object list
--- the calls of petitions need more than the world: `batch_call` says what they do, and never asks for them here
+-- the rest, the calls of petitions, need more than the world: `batch_call` says what they do, and never asks for them here
 named_call world programmer name args = fails Unasked
 
 -- A call on the world. The programmer has to be an object. Each call that a petition holds is made in this way, by the wizard who grants
