@@ -61,14 +61,12 @@ command_of (Serve service) = codes "serve"
 
 -- the arguments of its command, beside the file, are these
 abbrev pub HasArguments : List Row → Action → Type 0
-HasArguments rows Init = ⊤
 HasArguments rows (Apply batches) = AreBatches rows batches
 HasArguments rows (Rehearse batches) = AreBatches rows batches
 HasArguments rows (Ask batches) = HasText rows (codes "BATCHES") batches.now
-HasArguments rows Dump = ⊤
 HasArguments rows (Load dump) = HasText rows (codes "DUMP") dump.now
-HasArguments rows Check = ⊤
 HasArguments rows (Serve service) = IsService rows service
+HasArguments rows action = ⊤
 
 -- the task is that of a command's name and matches
 abbrev pub IsTask : Text × List Row → Task → Type 0

@@ -65,20 +65,17 @@ pub data Happening : Type 0 where
 abbrev pub answered_in : List Happening → ℕ
 answered_in [] = 0
 answered_in (visit true ∷ turns) = suc (answered_in turns)
-answered_in (visit false ∷ turns) = answered_in turns
-answered_in (settle told ∷ turns) = answered_in turns
+answered_in (turn ∷ turns) = answered_in turns
 
 abbrev pub failed_in : List Happening → ℕ
 failed_in [] = 0
-failed_in (visit true ∷ turns) = failed_in turns
 failed_in (visit false ∷ turns) = suc (failed_in turns)
-failed_in (settle told ∷ turns) = failed_in turns
+failed_in (turn ∷ turns) = failed_in turns
 
 abbrev pub lost_in : List Happening → ℕ
 lost_in [] = 0
-lost_in (visit answered ∷ turns) = lost_in turns
 lost_in (settle (Some loss) ∷ turns) = suc (lost_in turns)
-lost_in (settle None ∷ turns) = lost_in turns
+lost_in (turn ∷ turns) = lost_in turns
 
 -- a source of connections, by what it is before and after it hands one out and takes one back, by the bytes that are known of them, and by
 -- when a reader of them fails

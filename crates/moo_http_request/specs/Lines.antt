@@ -1,5 +1,5 @@
 -- What the lines of a head say of who sent it, and of the length of a body.
-use Rattle.std.specs.Prelude.{◌≡◌, ◌<◌, ℕ, List, [], ◌∷◌, Bool, Option, Some, None, map, codes, bytes_eq, nat_lt, length}
+use Rattle.std.specs.Prelude.{◌≡◌, ◌<◌, ℕ, List, [], ◌∷◌, Bool, Option, Some, None, map, codes, bytes_eq, nat_lt, length, if◌then◌else◌}
 use Rattle.std.specs.List.{filter}
 use Rattle.std.specs.Char.{to_ascii_lowercase}
 use Rattle.moo_http_request.specs.declared.lines.FoundLine.{FoundLine}
@@ -33,16 +33,9 @@ is_coded lines = nat_lt 0 (length (values_of (codes "transfer-encoding") lines))
 
 -- the one text
 abbrev pub only : List (List ℕ) → Option (List ℕ)
-only [] = None
 only (text ∷ []) = Some text
-only (text ∷ other ∷ texts) = None
+only texts = None
 
--- the text, if no coding is named
-abbrev pub unless_coded : List (List ℕ) → Option (List ℕ) → Option (List ℕ)
-unless_coded [] text = text
-unless_coded (coding ∷ codings) text = None
-
--- the one stated length of the body, as it is written
+-- the one stated length of the body, as it is written, if no coding is named
 abbrev pub length_text : List Line → Option (List ℕ)
-length_text lines = unless_coded (values_of (codes "transfer-encoding") lines)
-    (only (values_of (codes "content-length") lines))
+length_text lines = if is_coded lines then None else only (values_of (codes "content-length") lines)

@@ -16,7 +16,7 @@ use Rattle.moo_http_request.specs.declared.question.Question.{Question}
 use Rattle.moo_http_request.specs.declared.plan.Plan.{Plan}
 use Rattle.moo_http_request.specs.declared.plan.Plan.TheVariants.{Decided, Body}
 use Rattle.moo_http_request.specs.declared.question.Topic.{Topic}
-use Rattle.moo_http_request.specs.declared.question.Topic.TheVariants.{Seq, Object, Objects, Dump}
+use Rattle.moo_http_request.specs.declared.question.Topic.TheVariants.{Seq, Object, Objects}
 use Rattle.moo_http_request.specs.Hosts.{is_own_line}
 use Rattle.moo_http_request.specs.Lines.{Line, is_from_page, is_coded, length_text}
 use Rattle.moo_http_request.specs.Numbers.{bounded_of}
@@ -38,9 +38,8 @@ is_why target = is_why_query (after_first (λ b. b == 63) target)
 
 -- the method of a route
 abbrev pub method_of : Endpoint → Method
-method_of (Batch mode) = Post
-method_of Each = Post
 method_of (About topic) = Get
+method_of endpoint = Post
 
 abbrev pub method_text : Method → List ℕ
 method_text Get = codes "GET"
@@ -70,14 +69,12 @@ abbrev pub allowed_plan : Endpoint → List ℕ → List ℕ → List Line → P
 allowed_plan endpoint method path lines =
     if bytes_eq method (method_text (method_of endpoint)) then endpoint_plan endpoint path lines else Decided (Refused (NotAllowed endpoint))
 
--- the routes that aren't for a request to another machine
+-- the routes that aren't for a request to another machine: all but these
 abbrev pub is_guarded : Endpoint → Bool
 is_guarded (Batch mode) = false
-is_guarded Each = true
 is_guarded (About Seq) = false
 is_guarded (About Object) = false
-is_guarded (About Objects) = true
-is_guarded (About Dump) = true
+is_guarded endpoint = true
 
 -- why a path has no route: it names a topic, and leaves out its number; or it is none of ours
 abbrev pub path_refusal : List ℕ → Refusal

@@ -36,9 +36,7 @@ stated_at (Some d) = if is_some (as_null d) then Some None else seq_of (option_a
 abbrev pub shape_from : Option ObjNo → Option (List (List ℕ)) → Option (Option ℕ) → Option Shape
 shape_from (Some programmer) (Some calls) (Some at) =
     if are_within calls then Some (record { programmer = programmer; calls = calls; at = at }) else None
-shape_from (Some programmer) (Some calls) None = None
-shape_from (Some programmer) None at = None
-shape_from None calls at = None
+shape_from programmer calls at = None
 
 -- the shape that the JSON has
 abbrev pub shape_of : Data → Option Shape

@@ -1,13 +1,13 @@
 //! Why a head is refused, in sentences for people.
 
 ghost use Rattle.std.specs.Prelude.{◌≡◌, option_map};
-ghost use Rattle.moo_http_response.specs.HeadWhys.{number_why, method_why, head_why, head_told};
+ghost use Rattle.moo_http_response.specs.HeadWhys.{method_why, head_why, head_told};
 
 use moo_http_request::{Endpoint, Mode, Refusal, Topic};
 
 /// The number that a path of the topic wants, if it wants one.
 fn number_why(topic: Topic) -> Option<&'static str>
-    ensures { option_map (λ why. why.now) result ≡ number_why topic }
+    ensures { option_map (λ why. why.now) result ≡ head_why (Refusal.NoNumber topic) }
 {
     match topic {
         Topic::Object => Some("/object wants a number: /object/0"),

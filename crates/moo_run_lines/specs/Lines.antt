@@ -40,17 +40,11 @@ word_of OutOfMemory = codes "moo: no memory\n"
 
 abbrev pub status_of : Failure → ℕ
 status_of Usage = 2
-status_of NoFile = 1
-status_of (Store error) = 1
 status_of (Damaged kind key) = 3
 status_of NewerVersion = 3
 status_of (NotADump line) = 3
-status_of NoBatches = 1
-status_of Read = 1
-status_of Write = 1
-status_of TooLong = 1
-status_of Port = 1
 status_of OutOfMemory = 4
+status_of failure = 1
 
 -- what stops a text, the making or the opening of a world, a dump, or the service, as a failure
 abbrev pub text_failure : TextFault → Failure

@@ -35,10 +35,8 @@ SaysOr Cause tables Closed = ⊥
 -- a fault that says nothing of the tables
 abbrev pub IsOfStore : StoreFault → Type 0
 IsOfStore (Store error) = ⊤
-IsOfStore (Damaged kind key) = ⊥
-IsOfStore NewerVersion = ⊥
 IsOfStore OutOfMemory = ⊤
-IsOfStore Closed = ⊥
+IsOfStore fault = ⊥
 
 -- memory ran out, or the store failed with an error of which this is true
 abbrev pub StopsBy : (Error → Type 0) → StoreFault → Type 0

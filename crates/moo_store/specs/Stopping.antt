@@ -8,7 +8,7 @@ use Rattle.moo_text.specs.declared.lines.TheConstants.{LONGEST_TEXT}
 use Rattle.moo_text.specs.declared.next.Next.{Next}
 use Rattle.moo_text.specs.declared.reply.Answer.{Answer}
 use Rattle.moo_text.specs.declared.reply.Answer.TheVariants as answer
-use Rattle.moo_text.specs.declared.reply.Reply.TheVariants.{Accepted, Refused, Full, Stale, NoMemory}
+use Rattle.moo_text.specs.declared.reply.Reply.TheVariants.{Accepted}
 use Rattle.moo_store.specs.declared.course.Course.{Course}
 use Rattle.moo_store.specs.declared.tally.Tally.{Tally}
 use Rattle.moo_text.specs.declared.fault.TextFault.{TextFault}
@@ -16,14 +16,7 @@ use Rattle.moo_store.specs.Turns.{Turns, Completes, Halts, answers_text, is_batc
 
 abbrev pub says_accepted : Answer → Bool
 says_accepted (answer.Replied (Accepted seq answers)) = true
-says_accepted (answer.Replied (Refused call code)) = false
-says_accepted (answer.Replied (Full call)) = false
-says_accepted (answer.Replied (Stale seq)) = false
-says_accepted (answer.Replied NoMemory) = false
-says_accepted (answer.Malformed number) = false
-says_accepted answer.Truncated = false
-says_accepted answer.Fault = false
-says_accepted answer.Closed = false
+says_accepted a = false
 
 -- all of these are `accepted`
 abbrev pub AreAccepted : List Answer → Type 0

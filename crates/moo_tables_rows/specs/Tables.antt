@@ -6,6 +6,7 @@ use Rattle.sqlite.specs.declared.types.Value.TheVariants.{Int}
 use Rattle.sqlite.specs.Order.{Row, column, value_cmp}
 use Rattle.sqlite.specs.Tree.{Trees, has_rowid}
 use Rattle.sqlite.specs.Schema.{Schema}
+use Rattle.sqlite.specs.Table.{Table}
 use Rattle.sqlite.specs.Effect.{Database, IsDatabase}
 use Rattle.sqlite_trees.specs.View.{IsShaped}
 use Rattle.sqlite_trees.specs.declared.store.Shape.TheVariants as shape
@@ -106,56 +107,33 @@ pub record Tables : Type 0 where
   pub petition : ℤ → Option Row
   pub petition_head : ℤ → Option Row
 
--- ---- the places of each table's cells in its rows
-
-abbrev pub head_places : List ℕ
-head_places = number_places head_table
-
-abbrev pub object_places : List ℕ
-object_places = number_places object_table
-
-abbrev pub prop_places : List ℕ
-prop_places = number_places prop_table
-
--- both tables of slots have as many columns
-abbrev pub slot_places : List ℕ
-slot_places = pair_places slot2_table
-
-abbrev pub verb_places : List ℕ
-verb_places = pair_places verb_table
-
-abbrev pub petition_places : List ℕ
-petition_places = number_places petition_table
-
-abbrev pub petition_head_places : List ℕ
-petition_head_places = number_places petition_head_table
-
 abbrev pub has_pair : ℤ × ℤ → Row → Bool
 has_pair key row = is_eq (value_cmp (column row 1) (Int key.0)) && is_eq (value_cmp (column row 2) (Int key.1))
 
 abbrev pub found_in : {K : Type 0} → (K → Row → Bool) → (Row → Row) → List Row → K → Option Row
 found_in has shown rows key = option_map shown (find (has key) rows)
 
-abbrev pub numbered_in : List ℕ → List Row → ℤ → Option Row
-numbered_in places = found_in has_rowid (cells_at places)
+abbrev pub numbered_in : Table → List Row → ℤ → Option Row
+numbered_in t = found_in has_rowid (cells_at (number_places t))
 
-abbrev pub paired_in : List ℕ → List Row → ℤ × ℤ → Option Row
-paired_in places = found_in has_pair (cells_at places)
+abbrev pub paired_in : Table → List Row → ℤ × ℤ → Option Row
+paired_in t = found_in has_pair (cells_at (pair_places t))
 
 -- the rows of a table of petitions: none if the version has no petitions
 abbrev pub petition_rows : Version → List Row → List Row
 petition_rows version rows = if has_petitions version then rows else []
 
+-- both tables of slots have as many columns
 abbrev pub tables_in : Version → Trees → Tables
 tables_in version db = record {
   version = version;
-  head = numbered_in head_places (db 0);
-  object = numbered_in object_places (db 1);
-  prop = numbered_in prop_places (db 2);
-  slot = paired_in slot_places (db (slot_tree version));
-  verb = paired_in verb_places (db 5);
-  petition = numbered_in petition_places (petition_rows version (db 9));
-  petition_head = numbered_in petition_head_places (petition_rows version (db 10));
+  head = numbered_in head_table (db 0);
+  object = numbered_in object_table (db 1);
+  prop = numbered_in prop_table (db 2);
+  slot = paired_in slot2_table (db (slot_tree version));
+  verb = paired_in verb_table (db 5);
+  petition = numbered_in petition_table (petition_rows version (db 9));
+  petition_head = numbered_in petition_head_table (petition_rows version (db 10));
 }
 
 -- the rows rise by their numbers, which are whole

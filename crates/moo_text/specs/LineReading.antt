@@ -1,15 +1,14 @@
 -- Reading the header of a batch and a call from left to right.
 use Rattle.std.specs.Prelude.{ℕ, zero, suc, ◌==◌, ◌&&◌, Bool, false, nat_le, List, [], ◌∷◌, length, Option, Some, None, Ok, Err, codes, if◌then◌else◌}
 use Rattle.std.specs.Option.{option_map, option_map_or, option_and_then}
-use Rattle.std.specs.List.{list_all, find}
+use Rattle.std.specs.List.{list_all}
 use Rattle.moo_value.specs.declared.value.ObjNo.{ObjNo}
 use Rattle.moo_value.specs.declared.value.Value.{Value}
 use Rattle.moo_value.specs.declared.value.Value.TheVariants.{Obj}
 use Rattle.moo_value.specs.Literal.{is_digit, value_after}
 use Rattle.moo_value.specs.Reading.{after_blanks, after_mark, word, after_word, literal_at, Read}
-use Rattle.moo_world.specs.Objects.{folded, same_text}
-use Rattle.moo_world.specs.Names.{spelling, all_names}
-use Rattle.moo_world.specs.declared.name.CallName.{CallName}
+use Rattle.moo_world.specs.Objects.{same_text}
+use Rattle.moo_world.specs.Names.{call_name_of}
 use Rattle.moo_world.specs.declared.call.Call.{Call}
 use Rattle.moo_text.specs.Line.{is_within_line, is_all_blank, words_of_line}
 use Rattle.moo_text.specs.declared.header.Header.{Header}
@@ -85,13 +84,10 @@ values_at mark (suc most) b = option_and_then (λ x. behind_value mark x.0 (valu
 abbrev pub arguments_of : List ℕ → Option (List Value)
 arguments_of b = option_map_or (closed []) (after_mark 41 b) (values_at 41 (length b) b)
 
-abbrev pub call_name : List ℕ → Option CallName
-call_name b = find (λ name. same_text (folded b) (spelling name)) all_names
-
 abbrev pub call_behind : List ℕ → Option Call
 call_behind b =
     option_and_then (λ name. option_and_then (λ rest. option_map (λ args. record { name = name; args = args }) (arguments_of rest)) (after_mark 40 (after_word b)))
-    (call_name (word b))
+    (call_name_of (word b))
 
 abbrev pub call_of : List ℕ → Option Call
 call_of line = if is_within_line line then call_behind (after_blanks line) else None

@@ -3,7 +3,8 @@
 ghost use Rattle.std.specs.Prelude.{◌≡◌, ◌≢◌, length, IfOk, IfErr, None, Some};
 ghost use Rattle.moo_text.specs.LineFaults.{Says};
 ghost use Rattle.moo_text.specs.declared.line_fault.LineFault.TheVariants.{OutOfMemory};
-ghost use Rattle.moo_text.specs.LineReading.{arguments_of as arguments_in, values_at, call_name, call_of};
+ghost use Rattle.moo_text.specs.LineReading.{arguments_of as arguments_in, values_at, call_of};
+ghost use Rattle.moo_world.specs.Names.{call_name_of};
 
 use crate::line::{is_all_blank, is_within_line};
 use crate::line_fault::LineFault;
@@ -48,7 +49,7 @@ fn arguments_of(alloc: Global, bytes: &[u8]) -> Result<Args, LineFault<'_>>
 
 /// The call that a word names.
 fn call_named(word: &[u8]) -> Option<CallName>
-    ensures { result ≡ call_name word.now }
+    ensures { result ≡ call_name_of word.now }
 {
     CallName::read(word)
 }

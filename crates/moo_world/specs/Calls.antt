@@ -48,7 +48,7 @@ use Rattle.moo_world.specs.declared.name.CallName.TheVariants.{Valid, Parent, Ch
 use Rattle.moo_world.specs.declared.name.CallName.TheVariants.{PropertyInfo, IsClearProperty, Verbs, VerbInfo, VerbArgs, AcceptList}
 use Rattle.moo_world.specs.declared.name.CallName.TheVariants.{Create, Chparent, Recycle, Move, SetPlayerFlag, Set, AddProperty}
 use Rattle.moo_world.specs.declared.name.CallName.TheVariants.{DeleteProperty, SetPropertyInfo, ClearProperty, AddVerb, DeleteVerb}
-use Rattle.moo_world.specs.declared.name.CallName.TheVariants.{SetVerbInfo, SetVerbArgs, SetAccept, Petition, Petitions, Grant, Decline}
+use Rattle.moo_world.specs.declared.name.CallName.TheVariants.{SetVerbInfo, SetVerbArgs, SetAccept}
 use Rattle.moo_world.specs.Arguments.{no_values, one_object, two_objects, object_and_text, object_and_value}
 use Rattle.moo_world.specs.Arguments.{object_text_and_value, parent_and_owner, object_and_accept, new_property}
 use Rattle.moo_world.specs.Arguments.{new_property_info, object_and_desc, new_verb, new_verb_info, new_verb_args}
@@ -192,11 +192,8 @@ named_call world programmer SetVerbInfo args =
 named_call world programmer SetVerbArgs args =
     given (new_verb_args args) λ (object, (descriptor, verb_args)). set_verb_args world programmer object descriptor verb_args
 named_call world programmer SetAccept args = given (object_and_accept args) λ (object, list). set_accept world programmer object list
--- the calls of petitions need more than the world: `batch_call` says what they do, and never asks for them here
-named_call world programmer Petition args = fails Unasked
-named_call world programmer Petitions args = fails Unasked
-named_call world programmer Grant args = fails Unasked
-named_call world programmer Decline args = fails Unasked
+-- the rest, the calls of petitions, need more than the world: `batch_call` says what they do, and never asks for them here
+named_call world programmer name args = fails Unasked
 
 -- A call on the world. The programmer has to be an object. Each call that a petition holds is made in this way, by the wizard who grants
 -- it. A call of a batch is `batch_call`, in Requests, which knows the calls of petitions too.

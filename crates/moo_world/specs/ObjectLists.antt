@@ -17,19 +17,12 @@ is_parent_of world object other = row_passes (λ row. same_object object row.par
 abbrev pub children_of : World → ObjNo → List ObjNo
 children_of world object = filter (is_parent_of world object) (objects_of world)
 
--- the object is the location of the other
-abbrev pub is_location_of : World → ObjNo → ObjNo → Bool
-is_location_of world object other = row_passes (λ row. same_object object row.location) world other
-
 -- what is in the object, but not what is inside these
 abbrev pub contents_of : World → ObjNo → List ObjNo
-contents_of world object = filter (is_location_of world object) (objects_of world)
-
-abbrev pub has_player_bit : World → ObjNo → Bool
-has_player_bit world object = row_passes (λ row. row.player) world object
+contents_of world object = filter (row_passes (λ row. same_object object row.location) world) (objects_of world)
 
 abbrev pub players_of : World → List ObjNo
-players_of world = filter (has_player_bit world) (objects_of world)
+players_of world = filter (row_passes (λ row. row.player) world) (objects_of world)
 
 -- an object and its descendants
 abbrev pub subtree_of : World → ObjNo → List ObjNo

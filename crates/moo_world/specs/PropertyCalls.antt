@@ -85,14 +85,13 @@ abbrev pub change_of : BuiltIn → Value → Result Change Reason
 change_of Location value = Err NeverSet
 change_of Contents value = Err NeverSet
 change_of NameField (Str text) = Ok (to.Name text)
-change_of NameField value = Err NotTaken
 change_of Owner (Obj owner) = Ok (to.Owner owner)
-change_of Owner value = Err NotTaken
 change_of Programmer value = Ok (to.Programmer (is_true value))
 change_of Wizard value = Ok (to.Wizard (is_true value))
 change_of R value = Ok (to.Readable (is_true value))
 change_of W value = Ok (to.Writable (is_true value))
 change_of F value = Ok (to.Fertile (is_true value))
+change_of field value = Err NotTaken
 
 -- r, w and f are set by the owner or a wizard, owner and the other bits by a wizard only, and the name as `may_set_name` says
 abbrev pub may_set : World → ObjNo → ObjNo → BuiltIn → Bool
