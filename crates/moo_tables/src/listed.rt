@@ -14,7 +14,7 @@ use crate::reading::CellLists;
 use sqlite::Row;
 use sqlite_value::value::ValueRef;
 
-/// The whole number in this column.
+/// The whole number in this column; None if the cell has something else.
 fn number_at(row: &Row, at: usize) -> Option<i64>
     ensures some { IfSome result (λ n. column row.now at ≡ Int n) }
     ensures none { IfNone result (is_int (column row.now at) ≡ false) }
@@ -25,7 +25,7 @@ fn number_at(row: &Row, at: usize) -> Option<i64>
     }
 }
 
-/// The whole numbers in the first two columns.
+/// The whole numbers in the first two columns; None if one of the cells has something else.
 fn pair_in(row: &Row) -> Option<(i64, i64)>
     ensures some { IfSome result (λ pair. (column row.now 0 ≡ Int pair.0) × (column row.now 1 ≡ Int pair.1)) }
     ensures none { IfNone result (has_two_numbers row.now ≡ false) }
@@ -35,6 +35,7 @@ fn pair_in(row: &Row) -> Option<(i64, i64)>
     Some((first, second))
 }
 
+/// Whether a key of one number is above the last one, or is the first.
 fn is_number_above(last: Option<i64>, number: i64) -> bool
     ensures { result ≡ is_above value_cmp (option_map Int last) (Int number) }
 {
@@ -44,6 +45,7 @@ fn is_number_above(last: Option<i64>, number: i64) -> bool
     }
 }
 
+/// Whether a key of two numbers is above the last one, or is the first. The first numbers are compared first.
 fn is_pair_above(last: Option<(i64, i64)>, pair: (i64, i64)) -> bool
     ensures { result ≡ is_above pair_cmp (option_map pair_of_ints last) (pair_of_ints pair) }
 {
@@ -53,7 +55,7 @@ fn is_pair_above(last: Option<(i64, i64)>, pair: (i64, i64)) -> bool
     }
 }
 
-/// Whether the first column is a whole number that rises from row to row.
+/// Whether the first column of these rows is a whole number that rises from row to row.
 pub fn are_numbered(rows: &[Row]) -> bool
     ensures { IsTrue result ↔ AreKeyed rows.now }
 {
@@ -70,7 +72,7 @@ pub fn are_numbered(rows: &[Row]) -> bool
     true
 }
 
-/// Whether the first two columns are whole numbers that rise from row to row.
+/// Whether the first two columns of these rows are whole numbers, and the pair of them rises from row to row.
 pub fn are_paired(rows: &[Row]) -> bool
     ensures { IsTrue result ↔ ArePaired rows.now }
 {
