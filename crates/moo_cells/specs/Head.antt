@@ -47,7 +47,7 @@ ReadsNewer known cells =
 abbrev pub ReadsKnown : ℤ → Row → Type 0
 ReadsKnown version cells = (head : Head) × ReadsHead version head cells
 
--- rows by their ids
+-- the table whose rows these are, by their first column
 abbrev pub by_rowid : List Row → ℤ → Option Row
 by_rowid rows = λ n. find (has_rowid n) rows
 
@@ -55,11 +55,11 @@ by_rowid rows = λ n. find (has_rowid n) rows
 abbrev pub HoldsHead : Version → List Row → Head → Type 0
 HoldsHead version rows head = (cells : Row) × HeadIs (by_rowid rows) cells × ReadsHead (version_number version) head cells
 
--- tables of a version past this one
+-- `head` is one row of id 1, of a version past this one
 abbrev pub IsNewerThan : ℤ → (ℤ → Option Row) → Type 0
 IsNewerThan known table = (cells : Row) × HeadIs table cells × ReadsNewer known cells
 
--- tables that have a head of this version
+-- `head` is one row of id 1, of a head of this version within its limits
 abbrev pub HasHead : ℤ → (ℤ → Option Row) → Type 0
 HasHead version table = (cells : Row) × HeadIs table cells × ReadsKnown version cells
 
@@ -71,11 +71,12 @@ IsCounter next = (0 < next) × (next ≤ 4294967295)
 abbrev pub ReadsCounter : Version → (ℤ → Option Row) → ℕ → Type 0
 ReadsCounter version table next = ShowsCounter version table next × IsCounter next
 
--- the table has such a number, as that of a version without petitions always does
+-- the table has a number of the next petition, within its limits; a version without petitions always has 1
 abbrev pub HasCounter : Version → (ℤ → Option Row) → Type 0
 HasCounter version table = (next : ℕ) × ReadsCounter version table next
 
--- the fault of a head
+-- What the fault of a head says, by whether there is one of the version and whether there is one of a newer version: `BadHead`, that
+-- there is neither; `NewerVersion`, that there is a newer one.
 abbrev pub SaysOfHead : (known newer : Type 0) → CellFault → Type 0
 SaysOfHead known newer (Damaged kind key) = (kind ≡ BadHead) × (key ≡ the_head) × ¬ known × ¬ newer
 SaysOfHead known newer NewerVersion = newer

@@ -13,7 +13,7 @@ abbrev pub ShowsAccept : List ℕ → Option (List ObjNo) → Type 0
 ShowsAccept text None = text ≡ []
 ShowsAccept text (Some objects) = Spells (object_list objects) text
 
--- the cells show the row, in every version alike
+-- the cells are those of this object, with its accept list in any spelling; every version has the same
 abbrev pub ShowsObject : Version → ObjNo → Row → ObjRow → Type 0
 ShowsObject version n cells row = (accept : List ℕ) × ShowsAccept accept row.accept × (cells ≡ object_row_cells n row accept)
 

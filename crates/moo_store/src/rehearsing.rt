@@ -9,7 +9,7 @@ ghost use Rattle.moo_store.specs.Rehearsed.{IsRehearsedAt, RehearsesAt};
 
 use crate::answering::{Answering, answer_until};
 use crate::course::Course;
-use crate::judged::reply_or_changes;
+use crate::judging::reply_or_changes;
 use crate::world::World;
 use moo_batch::Witness;
 use moo_memory::{Changes, Flat, apply_changes};

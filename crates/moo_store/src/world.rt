@@ -2,7 +2,7 @@
 
 use crate::committing::commit_cells;
 use crate::fault::StoreFault;
-use crate::judged::reply_or_changes;
+use crate::judging::reply_or_changes;
 use crate::printing::print_changes;
 use moo_batch::Witness;
 use moo_memory::{Changes, Flat, apply_changes};

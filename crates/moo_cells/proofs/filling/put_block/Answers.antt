@@ -1,6 +1,6 @@
 use Rattle.moo_cells.{proofs.Words.{◌++◌, subst}, specs.Filled.{FillsMap}}
 use Rattle.std.proofs.lemmas.List.Sorted.{IsPermutation-append}
-use Rattle.moo_cells.proofs.filled.put_block.Goals as goal
+use Rattle.moo_cells.proofs.filling.put_block.Goals as goal
 
 pub returns : goal.returns
 returns g c keeps before read was held =

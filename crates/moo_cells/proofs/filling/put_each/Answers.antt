@@ -1,6 +1,6 @@
 use Rattle.moo_cells.{proofs.Words.{IsAntisymmetric, IsTotalOrder, ◌≡◌, ◌∙◌, [], ◌∷◌, ◌++◌, ◌+◌, take, sym, ap, subst, append-nil, append_assoc}, specs.Filled.{FillsMap}, proofs.FillLemmas.{put_more}}
 use Rattle.std.proofs.lemmas.List.{take_all, take_more}
-use Rattle.moo_cells.proofs.filled.put_each.Goals as goal
+use Rattle.moo_cells.proofs.filling.put_each.Goals as goal
 
 pub loop-row-init : goal.loop-row-init
 loop-row-init g c keeps before read was =

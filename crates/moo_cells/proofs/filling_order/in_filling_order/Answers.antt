@@ -1,6 +1,6 @@
 use Rattle.moo_cells.proofs.Words.{◌≡◌, ◌<◌, ℕ, List, length, sym, ap, subst, ◌∙◌, arith, Row}
 use Rattle.std.{specs.List.{swap}, specs.List.Sorted.{IsPermutation}, proofs.lemmas.List.Sorted.{IsPermutation-swap, IsPermutation-trans, length_permutation}}
-use Rattle.moo_cells.proofs.filling.in_filling_order.Goals as goal
+use Rattle.moo_cells.proofs.filling_order.in_filling_order.Goals as goal
 
 again : (first before after : List Row) (n a b : ℕ) → IsPermutation first before → length before ≡ n → a < n → b < n → after ≡ swap before a b → IsPermutation first after
 again first before after n a b so long la lb is = IsPermutation-trans first before after so (IsPermutation-swap before after a b (omega (arith, long, la)) (omega (arith, long, lb)) is)

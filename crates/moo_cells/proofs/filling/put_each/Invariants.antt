@@ -2,7 +2,7 @@ use Rattle.std.proofs.Common.{List, take, ◌++◌}
 use Rattle.sqlite.specs.Order.{Row}
 use Rattle.moo_rows.specs.Maps.{Maps}
 use Rattle.moo_cells.{specs.Filled.{FillsMap}, specs.Holding.{KeepsTable}}
-use Rattle.moo_cells.proofs.filled.put_each.Given as goal
+use Rattle.moo_cells.proofs.filling.put_each.Given as goal
 
 -- the rows so far were put
 abbrev pub invariant-loop-row : goal.invariant-loop-row

@@ -1,5 +1,5 @@
 use Rattle.moo_cells.proofs.Words.{◌≡◌, ◌++◌, get, length, into_iter_items, into_iter_len}
-use Rattle.moo_cells.proofs.table_row.read_table.Given as goal
+use Rattle.moo_cells.proofs.read_row.read_table.Given as goal
 
 abbrev pub invariant-loop-row : goal.invariant-loop-row
 invariant-loop-row g l = record {

@@ -1,5 +1,5 @@
 use Rattle.moo_cells.{proofs.Words.{rules, Damaged, BadCell, ◌≡◌, ◌∷◌, [], ◌++◌, sym, length, ap, subst, ◌∙◌, arith, into_iter_items, into_iter_len}, proofs.Table.{takes_next, takes_on, took_all}, proofs.Within.{taken}}
-use Rattle.moo_cells.proofs.table_row.read_table.Goals as goal
+use Rattle.moo_cells.proofs.read_row.read_table.Goals as goal
 
 pub loop-row-init : goal.loop-row-init
 loop-row-init g c =

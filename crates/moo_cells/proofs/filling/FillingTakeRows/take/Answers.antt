@@ -1,5 +1,5 @@
 use Rattle.moo_cells.{proofs.Words.{◌++◌, sym, subst}, specs.Filled.{FillsInSomeOrder, FillsMap}, specs.Holding.{KeepsTable}}
-use Rattle.moo_cells.proofs.filled.FillingTakeRows.take.Goals as goal
+use Rattle.moo_cells.proofs.filling.FillingTakeRows.take.Goals as goal
 
 -- the version stays
 pub returns : goal.returns

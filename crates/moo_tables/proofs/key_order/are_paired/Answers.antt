@@ -1,5 +1,5 @@
 use Rattle.moo_tables.{proofs.Words.{rules, ap, option_map, and_from, is_int, pair_cmp, pair_of_ints, has_two_numbers}, proofs.ListedLemmas.{pair_in, both, goes_on, ends_low, reads_all, pairs_keyed, pairs_not_keyed}}
-use Rattle.moo_tables.proofs.listed.are_paired.Goals as goal
+use Rattle.moo_tables.proofs.key_order.are_paired.Goals as goal
 
 pub returns-then-not-is_pair_above : goal.returns-then-not-is_pair_above
 returns-then-not-is_pair_above c =

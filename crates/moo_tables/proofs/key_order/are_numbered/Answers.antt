@@ -1,5 +1,5 @@
 use Rattle.moo_tables.{proofs.Words.{rules, ap, option_map, Int, value_cmp, is_int}, proofs.ListedLemmas.{has_number, number_in, goes_on, ends_low, reads_all, numbers_keyed, numbers_not_keyed}}
-use Rattle.moo_tables.proofs.listed.are_numbered.Goals as goal
+use Rattle.moo_tables.proofs.key_order.are_numbered.Goals as goal
 
 pub returns-then-not-is_number_above : goal.returns-then-not-is_number_above
 returns-then-not-is_number_above c =
