@@ -27,7 +27,8 @@ module _ {D : Type 0} {g : Ghosts D} where
   IsLeftOf store (left.Unopened now) = ⊥
   IsLeftOf store (left.Store now) = (trees : Trees) → recovers now trees → store.may_leave trees
 
-  -- the database file alone holds the last commit, and so it does after a crash; or closing failed
+  -- A closed connection left its last commit in the database file alone, and so it is after a crash; or closing failed, and an open store
+  -- came back.
   abbrev pub IsClosedAs : Held (FileStore D g) → Leftover D g → Type 0
   IsClosedAs conn (left.Files now) = AreClean g now.log now.db → IsCopied conn now
   IsClosedAs conn (left.Unopened now) = ⊥

@@ -40,7 +40,7 @@ module _ {T D : Type 0} {g : Ghosts D} where
     pub malformed : ExcusesMalformed fault rest
     pub kept : KeepsSuch (λ found. found ≡ trees) image rest
 
-  -- what is said of files to which there is no connection
+  -- what is said, by what the files hold, if no connection to them was opened
   abbrev pub Unconnects : Contents → Image → StoreFault → Remains T D g → Type 0
   Unconnects Nothing image fault rest = KeepsNothingBut (λ _. ⊥) image rest
   Unconnects (Holds trees) image fault rest = IsUnconnected trees image fault rest

@@ -33,6 +33,7 @@ pub data Site : Type 0 where
   Empty : Site
   Filled : Trees → Site
 
+-- the files hold what this site says
 abbrev pub IsSite : Image → Site → Type 0
 IsSite image Empty = HoldsNoDatabase image
 IsSite image (Filled trees) = HoldsTrees image trees

@@ -23,12 +23,15 @@ use Rattle.moo_files.specs.Contents.{HoldsSuch, HoldsNothingBut, HasNoSums, IsKe
 use Rattle.moo_files.specs.declared.remains.Remains.{Remains}
 use Rattle.moo_files.specs.declared.remains.Remains.TheVariants as remains
 
+-- the fault of a file that can't be opened: there is none of this name, or the host refused it
 abbrev pub cannot_open : StoreFault
 cannot_open = Store (SqliteFailure CannotOpen)
 
+-- the fault of a file that is open elsewhere
 abbrev pub busy : StoreFault
 busy = Store (SqliteFailure DatabaseBusy)
 
+-- the fault of a file that isn't a whole database
 abbrev pub malformed : StoreFault
 malformed = Store (SqliteFailure DatabaseCorrupt)
 
@@ -53,7 +56,7 @@ module _ {T D : Type 0} {g : Ghosts D} where
   MayStopAs fault (remains.NotOpened seal) = (fault ≡ cannot_open) ⊎ ((fault ≡ OutOfMemory) ⊎ (fault ≡ busy))
   MayStopAs fault opened = ⊤
 
-  -- if the host couldn't open the files, this is so
+  -- if the start was spent on files that couldn't be opened, this is so
   abbrev pub IfNotOpened : Remains T D g → Type 0 → Type 0
   IfNotOpened (remains.NotOpened seal) P = P
   IfNotOpened rest P = ⊤

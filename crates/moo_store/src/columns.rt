@@ -32,19 +32,22 @@ pub(crate) trait Column: PartialEq {
     /// The one text that is printed of a value.
     ghost text: { Self → List ℕ };
 
+    /// The value of a row in this column.
     fn of(row: &Self::Row) -> &Self
         ensures { result.now ≡ part row.now };
 
     /// The printed text of the value. The only error is out of memory.
     fn cell(&self, alloc: Global) -> Result<Vec<u8>, AllocError>
+        // The text spells the value, and is the one that is always printed of it.
         ensures { IfOk result (λ cell. spells cell.items self.now × (cell.items ≡ text self.now)) };
 
     /// Values that are called equal are equal.
     ghost exact: { IsExact Self.PartialEq.eq };
 }
 
-/// The printed literal of a value, as a cell.
+/// The printed literal of a value, as a cell. The only error is out of memory.
 fn literal_cell(alloc: Global, value: &Value) -> Result<Vec<u8>, AllocError>
+    // It spells the value, and is the one text that is printed of it.
     ensures { IfOk result (λ cell. Spells value.now cell.items × (cell.items ≡ print value.now)) }
 {
     let mut cell = Vec::new(alloc);
@@ -145,9 +148,9 @@ impl Column for ValueList {
     ghost exact = { same_by-exact coded_values };
 }
 
-/// Whether a row is there, with this value.
+/// Whether there was a row before, and it has this value in the column.
 #[tactic(auto, using(crate::proofs::Written::has_part))]
-fn stays<V: Column>(old: Option<&V::Row>, value: &V) -> bool
+fn has_value<V: Column>(old: Option<&V::Row>, value: &V) -> bool
     ensures { IsTrue result ↔ option_map V.part (option_map (λ row. row.now) old.entry) ≡ Some value.now }
 {
     match old {
@@ -156,7 +159,8 @@ fn stays<V: Column>(old: Option<&V::Row>, value: &V) -> bool
     }
 }
 
-/// The printed text of the value of a row, or None if it is that of the old one. The only error is out of memory.
+/// The printed text of the value of a row in this column; None if the row before has the same value, so that its cell stays. The only
+/// error is out of memory.
 pub(crate) fn text_over<V: Column>(
     alloc: Global,
     old: Option<&V::Row>,
@@ -166,7 +170,7 @@ pub(crate) fn text_over<V: Column>(
         PrintsOver V.spells V.text (option_map V.part (option_map (λ row. row.now) old.entry)) (V.part row.now) cell) }
 {
     let value = V::of(row);
-    if stays::<V>(old, value) {
+    if has_value::<V>(old, value) {
         return Ok(None);
     }
     Ok(Some(value.cell(alloc)?))

@@ -17,8 +17,8 @@ use moo_text::{Answer, Reply};
 use moo_world::{Answers, Batch};
 use std::alloc::Global;
 
-/// The answers and the changes of a batch that is accepted, or the reply to one that isn't. If it is refused, the witness sees why,
-/// once.
+/// Judges a batch on rows: the answers and the changes if it is accepted, else the reply to it. Nothing changes. If it is refused, the
+/// witness sees why, once.
 #[tactic(auto, using(moo_batch::proofs::Ticking::of_batch, crate::proofs::Verdicts::refused_stays, crate::proofs::Verdicts::no_room_stays))]
 pub(crate) fn reply_or_changes<N: Witness>(
     alloc: Global,
@@ -26,13 +26,20 @@ pub(crate) fn reply_or_changes<N: Witness>(
     batch: &Batch,
     witness: &mut N,
 ) -> Result<(Answers, Changes), Reply>
+    // The rows are those of a world.
     requires { IsGood rows.now.maps }
+    // Answers and changes are the verdict on an accepted batch.
     ensures accepted { IfOk result (λ taken. IsVerdict rows.now.maps batch.now (Accepted taken.0 taken.1)) }
+    // A World of these rows may reply so, and stays where it is.
     ensures stays { IfErr result (λ reply.
         (m : Moment) → m.rows ≡ rows.now.maps → RunsAt (Works m) batch.now (Answer.Replied reply) (Works m)) }
+    // The reply may be that to a question too.
     ensures asked { IfErr result (MayReplyAsked (state_of rows.now.maps) batch.now) }
+    // The witness has no more ticks left than before.
     ensures ticks { NoneComeBack (N.left witness.old) (N.left witness.new) }
+    // Of a refused batch the witness has seen the refusal, and of any other nothing.
     ensures seen { IfErr result (λ reply. HasSeenReply N.sees rows.now.maps batch.now reply (N.kept witness.old) (N.kept witness.new)) }
+    // Of an accepted batch it has seen nothing.
     ensures unseen { IfOk result (λ _. N.kept witness.new ≡ N.kept witness.old) }
 {
     match judge(alloc, rows, batch, witness) {

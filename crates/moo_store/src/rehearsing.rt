@@ -65,11 +65,15 @@ impl Rehearsal {
         }
     }
 
-    /// Makes the changes of an accepted batch in the rows.
+    /// Makes the changes of an accepted batch in the rows, and gives the answer to it. If memory runs out, the rehearsal has failed.
     fn accept(&mut self, answers: Answers, changes: Changes) -> Answer
+        // It hasn't failed.
         requires works { self.old.failed ≡ false }
+        // The changes lead to rows of a world.
         requires changes { (next : Maps) × AreChanges self.old.rows.maps next changes × IsGood next }
+        // The batch is accepted, with its number and its answers.
         ensures answer { result ≡ Answer.Replied (Reply.Accepted changes.head.seq answers) }
+        // The rows have the changes, unless memory ran out meanwhile.
         ensures rows { (next : Maps) → AreChanges self.old.rows.maps next changes → self.new.failed ≡ false →
             self.new.rows.maps ≡ next }
     {
@@ -80,8 +84,9 @@ impl Rehearsal {
         Answer::Replied(Reply::Accepted { seq, answers })
     }
 
-    /// Answers a batch as if it was run.
+    /// Answers a batch as if it was run: its reply, or `closed` if the rehearsal has failed.
     fn rehearse<N: Witness>(&mut self, batch: &Batch, witness: &mut N) -> Answer
+        // The answer is one that running the batch here may give, and leads to the same place.
         ensures { (from : Place) → IsRehearsedAt self.old from → (to : Place) × IsRehearsedAt self.new to
             × RehearsesAt from batch.now result to }
     {

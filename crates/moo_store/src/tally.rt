@@ -13,6 +13,7 @@ pub struct Tally {
 }
 
 impl Tally {
+    /// Nothing is counted yet.
     pub(crate) fn new() -> Tally
         ensures { (result.batches ≡ 0) × (result.lost ≡ 0) }
     {
@@ -22,7 +23,9 @@ impl Tally {
         }
     }
 
+    /// Counts an answer: as a batch, if one was read whole, and as lost, if it is `fault` or `closed`.
     pub(crate) fn count(&mut self, answer: &Answer)
+        // A text is too short for more.
         requires room { self.old.batches < 2 ^ 63 }
         requires room_lost { self.old.lost < 2 ^ 63 }
         ensures batches { self.new.batches ≡ self.old.batches + cond (is_batch answer.now) 1 0 }

@@ -1,7 +1,7 @@
 use Rattle.std.proofs.Common.{None, length}
 use Rattle.moo_rows.specs.Walk.{rows_left}
 use Rattle.moo_store.proofs.AllRows.{ArePrinted}
-use Rattle.moo_store.proofs.printing.print_left.Given as goal
+use Rattle.moo_store.proofs.printing.print_all_of.Given as goal
 
 -- those printed, and those left
 abbrev pub invariant-loop-next : goal.invariant-loop-next
