@@ -3,7 +3,7 @@ use Rattle.std.specs.Prelude.{◌≡◌, ◌≢◌, ℕ, ◌<◌, ◌≤◌, ℤ
 use Rattle.std.specs.Prelude.{List, [], ◌∷◌, Option, None, Some, find}
 use Rattle.sqlite.specs.Order.{Row}
 use Rattle.sqlite.specs.Tree.{has_rowid}
-use Rattle.sqlite.specs.declared.types.Value.TheVariants.{Int as Number}
+use Rattle.sqlite.specs.declared.types.Value.TheVariants.{Int}
 use Rattle.moo_rows.specs.declared.row.Head.{Head}
 use Rattle.moo_tables_rows.specs.declared.version.Version.{Version}
 use Rattle.moo_tables_rows.specs.Version.{present, version_number}
@@ -20,7 +20,7 @@ greatest_version = version_number present
 -- the cells of a head, in the order of the columns
 abbrev pub head_row : (version seq top next_prop next_verb : ℤ) → Row
 head_row version seq top next_prop next_verb =
-    Number (pos 1) ∷ Number version ∷ Number seq ∷ Number top ∷ Number next_prop ∷ Number next_verb ∷ []
+    Int (pos 1) ∷ Int version ∷ Int seq ∷ Int top ∷ Int next_prop ∷ Int next_verb ∷ []
 
 -- the table has exactly one row, of id 1, and these are its cells
 pub record HeadIs (table : ℤ → Option Row) (cells : Row) : Type 0 where

@@ -3,7 +3,7 @@
 ghost use Rattle.std.specs.Prelude.{◌≡◌, ◌≢◌, ℕ, ℤ, pos, ◌<◌, Bool, true, false, List, Some, IfOk, IfErr, IsTrue, FitsSigned};
 ghost use Rattle.std.specs.Int.{w64};
 ghost use Rattle.sqlite.specs.Order.{column};
-ghost use Rattle.sqlite.specs.declared.types.Value.TheVariants.{Int as Number, Text};
+ghost use Rattle.sqlite.specs.declared.types.Value.TheVariants.{Int, Text};
 ghost use Rattle.sqlite_trees.specs.View.{is_int};
 ghost use Rattle.moo_value.specs.declared.value.ObjNo.{ObjNo};
 ghost use Rattle.moo_rows.specs.declared.row.Bits.{Bits};
@@ -33,11 +33,11 @@ const MAX_ID: u32 = u32::MAX - 1;
 /// The whole number in a column. `Unreadable` if the cell has something else, or there is no such column.
 pub(crate) fn int_at(cells: &Row, at: usize) -> Result<i64, RowFault>
     // The cell has the number.
-    ensures ok { IfOk result (λ n. column cells.now at ≡ Number n) }
+    ensures ok { IfOk result (λ n. column cells.now at ≡ Int n) }
     // It is a number of 64 bits with a sign.
     ensures fits { IfOk result (λ n. FitsSigned w64 n) }
     // The cell has no whole number.
-    ensures err { IfErr result (λ _. (n : ℤ) → column cells.now at ≢ Number n) }
+    ensures err { IfErr result (λ _. (n : ℤ) → column cells.now at ≢ Int n) }
 {
     match cells.get_ref(at) {
         Ok(ValueRef::Int(number)) => Ok(number),
@@ -48,7 +48,7 @@ pub(crate) fn int_at(cells: &Row, at: usize) -> Result<i64, RowFault>
 /// The whole number in a column that is known to have one.
 pub(crate) fn int_in(cells: &Row, at: usize) -> i64
     requires { IsTrue (is_int (column cells.now at)) }
-    ensures value { column cells.now at ≡ Number result }
+    ensures value { column cells.now at ≡ Int result }
     ensures fits { FitsSigned w64 result }
 {
     match cells.get_ref(at) {
@@ -71,11 +71,11 @@ pub(crate) fn text_at(cells: &Row, at: usize) -> Result<&[u8], RowFault>
 /// The number of an object in a column, -2,147,483,648 to 2,147,483,647. `Unreadable` if the cell has something else.
 pub(crate) fn object_at(cells: &Row, at: usize) -> Result<ObjNo, RowFault>
     // The cell has the number.
-    ensures ok { IfOk result (λ n. column cells.now at ≡ Number n.0) }
+    ensures ok { IfOk result (λ n. column cells.now at ≡ Int n.0) }
     // It is a number of 32 bits with a sign.
     ensures fits { IfOk result (λ n. is_number n ≡ true) }
     // The cell has no such number.
-    ensures err { IfErr result (λ _. (n : ObjNo) → is_number n ≡ true → column cells.now at ≢ Number n.0) }
+    ensures err { IfErr result (λ _. (n : ObjNo) → is_number n ≡ true → column cells.now at ≢ Int n.0) }
 {
     match i32::try_from(int_at(cells, at)?) {
         Ok(number) => Ok(ObjNo(number)),
@@ -86,11 +86,11 @@ pub(crate) fn object_at(cells: &Row, at: usize) -> Result<ObjNo, RowFault>
 /// The number of a property, a verb or a petition in a column, 1 to 4,294,967,294. `Unreadable` if the cell has something else.
 pub(crate) fn id_at(cells: &Row, at: usize) -> Result<u32, RowFault>
     // The cell has the number.
-    ensures ok { IfOk result (λ n. column cells.now at ≡ Number (pos n)) }
+    ensures ok { IfOk result (λ n. column cells.now at ≡ Int (pos n)) }
     // It is above 0 and below the greatest counter.
     ensures fits { IfOk result (λ n. IsId n) }
     // The cell has no such number.
-    ensures err { IfErr result (λ _. (n : ℕ) → IsId n → column cells.now at ≢ Number (pos n)) }
+    ensures err { IfErr result (λ _. (n : ℕ) → IsId n → column cells.now at ≢ Int (pos n)) }
 {
     match u32::try_from(int_at(cells, at)?) {
         Ok(number) if 0 < number && number <= MAX_ID => Ok(number),

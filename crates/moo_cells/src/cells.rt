@@ -13,14 +13,14 @@ use crate::fault::CellFault;
 use crate::rows::read_rows;
 use moo_damage::damage_of;
 use moo_memory::Flat;
-use moo_tables::CellLists as Cells;
+use moo_tables::CellLists;
 use std::alloc::Global;
 
 /// The rows that the tables show, if they are those of a world.
 ///
 /// Errors: `Damaged` with the first kind of damage that is met and the least key at which it is; `NewerVersion` if the
 /// head is that of a later version, and then nothing else is tested; `OutOfMemory`.
-pub fn read_cells(alloc: Global, lists: Cells) -> Result<Flat, CellFault>
+pub fn read_cells(alloc: Global, lists: CellLists) -> Result<Flat, CellFault>
     // In each table the keys are whole numbers, and each is above the one before.
     requires { AreListed lists }
     // The tables show the rows that are read.

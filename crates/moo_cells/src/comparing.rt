@@ -16,7 +16,7 @@ use crate::showing::show_each;
 use moo_damage::{Key, first_difference};
 use moo_memory::Flat;
 use moo_rows::{Head, ObjRow, PetitionRow, PropRow, Rows, SlotRow, VerbRow};
-use moo_tables::{CellLists as Cells, Version};
+use moo_tables::{CellLists, Version};
 use sqlite::Row;
 use std::alloc::{AllocError, Global};
 
@@ -38,7 +38,7 @@ pub(crate) fn shows_head(version: Version, rows: &[Row], counters: &[Row], head:
 }
 
 /// Whether the tables are seen to show these rows, by comparing each row of a table with its own. An `Err` means that memory ran out.
-fn show_rows(alloc: Global, lists: &Cells, rows: &Flat) -> Result<bool, AllocError>
+fn show_rows(alloc: Global, lists: &CellLists, rows: &Flat) -> Result<bool, AllocError>
     requires { AreListed lists.now }
     // Only a yes is promised to be right.
     ensures { IfOk result (λ show. show ≡ true → ShowsRows (tables_of lists.now) rows.now.maps) }
@@ -70,7 +70,7 @@ fn show_rows(alloc: Global, lists: &Cells, rows: &Flat) -> Result<bool, AllocErr
 ///
 /// Errors: those of `read_cells`, if the tables show no world. Rows that are shown are compared in place, and only if one differs are all
 /// read again.
-pub fn compare_cells(alloc: Global, lists: Cells, own: &Flat) -> Result<Option<Key>, CellFault>
+pub fn compare_cells(alloc: Global, lists: CellLists, own: &Flat) -> Result<Option<Key>, CellFault>
     // In each table the keys are whole numbers, and each is above the one before.
     requires listed { AreListed lists }
     // The known rows are those of a world.

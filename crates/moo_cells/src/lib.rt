@@ -35,4 +35,4 @@ pub use rows::read_rows;
 pub use showing_in_turn::show_in_turn;
 
 /// The rows of each table, as they are listed.
-pub use moo_tables::CellLists as Cells;
+pub use moo_tables::CellLists;

@@ -14,7 +14,7 @@ use crate::head::read_head;
 use crate::read_row::read_table;
 use moo_memory::Flat;
 use moo_rows::{Head, ObjRow, PetitionRow, PropRow, Rows, SlotRow, VerbRow};
-use moo_tables::CellLists as Cells;
+use moo_tables::CellLists;
 use std::alloc::Global;
 
 /// Rows that have this head and nothing else.
@@ -28,7 +28,7 @@ pub(crate) fn head_alone(alloc: Global, head: Head) -> Flat
 
 /// Puts what each table shows, one after another, into rows that have a head alone. The cells of the rows are let go soon after they are
 /// read. `Damaged` with `BadCell` and the least key of a row that shows none within its limits; `OutOfMemory`.
-fn read_tables(alloc: Global, lists: Cells, rows: &mut Flat) -> Result<(), CellFault>
+fn read_tables(alloc: Global, lists: CellLists, rows: &mut Flat) -> Result<(), CellFault>
     // In each table the keys are whole numbers, and each is above the one before.
     requires listed { AreListed lists }
     // The head of the rows is that of the tables.
@@ -47,7 +47,7 @@ fn read_tables(alloc: Global, lists: Cells, rows: &mut Flat) -> Result<(), CellF
     // A fault is told only if it is met in the tables.
     ensures fault { IfErr result (SaysOfCells (tables_of lists)) }
 {
-    let Cells {
+    let CellLists {
         version,
         object,
         prop,
@@ -67,7 +67,7 @@ fn read_tables(alloc: Global, lists: Cells, rows: &mut Flat) -> Result<(), CellF
 ///
 /// Errors: `Damaged` with `BadHead` or `BadCell`, the first of the two that is met, and its least key; `NewerVersion`;
 /// `OutOfMemory`.
-pub fn read_rows(alloc: Global, lists: Cells) -> Result<Flat, CellFault>
+pub fn read_rows(alloc: Global, lists: CellLists) -> Result<Flat, CellFault>
     // In each table the keys are whole numbers, and each is above the one before.
     requires { AreListed lists }
     // The tables show the rows that are read.

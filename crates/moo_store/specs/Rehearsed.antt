@@ -14,7 +14,7 @@ pub record Rehearsal : Type 0 where
   pub rows : Held
   pub failed : Bool
 
--- how a rehearsal is compared and copied in proofs
+-- the coding of a rehearsal that `Model` asks for, by its two parts
 abbrev pub rehearsal_code : Coded Rehearsal
 rehearsal_code =
     code_by (Held × Bool) (coded× coded_held coded_bool) (λ r. (r.rows, r.failed)) (λ p. record { rows = p.0; failed = p.1 }) (λ _. refl)

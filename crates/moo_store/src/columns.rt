@@ -8,7 +8,7 @@ ghost use Rattle.moo_value.specs.Literal.{Spells, print};
 ghost use Rattle.moo_value.specs.Values.{coded_values};
 ghost use Rattle.moo_value.specs.declared.value.Value.TheVariants.{List as a_list};
 ghost use Rattle.moo_rows.specs.Bits.{verb_bits_of, verb_letters_of};
-ghost use Rattle.moo_rows.specs.declared.row.VerbBits.{VerbBits as Bits};
+ghost use Rattle.moo_rows.specs.declared.row.VerbBits.{VerbBits};
 ghost use Rattle.moo_rows.specs.Equal.{list_eq-exact};
 ghost use Rattle.moo_rows.specs.SameRows.{and, is, option-exact, state-exact};
 ghost use Rattle.moo_cells.specs.Shows.{ShowsAccept, ShowsSlotState};
@@ -124,7 +124,7 @@ impl Column for VerbBits {
     ghost exact = { λ x y. is _ (and _ _ (booleans_Decides x.r y.r)
         (and _ _ (booleans_Decides x.w y.w) (and _ _ (booleans_Decides x.x y.x) (booleans_Decides x.d y.d))))
         (λ h i. record { r = h.0 i; w = h.1.0 i; x = h.1.1.0 i; d = h.1.1.1 i })
-        (λ e. (ap (λ (b : Bits). b.r) e, (ap (λ (b : Bits). b.w) e, (ap (λ (b : Bits). b.x) e, ap (λ (b : Bits). b.d) e)))) };
+        (λ e. (ap (λ (b : VerbBits). b.r) e, (ap (λ (b : VerbBits). b.w) e, (ap (λ (b : VerbBits). b.x) e, ap (λ (b : VerbBits). b.d) e)))) };
 }
 
 impl Column for ValueList {
