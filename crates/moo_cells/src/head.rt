@@ -138,6 +138,7 @@ fn head_of(version: Version, cells: &Row) -> Result<Head, CellFault>
 fn head_in(version: Version, rows: &[Row]) -> Result<Head, CellFault>
     // The keys are whole numbers that rise.
     requires { AreKeyed rows.now }
+    // The table has this head, in this version.
     ensures ok { IfOk result (HoldsHead version rows.now) }
     ensures limit { IfOk result (λ head. head.seq < 2 ^ 63) }
     // Damaged: the table has no head of this version, nor of a later one. NewerVersion: it has one of a later version.

@@ -91,7 +91,7 @@ fn connect_blank<D: Disk + Drop>(
 ) -> Result<Connection<FileStore<D>>, (Error, Leftover<D>)>
     // The disk lets the log be used.
     requires log { IsTrue (D.Disk.is_usable files.log) }
-    // And the database file.
+    // The disk lets the database file be used.
     requires db { IsTrue (D.Disk.is_usable files.db) }
     requires size { bytes_of size ≡ 1024 }
     // On a clean disk the connection works.
@@ -131,7 +131,7 @@ pub fn open_or_make<D: Disk + Drop>(
 ) -> Result<Connection<FileStore<D>>, (Error, Leftover<D>)>
     // The disk lets the log be used.
     requires log { IsTrue (D.Disk.is_usable files.log) }
-    // And the database file.
+    // The disk lets the database file be used.
     requires db { IsTrue (D.Disk.is_usable files.db) }
     // On a clean disk the connection works.
     ensures opened { IfOk result (λ c. HasCleanDisk (file_state c) → IsOpened c) }

@@ -26,6 +26,7 @@ pub fn make_in<S: Alter + Drop>(
     conn: Connection<S>,
     rows: Option<Flat>,
 ) -> Result<World<S>, (StoreFault, Connection<S>)>
+    // The connection is in no transaction.
     requires outside { (state S.Store conn).in_transaction ≡ false }
     // The rows are those of a world.
     requires good { IfSome rows (λ r. IsGood r.maps) }
@@ -47,9 +48,13 @@ pub(crate) fn make_files<D: Disk + Drop>(
     conn: Connection<FileStore<D>>,
     rows: Option<Flat>,
 ) -> Result<World<FileStore<D>>, (StoreFault, Connection<FileStore<D>>)>
+    // The connection is in no transaction.
     requires outside { conn.in_transaction ≡ false }
+    // The rows are those of a world.
     requires good { IfSome rows (λ r. IsGood r.maps) }
+    // A cell holds the number of the last batch as a signed number of 64 bits.
     requires limit { IfSome rows (λ r. r.maps.head.seq < 2 ^ 63) }
+    // The World has these very rows, each in its printed cells; or the database is as it was, and there is a cause.
     ensures loads { Loads over_files (rows_made rows) conn result }
 {
     make_in(alloc, conn, rows)

@@ -33,8 +33,11 @@ const NO_DATABASE: StoreFault = StoreFault::Store(Error::SqliteFailure(ErrorCode
 /// Why a file with this metadata is refused before it is opened: there is no file, or it holds no byte. None if neither is so. An empty
 /// file would be made a blank database by opening it. A log beside an empty file counts for nothing.
 fn refusal_of_metadata(found: io::Result<Metadata>) -> Option<StoreFault>
+    // If there is no file, or it can't be looked at, it can't be opened.
     ensures missing { IsErr found → result ≡ Some cannot_open }
+    // A file without a byte isn't a database.
     ensures empty { IfOk found (λ meta. IsFile (file_type meta) → metadata_len meta ≡ 0 → result ≡ Some not_ours) }
+    // Any other file isn't refused yet.
     ensures fit { IfOk found (λ meta. (IsFile (file_type meta) → metadata_len meta ≢ 0) → result ≡ None) }
     // No other fault comes.
     ensures fault { IfSome result (λ fault. (fault ≡ cannot_open) ⊎ (fault ≡ not_ours)) }
@@ -83,7 +86,8 @@ pub fn open_from<T: Start, H: WorldFiles<T>>(
     // migrated to.
     ensures opens { (held : Contents) → Hold (image_at T.Start) held →
         IfOk result (λ world. HasCleanDisk (store_of over_files world) → Opens held world) }
-    // Files that are refused are spared. If they weren't opened it is for one of few reasons.
+    // Files that are refused are spared. If they weren't opened, the fault is that they can't be, are empty or are open elsewhere, or
+    // that memory ran out.
     ensures refused { IfErr result (λ e. IsRefusedFrom (image_at T.Start) e.0 e.1) }
     // By what the files hold: no damage is told of a state or of other tables, and they hold what they held, or what that was migrated
     // to.

@@ -33,7 +33,7 @@ fn compare_lists(alloc: Global, lists: CellLists, own: &Flat) -> Result<u64, Sto
         SaysInCheck (AreListed lists → fault ≡ StoreFault.OutOfMemory) own.now.maps (tables_of lists) fault) }
     // Of tables that show the known rows no damage is told.
     ensures whole { ShowsRows (tables_of lists) own.now.maps → IfErr result IsOfStore }
-    // The World isn't called closed.
+    // The fault is never Closed.
     ensures worked { IfErr result (λ fault. fault ≢ StoreFault.Closed) }
 {
     if !are_listed(&lists) {
@@ -58,6 +58,7 @@ pub(crate) fn check_rows<S: Alter>(
     conn: &mut Connection<S>,
     own: &Flat,
 ) -> Result<u64, StoreFault>
+    // The connection is in no transaction, and in none after the call.
     requires outside { (state S.Store conn.old).in_transaction ≡ false }
     // The known rows are those of a world.
     requires good { IsGood own.now.maps }
@@ -66,7 +67,7 @@ pub(crate) fn check_rows<S: Alter>(
     ensures checks { Checks own.now.maps (state S.Store conn.old) (state S.Store conn.new) result }
     // What is in the tables stays there, and a crash leaves what it could leave before.
     ensures keeps { KeepsTables (state S.Store conn.old) (state S.Store conn.new) }
-    // The World isn't called closed.
+    // The fault is never Closed.
     ensures worked { IfErr result (λ fault. fault ≢ StoreFault.Closed) }
 {
     match test_current(alloc, conn) {

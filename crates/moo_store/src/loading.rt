@@ -36,6 +36,7 @@ pub fn load_in<S: Alter + Drop>(
     conn: Connection<S>,
     rows: Flat,
 ) -> Result<World<S>, (StoreFault, Connection<S>)>
+    // The connection is in no transaction.
     requires outside { (state S.Store conn).in_transaction ≡ false }
     // The rows are those of a world.
     requires good { IsGood rows.maps }

@@ -45,13 +45,14 @@ fn migrate_rows<S: Alter>(
 ) -> Result<(), StoreFault>
     // A cell holds the number of the last batch as a signed number of 64 bits.
     requires limit { rows.now.maps.head.seq < 2 ^ 63 }
+    // The connection is in no transaction, and in none after the call.
     requires outside { (state S.Store conn.old).in_transaction ≡ false }
     ensures outside { (state S.Store conn.new).in_transaction ≡ false }
     // A fault never tells of damage: memory ran out, or the store failed.
     ensures fault { IfErr result IsOfStore }
-    // The tables are never called others than ours.
+    // A fault never says that the tables aren't ours.
     ensures own { IfErr result (λ fault. fault ≢ not_ours) }
-    // Over tables of an earlier version a fault has one of the causes of any change.
+    // If the tables are of an earlier version, a fault has one of the causes of any change.
     ensures cause { HasCleanDisk (state S.Store conn.new) →
         IfErr result (λ fault. (tables : Tables) → Rests (state S.Store conn.old) tables → IsEarlier tables.version →
         StopsBy (StopsChange (state S.Store conn.old) (state S.Store conn.new)) fault) }
@@ -59,7 +60,7 @@ fn migrate_rows<S: Alter>(
     ensures keeps { HasCleanDisk (state S.Store conn.new) →
         OnOk result ((tables : Tables) → Rests (state S.Store conn.old) tables → IsEarlier tables.version →
         ShowsRows tables rows.now.maps → KeepsRows (state S.Store conn.new) rows.now.maps) }
-    // They are those that a migration makes of them: the cells of objects, properties and verbs stay, and `slot` is empty.
+    // The new tables are those that a migration makes: the cells of objects, properties and verbs stay, and `slot` is empty.
     ensures rests { HasCleanDisk (state S.Store conn.new) →
         OnOk result ((tables : Tables) → Rests (state S.Store conn.old) tables → IsEarlier tables.version →
         ShowsRows tables rows.now.maps → RestsCurrent (state S.Store conn.new) (state S.Store conn.old).now.trees tables rows.now.maps) }
@@ -94,15 +95,16 @@ pub(crate) fn make_current<S: Alter>(
 ) -> Result<(), StoreFault>
     // A cell holds the number of the last batch as a signed number of 64 bits.
     requires limit { rows.now.maps.head.seq < 2 ^ 63 }
+    // The connection is in no transaction, and in none after the call.
     requires outside { (state S.Store conn.old).in_transaction ≡ false }
     ensures outside { (state S.Store conn.new).in_transaction ≡ false }
     // A fault never tells of damage: memory ran out, or the store failed.
     ensures fault { IfErr result IsOfStore }
-    // The tables are never called others than ours.
+    // A fault never says that the tables aren't ours.
     ensures own { IfErr result (λ fault. fault ≢ not_ours) }
     // Tables of the present version give no fault: nothing is asked of the store.
     ensures earlier { OnErr result (IsEarlier version) }
-    // Over tables of this version a fault has one of the causes of any change.
+    // If the tables are of this version, a fault has one of the causes of any change.
     ensures cause { HasCleanDisk (state S.Store conn.new) →
         IfErr result (λ fault. (tables : Tables) → Rests (state S.Store conn.old) tables → tables.version ≡ version →
         StopsBy (StopsChange (state S.Store conn.old) (state S.Store conn.new)) fault) }
@@ -110,7 +112,7 @@ pub(crate) fn make_current<S: Alter>(
     ensures keeps { HasCleanDisk (state S.Store conn.new) →
         OnOk result ((tables : Tables) → Rests (state S.Store conn.old) tables → tables.version ≡ version →
         ShowsRows tables rows.now.maps → KeepsRows (state S.Store conn.new) rows.now.maps) }
-    // They are the very tables if they were of the present version, else those that a migration makes of them.
+    // The new tables are the very ones if those were of the present version, else the ones that a migration makes.
     ensures rests { HasCleanDisk (state S.Store conn.new) →
         OnOk result ((tables : Tables) → Rests (state S.Store conn.old) tables → tables.version ≡ version →
         ShowsRows tables rows.now.maps → RestsCurrent (state S.Store conn.new) (state S.Store conn.old).now.trees tables rows.now.maps) }

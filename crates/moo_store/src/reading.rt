@@ -35,7 +35,7 @@ fn rows_of(alloc: Global, lists: CellLists) -> Result<Flat, StoreFault>
     ensures one { (m : Maps) → ShowsRows (tables_of lists) m → IsGood m → IfOk result (λ rows. rows.maps ≡ m) }
     // A damage is told only if it is met; any other fault over listed rows is out of memory.
     ensures fault { IfErr result (λ fault. SaysOr (AreListed lists → fault ≡ StoreFault.OutOfMemory) (tables_of lists) fault) }
-    // The tables aren't called others than ours.
+    // A fault never says that the tables aren't ours.
     ensures own { IfErr result (λ fault. fault ≢ not_ours) }
 {
     if !are_listed(&lists) {
@@ -74,6 +74,7 @@ pub(crate) fn read_lists<S: Alter>(
     conn: &mut Connection<S>,
     version: Version,
 ) -> Result<CellLists, StoreFault>
+    // The connection is in no transaction, and in none after the call.
     requires outside { (state S.Store conn.old).in_transaction ≡ false }
     ensures outside { (state S.Store conn.new).in_transaction ≡ false }
     // If it succeeds, nothing changed.
@@ -93,7 +94,7 @@ pub(crate) fn read_lists<S: Alter>(
         IfErr result (StopsBy (StopsQuery (state S.Store conn.old) (state S.Store conn.new))) }
     // A fault is one of the store.
     ensures fault { IfErr result (λ fault. (error : _) × (fault ≡ StoreFault.Store error)) }
-    // The tables aren't called others than ours.
+    // A fault never says that the tables aren't ours.
     ensures own { IfErr result (λ fault. fault ≢ not_ours) }
 {
     match read_tables(alloc, conn, version) {
@@ -153,6 +154,7 @@ fn read_whole<S: Alter>(
     conn: &mut Connection<S>,
     version: Version,
 ) -> Result<Flat, StoreFault>
+    // The connection is in no transaction, and in none after the call.
     requires outside { (state S.Store conn.old).in_transaction ≡ false }
     ensures outside { (state S.Store conn.new).in_transaction ≡ false }
     // The rows are good and those that the tables show. A fault tells of a damage only if it is met. Nothing is written.
@@ -176,6 +178,7 @@ fn read_each<S: Alter>(
     conn: &mut Connection<S>,
     version: Version,
 ) -> Result<Flat, StoreFault>
+    // The connection is in no transaction, and in none after the call.
     requires outside { (state S.Store conn.old).in_transaction ≡ false }
     ensures outside { (state S.Store conn.new).in_transaction ≡ false }
     // The rows are good and those that the tables show. A fault tells of a damage only if it is met. Nothing is written.
@@ -197,6 +200,7 @@ pub(crate) fn read_rows<S: Alter>(
     alloc: Global,
     conn: &mut Connection<S>,
 ) -> Result<(Version, Flat), StoreFault>
+    // The connection is in no transaction, and in none after the call.
     requires outside { (state S.Store conn.old).in_transaction ≡ false }
     ensures outside { (state S.Store conn.new).in_transaction ≡ false }
     // Outside a transaction an open connection shows what is committed.

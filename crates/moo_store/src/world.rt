@@ -65,6 +65,7 @@ impl<S: Alter + Drop> World<S> {
     /// The World of good rows, over a connection in no transaction. It works at a moment of these rows that the connection has at rest.
     /// `check` tests that: nothing is read or written here. `create_in`, `load_in` and `adopt` make Worlds whose tables do.
     pub fn over(alloc: Global, connection: Connection<S>, rows: Flat) -> World<S>
+        // The connection is in no transaction.
         requires outside { connection.in_transaction ≡ false }
         // The rows are those of a world.
         requires good { IsGood rows.maps }

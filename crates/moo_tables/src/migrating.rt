@@ -23,7 +23,7 @@ pub(crate) fn create_added_tables<T: Run>(tx: &mut T) -> Result<usize, Error>
     ensures inside { StaysInside (T.state tx.old) (T.state tx.new) }
     // Tables of the first version become those of the present one, without slots and petitions.
     ensures made { OnOk result (GrowsTables (T.state tx.old) (T.state tx.new)) }
-    // Over tables of an earlier version it fails only by what stops any change.
+    // If the tables are of an earlier version, it fails only by what stops any change.
     ensures cause { HasCauseOfMigrating (T.state tx.old) (T.state tx.new) result }
 {
     tx.run(SLOT2.create, &[])?;
@@ -49,7 +49,7 @@ fn write_migrated<T: Run>(
     ensures goes_on { HasCleanDisk (T.state tx.new) → OnOk result (IsTrue (T.state tx.new).in_transaction) }
     // Tables of an earlier version become those of the present one, with this head and these slots, and `slot` is empty.
     ensures migrated { OnOk result (MigratesInside head.now slots.now (T.state tx.old) (T.state tx.new)) }
-    // Over tables of an earlier version it fails only by what stops any change.
+    // If the tables are of an earlier version, it fails only by what stops any change.
     ensures cause { HasCauseOfMigrating (T.state tx.old) (T.state tx.new) result }
 {
     create_added_tables(tx)?;
@@ -74,6 +74,7 @@ pub fn migrate<S: Alter>(
 ) -> Result<(), Error>
     // A cell holds the number of the last batch as a signed number of 64 bits.
     requires limit { head.now.seq < 2 ^ 63 }
+    // The connection is in no transaction, and in none after the call.
     requires outside { (state S.Store conn.old).in_transaction ≡ false }
     ensures outside { (state S.Store conn.new).in_transaction ≡ false }
     // Tables of an earlier version became those of the present one, committed; or nothing changed, and there is a cause. So it is after a

@@ -104,8 +104,9 @@ pub fn read_tables<S: Alter>(
 ) -> Result<CellLists, Error>
     // Nothing is written, and it fails only if the store does, or at the limit on steps.
     ensures reads { OnlyReads version (state S.Store conn.old) (state S.Store conn.new) result }
+    // They are those of the version.
     ensures version { IfOk result (λ lists. lists.version ≡ version) }
-    // Each list is the rows of its table, in the order of their keys.
+    // Each list is the rows of its table, in the order of the keys.
     ensures listed { Lists version (state S.Store conn.old) (state S.Store conn.new) result ListsTables }
 {
     let (head, petition, petition_head) = small_cells_of(alloc, conn, version)?;
