@@ -33,7 +33,7 @@ pub(crate) trait Answering {
 
 /// The answer that is written to a batch that a World ran or was asked: the reply, `no memory`, `closed` if the World had failed, or else
 /// `fault`.
-pub(crate) fn answered_by(reply: Result<Reply, StoreFault>) -> Answer
+pub(crate) fn answer_to(reply: Result<Reply, StoreFault>) -> Answer
     ensures { result ≡ answer_to reply }
 {
     match reply {

@@ -5,7 +5,7 @@ ghost use Rattle.moo_store.specs.Place.{Place};
 ghost use Rattle.moo_store.specs.Moves.{Stands, AsksAt};
 ghost use Rattle.moo_store.specs.Stopping.{AnswersBy, to_the_end};
 
-use crate::answering::{Answering, answer_until, answered_by};
+use crate::answering::{Answering, answer_to, answer_until};
 use crate::tally::Tally;
 use crate::world::World;
 use moo_batch::Witness;
@@ -31,7 +31,7 @@ impl<'a, S: Alter + Drop> Answering for Questions<'a, S> {
 
     #[tactic(auto, using(crate::proofs::Texts::asked_at))]
     fn answer<N: Witness>(&mut self, batch: &Batch, witness: &mut N) -> Answer {
-        answered_by(self.world.ask(batch, witness))
+        answer_to(self.world.ask(batch, witness))
     }
 }
 

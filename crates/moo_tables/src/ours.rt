@@ -32,7 +32,7 @@ const SECOND: &[OurTable] = &[
 ];
 
 /// Whether a list of terms is empty, as that of the checks of a table. An `Err` means that memory ran out.
-fn are_none(alloc: Global, terms: &Terms) -> Result<bool, AllocError>
+fn has_no_terms(alloc: Global, terms: &Terms) -> Result<bool, AllocError>
     ensures { IfOk result (λ none. IsTrue none ↔ terms.now ≡ []) }
 {
     let lent = terms.lend(alloc)?;
@@ -43,8 +43,8 @@ fn are_none(alloc: Global, terms: &Terms) -> Result<bool, AllocError>
 fn has_no_rules(alloc: Global, table: &Table) -> Result<bool, AllocError>
     ensures { IfOk result (λ none. IsTrue none ↔ HasNoRules table.now) }
 {
-    let unchecked = are_none(alloc, &table.checks)?;
-    let unstamped = are_none(alloc, &table.stamps.terms)?;
+    let unchecked = has_no_terms(alloc, &table.checks)?;
+    let unstamped = has_no_terms(alloc, &table.stamps.terms)?;
     Ok(
         unchecked
             && unstamped
