@@ -116,7 +116,7 @@ pub(crate) fn string_at(alloc: Global, cells: &Row, at: usize) -> Result<MooStr,
     ensures ok { IfOk result (λ text. column cells.now at ≡ Text text) }
     // It is within the limits of a string.
     ensures fits { IfOk result (λ text. is_text text ≡ true) }
-    // Called unreadable, the cell has no text within these limits.
+    // If the fault is `Unreadable`, the cell has no text within these limits.
     ensures err { IfErr result (λ fault. fault ≡ Unreadable → (text : List ℕ) → is_text text ≡ true → column cells.now at ≢ Text text) }
 {
     Ok(MooStr::from_bytes(alloc, text_at(cells, at)?)?)

@@ -22,13 +22,13 @@ use std::alloc::{AllocError, Global};
 
 /// Whether the rows of `head`, in tables of this version, and those of `petition_head` show this head. False too if they can't be read.
 pub(crate) fn shows_head(version: Version, rows: &[Row], counters: &[Row], head: Head) -> bool
-    // The keys are whole numbers that rise.
+    // The keys of `head` are whole numbers that rise.
     requires head { AreKeyed rows.now }
-    // So are these.
+    // The keys of `petition_head` are whole numbers that rise.
     requires counter { AreKeyed counters.now }
-    // If so, `petition_head` has its number of the next petition.
+    // If the answer is true, `petition_head` has the number of the next petition of this head.
     ensures counter { result ≡ true → ReadsCounter version (by_rowid counters.now) head.next_petition }
-    // If so, `head` has its other numbers.
+    // If the answer is true, `head` has the other numbers of this head.
     ensures head { result ≡ true → HoldsHead version rows.now head }
 {
     match read_head(version, rows, counters) {
@@ -39,8 +39,9 @@ pub(crate) fn shows_head(version: Version, rows: &[Row], counters: &[Row], head:
 
 /// Whether the tables are seen to show these rows, by comparing each row of a table with its own. An `Err` means that memory ran out.
 fn show_rows(alloc: Global, lists: &CellLists, rows: &Flat) -> Result<bool, AllocError>
+    // In each table the keys are whole numbers, and each is above the one before.
     requires { AreListed lists.now }
-    // Only a yes is promised to be right.
+    // If the answer is true, the tables show these rows. Nothing is promised of false.
     ensures { IfOk result (λ show. show ≡ true → ShowsRows (tables_of lists.now) rows.now.maps) }
 {
     if !shows_head(
@@ -81,9 +82,9 @@ pub fn compare_cells(alloc: Global, lists: CellLists, own: &Flat) -> Result<Opti
     ensures differs { IfOk result (λ o. IfSome o (IsMismatch own.now.maps (tables_of lists))) }
     // A fault is told only if it is met in the tables.
     ensures fault { IfErr result (SaysOfCells (tables_of lists)) }
-    // Tables that show the known rows are found to, unless memory runs out.
+    // If the tables show the known rows, no difference is told.
     ensures whole { ShowsRows (tables_of lists) own.now.maps → IfOk result (λ o. o ≡ None) }
-    // The only fault over such tables is that memory ran out.
+    // If the tables show the known rows, the only fault is that memory ran out.
     ensures memory { ShowsRows (tables_of lists) own.now.maps → IfErr result (λ fault. fault ≡ CellFault.OutOfMemory) }
 {
     let shown = show_rows(alloc, &lists, own)?;

@@ -158,16 +158,18 @@ fn head_in(version: Version, rows: &[Row]) -> Result<Head, CellFault>
 /// counters within their limits, or in a version with petitions `petition_head` isn't one row of id 1 with a counter within its
 /// limits; `NewerVersion` if the table of the head is one row of id 1 with whole numbers, the version above the present one.
 pub(crate) fn read_head(version: Version, rows: &[Row], counters: &[Row]) -> Result<Head, CellFault>
-    // The keys are whole numbers that rise.
+    // The keys of `head` are whole numbers that rise.
     requires head { AreKeyed rows.now }
-    // So are these.
+    // The keys of `petition_head` are whole numbers that rise.
     requires counter { AreKeyed counters.now }
     // `head` has these numbers within their limits.
     ensures ok { IfOk result (HoldsHead version rows.now) }
     // `petition_head` has the number of the next petition.
     ensures counter { IfOk result (λ head. ReadsCounter version (by_rowid counters.now) head.next_petition) }
+    // The number of the last batch is that of a cell.
     ensures limit { IfOk result (λ head. head.seq < 2 ^ 63) }
-    // Damaged: one of the two tables doesn't have them, and the version isn't a later one. NewerVersion: it is.
+    // Damaged: one of the two tables doesn't have the numbers, and the version isn't a later one. NewerVersion: the version is a later
+    // one.
     ensures err { IfErr result (SaysOfHead
         (HasHead (version_number version) (by_rowid rows.now) × HasCounter version (by_rowid counters.now))
         (IsNewerThan greatest_version (by_rowid rows.now))) }

@@ -84,8 +84,9 @@ fn take_tables<S: Alter>(
     Ok(verbs)
 }
 
-/// Whether the first column of each of three tables is a whole number that rises from row to row. (The small tables are tested together.)
+/// Whether the first column of each of three tables, as of the three small ones, is a whole number that rises from row to row.
 pub(crate) fn are_each_numbered(one: &[Row], two: &[Row], three: &[Row]) -> bool
+    // If the answer is true, the keys of each table are whole numbers that rise.
     ensures one { result ≡ true → AreKeyed one.now }
     ensures two { result ≡ true → AreKeyed two.now }
     ensures three { result ≡ true → AreKeyed three.now }

@@ -28,7 +28,7 @@ fn objects_in(alloc: Global, values: &[Value]) -> Result<ObjList, RowFault>
     // The list is just these objects.
     ensures ok { IfOk result (λ objects. values.now ≡ map Obj objects) }
     ensures fits { IfOk result (λ objects. length objects ≤ MOST_ACCEPTED) }
-    // Called unreadable, the list has something else than objects, or too many of them.
+    // If the fault is `Unreadable`, the list has something else than objects, or too many of them.
     ensures err { IfErr result (λ fault. fault ≡ Unreadable →
         (objects : List ObjNo) → length objects ≤ MOST_ACCEPTED → values.now ≢ map Obj objects) }
 {
@@ -53,7 +53,7 @@ fn objects_in(alloc: Global, values: &[Value]) -> Result<ObjList, RowFault>
 fn list_spelled(alloc: Global, bytes: &[u8]) -> Result<ObjList, RowFault>
     ensures ok { IfOk result (λ objects. Spells (object_list objects) bytes.now) }
     ensures fits { IfOk result (λ objects. accept_fits (Some objects) ≡ true) }
-    // Called unreadable, the literal spells no list of objects within its limits.
+    // If the fault is `Unreadable`, the literal spells no list of objects within its limits.
     ensures err { IfErr result (λ fault. fault ≡ Unreadable → SpellsNone object_list (λ objects. accept_fits (Some objects)) bytes.now) }
 {
     match read_whole_literal(alloc, bytes)? {
@@ -68,7 +68,7 @@ pub(crate) fn accept_at(alloc: Global, cells: &Row, at: usize) -> Result<Option<
     // The cell has a text that shows the list.
     ensures ok { IfOk result (λ accept. (text : List ℕ) × ShowsAccept text accept × (column cells.now at ≡ Text text)) }
     ensures fits { IfOk result (λ accept. accept_fits accept ≡ true) }
-    // Called unreadable, the cell has no text that shows a list within its limits.
+    // If the fault is `Unreadable`, the cell has no text that shows a list within its limits.
     ensures err { IfErr result (λ fault. fault ≡ Unreadable → ShowsNone ShowsAccept accept_fits (column cells.now at)) }
 {
     let text = text_at(cells, at)?;
@@ -85,7 +85,7 @@ pub(crate) fn state_at(alloc: Global, cells: &Row, at: usize) -> Result<SlotStat
     // The cell has a text that shows it.
     ensures ok { IfOk result (λ state. (text : List ℕ) × ShowsSlotState text state × (column cells.now at ≡ Text text)) }
     ensures fits { IfOk result (λ state. state_fits state ≡ true) }
-    // Called unreadable, the cell has no text that shows a value within its limits.
+    // If the fault is `Unreadable`, the cell has no text that shows a value within its limits.
     ensures err { IfErr result (λ fault. fault ≡ Unreadable → ShowsNone ShowsSlotState state_fits (column cells.now at)) }
 {
     let text = text_at(cells, at)?;
@@ -108,7 +108,7 @@ fn may_be_held(calls: &ValueList) -> bool
 fn calls_spelled(alloc: Global, bytes: &[u8]) -> Result<ValueList, RowFault>
     ensures ok { IfOk result (λ calls. Spells (a_list calls) bytes.now) }
     ensures fits { IfOk result (λ calls. calls_fit calls ≡ true) }
-    // Called unreadable, the literal spells no calls that a petition may hold.
+    // If the fault is `Unreadable`, the literal spells no calls that a petition may hold.
     ensures err { IfErr result (λ fault. fault ≡ Unreadable → SpellsNone a_list calls_fit bytes.now) }
 {
     let Value::List(calls) = read_whole_literal(alloc, bytes)? else {
@@ -127,7 +127,7 @@ pub(crate) fn calls_at(alloc: Global, cells: &Row, at: usize) -> Result<ValueLis
     // The cell has a text that spells the calls.
     ensures ok { IfOk result (λ calls. (text : List ℕ) × Spells (a_list calls) text × (column cells.now at ≡ Text text)) }
     ensures fits { IfOk result (λ calls. calls_fit calls ≡ true) }
-    // Called unreadable, the cell has no text that spells calls that a petition may hold.
+    // If the fault is `Unreadable`, the cell has no text that spells calls that a petition may hold.
     ensures err { IfErr result (λ fault. fault ≡ Unreadable →
         ShowsNone (λ text calls. Spells (a_list calls) text) calls_fit (column cells.now at)) }
 {

@@ -47,7 +47,7 @@ pub(crate) trait ReadRow: KeyedRow {
     /// Errors: `Unreadable` if they show no row within its limits, and `OutOfMemory`.
     fn read(alloc: Global, version: Version, cells: &Row) -> Result<(Self::Key, Self), RowFault>
         ensures ok { IfOk result (λ r. reads version r.0 cells.now r.1) }
-        // Called unreadable, the cells show no row within its limits.
+        // If the fault is `Unreadable`, the cells show no row within its limits.
         ensures err { IfErr result (λ fault. fault ≡ Unreadable → ¬ (IsRead (reads version) cells.now)) };
 
     /// The key that cells have, whether or not they show a row. It is told if they can't be read.
@@ -68,7 +68,7 @@ pub(crate) fn take_row<R: ReadRow>(
     ensures ok { OnOk result (TakesRow (R.reads version) cells.now (R.map_of rows.old.maps) (R.map_of rows.new.maps)) }
     // The other maps stay.
     ensures kept { OnOk result (rows.new.maps ≡ R.with_map rows.old.maps (R.map_of rows.new.maps)) }
-    // Called unreadable, the cells show no row within its limits.
+    // If the fault is `Unreadable`, the cells show no row within its limits.
     ensures err { IfErr result (λ fault. fault ≡ Unreadable → ¬ (IsRead (R.reads version) cells.now)) }
 {
     let (key, row) = R::read(alloc, version, cells)?;

@@ -20,6 +20,7 @@ fn shows<R: ReadRow>(
     key: R::Key,
     row: &R,
 ) -> Result<bool, AllocError>
+    // If the answer is true, the cells show this row, within its limits. Nothing is promised of false.
     ensures { IfOk result (λ shows. shows ≡ true → R.reads version key cells.now row.now) }
 {
     match R::read(alloc, version, cells) {
@@ -37,7 +38,7 @@ pub(crate) fn show_each<R: ReadRow>(
     cells: &[Row],
     rows: &Flat,
 ) -> Result<bool, AllocError>
-    // If so, the first row shows the first entry of the map, and so on, and none is left over on either side.
+    // If the answer is true, the first row shows the first entry of the map, and so on, and none is left over on either side.
     ensures { IfOk result (λ show. show ≡ true → ShowEach (R.reads version) cells.now (entries (R.map_of rows.now.maps))) }
 {
     let mut last = None;

@@ -28,7 +28,7 @@ use std::alloc::Global;
 
 /// Whether the rows of a table of this version are seen to show all rows of their kind, one for one. False too if memory ran out.
 fn are_shown<R: ReadRow>(alloc: Global, version: Version, cells: &[Row], rows: &Flat) -> bool
-    // If so, the first row shows the first entry of the map, and so on, and none is left over on either side.
+    // If the answer is true, the first row shows the first entry of the map, and so on, and none is left over on either side.
     ensures { result ≡ true → ShowEach (R.reads version) cells.now (entries (R.map_of rows.now.maps)) }
 {
     match show_each::<R>(alloc, version, cells, rows) {
@@ -49,7 +49,7 @@ fn show_table<R: ReadRow, S: Alter>(
     requires { HasTable version table }
     // Nothing is written, and it fails only if the store does, or at the limit on steps.
     ensures reads { OnlyReads version (state S.Store conn.old) (state S.Store conn.new) result }
-    // If so, reading the table would give the very rows of this kind.
+    // If the answer is true, reading the table would give the very rows of this kind.
     ensures shown { KeepsTable R.order (R.reads version) R.apart R.in_order (R.holds version) (R.unread version) R.whole R.tells →
         IfOk result (λ show. show ≡ true → TakesTable R.map_of R.with_map R.apart (R.holds version) (R.reads version)
         table version (state S.Store conn.old) (state S.Store conn.new) rows.now.maps rows.now.maps) }
@@ -68,7 +68,7 @@ fn show_tables<S: Alter>(
 ) -> Result<bool, Error>
     // Nothing is written, and it fails only if the store does, or at the limit on steps.
     ensures reads { OnlyReads version (state S.Store conn.old) (state S.Store conn.new) result }
-    // If so, reading the four tables would give the very rows.
+    // If the answer is true, reading the four tables would give the very rows.
     ensures shown { IfOk result (λ show. show ≡ true →
         TakesTables version (state S.Store conn.old) (state S.Store conn.new) rows.now.maps rows.now.maps) }
 {
@@ -99,7 +99,7 @@ pub fn show_in_turn<S: Alter>(
 ) -> Result<bool, Error>
     // Nothing is written, and it fails only if the store does, or at the limit on steps.
     ensures reads { OnlyReads version (state S.Store conn.old) (state S.Store conn.new) result }
-    // If so, the tables show these rows. Only a yes is promised to be right.
+    // If the answer is true, the tables show these rows. Nothing is promised of false.
     ensures shown { HasCleanDisk (state S.Store conn.new) → IfOk result (λ show. show ≡ true → (tables : Tables) →
         Rests (state S.Store conn.old) tables → tables.version ≡ version → ShowsRows tables rows.now.maps) }
 {

@@ -35,8 +35,8 @@ impl<'a, S: Alter + Drop> Answering for Questions<'a, S> {
     }
 }
 
-/// Answers each batch of a text by what it would come to at present, with the present number, and changes nothing: no batch
-/// sees another. What is written before the next batch is read, and the faults, are those of `apply_until`.
+/// Answers each batch of a text as it would be answered at present, with the present number, and changes nothing: no batch sees another.
+/// Each answer is written before the next batch is read. The faults are those of `apply_until`.
 pub fn ask_text<R: Read + Drop, W: Write, S: Alter + Drop, N: Notes + Witness>(
     reader: R,
     writer: &mut W,

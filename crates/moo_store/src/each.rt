@@ -95,9 +95,9 @@ fn ask_all<S: Alter + Drop, N: Witness>(
 }
 
 impl<S: Alter + Drop> World<S> {
-    /// What each of these batches would come to at present, as if it alone were asked: none sees another. If there is none in a place,
-    /// there is no reply in it. Nothing changes. The witness sees once why each is refused that would be, in their order. They share its
-    /// ticks.
+    /// What each of these batches would be answered at present, as if it alone were asked: none sees another. If there is no batch at a
+    /// place of the list, there is no reply at it. Nothing changes. The witness sees once why each is refused that would be, in their
+    /// order. The batches share its ticks.
     ///
     /// OutOfMemory if memory or ticks run out. Closed if the World had failed.
     #[tactic(auto, using(moo_batch::proofs::Ticking::as_before))]
@@ -106,11 +106,11 @@ impl<S: Alter + Drop> World<S> {
         batches: &[Option<Batch>],
         witness: &mut N,
     ) -> Result<Vec<Option<Reply>>, StoreFault>
-        // While the World works, each batch is answered by its verdict on the present state: none sees another. Else memory ran out.
+        // While the World works, each batch is answered by its verdict on the present state, and none sees another; or memory ran out.
         ensures replies { self.now.failed ≡ false → MatchResult result
             (λ replies. replies.items ≡ answers_alone (state_of_world self.now) batches.now)
             (λ fault. fault ≡ StoreFault.OutOfMemory) }
-        // A World that had failed is closed.
+        // If the World had failed, the fault is Closed.
         ensures closed { IsTrue self.now.failed → IsErrOf result StoreFault.Closed }
         // The witness has no more ticks left than before.
         ensures ticks { NoneComeBack (N.left witness.old) (N.left witness.new) }

@@ -33,7 +33,7 @@ pub(crate) fn reply_or_changes<N: Witness>(
     // A World of these rows may reply so, and stays where it is.
     ensures stays { IfErr result (λ reply.
         (m : Moment) → m.rows ≡ rows.now.maps → RunsAt (Works m) batch.now (Answer.Replied reply) (Works m)) }
-    // The reply may be that to a question too.
+    // A World that is only asked may reply so too.
     ensures asked { IfErr result (MayReplyAsked (state_of rows.now.maps) batch.now) }
     // The witness has no more ticks left than before.
     ensures ticks { NoneComeBack (N.left witness.old) (N.left witness.new) }

@@ -51,9 +51,11 @@ impl Rehearsal {
     ghost use Rattle.moo_store.specs.Place.{Place};
     ghost use Rattle.moo_store.specs.Rehearsed.{IsRehearsedAt, RehearsesAt};
 
-    /// Takes the rows out of a World, which has failed then. Nothing is asked of its store.
+    /// Takes the rows out of a World, which has failed from then on. Nothing is asked of its store.
     fn of<S: Alter + Drop>(world: &mut World<S>) -> Rehearsal
+        // The rehearsal has the World's rows, and has failed if the World had.
         ensures rows { (result.rows ≡ world.old.rows) × (result.failed ≡ world.old.failed) }
+        // The World has failed, and its connection is as it was.
         ensures still { (world.new.connection ≡ world.old.connection) × (world.new.failed ≡ true) }
     {
         let failed = world.failed;
@@ -113,9 +115,9 @@ impl Answering for Rehearsal {
     }
 }
 
-/// Answers each batch of a text as running it would, each judged on what the batches before it would have left, and commits nothing. If it
-/// is to stop, it ends after the first answer that isn't `accepted`. What is written before the next batch is read, and the faults, are
-/// those of `apply_until`.
+/// Answers each batch of a text as running it would, each judged on what the batches before it would have left, and commits nothing. If
+/// it is to stop, it ends after the first answer that isn't `accepted`. Each answer is written before the next batch is read. The faults
+/// are those of `apply_until`.
 ///
 /// The World has failed then: its rows were used up. What is in its store is as it was.
 pub fn rehearse_text<R: Read + Drop, W: Write, S: Alter + Drop, N: Notes + Witness>(

@@ -68,7 +68,7 @@ impl<S: Alter + Drop> World<S> {
         // While the World works, it is what the object shows, or memory ran out.
         ensures look { self.now.failed ≡ false → MatchResult result
             (λ look. look ≡ look_of (state_of_world self.now).world x) (λ fault. fault ≡ StoreFault.OutOfMemory) }
-        // A World that had failed is closed.
+        // If the World had failed, the fault is Closed.
         ensures closed { IsTrue self.now.failed → IsErrOf result StoreFault.Closed }
     {
         if self.failed {
@@ -81,7 +81,8 @@ impl<S: Alter + Drop> World<S> {
     }
 }
 
-/// Runs the batches of a text as `apply_until` does if it isn't to stop.
+/// Runs the batches of a text to its end, as `apply_until` does if it isn't to stop, and answers how many batches the text had and how
+/// many met a fault. The faults are those of `apply_until`.
 pub fn apply_text<R: Read + Drop, W: Write, S: Alter + Drop, N: Notes + Witness>(
     reader: R,
     writer: &mut W,

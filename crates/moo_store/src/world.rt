@@ -156,15 +156,15 @@ impl<S: Alter + Drop> World<S> {
         }
     }
 
-    /// What a batch would come to at present, with the present number. Nothing changes. If it would be refused, the witness sees why, once.
-    /// The only fault is Closed.
+    /// What a batch would be answered at present, with the present number. Nothing changes. If it would be refused, the witness sees why,
+    /// once. The only fault is Closed.
     #[tactic(auto, using(moo_batch::proofs::Ticking::as_before))]
     pub fn ask<N: Witness>(&self, batch: &Batch, witness: &mut N) -> Result<Reply, StoreFault>
         // While the World works, the reply is that to the verdict on the batch, with the present number; or memory ran out in its calls.
         ensures asks { self.now.failed ≡ false → IsOkAnd result (MayReplyAsked (state_of_world self.now) batch.now) }
         // The witness has no more ticks left than before.
         ensures ticks { NoneComeBack (N.left witness.old) (N.left witness.new) }
-        // A World that had failed is closed.
+        // If the World had failed, the fault is Closed.
         ensures closed { IsTrue self.now.failed → IsErrOf result StoreFault.Closed }
         // Of a refused batch the witness has seen the refusal, and of any other nothing.
         ensures seen { IfOk result (λ reply.

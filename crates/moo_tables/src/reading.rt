@@ -14,16 +14,16 @@ use std::alloc::Global;
 /// The rows of each table, each key once, in the order of the keys.
 #[derive(Drop)]
 pub struct CellLists {
-    /// Which tables these are the rows of.
+    /// The version of the tables that have these rows.
     pub version: Version,
     pub head: Vec<Row>,
     pub object: Vec<Row>,
     pub prop: Vec<Row>,
     pub slot: Vec<Row>,
     pub verb: Vec<Row>,
-    /// None if the version has no petitions.
+    /// No row if the version has no petitions.
     pub petition: Vec<Row>,
-    /// The row with the number of the next petition, none if the version has no petitions.
+    /// The row with the number of the next petition; no row if the version has no petitions.
     pub petition_head: Vec<Row>,
 }
 
@@ -104,7 +104,7 @@ pub fn read_tables<S: Alter>(
 ) -> Result<CellLists, Error>
     // Nothing is written, and it fails only if the store does, or at the limit on steps.
     ensures reads { OnlyReads version (state S.Store conn.old) (state S.Store conn.new) result }
-    // They are those of the version.
+    // The lists are those of the version.
     ensures version { IfOk result (λ lists. lists.version ≡ version) }
     // Each list is the rows of its table, in the order of the keys.
     ensures listed { Lists version (state S.Store conn.old) (state S.Store conn.new) result ListsTables }
