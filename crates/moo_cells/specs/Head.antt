@@ -27,7 +27,7 @@ pub record HeadIs (table : ℤ → Option Row) (cells : Row) : Type 0 where
   pub row : table (pos 1) ≡ Some cells
   pub alone : (n : ℤ) → n ≢ pos 1 → table n ≡ None
 
--- the limits of the counters that the table of the head has
+-- the counters of a head are within their limits
 pub record HeadFits (head : Head) : Type 0 where
   pub top : (negsuc 0 ≤ℤ head.top) × (head.top ≤ℤ pos 2147483647)
   pub next_prop : (0 < head.next_prop) × (head.next_prop ≤ 4294967295)
@@ -63,7 +63,7 @@ IsNewerThan known table = (cells : Row) × HeadIs table cells × ReadsNewer know
 abbrev pub HasHead : ℤ → (ℤ → Option Row) → Type 0
 HasHead version table = (cells : Row) × HeadIs table cells × ReadsKnown version cells
 
--- the limits of a counter
+-- a number is within the limits of a counter
 abbrev pub IsCounter : ℕ → Type 0
 IsCounter next = (0 < next) × (next ≤ 4294967295)
 

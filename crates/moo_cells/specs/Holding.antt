@@ -40,23 +40,23 @@ verb_number key = (key.0.0, pos key.1.0)
 abbrev pub petition_number : PetitionId → ℤ
 petition_number id = pos id.0
 
--- the key of the table `object` that a fault tells, from the numbers in the cells
+-- the key of an object that a fault tells, from the numbers in its cells
 abbrev pub object_key : ℤ → Key
 object_key n = Object n
 
--- the key of the table `prop` that a fault tells, from the numbers in the cells
+-- the key of a property that a fault tells, from the numbers in its cells
 abbrev pub prop_key : ℤ → Key
 prop_key id = Prop id
 
--- the key of the table `slot` that a fault tells, from the numbers in the cells
+-- the key of a slot that a fault tells, from the numbers in its cells
 abbrev pub slot_key : ℤ × ℤ → Key
 slot_key key = Slot key.0 key.1
 
--- the key of the table `verb` that a fault tells, from the numbers in the cells
+-- the key of a verb that a fault tells, from the numbers in its cells
 abbrev pub verb_key : ℤ × ℤ → Key
 verb_key key = Verb key.0 key.1
 
--- the key of the table `petition` that a fault tells, from the numbers in the cells
+-- the key of a petition that a fault tells, from the numbers in its cells
 abbrev pub petition_key : ℤ → Key
 petition_key id = Petition id
 

@@ -22,7 +22,7 @@ abbrev pub StandFrom : ℕ → Row → Row → Type 0
 StandFrom at cells [] = Unit
 StandFrom at cells (cell ∷ more) = (column cells at ≡ cell) × StandFrom (suc at) cells more
 
--- the accept list is in the last column
+-- the place of the accept list: the last column
 abbrev pub accept_place : ℕ
 accept_place = pred (length object_table.columns)
 

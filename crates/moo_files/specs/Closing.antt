@@ -35,8 +35,8 @@ module _ {D : Type 0} {g : Ghosts D} where
   IsClosedAs conn (left.Store now) = IsClosed conn now
 
 module _ {T D : Type 0} {g : Ghosts D} where
-  -- A connection was closed, and anything else is as it was. Before that the connection's trees were numbered, and as a rule they are
-  -- numbered still.
+  -- What is left of files was closed. A connection was closed as `IsClosedAs` says, and its trees had been numbered; anything else is as
+  -- it was.
   abbrev pub IsClosedFrom : Remains T D g → Remains T D g → Type 0
   IsClosedFrom (remains.Connection conn) now = (left : Leftover D g) × (now ≡ remains.Leftover left) × IsClosedAs conn left
       × (IsCleanLeft left → HasCleanDisk (file_state conn) × IsLeftOf (file_state conn) left × IsNumberedStore conn.store

@@ -66,8 +66,8 @@ module _ {D : Type 0} {g : Ghosts D} where
   Opens Unfit world = ⊥
 
 module _ {T D : Type 0} {g : Ghosts D} where
-  -- Whatever the files hold: if they weren't opened, the fault is that they can't be, are empty or are open elsewhere, or that memory ran
-  -- out. Files that hold anything are spared.
+  -- Files are refused, whatever they hold. If they weren't opened, the fault is CannotOpen, NotADatabase of an empty file, DatabaseBusy
+  -- or OutOfMemory. Files that hold anything are spared.
   pub record IsRefusedFrom (image : Image) (fault : StoreFault) (rest : Remains T D g) : Type 0 where
     pub stopped : MayStopAs fault rest
     pub spared : ¬ IsNothing image → IsCleanRemains rest → Spares image rest

@@ -137,8 +137,8 @@ pub(crate) fn open_connection<T: Start, H: WorldFiles<T>>(
     ensures connects { IfOk result (IsConnected (FindsIn (image_at T.Start))) }
     // A fault is one of the store or of memory.
     ensures fault { IfErr result (λ e. IsOfStore e.0) }
-    // Files that are refused are spared. If they weren't opened, the fault is that they can't be, are empty or are open elsewhere, or
-    // that memory ran out.
+    // Files that are refused are spared. If they weren't opened, the fault is CannotOpen, NotADatabase of an empty file, DatabaseBusy or
+    // OutOfMemory.
     ensures refused { IfErr result (λ e. IsRefusedFrom (image_at T.Start) e.0 e.1) }
     // A database that isn't opened stays as it is, and is called malformed only if the disk failed.
     ensures unconnects { (held : Contents) → Hold (image_at T.Start) held →

@@ -86,8 +86,8 @@ pub fn open_from<T: Start, H: WorldFiles<T>>(
     // migrated to.
     ensures opens { (held : Contents) → Hold (image_at T.Start) held →
         IfOk result (λ world. HasCleanDisk (store_of over_files world) → Opens held world) }
-    // Files that are refused are spared. If they weren't opened, the fault is that they can't be, are empty or are open elsewhere, or
-    // that memory ran out.
+    // Files that are refused are spared. If they weren't opened, the fault is CannotOpen, NotADatabase of an empty file, DatabaseBusy or
+    // OutOfMemory.
     ensures refused { IfErr result (λ e. IsRefusedFrom (image_at T.Start) e.0 e.1) }
     // By what the files hold: no damage is told of a state or of other tables, and they hold what they held, or what that was migrated
     // to.

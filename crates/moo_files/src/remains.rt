@@ -49,8 +49,9 @@ impl<T: Drop, D: Disk + Drop> Remains<T, D> {
         }
     }
 
-    /// Lets go of what is left: files that are open are shut. A connection is closed first, as `close` does it, since what is known of the
-    /// store in files would weigh on a function that drops one.
+    /// Lets go of what is left: files that are open are shut. A connection is closed first, as `close` does it.
+    ///
+    /// What is known of the store in files would weigh on a function that drops one.
     pub fn shut(self) {
         match self {
             Remains::Untouched(_start) => {}

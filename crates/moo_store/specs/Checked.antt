@@ -33,7 +33,7 @@ pub record KeepsTables (old new : Database) : Type 0 where
   pub unread : HasCleanDisk new → IsTrue new.is_open → (tables : Tables) → Rests old tables → KeepsUnread old.now new.now
   pub crash : Survives old new (λ _. ⊥)
 
--- The tables were seen to show these rows, which have so many objects.
+-- The tables were seen to show these rows, which have this number of objects.
 pub record IsChecked (own : Maps) (old new : Database) (objects : ℕ) : Type 0 where
   pub shown : HasCleanDisk new → (tables : Tables) → Rests old tables → ShowsRows tables own
   pub count : objects ≡ length (objects_of (world_of own))

@@ -61,7 +61,7 @@ StopsOpening tables conn last =
 abbrev pub not_ours : StoreFault
 not_ours = Store (SqliteFailure NotADatabase)
 
--- in place of tables that show these rows, the trees have others that show them
+-- if the tables that rest in the store show these rows, the trees that a crash left have other tables that show them
 abbrev pub TakesOver : Maps → Database → Trees → Type 0
 TakesOver rows store trees = (tables : Tables) → Rests store tables → ShowsRows tables rows → LeavesRows trees rows
 

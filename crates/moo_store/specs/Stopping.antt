@@ -26,11 +26,11 @@ says_accepted answer.Truncated = false
 says_accepted answer.Fault = false
 says_accepted answer.Closed = false
 
--- all of these are `accepted`
+-- all of these answers are `accepted`
 abbrev pub AreAccepted : List Answer → Type 0
 AreAccepted answers = AllByRecursion (λ a. says_accepted a ≡ true) answers
 
--- the last of these is the first that isn't `accepted`
+-- the last of these answers is the first that isn't `accepted`
 pub record EndAtFirst (answers : List Answer) : Type 0 where
   pub before : List Answer
   pub last : Answer

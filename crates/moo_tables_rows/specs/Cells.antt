@@ -29,7 +29,7 @@ pub use Rattle.moo_tables_rows.specs.Verb.{verb_cells}
 abbrev pub with_head_cells : Head → Tables → Tables
 with_head_cells head t = record t { head = numbered_with (pos 1) (Some (head_cells present head)) t.head }
 
--- what a key has after a change of its row, from what it had: none if the row goes
+-- what a key has after a change of its row, from what it had: nothing if the row is removed
 abbrev pub cells_after : {C : Type 0} → (C → Option Row → Option Row) → Option C → Option Row → Option Row
 cells_after over None old = None
 cells_after over (Some cells) old = over cells old
@@ -81,7 +81,7 @@ objects_with changes table = fold (λ t c. numbered_over c.0.0 (cells_after (obj
 abbrev pub props_with : List (PropId × Option PropCells) → (ℤ → Option Row) → ℤ → Option Row
 props_with changes table = fold (λ t c. numbered_over (pos c.0.0) (cells_after (prop_cells c.0) c.1) t) table changes
 
--- the table `slot` with these changes, one after another
+-- the table of the slots with these changes, one after another
 abbrev pub slots_with : List ((ObjNo × PropId) × Option SlotCells) → (ℤ × ℤ → Option Row) → ℤ × ℤ → Option Row
 slots_with changes table = fold (λ t c. paired_over (c.0.0.0, pos c.0.1.0) (cells_after (slot_cells c.0) c.1) t) table changes
 
@@ -101,7 +101,7 @@ with_object_changes changes t = record t { object = objects_with changes t.objec
 abbrev pub with_prop_changes : List (PropId × Option PropCells) → Tables → Tables
 with_prop_changes changes t = record t { prop = props_with changes t.prop }
 
--- the tables with these changes of the table `slot`
+-- the tables with these changes of the slots
 abbrev pub with_slot_changes : List ((ObjNo × PropId) × Option SlotCells) → Tables → Tables
 with_slot_changes changes t = record t { slot = slots_with changes t.slot }
 

@@ -41,7 +41,7 @@ pub record StaysInside (old new : State) : Type 0 where
   pub kept : HasCleanDisk new → KeepsCommit old new
   pub survives : Survives old new (λ _. ⊥)
 
--- the transaction goes on, with its tables changed so, and the table that isn't read stays
+-- A transaction on tables of ours goes on, the tables are changed so, and the table that isn't read stays.
 abbrev pub Changes : (Tables → Tables) → State → State → Type 0
 Changes change old new =
     HasCleanDisk new → (tables : Tables) → Sees old tables → Sees new (change tables) × KeepsUnread old.now new.now
@@ -66,7 +66,7 @@ pub record FailsToRead (schema : Schema) (old new : State) : Type 0 where
   pub kept : HasCleanDisk new → HasTables schema old → IsUnchanged old new ⊎ IsRolledBack old new
   pub crash : (HasCleanDisk old → HasTables schema old) → Survives old new (λ _. ⊥)
 
--- trees of exactly these tables, with these rows
+-- the trees that a crash left are exactly these tables, with these rows
 abbrev pub Leaves : Trees → Tables → Type 0
 Leaves trees tables = Holds (record { schema = schema_of tables.version; trees = trees }) tables
 
