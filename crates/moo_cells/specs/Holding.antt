@@ -112,7 +112,7 @@ HasWholeNumber cells = IsTrue (is_int (column cells 0))
 abbrev pub HasWholePair : Row → Type 0
 HasWholePair cells = IsTrue (is_int (column cells 0)) × IsTrue (is_int (column cells 1))
 
--- how a map comes to hold what the rows of a table show, a row after another, in any order of the rows
+-- The laws of a kind of rows: how a map comes to hold what the rows of its table show, a row after another, in any order of the rows.
 pub record KeepsTable {K X : Type 0} (cmp : K → K → Ordering) (reads : K → Row → X → Type 0) (apart in_order : List Row → Type 0)
     (holds : List Row → (K → Option X) → Type 0) (unread : List Row → CellFault → Type 0) (Whole : Row → Type 0) (tells : Row → Key → Type 0) : Type 0 where
   pub none : (m : FinMap cmp X) → m ≡ empty → holds [] (get m)

@@ -47,6 +47,7 @@ pub(crate) fn int_at(cells: &Row, at: usize) -> Result<i64, RowFault>
 
 /// The whole number in a column that is known to have one.
 pub(crate) fn int_in(cells: &Row, at: usize) -> i64
+    // The cell has a whole number.
     requires { IsTrue (is_int (column cells.now at)) }
     ensures value { column cells.now at ≡ Int result }
     ensures fits { FitsSigned w64 result }

@@ -17,7 +17,8 @@ use std::marker::PhantomData;
 
 /// Puts what each of these rows shows into the maps, in this order. False if one shows no row within its limits, or if memory ran out.
 fn put_each<R: ReadRow>(alloc: Global, version: Version, cells: &[Row], rows: &mut Flat) -> bool
-    // Maps that were filled from the rows that were read before are then filled from these rows too.
+    // If the kind of rows has the laws of `KeepsTable`: maps that were filled from the rows that were read before are then filled from
+    // these rows too.
     ensures { KeepsTable R.order (R.reads version) R.apart R.in_order (R.holds version) (R.unread version) R.whole R.tells →
         (before : Maps) (read : List Cells) →
         FillsMap R.map_of R.with_map R.apart (R.holds version) (R.reads version) before read rows.old.maps → result ≡ true →
@@ -35,7 +36,8 @@ fn put_each<R: ReadRow>(alloc: Global, version: Version, cells: &[Row], rows: &m
 /// Puts what each row of a block shows into the maps, in the order that fills their nodes. False if one shows no row within its limits,
 /// or if memory ran out.
 fn put_block<R: ReadRow>(alloc: Global, version: Version, block: Vec<Row>, rows: &mut Flat) -> bool
-    // Maps that were filled from the rows that were read before, in some order, are then filled from this block too.
+    // If the kind of rows has the laws of `KeepsTable`: maps that were filled from the rows that were read before, in some order, are
+    // then filled from this block too.
     ensures { KeepsTable R.order (R.reads version) R.apart R.in_order (R.holds version) (R.unread version) R.whole R.tells →
         (before : Maps) (read : List Cells) →
         FillsInSomeOrder (FillsMap R.map_of R.with_map R.apart (R.holds version) (R.reads version)) before read rows.old.maps →

@@ -42,7 +42,7 @@ fn take_table<R: ReadRow, S: Alter>(
     requires { HasTable version table }
     // Nothing is written, and it fails only if the store does, or at the limit on steps.
     ensures reads { OnlyReads version (state S.Store conn.old) (state S.Store conn.new) result }
-    // The map of the table has just what its rows show, and the other maps stay.
+    // If the kind of rows has the laws of `KeepsTable`: the map of the table has just what its rows show, and the other maps stay.
     ensures taken { KeepsTable R.order (R.reads version) R.apart R.in_order (R.holds version) (R.unread version) R.whole R.tells →
         R.map_of rows.maps ≡ empty → IfOk result (λ o. IfSome o (λ after. TakesTable R.map_of R.with_map R.apart (R.holds version)
         (R.reads version) table version (state S.Store conn.old) (state S.Store conn.new) rows.maps after.maps)) }

@@ -86,7 +86,7 @@ pub(crate) fn read_table<R: ReadRow>(
     cells: Vec<Row>,
     rows: &mut Flat,
 ) -> Result<(), CellFault>
-    // The kind of rows has the laws by which a map comes to hold what the rows of a table show.
+    // The kind of rows has the laws of `KeepsTable`: how a map comes to hold what the rows of a table show.
     requires keeps { KeepsTable R.order (R.reads version) R.apart R.in_order (R.holds version) (R.unread version) R.whole R.tells }
     // No two rows have one key.
     requires apart { R.apart cells.items }

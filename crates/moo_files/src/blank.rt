@@ -93,6 +93,7 @@ fn connect_blank<D: Disk + Drop>(
     requires log { IsTrue (D.Disk.is_usable files.log) }
     // The disk lets the database file be used.
     requires db { IsTrue (D.Disk.is_usable files.db) }
+    // The pages have 1,024 bytes.
     requires size { bytes_of size ≡ 1024 }
     // On a clean disk the connection works.
     ensures opened { IfOk result (λ c. HasCleanDisk (file_state c) → IsOpened c) }

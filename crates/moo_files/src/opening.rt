@@ -57,7 +57,9 @@ pub fn adopt_files<D: Disk + Drop>(
     alloc: Global,
     conn: Connection<FileStore<D>>,
 ) -> Result<World<FileStore<D>>, (StoreFault, Connection<FileStore<D>>)>
+    // The connection is in no transaction.
     requires outside { conn.in_transaction ≡ false }
+    // As of `adopt`: a World of the tables' good rows, or a fault, the connection and the database as it was.
     ensures adopts { Adopting over_files conn result }
 {
     adopt(alloc, conn)

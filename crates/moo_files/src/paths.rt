@@ -44,6 +44,7 @@ pub trait WorldFiles<T: Start> {
     /// Opens the database file of a path and its log, and makes those that are missing. They hold what the start says of them. The errors
     /// are those of `sqlite_std_file::open`.
     fn open_database(&self, path: &str, start: T) -> Result<Files<Self::Disk>, OpenError>
+        // The caller may open this path.
         requires { may_open self.now path.now }
         // The disk lets both files be used.
         ensures usable { IfOk result (λ files. IsTrue (Self.Disk.Disk.is_usable files.log) × IsTrue (Self.Disk.Disk.is_usable files.db)) }

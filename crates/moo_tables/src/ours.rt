@@ -122,6 +122,7 @@ fn is_paired(table: &Table, name: &[u8], tree: u32) -> bool
 
 /// Whether a table without other rules is this one of ours, with its name, its tree, its key and its columns.
 fn is_table(table: &Table, ours: &OurTable) -> bool
+    // The table has no rule but its key.
     requires { HasNoRules table.now }
     ensures { IsTrue result ↔ table.now ≡ our_table ours.now }
 {
@@ -136,6 +137,7 @@ fn is_table(table: &Table, ours: &OurTable) -> bool
 
 /// Whether tables without other rules are these of ours, in this order.
 fn are_tables(tables: &[Table], ours: &[OurTable]) -> bool
+    // No table has a rule but its key.
     requires { AllByRecursion HasNoRules tables.now }
     ensures { IsTrue result ↔ tables.now ≡ map our_table ours.now }
 {
@@ -162,6 +164,7 @@ fn is_key(index: &Index, name: &[u8], tree: u32, table: u32) -> bool
 
 /// Whether tables without other rules are those of the first version, in their order.
 fn are_first_tables(tables: &[Table]) -> bool
+    // No table has a rule but its key.
     requires { AllByRecursion HasNoRules tables.now }
     ensures { IsTrue result ↔ tables.now ≡ first_schema.tables }
 {
@@ -170,6 +173,7 @@ fn are_first_tables(tables: &[Table]) -> bool
 
 /// Whether tables without other rules are those of the second version, in their order.
 fn are_second_tables(tables: &[Table]) -> bool
+    // No table has a rule but its key.
     requires { AllByRecursion HasNoRules tables.now }
     ensures { IsTrue result ↔ tables.now ≡ second_schema.tables }
 {
@@ -205,6 +209,7 @@ fn are_second_keys(indexes: &[Index]) -> bool
 
 /// Whether a database whose tables have no other rules has the tables and indexes of the first version, and no view.
 fn is_first(schema: &Schema) -> bool
+    // No table has a rule but its key.
     requires { AllByRecursion HasNoRules schema.now.tables }
     ensures { IsTrue result ↔ schema.now ≡ first_schema }
 {
@@ -215,6 +220,7 @@ fn is_first(schema: &Schema) -> bool
 
 /// Whether a database whose tables have no other rules has the tables and indexes of the second version, and no view.
 fn is_second(schema: &Schema) -> bool
+    // No table has a rule but its key.
     requires { AllByRecursion HasNoRules schema.now.tables }
     ensures { IsTrue result ↔ schema.now ≡ second_schema }
 {
