@@ -65,7 +65,7 @@ pub struct Changes {
     pub petitions: ChangeList<PetitionId, PetitionRow>,
 }
 
-/// Whether a key has this row, or isn't there if this is `None`.
+/// Whether the row that a key has equals `row`: two rows that are equal, or two that are missing.
 fn has_row<V: Row>(held: Option<&V>, row: &Option<V>) -> bool
     ensures { IsTrue result ↔ (option_map (λ held. held.now) held.entry ≡ row.now) }
 {
@@ -110,7 +110,7 @@ pub(crate) fn changed_rows<R: Rows, V: KeyedRow>(
     differing_rows(alloc, base, changes)
 }
 
-/// Makes the changes of one kind of row.
+/// Puts and removes the rows of one kind as a list of changes says, in its order. An `Err` is a lack of memory, and then some are made.
 fn apply_each<R: Rows, V: KeyedRow>(
     rows: &mut R,
     changes: ChangeList<V::Key, V>,
@@ -127,7 +127,7 @@ fn apply_each<R: Rows, V: KeyedRow>(
     Ok(())
 }
 
-/// Makes the changes of all maps, and sets the head.
+/// Sets the head, and makes the changes of all five maps. An `Err` is a lack of memory, and then some are made.
 fn apply_all<R: Rows>(rows: &mut R, changes: Changes) -> Result<(), AllocError>
     ensures { OnOk result ((new : Maps) → AreChanges (R.held rows.old).maps new changes → (R.held rows.new).maps ≡ new) }
 {

@@ -76,9 +76,12 @@ impl<'a, R: Rows> Model for Draft<'a, R> {
 }
 
 impl<'a, R: Rows> Draft<'a, R> {
-    /// A draft without changes, whose rows may be looked up, put and removed so often. Past that a row that is put or removed is refused.
+    /// A draft without changes, whose rows may be looked up, put and removed as often as there are ticks. Past that each put and each
+    /// removal is refused.
     pub fn within(alloc: Global, base: &'a R, ticks: u64) -> Draft<'a, R>
+        // Its rows are those of the base.
         ensures maps { result.maps ≡ (R.held base.now).maps }
+        // It is over these rows, has so many ticks, and calls may be made on it.
         ensures base { result.base ≡ record { maps = (R.held base.now).maps; most = ticks; is_spent = false } }
         ensures writes { result.writes ≡ 0 }
     {

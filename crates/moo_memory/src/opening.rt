@@ -14,7 +14,7 @@ const ROOT: ObjNo = ObjNo(1);
 
 const WIZARD: ObjNo = ObjNo(3);
 
-/// The row of the root class.
+/// The row of the root class, #1, which is fertile. An `Err` is a lack of memory.
 fn root_class(alloc: Global) -> Result<ObjRow, AllocError>
     ensures { IfOk result (λ row. row ≡ root_class) }
 {
@@ -23,7 +23,7 @@ fn root_class(alloc: Global) -> Result<ObjRow, AllocError>
     Ok(row)
 }
 
-/// The row of the first room.
+/// The row of the first room, #2, which takes in each descendant of #1. An `Err` is a lack of memory.
 fn first_room(alloc: Global) -> Result<ObjRow, AllocError>
     ensures { IfOk result (λ row. row ≡ first_room) }
 {
@@ -32,7 +32,7 @@ fn first_room(alloc: Global) -> Result<ObjRow, AllocError>
     Ok(row)
 }
 
-/// The row of the wizard.
+/// The row of the wizard, #3, who is in #2. An `Err` is a lack of memory.
 fn wizard(alloc: Global) -> Result<ObjRow, AllocError>
     ensures { IfOk result (λ row. row ≡ wizard) }
 {
@@ -44,7 +44,7 @@ fn wizard(alloc: Global) -> Result<ObjRow, AllocError>
     Ok(row)
 }
 
-/// Puts a row, if there was memory for it.
+/// Puts the row of an object, if there was memory to make it. An `Err` is a lack of memory, for the row or for putting it.
 fn put_row<R: Rows>(
     rows: &mut R,
     key: ObjNo,

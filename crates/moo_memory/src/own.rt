@@ -23,7 +23,7 @@ pub(crate) struct OwnLinks {
     others: Links,
 }
 
-/// The object, if it is past another one.
+/// The object, if there is one and its number is greater than `after`; else `None`.
 fn past(object: Option<ObjNo>, after: ObjNo) -> Option<ObjNo>
     ensures { IsFirst object_cmp (is_that object) after result }
 {
@@ -35,7 +35,7 @@ fn past(object: Option<ObjNo>, after: ObjNo) -> Option<ObjNo>
 }
 
 impl OwnLinks {
-    /// No object is changed.
+    /// The links of no changed object.
     pub(crate) fn new(alloc: Global) -> OwnLinks {
         OwnLinks {
             first: None,
@@ -43,14 +43,16 @@ impl OwnLinks {
         }
     }
 
-    /// From now on the object may have the links that go with these ties, except those that it has in the base.
+    /// Keeps a changed object for the links that go with these ties, except those that it has in the base. An `Err` is a lack of memory.
     pub(crate) fn add<R: Rows>(
         &mut self,
         base: &R,
         key: ObjNo,
         ties: Ties,
     ) -> Result<(), AllocError>
+        // Each object that might have a link still may.
         ensures others { (l : Link) (q : ObjNo) → may_have_own self.new l q ≡ false → may_have_own self.old l q ≡ false }
+        // The object may have each link that goes with the ties, unless it has that link in the base.
         ensures there { OnOk result ((l : Link) → has_link l ties ≡ true → is_linked (R.held base.now).maps l key ≡ false →
             may_have_own self.new l key ≡ true) }
     {
@@ -67,7 +69,7 @@ impl OwnLinks {
         self.others.add(key, ties)
     }
 
-    /// The next changed object that is to be looked at for the link. Takes no memory.
+    /// The least changed object past `after` that is to be looked at for the link, or `None` if there is none. Takes no memory.
     pub(crate) fn next(
         &self,
         changes: &BTreeMap<ObjNo, Option<ObjRow>>,

@@ -35,8 +35,11 @@ pub trait Rows {
 
     /// Whether one more call may be made on the rows. Once it is said that none may, that is never taken back.
     fn may_call(&mut self) -> bool
+        // Leave changes nothing.
         ensures yes { result ≡ true → held self.new ≡ held self.old }
+        // Leave is given only if none was ever refused.
         ensures leave { result ≡ true → (held self.new).base.is_spent ≡ false }
+        // A refusal changes nothing but that it is kept.
         ensures no { result ≡ false → held self.new ≡ spent (held self.old) };
 
     /// The head.
@@ -60,7 +63,8 @@ pub trait Rows {
     fn next_linked(&self, link: Link, after: ObjNo) -> Option<ObjNo>
         ensures { IsFirst object_cmp (is_linked (held self.now).maps link) after result };
 
-    /// Lists the objects past `after` that have the link, ascending, after those that are listed. An `Err` is a lack of memory.
+    /// Appends to a list the objects past `after` that have the link, ascending. An `Err` is a lack of memory, after which some may be
+    /// listed.
     fn list_linked(&self, link: Link, after: ObjNo, list: &mut Vec<ObjNo>) -> Result<(), AllocError>
         ensures { OnOk result (list.new.items ≡ list.old.items ++ map_list (λ e. e.0) (linked_left link after (held self.now).maps)) }
     {
@@ -97,6 +101,7 @@ pub trait Rows {
     /// The least property past `after` that x defines under a name, whose hash is given, or `None` if it defines no such property past it.
     /// Names compare without ASCII case.
     fn next_named(&self, x: ObjNo, name: &[u8], hash: u64, after: PropId) -> Option<PropId>
+        // Only the property whose row has the name counts: other names may have the same hash.
         requires { hash ≡ name_hash name.now }
         ensures { IsFirst prop_cmp (is_named_by (held self.now).maps x name.now) after result };
 
