@@ -130,7 +130,7 @@ impl<'a, R: Rows> Rows for Draft<'a, R> {
     ghost held = { λ d. d };
 
     fn may_go_on(&self) -> bool {
-        self.ticks.are_kept()
+        self.ticks.are_enough()
     }
 
     fn spend(&self, ticks: u64) {
@@ -138,7 +138,7 @@ impl<'a, R: Rows> Rows for Draft<'a, R> {
     }
 
     fn may_call(&mut self) -> bool {
-        if !self.ticks.are_kept() {
+        if !self.ticks.are_enough() {
             self.is_spent = true;
         }
         !self.is_spent
@@ -270,7 +270,7 @@ impl<'a, R: Rows> Rows for Draft<'a, R> {
     }
 
     fn remove_prop(&mut self, key: PropId) -> Result<(), AllocError> {
-        let row = overlay::own(&self.props, key);
+        let row = overlay::new_row(&self.props, key);
         let definer = definer_of(row);
         let tag = tag_if(row);
         overlay::put(&mut self.props, &mut self.writes, &self.ticks, key, None)?;

@@ -51,7 +51,7 @@ pub fn ties_of(row: Option<&ObjRow>) -> Option<Ties>
 }
 
 /// Whether the old ties are these too: they aren't if there was no row.
-pub fn are_same(old: Option<Ties>, ties: Ties) -> bool
+pub fn same_ties(old: Option<Ties>, ties: Ties) -> bool
     ensures { IsTrue result ↔ (old ≡ Some ties) }
 {
     old == Some(ties)

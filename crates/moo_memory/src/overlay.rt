@@ -70,7 +70,7 @@ fn is_removed<K: OrderedKey, V>(changes: &BTreeMap<K, Option<V>>, key: K) -> boo
 }
 
 /// The new row of a key; `None` if the key isn't changed, or is removed. Takes no memory.
-pub fn own<K: OrderedKey, V>(changes: &BTreeMap<K, Option<V>>, key: K) -> Option<&V> {
+pub fn new_row<K: OrderedKey, V>(changes: &BTreeMap<K, Option<V>>, key: K) -> Option<&V> {
     match ordered::get(changes, key) {
         Some(Some(row)) => Some(row),
         _ => None,

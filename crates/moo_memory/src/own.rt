@@ -8,7 +8,7 @@ ghost use Rattle.moo_rows.specs.Maps.{object_cmp};
 ghost use Rattle.moo_rows.specs.Ordered.{contents};
 ghost use Rattle.moo_memory.specs.Either.{is_own_candidate, is_that, may_have_own};
 
-use crate::links::{Links, are_same, ties_of};
+use crate::links::{Links, same_ties, ties_of};
 use moo_rows::{Link, ObjRow, Rows, Ties, ordered};
 use moo_value::ObjNo;
 use std::alloc::{AllocError, Global};
@@ -24,7 +24,7 @@ pub(crate) struct OwnLinks {
 }
 
 /// The object, if there is one and its number is greater than `after`; else `None`.
-fn past(object: Option<ObjNo>, after: ObjNo) -> Option<ObjNo>
+fn object_past(object: Option<ObjNo>, after: ObjNo) -> Option<ObjNo>
     ensures { IsFirst object_cmp (is_that object) after result }
 {
     let object = object?;
@@ -63,7 +63,7 @@ impl OwnLinks {
             }
             Some(first) => first,
         };
-        if key == first || are_same(ties_of(base.object(key)), ties) {
+        if key == first || same_ties(ties_of(base.object(key)), ties) {
             return Ok(());
         }
         self.others.add(key, ties)
@@ -79,7 +79,7 @@ impl OwnLinks {
         ensures { IsFirst object_cmp (is_own_candidate self.now (contents object_cmp changes.now) link) after result }
     {
         ordered::least(
-            past(self.first, after),
+            object_past(self.first, after),
             self.others.next(changes, link, after),
         )
     }

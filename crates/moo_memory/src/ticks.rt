@@ -32,7 +32,7 @@ impl Ticks {
     }
 
     /// Whether no more ticks were spent than there were.
-    pub(crate) fn are_kept(&self) -> bool {
+    pub(crate) fn are_enough(&self) -> bool {
         self.spent.get() <= self.most
     }
 
@@ -41,7 +41,7 @@ impl Ticks {
         ensures { IsTrue result → writes < self.now.most }
     {
         self.spend(1);
-        self.are_kept() && writes < self.most
+        self.are_enough() && writes < self.most
     }
 
     /// How many ticks are left after so many puts and removals, and after all that was spent on look-ups too.
