@@ -24,9 +24,11 @@ place_numbered (negsuc number) = None
 abbrev pub place_within : World → ObjNo → ℕ → Option ℕ
 place_within world object place = if nat_lt place (length (directory_of world object)) then Some place else None
 
+-- the place of the verb at a number from 1 on, if the object has so many verbs
 abbrev pub verb_by_number : World → ObjNo → ℤ → Option ℕ
 verb_by_number world object number = option_and_then (place_within world object) (place_numbered number)
 
+-- the place of the first verb of the object one of whose names matches the word
 abbrev pub verb_by_word : World → ObjNo → Name → Option ℕ
 verb_by_word world object word = position (λ verb. one_matches verb.names word) (directory_of world object)
 
@@ -35,7 +37,7 @@ abbrev pub described : World → ObjNo → Desc → Option ℕ
 described world object (Index number) = verb_by_number world object number
 described world object (a_word word) = verb_by_word world object word
 
--- the verb, with its place
+-- the verb that a descriptor names, with its place
 abbrev pub found_verb : World → ObjNo → Desc → Option (ℕ × VerbRow)
 found_verb world object desc =
     option_and_then (λ place. option_map (λ verb. (place, verb)) (verb_at world object place)) (described world object desc)
