@@ -8,7 +8,7 @@ use Rattle.moo_rows.specs.declared.row.ObjRow.{ObjRow}
 use Rattle.moo_rows.specs.declared.row.Link.{Link}
 use Rattle.moo_rows.specs.Links.{may_have, is_candidate, row_has}
 use Rattle.moo_rows.specs.Maps.{object_cmp}
-use Rattle.moo_memory.specs.declared.own.OwnLinks.{OwnLinks}
+use Rattle.moo_memory.specs.declared.own_links.OwnLinks.{OwnLinks}
 
 -- the new row of a key, if it is changed and not removed
 abbrev pub of_changes : {K X : Type 0} {cmp : K → K → Ordering} → FinMap cmp (Option X) → K → Option X

@@ -8,7 +8,7 @@ use crate::either::{next_defined_of_either, next_linked_of_either, next_named_of
 use crate::links::{definer_of, forget_defined, row_defined, row_has};
 use crate::names::{forget_tagged, row_named, tag_if, tag_of};
 use crate::overlay;
-use crate::own::OwnLinks;
+use crate::own_links::OwnLinks;
 use crate::ticks::Ticks;
 use moo_rows::{
     Head, Link, ObjRow, PetitionId, PetitionRow, PropId, PropRow, Rows, SlotRow, VerbId, VerbRow,

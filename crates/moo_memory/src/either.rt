@@ -11,7 +11,7 @@ ghost use Rattle.moo_memory.specs.Forgotten.{has_key};
 
 use crate::links::next_defined;
 use crate::names::next_tagged;
-use crate::own::OwnLinks;
+use crate::own_links::OwnLinks;
 use moo_rows::{Link, ObjRow, PropId, Rows, ordered};
 use moo_value::ObjNo;
 use std::collections::BTreeMap;

@@ -121,8 +121,8 @@ fn is_that(one: Option<ObjNo>, other: ObjNo) -> bool
     one == Some(other)
 }
 
-/// Takes the pair of a property and the object that defined it, `was`, away, unless `stays`, the object that defines it after the change,
-/// is the same. `None` stands for no definer. Takes no memory.
+/// Keeps a property no longer for the object that defined it, `was`, unless `stays`, its definer after the change, is that object.
+/// `None` stands for no definer. Takes no memory.
 pub fn forget_defined(
     pairs: &mut BTreeMap<(ObjNo, PropId), ()>,
     was: Option<ObjNo>,
@@ -238,6 +238,7 @@ impl Links {
         ensures others { (l : Link) (q : ObjNo) → may_have self.new l q ≡ false → may_have self.old l q ≡ false }
         // The object may have each link that goes with the ties.
         ensures there { OnOk result ((l : Link) → has_link l ties ≡ true → may_have self.new l key ≡ true) }
+        // No object is kept for a link that wasn't, but for this object and the links that go with the ties.
         ensures only { AddsOnly key ties self.old self.new }
     {
         self.add_one(Link::ChildOf(ties.parent), key)?;

@@ -14,7 +14,7 @@ use moo_value::ObjNo;
 use std::alloc::AllocError;
 use std::collections::BTreeMap;
 
-/// Whether two names are the same, ASCII case aside.
+/// Whether two names are equal but for ASCII case.
 fn is_alike(first: &[u8], second: &[u8]) -> bool
     ensures { result ≡ is_alike first.now second.now }
 {
@@ -77,7 +77,7 @@ fn is_tag(stays: Option<(ObjNo, u64)>, tag: (ObjNo, u64)) -> bool
     }
 }
 
-/// Keeps a property no longer for the tag that it had, `was`, unless `stays`, its tag after the change, is the same. A tag is a definer
+/// Keeps a property no longer for the tag that it had, `was`, unless `stays`, its tag after the change, equals it. A tag is a definer
 /// with the hash of a name; `None` stands for no tag. Takes no memory.
 pub fn forget_tagged(
     names: &mut BTreeMap<((ObjNo, u64), PropId), ()>,

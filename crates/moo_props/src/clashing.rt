@@ -73,6 +73,7 @@ fn meets_on<R: Rows>(
     y: ObjNo,
 ) -> Result<bool, AllocError>
     requires good { IsGood (R.held rows.now).maps }
+    // `names` holds each property of which new has a slot, by the hash of its name.
     requires names { HoldsNames (R.held rows.now).maps new (contents hashed_cmp names.now) }
     ensures { IfOk result (λ meets. meets ≡ meets_on (world_of (R.held rows.now).maps) new y) }
 {

@@ -20,7 +20,9 @@ use std::alloc::{AllocError, Global};
 fn put_definition<R: Rows>(rows: &mut R, x: ObjNo, name: MooStr) -> Result<PropId, AllocError>
     // A number is left for it.
     requires { (R.held rows.old).maps.head.next_prop < 4294967295 }
+    // The row is put, and the counter is one higher.
     ensures rows { OnOk result (R.held rows.new ≡ with_definition x name (R.held rows.old)) }
+    // The answer is the number that was to be the next.
     ensures id { IfOk result (λ id. id.0 ≡ (R.held rows.old).maps.head.next_prop) }
 {
     let mut head = rows.head();
@@ -49,6 +51,7 @@ pub fn define<R: Rows>(
 ) -> Result<PropId, AllocError>
     requires good { IsGood (R.held rows.old).maps }
     requires object { is_object (world_of (R.held rows.old).maps) x ≡ true }
+    // The name is one that a property may have.
     requires name { is_property_name name ≡ true }
     // Neither x nor an ancestor or a descendant of it defines a property of the name.
     requires free { clashes (world_of (R.held rows.old).maps) x name ≡ false }

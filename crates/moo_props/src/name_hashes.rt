@@ -80,6 +80,7 @@ pub(crate) fn has_name<R: Rows>(
     name: &MooStr,
 ) -> bool
     requires good { IsGood (R.held rows.now).maps }
+    // `names` holds each property of which x has a slot, by the hash of its name.
     requires names { HoldsNames (R.held rows.now).maps x (contents hashed_cmp names.now) }
     ensures { result ≡ is_some (slot_of (world_of (R.held rows.now).maps) x (folded name.now)) }
 {

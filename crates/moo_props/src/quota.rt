@@ -63,6 +63,7 @@ pub fn change_quota<R: Rows>(rows: &mut R, o: ObjNo, by: i64) -> Result<(), Allo
     requires good { IsGood (R.held rows.old).maps }
     // The sum is an integer of 64 bits.
     requires room { HasRoom (quota_of (world_of (R.held rows.old).maps) o) by }
+    // The world has `by` added to the quota of o.
     ensures world { OnOk result (world_of (R.held rows.new).maps ≡ quota_changed (world_of (R.held rows.old).maps) o by) }
     // The rows are good, what stays keeps its number, and the petitions and the count of batches are as they were.
     ensures kept { OnOk result (Keeps (R.held rows.old) (R.held rows.new)) }
@@ -82,6 +83,7 @@ pub fn take_quota<R: Rows>(rows: &mut R, o: ObjNo) -> Result<(), AllocError>
     requires good { IsGood (R.held rows.old).maps }
     // o has no quota, or one above 0.
     requires left { has_quota_left (world_of (R.held rows.old).maps) o ≡ true }
+    // The world has one taken from the quota of o.
     ensures world { OnOk result (world_of (R.held rows.new).maps ≡ quota_changed (world_of (R.held rows.old).maps) o (negsuc 0)) }
     // The rows are good, what stays keeps its number, and the petitions and the count of batches are as they were.
     ensures kept { OnOk result (Keeps (R.held rows.old) (R.held rows.new)) }
@@ -95,6 +97,7 @@ pub fn take_quota<R: Rows>(rows: &mut R, o: ObjNo) -> Result<(), AllocError>
 /// only error is out of memory.
 pub fn return_quota<R: Rows>(rows: &mut R, o: ObjNo) -> Result<(), AllocError>
     requires { IsGood (R.held rows.old).maps }
+    // The world has one given back to the quota of o.
     ensures world { OnOk result (world_of (R.held rows.new).maps ≡ quota_returned (world_of (R.held rows.old).maps) o) }
     // The rows are good, what stays keeps its number, and the petitions and the count of batches are as they were.
     ensures kept { OnOk result (Keeps (R.held rows.old) (R.held rows.new)) }

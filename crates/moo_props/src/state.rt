@@ -28,6 +28,7 @@ pub(crate) fn put_state<R: Rows>(
     requires set { state ≡ SlotState.Clear → defines (R.held rows.old).maps x id ≡ false }
     // Lists nest at most 32 deep in a value.
     requires fit { state_fits state ≡ true }
+    // The world has the slot with this state.
     ensures world { OnOk result (world_of (R.held rows.new).maps
         ≡ with_slot_of (world_of (R.held rows.old).maps) x (spelling_of (R.held rows.old).maps id) (λ s. record s { state = state })) }
     // The rows are good, what stays keeps its number, and the petitions and the count of batches are as they were.
@@ -53,9 +54,11 @@ pub fn set_value<R: Rows>(
     value: Value,
 ) -> Result<(), AllocError>
     requires good { IsGood (R.held rows.old).maps }
+    // Lists nest at most 32 deep in the value.
     requires fit { fits value ≡ true }
     // x has a slot of the property.
     requires has { is_some (get (R.held rows.old).maps.slots (x, id)) ≡ true }
+    // The world has the slot set to the value.
     ensures world { OnOk result (world_of (R.held rows.new).maps
         ≡ value_set (world_of (R.held rows.old).maps) x (spelling_of (R.held rows.old).maps id) value) }
     // The rows are good, what stays keeps its number, and the petitions and the count of batches are as they were.
@@ -71,7 +74,9 @@ pub fn clear<R: Rows>(rows: &mut R, x: ObjNo, id: PropId) -> Result<(), AllocErr
     requires good { IsGood (R.held rows.old).maps }
     // x has a slot of the property.
     requires has { is_some (get (R.held rows.old).maps.slots (x, id)) ≡ true }
+    // x doesn't define the property.
     requires inherited { defines (R.held rows.old).maps x id ≡ false }
+    // The world has the slot cleared.
     ensures world { OnOk result (world_of (R.held rows.new).maps
         ≡ cleared (world_of (R.held rows.old).maps) x (spelling_of (R.held rows.old).maps id)) }
     // The rows are good, what stays keeps its number, and the petitions and the count of batches are as they were.
@@ -95,6 +100,7 @@ pub fn set_info<R: Rows>(
     requires good { IsGood (R.held rows.old).maps }
     // x has a slot of the property.
     requires has { is_some (get (R.held rows.old).maps.slots (x, id)) ≡ true }
+    // The world has the slot with this owner and these bits.
     ensures world { OnOk result (world_of (R.held rows.new).maps
         ≡ info_set (world_of (R.held rows.old).maps) x (spelling_of (R.held rows.old).maps id) owner bits) }
     // The rows are good, what stays keeps its number, and the petitions and the count of batches are as they were.

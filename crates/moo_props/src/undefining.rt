@@ -25,6 +25,7 @@ pub fn undefine<R: Rows>(
     id: PropId,
 ) -> Result<(), AllocError>
     requires good { IsGood (R.held rows.old).maps }
+    // x defines the property.
     requires own { defines (R.held rows.old).maps x id ≡ true }
     // The world has the property no more, on x and on each descendant.
     ensures world { OnOk result (world_of (R.held rows.new).maps

@@ -16,7 +16,7 @@ use Rattle.moo_rows.specs.Maps.{Maps, object_cmp, prop_cmp}
 abbrev pub in_lower_case : List ℕ → List ℕ
 in_lower_case name = map to_ascii_lowercase name
 
--- the same name, ASCII case aside
+-- two names are equal but for ASCII case
 abbrev pub is_alike : List ℕ → List ℕ → Bool
 is_alike first second = pointwise nat_eq (in_lower_case first) (in_lower_case second)
 

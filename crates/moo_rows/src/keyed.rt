@@ -84,12 +84,12 @@ pub trait KeyedRow: Row {
     /// The order is that of the keys.
     ghost ordered: { order ≡ Self.Key.cmp };
 
-    /// The maps with the map that they have are these maps.
+    /// To set the map of this kind that the maps have changes nothing.
     ghost own_map: { (maps : Maps) → with_map maps (map_of maps) ≡ maps };
 
-    /// The maps with another map have that one.
+    /// The maps with another map of this kind have that map.
     ghost other_map: { (maps : Maps) (rows : FinMap order Self) → map_of (with_map maps rows) ≡ rows };
 
-    /// Of two maps that are set one after another the last one counts.
+    /// Of two maps of this kind that are set one after another the last counts.
     ghost last_map: { (maps : Maps) (one two : FinMap order Self) → with_map (with_map maps one) two ≡ with_map maps two };
 }

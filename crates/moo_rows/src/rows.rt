@@ -25,21 +25,21 @@ pub trait Rows {
     /// The head and what the maps hold, how many rows were put or removed so far, and what the rows are over.
     ghost held: { Self → Held };
 
-    /// Whether more rows may be looked up and changed. No contract says when not.
+    /// Whether more rows may be looked up and changed: in a draft not once its ticks are spent. No contract says when not.
     fn may_go_on(&self) -> bool {
         true
     }
 
-    /// Counts so many look-ups more. No contract sees it.
+    /// Counts so many look-ups more, in a draft as ticks that are spent. No contract sees it.
     fn spend(&self, _ticks: u64) {}
 
     /// Whether one more call may be made on the rows. Once it is said that none may, that is never taken back.
     fn may_call(&mut self) -> bool
-        // Leave changes nothing.
+        // If the answer is yes, nothing changes.
         ensures yes { result ≡ true → held self.new ≡ held self.old }
-        // Leave is given only if none was ever refused.
+        // After a yes it was never said that no more calls are to be made.
         ensures leave { result ≡ true → (held self.new).base.is_spent ≡ false }
-        // A refusal changes nothing but that it is kept.
+        // If the answer is no, no row changes: it is only kept that no more calls are to be made.
         ensures no { result ≡ false → held self.new ≡ spent (held self.old) };
 
     /// The head.

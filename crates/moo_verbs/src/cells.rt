@@ -29,7 +29,7 @@ pub fn read_place_cell(bytes: &[u8]) -> Option<ObjectSpec>
     None
 }
 
-/// The first of these sets whose phrases, with slashes between them, are the bytes; `None` if no set has these. Takes no memory.
+/// The first of these sets whose phrases, with slashes between them, are the bytes; `None` if no set is written so. Takes no memory.
 fn set_spelled(sets: &[PrepositionSet], bytes: &[u8]) -> Option<PrepositionSet>
     // It is the first of them that has this text.
     ensures first { result ≡ find (λ set. bytes_eq (set_text set) bytes.now) sets.now }

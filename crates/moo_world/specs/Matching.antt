@@ -18,7 +18,7 @@ is_space byte = byte == code " "
 abbrev pub is_empty : Name → Bool
 is_empty text = length text == 0
 
--- the same but for the case of letters
+-- two names are equal but for the case of their ASCII letters
 abbrev pub same_name : Name → Name → Bool
 same_name first second = same_text (folded first) (folded second)
 
