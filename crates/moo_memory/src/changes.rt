@@ -76,7 +76,8 @@ fn has_row<V: Row>(held: Option<&V>, row: &Option<V>) -> bool
     }
 }
 
-/// The keys of these changes whose rows differ from the base, with their new rows. The only error is that memory runs out.
+/// Of the changed keys those whose rows differ from the base, ascending, each with its new row, or `None` if it has none. The only error is
+/// that memory runs out.
 fn differing_rows<R: Rows, V: KeyedRow>(
     alloc: Global,
     base: &R,
@@ -94,8 +95,8 @@ fn differing_rows<R: Rows, V: KeyedRow>(
     Ok(ChangeList::from_vec(changed))
 }
 
-/// The keys whose rows differ from the base, with their new rows. The only error is that memory runs out. Most drafts change rows of one
-/// map or two, so that a map without changes isn't gone over.
+/// Of the changed keys those whose rows differ from the base, as `differing_rows` lists them. The only error is that memory runs out. Most
+/// drafts change rows of one map or two, so that a map without changes isn't gone over.
 pub(crate) fn changed_rows<R: Rows, V: KeyedRow>(
     alloc: Global,
     base: &R,

@@ -57,7 +57,7 @@ pub fn same_ties(old: Option<Ties>, ties: Ties) -> bool
     old == Some(ties)
 }
 
-/// Whether there is a row, and it has the link.
+/// Whether there is a row of an object, and the object has the link.
 pub fn row_has(row: Option<&ObjRow>, link: Link) -> bool
     ensures { result ≡ row_has link (option_map (λ row. row.now) row.entry) }
 {
@@ -152,7 +152,7 @@ fn have_link(ties: Option<Ties>, link: Link) -> bool
 }
 
 impl Links {
-    /// No object is kept for a link.
+    /// Links for which no object is kept.
     pub fn new(alloc: Global) -> Links
         ensures { (link : Link) (key : ObjNo) → is_kept result link key ≡ false }
     {

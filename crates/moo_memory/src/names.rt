@@ -21,7 +21,7 @@ fn is_alike(first: &[u8], second: &[u8]) -> bool
     first.eq_ignore_ascii_case(second)
 }
 
-/// Whether there is a row, and x defines it under the name.
+/// Whether there is a row of a property, and x defines the property under the name, ASCII case aside.
 pub fn row_named(row: Option<&PropRow>, x: ObjNo, name: &[u8]) -> bool
     ensures { result ≡ row_named x name.now (option_map (λ row. row.now) row.entry) }
 {

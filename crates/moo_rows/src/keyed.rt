@@ -24,7 +24,7 @@ pub trait Row: PartialEq + Clone + Drop {
         self == other
     }
 
-    /// An equal row. An `Err` is a lack of memory.
+    /// A row that equals this one. An `Err` is a lack of memory.
     final fn copy(&self, _alloc: Global) -> Result<Self, AllocError>
         ensures { IfOk result (λ copy. copy ≡ self.now) }
     {

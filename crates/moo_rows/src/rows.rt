@@ -42,7 +42,7 @@ pub trait Rows {
         // If the answer is no, no row changes: it is only kept that no more calls are to be made.
         ensures no { result ≡ false → held self.new ≡ spent (held self.old) };
 
-    /// The head.
+    /// The head: the greatest object number and the other counters.
     fn head(&self) -> Head
         ensures { result ≡ (held self.now).maps.head };
 

@@ -59,7 +59,7 @@ pub fn add<R: Rows>(rows: &mut R, x: ObjNo, verb: VerbRow) -> Result<VerbId, All
     Ok(id)
 }
 
-/// Removes a verb of x; each other one keeps its number. The only error is a lack of memory.
+/// Removes a verb of x; each other verb keeps its number. The only error is a lack of memory.
 ///
 /// LambdaMOO Programmer's Manual, 'Operations on Verbs': `delete_verb`.
 pub fn delete<R: Rows>(rows: &mut R, x: ObjNo, id: VerbId) -> Result<(), AllocError>

@@ -74,7 +74,7 @@ pub fn matches(name: &[u8], word: &[u8]) -> bool
     }
 }
 
-/// Whether one of the names, which are between spaces, matches a word.
+/// Whether one of the names of a verb, which are between spaces, matches a word, as `matches` says.
 pub fn one_matches(names: &[u8], word: &[u8]) -> bool
     ensures { result ≡ one_matches names.now word.now }
 {
