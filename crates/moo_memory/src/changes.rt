@@ -83,6 +83,7 @@ fn differing_rows<R: Rows, V: KeyedRow>(
     base: &R,
     changes: BTreeMap<V::Key, Option<V>>,
 ) -> Result<ChangeList<V::Key, V>, AllocError>
+    // The list is exactly the keys whose rows differ between the base and the base with these changes over it.
     ensures { IfOk result (λ list. IsChanges V.Key.cmp (map.get (V.map_of (R.held base.now).maps))
         (row_over (map.get (V.map_of (R.held base.now).maps)) (contents V.Key.cmp changes)) list) }
 {
@@ -102,6 +103,7 @@ pub(crate) fn changed_rows<R: Rows, V: KeyedRow>(
     base: &R,
     changes: BTreeMap<V::Key, Option<V>>,
 ) -> Result<ChangeList<V::Key, V>, AllocError>
+    // The list is exactly the keys whose rows differ between the base and the base with these changes over it.
     ensures { IfOk result (λ list. IsChanges V.Key.cmp (map.get (V.map_of (R.held base.now).maps))
         (row_over (map.get (V.map_of (R.held base.now).maps)) (contents V.Key.cmp changes)) list) }
 {
@@ -116,6 +118,7 @@ fn apply_each<R: Rows, V: KeyedRow>(
     rows: &mut R,
     changes: ChangeList<V::Key, V>,
 ) -> Result<(), AllocError>
+    // The map of the kind has each of the changes, and the other maps are as they were.
     ensures { OnOk result ((R.held rows.new).maps
         ≡ V.with_map (R.held rows.old).maps (changed_each (V.map_of (R.held rows.old).maps) changes)) }
 {
@@ -130,6 +133,7 @@ fn apply_each<R: Rows, V: KeyedRow>(
 
 /// Sets the head, and makes the changes of all five maps. An `Err` is a lack of memory, and then some are made.
 fn apply_all<R: Rows>(rows: &mut R, changes: Changes) -> Result<(), AllocError>
+    // If these are the changes from the old rows to others, the rows are those others.
     ensures { OnOk result ((new : Maps) → AreChanges (R.held rows.old).maps new changes → (R.held rows.new).maps ≡ new) }
 {
     rows.set_head(changes.head);
@@ -143,6 +147,7 @@ fn apply_all<R: Rows>(rows: &mut R, changes: Changes) -> Result<(), AllocError>
 /// Makes the changes in the rows that they are changes of. The only error is that memory runs out, and then some are made
 /// and some are not.
 pub fn apply_changes(rows: &mut Flat, changes: Changes) -> Result<(), AllocError>
+    // If these are the changes from the old rows to others, the rows are those others.
     ensures { OnOk result ((new : Maps) → AreChanges rows.old.maps new changes → rows.new.maps ≡ new) }
 {
     apply_all(rows, changes)

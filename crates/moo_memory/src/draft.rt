@@ -105,6 +105,7 @@ impl<'a, R: Rows> Draft<'a, R> {
 
     /// How many ticks are left. No more rows were put and removed than there were ticks.
     pub fn ticks_left(&self) -> u64
+        // What is left and what was written make no more than the draft was given.
         ensures { result + self.now.writes ≤ self.now.base.most }
     {
         self.ticks.left_after(self.writes)
@@ -113,6 +114,7 @@ impl<'a, R: Rows> Draft<'a, R> {
     /// The changes that make the base into the draft: a row that is put back isn't a change, nor is the removal of a row
     /// that the base doesn't have. The only error is that memory runs out.
     pub fn into_changes(self) -> Result<Changes, AllocError>
+        // They are the changes from the base to the draft.
         ensures { IfOk result (λ changes. AreChanges self.entry.base.maps self.entry.maps changes) }
     {
         Ok(Changes {

@@ -199,6 +199,7 @@ impl Links {
 
     /// The pairs that tell who is kept for a link to an object, and that object; `None` for one to `#-1`, and for that of players.
     pub fn pairs_of(&self, link: Link) -> Option<(&BTreeMap<(ObjNo, ObjNo), ()>, ObjNo)>
+        // An object is paired with the one that is answered exactly if it is kept for the link.
         ensures { IfSome result (λ p. (is_to_nothing link ≡ false)
             × ((key : ObjNo) → has_key tie_cmp p.0.now (p.1, key) ≡ is_kept self.now link key)) }
     {

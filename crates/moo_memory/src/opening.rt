@@ -50,6 +50,7 @@ fn put_row<R: Rows>(
     key: ObjNo,
     row: Result<ObjRow, AllocError>,
 ) -> Result<(), AllocError>
+    // The row that was made is put.
     ensures { OnOk result ((wanted : ObjRow) → IfOk row (λ row. row ≡ wanted) →
         R.held rows.new ≡ with_object (R.held rows.old) key wanted) }
 {
@@ -59,7 +60,9 @@ fn put_row<R: Rows>(
 /// Puts the rows that a new world begins with if there are none: the system object, the root class, the first room and the
 /// wizard. An `Err` is a lack of memory, and some of them may be there then.
 pub fn put_opening<R: Rows>(rows: &mut R, alloc: Global) -> Result<(), AllocError>
+    // If there were no rows, the rows are those that a new world begins with.
     ensures maps { OnOk result ((R.held rows.old).maps ≡ no_maps → (R.held rows.new).maps ≡ opening_maps) }
+    // What the rows are over stays.
     ensures base { OnOk result ((R.held rows.new).base ≡ (R.held rows.old).base) }
 {
     let mut head = rows.head();

@@ -88,6 +88,7 @@ pub struct Dropped {
 
 /// The properties of which x has a slot, ascending. An `Err` is a lack of memory.
 fn ids_on<R: Rows>(alloc: Global, rows: &R, x: ObjNo) -> Result<Vec<PropId>, AllocError>
+    // They are those of all its slots, since no property has the number 0.
     ensures { IfOk result (λ v. v.items ≡ ids_among (slots_of_left x (record { 0 = 0 }) (R.held rows.now).maps)) }
 {
     let mut found = Vec::new(alloc);
@@ -211,6 +212,7 @@ fn release<R: Rows>(
     parent: ObjNo,
     y: ObjNo,
 ) -> Result<(), AllocError>
+    // The row of y, if it has one, is put without x as its parent or place.
     ensures { OnOk result (R.held rows.new ≡ row_released x parent y (R.held rows.old)) }
 {
     let mut row = match rows.object(y) {
@@ -231,6 +233,7 @@ fn release_all<R: Rows>(
     parent: ObjNo,
     objects: &[ObjNo],
 ) -> Result<(), AllocError>
+    // The row of each of the objects is put without x as its parent or place.
     ensures { OnOk result (R.held rows.new ≡ rows_released x parent objects.now (R.held rows.old)) }
 {
     for y in objects {
@@ -251,6 +254,7 @@ fn drop_rows<R: Rows>(
     verbs: &[(ObjNo, VerbId)],
     relinked: &[ObjNo],
 ) -> Result<(), AllocError>
+    // First the properties go, then the verbs, then the objects are released, and last x goes.
     ensures { OnOk result (R.held rows.new
         ≡ without_object (rows_released x parent relinked.now (verbs_removed verbs.now (props_removed own.now (R.held rows.old)))) x) }
 {

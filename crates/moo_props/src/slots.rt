@@ -62,6 +62,7 @@ pub(crate) fn origins_on<R: Rows>(
     rows: &R,
     q: ObjNo,
 ) -> Result<Vec<Origin>, AllocError>
+    // They are those of all its slots, since no property has the number 0.
     ensures { IfOk result (λ v. v.items ≡ origins_among (slots_of_left q (record { 0 = 0 }) (R.held rows.now).maps)) }
 {
     let mut found = Vec::new(alloc);
@@ -154,6 +155,7 @@ pub(crate) fn exchange_slots<R: Rows>(
     own: &[PropId],
     gained: &[Origin],
 ) -> Result<(), AllocError>
+    // On each object the slots of its properties have gone, and then the fresh ones have come.
     ensures { OnOk result (R.held rows.new ≡ slots_moved (ids_for x all.now own.now) gained.now under.now (R.held rows.old)) }
 {
     for (y, owner) in under {

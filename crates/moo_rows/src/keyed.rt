@@ -59,12 +59,14 @@ pub trait KeyedRow: Row {
 
     /// Sets the row of a key, in place of the one that it has, if any. An `Err` is a lack of memory.
     fn put<R: Rows>(rows: &mut R, key: Self::Key, row: Self) -> Result<(), AllocError>
+        // In the map of this kind the key has the row, and one write more is counted.
         ensures ok { OnOk result (R.held rows.new ≡ wrote (R.held rows.old)
             (with_map (R.held rows.old).maps (map.insert (map_of (R.held rows.old).maps) key row))) }
         ensures err { OnErr result (R.held rows.new ≡ R.held rows.old) };
 
     /// Takes the row of a key away; it need not have one. An `Err` is a lack of memory.
     fn remove<R: Rows>(rows: &mut R, key: Self::Key) -> Result<(), AllocError>
+        // In the map of this kind the key has no row, and one write more is counted.
         ensures ok { OnOk result (R.held rows.new ≡ wrote (R.held rows.old)
             (with_map (R.held rows.old).maps (map.remove (map_of (R.held rows.old).maps) key))) }
         ensures err { OnErr result (R.held rows.new ≡ R.held rows.old) };

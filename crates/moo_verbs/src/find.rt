@@ -27,6 +27,7 @@ fn place_numbered(number: &i64) -> Option<usize>
 
 /// The verb of x that comes after `count` others in its directory; `None` if the directory ends before it. Takes no memory.
 fn verb_after<R: Rows>(rows: &R, x: ObjNo, count: usize) -> Option<VerbId>
+    // Of all its verbs, in order, it is the one at that place.
     ensures { result
         ≡ option_map (λ e. e.0.1) (slice_get (verbs_of_left x (record { 0 = 0 }) (R.held rows.now).maps) count) }
 {
@@ -45,6 +46,7 @@ fn is_named(row: &VerbRow, word: &[u8]) -> bool
 
 /// The first verb of x one of whose names matches a word; `None` if no verb of x has such a name. Takes no memory.
 fn verb_named<R: Rows>(rows: &R, x: ObjNo, word: &[u8]) -> Option<VerbId>
+    // Of all its verbs, in order, it is the first that matches.
     ensures { result
         ≡ option_map (λ e. e.0.1)
         (find (λ e. one_matches e.1.names word.now) (verbs_of_left x (record { 0 = 0 }) (R.held rows.now).maps)) }
