@@ -280,7 +280,7 @@ pub fn drop_object<R: Rows>(alloc: Global, rows: &mut R, x: ObjNo) -> Result<Dro
     ensures world { OnOk result (world_of (R.held rows.new).maps ≡ recycled (world_of (R.held rows.old).maps) x) }
     // The rows are good, what stays keeps its number, and the petitions and the count of batches are as they were.
     ensures kept { OnOk result (Keeps (R.held rows.old) (R.held rows.new)) }
-    // A row is written for each item that is listed, and one for the object, and no more.
+    // At most one row is written for each item that is listed, and one for the object.
     ensures writes { IfOk result (λ dropped. (R.held rows.new).writes ≤ (R.held rows.old).writes + (rows_dropped dropped + 1)) }
 {
     let parent = match rows.object(x) {

@@ -24,7 +24,7 @@ fn quota_here<R: Rows>(rows: &R, o: ObjNo) -> Option<(PropId, i64)>
     ensures quota { option_map (λ p. p.1) result ≡ quota_of (world_of (R.held rows.now).maps) o }
     // o has a slot of the property.
     ensures has { IfSome result (λ p. is_some (get (R.held rows.now).maps.slots (o, p.0)) ≡ true) }
-    // The property is that of `ownership_quota`.
+    // The name of the property is `ownership_quota`, ASCII case aside.
     ensures named { IfSome result (λ p. name_of (R.held rows.now).maps p.0 ≡ quota_name) }
 {
     let id = match find_named(rows, o, b"ownership_quota") {

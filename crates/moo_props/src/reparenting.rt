@@ -174,7 +174,7 @@ pub fn reparent<R: Rows>(
     ensures world { OnOk result (world_of (R.held rows.new).maps ≡ reparented (world_of (R.held rows.old).maps) x new) }
     // The rows are good, what stays keeps its number, and the petitions and the count of batches are as they were.
     ensures kept { OnOk result (Keeps (R.held rows.old) (R.held rows.new)) }
-    // A row is written for each item that is listed, and no more.
+    // At most one row is written for each item that is listed.
     ensures writes { IfOk result (λ touched. (R.held rows.new).writes ≤ (R.held rows.old).writes + rows_touched touched) }
 {
     let row = match rows.object(x) {

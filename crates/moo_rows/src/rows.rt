@@ -25,7 +25,8 @@ pub trait Rows {
     /// The head and what the maps hold, how many rows were put or removed so far, and what the rows are over.
     ghost held: { Self → Held };
 
-    /// Whether more rows may be looked up and changed: in a draft not once its ticks are spent. No contract says when not.
+    /// Whether more rows may be looked up and changed: in a draft not once more ticks are spent than it has. No contract says
+    /// when not.
     fn may_go_on(&self) -> bool {
         true
     }

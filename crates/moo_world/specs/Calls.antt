@@ -108,7 +108,7 @@ accept_list world object = do
 abbrev pub unfit_parent : World → ObjNo → Reason
 unfit_parent world parent = if is_object world parent then NotFertile parent else NoParent parent
 
--- makes an object under a parent, for an owner whose quota falls by one
+-- makes an object under a parent, for an owner whose quota, if it has one, falls by one
 abbrev pub create : World → ObjNo → ObjNo → ObjNo → Outcome World
 create world programmer parent owner = do
   require may_be_parent world programmer parent else unfit_parent world parent
