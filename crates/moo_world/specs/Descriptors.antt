@@ -27,7 +27,7 @@ abbrev pub described : World → ObjNo → Desc → Option ℕ
 described world object (Index number) = option_and_then (place_within world object) (place_numbered number)
 described world object (a_word word) = position (λ verb. one_matches verb.names word) (directory_of world object)
 
--- the verb, with its place
+-- the verb that a descriptor names, with its place
 abbrev pub found_verb : World → ObjNo → Desc → Option (ℕ × VerbRow)
 found_verb world object desc =
     option_and_then (λ place. option_map (λ verb. (place, verb)) (verb_at world object place)) (described world object desc)

@@ -1,5 +1,5 @@
 use Rattle.moo_props.proofs.Words.{◌≡◌, take, ids_for, slots_moved}
-use Rattle.moo_props.proofs.slots.move_slots.Given as goal
+use Rattle.moo_props.proofs.slots.exchange_slots.Given as goal
 
 -- with the slots of those so far moved
 abbrev pub invariant-loop-y : goal.invariant-loop-y

@@ -18,14 +18,16 @@ use moo_value::{MooStr, ObjNo};
 use std::alloc::{AllocError, Global};
 use std::collections::BTreeMap;
 
-/// Keeps a property for the hash of its name.
+/// Keeps a property for the hash of its name; nothing is kept if there is no such property. An `Err` is a lack of memory.
 fn keep_name<R: Rows>(
     rows: &R,
     id: PropId,
     names: &mut BTreeMap<(u64, PropId), ()>,
 ) -> Result<(), AllocError>
+    // All that was kept still is.
     ensures kept { OnOk result ((hash : _) (other : PropId) → is_some (get (contents hashed_cmp names.old) (hash, other)) ≡ true →
         is_some (get (contents hashed_cmp names.new) (hash, other)) ≡ true) }
+    // The property is kept for the hash of its name.
     ensures there { OnOk result ((row : PropRow) → get (R.held rows.now).maps.props id ≡ Some row →
         is_some (get (contents hashed_cmp names.new) (name_hash row.name, id)) ≡ true) }
 {
@@ -52,7 +54,7 @@ pub(crate) fn names_of<R: Rows>(
     Ok(names)
 }
 
-/// The next property that is kept for a hash. Takes no memory.
+/// The least property past `after` that is kept for a hash, or `None` if there is none. Takes no memory.
 fn next_hashed(names: &BTreeMap<(u64, PropId), ()>, hash: u64, after: PropId) -> Option<PropId>
     ensures { IsFirst prop_cmp (λ id. is_some (get (contents hashed_cmp names.now) (hash, id))) after result }
 {
@@ -60,7 +62,7 @@ fn next_hashed(names: &BTreeMap<(u64, PropId), ()>, hash: u64, after: PropId) ->
     if of == hash { Some(id) } else { None }
 }
 
-/// Whether x has this property, and it has the name.
+/// Whether x has a slot of the property, and the property has the name, ASCII case aside. Takes no memory.
 fn has_under_name<R: Rows>(rows: &R, x: ObjNo, name: &[u8], id: PropId) -> bool
     ensures { result ≡ has_under_name (R.held rows.now).maps x name.now id }
 {
@@ -78,6 +80,7 @@ pub(crate) fn has_name<R: Rows>(
     name: &MooStr,
 ) -> bool
     requires good { IsGood (R.held rows.now).maps }
+    // `names` holds each property of which x has a slot, by the hash of its name.
     requires names { HoldsNames (R.held rows.now).maps x (contents hashed_cmp names.now) }
     ensures { result ≡ is_some (slot_of (world_of (R.held rows.now).maps) x (folded name.now)) }
 {

@@ -1,6 +1,6 @@
 use Rattle.moo_props.proofs.Words.{ObjNo, pos, get_or, sym, ap, ◌∙◌, with_fresh, without_on}
 use Rattle.std.proofs.lemmas.List.Sums.{fold_more}
-use Rattle.moo_props.proofs.slots.move_slots.Goals as goal
+use Rattle.moo_props.proofs.slots.exchange_slots.Goals as goal
 
 pub loop-y-preserved : goal.loop-y-preserved
 loop-y-preserved g c =

@@ -8,7 +8,7 @@ ghost use Rattle.moo_rows.specs.Maps.{object_cmp};
 ghost use Rattle.moo_rows.specs.Ordered.{contents};
 ghost use Rattle.moo_memory.specs.Either.{is_own_candidate, is_that, may_have_own};
 
-use crate::links::{Links, are_same, ties_of};
+use crate::links::{Links, same_ties, ties_of};
 use moo_rows::{Link, ObjRow, Rows, Ties, ordered};
 use moo_value::ObjNo;
 use std::alloc::{AllocError, Global};
@@ -23,8 +23,8 @@ pub(crate) struct OwnLinks {
     others: Links,
 }
 
-/// The object, if it is past another one.
-fn past(object: Option<ObjNo>, after: ObjNo) -> Option<ObjNo>
+/// The object, if there is one and its number is greater than `after`; else `None`.
+fn object_past(object: Option<ObjNo>, after: ObjNo) -> Option<ObjNo>
     ensures { IsFirst object_cmp (is_that object) after result }
 {
     let object = object?;
@@ -35,7 +35,7 @@ fn past(object: Option<ObjNo>, after: ObjNo) -> Option<ObjNo>
 }
 
 impl OwnLinks {
-    /// No object is changed.
+    /// The links of no changed object.
     pub(crate) fn new(alloc: Global) -> OwnLinks {
         OwnLinks {
             first: None,
@@ -43,14 +43,16 @@ impl OwnLinks {
         }
     }
 
-    /// From now on the object may have the links that go with these ties, except those that it has in the base.
+    /// Keeps a changed object for the links that go with these ties, except those that it has in the base. An `Err` is a lack of memory.
     pub(crate) fn add<R: Rows>(
         &mut self,
         base: &R,
         key: ObjNo,
         ties: Ties,
     ) -> Result<(), AllocError>
+        // Each object that might have a link still may.
         ensures others { (l : Link) (q : ObjNo) → may_have_own self.new l q ≡ false → may_have_own self.old l q ≡ false }
+        // The object may have each link that goes with the ties, unless it has that link in the base.
         ensures there { OnOk result ((l : Link) → has_link l ties ≡ true → is_linked (R.held base.now).maps l key ≡ false →
             may_have_own self.new l key ≡ true) }
     {
@@ -61,13 +63,13 @@ impl OwnLinks {
             }
             Some(first) => first,
         };
-        if key == first || are_same(ties_of(base.object(key)), ties) {
+        if key == first || same_ties(ties_of(base.object(key)), ties) {
             return Ok(());
         }
         self.others.add(key, ties)
     }
 
-    /// The next changed object that is to be looked at for the link. Takes no memory.
+    /// The least changed object past `after` that is to be looked at for the link, or `None` if there is none. Takes no memory.
     pub(crate) fn next(
         &self,
         changes: &BTreeMap<ObjNo, Option<ObjRow>>,
@@ -77,7 +79,7 @@ impl OwnLinks {
         ensures { IsFirst object_cmp (is_own_candidate self.now (contents object_cmp changes.now) link) after result }
     {
         ordered::least(
-            past(self.first, after),
+            object_past(self.first, after),
             self.others.next(changes, link, after),
         )
     }

@@ -1,5 +1,5 @@
 use Rattle.moo_props.{proofs.Words.{◌≡◌, None, rules}, proofs.HashedNames.{hashed-none}}
-use Rattle.moo_props.proofs.hashed.next_hashed.Goals as goal
+use Rattle.moo_props.proofs.name_hashes.next_hashed.Goals as goal
 
 pub returns-in_err-of : goal.returns-in_err-of
 returns-in_err-of c =

@@ -1,6 +1,6 @@
 use Rattle.moo_props.{proofs.Words.{◌≡◌, true, Some, ◌||◌, is_some, list_any, get, PropId, PropRow, contents, slots_of_left, hashed_cmp}, proofs.Folding.{is_id}}
 use Rattle.moo_rows.specs.Named.{name_hash}
-use Rattle.moo_props.proofs.hashed.names_of.Given as goal
+use Rattle.moo_props.proofs.name_hashes.names_of.Given as goal
 
 -- each property of which x has a slot is kept, or is left
 abbrev pub invariant-loop-key : goal.invariant-loop-key

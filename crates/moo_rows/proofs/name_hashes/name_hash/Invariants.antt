@@ -1,7 +1,7 @@
 use Rattle.std.proofs.Common.{◌≡◌, [], ◌∷◌, map, drop, fold}
 use Rattle.std.specs.Char.{to_ascii_lowercase}
 use Rattle.std.specs.Hash.DefaultHasher as sip
-use Rattle.moo_rows.proofs.named.name_hash.Given as goal
+use Rattle.moo_rows.proofs.name_hashes.name_hash.Given as goal
 
 -- the bytes that are left, after the state so far, are hashed as all are
 abbrev pub invariant-loop-byte : goal.invariant-loop-byte

@@ -1,5 +1,5 @@
 use Rattle.moo_props.proofs.Words.{◌≡◌, true, length, IfSome, find, walk_down, is_among, defines_name, world_of, chain, from_here}
-use Rattle.moo_props.proofs.clashing.is_defined_under.Given as goal
+use Rattle.moo_props.proofs.clashing.first_to_define_under.Given as goal
 
 -- the first that defines the name is still to come
 abbrev pub invariant-loop-at : goal.invariant-loop-at

@@ -1,6 +1,6 @@
 use Rattle.moo_props.{proofs.Words.{◌≡◌, false, None, sym, ap, ◌∙◌, prop_exact, prop_total, contents, hashed_cmp, has_under_name}, proofs.HashedNames.{hashed-covers, one_is_named, none_is_named}}
 use Rattle.moo_rows.{specs.Named.{name_hash}, proofs.Firsts.{first-none, first-skipped}}
-use Rattle.moo_props.proofs.hashed.has_name.Goals as goal
+use Rattle.moo_props.proofs.name_hashes.has_name.Goals as goal
 
 pub returns-then-has_under_name : goal.returns-then-has_under_name
 returns-then-has_under_name g c =

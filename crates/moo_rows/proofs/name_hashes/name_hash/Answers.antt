@@ -3,7 +3,7 @@ use Rattle.std.proofs.lemmas.List.{drop_all}
 use Rattle.std.specs.Char.{to_ascii_lowercase}
 use Rattle.std.specs.Hash.DefaultHasher as sip
 use Rattle.moo_rows.specs.Named.{name_hash}
-use Rattle.moo_rows.proofs.named.name_hash.Goals as goal
+use Rattle.moo_rows.proofs.name_hashes.name_hash.Goals as goal
 
 -- no byte is left
 pub returns : goal.returns

@@ -1,5 +1,5 @@
 use Rattle.moo_props.{proofs.Words.{◌+ℤ◌, FitsSigned, w64, rules, sym, ◌∙◌, ap, to_z-of_z, Int, Set, with_slot_of, world_of, spelling_of}, proofs.Quotas.{moved, folded_spelling}}
-use Rattle.moo_props.proofs.quota.move_quota.Goals as goal
+use Rattle.moo_props.proofs.quota.change_quota.Goals as goal
 use Rattle.moo_rows.specs.declared.row.SlotState.{SlotState}
 
 pub returns-clause-world : goal.returns-clause-world

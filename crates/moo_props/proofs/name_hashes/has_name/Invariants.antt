@@ -1,6 +1,6 @@
 use Rattle.std.specs.Prelude.{Option, ◌-◌}
 use Rattle.moo_props.proofs.Words.{PropId, prop_cmp, prop_id, IsFirst, has_under_name}
-use Rattle.moo_props.proofs.hashed.has_name.Given as goal
+use Rattle.moo_props.proofs.name_hashes.has_name.Given as goal
 
 -- what is first past `last` is first of all
 abbrev pub invariant-loop-id : goal.invariant-loop-id
