@@ -47,8 +47,9 @@ fn asks_why(bytes: &[u8], head: &HeadSpans) -> bool
     plan::asks_why(head.spans.path.of(bytes))
 }
 
-/// What a head decides.
+/// What a head decides, whose parts are at these places of the bytes.
 pub(crate) fn plan_head(routes: &Routes, bytes: &[u8], head: &HeadSpans) -> Plan
+    // The places are inside the bytes, and the parts of a head were found there.
     requires within { IsRequestWithin bytes.now head.now.headers head.now.spans }
     requires found { IsRequestOf bytes.now head.now.headers head.now.spans }
     ensures value { (parts : RequestHead) → IsRequestAt bytes.now head.now.headers head.now.spans parts → result ≡ plan_by parts }
