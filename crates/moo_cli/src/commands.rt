@@ -10,8 +10,10 @@ use crate::help;
 use clap::{Arg, ArgAction, Command, value_parser};
 use std::alloc::{AllocError, Global};
 
+/// An argument that must be there, and is a text.
 fn text_arg<'a>(alloc: Global, id: &'a str, about: &'a str) -> Arg<'a>
     ensures rule { rule_of result ≡ text_rule id.entry.now }
+    // It is an argument of its command alone, and not of the commands below that.
     ensures local { result.global ≡ false }
 {
     Arg::new(alloc, id).required(true).help(about)
@@ -28,6 +30,7 @@ fn flag_arg<'a>(alloc: Global, name: &'a str, about: &'a str) -> Arg<'a>
         .help(about)
 }
 
+/// The argument PORT of `serve`: a number from 1 to 65,535, which must be there.
 fn port_arg<'a>(alloc: Global) -> Arg<'a>
     ensures rule { rule_of result ≡ record (number_rule (codes "PORT") 1 65535) { required = true } }
     ensures local { result.global ≡ false }
@@ -38,6 +41,7 @@ fn port_arg<'a>(alloc: Global) -> Arg<'a>
         .help(help::PORT)
 }
 
+/// The argument COUNT of `serve`: a number from 0 to 1,000,000, which may be left out.
 fn count_arg<'a>(alloc: Global) -> Arg<'a>
     ensures rule { rule_of result ≡ number_rule (codes "COUNT") 0 1000000 }
     ensures local { result.global ≡ false }
@@ -47,6 +51,7 @@ fn count_arg<'a>(alloc: Global) -> Arg<'a>
         .help(help::COUNT)
 }
 
+/// The option `--ticks` of `serve`: a number from 1,000 to 4,294,967,295, which may be left out.
 fn ticks_arg<'a>(alloc: Global) -> Arg<'a>
     ensures rule { rule_of result ≡ record (number_rule (codes "ticks") 1000 4294967295) { long = Some (codes "ticks") } }
     ensures local { result.global ≡ false }
@@ -60,11 +65,13 @@ fn ticks_arg<'a>(alloc: Global) -> Arg<'a>
 /// A command with what help says of it and no arguments yet.
 fn new_command<'a>(alloc: Global, name: &'a str, about: &'a str, more: &'a str) -> Command<'a>
     ensures shape { app_of result ≡ new_app name.entry.now }
+    // No argument of it is one of the commands below it too.
     ensures local { (fields_of result).has_globals ≡ false }
 {
     Command::new(alloc, name).about(about).after_help(more)
 }
 
+/// A command of a file. AllocError if memory runs out, as in each function below.
 fn file_command<'a>(
     alloc: Global,
     name: &'a str,
@@ -118,6 +125,7 @@ fn running_command<'a>(
     batches_command(alloc, name, about, more)?.arg(flag_arg(alloc, "stop", help::STOP))
 }
 
+/// The command `load`, of a file and a dump.
 fn load_command<'a>(alloc: Global) -> Result<Command<'a>, AllocError>
     ensures shape { IfOk result (λ command. app_of command ≡ with_rule (file_app (codes "load")) (text_rule (codes "DUMP"))) }
     ensures local { IfOk result (λ command. (fields_of command).has_globals ≡ false) }
@@ -132,6 +140,7 @@ fn load_command<'a>(alloc: Global) -> Result<Command<'a>, AllocError>
     )
 }
 
+/// The command `serve`, of a file, a port, how many connections are served, and how many ticks a request has.
 fn serve_command<'a>(alloc: Global) -> Result<Command<'a>, AllocError>
     ensures shape { IfOk result (λ command. app_of command ≡ serve_app) }
     ensures local { IfOk result (λ command. (fields_of command).has_globals ≡ false) }
@@ -142,12 +151,14 @@ fn serve_command<'a>(alloc: Global) -> Result<Command<'a>, AllocError>
         .arg(ticks_arg(alloc))
 }
 
-/// A program with one more command. Memory may have run out for either.
+/// A program with one more command. AllocError if memory ran out for either, or runs out.
 fn with_command<'a>(
     program: Result<Command<'a>, AllocError>,
     command: Result<Command<'a>, AllocError>,
 ) -> Result<Command<'a>, AllocError>
+    // No argument of the command is one of the commands below it too.
     requires { IfOk command (λ command. (fields_of command).has_globals ≡ false) }
+    // The commands of the new program are those of the old one, and then this command.
     ensures { (old added : App) → IfOk program.entry (λ program. app_of program ≡ old)
         → IfOk command.entry (λ command. app_of command ≡ added) → IfOk result (λ new. app_of new ≡ with_subcommand old added.top) }
 {
@@ -163,6 +174,7 @@ fn program<'a>(alloc: Global) -> Command<'a>
         .subcommand_required(true)
 }
 
+/// The program with all its commands.
 pub(crate) fn moo_command<'a>(alloc: Global) -> Result<Command<'a>, AllocError>
     ensures { IfOk result (λ command. app_of command ≡ moo_app) }
 {
