@@ -11,7 +11,7 @@ module _ {A : Type 0} (loses : A → Option Loss → A → Type 0) where
       ⊎ ((loses from None to × (left ≡ answered) × (lost ≡ failed))
       ⊎ ((loss : Loss) × loses from (Some loss) to × (answered ≡ left + 1) × (lost ≡ failed + 1)))
 
-  -- so often, one after another
+  -- A source was asked so often for a connection whose answer was lost, one time after another.
   abbrev pub TellsLosses : ℕ → A → ℕ → ℕ → A → ℕ → ℕ → Type 0
   TellsLosses zero from answered failed to left lost = (to ≡ from) × (left ≡ answered) × (lost ≡ failed)
   TellsLosses (suc n) from answered failed to left lost =
