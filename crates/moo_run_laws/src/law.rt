@@ -25,6 +25,7 @@ use moo_run::HasRun;
 /// program makes, says it too, and closes the file after that. `run_and_run_again` makes two such calls, and says it of them;
 /// `stop_and_run_again` says it of a first run whose file isn't closed.
 pub fn runs_lead_on<S: HasRun, N: HasRun>()
+    // If the second run is over what is found after the first, the first leads its file to a moment from which the second goes on.
     ensures follows { (first : FileRun S.HasRun S.Disk.Disk) (next : FileRun N.HasRun N.Disk.Disk) → Follows first next →
         HandsOver first next }
 {}
