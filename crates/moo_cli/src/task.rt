@@ -105,14 +105,14 @@ fn flag_of(matches: &ArgMatches<'_>, id: &str) -> bool
     }
 }
 
-/// The number that the argument with this name is, 0 to 4,294,967,295. None if it isn't given, or is no such number.
+/// The number that the argument with this name is, 0 to 4,294,967,295. None if it isn't given, or isn't such a number.
 fn number_of(matches: &ArgMatches<'_>, id: &str) -> Option<u32>
     ensures { IsAny (λ n. HasNumber (rows_of (found_of matches.now)) id.now n × (n < 2 ^ 32)) result }
 {
     matches.get_one::<u32>(id)
 }
 
-/// The number that the argument with this name is, or `absent` if it isn't given. None if it is no number from `least` to `most`.
+/// The number that the argument with this name is, or `absent` if it isn't given. None if it isn't a number from `least` to `most`.
 fn number_or(matches: &ArgMatches<'_>, id: &str, least: u32, most: u32, absent: u32) -> Option<u32>
     ensures { IsAny (HasNumberOr (rows_of (found_of matches.now)) id.now least most absent) result }
 {
@@ -128,8 +128,8 @@ fn number_or(matches: &ArgMatches<'_>, id: &str, least: u32, most: u32, absent: 
     }
 }
 
-/// How `serve` is to answer: its port, how many connections it serves, and how many ticks a request has. None if one of them isn't within its
-/// bounds, or no port is given.
+/// How `serve` is to answer: its port, how many connections it serves, and how many ticks a request has. None if one of them isn't within
+/// its bounds, or no port is given.
 fn service_in(matches: &ArgMatches<'_>) -> Option<Service>
     ensures { IsAny (IsService (rows_of (found_of matches.now))) result }
 {
@@ -187,7 +187,8 @@ fn text_action_in<'a>(name: &str, matches: &ArgMatches<'a>) -> Option<Action<'a>
     }
 }
 
-/// The action of a command, by its name and its arguments. None if the program has no such command, or an argument is missing or no such number.
+/// The action of a command, by its name and its arguments. None if the program has no such command, or an argument is missing or isn't such
+/// a number.
 fn action_in<'a>(name: &str, matches: &ArgMatches<'a>) -> Option<Action<'a>>
     ensures { IsAny (λ action. (name.now ≡ command_of action) × HasArguments (rows_of (found_of matches.now)) action) result }
 {
@@ -205,7 +206,7 @@ fn action_in<'a>(name: &str, matches: &ArgMatches<'a>) -> Option<Action<'a>>
     }
 }
 
-/// The task that the command and its arguments are. None if no command is named, or an argument is missing or no such number.
+/// The task that the command and its arguments are. None if no command is named, or an argument is missing or isn't such a number.
 fn task_in<'a>(matches: &ArgMatches<'a>) -> Option<Task<'a>>
     ensures { IsAny (λ task. (found : Text × List Row) × (subcommand_rows_of matches.now ≡ Some found) × IsTask found task) result }
 {

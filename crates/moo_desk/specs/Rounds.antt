@@ -22,8 +22,8 @@ module _ {R W : Type 0}
   abbrev pub IsReadIfDue : Slot R W inward incoming reader outward writer → Slot R W inward incoming reader outward writer → Type 0
   IsReadIfDue old new = old.rests ≡ false → old.is_due ≡ true → WasRead old new ⊎ (new.rests ≡ true)
 
-  -- If `All` holds, each request that is due is read, or is to be handed out after this. Else that is so of those up to the first unfinished
-  -- one.
+  -- If `All` holds, each request that is due is read, or is to be handed out after this. Else that is so of those up to the first
+  -- unfinished one.
   abbrev pub ReadsDue : Type 0 → List (Slot R W inward incoming reader outward writer)
       → List (Slot R W inward incoming reader outward writer) → Type 0
   ReadsDue All [] [] = ⊤
@@ -34,8 +34,8 @@ module _ {R W : Type 0}
   abbrev pub gathered_of : List (Slot R W inward incoming reader outward writer) → ℕ
   gathered_of slots = sum_by (λ slot. length slot.reader.bytes.items) slots
 
-  -- The same request later, at the time `now`: when it came stays, bytes that come are heard at that time, and whether either is too long ago is
-  -- seen at that time, if at all.
+  -- The same request later, at the time `now`: when it came stays, bytes that come are heard at that time, and whether either is too long
+  -- ago is seen at that time, if at all.
   pub record IsTimed (now : Duration) (old new : Slot R W inward incoming reader outward writer) : Type 0 where
     pub since : new.since ≡ old.since
     pub heard : (new.heard ≡ now) ⊎ ((new.heard ≡ old.heard) × (new.reader.bytes.items ≡ old.reader.bytes.items))

@@ -126,9 +126,9 @@ impl<'a, G: Gate + Drop, C: Clock> Desk<'a, G, C> {
         }
     }
 
-    /// Takes the next connection from the gate, if one may be there and fewer than `left` requests are gathered. If 64 connections are held,
-    /// one of them is ended for it, and none is taken if none can be. While a whole request waits to be judged none is taken, so that whoever
-    /// came first is judged first.
+    /// Takes the next connection from the gate, if one may be there and fewer than `left` requests are gathered. If 64 connections are
+    /// held, one of them is ended for it, and none is taken if none can be. While a whole request waits to be judged none is taken, so that
+    /// whoever came first is judged first.
     fn take_next(&mut self, left: usize, now: Duration) -> Took
         // Each connection that the gate gave is held, but for one at most that was lost as it came.
         ensures one { Admits 1 (book_of self.old.held, G.gave self.old.gate) (book_of self.new.held, G.gave self.new.gate) }
@@ -151,8 +151,8 @@ impl<'a, G: Gate + Drop, C: Clock> Desk<'a, G, C> {
         took
     }
 
-    /// Whether the next connection may be taken: one may be at the gate, fewer than `left` requests are gathered, there is a place for it or
-    /// a connection that can be ended, and no whole request waits to be judged.
+    /// Whether the next connection may be taken: one may be at the gate, fewer than `left` requests are gathered, there is a place for it
+    /// or a connection that can be ended, and no whole request waits to be judged.
     fn may_take(&self, left: usize, now: Duration) -> bool
         ensures yes { result ≡ true → MayTake left now self.now.has_news self.now.held }
         ensures no { result ≡ false → ¬ (MayTake left now self.now.has_news self.now.held) }
@@ -255,7 +255,8 @@ impl<'a, G: Gate + Drop, C: Clock> Desk<'a, G, C> {
         }
     }
 
-    /// Has the next round look at each connection, though nothing was told of it, and ask the gate for one, if the last time is a period ago.
+    /// Has the next round look at each connection, though nothing was told of it, and ask the gate for one, if the last time is a period
+    /// ago.
     fn sweep(&mut self, now: Duration)
         // No connection comes, and nothing happens to those that are held but deeds.
         ensures all { Goes self.old.held self.new.held }
@@ -283,8 +284,8 @@ impl<'a, G: Gate + Drop, C: Clock> Desk<'a, G, C> {
         self.sweep(now);
     }
 
-    /// One round, without waiting: takes a connection from the gate, gathers requests, gives up an answer if too much of answers is held, and
-    /// sends answers. It tells what came of taking a connection, and whether anything was gathered, sent or let go.
+    /// One round, without waiting: takes a connection from the gate, gathers requests, gives up an answer if too much of answers is held,
+    /// and sends answers. It tells what came of taking a connection, and whether anything was gathered, sent or let go.
     fn go_round(&mut self, routes: &Routes, left: u32, now: Duration) -> (Took, bool)
         // Each connection that the gate gave is held, but for one at most that was lost as it came.
         ensures one { Admits 1 (book_of self.old.held, G.gave self.old.gate) (book_of self.new.held, G.gave self.new.gate) }
@@ -300,8 +301,8 @@ impl<'a, G: Gate + Drop, C: Clock> Desk<'a, G, C> {
         (took, has_gathered || has_sent)
     }
 
-    /// Sends what can be sent of an answer at once, and holds its connection until all of it is sent, or it is lost. If memory runs out it is
-    /// lost, and that is noted.
+    /// Sends what can be sent of an answer at once, and holds its connection until all of it is sent, or it is lost. If memory runs out it
+    /// is lost, and that is noted.
     fn hold(&mut self, mut leaving: Leaving<G::Reader, G::Writer>, now: Duration)
         // From a desk that holds this connection too only deeds lead on.
         ensures all { Keep 0 (with_back (book_of self.old.held) leaving) (book_of self.new.held) }
@@ -324,8 +325,8 @@ impl<'a, G: Gate + Drop, C: Clock> Desk<'a, G, C> {
         }
     }
 
-    /// Sends until each answer that is held is sent or lost. After 2^64 - 1 rounds, which no system gets to, the answers that are still held
-    /// are given up.
+    /// Sends until each answer that is held is sent or lost. After 2^64 - 1 rounds, which no system gets to, the answers that are still
+    /// held are given up.
     fn send_out(&mut self)
         ensures all { Goes self.old.held self.new.held }
         ensures gate { G.gave self.new.gate ≡ G.gave self.old.gate }

@@ -22,7 +22,7 @@ pub trait Question<T> {
         ensures no { result ≡ false → ¬ (asks self.now item.now) };
 }
 
-/// The place of the first item for which the answer to a question is yes. None if it is no for all.
+/// The place of the first item for which the answer to a question is yes. None if no item has that answer.
 pub fn first<T, Q: Question<T>>(items: &[T], question: &Q) -> Option<usize>
     ensures first { IsFirstPlace (Q.asks question.now) items.now result }
     ensures bound { IfSome result (λ place. place < length items.now) }

@@ -63,8 +63,8 @@ impl<R> Gathered<R> {
 impl<R: Inward> Gathered<R> {
     ghost use Rattle.moo_desk.specs.Filling.{Fills};
 
-    /// Gathers up to 4,096 bytes of what the reader has now, and no more than `limit` in all. Whoever reads sees no difference. If none came
-    /// it tells why: none are there now, the peer has ended, the reader failed, or memory ran out.
+    /// Gathers up to 4,096 bytes of what the reader has now, and no more than `limit` in all. Whoever reads sees no difference. If none
+    /// came it tells why: none are there now, the peer has ended, the reader failed, or memory ran out.
     pub fn fill(&mut self, limit: usize) -> Filled
         requires { length self.old.bytes.items < limit }
         // What was gathered and not read yet and what the reader still has, joined, is as before.

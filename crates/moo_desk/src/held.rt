@@ -66,7 +66,8 @@ impl<R: Inward + OpenStream + Drop, W: Outward + OpenStream + Drop> Held<R, W> {
         self.count() >= MOST
     }
 
-    /// The place of the oldest unfinished request that may be ended for another's place: it came over 200 milliseconds ago. None if none may.
+    /// The place of the oldest unfinished request that may be ended for another's place: it came over 200 milliseconds ago. None if none
+    /// may.
     fn first_stale(&self, now: Duration) -> Option<usize>
         ensures { IsFirstPlace (IsStale now) self.now.slots.items result }
     {
@@ -121,7 +122,8 @@ impl<R: Inward + OpenStream + Drop, W: Outward + OpenStream + Drop> Held<R, W> {
         }
     }
 
-    /// Gives up the request at this place, since another connection needs it, if it may be ended. It isn't read any more, and handed out so.
+    /// Gives up the request at this place, since another connection needs it, if it may be ended. It isn't read any more, and handed out
+    /// so.
     fn cut_request(&mut self, place: usize, now: Duration)
         // No connection comes, and nothing happens to those that are held but deeds.
         ensures all { Goes self.old self.new }
@@ -137,8 +139,8 @@ impl<R: Inward + OpenStream + Drop, W: Outward + OpenStream + Drop> Held<R, W> {
         }
     }
 
-    /// Steps each connection whose request was judged and that is due, and lets go of those that are over; whether anything went, came or was
-    /// let go.
+    /// Steps each connection whose request was judged and that is due, and lets go of those that are over; whether anything went, came or
+    /// was let go.
     pub fn send_all(&mut self, now: Duration) -> bool
         ensures { Goes self.old self.new }
     {
@@ -179,8 +181,8 @@ impl<R: Inward + OpenStream + Drop, W: Outward + OpenStream + Drop> Held<R, W> {
         }
     }
 
-    /// Gives up each connection whose request was judged, and holds none of them after that. What its peer hasn't got of its answer is lost,
-    /// for the cause Late.
+    /// Gives up each connection whose request was judged, and holds none of them after that. What its peer hasn't got of its answer is
+    /// lost, for the cause Late.
     pub fn give_up_all(&mut self)
         ensures all { Goes self.old self.new }
         ensures none { self.new.leaving.items ≡ [] }
@@ -192,8 +194,8 @@ impl<R: Inward + OpenStream + Drop, W: Outward + OpenStream + Drop> Held<R, W> {
         }
     }
 
-    /// Whether a connection is to be handed out: its request is whole, or nothing more of it comes, and less than 32 MiB of answers are held
-    /// beside the largest.
+    /// Whether a connection is to be handed out: its request is whole, or nothing more of it comes, and less than 32 MiB of answers are
+    /// held beside the largest.
     pub fn has_whole(&self) -> bool
         ensures yes { result ≡ true → HasWhole self.now }
         ensures no { result ≡ false → ¬ (HasWhole self.now) }
@@ -209,8 +211,8 @@ impl<R: Inward + OpenStream + Drop, W: Outward + OpenStream + Drop> Held<R, W> {
         any(&self.slots, &Ready)
     }
 
-    /// Takes the connection that came first of those whose request is whole, or of which nothing more comes. None if there is none, and while
-    /// 32 MiB of answers or more are held beside the largest.
+    /// Takes the connection that came first of those whose request is whole, or of which nothing more comes. None if there is none, and
+    /// while 32 MiB of answers or more are held beside the largest.
     pub fn next_whole(&mut self) -> Option<Slot<R, W>>
         ensures { TakesSlot (book_of self.old) result (book_of self.new) }
     {
@@ -235,8 +237,8 @@ impl<R: Inward + OpenStream + Drop, W: Outward + OpenStream + Drop> Held<R, W> {
         if left.is_zero() { None } else { Some(left) }
     }
 
-    /// Gathers what is there of each request that is due, or of the first unfinished one alone while 32 MiB of requests or more are gathered;
-    /// whether anything changed.
+    /// Gathers what is there of each request that is due, or of the first unfinished one alone while 32 MiB of requests or more are
+    /// gathered; whether anything changed.
     pub fn gather(&mut self, routes: &Routes, now: Duration) -> bool
         // No connection comes, and nothing happens to those that are held but deeds.
         ensures all { Goes self.old self.new }
@@ -272,7 +274,8 @@ impl<R: Inward + OpenStream + Drop, W: Outward + OpenStream + Drop> Held<R, W> {
         // No connection comes, and nothing happens to those that are held but deeds.
         ensures all { Goes self.old self.new }
         ensures slots { self.new.slots ≡ self.old.slots }
-        // While 32 MiB of answers are held beside the largest and a request is whole, the first answer that is stuck is given up; else none.
+        // While 32 MiB of answers are held beside the largest and a request is whole, the first answer that is stuck is given up; else
+        // none.
         ensures relieves { Relieves now self.old self.new }
     {
         if all_held_bytes(&self.leaving) < BUDGET || !self.is_any_ready() {

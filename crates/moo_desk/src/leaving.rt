@@ -109,8 +109,8 @@ impl<R: Inward + OpenStream, W: Outward + OpenStream> Leaving<R, W> {
             || matches!(self.reader.reader.peek(&mut byte), Ok(1))
     }
 
-    /// Closes the connection after all of its answer was sent, as its `closing` says. If that is gently, its peer is told that nothing more is
-    /// written, and is listened to; else nothing more is done.
+    /// Closes the connection after all of its answer was sent, as its `closing` says. If that is gently, its peer is told that nothing more
+    /// is written, and is listened to; else nothing more is done.
     fn close(&mut self, now: Duration)
         // All of its answer was sent.
         requires { self.old.writer.sent ≡ length self.old.writer.text.items }
@@ -133,8 +133,8 @@ impl<R: Inward + OpenStream, W: Outward + OpenStream> Leaving<R, W> {
         }
     }
 
-    /// Sends what the peer takes now of the answer, or closes the connection if all was sent; whether any went, or it was closed. The answer is
-    /// lost if its writer failed, or if the peer takes nothing and the patience is over.
+    /// Sends what the peer takes now of the answer, or closes the connection if all was sent; whether any went, or it was closed. The
+    /// answer is lost if its writer failed, or if the peer takes nothing and the patience is over.
     fn send(&mut self, now: Duration) -> bool
         requires { self.old.stage ≡ Stage.Sending }
         ensures answer { (self.new.writer.text.items ≡ self.old.writer.text.items) × (self.new.route ≡ self.old.route) }
@@ -165,8 +165,8 @@ impl<R: Inward + OpenStream, W: Outward + OpenStream> Leaving<R, W> {
         false
     }
 
-    /// Throws away up to 4,096 bytes of what the peer sent; whether there were any. After 65,536 bytes in all, after 1 second, and once the peer
-    /// has ended or its reader failed, nothing more is done with the connection.
+    /// Throws away up to 4,096 bytes of what the peer sent; whether there were any. After 65,536 bytes in all, after 1 second, and once the
+    /// peer has ended or its reader failed, nothing more is done with the connection.
     fn drain(&mut self, now: Duration) -> bool
         requires { self.old.stage ≡ Lingering }
         ensures same { (self.new.writer ≡ self.old.writer) × (self.new.route ≡ self.old.route) }
@@ -200,8 +200,8 @@ impl<R: Inward + OpenStream, W: Outward + OpenStream> Leaving<R, W> {
         false
     }
 
-    /// Sends what the peer takes of its answer now, or throws away what it sent after that; whether anything went or came. Nothing is waited
-    /// for. The connection isn't due after this if nothing went or came.
+    /// Sends what the peer takes of its answer now, or throws away what it sent after that; whether anything went or came. Nothing is
+    /// waited for. The connection isn't due after this if nothing went or came.
     pub fn step(&mut self, now: Duration) -> bool
         // Its answer and its route stay.
         ensures answer { (self.new.writer.text.items ≡ self.old.writer.text.items) × (self.new.route ≡ self.old.route) }

@@ -34,8 +34,8 @@ impl Losses {
         }
     }
 
-    /// Takes one loss, to be told of. After those that were noted, it takes those for which there was no memory, each with the route Unknown and
-    /// the cause OutOfMemory. None if there is none.
+    /// Takes one loss, to be told of. After those that were noted, it takes those for which there was no memory, each with the route
+    /// Unknown and the cause OutOfMemory. None if there is none.
     pub fn take(&mut self) -> Option<Loss>
         ensures { TellsOf self.old result self.new }
     {

@@ -98,7 +98,8 @@ impl<R: Inward, W: Outward> Slot<R, W> {
     ghost use Rattle.moo_desk.specs.Later.{IsOnlyWoken};
     ghost use Rattle.moo_desk.specs.Rounds.{IsStale};
 
-    /// A connection that came now, of which nothing was read yet. If its reads may wait, it isn't read here: it is to be handed out at once.
+    /// A connection that came now, of which nothing was read yet. If its reads may wait, it isn't read here: it is to be handed out at
+    /// once.
     pub fn new(
         alloc: Global,
         reader: R,
@@ -158,8 +159,8 @@ impl<R: Inward, W: Outward> Slot<R, W> {
         }
     }
 
-    /// Gives up the request for this cause: nothing more of it is read, and it is to be handed out. What came of it isn't judged, unless it is
-    /// whole.
+    /// Gives up the request for this cause: nothing more of it is read, and it is to be handed out. What came of it isn't judged, unless it
+    /// is whole.
     pub fn give_up(&mut self, cause: Cause, now: Duration)
         // The cause holds: a read failed, its peer was silent or slow for too long, another connection needs its place, or memory ran out.
         requires { ∥ MayGiveUp R.reads self.old.reader.reader self.old.since self.old.heard now cause ∥₁ }
@@ -190,7 +191,8 @@ impl<R: Inward, W: Outward> Slot<R, W> {
         self.rests = true;
     }
 
-    /// Whether its request is unfinished, and came over 200 milliseconds ago, so that it may be given up if another connection needs its place.
+    /// Whether its request is unfinished, and came over 200 milliseconds ago, so that it may be given up if another connection needs its
+    /// place.
     pub fn is_stale(&self, now: Duration) -> bool
         ensures old { result ≡ true → IsStale now self.now }
         ensures young { result ≡ false → ¬ (IsStale now self.now) }
@@ -198,8 +200,8 @@ impl<R: Inward, W: Outward> Slot<R, W> {
         !self.rests && now.saturating_sub(self.since) > Duration::from_millis(GRACE)
     }
 
-    /// Why the request was waited for long enough: Silent if no byte came for over 10 seconds, Late if it came over 30 seconds ago. None if it
-    /// wasn't.
+    /// Why the request was waited for long enough: Silent if no byte came for over 10 seconds, Late if it came over 30 seconds ago. None if
+    /// it wasn't.
     fn lateness(&self, now: Duration) -> Option<Cause>
         // It may be given up for this cause.
         ensures some { IfSome result (λ cause. MayGiveUp R.reads self.now.reader.reader self.now.since self.now.heard now cause) }

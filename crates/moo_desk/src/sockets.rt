@@ -61,12 +61,13 @@ pub trait Sockets {
         ensures does { does self.old (splits socket result) self.new }
         ensures pair { IfSome result (λ both. (Self.Reader.peer both.0 ≡ number socket) × (Self.Writer.peer both.1 ≡ number socket)) };
 
-    /// Has a change of this source end a wait, which then tells this mark. An error if the system can't watch it, as if it is registered already.
+    /// Has a change of this source end a wait, which then tells this mark. An error if the system can't watch it, as if it is registered
+    /// already.
     fn register(&mut self, source: RawFd, mark: usize, interest: Interest) -> Result<()>
         ensures { does self.old (registers source mark interest (is_ok result)) self.new };
 
-    /// Has a change of a source that is registered already end a wait, which then tells this mark in place of its earlier one. An error if the
-    /// system can't watch it, as if it isn't registered.
+    /// Has a change of a source that is registered already end a wait, which then tells this mark in place of its earlier one. An error if
+    /// the system can't watch it, as if it isn't registered.
     fn reregister(&mut self, source: RawFd, mark: usize, interest: Interest) -> Result<()>
         ensures { does self.old (reregisters source mark interest (is_ok result)) self.new };
 
@@ -101,8 +102,8 @@ fn is_no_file(error: &Error) -> bool
     }
 }
 
-/// What a gate says if the system accepted no connection, by its error: Nobody if none is there, NoRoom if there is no room for another open
-/// file, else Failed.
+/// What a gate says if the system accepted no connection, by its error: Nobody if none is there, NoRoom if there is no room for another
+/// open file, else Failed.
 fn why_none<R, W>(error: &Error) -> Taken<R, W>
     ensures { SaysWhy error.now result }
 {
@@ -158,8 +159,8 @@ impl<S: Sockets + Drop> SocketGate<S> {
 }
 
 impl<S: Sockets> SocketGate<S> {
-    /// Whether the next connection is to be asked for only after a wait: one was taken since the last wait, and the listener, which this watches
-    /// anew then, ends the wait if another is there.
+    /// Whether the next connection is to be asked for only after a wait: one was taken since the last wait, and the listener, which this
+    /// watches anew then, ends the wait if another is there.
     fn has_to_wait(&mut self) -> bool
         // One was taken, and the listener is watched.
         ensures waits { result ≡ true → (self.old.has_taken ≡ true)

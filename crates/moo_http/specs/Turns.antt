@@ -119,8 +119,8 @@ module _ {A R W : Type 0} (source : Arrivals.Ghosts A R W) (reader : Reading.Gho
   abbrev pub AttendsAll : ℕ → ℕ → A → Place → A → Place → Type 0
   AttendsAll answered failed old from new to = Attended answered failed old from new to × HasNoneLeft source.loses answered new
 
-  -- What comes of a service over one source, by its result: its turns lead from place to place, and its two lines are written, or a front of
-  -- them.
+  -- What comes of a service over one source, by its result: its turns lead from place to place, and its two lines are written, or a front
+  -- of them.
   abbrev pub ServesFrom : Result (Unit {0}) ServiceFault → ℕ → ℕ → A → Place → A → Place → Option (List ℕ) → Option (List ℕ) → Type 0
   ServesFrom result port count old from new to before after =
       SaysByResult (λ answered failed. AttendsAll answered failed old from new to) ((new ≡ old) × (to ≡ from)) result port count before after

@@ -70,7 +70,8 @@ fn ask_batch<S: Alter + Drop>(world: &World<S>, batch: &Batch, whys: &mut Whys) 
     outcome_of_reply(world.ask(batch, whys))
 }
 
-/// What comes of calls that are asked each alone of a World with this number: a reply to each, or Stale if they are meant for another number.
+/// What comes of calls that are asked each alone of a World with this number: a reply to each, or Stale if they are meant for another
+/// number.
 fn ask_each_at<S: Alter + Drop>(
     world: &World<S>,
     each: &Each,
@@ -147,8 +148,8 @@ fn take_batch<S: Alter + Drop>(
     }
 }
 
-/// Does what a request asks: runs or asks a batch, asks calls each alone, answers a question, or refuses it. Why a batch is refused, or each
-/// call that is asked alone, is kept in their order if that is wanted.
+/// Does what a request asks: runs or asks a batch, asks calls each alone, answers a question, or refuses it. Why a batch is refused, or
+/// each call that is asked alone, is kept in their order if that is wanted.
 #[tactic(auto, using(crate::proofs::Going::still_none))]
 pub(crate) fn consult<S: Alter + Drop>(
     alloc: Global,

@@ -117,8 +117,8 @@ fn settle_one<'a, A: Arrivals, C: Clock + Eprint>(
     true
 }
 
-/// Asks a source for all connections whose answers were lost after their turns, once each answer is sent or lost. Each has failed, and the log
-/// is told.
+/// Asks a source for all connections whose answers were lost after their turns, once each answer is sent or lost. Each has failed, and the
+/// log is told.
 fn settle_rest<'a, A: Arrivals, C: Clock + Eprint>(
     arrivals: &mut A,
     log: &mut Log<'a, C>,
@@ -180,10 +180,10 @@ pub fn serve_on<'a, S: Alter + Drop, A: Arrivals, C: Clock + Eprint>(
     count: u32,
 ) -> Served
     ensures count { result.answered + result.failed ≡ count }
-    // The World was led on by what the connections asked that the source handed out, in their order, each of which got its answer or failed,
-    // and by nothing else. So many of them were answered, and so many failed. Just the batches that they asked and that were run wrote to
-    // the tables: each keeps the cells of what stays, and all numbers. At last the source told of no lost answer, unless none counts as
-    // answered.
+    // The World was led on by what the connections asked that the source handed out, in their order, each of which got its answer or
+    // failed, and by nothing else. So many of them were answered, and so many failed. Just the batches that they asked and that were run
+    // wrote to the tables: each keeps the cells of what stays, and all numbers. At last the source told of no lost answer, unless none
+    // counts as answered.
     ensures serves { MovesBy S.Store world.old world.new (λ from to. AttendsAll A.Arrivals A.Reader.Read A.Reader.fails
         A.Writer.Write result.answered result.failed arrivals.old from arrivals.new to) }
     // Unless a batch was accepted, or the store failed in one, it is the very World.

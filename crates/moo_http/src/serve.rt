@@ -39,8 +39,8 @@ pub(crate) struct Inquiry {
     pub(crate) asks_why: bool,
 }
 
-/// Does what a request asks, and writes the answer, which says why it is refused if that is asked too. Write if the writer fails; OutOfMemory if
-/// memory for the answer runs out.
+/// Does what a request asks, and writes the answer, which says why it is refused if that is asked too. Write if the writer fails;
+/// OutOfMemory if memory for the answer runs out.
 fn serve_asked<S: Alter + Drop, W: Write>(
     means: &Means<'_>,
     inquiry: &Inquiry,

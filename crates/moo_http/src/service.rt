@@ -97,7 +97,8 @@ fn say_listening<W: Write>(alloc: Global, output: &mut W, port: u16) -> Result<(
     say(output, line.as_str())
 }
 
-/// Writes the line that tells how many connections were answered and how many failed. Write if the output fails; OutOfMemory if memory runs out.
+/// Writes the line that tells how many connections were answered and how many failed. Write if the output fails; OutOfMemory if memory runs
+/// out.
 fn say_served<W: Write>(alloc: Global, output: &mut W, served: Served) -> Result<(), ServiceFault>
     ensures ok { OnOk result (Appends (W.contents output.old) (W.contents output.new) (served_line served.answered served.failed)) }
     // At a fault a front of it is written.
@@ -121,8 +122,8 @@ pub fn serve_from<S: Alter + Drop, A: Arrivals, C: Clock + Eprint, W: Write>(
     duty: Duty,
     output: &mut W,
 ) -> Result<(), ServiceFault>
-    // The World was led on by what the connections asked that the source handed out, and by nothing else. The two lines tell the port and how
-    // many were answered and failed; at a fault a front of them is written.
+    // The World was led on by what the connections asked that the source handed out, and by nothing else. The two lines tell the port and
+    // how many were answered and failed; at a fault a front of them is written.
     ensures serves { MovesBy S.Store world.old world.new (λ from to.
         ServesFrom A.Arrivals A.Reader.Read A.Reader.fails A.Writer.Write result duty.port duty.count
         arrivals.old from arrivals.new to (W.contents output.old) (W.contents output.new)) }

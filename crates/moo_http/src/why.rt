@@ -13,8 +13,8 @@ use moo_reasons::{Whys, call_why};
 use moo_text::Reply;
 use std::alloc::{AllocError, Global};
 
-/// The sentence that says why a text isn't a call. None if the text is one, or isn't known. AllocError if memory runs out, as in each function
-/// of this file.
+/// The sentence that says why a text isn't a call. None if the text is one, or isn't known. AllocError if memory runs out, as in each
+/// function of this file.
 fn text_why(alloc: Global, text: &Option<String>) -> Result<Option<String>, AllocError> {
     match text {
         Some(text) => Ok(Some(call_why(alloc, text)?)),
@@ -86,8 +86,8 @@ fn bad_texts(asked: &Asked) -> &[Option<String>] {
     }
 }
 
-/// The place, from 1, of the last call that was judged, if `judged` of the calls asked alone were. Texts that aren't calls have places too. None
-/// if what was asked isn't calls alone, or fewer of its texts are calls.
+/// The place, from 1, of the last call that was judged, if `judged` of the calls asked alone were. Texts that aren't calls have places too.
+/// None if what was asked isn't calls alone, or fewer of its texts are calls.
 fn last_place(asked: &Asked, judged: u32) -> Option<u32> {
     let Asked::Each(each) = asked else {
         return None;
@@ -104,8 +104,8 @@ fn last_place(asked: &Asked, judged: u32) -> Option<u32> {
     None
 }
 
-/// The sentence that says which call spent the ticks of the request, in a list: None if none did. A call alone isn't judged if no tick was left
-/// for it, and then it is the one.
+/// The sentence that says which call spent the ticks of the request, in a list: None if none did. A call alone isn't judged if no tick was
+/// left for it, and then it is the one.
 fn spent_why(
     alloc: Global,
     seen: &mut Whys,
@@ -123,8 +123,8 @@ fn spent_why(
     one_of(alloc, seen.spent_why(Some(place))?)
 }
 
-/// The sentences that say why what was asked is refused: of calls that are asked alone one for each, else the first. They say it of a body, of
-/// a batch, of calls alone, and of the call that spent the ticks of the request.
+/// The sentences that say why what was asked is refused: of calls that are asked alone one for each, else the first. They say it of a body,
+/// of a batch, of calls alone, and of the call that spent the ticks of the request.
 fn find_whys(
     alloc: Global,
     seen: &mut Whys,
@@ -142,8 +142,8 @@ fn find_whys(
     }
 }
 
-/// The bytes of the answer to what was asked, which say why it is refused if that was asked too. If memory for the sentences runs out, the answer
-/// says nothing of why. AllocError if memory for the answer runs out.
+/// The bytes of the answer to what was asked, which say why it is refused if that was asked too. If memory for the sentences runs out, the
+/// answer says nothing of why. AllocError if memory for the answer runs out.
 pub(crate) fn answer_with_whys(
     alloc: Global,
     seen: &mut Whys,

@@ -23,12 +23,12 @@ abbrev pub form_asked : Form → Shape → Asked
 form_asked (Batch mode) shape = calls_asked mode shape (calls_from 1 shape.calls)
 form_asked Each shape = asks.Each (record { at = shape.at; batches = map (alone shape.programmer) shape.calls })
 
--- the JSON that the bytes are, or none if they are no text in UTF-8 or no JSON
+-- the JSON that the bytes are, or none if they aren't text in UTF-8, or that text isn't JSON
 abbrev pub IsJson : List ℕ → Option Data → Type 0
 IsJson bytes None = IsUtf8 bytes → read bytes ≡ None
 IsJson bytes (Some d) = IsUtf8 bytes × (read bytes ≡ Some d)
 
--- what a body asks: what the shape of its JSON asks, or a bad request if it is no JSON or has another shape
+-- what a body asks: what the shape of its JSON asks, or a bad request if it isn't JSON or has another shape
 abbrev pub BodyAsks : Form → List ℕ → Asked → Type 0
 BodyAsks form body asked =
     (json : Option Data) × IsJson body json

@@ -51,8 +51,8 @@ method_text Post = codes "POST"
 abbrev pub length_of : List Line → Option ℕ
 length_of lines = option_and_then (λ text. if nat_le (length text) 10 then bounded_of 9999999999 text else None) (length_text lines)
 
--- The body says what is asked, if its length is stated and is at most 1,048,576. Else the request is refused: a line names a coding, no line or
--- more than one states a length, or it is too large.
+-- The body says what is asked, if its length is stated and is at most 1,048,576. Else the request is refused: a line names a coding, no
+-- line or more than one states a length, or it is too large.
 abbrev pub body_plan : Form → List Line → Option ℕ → Plan
 body_plan form lines None = Decided (Refused (if is_coded lines then Coded else NoLength))
 body_plan form lines (Some n) = if nat_lt MAX_BODY n then Decided (Refused TooLarge) else Body form n

@@ -126,8 +126,8 @@ fn read_asked_body(alloc: Global, form: Form, body: &[u8]) -> Result<Asked, Allo
     }
 }
 
-/// What a request asks whose head ends at `start` of the bytes, and decides this plan. Nothing is read if the head decides all; else its body
-/// is. Read if the reader fails; OutOfMemory if memory runs out.
+/// What a request asks whose head ends at `start` of the bytes, and decides this plan. Nothing is read if the head decides all; else its
+/// body is. Read if the reader fails; OutOfMemory if memory runs out.
 pub(crate) fn follow_plan<R: Incoming>(
     alloc: Global,
     reader: &mut R,
@@ -139,7 +139,7 @@ pub(crate) fn follow_plan<R: Incoming>(
     requires short { start ≤ MAX_HEAD }
     // A body has at most 1,048,576 bytes.
     requires bound { IsBounded plan }
-    // What the reader gave is behind the bytes that were there.
+    // What the reader gave follows the bytes that were there.
     ensures grows { OnOk result (Grows (R.remaining reader.old) (R.remaining reader.new) bytes.old.items bytes.new.items) }
     // What is asked is what the plan and the bytes after the head ask, whatever follows them.
     ensures asks { IfOk result (λ asked. Settles (R.remaining reader.new) bytes.new.items

@@ -10,15 +10,15 @@ use crate::incoming::Incoming;
 /// How many bytes are read at once.
 const PIECE: usize = 1024;
 
-/// Reads up to 1,024 bytes, and adds them to the bytes, which stay within the limit. `false` is the end of the input. Read if the reader fails;
-/// OutOfMemory if memory runs out.
+/// Reads up to 1,024 bytes, and adds them to the bytes, which stay within the limit. `false` is the end of the input. Read if the reader
+/// fails; OutOfMemory if memory runs out.
 pub(crate) fn read_more<R: Incoming>(
     reader: &mut R,
     bytes: &mut Vec<u8>,
     limit: usize,
 ) -> Result<bool, ReadFault>
     requires { length bytes.old.items < limit }
-    // What the reader gave is behind the bytes that were there.
+    // What the reader gave follows the bytes that were there.
     ensures grows { OnOk result (Grows (R.remaining reader.old) (R.remaining reader.new) bytes.old.items bytes.new.items) }
     ensures more { IfOk result (λ more. more ≡ true →
         (length bytes.old.items < length bytes.new.items) × (length bytes.new.items ≤ limit)) }
@@ -40,14 +40,14 @@ pub(crate) fn read_more<R: Incoming>(
     Ok(count > 0)
 }
 
-/// Reads on until `limit` bytes are there, and no more. `false` is an input that ends before. Read if the reader fails; OutOfMemory if memory
-/// runs out.
+/// Reads on until `limit` bytes are there, and no more. `false` is an input that ends before. Read if the reader fails; OutOfMemory if
+/// memory runs out.
 pub(crate) fn read_until<R: Incoming>(
     reader: &mut R,
     bytes: &mut Vec<u8>,
     limit: usize,
 ) -> Result<bool, ReadFault>
-    // What the reader gave is behind the bytes that were there.
+    // What the reader gave follows the bytes that were there.
     ensures grows { OnOk result (Grows (R.remaining reader.old) (R.remaining reader.new) bytes.old.items bytes.new.items) }
     // No byte past the limit is read.
     ensures few { OnOk result (length bytes.new.items ≤ max (length bytes.old.items) limit) }

@@ -64,7 +64,8 @@ pub(crate) fn is_coded(bytes: &[u8], lines: &[HeaderSpan]) -> bool
     }
 }
 
-/// The length of the body, as the one line `content-length` states it. None if no line or more than one states it, or if a line names a coding.
+/// The length of the body, as the one line `content-length` states it. None if no line or more than one states it, or if a line names a
+/// coding.
 pub(crate) fn stated_length<'b>(bytes: &'b [u8], lines: &[HeaderSpan]) -> Option<&'b [u8]>
     requires within { All (IsHeaderWithin (length bytes.now)) lines.now }
     ensures { option_map (λ text. text.now) result ≡ length_text (map (header_bytes bytes.entry.now) lines.now) }

@@ -11,7 +11,7 @@ fn digit_value(byte: u8) -> Option<u64>
     byte.is_ascii_digit().then(|| u64::from(byte - b'0'))
 }
 
-/// The number with one more digit behind it. One that is over the limit already stays, so that it can't overflow.
+/// The number with one more digit at its end. One that is over the limit already stays, so that it can't overflow.
 fn with_digit(number: u64, digit: u64, most: u64) -> u64
     requires limit { most < 2 ^ 59 }
     requires digit { digit ≤ 9 }

@@ -122,7 +122,8 @@ fn plan_body(form: Form, bytes: &[u8], lines: &[HeaderSpan]) -> Plan
     }
 }
 
-/// The plan of a GET about this topic: the question that its path asks, or a refusal, since the path has no number where the topic needs one.
+/// The plan of a GET about this topic: the question that its path asks, or a refusal, since the path has no number where the topic needs
+/// one.
 fn plan_question(topic: Topic, question: Option<Question>) -> Plan
     ensures value { result ≡ question_plan topic question }
     ensures bound { IsBounded result }

@@ -29,8 +29,8 @@ pub struct Routes {
     ghost known: { ∥ router ≡ service_rows ∥₁ },
 }
 
-/// Adds the route of this text. AllocError if memory runs out: the router has no other error for the texts of the service, of which each is a
-/// route, and no two clash.
+/// Adds the route of this text. AllocError if memory runs out: the router has no other error for the texts of the service, of which each is
+/// a route, and no two clash.
 fn add_route(
     router: &mut Router<Endpoint>,
     text: &str,

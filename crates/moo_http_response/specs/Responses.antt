@@ -34,8 +34,8 @@ json status allow body = record { status = status; allow = allow; kind = codes "
 abbrev pub plain : ℕ → Data → Response
 plain status body = json status None body
 
--- The response to a request that is refused before the World is asked. It says why a head is refused if the request asks, and why a body is if
--- that is told.
+-- The response to a request that is refused before the World is asked. It says why a head is refused if the request asks, and why a body is
+-- if that is told.
 abbrev pub told_refusal : Bool → Option (List ℕ) → Refusal → Response
 told_refusal asks_why why BadRequest = plain 400 (error_body why (codes "bad request"))
 told_refusal asks_why why Coded = plain 400 (error_body (head_told asks_why Coded) (codes "bad request"))

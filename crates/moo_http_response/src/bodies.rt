@@ -123,8 +123,8 @@ fn literals(alloc: Global, answers: &[Literal]) -> Result<Vec<Value>, AllocError
     Ok(list)
 }
 
-/// The body that tells of an accepted batch: each answer as the text of its literal under `answers`, and the number of accepted batches under
-/// `seq`.
+/// The body that tells of an accepted batch: each answer as the text of its literal under `answers`, and the number of accepted batches
+/// under `seq`.
 pub(crate) fn accepted_text(
     alloc: Global,
     answers: &[Literal],

@@ -87,8 +87,8 @@ fn replies_in(
     Ok(list)
 }
 
-/// The body that tells what each call is answered alone under `each`, and the number of accepted batches under `seq`. AllocError if memory runs
-/// out.
+/// The body that tells what each call is answered alone under `each`, and the number of accepted batches under `seq`. AllocError if memory
+/// runs out.
 pub(crate) fn each_text(
     alloc: Global,
     replies: &Replies,

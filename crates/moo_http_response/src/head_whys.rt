@@ -41,7 +41,8 @@ fn method_why(endpoint: Endpoint) -> &'static str
     }
 }
 
-/// The sentence that tells why a head is refused. None if the body is refused and not the head, or if there is no sentence for that refusal.
+/// The sentence that tells why a head is refused. None if the body is refused and not the head, or if there is no sentence for that
+/// refusal.
 fn head_why(refusal: Refusal) -> Option<&'static str>
     ensures { option_map (λ why. why.now) result ≡ head_why refusal }
 {

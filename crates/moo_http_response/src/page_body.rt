@@ -15,8 +15,8 @@ use moo_value::ObjNo;
 use serde_json::{Map, Value, put};
 use std::alloc::{AllocError, Global};
 
-/// Puts the number and the name of an object, and the objects that its fields name, each under its key. AllocError if memory runs out, as in each
-/// function of this file.
+/// Puts the number and the name of an object, and the objects that its fields name, each under its key. AllocError if memory runs out, as
+/// in each function of this file.
 fn put_links(
     fields: &mut Map<String, Value>,
     alloc: Global,
@@ -82,8 +82,8 @@ fn put_next(
     }
 }
 
-/// The body that tells a page: its objects under `objects`, the first that is left out under `next`, and the number of accepted batches under
-/// `seq`.
+/// The body that tells a page: its objects under `objects`, the first that is left out under `next`, and the number of accepted batches
+/// under `seq`.
 pub(crate) fn page_text(alloc: Global, page: &Page, seq: u64) -> Result<String, AllocError>
     ensures { IfOk result (λ text. string_bytes text ≡ compact_text (page_body page.now seq)) }
 {

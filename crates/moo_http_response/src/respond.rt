@@ -204,8 +204,8 @@ fn reply_to(alloc: Global, reply: &Reply, why: Option<&str>) -> Result<Response,
     }
 }
 
-/// The response to a request, by what came of it. `whys` are the sentences that say why, if they are told: of calls that are asked each alone
-/// one for each, else the first.
+/// The response to a request, by what came of it. `whys` are the sentences that say why, if they are told: of calls that are asked each
+/// alone one for each, else the first.
 pub(crate) fn respond(
     alloc: Global,
     outcome: RequestOutcome,

@@ -161,7 +161,8 @@ ComesOf (manner.Rehearse options) m end text old new r =
     LeavesJust m end × ((last : Place) × AnswersBy RehearsesAt options.stop (Works (rows_alone m.rows)) last text old new r)
 ComesOf manner.Ask m end text old new r = LeavesJust m end × AnswersBy AsksAt false (Works m) (Works m) text old new r
 
--- The answering of a text in a manner stops with this failure, or its file can't be opened. Only a text that is run leads to another moment.
+-- The answering of a text in a manner stops with this failure, or its file can't be opened. Only a text that is run leads to another
+-- moment.
 abbrev pub StopsAs : Manner → Moment → Place → Failure → Option (List ℕ) → Option (List ℕ) → Option (List ℕ) → Type 0
 StopsAs (manner.Apply options) m end failure text old new = StopsText RunsAt options.stop m end failure text old new
 StopsAs (manner.Rehearse options) m end failure text old new =
@@ -230,8 +231,8 @@ StopsTask (Serve service) m end failure Clean run =
 abbrev pub LeavesNothingNew : Database → Database → Type 0
 LeavesNothingNew old new = HasCleanDisk new → (trees : Trees) → new.may_leave trees → old.may_leave trees
 
--- What was done to a World at a moment leaves it at a place, to which accepted batches lead. If the disk returns what was written, it did so
--- before.
+-- What was done to a World at a moment leaves it at a place, to which accepted batches lead. If the disk returns what was written, it did
+-- so before.
 pub record EndsTask {S : Type 0} (g : Ghosts S) (was world : World S) (m : Moment) (End : Place → Type 0) : Type 0 where
   pub end : Place
   pub leads : LeadsTo m end

@@ -46,8 +46,8 @@ fn put_text<W: Write>(line: &str, output: &mut W) -> Result<u8, Failure>
     }
 }
 
-/// Tests the tables of a World, and writes its number and how many objects it has. A failure if they show other rows or no world, if the store
-/// or the writer fails, or if memory runs out.
+/// Tests the tables of a World, and writes its number and how many objects it has. A failure if they show other rows or no world, if the
+/// store or the writer fails, or if memory runs out.
 #[tactic(auto, using(moo_store::proofs::Causes::cause_of_store))]
 fn check<W: Write, B: Alter + Drop>(
     alloc: Global,
@@ -70,8 +70,8 @@ fn check<W: Write, B: Alter + Drop>(
     }
 }
 
-/// Writes the line of a load, with the number of the world and how many objects it has, and answers the status 0. A failure if the writer fails,
-/// or memory runs out.
+/// Writes the line of a load, with the number of the world and how many objects it has, and answers the status 0. A failure if the writer
+/// fails, or memory runs out.
 fn put_loaded<W: Write>(
     alloc: Global,
     seq: u64,
@@ -89,7 +89,8 @@ fn put_loaded<W: Write>(
     }
 }
 
-/// Writes the line of a load of this World, and answers the status 0. A failure if the World had failed, the writer fails, or memory runs out.
+/// Writes the line of a load of this World, and answers the status 0. A failure if the World had failed, the writer fails, or memory runs
+/// out.
 fn show_loaded<W: Write, B: Alter + Drop>(
     alloc: Global,
     world: &World<B>,
@@ -107,8 +108,8 @@ fn show_loaded<W: Write, B: Alter + Drop>(
     put_loaded(alloc, seq, objects, output)
 }
 
-/// Serves so many connections on a port, and answers the status 0. A failure if the port can't be listened on, the output fails, or memory runs
-/// out.
+/// Serves so many connections on a port, and answers the status 0. A failure if the port can't be listened on, the output fails, or memory
+/// runs out.
 fn serve<'s, S: Streams, B: Alter + Drop>(
     session: &mut Session<'s, S>,
     world: &mut World<B>,

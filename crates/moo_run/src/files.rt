@@ -62,7 +62,8 @@ fn refusal(fault: StoreFault) -> Failure
     Failure::from(fault)
 }
 
-/// The failure of a run whose file couldn't be opened, by that fault. A missing file is told apart, for what is said of it on standard error.
+/// The failure of a run whose file couldn't be opened, by that fault. A missing file is told apart, for what is said of it on standard
+/// error.
 fn refusal_of<T: Start, H: WorldFiles<T>>(host: &H, file: &str, fault: StoreFault) -> Failure
     // The file may be looked at.
     requires may { H.may_open host.now file.now }
@@ -195,7 +196,8 @@ pub(crate) fn run_task<'s, S: Streams>(
     // The file of the task may be looked at and opened, and the file of batches or the dump that it names may be read.
     requires may { S.Host.may_open session.old.host task.file.now }
     requires read { (path : List ℕ) → ReadsFile task path → S.Host.may_read session.old.host path }
-    // Whatever the file holds, the task runs from the world that it begins with or that was found, or none is made or found and a line tells why.
+    // Whatever the file holds, the task runs from the world that it begins with or that was found, or none is made or found and a line
+    // tells why.
     ensures runs { RunsTask task.entry (⟦<Session<'s, S> as HasRun>⟧.run session.old session.new) }
     // By what the file held: a task on a file runs over it, and one on `:memory:` over none.
     ensures ends { EndsWith task.entry (image_at S.File.Start) result (⟦<Session<'s, S> as HasRun>⟧.run session.old session.new) }

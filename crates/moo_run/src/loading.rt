@@ -60,8 +60,8 @@ fn explain_dump<C: Eprint>(
     }
 }
 
-/// Reads the world of a text that is a dump. If the text gives none, standard error says why. NotADump if a line isn't one of a dump, Damaged if
-/// the lines show no world, OutOfMemory if memory runs out.
+/// Reads the world of a text that is a dump. If the text gives none, standard error says why. NotADump if a line isn't one of a dump,
+/// Damaged if the lines show no world, OutOfMemory if memory runs out.
 fn read_or_explain<C: Eprint>(
     alloc: Global,
     console: &C,
@@ -85,8 +85,8 @@ fn read_or_explain<C: Eprint>(
     read
 }
 
-/// The rows of the world that a text is the dump of. If it isn't one, standard error says why. A failure too if the text can't be read, is over
-/// 1,073,741,824 bytes, or memory runs out.
+/// The rows of the world that a text is the dump of. If it isn't one, standard error says why. A failure too if the text can't be read, is
+/// over 1,073,741,824 bytes, or memory runs out.
 fn rows_of<C: Eprint, R: Read + Drop>(
     alloc: Global,
     console: &C,
@@ -107,8 +107,8 @@ fn rows_of<C: Eprint, R: Read + Drop>(
     Ok(rows)
 }
 
-/// The rows of the world that a file is the dump of, or the input for `-`. If it isn't a dump, standard error says why. NoBatches if the file can't
-/// be opened; else the failures of `rows_of`.
+/// The rows of the world that a file is the dump of, or the input for `-`. If it isn't a dump, standard error says why. NoBatches if the
+/// file can't be opened; else the failures of `rows_of`.
 pub(crate) fn read_world<C: Eprint, H: BatchFiles, R: Read + Drop>(
     alloc: Global,
     console: &C,

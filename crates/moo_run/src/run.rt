@@ -26,8 +26,8 @@ fn mistake_status(kind: ErrorKind) -> u8
     }
 }
 
-/// Writes what the reader of the words says of their mistake, and takes its status: 0 for help and the version, 2 for a mistake, 4 if memory ran
-/// out.
+/// Writes what the reader of the words says of their mistake, and takes its status: 0 for help and the version, 2 for a mistake, 4 if
+/// memory ran out.
 fn put_mistake<'s, S: Streams>(session: &mut Session<'s, S>, error: &clap::Error)
     // If the words have this mistake, a text of its reader is written with the status of the mistake, or a line says that memory ran out.
     ensures usage { (words : List (List ℕ)) → HasKind (mistakes words) error.now →

@@ -59,8 +59,8 @@ impl<'s, S: Streams> Session<'s, S> {
         self.status = report(self.alloc, self.console, failure, &mut self.output);
     }
 
-    /// Writes the line of a file that can't be opened, and takes its status. If the host knows why it can't, the host says so on standard error
-    /// in place of the store.
+    /// Writes the line of a file that can't be opened, and takes its status. If the host knows why it can't, the host says so on standard
+    /// error in place of the store.
     pub(crate) fn fail_to_open(&mut self, file: &str, failure: Failure)
         ensures reports { Reports failure (S.Output.contents self.old.output) (S.Output.contents self.new.output) self.new.status }
         ensures host { self.new.host ≡ self.old.host }

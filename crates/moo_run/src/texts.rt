@@ -104,9 +104,9 @@ fn answer_text<C: Eprint, R: Read + Drop, W: Write, B: Alter + Drop>(
     }
 }
 
-/// Runs, rehearses or asks the batches of the file of this path, or of the input for `-`, and answers the status: 1 if an answer is `fault` or
-/// `closed`, or if the text was stopped, else 0. Standard error says why a batch isn't accepted, and what to do if the store failed in one that
-/// was run. NoBatches if the file can't be opened; Read, Write, TooLong or OutOfMemory if the text stops at that fault.
+/// Runs, rehearses or asks the batches of the file of this path, or of the input for `-`, and answers the status: 1 if an answer is `fault`
+/// or `closed`, or if the text was stopped, else 0. Standard error says why a batch isn't accepted, and what to do if the store failed in
+/// one that was run. NoBatches if the file can't be opened; Read, Write, TooLong or OutOfMemory if the text stops at that fault.
 pub(crate) fn answer_batches<'s, S: Streams, B: Alter + Drop>(
     session: &mut Session<'s, S>,
     world: &mut World<B>,

@@ -101,8 +101,8 @@ pub fn explain_lost<C: Eprint>(console: &C, tally: Tally) {
     }
 }
 
-/// Writes a line that was made, and answers this status; or, if there was no memory to make it, writes that and answers its status, 4. If the
-/// writer fails the status is 1.
+/// Writes a line that was made, and answers this status; or, if there was no memory to make it, writes that and answers its status, 4. If
+/// the writer fails the status is 1.
 fn put_made_line<W: Write>(line: Result<String, AllocError>, status: u8, output: &mut W) -> u8
     ensures { MatchResult line
         (λ text. WritesLine text.bytes.items status (W.contents output.old) (W.contents output.new) result)
@@ -152,8 +152,8 @@ pub fn put_failure<W: Write>(alloc: Global, failure: Failure, output: &mut W) ->
     }
 }
 
-/// Writes the line of a failure, and answers its status, or 1 if the writer fails. If the store, the batches, the dump or the port failed, the
-/// cause goes to standard error.
+/// Writes the line of a failure, and answers its status, or 1 if the writer fails. If the store, the batches, the dump or the port failed,
+/// the cause goes to standard error.
 pub fn report<C: Eprint, W: Write>(
     alloc: Global,
     console: &C,

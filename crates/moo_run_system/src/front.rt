@@ -16,8 +16,8 @@ pub(crate) struct FileFront {
 }
 
 impl FileFront {
-    /// What the first 56 bytes of a database file say: the size of a page in bytes 16 and 17, where 1 is 65,536, and the greatest root page in
-    /// bytes 52 to 55, which is 0 without auto_vacuum.
+    /// What the first 56 bytes of a database file say: the size of a page in bytes 16 and 17, where 1 is 65,536, and the greatest root page
+    /// in bytes 52 to 55, which is 0 without auto_vacuum.
     fn new(bytes: &[u8; 56]) -> FileFront {
         let size = u32::from(bytes[16]) * 256 + u32::from(bytes[17]);
         FileFront {
@@ -27,8 +27,8 @@ impl FileFront {
     }
 }
 
-/// Reads what the first bytes of the file of a path say. None if it can't be read, or isn't a database. Nothing is read of what isn't a file, as
-/// a pipe.
+/// Reads what the first bytes of the file of a path say. None if it can't be read, or isn't a database. Nothing is read of what isn't a
+/// file, as a pipe.
 pub(crate) fn read_front(rt: &HostRuntime, path: &str) -> Option<FileFront> {
     if !fs::metadata(rt, path).is_ok_and(|data| data.is_file()) {
         return None;
