@@ -22,6 +22,7 @@ fn text_arg<'a>(alloc: Global, id: &'a str, about: &'a str) -> Arg<'a>
 /// A flag: it is there or it isn't.
 fn flag_arg<'a>(alloc: Global, name: &'a str, about: &'a str) -> Arg<'a>
     ensures rule { rule_of result ≡ record (new_rule name.entry.now) { long = Some name.entry.now; action = Some SetTrue } }
+    // It is an argument of its command alone, and not of the commands below that.
     ensures local { result.global ≡ false }
 {
     Arg::new(alloc, name)
@@ -33,6 +34,7 @@ fn flag_arg<'a>(alloc: Global, name: &'a str, about: &'a str) -> Arg<'a>
 /// The argument PORT of `serve`: a number from 1 to 65,535, which must be there.
 fn port_arg<'a>(alloc: Global) -> Arg<'a>
     ensures rule { rule_of result ≡ record (number_rule (codes "PORT") 1 65535) { required = true } }
+    // It is an argument of its command alone, and not of the commands below that.
     ensures local { result.global ≡ false }
 {
     Arg::new(alloc, "PORT")
@@ -44,6 +46,7 @@ fn port_arg<'a>(alloc: Global) -> Arg<'a>
 /// The argument COUNT of `serve`: a number from 0 to 1,000,000, which may be left out.
 fn count_arg<'a>(alloc: Global) -> Arg<'a>
     ensures rule { rule_of result ≡ number_rule (codes "COUNT") 0 1000000 }
+    // It is an argument of its command alone, and not of the commands below that.
     ensures local { result.global ≡ false }
 {
     Arg::new(alloc, "COUNT")
@@ -54,6 +57,7 @@ fn count_arg<'a>(alloc: Global) -> Arg<'a>
 /// The option `--ticks` of `serve`: a number from 1,000 to 4,294,967,295, which may be left out.
 fn ticks_arg<'a>(alloc: Global) -> Arg<'a>
     ensures rule { rule_of result ≡ record (number_rule (codes "ticks") 1000 4294967295) { long = Some (codes "ticks") } }
+    // It is an argument of its command alone, and not of the commands below that.
     ensures local { result.global ≡ false }
 {
     Arg::new(alloc, "ticks")
@@ -79,6 +83,7 @@ fn file_command<'a>(
     more: &'a str,
 ) -> Result<Command<'a>, AllocError>
     ensures shape { IfOk result (λ command. app_of command ≡ file_app name.entry.now) }
+    // No argument of it is one of the commands below it too.
     ensures local { IfOk result (λ command. (fields_of command).has_globals ≡ false) }
 {
     new_command(alloc, name, about, more).arg(text_arg(alloc, "FILE", help::FILE))
@@ -94,6 +99,7 @@ fn text_command<'a>(
     text: &'a str,
 ) -> Result<Command<'a>, AllocError>
     ensures shape { IfOk result (λ command. app_of command ≡ with_rule (file_app name.entry.now) (text_rule id.entry.now)) }
+    // No argument of it is one of the commands below it too.
     ensures local { IfOk result (λ command. (fields_of command).has_globals ≡ false) }
 {
     file_command(alloc, name, about, more)?.arg(text_arg(alloc, id, text))
@@ -107,6 +113,7 @@ fn batches_command<'a>(
     more: &'a str,
 ) -> Result<Command<'a>, AllocError>
     ensures shape { IfOk result (λ command. app_of command ≡ batches_app name.entry.now) }
+    // No argument of it is one of the commands below it too.
     ensures local { IfOk result (λ command. (fields_of command).has_globals ≡ false) }
 {
     text_command(alloc, name, about, more, "BATCHES", help::BATCHES)
@@ -120,6 +127,7 @@ fn running_command<'a>(
     more: &'a str,
 ) -> Result<Command<'a>, AllocError>
     ensures shape { IfOk result (λ command. app_of command ≡ running_app name.entry.now) }
+    // No argument of it is one of the commands below it too.
     ensures local { IfOk result (λ command. (fields_of command).has_globals ≡ false) }
 {
     batches_command(alloc, name, about, more)?.arg(flag_arg(alloc, "stop", help::STOP))
@@ -128,6 +136,7 @@ fn running_command<'a>(
 /// The command `load`, of a file and a dump.
 fn load_command<'a>(alloc: Global) -> Result<Command<'a>, AllocError>
     ensures shape { IfOk result (λ command. app_of command ≡ with_rule (file_app (codes "load")) (text_rule (codes "DUMP"))) }
+    // No argument of it is one of the commands below it too.
     ensures local { IfOk result (λ command. (fields_of command).has_globals ≡ false) }
 {
     text_command(
@@ -143,6 +152,7 @@ fn load_command<'a>(alloc: Global) -> Result<Command<'a>, AllocError>
 /// The command `serve`, of a file, a port, how many connections are served, and how many ticks a request has.
 fn serve_command<'a>(alloc: Global) -> Result<Command<'a>, AllocError>
     ensures shape { IfOk result (λ command. app_of command ≡ serve_app) }
+    // No argument of it is one of the commands below it too.
     ensures local { IfOk result (λ command. (fields_of command).has_globals ≡ false) }
 {
     file_command(alloc, "serve", help::SERVE, help::SERVE_MORE)?

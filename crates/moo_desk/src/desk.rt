@@ -99,9 +99,8 @@ impl<'a, G: Gate + Drop, C: Clock> Desk<'a, G, C> {
     /// Asks the gate for the next connection, and holds it. Nobody if none is there, or the system has no room for one; Lost if the gate
     /// failed, or memory ran out.
     fn take_one(&mut self, now: Duration) -> Took
-        // Each connection that the gate gave is held, but for one at most that was lost as it came.
+        // Each connection that the gate gave is held, but for one at most that was lost as it came. None was unless the result is Lost.
         ensures one { Admits 1 (book_of self.old.held, G.gave self.old.gate) (book_of self.new.held, G.gave self.new.gate) }
-        // None was lost if Lost isn't the result.
         ensures none { result ≢ Took.Lost →
             Admits 0 (book_of self.old.held, G.gave self.old.gate) (book_of self.new.held, G.gave self.new.gate) }
         // The gate was asked, and what it gave is what became of it: held as the last connection, lost, or nobody.
@@ -130,9 +129,8 @@ impl<'a, G: Gate + Drop, C: Clock> Desk<'a, G, C> {
     /// held, one of them is ended for it, and none is taken if none can be. While a whole request waits to be judged none is taken, so that
     /// whoever came first is judged first.
     fn take_next(&mut self, left: usize, now: Duration) -> Took
-        // Each connection that the gate gave is held, but for one at most that was lost as it came.
+        // Each connection that the gate gave is held, but for one at most that was lost as it came. None was unless the result is Lost.
         ensures one { Admits 1 (book_of self.old.held, G.gave self.old.gate) (book_of self.new.held, G.gave self.new.gate) }
-        // None was lost if Lost isn't the result.
         ensures none { result ≢ Took.Lost →
             Admits 0 (book_of self.old.held, G.gave self.old.gate) (book_of self.new.held, G.gave self.new.gate) }
         // If the next may be taken, the gate is asked for it, and room is made for one that came.
@@ -210,12 +208,10 @@ impl<'a, G: Gate + Drop, C: Clock> Desk<'a, G, C> {
 
     /// Waits for `most` at most until the gate tells of a change. The next round looks at the connections whose marks it told.
     fn wait(&mut self, most: Duration)
-        // No connection comes, and nothing happens to those that are held but deeds.
         ensures all { Goes self.old.held self.new.held }
         ensures gate { G.gave self.new.gate ≡ G.gave self.old.gate }
         // The gate was waited for, for this time at most, and its marks are kept.
         ensures waits { HasWaited G.waits (λ it. it ≡ most) self.new.told.items self.new.gate }
-        // Connections that are handed out are counted anew.
         ensures turns { self.new.turns ≡ 0 }
     {
         watch_all(&mut self.gate, &mut self.held.slots);
@@ -240,13 +236,11 @@ impl<'a, G: Gate + Drop, C: Clock> Desk<'a, G, C> {
     /// Asks the gate what may have changed, without waiting, if it was asked over 1 millisecond ago or 8 connections were handed out since.
     /// So nobody waits for long though some requests are always whole.
     fn ask_if_due(&mut self, now: Duration)
-        // No connection comes, and nothing happens to those that are held but deeds.
         ensures all { Goes self.old.held self.new.held }
         ensures gate { G.gave self.new.gate ≡ G.gave self.old.gate }
-        // If it is due, the gate is asked by a wait of no time.
+        // If it is due, the gate is asked by a wait of no time; else nothing changes.
         ensures asks { IsDueToAsk now self.old.asked self.old.turns →
             HasWaited G.waits (λ most. as_nanos most ≡ 0) self.new.told.items self.new.gate }
-        // Else nothing changes.
         ensures stays { ¬ (IsDueToAsk now self.old.asked self.old.turns) → self.new ≡ self.old }
     {
         let is_due = now.saturating_sub(self.asked) > Duration::from_millis(PERIOD);
@@ -258,14 +252,12 @@ impl<'a, G: Gate + Drop, C: Clock> Desk<'a, G, C> {
     /// Has the next round look at each connection, though nothing was told of it, and ask the gate for one, if the last time is a period
     /// ago.
     fn sweep(&mut self, now: Duration)
-        // No connection comes, and nothing happens to those that are held but deeds.
         ensures all { Goes self.old.held self.new.held }
         ensures gate { G.gave self.new.gate ≡ G.gave self.old.gate }
-        // After a period each request that is gathered is due, and one may be at the gate.
+        // After a period each request that is gathered is due, and one may be at the gate. Before that nothing changes.
         ensures sweeps { period_of self.old.held.leaving.items ≤ as_nanos now - as_nanos self.old.swept →
             (self.new.swept ≡ now) × (self.new.has_news ≡ true)
             × Each (IsWokenFor (λ _. ⊤)) self.old.held.slots.items self.new.held.slots.items }
-        // Before that nothing changes.
         ensures stays { as_nanos now - as_nanos self.old.swept < period_of self.old.held.leaving.items → self.new ≡ self.old }
     {
         if now.saturating_sub(self.swept) >= self.period() {
@@ -287,9 +279,8 @@ impl<'a, G: Gate + Drop, C: Clock> Desk<'a, G, C> {
     /// One round, without waiting: takes a connection from the gate, gathers requests, gives up an answer if too much of answers is held,
     /// and sends answers. It tells what came of taking a connection, and whether anything was gathered, sent or let go.
     fn go_round(&mut self, routes: &Routes, left: u32, now: Duration) -> (Took, bool)
-        // Each connection that the gate gave is held, but for one at most that was lost as it came.
+        // Each connection that the gate gave is held, but for one at most that was lost as it came. None was unless the result is Lost.
         ensures one { Admits 1 (book_of self.old.held, G.gave self.old.gate) (book_of self.new.held, G.gave self.new.gate) }
-        // None was lost if Lost isn't the result.
         ensures none { result.0 ≢ Took.Lost →
             Admits 0 (book_of self.old.held, G.gave self.old.gate) (book_of self.new.held, G.gave self.new.gate) }
     {

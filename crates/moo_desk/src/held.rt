@@ -113,8 +113,10 @@ impl<R: Inward + OpenStream + Drop, W: Outward + OpenStream + Drop> Held<R, W> {
 
     /// Gives up the answer at this place, since another connection needs it.
     fn cut_answer(&mut self, place: usize)
+        // No connection comes, and nothing happens to those that are held but deeds.
         ensures all { Goes self.old self.new }
         ensures slots { self.new.slots ≡ self.old.slots }
+        // The answer at this place is given up as crowded out, and the others stay.
         ensures cuts { place < length self.old.leaving.items → CutsAt place self.old.leaving.items self.new.leaving.items }
     {
         if place < self.leaving.len() {
@@ -142,6 +144,7 @@ impl<R: Inward + OpenStream + Drop, W: Outward + OpenStream + Drop> Held<R, W> {
     /// Steps each connection whose request was judged and that is due, and lets go of those that are over; whether anything went, came or
     /// was let go.
     pub fn send_all(&mut self, now: Duration) -> bool
+        // No connection comes, and nothing happens to those that are held but deeds.
         ensures { Goes self.old self.new }
     {
         let mut changed = step_all(&mut self.leaving, now);
@@ -156,6 +159,7 @@ impl<R: Inward + OpenStream + Drop, W: Outward + OpenStream + Drop> Held<R, W> {
 
     /// Lets go of the first connection that is over, and notes the loss of its answer if it was lost; whether one was over.
     fn end_one(&mut self) -> bool
+        // No connection comes, and nothing happens to those that are held but deeds.
         ensures { Goes self.old self.new }
     {
         let Some(place) = self.leaving.iter().position(|it| it.is_over()) else {
@@ -184,6 +188,7 @@ impl<R: Inward + OpenStream + Drop, W: Outward + OpenStream + Drop> Held<R, W> {
     /// Gives up each connection whose request was judged, and holds none of them after that. What its peer hasn't got of its answer is
     /// lost, for the cause Late.
     pub fn give_up_all(&mut self)
+        // No connection comes, and nothing happens to those that are held but deeds.
         ensures all { Goes self.old self.new }
         ensures none { self.new.leaving.items ≡ [] }
     {
@@ -253,7 +258,9 @@ impl<R: Inward + OpenStream + Drop, W: Outward + OpenStream + Drop> Held<R, W> {
 
     /// Has the next round look at each connection that has this mark.
     pub fn wake_at(&mut self, mark: usize)
+        // No connection comes, and nothing happens to those that are held but deeds.
         ensures all { Goes self.old self.new }
+        // Each request with this mark is due, and those that were due stay so.
         ensures wakes { Each (IsWokenFor (λ it. it ≡ mark)) self.old.slots.items self.new.slots.items }
     {
         wake_slots(&mut self.slots, mark);
@@ -262,7 +269,9 @@ impl<R: Inward + OpenStream + Drop, W: Outward + OpenStream + Drop> Held<R, W> {
 
     /// Has the next round look at each connection.
     pub fn wake_all(&mut self)
+        // No connection comes, and nothing happens to those that are held but deeds.
         ensures all { Goes self.old self.new }
+        // Each request is due.
         ensures wakes { Each (IsWokenFor (λ _. ⊤)) self.old.slots.items self.new.slots.items }
     {
         wake_all_slots(&mut self.slots);

@@ -29,7 +29,7 @@ const LINGER: u64 = 1;
 /// How many bytes of a peer are thrown away after its answer.
 const DRAIN: usize = 65_536;
 
-/// How many of them are taken at once.
+/// How many bytes of a peer are thrown away at once.
 const PIECE: usize = 4096;
 
 /// What is done with a connection after its request was judged.
@@ -114,6 +114,7 @@ impl<R: Inward + OpenStream, W: Outward + OpenStream> Leaving<R, W> {
     fn close(&mut self, now: Duration)
         // All of its answer was sent.
         requires { self.old.writer.sent ≡ length self.old.writer.text.items }
+        // Nothing more of its answer is sent.
         ensures same { (self.new.writer.text ≡ self.old.writer.text) × (self.new.writer.sent ≡ self.old.writer.sent)
             × (self.new.writer.writer ≡ self.old.writer.writer) × (self.new.route ≡ self.old.route) }
         ensures gentle { self.old.closing ≡ Closing.Gently → self.new.stage ≡ Lingering }

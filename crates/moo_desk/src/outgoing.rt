@@ -51,7 +51,8 @@ impl<W> Outgoing<W> {
 }
 
 impl<W: Outward> Outgoing<W> {
-    /// Hands the writer the next bytes of the text, up to 262,144. Stuck if the writer takes none now; Broken if it failed, or has ended.
+    /// Hands the writer the next bytes of the text, up to 262,144. Stuck if the writer takes none now; Broken if it failed, or takes
+    /// no more.
     pub fn send(&mut self) -> Sending
         ensures text { self.new.text ≡ self.old.text }
         ensures peer { W.peer self.new.writer ≡ W.peer self.old.writer }

@@ -57,6 +57,7 @@ pub fn step_all<R: Inward + OpenStream, W: Outward + OpenStream>(
     leaving: &mut [Leaving<R, W>],
     now: Duration,
 ) -> bool
+    // Each connection is as it was, but for what was sent of its answer and what that led to.
     ensures { Each (IsLater W.Write W.peer) leaving.old leaving.new }
 {
     let mut changed = false;
@@ -84,6 +85,7 @@ pub fn all_held_bytes<R: Inward + OpenStream, W: Outward + OpenStream>(
 
 /// Has the next wait end when bytes come of a request that isn't whole.
 pub fn watch_all<G: Gate>(gate: &mut G, slots: &mut [Slot<G::Reader, G::Writer>])
+    // Nothing is read of a request, or given up.
     ensures all { Each IsGathered slots.old slots.new }
     ensures gate { G.gave gate.new ≡ G.gave gate.old }
 {
@@ -95,6 +97,7 @@ pub fn watch_all<G: Gate>(gate: &mut G, slots: &mut [Slot<G::Reader, G::Writer>]
 /// Has the next round look at each request that has this mark.
 pub fn wake_slots<R: Inward, W: Outward>(slots: &mut [Slot<R, W>], mark: usize)
     ensures gathers { Each IsGathered slots.old slots.new }
+    // Each request with this mark is due, and those that were due stay so.
     ensures wakes { Each (IsWokenFor (λ it. it ≡ mark)) slots.old slots.new }
 {
     for slot in slots {
@@ -114,6 +117,7 @@ pub fn wake_leaving<R, W: Outward>(leaving: &mut [Leaving<R, W>], mark: usize)
 /// Has the next round look at each request.
 pub fn wake_all_slots<R: Inward, W: Outward>(slots: &mut [Slot<R, W>])
     ensures gathers { Each IsGathered slots.old slots.new }
+    // Each request is due.
     ensures wakes { Each (IsWokenFor (λ _. ⊤)) slots.old slots.new }
 {
     for slot in slots {

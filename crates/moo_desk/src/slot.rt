@@ -27,7 +27,7 @@ const PATIENCE: u64 = 30;
 pub struct Slot<R: Inward, W: Outward> {
     pub reader: Gathered<R>,
     pub writer: Outgoing<W>,
-    /// Neither of them waits.
+    /// Neither the reader nor the writer ever waits.
     pub is_limited: bool,
     /// When it came, when bytes of it came last, and when it was last seen whether that is too long ago.
     pub since: Duration,
@@ -37,7 +37,7 @@ pub struct Slot<R: Inward, W: Outward> {
     pub cause: Cause,
     /// How many bytes the request has, once that is known.
     pub total: Option<usize>,
-    /// It is to be handed out.
+    /// It is to be handed out: its request is whole, or nothing more of it comes, or its waits aren't limited.
     pub rests: bool,
     /// By which a wait tells that bytes may have come.
     pub mark: usize,

@@ -39,12 +39,15 @@ pub trait Sockets {
     /// What was asked, what came of it, and the sockets before and after that.
     ghost does: { Self → SocketCall Self.Socket Self.Reader Self.Writer → Self → Type 0 };
 
+    /// The system's number of the listener.
     fn listener_number(&self) -> RawFd
         ensures { result ≡ listener self.now };
 
+    /// The system's number of the socket that a reader is of.
     fn reader_number(&self, reader: &Self::Reader) -> RawFd
         ensures { result ≡ Self.Reader.peer reader.now };
 
+    /// The system's number of the socket that a writer is of.
     fn writer_number(&self, writer: &Self::Writer) -> RawFd
         ensures { result ≡ Self.Writer.peer writer.now };
 

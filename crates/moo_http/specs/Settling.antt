@@ -3,8 +3,8 @@ use Rattle.std.specs.Prelude.{◌≡◌, ◌+◌, ◌⊎◌, ℕ, zero, suc, Opt
 use Rattle.moo_arrivals.specs.declared.cause.Loss.{Loss}
 
 module _ {A : Type 0} (loses : A → Option Loss → A → Type 0) where
-  -- A source was asked for one, from so many that were answered and so many that failed: one that it tells of was answered, and has failed.
-  -- Or it wasn't asked.
+  -- A source was asked once for a connection whose answer was lost, where so many counted as answered and so many as failed. One that it
+  -- tells of counts as failed, and no more as answered. Or the source wasn't asked.
   abbrev pub TellsLoss : A → ℕ → ℕ → A → ℕ → ℕ → Type 0
   TellsLoss from answered failed to left lost =
       ((to ≡ from) × (left ≡ answered) × (lost ≡ failed))

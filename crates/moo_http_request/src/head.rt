@@ -51,8 +51,8 @@ pub(crate) fn parse_head(bytes: &[u8]) -> Option<HeadRead>
     }
 }
 
-/// Reads the head of a request, of at most 8,192 bytes and 32 lines, and no piece once it is whole. Read if the reader fails; OutOfMemory
-/// if memory runs out.
+/// Reads the head of a request, of at most 8,192 bytes and 32 lines, in pieces of up to 1,024 bytes. It reads no more pieces once the head
+/// is whole. Read if the reader fails; OutOfMemory if memory runs out.
 pub(crate) fn read_head<R: Incoming>(
     reader: &mut R,
     bytes: &mut Vec<u8>,

@@ -52,6 +52,7 @@ fn is_own_host(value: &[u8]) -> bool
 
 /// Whether a line names no machine but this one: it has another name than host, or its value names this machine.
 fn is_own_line(bytes: &[u8], line: HeaderSpan) -> bool
+    // The place of the line is inside the bytes.
     requires within { IsHeaderWithin (length bytes.now) line }
     ensures { result ≡ is_own_line (header_bytes bytes.now line) }
 {
@@ -60,6 +61,7 @@ fn is_own_line(bytes: &[u8], line: HeaderSpan) -> bool
 
 /// Whether no line of a head names another machine than this one.
 pub(crate) fn is_for_us(bytes: &[u8], lines: &[HeaderSpan]) -> bool
+    // The places of the lines are inside the bytes.
     requires within { All (IsHeaderWithin (length bytes.now)) lines.now }
     ensures { result ≡ list_all is_own_line (map (header_bytes bytes.now) lines.now) }
 {

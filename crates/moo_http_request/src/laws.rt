@@ -3,7 +3,7 @@
 ghost use Rattle.std.specs.Prelude.{◌≡◌, ℕ, List, [], Some, None, codes, map};
 ghost use Rattle.moo_http_request.specs.Request.{Receives};
 ghost use Rattle.moo_http_request.specs.Routes.{endpoint_of};
-ghost use Rattle.moo_http_request.specs.declared.request.Received.{Received as AReceived};
+ghost use Rattle.moo_http_request.specs.declared.request.Received.{Received};
 ghost use Rattle.moo_http_request.specs.declared.routes.Endpoint.TheVariants.{Batch, Each, About};
 ghost use Rattle.moo_http_request.specs.declared.asked.Mode.TheVariants.{Run, Ask};
 ghost use Rattle.moo_http_request.specs.declared.question.Topic.TheVariants.{Seq, Object};
@@ -11,7 +11,7 @@ ghost use Rattle.moo_http_request.specs.Questions.{all_topics, sample_path};
 
 /// The bytes of a connection ask one thing: they can't be received in two ways.
 pub fn received_once()
-    ensures { (input : List ℕ) (r q : AReceived) → Receives input r → Receives input q → r ≡ q }
+    ensures { (input : List ℕ) (r q : Received) → Receives input r → Receives input q → r ≡ q }
 {}
 
 /// The route that a path names, computed for a path of each route, and for paths that have none.

@@ -13,6 +13,7 @@ fn digit_value(byte: u8) -> Option<u64>
 
 /// The number with one more digit at its end. One that is over the limit already stays, so that it can't overflow.
 fn with_digit(number: u64, digit: u64, most: u64) -> u64
+    // So ten times the limit can't overflow.
     requires limit { most < 2 ^ 59 }
     requires digit { digit ≤ 9 }
     ensures low { number ≤ most → result ≡ 10 * number + digit }
@@ -27,6 +28,7 @@ fn with_digit(number: u64, digit: u64, most: u64) -> u64
 
 /// The number that one or more digits write. None if a byte isn't a digit, there is none, or the number is over `most`.
 pub(crate) fn number_at_most(text: &[u8], most: u64) -> Option<u64>
+    // So ten times the limit can't overflow.
     requires { most < 2 ^ 59 }
     ensures value { result ≡ bounded_of most text.now }
     ensures bound { IfSome result (λ number. number ≤ most) }

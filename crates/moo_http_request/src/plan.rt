@@ -81,6 +81,7 @@ fn is_method(method: &[u8], wanted: Method) -> bool
 
 /// The stated length of the body; None if it isn't stated once, in 1 to 10 digits, or a coding is beside it.
 fn body_length(bytes: &[u8], lines: &[HeaderSpan]) -> Option<u64>
+    // The places of the lines are inside the bytes.
     requires within { All (IsHeaderWithin (length bytes.now)) lines.now }
     ensures { result ≡ length_of (map (header_bytes bytes.now) lines.now) }
 {
@@ -94,6 +95,7 @@ fn body_length(bytes: &[u8], lines: &[HeaderSpan]) -> Option<u64>
 
 /// Why a request whose body has no stated length is refused: a line names a coding, or else none states a length.
 fn length_refusal(bytes: &[u8], lines: &[HeaderSpan]) -> Refusal
+    // The places of the lines are inside the bytes.
     requires within { All (IsHeaderWithin (length bytes.now)) lines.now }
     ensures { result ≡ (if is_coded (map (header_bytes bytes.now) lines.now) then Refusal.Coded else Refusal.NoLength) }
 {
@@ -106,6 +108,7 @@ fn length_refusal(bytes: &[u8], lines: &[HeaderSpan]) -> Refusal
 
 /// The plan of a request with a body, which is read by its stated length. It is refused if none is stated, or one over 1,048,576 bytes.
 fn plan_body(form: Form, bytes: &[u8], lines: &[HeaderSpan]) -> Plan
+    // The places of the lines are inside the bytes.
     requires within { All (IsHeaderWithin (length bytes.now)) lines.now }
     ensures value { let head = map (header_bytes bytes.now) lines.now in result ≡ body_plan form head (length_of head) }
     ensures bound { IsBounded result }
@@ -136,6 +139,7 @@ fn plan_question(topic: Topic, question: Option<Question>) -> Plan
 
 /// The plan of a request with the method of its route: the route reads a body, or its path asks a question.
 fn plan_endpoint(endpoint: Endpoint, path: &[u8], bytes: &[u8], lines: &[HeaderSpan]) -> Plan
+    // The places of the lines are inside the bytes.
     requires within { All (IsHeaderWithin (length bytes.now)) lines.now }
     ensures value { result ≡ endpoint_plan endpoint path.now (map (header_bytes bytes.now) lines.now) }
     ensures bound { IsBounded result }
@@ -167,6 +171,7 @@ fn plan_allowed(
     bytes: &[u8],
     lines: &[HeaderSpan],
 ) -> Plan
+    // The places of the lines are inside the bytes.
     requires within { All (IsHeaderWithin (length bytes.now)) lines.now }
     ensures value { result ≡ allowed_plan endpoint method.now path.now (map (header_bytes bytes.now) lines.now) }
     ensures bound { IsBounded result }
@@ -201,6 +206,7 @@ fn plan_route(
     bytes: &[u8],
     lines: &[HeaderSpan],
 ) -> Plan
+    // The places of the lines are inside the bytes.
     requires within { All (IsHeaderWithin (length bytes.now)) lines.now }
     ensures value { result ≡ routed_plan endpoint method.now path.now (map (header_bytes bytes.now) lines.now) }
     ensures bound { IsBounded result }
@@ -218,6 +224,7 @@ fn plan_route(
 
 /// The plan of a request, by the path of its target. One that a page of a browser sent is refused, whatever it asks.
 fn plan_path(routes: &Routes, method: &[u8], path: &str, bytes: &[u8], lines: &[HeaderSpan]) -> Plan
+    // The places of the lines are inside the bytes.
     requires within { All (IsHeaderWithin (length bytes.now)) lines.now }
     ensures value { let head = map (header_bytes bytes.now) lines.now in
         result ≡ (if is_from_page head then Plan.Decided (Asked.Refused Refusal.Forbidden)
@@ -238,9 +245,11 @@ pub(crate) fn make_plan(
     bytes: &[u8],
     lines: &[HeaderSpan],
 ) -> Plan
+    // The places of the lines are inside the bytes.
     requires within { All (IsHeaderWithin (length bytes.now)) lines.now }
     requires text { IsUtf8 target.now }
     ensures value { result ≡ plan_of method.now target.now (map (header_bytes bytes.now) lines.now) }
+    // A body that is to be read has at most 1,048,576 bytes.
     ensures bound { IsBounded result }
 {
     match str::from_utf8(target) {

@@ -32,6 +32,7 @@ pub enum Received {
 
 /// Whether the method of a head is HEAD.
 fn is_head(bytes: &[u8], head: &HeadSpans) -> bool
+    // The places of the parts of the head are inside the bytes.
     requires within { IsRequestWithin bytes.now head.now.headers head.now.spans }
     ensures { (parts : RequestHead) → IsRequestAt bytes.now head.now.headers head.now.spans parts → result ≡ is_head_of parts }
 {
@@ -40,6 +41,7 @@ fn is_head(bytes: &[u8], head: &HeadSpans) -> bool
 
 /// Whether it is to be said why, if a request with this head is refused.
 fn asks_why(bytes: &[u8], head: &HeadSpans) -> bool
+    // The places of the parts of the head are inside the bytes.
     requires within { IsRequestWithin bytes.now head.now.headers head.now.spans }
     requires found { IsRequestOf bytes.now head.now.headers head.now.spans }
     ensures { (parts : RequestHead) → IsRequestAt bytes.now head.now.headers head.now.spans parts → result ≡ asks_why_of parts }

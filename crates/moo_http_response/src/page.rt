@@ -1,7 +1,7 @@
 //! A page of the list of all objects.
 
 ghost use Rattle.std.specs.Prelude.{◌≡◌, ◌<◌, ◌≤◌, ◌⊎◌, Some, None, IfOk, MatchOption};
-ghost use Rattle.moo_http_response.specs.Pages.{before_page as before_page_of, page_of};
+ghost use Rattle.moo_http_response.specs.Pages.{before_page, page_of};
 ghost use Rattle.moo_rows.specs.Ordered.{IsNext};
 ghost use Rattle.moo_world.specs.Rows.{world_of};
 ghost use Rattle.moo_world.specs.World.{IsTree};
@@ -23,7 +23,7 @@ pub struct Page {
 
 /// The number before the first one that a page may have: one less than the number that is asked for, and -1 if that is below 0.
 fn before_page(from: ObjNo) -> ObjNo
-    ensures { result ≡ before_page_of from }
+    ensures { result ≡ before_page from }
 {
     ObjNo(from.0.max(0) - 1)
 }

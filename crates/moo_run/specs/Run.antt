@@ -294,7 +294,7 @@ IsOpening (Store error) = ⊤
 IsOpening OutOfMemory = ⊤
 IsOpening failure = ⊥
 
--- why a file isn't opened, whatever it holds: it is missing, damaged or of a later version, or one of these two
+-- why a file isn't opened, whatever it holds: it is missing, damaged or of a later version; or the store failed, or memory ran out
 abbrev pub MayRefuse : Failure → Type 0
 MayRefuse NoFile = ⊤
 MayRefuse (Damaged kind key) = ⊤

@@ -75,6 +75,7 @@ impl<'s, S: Streams> Session<'s, S> {
 
     /// Takes the status of a task that is done; or writes the line of its failure, and takes the status of that.
     pub(crate) fn finish(&mut self, done: Result<u8, Failure>)
+        // A task that is done writes no line here.
         ensures reports { MatchResult done
             (λ status. (self.new.status ≡ status) × (S.Output.contents self.new.output ≡ S.Output.contents self.old.output))
             (λ failure. Reports failure (S.Output.contents self.old.output) (S.Output.contents self.new.output) self.new.status) }
