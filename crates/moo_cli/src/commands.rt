@@ -19,7 +19,7 @@ fn text_arg<'a>(alloc: Global, id: &'a str, about: &'a str) -> Arg<'a>
     Arg::new(alloc, id).required(true).help(about)
 }
 
-/// A flag: it is there or it isn't.
+/// An argument that is a flag, written `--` and its name: it is given or it isn't.
 fn flag_arg<'a>(alloc: Global, name: &'a str, about: &'a str) -> Arg<'a>
     ensures rule { rule_of result ≡ record (new_rule name.entry.now) { long = Some name.entry.now; action = Some SetTrue } }
     // It is an argument of its command alone, and not of the commands below that.

@@ -38,7 +38,8 @@ pub trait Inward: Incoming {
     /// The reader before a read, what the read gave, and the reader after it.
     ghost reads: { Self → Gave → Self → Type 0 };
 
-    /// Reads as `Read::read` does.
+    /// Reads bytes into the buffer, as `Read::read` does, and answers how many; 0 is the end. An error if the read failed, and of the kind
+    /// WouldBlock if no bytes are there now.
     fn take_in(&mut self, buf: &mut [u8]) -> Result<usize>
         ensures bound { ReadsAtMost result buf.new }
         // The bytes are taken from what the reader still had.
@@ -52,7 +53,8 @@ pub trait Outward: Write {
     /// The number of its connection.
     ghost peer: { Self → ℤ };
 
-    /// Writes as `Write::write` does.
+    /// Writes bytes of the buffer, as `Write::write` does, and answers how many. An error if the write failed, and of the kind WouldBlock
+    /// if none are taken now.
     fn put_out(&mut self, buf: &[u8]) -> Result<usize>
         ensures bound { WritesAtMost result buf.now }
         ensures bytes { WriteAppends (Self.contents self.old) (Self.contents self.new) result buf.now }

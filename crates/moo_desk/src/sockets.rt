@@ -51,7 +51,7 @@ pub trait Sockets {
     fn writer_number(&self, writer: &Self::Writer) -> RawFd
         ensures { result ≡ Self.Writer.peer writer.now };
 
-    /// Accepts the next connection, if one is there.
+    /// Accepts the next connection. An error of the kind WouldBlock if none is there, and another if one can't be accepted.
     fn accept(&mut self) -> Result<Self::Socket>
         ensures { does self.old (accepts result) self.new };
 

@@ -26,6 +26,7 @@ use std::io::Write;
 pub struct Means<'r> {
     pub alloc: Global,
     pub routes: &'r Routes,
+    /// How many ticks each request has.
     pub ticks: u32,
 }
 

@@ -38,7 +38,7 @@ impl Batches {
         self.items.as_slice()
     }
 
-    /// Each text that isn't a call, at its place. It may be unknown.
+    /// Each text that isn't a call, at its place, and None at the places of the others. The list is empty if memory for it was refused.
     pub fn bad_texts(&self) -> &[Option<String>] {
         self.bad_texts.as_slice()
     }

@@ -84,7 +84,7 @@ pub(crate) fn status_of(told: &Told) -> StatusCode
     }
 }
 
-/// The kind of the body that tells it: a dump is plain text, and all else is JSON.
+/// The kind of the body of the response to a question, by what it is told: a dump is plain text, and all else is JSON.
 pub(crate) fn kind_of(told: &Told) -> &'static str
     ensures { result.now ≡ (told_response told.now).kind }
 {
@@ -94,7 +94,7 @@ pub(crate) fn kind_of(told: &Told) -> &'static str
     }
 }
 
-/// The bytes of the body that tells it. AllocError if memory runs out.
+/// The bytes of the body of the response to a question, by what it is told. AllocError if memory runs out.
 pub(crate) fn told_bytes(alloc: Global, told: Told) -> Result<Vec<u8>, AllocError>
     ensures { IfOk result (λ bytes. bytes.items ≡ (told_response told).body) }
 {

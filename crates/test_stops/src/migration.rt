@@ -43,7 +43,7 @@ struct Migration<'a> {
     dump: &'a [u8],
 }
 
-/// How many stops left what.
+/// What the stops left, and how many left it.
 #[derive(Clone, Copy, Debug, Drop)]
 struct Found {
     /// The tables of the first version, and the world.

@@ -104,6 +104,7 @@ enum Found {
 /// What one round came to.
 #[derive(Clone, Copy, Drop)]
 struct Round {
+    /// It ended without a stop.
     is_done: bool,
     found: Found,
 }
@@ -176,7 +177,7 @@ fn count(number: &mut u32) {
 }
 
 impl Counts {
-    /// Before the first round.
+    /// The counts before the first round.
     pub(crate) fn new() -> Counts {
         Counts {
             old: 0,
