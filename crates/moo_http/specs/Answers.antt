@@ -50,6 +50,7 @@ TakesMemory (Each each) = ⊤
 TakesMemory (Question question) = TellingTakesMemory question
 TakesMemory asked = ⊥
 
--- So it comes; or memory for what is handed out is refused, and nothing changes.
+-- What may come of what is asked of a World at this place, and where that leads: what holds there; or memory for what is handed out is
+-- refused, and nothing changes.
 abbrev pub MayAnswer : Place → Asked → RequestOutcome → Place → Type 0
 MayAnswer from asked o to = Comes from asked o to ⊎ (TakesMemory asked × (o ≡ outcome.NoMemory) × (to ≡ from))

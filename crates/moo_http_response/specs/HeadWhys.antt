@@ -7,7 +7,7 @@ use Rattle.moo_http_request.specs.declared.question.Topic.TheVariants.{Seq, Obje
 use Rattle.moo_http_request.specs.declared.routes.Endpoint.{Endpoint}
 use Rattle.moo_http_request.specs.declared.routes.Endpoint.TheVariants.{Batch, Each, About}
 
--- the method of a route
+-- the sentence that tells the method of a route
 abbrev pub method_why : Endpoint → List ℕ
 method_why (Batch Run) = codes "/batch is asked by POST"
 method_why (Batch Ask) = codes "/ask is asked by POST"
@@ -27,6 +27,6 @@ head_why (NoNumber Objects) = Some (codes "/objects wants a number: /objects/0")
 head_why (NotAllowed endpoint) = Some (method_why endpoint)
 head_why other = None
 
--- it is told if that is asked
+-- why the head is refused, if the request asks why
 abbrev pub head_told : Bool → Refusal → Option (List ℕ)
 head_told asks_why refusal = if asks_why then head_why refusal else None
