@@ -12,6 +12,7 @@ use Rattle.moo_world.specs.Outcomes.{Outcome, Done, Full, fails}
 use Rattle.moo_calls_shared.specs.declared.fault.Fault.{Fault}
 use Rattle.moo_calls_shared.specs.declared.fault.Fault.TheVariants.{Moo, Held as of_held, Full as NoneLeft, OutOfMemory}
 
+-- the world of the rows that are held: objects, properties and verbs, without petitions and sequence numbers
 abbrev pub world_in : Held → World
 world_in held = world_of held.maps
 

@@ -25,7 +25,7 @@ fn takes<R: Rows>(alloc: Global, rows: &R, list: &[ObjNo], thing: ObjNo) -> bool
 }
 
 /// The accept list that counts for the destination: that of the nearest object that holds one, from the destination up its
-/// ancestors. An empty one counts too. None if none of them holds one.
+/// ancestors. An empty list counts too. `None` if neither the destination nor an ancestor holds a list.
 fn list_that_counts<R: Rows>(rows: &R, to: ObjNo) -> Option<&ObjList>
     requires { IsTree (world_in (R.held rows.now)) }
     ensures { let w = world_in (R.held rows.now) in option_map (λ list. list.now) result ≡ accept_along w (chain w to) }
@@ -40,8 +40,8 @@ fn list_that_counts<R: Rows>(rows: &R, to: ObjNo) -> Option<&ObjList>
     None
 }
 
-/// Whether the destination takes the thing in: `#-1` takes everything, and an object what the accept list that counts for it
-/// has, or has an ancestor of. Without a list it takes nothing.
+/// Whether the destination takes the thing in. `#-1` takes everything in. An object takes in each thing that is on the accept list that
+/// counts for it, or that has an ancestor on the list. Without a list it takes nothing in.
 ///
 /// A stored list in place of the verb `accept` of the LambdaMOO Programmer's Manual, 'Object Movement'.
 pub fn accepts<R: Rows>(alloc: Global, rows: &R, to: ObjNo, thing: ObjNo) -> bool
