@@ -55,7 +55,7 @@ ReadsFirst f old new item = ReadsOn old new (λ before behind. TakesFirst f befo
 abbrev pub ReadsNext : Side → Side → Next → Type 0
 ReadsNext old new item = ReadsOn old new (λ before behind. TakesNext before behind item)
 
--- these items are read
+-- these items are read, one after another
 abbrev pub ReadsItems : Side → Side → List Next → Type 0
 ReadsItems old new done = ReadsOn old new (λ before behind. items before ≡ done ++ items behind)
 
@@ -70,21 +70,25 @@ pub record StopsBehind (left : Option (List ℕ)) (room : ℕ) (new : Side) (don
   pub count : Explains room (length given) fault
   pub front : (rest : List ℕ) → (new.ended ≡ true → rest ≡ []) → (more : List Next) × (items (given ++ rest) ≡ done ++ more)
 
--- if the reader tells its bytes, these are all of them, or they are in front
+-- if the reader tells its bytes, these are all of them
 abbrev pub GivesAll : Option (List ℕ) → List ℕ → Type 0
 GivesAll left given = IfSome left (λ text. given ≡ text)
 
+-- if the reader tells its bytes, these come first
 abbrev pub GivesFront : Option (List ℕ) → List ℕ → Type 0
 GivesFront left given = IfSome left (λ text. (rest : List ℕ) × (text ≡ given ++ rest))
 
--- ---- the same of what reads lines, before and after
+-- ---- of what reads the lines of a text, before and after
 
+-- a line is read, and none at the end
 abbrev pub GivesLine : {R : Type 0} → (R → Option (List ℕ)) → (old new : LineReader R) → Option (Vec ℕ) → Type 0
 GivesLine remaining old new line = ReadsLine (lines_side remaining old) (lines_side remaining new) (option_map (λ l. l.items) line)
 
+-- f's first item is read
 abbrev pub GivesFirst : {R : Type 0} → (List (List ℕ) → List Next) → (R → Option (List ℕ)) → (old new : LineReader R) → Next → Type 0
 GivesFirst f remaining old new item = ReadsFirst f (lines_side remaining old) (lines_side remaining new) item
 
+-- the reader gave some bytes, and there reading stopped with a fault: Long only if there was no room for the last byte, and never Write
 abbrev pub LinesBreakOff : {R : Type 0} → (R → Option (List ℕ)) → (old new : LineReader R) → TextFault → Type 0
 LinesBreakOff remaining old new fault = BreaksOff (lines_side remaining old) (lines_side remaining new) fault
 
