@@ -54,8 +54,8 @@ fn petition_call<R: Rows>(
 }
 
 /// Makes one call for the programmer, on the world or on petitions. E_PERM if the programmer isn't an object; then E_ARGS and E_TYPE; then
-/// the errors of the call. At an error, and if a number is wanted and none is left (Full), the rows are as they were. Out of memory they may
-/// be half changed, as they may after a `grant` that isn't done, and the caller drops them.
+/// the errors of the call. At an error, and if a number is wanted and none is left (Full), the rows are as they were. Out of memory they
+/// may be half changed, as they may after a `grant` that isn't done, and the caller drops them.
 #[tactic(auto, unfolding(moo_world::specs::Requests::batch_call))]
 pub fn step<R: Rows>(
     rows: &mut R,

@@ -13,7 +13,7 @@ ghost use Rattle.moo_world.specs.Answers.{zero};
 ghost use Rattle.moo_world.specs.Outcomes.{Outcome, Done, fails};
 ghost use Rattle.moo_world.specs.Changes.{property_added};
 ghost use Rattle.moo_world.specs.World.{World, is_object, is_property_name};
-ghost use Rattle.moo_props.specs.Names.{defines as defines_property, name_of};
+ghost use Rattle.moo_props.specs.Names.{defines, name_of};
 ghost use Rattle.moo_calls_shared.specs.Outcomes.{world_in, Answers, Does};
 ghost use Rattle.moo_calls_properties.specs.Checks.{taking_property_info};
 ghost use Rattle.moo_calls_shared.specs.Shown.{info_shown};
@@ -59,7 +59,7 @@ pub(crate) fn own_property<R: Rows>(rows: &R, x: ObjNo, name: &MooStr) -> Option
     // There is one if and only if x itself defines a property of the name.
     ensures exact { is_some result ≡ defines_name (world_in (R.held rows.now)) x name.now }
     // x is the object that defines it.
-    ensures own { IfSome result (λ id. defines_property (R.held rows.now).maps x id ≡ true) }
+    ensures own { IfSome result (λ id. defines (R.held rows.now).maps x id ≡ true) }
     // It has the name, but for the case of letters.
     ensures named { IfSome result (λ id. name_of (R.held rows.now).maps id ≡ folded name.now) }
 {
