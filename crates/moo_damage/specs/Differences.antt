@@ -1,4 +1,4 @@
--- The first row in which two lots of rows differ.
+-- The first row in which two sets of rows differ.
 use Rattle.std.specs.Prelude.{◌≡◌, ◌≢◌, Bool, true, false, pos, negsuc, Option, None, Some, ⊤}
 use Rattle.std.specs.declared.cmp.Ordering.{Ordering}
 use Rattle.std.specs.declared.cmp.Ordering.TheVariants.{Less}
@@ -22,7 +22,7 @@ AgreeAt a b (Verb n (negsuc i)) = ⊤
 AgreeAt a b (Petition (pos id)) = get a.petitions (record { 0 = id }) ≡ get b.petitions (record { 0 = id })
 AgreeAt a b (Petition (negsuc i)) = ⊤
 
--- they differ at the key, and at each below it they agree
+-- the rows differ at the key, and agree at each key below it
 abbrev pub IsFirstDifference : Maps → Maps → Key → Type 0
 IsFirstDifference a b key = ¬ (AgreeAt a b key) × ((other : Key) → IsBelow other key → AgreeAt a b other)
 
