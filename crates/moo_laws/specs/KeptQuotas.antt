@@ -15,7 +15,7 @@ use Rattle.moo_world.specs.World.{World, Slot, is_object, row_passes, owner_of, 
 
 -- ---- quotas that wizards keep
 
--- it is a wizard, or was an object and is gone
+-- the number is that of a wizard, or of an object that is gone
 abbrev pub IsWizardOrGone : World → ObjNo → Type 0
 IsWizardOrGone world who = (who.0 ≤ℤ world.top) × (is_object world who ≡ true → is_wizard world who ≡ true)
 
@@ -34,11 +34,11 @@ pub record HasKeptQuota (world : World) (owner : ObjNo) (quota : ℤ) : Type 0 w
 abbrev pub makes : CallName → Bool
 makes name = elim name [ Create ↦ true | _ ↦ false ]
 
--- the call that recycles one
+-- the call that recycles an object
 abbrev pub ends : CallName → Bool
 ends name = elim name [ Recycle ↦ true | _ ↦ false ]
 
--- how many of these calls are of a kind
+-- how many of some calls are of a kind
 abbrev pub of_kind : (CallName → Bool) → List Call → ℕ
 of_kind kind [] = 0
 of_kind kind (call ∷ calls) = cond (kind call.name) 1 0 + of_kind kind calls
