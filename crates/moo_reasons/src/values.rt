@@ -1,11 +1,11 @@
-//! Why bytes aren't a value.
+//! Saying why bytes aren't a value.
 
-use crate::shown::{LINE_ENDS, Said};
+use crate::said::{LINE_ENDS, Said};
 use moo_text::{LineFault, next_word, values_before};
 use moo_value::{LiteralFault, MAX_NESTING, after_mark, skip_blanks};
 use std::alloc::AllocError;
 
-/// That the bytes leave a text open at their end, or the list that they begin. What is between quotes doesn't count for the list.
+/// What is said of bytes that leave a text open at their end, or the list that they begin; `None` for others. What is between quotes doesn't count for the list.
 fn unclosed_reason(bytes: &[u8]) -> Option<&'static [u8]> {
     let mut depth: usize = 0;
     let mut is_list = bytes.starts_with(b"{");
@@ -32,7 +32,7 @@ fn unclosed_reason(bytes: &[u8]) -> Option<&'static [u8]> {
     }
 }
 
-/// Says that a comma or the closing mark is missing before these bytes.
+/// Says that a comma or the closing mark is missing before some bytes. The only error is out of memory, here and in the functions below.
 pub(crate) fn put_missing(said: &mut Said, mark: u8, rest: &[u8]) -> Result<(), AllocError> {
     said.put(b"a comma or `")?;
     said.put(&[mark])?;
