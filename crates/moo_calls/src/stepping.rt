@@ -25,6 +25,7 @@ fn named_call<R: Rows>(
     args: &[Value],
 ) -> Result<Value, Fault>
     requires good { IsGood (R.held rows.old).maps }
+    // Each argument nests at most 32 deep, and its numbers and texts are within their limits.
     requires fit { list_all fits args.now ≡ true }
     ensures { Does (named_call (world_in (R.held rows.old)) programmer name args.now) (R.held rows.old) (R.held rows.new) result }
 {

@@ -163,6 +163,7 @@ pub fn add_property<R: Rows>(
     info: Info<'_>,
 ) -> Result<Value, Fault>
     requires good { IsGood (R.held rows.old).maps }
+    // The value nests at most 32 deep, and its numbers and texts are within their limits.
     requires fit { fits value.now ≡ true }
     ensures { Does (add_property (world_in (R.held rows.old)) programmer x name.now value.now (info_shown info.entry))
         (R.held rows.old) (R.held rows.new) result }

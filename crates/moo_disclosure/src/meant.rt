@@ -26,6 +26,7 @@ fn add_names<R: Rows>(
     names: &mut Vec<MooStr>,
 ) -> Result<(), AllocError>
     requires good { IsGood (R.held rows.now).maps }
+    // There are at most 200 names yet.
     requires room { length names.old.items ≤ 200 }
     ensures { IfOk result (λ _. names.new.items
         ≡ take 200 (names.old.items ++ property_names_of (world_of (R.held rows.now).maps) x)) }
@@ -48,6 +49,7 @@ fn add_listed<R: Rows>(
     names: &mut Vec<MooStr>,
 ) -> Result<(), AllocError>
     requires good { IsGood (R.held rows.now).maps }
+    // There are at most 200 names yet.
     requires room { length names.old.items ≤ 200 }
     ensures { IfOk result (λ _. names.new.items
         ≡ take 200 (names.old.items ++ names_listed (world_of (R.held rows.now).maps) programmer x)) }

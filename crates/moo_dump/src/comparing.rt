@@ -79,6 +79,7 @@ fn after_objects<R: Rows>(
     start: usize,
 ) -> Result<usize, CompareFault>
     requires good { IsGood (R.held rows.now).maps }
+    // The outline is of these rows.
     requires outline { IsOutline (R.held rows.now).maps outline.now }
     // The text has the place `start`, and the place at which it goes on.
     requires start { start ≤ length text.now }
@@ -130,6 +131,7 @@ fn after_petitions<R: Rows>(
 pub fn compare<R: Rows>(alloc: Global, rows: &R, text: &[u8]) -> Result<(), CompareFault>
     requires { IsGood (R.held rows.now).maps }
     ensures ok { OnOk result (dump (state_of (R.held rows.now).maps) ≡ text.now) }
+    // A fault names the first difference, unless memory ran out.
     ensures err { IfErr result (TellsDifference (dump (state_of (R.held rows.now).maps)) text.now) }
 {
     let outline = outline_of(alloc, rows)?;

@@ -40,8 +40,10 @@ fn put_objects<R: Rows, W: Write>(
     output: &mut W,
 ) -> Result<(), RowsDumpFault>
     requires good { IsGood (R.held rows.now).maps }
+    // The outline is of these rows.
     requires outline { IsOutline (R.held rows.now).maps outline.now }
     ensures ok { OnOk result (Appends (W.contents output.old) (W.contents output.new) (objects_text (R.held rows.now).maps)) }
+    // At a fault the first bytes of the lines are written, some number of them.
     ensures err { OnErr result (AppendsFront (W.contents output.old) (W.contents output.new) (objects_text (R.held rows.now).maps)) }
 {
     for (x, _) in each_object(rows) {
@@ -59,6 +61,7 @@ fn put_petitions<R: Rows, W: Write>(
     output: &mut W,
 ) -> Result<(), RowsDumpFault>
     ensures ok { OnOk result (Appends (W.contents output.old) (W.contents output.new) (petitions_text (R.held rows.now).maps)) }
+    // At a fault the first bytes of the lines are written, some number of them.
     ensures err { OnErr result (AppendsFront (W.contents output.old) (W.contents output.new) (petitions_text (R.held rows.now).maps)) }
 {
     for (id, row) in each_petition(rows) {

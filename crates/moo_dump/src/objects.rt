@@ -80,6 +80,7 @@ fn put_slots<R: Rows>(
     out: &mut Vec<u8>,
 ) -> Result<(), AllocError>
     requires tree { IsTree (world_of (R.held rows.now).maps) }
+    // The outline is of these rows.
     requires outline { IsOutline (R.held rows.now).maps outline.now }
     // The lines are those of the slots of all properties that an object of its chain defines.
     ensures { OnOk result (out.new.items
@@ -119,6 +120,7 @@ pub(crate) fn object_text<R: Rows>(
     x: ObjNo,
 ) -> Result<Vec<u8>, AllocError>
     requires good { IsGood (R.held rows.now).maps }
+    // The outline is of these rows.
     requires outline { IsOutline (R.held rows.now).maps outline.now }
     ensures { IfOk result (λ text. text.items ≡ object_lines (world_of (R.held rows.now).maps) x) }
 {

@@ -37,6 +37,7 @@ fn way_up<R: Rows>(
     x: ObjNo,
 ) -> Result<(Vec<ObjNo>, ObjNo), AllocError>
     requires tree { IsTree (world_of (R.held rows.now).maps) }
+    // The definitions are those of these rows.
     requires listed { ListsDefinitions (R.held rows.now).maps definitions.now }
     // Each entry that there is leads up.
     requires up { SkipUp (R.held rows.now).maps skips.now }
@@ -78,7 +79,9 @@ pub(crate) fn all_skips<R: Rows>(
     definitions: &Definitions,
 ) -> Result<Skips, AllocError>
     requires tree { IsTree (world_of (R.held rows.now).maps) }
+    // The definitions are those of these rows.
     requires listed { ListsDefinitions (R.held rows.now).maps definitions.now }
+    // Each entry leads up the chain of its object, past objects that define nothing.
     ensures { IfOk result (SkipUp (R.held rows.now).maps) }
 {
     let mut skips = BTreeMap::new(alloc);

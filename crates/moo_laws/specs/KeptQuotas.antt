@@ -50,8 +50,8 @@ calls_of_kind kind programmer state (batch ∷ batches) =
     cond (same_object batch.programmer programmer && is_accepted (judge state batch)) (of_kind kind batch.calls) 0
     + calls_of_kind kind programmer (left_by state (judge state batch)) batches
 
--- The quota is kept still. It has fallen by one for each object that was made. It has risen by one for each that was recycled, or by less if it
--- may have come to the greatest integer.
+-- The quota is kept still. It has fallen by one for each object that was made. It has risen by one for each that was recycled, or by less
+-- if it may have come to the greatest integer.
 abbrev pub QuotaMoves : World → ObjNo → ℤ → ℕ → ℕ → Type 0
 QuotaMoves next owner quota made recycled =
     (now : ℤ) × HasKeptQuota next owner now × ((back : ℕ) × (back ≤ recycled) × (now +ℤ pos made ≡ quota +ℤ pos back)

@@ -31,7 +31,7 @@ pub fn refusals_tell_no_more()
         AlikeFor programmer state other →
         (names_meant other.world programmer call args reason ≡ names_meant state.world programmer call args reason)
         × (clash_name other.world programmer args reason ≡ clash_name state.world programmer args reason) }
-    // The states on which any call of a batch is made, where these names are looked for, are alike, or agree, if those before the batch are.
+    // The states on which any call of a batch is made, where these names are looked for, are alike or agree if those before it do.
     ensures alike_before { (programmer : ObjNo) (state other : State) (batch : Batch) (place : ℕ) → IsFormed state →
         is_wizard state.world programmer ≡ false → AlikeFor programmer state other → is_batch_of programmer batch ≡ true →
         AlikeFor programmer (state_before_call state programmer batch.calls place) (state_before_call other programmer batch.calls place) }

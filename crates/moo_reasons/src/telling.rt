@@ -186,7 +186,7 @@ pub(crate) fn put_some(said: &mut Said, value: Option<&Value>) -> Result<(), All
     }
 }
 
-/// Says the words of a sentence: of each letter itself, or what it stands for.
+/// Says the words of a sentence: each letter, or what it stands for.
 fn put_sentence(
     said: &mut Said,
     given: Given<'_>,

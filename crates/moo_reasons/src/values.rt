@@ -5,7 +5,8 @@ use moo_text::{LineFault, next_word, values_before};
 use moo_value::{LiteralFault, MAX_NESTING, after_mark, skip_blanks};
 use std::alloc::AllocError;
 
-/// What is said of bytes that leave a text open at their end, or the list that they begin; `None` for others. What is between quotes doesn't count for the list.
+/// What is said of bytes that leave a text open at their end, or the list that they begin; `None` for others. What is between quotes
+/// doesn't count for the list.
 fn unclosed_reason(bytes: &[u8]) -> Option<&'static [u8]> {
     let mut depth: usize = 0;
     let mut is_list = bytes.starts_with(b"{");
