@@ -25,8 +25,8 @@ use Rattle.moo_world.specs.declared.reason.Reason.TheVariants.{NoProperty, NotDe
 abbrev pub names_listed : World → ObjNo → ObjNo → List Name
 names_listed world programmer object = if may_read_object world programmer object then property_names_of world object else []
 
--- the objects on which the property of a call may be defined, of the object and its ancestors: all of them for a call that reads or sets a
--- property, the object alone for one that deletes or renames it, and none for another call
+-- the objects on which the property of a call may be defined, of the object and its ancestors: all of them for a call that reads, sets or
+-- clears a property, the object alone for one that deletes or renames it, and none for another call
 abbrev pub objects_searched : CallName → List ObjNo → List ObjNo
 objects_searched call chain = elim call [
   | Get ↦ chain

@@ -78,8 +78,8 @@ fn names_on<R: Rows>(
     Ok(names)
 }
 
-/// The objects on which the property of a call may be defined: the object and its ancestors for a call that reads or sets a property, the
-/// object alone for `delete_property` and `set_property_info`, and none for another call. The only error is out of memory.
+/// The objects on which the property of a call may be defined: the object and its ancestors for a call that reads, sets or clears a
+/// property, the object alone for `delete_property` and `set_property_info`, and none for another call. The only error is out of memory.
 fn objects_searched<R: Rows>(
     alloc: Global,
     rows: &R,

@@ -39,15 +39,15 @@ pub record BreaksOff (old new : Side) (fault : TextFault) : Type 0 where
   pub gives : ReaderGives old new given
   pub count : Explains old.room (length given) fault
 
--- a line is read, and none at the end
+-- the first line of the text is read; no line if the text is at its end
 abbrev pub ReadsLine : Side → Side → Option (List ℕ) → Type 0
 ReadsLine old new line = ReadsOn old new (λ before behind. TakesLine before behind line)
 
--- what f says of the lines before is what g says of those after
+-- the items that f finds in the lines of the text before are those that g finds in the lines of the text after
 abbrev pub ReadsAlong : (List (List ℕ) → List Next) → (List (List ℕ) → List Next) → Side → Side → Type 0
 ReadsAlong f g old new = ReadsOn old new (λ before behind. Carries f g before behind)
 
--- f's first item is read
+-- the first item that f finds in the text is read
 abbrev pub ReadsFirst : (List (List ℕ) → List Next) → Side → Side → Next → Type 0
 ReadsFirst f old new item = ReadsOn old new (λ before behind. TakesFirst f before behind item)
 
@@ -80,11 +80,11 @@ GivesFront left given = IfSome left (λ text. (rest : List ℕ) × (text ≡ giv
 
 -- ---- of what reads the lines of a text, before and after
 
--- a line is read, and none at the end
+-- the first line of the text is read; no line if the text is at its end
 abbrev pub GivesLine : {R : Type 0} → (R → Option (List ℕ)) → (old new : LineReader R) → Option (Vec ℕ) → Type 0
 GivesLine remaining old new line = ReadsLine (lines_side remaining old) (lines_side remaining new) (option_map (λ l. l.items) line)
 
--- f's first item is read
+-- the first item that f finds in the text is read
 abbrev pub GivesFirst : {R : Type 0} → (List (List ℕ) → List Next) → (R → Option (List ℕ)) → (old new : LineReader R) → Next → Type 0
 GivesFirst f remaining old new item = ReadsFirst f (lines_side remaining old) (lines_side remaining new) item
 

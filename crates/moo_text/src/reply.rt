@@ -130,7 +130,7 @@ fn put_answer(alloc: Global, answer: &Answer, out: &mut Vec<u8>) -> Result<(), A
     }
 }
 
-/// Appends the lines that answer a batch of a text. The only error is a lack of memory, and it leaves the bytes as they were.
+/// Appends the lines that answer a batch of a text. The only error is out of memory, and it leaves the bytes as they were.
 pub fn print_answer(alloc: Global, answer: &Answer, out: &mut Vec<u8>) -> Result<(), AllocError>
     ensures ok { OnOk result (out.new.items ≡ out.old.items ++ answer_text answer.now) }
     ensures err { OnErr result (out.new.items ≡ out.old.items) }
