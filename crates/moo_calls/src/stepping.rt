@@ -83,7 +83,7 @@ pub fn step<R: Rows>(
     step_named(rows, alloc, programmer, call.name, call.args.items())
 }
 
-/// Makes one call on the world for the programmer, as `step` does, by the name and the arguments of the call.
+/// Makes one call on the world for the programmer, by the name and the arguments of the call. The errors are those of `step`.
 #[tactic(auto, unfolding(moo_world::specs::Calls::world_call))]
 pub fn step_named<R: Rows>(
     rows: &mut R,

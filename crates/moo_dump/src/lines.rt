@@ -38,7 +38,7 @@ fn string(alloc: Global, text: &str) -> Result<Value, AllocError>
     Ok(Value::Str(MooStr::from_vec(bytes)))
 }
 
-/// Appends the line of an object. The only error is out of memory; some of the bytes may be there then, here and in the lines below.
+/// Appends the line of an object. The only error is out of memory; some of the bytes may be there then.
 pub(crate) fn put_object_line(
     alloc: Global,
     x: ObjNo,
@@ -66,7 +66,7 @@ pub(crate) fn put_object_line(
     put_line(alloc, b"object", values, out)
 }
 
-/// Appends the line of a property that x defines.
+/// Appends the line of a property that x defines. The only error is out of memory.
 pub(crate) fn put_property_line(
     alloc: Global,
     x: ObjNo,
@@ -80,7 +80,7 @@ pub(crate) fn put_property_line(
     put_line(alloc, b"property", values, out)
 }
 
-/// Appends the line of the slot of a property on x.
+/// Appends the line of the slot of a property on x. The only error is out of memory.
 pub(crate) fn put_slot_line(
     alloc: Global,
     x: ObjNo,
@@ -123,7 +123,7 @@ fn arg_strings(alloc: Global, args: ArgSpec) -> Result<(Value, Value, Value), Al
     Ok((dobj, prep, iobj))
 }
 
-/// Appends the line of a verb of x.
+/// Appends the line of a verb of x. The only error is out of memory.
 pub(crate) fn put_verb_line(
     alloc: Global,
     x: ObjNo,

@@ -16,8 +16,7 @@ use moo_rows::{PropId, Rows, VerbId, each_verb_of};
 use moo_value::ObjNo;
 use std::alloc::{AllocError, Global};
 
-/// Appends the lines of the properties that x defines. The only error is out of memory; some of the bytes may be there then, here and in
-/// the functions below.
+/// Appends the lines of the properties that x defines. The only error is out of memory; some of the bytes may be there then.
 fn put_properties<R: Rows>(
     alloc: Global,
     rows: &R,
@@ -35,7 +34,7 @@ fn put_properties<R: Rows>(
     Ok(())
 }
 
-/// Appends the line of the slot of a property on x; nothing if x has no such slot.
+/// Appends the line of the slot of a property on x; nothing if x has no such slot. The only error is out of memory.
 fn put_slot<R: Rows>(
     alloc: Global,
     rows: &R,
@@ -54,7 +53,7 @@ fn put_slot<R: Rows>(
     }
 }
 
-/// Appends the lines of the slots of some properties on x, in order.
+/// Appends the lines of the slots of some properties on x, in order. The only error is out of memory.
 fn put_slots_of<R: Rows>(
     alloc: Global,
     rows: &R,
@@ -71,7 +70,7 @@ fn put_slots_of<R: Rows>(
 }
 
 /// Appends the lines of the slots of x, by definers from x up its chain. The way up skips the objects that define nothing: they have no
-/// lines here.
+/// lines here. The only error is out of memory.
 fn put_slots<R: Rows>(
     alloc: Global,
     rows: &R,
@@ -94,7 +93,7 @@ fn put_slots<R: Rows>(
     Ok(())
 }
 
-/// Appends the lines of the verbs of x, in the order of the directory.
+/// Appends the lines of the verbs of x, in the order of the directory. The only error is out of memory.
 fn put_verbs<R: Rows>(
     alloc: Global,
     rows: &R,

@@ -25,7 +25,7 @@ fn unread(alloc: Global, line: &[u8]) -> &[u8] {
 }
 
 /// Says what is wrong with a line that isn't a word and a list, by its number in the text and the reason for which loading refused it. The
-/// only error is out of memory, here and in the functions below.
+/// only error is out of memory.
 pub(crate) fn put_broken(
     said: &mut Said,
     line: &[u8],
@@ -97,7 +97,7 @@ fn is_open_text(bytes: &[u8]) -> bool {
     is_open
 }
 
-/// Says why a value of a line's list can't be read.
+/// Says why a value of a line's list can't be read. The only error is out of memory.
 fn put_value_fault(said: &mut Said, line: &[u8], fault: LiteralFault) -> Result<(), AllocError> {
     let rest = unread(said.alloc, line);
     match fault {
@@ -117,7 +117,8 @@ fn put_value_fault(said: &mut Said, line: &[u8], fault: LiteralFault) -> Result<
     }
 }
 
-/// Says what is found where a value is wanted: the end of the line, a bad list, or a word that isn't a value.
+/// Says what is found where a value is wanted: the end of the line, a bad list, or a word that isn't a value. The only error is out of
+/// memory.
 fn put_no_value(said: &mut Said, rest: &[u8]) -> Result<(), AllocError> {
     match rest {
         [] => said.put("the line ends where a value is wanted"),

@@ -27,7 +27,7 @@ fn foreign_reason(line: &[u8]) -> Option<&'static [u8]> {
     None
 }
 
-/// Says what is wrong with a header that doesn't begin with `batch`. The only error is out of memory, here and in the functions below.
+/// Says what is wrong with a header that doesn't begin with `batch`. The only error is out of memory.
 fn put_no_batch(said: &mut Said, line: &[u8]) -> Result<(), AllocError> {
     if is_end_line(line) {
         return said.put(b"`end` outside a batch");
@@ -38,7 +38,8 @@ fn put_no_batch(said: &mut Said, line: &[u8]) -> Result<(), AllocError> {
     said.put(FORM)
 }
 
-/// Says that a word names no call, and which name it may have meant. Names of LambdaMOO's own functions are explained on a page.
+/// Says that a word names no call, and which name it may have meant. Names of LambdaMOO's own functions are explained on a page. The only
+/// error is out of memory.
 fn put_name_reason(said: &mut Said, word: &[u8]) -> Result<(), AllocError> {
     said.put_of(word, b" names no call")?;
     if is_built_in(word) {
@@ -52,7 +53,7 @@ fn put_name_reason(said: &mut Said, word: &[u8]) -> Result<(), AllocError> {
     Ok(())
 }
 
-/// Says what is wrong where the name of a call is wanted.
+/// Says what is wrong where the name of a call is wanted. The only error is out of memory.
 fn put_no_name(said: &mut Said, rest: &[u8]) -> Result<(), AllocError> {
     let (word, _) = split_word(rest);
     if word.is_empty() {
@@ -73,7 +74,7 @@ fn put_no_name(said: &mut Said, rest: &[u8]) -> Result<(), AllocError> {
     put_name_reason(said, word)
 }
 
-/// Says what is wrong with a line, by the fault with which reading it stopped.
+/// Says what is wrong with a line, by the fault with which reading it stopped. The only error is out of memory.
 fn put_fault(said: &mut Said, line: &[u8], fault: LineFault<'_>) -> Result<(), AllocError> {
     match fault {
         LineFault::Long => said.put(LONG_LINE),

@@ -22,7 +22,8 @@ fn nearest<'a>(word: &MooStr, names: &'a [MooStr]) -> Option<&'a MooStr> {
     found
 }
 
-/// Says which property a call may have meant, if it fails since there is none of the name that it gives: one whose name is disclosed.
+/// Says which property a call may have meant, if it fails since there is none of the name that it gives: one whose name is disclosed. The
+/// only error is out of memory.
 pub(crate) fn tell_nearest(
     said: &mut Said,
     given: Given<'_>,

@@ -140,7 +140,8 @@ fn sentence(given: Given<'_>, reason: Reason) -> Option<Sentence> {
         .or(of_verbs_and_lists(given, reason))
 }
 
-/// The place, from 0, in the third value of the call, of the first argument that no verb may have.
+/// The place, from 0, in the third value of the call, of the first argument that no verb may have. `None` if that
+/// isn't a list of texts.
 fn unfit_place(given: Given<'_>) -> Option<usize> {
     first_unfit(list_at(given, THIRD)?.items())
 }
@@ -178,7 +179,7 @@ fn checked_value<'a>(given: Given<'a>, reason: Reason) -> Option<&'a Value> {
     }
 }
 
-/// Says a value; nothing if there is none. The only error is out of memory, here and in the functions below.
+/// Says a value; nothing if there is none. The only error is out of memory.
 pub(crate) fn put_some(said: &mut Said, value: Option<&Value>) -> Result<(), AllocError> {
     match value {
         Some(value) => said.put_value(value),
@@ -186,7 +187,7 @@ pub(crate) fn put_some(said: &mut Said, value: Option<&Value>) -> Result<(), All
     }
 }
 
-/// Says the words of a sentence: each letter, or what it stands for.
+/// Says the words of a sentence: each letter, or what it stands for. The only error is out of memory.
 fn put_sentence(
     said: &mut Said,
     given: Given<'_>,
@@ -206,7 +207,7 @@ fn put_sentence(
     Ok(())
 }
 
-/// Says that an object defines a property of the name already.
+/// Says that an object defines a property of the name already. The only error is out of memory.
 fn put_taken(said: &mut Said, definer: ObjNo, name: Option<&Value>) -> Result<(), AllocError> {
     said.put_object(definer)?;
     said.put(b" defines ")?;
@@ -217,7 +218,8 @@ fn put_taken(said: &mut Said, definer: ObjNo, name: Option<&Value>) -> Result<()
     said.put(b" already")
 }
 
-/// Says that an object defines a property of the name that is disclosed, and that the new parent has one too.
+/// Says that an object defines a property of the name that is disclosed, and that the new parent has one too. The only error is out of
+/// memory.
 fn put_shared(
     said: &mut Said,
     definer: ObjNo,
@@ -235,7 +237,7 @@ fn put_shared(
     said.put(b" has too")
 }
 
-/// Says after the lead which check of a call failed, or how the call is written.
+/// Says after the lead which check of a call failed, or how the call is written. The only error is out of memory.
 pub(crate) fn tell(
     said: &mut Said,
     lead: &[u8],
