@@ -104,6 +104,7 @@ pub(crate) fn first_strange_verb<R: Rows>(rows: &R) -> Option<(ObjNo, VerbId)>
 
 /// Whether two properties have one name, on one object or on an object and its ancestor.
 fn share_name<R: Rows>(rows: &R, one: &PropRow, other: &PropRow) -> bool
+    // Parents and locations are objects or `#-1`, without loops.
     requires { IsTree (world_of (R.held rows.now).maps) }
     ensures { result ≡ share_name (world_of (R.held rows.now).maps) one.now other.now }
 {
@@ -118,6 +119,7 @@ fn share_name<R: Rows>(rows: &R, one: &PropRow, other: &PropRow) -> bool
 
 /// Whether a property of lesser number has the name of a property already, on the same object, an ancestor or a descendant.
 pub(crate) fn is_double<R: Rows>(rows: &R, id: PropId, row: &PropRow) -> bool
+    // Parents and locations are objects or `#-1`, without loops.
     requires { IsTree (world_of (R.held rows.now).maps) }
     ensures { result ≡ is_double (R.held rows.now).maps id row.now }
 {
@@ -128,6 +130,7 @@ pub(crate) fn is_double<R: Rows>(rows: &R, id: PropId, row: &PropRow) -> bool
 
 /// Whether an object is owed a slot of a property: the object or an ancestor defines it.
 fn is_owed<R: Rows>(rows: &R, key: (ObjNo, PropId)) -> bool
+    // Parents and locations are objects or `#-1`, without loops.
     requires { IsTree (world_of (R.held rows.now).maps) }
     ensures { result ≡ is_owed (R.held rows.now).maps key }
 {
@@ -139,6 +142,7 @@ fn is_owed<R: Rows>(rows: &R, key: (ObjNo, PropId)) -> bool
 
 /// Whether a slot is one of a property that its object isn't owed.
 pub(crate) fn is_strange<R: Rows>(rows: &R, key: (ObjNo, PropId)) -> bool
+    // Parents and locations are objects or `#-1`, without loops.
     requires { IsTree (world_of (R.held rows.now).maps) }
     ensures { result ≡ is_strange (R.held rows.now).maps key }
 {
@@ -147,6 +151,7 @@ pub(crate) fn is_strange<R: Rows>(rows: &R, key: (ObjNo, PropId)) -> bool
 
 /// Whether an object is owed a slot of a property and has none.
 fn is_missing<R: Rows>(rows: &R, key: (ObjNo, PropId)) -> bool
+    // Parents and locations are objects or `#-1`, without loops.
     requires { IsTree (world_of (R.held rows.now).maps) }
     ensures { result ≡ is_missing (R.held rows.now).maps key }
 {
@@ -216,6 +221,7 @@ pub(crate) fn first_clear<R: Rows>(rows: &R) -> Option<(ObjNo, PropId)>
 
 /// The least property that x is owed and has no slot of; `None` if there is none.
 fn first_missing_of<R: Rows>(rows: &R, x: ObjNo) -> Option<PropId>
+    // Parents and locations are objects or `#-1`, without loops.
     requires { IsTree (world_of (R.held rows.now).maps) }
     ensures { Misses (R.held rows.now).maps x result }
 {
@@ -224,6 +230,7 @@ fn first_missing_of<R: Rows>(rows: &R, x: ObjNo) -> Option<PropId>
 
 /// The least object and property of which a slot is owed and isn't there; `None` if there are none.
 pub(crate) fn first_missing<R: Rows>(rows: &R) -> Option<(ObjNo, PropId)>
+    // Parents and locations are objects or `#-1`, without loops.
     requires { IsTree (world_of (R.held rows.now).maps) }
     ensures { IsFirstMissing (R.held rows.now).maps result }
 {

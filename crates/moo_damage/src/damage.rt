@@ -71,7 +71,7 @@ fn wrong_link<R: Rows>(
 /// The first property whose definer isn't an object, or else whose name another one has; `None` if there is none. `hold` says that the
 /// slots are known to be just those that are owed.
 fn wrong_prop<R: Rows>(rows: &R, hold: bool) -> Option<(Kind, Key)>
-    // Chains of parents and of locations end.
+    // Parents and locations are objects or `#-1`, without loops.
     requires tree { IsTree (world_of (R.held rows.now).maps) }
     // `hold` is true only if the slots are just those that are owed.
     requires hold { hold ≡ true → SlotsHold (R.held rows.now).maps }
@@ -93,7 +93,7 @@ fn wrong_prop<R: Rows>(rows: &R, hold: bool) -> Option<(Kind, Key)>
 /// The first slot that is not owed, else that is missing, else that is clear on its definer, else the first verb of no object; `None` if
 /// there is none. `hold` says that the slots are known to be just those that are owed.
 fn wrong_slot<R: Rows>(rows: &R, hold: bool) -> Option<(Kind, Key)>
-    // Chains of parents and of locations end.
+    // Parents and locations are objects or `#-1`, without loops.
     requires tree { IsTree (world_of (R.held rows.now).maps) }
     // `hold` is true only if the slots are just those that are owed.
     requires hold { hold ≡ true → SlotsHold (R.held rows.now).maps }

@@ -78,7 +78,7 @@ fn any_lacks_one<R: Rows>(rows: &R) -> bool
 ///
 /// No chain is climbed: along chains that end, what each object has of its parent it has of all ancestors. The only error is out of memory.
 pub(crate) fn slots_hold<R: Rows>(alloc: Global, rows: &R) -> Result<bool, AllocError>
-    // Chains of parents and of locations end, and properties are numbered from 1.
+    // Parents and locations are objects or `#-1`, without loops, and properties are numbered from 1.
     requires tree { IsTree (world_of (R.held rows.now).maps) }
     requires numbered { (id : PropId) (p : PropRow) → get (R.held rows.now).maps.props id ≡ Some p → 0 < id.0 }
     // If it says so, no name is double, no slot is strange and none is missing.

@@ -37,6 +37,7 @@ pub struct Look {
 /// What an object looks like; `None` if no object has the number. The only error is out of memory.
 #[tactic(auto, unfolding(moo_world::specs::Rows::world_shown))]
 pub fn look<R: Rows>(alloc: Global, rows: &R, x: ObjNo) -> Result<Option<Look>, AllocError>
+    // Parents and locations are objects or `#-1`, without loops.
     requires { IsTree (world_of (R.held rows.now).maps) }
     ensures { IfOk result (λ look. look ≡ look_of (world_of (R.held rows.now).maps) x) }
 {

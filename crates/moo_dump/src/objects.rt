@@ -78,6 +78,7 @@ fn put_slots<R: Rows>(
     x: ObjNo,
     out: &mut Vec<u8>,
 ) -> Result<(), AllocError>
+    // Parents and locations are objects or `#-1`, without loops.
     requires tree { IsTree (world_of (R.held rows.now).maps) }
     // The outline is of these rows.
     requires outline { IsOutline (R.held rows.now).maps outline.now }

@@ -36,6 +36,7 @@ fn way_up<R: Rows>(
     skips: &Skips,
     x: ObjNo,
 ) -> Result<(Vec<ObjNo>, ObjNo), AllocError>
+    // Parents and locations are objects or `#-1`, without loops.
     requires tree { IsTree (world_of (R.held rows.now).maps) }
     // The definitions are those of these rows.
     requires listed { ListsDefinitions (R.held rows.now).maps definitions.now }
@@ -78,6 +79,7 @@ pub(crate) fn all_skips<R: Rows>(
     rows: &R,
     definitions: &Definitions,
 ) -> Result<Skips, AllocError>
+    // Parents and locations are objects or `#-1`, without loops.
     requires tree { IsTree (world_of (R.held rows.now).maps) }
     // The definitions are those of these rows.
     requires listed { ListsDefinitions (R.held rows.now).maps definitions.now }
