@@ -9,6 +9,7 @@ use Rattle.moo_text.specs.LineReading.{object_of}
 use Rattle.moo_text.specs.declared.line_fault.LineFault.{LineFault}
 use Rattle.moo_text.specs.declared.line_fault.LineFault.TheVariants.{NoObject, NoAt, NoName, NoBracket, NoValue, NoMark, NoEnd}
 
+-- the fault is true of the bytes that it points at: this word isn't an object, these bytes don't begin with a literal, and so on
 abbrev pub Says : LineFault → Type 0
 Says (NoObject here) = object_of here.now ≡ None
 Says (NoAt here) = same_text here.now (codes "at") ≡ false

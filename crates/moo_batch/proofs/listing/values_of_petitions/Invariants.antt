@@ -2,7 +2,7 @@ use Rattle.std.{proofs.Common.{◌||◌}, specs.FinMap.{entries}}
 use Rattle.moo_rows.specs.Walk.{petitions_left}
 use Rattle.moo_world.{specs.Objects.{same_object}, specs.Requests.{listed}}
 use Rattle.moo_batch.proofs.Chosen.{IsChosen}
-use Rattle.moo_batch.proofs.listing.all_listed.Given as goal
+use Rattle.moo_batch.proofs.listing.values_of_petitions.Given as goal
 
 -- those listed, and those left
 abbrev pub invariant-loop-id : goal.invariant-loop-id

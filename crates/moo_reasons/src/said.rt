@@ -1,4 +1,4 @@
-//! What is said: the text of a reason, and values and bytes as it shows them.
+//! The text of a reason, with values and bytes as it shows them.
 
 ghost use Rattle.std.specs.Prelude.{◌≡◌, ◌+◌, ◌≤◌, length, string_bytes, OnOk};
 
@@ -6,10 +6,10 @@ use moo_value::{MooStr, ObjNo, Value, print_literal};
 use moo_world::CallName;
 use std::alloc::{AllocError, Global};
 
-/// So many bytes of a value are shown.
+/// The most bytes of a value that are shown.
 const MOST_OF_A_VALUE: usize = 60;
 
-/// So many bytes of a line are shown.
+/// The most bytes of a line that are shown.
 const MOST_OF_A_LINE: usize = 40;
 
 /// What is wrong with a line that is longer than any may be.
@@ -44,8 +44,9 @@ impl Said {
         }
     }
 
-    /// Leaves, of more than `longest` bytes, so many in front, and two dots.
+    /// Cuts a text of more than `longest` bytes to the first `front` bytes and two dots. The only error is out of memory.
     pub(crate) fn shorten(&mut self, longest: usize, front: usize) -> Result<(), AllocError>
+        // If these bytes and the dots are within the limit, so is the text then.
         ensures { front + 2 ≤ longest → OnOk result (length self.new.text.items ≤ longest) }
     {
         if longest < self.text.len() {
@@ -55,35 +56,37 @@ impl Said {
         Ok(())
     }
 
+    /// Adds words.
     pub(crate) fn put(&mut self, words: &[u8]) -> Result<(), AllocError>
         ensures { OnOk result (length self.new.text.items ≡ length self.old.text.items + length words.now) }
     {
         self.text.extend_from_slice(words)
     }
 
-    /// A value, and of a long one its front.
+    /// Adds the literal of a value: the first 60 bytes and two dots, if it is longer.
     pub(crate) fn put_value(&mut self, value: &Value) -> Result<(), AllocError> {
         let most = self.text.len().saturating_add(MOST_OF_A_VALUE);
         print_literal(self.alloc, value, &mut self.text)?;
         self.shorten(most, most)
     }
 
-    /// A text between quotes, and of a long one its front.
+    /// Adds a text between quotes: the first 60 bytes of its literal and two dots, if it is longer.
     pub(crate) fn put_text(&mut self, text: &MooStr) -> Result<(), AllocError> {
         self.put_value(&Value::Str(text.copy(self.alloc)?))
     }
 
+    /// Adds an object, as `#3`.
     pub(crate) fn put_object(&mut self, object: ObjNo) -> Result<(), AllocError> {
         self.put_value(&Value::Obj(object))
     }
 
-    /// A number, such as that of a line or of a batch.
+    /// Adds a number in decimal, such as that of a line or of a batch.
     pub(crate) fn put_count(&mut self, count: u64) -> Result<(), AllocError> {
         let digits = count.to_string(self.alloc)?;
         self.put(digits.as_bytes())
     }
 
-    /// A call, as it is written.
+    /// Adds a call as it is written, `name(value, ...)`.
     pub(crate) fn put_call(&mut self, name: CallName, values: &[Value]) -> Result<(), AllocError> {
         self.put(name.spelling())?;
         self.put(b"(")?;
@@ -96,7 +99,8 @@ impl Said {
         self.put(b")")
     }
 
-    /// The first bytes of a line between quotes, with a question mark for each that doesn't print, and what is said of them.
+    /// Adds bytes of a line between single quotes, and then words: the first 40 bytes and two dots, if there are more, with a question mark
+    /// for each byte that doesn't print.
     pub(crate) fn put_of(&mut self, bytes: &[u8], words: &[u8]) -> Result<(), AllocError> {
         self.put(b"'")?;
         for byte in bytes.iter().copied().take(MOST_OF_A_LINE) {

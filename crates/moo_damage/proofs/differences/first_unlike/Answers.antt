@@ -1,5 +1,5 @@
 use Rattle.moo_damage.{proofs.Words.{rules}, specs.Differences.{IsUnlike}, proofs.Firsts.{least_so}}
-use Rattle.moo_damage.proofs.differences.unlike.Goals as goal
+use Rattle.moo_damage.proofs.differences.first_unlike.Goals as goal
 
 pub returns : goal.returns
 returns g c =

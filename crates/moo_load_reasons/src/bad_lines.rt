@@ -1,4 +1,4 @@
-//! Lines that aren't a word and a list.
+//! Telling what is wrong with a line that isn't a word and a list.
 
 use crate::finding::{literal_of, word_of};
 use crate::said::Said;
@@ -6,7 +6,8 @@ use moo_load::DumpReason;
 use moo_value::{LiteralFault, read_literal};
 use std::alloc::{AllocError, Global};
 
-/// What of a line isn't read: it begins where a value can't be read, or after one that isn't followed by `, `.
+/// The bytes of a line from the place on where reading its list stops: where a value can't be read, or after a value that isn't followed by
+/// `, `.
 fn unread(alloc: Global, line: &[u8]) -> &[u8] {
     let literal = literal_of(line);
     let mut rest = literal.strip_prefix(b"{").unwrap_or(literal);
@@ -23,7 +24,8 @@ fn unread(alloc: Global, line: &[u8]) -> &[u8] {
     rest
 }
 
-/// What is wrong with a line that isn't a word and a list.
+/// Says what is wrong with a line that isn't a word and a list, by its number in the text and the reason for which loading refused it. The
+/// only error is out of memory.
 pub(crate) fn put_broken(
     said: &mut Said,
     line: &[u8],
@@ -61,6 +63,7 @@ pub(crate) fn put_broken(
     }
 }
 
+/// How a line of the heading is written: the first or the second line of a dump.
 fn heading_sentence(number: u64) -> &'static str {
     if number == 1 {
         "the first line is 'seq ' and how many batches were accepted, as 'seq 0'"
@@ -69,6 +72,7 @@ fn heading_sentence(number: u64) -> &'static str {
     }
 }
 
+/// What is wrong after a value: the list isn't closed, something follows it, or `, ` is missing.
 fn separator_sentence(rest: &[u8]) -> &'static str {
     match rest {
         [] => "the list isn't closed by a '}'",
@@ -77,7 +81,7 @@ fn separator_sentence(rest: &[u8]) -> &'static str {
     }
 }
 
-/// Whether a text that the bytes begin has no closing quote.
+/// Whether bytes end inside a text, whose closing quote is missing.
 fn is_open_text(bytes: &[u8]) -> bool {
     let mut is_open = false;
     let mut is_escaped = false;
@@ -93,6 +97,7 @@ fn is_open_text(bytes: &[u8]) -> bool {
     is_open
 }
 
+/// Says why a value of a line's list can't be read. The only error is out of memory.
 fn put_value_fault(said: &mut Said, line: &[u8], fault: LiteralFault) -> Result<(), AllocError> {
     let rest = unread(said.alloc, line);
     match fault {
@@ -112,6 +117,8 @@ fn put_value_fault(said: &mut Said, line: &[u8], fault: LiteralFault) -> Result<
     }
 }
 
+/// Says what is found where a value is wanted: the end of the line, a bad list, or a word that isn't a value. The only error is out of
+/// memory.
 fn put_no_value(said: &mut Said, rest: &[u8]) -> Result<(), AllocError> {
     match rest {
         [] => said.put("the line ends where a value is wanted"),

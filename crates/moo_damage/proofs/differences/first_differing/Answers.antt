@@ -1,5 +1,5 @@
 use Rattle.moo_damage.{proofs.Words.{IsTotalOrder, CmpEqualImpliesEq, sym, subst}, proofs.Unlike.{first_unlike}}
-use Rattle.moo_damage.proofs.differences.differing.Goals as goal
+use Rattle.moo_damage.proofs.differences.first_differing.Goals as goal
 
 pub returns : goal.returns
 returns g c =

@@ -2,7 +2,7 @@ use Rattle.std.{proofs.Common.{rules, ◌≡◌, [], ◌∷◌, ◌++◌, sym, �
 use Rattle.moo_rows.{specs.Walk.{petitions_left}, specs.declared.row.PetitionId.{PetitionId}, specs.declared.row.PetitionRow.{PetitionRow}}
 use Rattle.moo_world.{specs.Objects.{same_object}, specs.Requests.{listed}}
 use Rattle.moo_batch.proofs.Chosen.{one-chosen}
-use Rattle.moo_batch.proofs.listing.all_listed.Goals as goal
+use Rattle.moo_batch.proofs.listing.values_of_petitions.Goals as goal
 
 pub loop-id-preserved-in_ok-push : goal.loop-id-preserved-in_ok-push
 loop-id-preserved-in_ok-push g c =

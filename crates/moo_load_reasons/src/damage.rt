@@ -1,4 +1,4 @@
-//! Rows that show no world, in words for people, with the line that shows it.
+//! Telling in words why rows show no world, with the line that shows it.
 
 use crate::finding::{Found, counted_line, line_with};
 use crate::said::Said;
@@ -7,12 +7,12 @@ use moo_damage::{Key, Kind};
 use moo_value::{ObjNo, Value};
 use std::alloc::AllocError;
 
-/// The object of this number. Rows that a text is read as have no number out of range.
+/// The object of a number of 64 bits; `#-1` for a number out of range, which no row of a text has.
 fn object_numbered(number: i64) -> ObjNo {
     ObjNo(i32::try_from(number).unwrap_or(-1))
 }
 
-/// What is wrong, with the line that shows it, if there is one.
+/// Says which damage the rows of a text have, with the line that shows it, if there is one. The only error is out of memory.
 pub(crate) fn put_damage(
     said: &mut Said,
     text: &[u8],
@@ -38,7 +38,7 @@ pub(crate) fn put_damage(
     }
 }
 
-/// The link of an object, which is the value at this place of its line.
+/// Says that the link of an object, the value at this place of its line's list, names no object. The only error is out of memory.
 fn put_link(said: &mut Said, found: &Option<Found>, place: usize) -> Result<(), AllocError> {
     if let Some(line) = found {
         if let Some(other) = line.values.get(place) {
@@ -50,6 +50,7 @@ fn put_link(said: &mut Said, found: &Option<Found>, place: usize) -> Result<(), 
     said.put(" isn't an object of the dump")
 }
 
+/// Says what is wrong with an object: its parent, its location, a circle of them, or its number. The only error is out of memory.
 fn put_object_damage(
     said: &mut Said,
     text: &[u8],
@@ -75,6 +76,8 @@ fn put_object_damage(
     }
 }
 
+/// Says what is wrong with the property of a count, from 1, in the text: its definer isn't an object, or another property has its name. The
+/// only error is out of memory.
 fn put_property_damage(
     said: &mut Said,
     text: &[u8],

@@ -1,7 +1,7 @@
-//! Which call of a petition is refused when it is granted.
+//! Saying which call of a petition is refused when a wizard grants it.
 
 use crate::given::{FIRST, Given, given_by, list_at, value_at};
-use crate::shown::Said;
+use crate::said::Said;
 use crate::telling::{put_some, tell};
 use moo_batch::{Facts, held_call};
 use moo_disclosure::Disclosure;
@@ -9,7 +9,8 @@ use moo_value::{Value, ValueList};
 use moo_world::{Batch, CallName, Reason};
 use std::alloc::AllocError;
 
-/// The calls of the petition that calls of a batch make on rows whose next petition has this number, if it gets that one.
+/// The calls of the petition that a batch makes under a number, if the first petition of the batch gets the number `next`. `None` if the
+/// batch makes none under it.
 fn calls_asked<'a>(batch: &'a Batch, next: u32, number: u32) -> Option<&'a ValueList> {
     let mut left = number.checked_sub(next)?;
     for call in batch.calls.items() {
@@ -24,7 +25,7 @@ fn calls_asked<'a>(batch: &'a Batch, next: u32, number: u32) -> Option<&'a Value
     None
 }
 
-/// The number of the petition that a call grants.
+/// The number of the petition that a `grant` names; `None` if it gives no number of 32 bits.
 fn petition_number(grant: Given<'_>) -> Option<u32> {
     let Some(Value::Int(number)) = value_at(grant, FIRST) else {
         return None;
@@ -32,7 +33,7 @@ fn petition_number(grant: Given<'_>) -> Option<u32> {
     u32::try_from(*number).ok()
 }
 
-/// The calls of the petition that a call of a batch grants. It is disclosed, or the batch makes it.
+/// The calls of the petition that a `grant` of a batch names: as disclosed, or as the batch makes it. `None` if it is neither.
 fn calls_granted<'a>(
     batch: &'a Batch,
     grant: Given<'_>,
@@ -44,7 +45,7 @@ fn calls_granted<'a>(
     }
 }
 
-/// The call at a place of the petition that a call of a batch grants, as the petition holds it.
+/// The value at a place, from 0, of the petition that a `grant` of a batch names; `None` if the petition or the place isn't known.
 pub(crate) fn held_value<'a>(
     batch: &'a Batch,
     grant: Given<'_>,
@@ -56,18 +57,18 @@ pub(crate) fn held_value<'a>(
         .get(place as usize)
 }
 
-/// The call that a value is, as a petition holds one.
+/// The call that a value in a petition is, its name and its values; `None` if it isn't a call on the world.
 fn call_of<'a>(held: Option<&'a Value>) -> Option<(CallName, &'a [Value])> {
     held_call(held?)
 }
 
-/// Says of which petition a call is.
+/// Says the number of the petition that a `grant` names. The only error is out of memory.
 fn put_petition(said: &mut Said, grant: Given<'_>) -> Result<(), AllocError> {
     said.put(b" of petition ")?;
     put_some(said, value_at(grant, FIRST))
 }
 
-/// Says after a comma which of the calls that a petition holds fails, and why.
+/// Says after a comma which call of a petition fails, and why. AllocError: memory ran out.
 pub(crate) fn tell_held(
     said: &mut Said,
     grant: Given<'_>,

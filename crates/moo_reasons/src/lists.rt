@@ -1,10 +1,11 @@
-//! What is wrong in a list that a call is given.
+//! Finding what is wrong in a list that a call is given.
 
 use moo_value::{MooStr, Value, ValueList};
 use moo_verbs::read_prep;
 use moo_world::CallName;
 
-/// The text that a call of a petition begins with, if it doesn't name a call that a petition may ask for.
+/// The text that a value in a petition begins with, if it names no call that a petition may ask for. `None` if it names one, or isn't
+/// there.
 fn unasked_name(held: &Value) -> Option<&Value> {
     let Value::List(values) = held else {
         return None;
@@ -19,12 +20,12 @@ fn unasked_name(held: &Value) -> Option<&Value> {
     }
 }
 
-/// The first name among the calls of a petition that none may ask for.
+/// The first name in a petition that isn't of a call that a petition may ask for; `None` if there is none.
 pub(crate) fn first_unasked(calls: &ValueList) -> Option<&Value> {
     calls.items().iter().find_map(unasked_name)
 }
 
-/// Whether a text is a direct or indirect object of a verb.
+/// Whether a text is the specifier of a direct or an indirect object: `this`, `any` or `none`, in any case of letters.
 fn is_verb_object(text: &MooStr) -> bool {
     let text = text.bytes();
     text.eq_ignore_ascii_case(b"this")
@@ -32,7 +33,8 @@ fn is_verb_object(text: &MooStr) -> bool {
         || text.eq_ignore_ascii_case(b"none")
 }
 
-/// The place, in the list of a verb's arguments, of the first text that no verb may have there.
+/// The place, from 0, in the list of a verb's arguments, of the first text that no verb may have there. `None` if the list isn't two texts
+/// and a third value.
 pub(crate) fn first_unfit(texts: &[Value]) -> Option<usize> {
     let [Value::Str(dobj), Value::Str(prep), _] = texts else {
         return None;

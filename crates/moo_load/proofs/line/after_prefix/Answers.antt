@@ -1,6 +1,6 @@
 use Rattle.moo_load.proofs.Words.{◌≡◌, ℕ, List, ◌++◌, length, take, drop, refl, sym, ap, ◌∙◌, take-append-drop, take_at, false≢true}
 use lib.Pointwise.{bytes_decides}
-use Rattle.moo_load.proofs.line.after.Goals as goal
+use Rattle.moo_load.proofs.line.after_prefix.Goals as goal
 
 pub returns-in-Some-clause-ok : goal.returns-in-Some-clause-ok
 returns-in-Some-clause-ok c =
