@@ -4,6 +4,7 @@
 use moo_run_system::run_command;
 use std::process::ExitCode;
 
+/// Runs the words of the command line on the system, and ends with their status.
 fn main(rt: HostRuntime) -> ExitCode {
     ExitCode::from(run_command(&rt))
 }

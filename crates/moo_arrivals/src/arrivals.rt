@@ -49,8 +49,8 @@ pub trait Arrivals {
     /// The source before it tells of a connection whose answer was lost, or of none, and after that.
     ghost loses: { Self → Option Loss → Self → Type 0 } = { λ _ _ _. ⊤ };
 
-    /// Waits for the next connection, of which so many are still to come. None if it can't be taken. By the routes it may tell whether a
-    /// request is whole.
+    /// Waits for the next connection and hands it out. `left` connections are still to be handed out. None if one came and can't be taken.
+    /// By the routes the source may tell whether a request is whole.
     fn accept(
         &mut self,
         routes: &Routes,
@@ -67,8 +67,8 @@ pub trait Arrivals {
     )
         ensures { takes_back self.old connection self.new };
 
-    /// A connection that was taken back, and whose answer was lost after that. None if there is none; each is told of once. At the last it
-    /// waits first until each answer is sent or lost.
+    /// Tells of a connection that was taken back, and whose answer was lost after that. None if there is none; each is told of once. If
+    /// this `is_last`, it waits first until each answer is sent or lost.
     fn settle(&mut self, is_last: bool) -> Option<Loss>
         ensures { loses self.old result self.new };
 }

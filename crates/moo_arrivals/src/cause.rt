@@ -18,6 +18,7 @@ pub enum Cause {
     OutOfMemory,
 }
 
+/// The words that say it.
 impl Display for Cause {
     fn fmt<W: fmt::Write>(&self, f: &mut Formatter<W>) -> fmt::Result {
         f.write_str(match self {
@@ -30,10 +31,11 @@ impl Display for Cause {
     }
 }
 
-/// A connection whose answer was lost after its turn.
+/// A connection whose answer was lost after it was given back: what is told of it.
 #[derive(Clone, Copy, Drop)]
 pub struct Loss {
     /// The route that it asked for.
     pub route: Route,
+    /// Why its answer was lost.
     pub cause: Cause,
 }

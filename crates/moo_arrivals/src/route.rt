@@ -8,13 +8,17 @@ use std::fmt::{self, Display, Formatter};
 pub enum Route {
     /// None: the request was refused, or wasn't read.
     Unknown,
+    /// `/batch`: a batch is run.
     Batch,
+    /// `/ask`: a batch is asked what it would answer.
     Ask,
+    /// `/each`: calls are asked, each alone.
     Each,
     /// That of a question.
     Question(Question),
 }
 
+/// The path of the route, or `-` if it is unknown.
 impl Display for Route {
     fn fmt<W: fmt::Write>(&self, f: &mut Formatter<W>) -> fmt::Result {
         match self {

@@ -7,7 +7,8 @@ use Rattle.moo_world.specs.Outcomes.{Outcome, require◌else◌, ◌>>◌}
 use Rattle.moo_world.specs.Petitions.{is_named, are_few, are_shallow}
 use Rattle.moo_world.specs.Requests.{State, are_on_world}
 
--- the calls are lists that begin with a string, few, on the world, and not too deep
+-- `petition` of these calls: it fails unless each is a list that begins with a string, there are 1 to 64, each is a call on the world, and
+-- the lists nest at most 30 deep; then it goes on
 abbrev pub taking_calls : Values → Outcome State → Outcome State
 taking_calls calls then = do
   require list_all is_named (spread calls) else Unnamed

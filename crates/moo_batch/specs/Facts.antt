@@ -12,7 +12,7 @@ use Rattle.moo_disclosure.specs.Disclosed.{calls_seen, clash_name, names_meant}
 use Rattle.moo_batch.specs.declared.witness.Facts.{Facts}
 use Rattle.moo_batch.specs.declared.witness.Refusal.{Refusal}
 
--- the state on which the call at this place is made, from 0: that after the calls before it
+-- the state on which the call at this place of a batch is made, from 0: the state after the calls before it
 abbrev pub state_before_call : State → ObjNo → List Call → ℕ → State
 state_before_call state programmer calls zero = state
 state_before_call state programmer [] (suc place) = state
@@ -22,7 +22,7 @@ state_before_call state programmer (call ∷ calls) (suc place) = elim (batch_ca
   | Full ↦ state
 ]
 
--- the call that a refusal is about
+-- the call of the batch that a refusal is about
 abbrev pub refused_call : Batch → Refusal → Option Call
 refused_call batch refusal = slice_get batch.calls (refusal.call - 1)
 
@@ -39,7 +39,7 @@ pub record AreFacts (world : World) (base : Maps) (batch : Batch) (refusal : Ref
   pub petition : IfSome facts.petition (λ calls. (id : PetitionId) × (calls_seen base batch.programmer id ≡ Some calls.now))
   pub next : facts.next_petition ≡ base.head.next_petition
 
--- the same of a batch that is judged on these rows: its check fails after the calls before
+-- what is told of the refusal of a batch that is judged on these rows: the check failed in the world after the calls before the refused one
 abbrev pub AreFactsOf : Maps → Batch → Refusal → Facts → Type 0
 AreFactsOf maps batch refusal facts =
     AreFacts (state_before_call (state_of maps) batch.programmer batch.calls (refusal.call - 1)).world maps batch refusal facts

@@ -43,7 +43,7 @@ StandsAtCheck programmer calls state now (refused_at refusal) =
 StandsAtCheck programmer calls state now (full_at call) = ⊤
 StandsAtCheck programmer calls state now (no_memory call) = ⊤
 
--- what done calls keep: the rows are good ones, no batch is counted yet, and each call kept numbers
+-- what calls keep that are all done: the rows are good ones, no batch is counted yet, and each call kept numbers
 pub record HaveKept (p : ObjNo) (calls : List Call) (old new : Held) : Type 0 where
   pub good : IsGood new.maps
   pub seq : new.maps.head.seq ≡ old.maps.head.seq

@@ -13,6 +13,7 @@ use Rattle.moo_calls_shared.specs.Outcomes.{world_in}
 use Rattle.moo_calls_shared.specs.declared.fault.Fault.{Fault}
 use Rattle.moo_calls_shared.specs.declared.fault.Fault.TheVariants.{Moo, Held as of_held, Full, OutOfMemory}
 
+-- the state of the rows that are held: the world, the petitions and the sequence number
 abbrev pub state_in : Held → State
 state_in held = state_of held.maps
 
@@ -48,7 +49,8 @@ ComesInTurn outcome new (Err (of_held place reason)) = outcome ≡ Failed (in_pe
 ComesInTurn outcome new (Err Full) = outcome ≡ none_left
 ComesInTurn outcome new (Err OutOfMemory) = ⊤
 
--- what they keep: the rows are good ones, what is beside the world is as it was, and each of them kept numbers
+-- what the calls of a petition keep that are all done: the rows are good ones, what is beside the world is as it was, and each call kept
+-- numbers
 pub record KeepInTurn (p : ObjNo) (helds : List Value) (old new : Held) : Type 0 where
   pub good : IsGood new.maps
   pub beside : beside_world new.maps ≡ beside_world old.maps
@@ -62,7 +64,7 @@ pub record KeepsGoodRows (keeps_numbers : Maps → Maps → Type 0) (old new : H
   pub base : new.base ≡ old.base
   pub numbers : keeps_numbers old.maps new.maps
 
--- why a granted petition fails, if the call at this place does
+-- why a grant fails, if the call at this place of its petition, from 0, fails so: for the same reason, with the place
 abbrev pub held_at : ℕ → Fault → Fault
 held_at place (Moo reason) = of_held place reason
 held_at place other = other

@@ -12,7 +12,7 @@ use Rattle.moo_batch.specs.declared.witness.Refusal.{Refusal}
 use Rattle.moo_batch.specs.Facts.{AreFactsOf}
 use Rattle.moo_batch.specs.Judge.{failure_of}
 
--- it is the refusal of the batch: its first call that fails on these rows, and why
+-- the refusal is that of the batch on these rows: its first call that fails, and why
 abbrev pub IsRefusalOf : Maps → Batch → Refusal → Type 0
 IsRefusalOf maps batch refusal = run_calls (state_of maps) batch.programmer batch.calls ≡ FailedAt refusal.call (failure_of refusal)
 

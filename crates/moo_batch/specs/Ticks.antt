@@ -8,12 +8,12 @@ abbrev pub NoneComeBack : Option ℕ → Option ℕ → Type 0
 NoneComeBack None new = new ≡ None
 NoneComeBack (Some old) new = (left : ℕ) × (new ≡ Some left) × (left ≤ old)
 
--- one was taken at least
+-- one tick was taken at least; without a bound there is none afterwards either
 abbrev pub TakesOne : Option ℕ → Option ℕ → Type 0
 TakesOne None new = new ≡ None
 TakesOne (Some old) new = (left : ℕ) × (new ≡ Some left) × (left < old)
 
--- a call was made, and memory didn't run out
+-- whether the verdict says that a call was made: memory didn't run out
 abbrev pub HasMadeCall : Verdict → Type 0
 HasMadeCall (Accepted answers changes) = answers ≢ []
 HasMadeCall (Refused call code) = ⊤

@@ -5,7 +5,7 @@ ghost use Rattle.moo_world.specs.Requests.{one_integer, one_list};
 
 use moo_value::{Code, Value, ValueList};
 
-/// An integer.
+/// The integer that a call takes as its one argument. E_ARGS unless there is one argument; E_TYPE if it isn't an integer.
 pub(crate) fn one_integer(args: &[Value]) -> Result<i64, Code>
     ensures { result ≡ one_integer args.now }
 {
@@ -16,7 +16,7 @@ pub(crate) fn one_integer(args: &[Value]) -> Result<i64, Code>
     }
 }
 
-/// The values of a list.
+/// The list that a call takes as its one argument. E_ARGS unless there is one argument; E_TYPE if it isn't a list.
 pub(crate) fn one_list(args: &[Value]) -> Result<&ValueList, Code>
     ensures ok { IfOk result (λ list. one_list args.now ≡ Ok list.now) }
     ensures err { IfErr result (λ code. one_list args.now ≡ Err code) }

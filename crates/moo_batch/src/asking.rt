@@ -1,4 +1,4 @@
-//! `petition`.
+//! The call `petition`, which keeps calls for a wizard to grant.
 
 ghost use Rattle.std.specs.Prelude.{◌≡◌, true, OnOk, IfErr};
 ghost use Rattle.std.specs.List.{list_all};
@@ -22,13 +22,18 @@ use moo_rows::{PetitionId, PetitionRow, Rows};
 use moo_value::{ObjNo, Value, ValueList};
 use moo_world::{are_few, are_named, are_shallow};
 
-/// Whether a petition may ask for these calls: E_TYPE if it isn't a list of lists that each begin with a string, else E_INVARG.
+/// Tests whether a petition may ask for the calls of a list. E_TYPE if one isn't a list that begins with a string; then E_INVARG if there
+/// are none or more than 64, if one isn't a call on the world, or if the lists nest more than 30 deep.
 fn may_be_asked(calls: &ValueList) -> Result<(), Reason>
+    // The list nests at most 32 deep, and its numbers and texts are within their limits.
     requires { fits (a_list calls.now) ≡ true }
+    // If there is no error, each of them is a list that begins with a string.
     ensures named { OnOk result (list_all is_named (spread calls.now) ≡ true) }
+    // There are 1 to 64, each is a call on the world, and the lists nest at most 30 deep.
     ensures few { OnOk result (are_few calls.now ≡ true) }
     ensures on_world { OnOk result (are_on_world calls.now ≡ true) }
     ensures shallow { OnOk result (are_shallow calls.now ≡ true) }
+    // At an error, `petition` fails for the reason, whatever it would do then.
     ensures err { IfErr result (λ reason. (then : Outcome State) → taking_calls calls.now then ≡ fails reason) }
 {
     if !are_named(calls.items()) {
@@ -46,12 +51,16 @@ fn may_be_asked(calls: &ValueList) -> Result<(), Reason>
     Ok(())
 }
 
-/// Keeps the calls as a petition of the programmer's.
+/// Keeps the calls as a petition of the programmer's, and answers its number. Full if 4,294,967,294 has been given.
 fn add_petition<R: Rows>(rows: &mut R, programmer: ObjNo, calls: ValueList) -> Result<Value, Fault>
     requires good { IsGood (R.held rows.old).maps }
+    // A petition may hold these calls.
     requires fit { petition_fits (record { who = programmer; calls = calls }) ≡ true }
+    // There is one petition more, and the answer is its number; or Full.
     ensures reaches { Reaches (petition_filed (state_in (R.held rows.old)) programmer calls) (R.held rows.new) result }
+    // If it isn't done, the rows are as they were, unless memory ran out.
     ensures stays { Stays (R.held rows.old) (R.held rows.new) result }
+    // If it is done, the rows are good ones, no batch is counted yet, and what stays keeps its number.
     ensures kept { OnOk result (KeepsGoodRows KeepsNumbers (R.held rows.old) (R.held rows.new)) }
 {
     let mut head = rows.head();
@@ -72,18 +81,23 @@ fn add_petition<R: Rows>(rows: &mut R, programmer: ObjNo, calls: ValueList) -> R
 /// `petition(calls)`: keeps the calls as a petition of the programmer's, and answers its number.
 ///
 /// E_TYPE if it isn't given a list of lists that each begin with a string; then E_INVARG if there are none or more than 64,
-/// if such a string names no call or one of petitions, or if lists nest more than 30 deep. Full if no number is left: the
-/// greatest is 4,294,967,294. This server's own.
+/// if such a string names no call or a call on petitions, or if lists nest more than 30 deep. Full if no number is left: the
+/// greatest is 4,294,967,294. LambdaMOO has no such call.
 pub(crate) fn petition<R: Rows>(
     rows: &mut R,
     programmer: ObjNo,
     args: &[Value],
 ) -> Result<Value, Fault>
     requires good { IsGood (R.held rows.old).maps }
+    // The programmer is an object.
     requires there { is_object (world_in (R.held rows.old)) programmer ≡ true }
+    // Each argument nests at most 32 deep, and its numbers and texts are within their limits.
     requires fit { list_all fits args.now ≡ true }
+    // The answer and the rows are those of `petition` in the model.
     ensures reaches { Reaches (given (one_list args.now) (petition (state_in (R.held rows.old)) programmer)) (R.held rows.new) result }
+    // If it isn't done, the rows are as they were, unless memory ran out.
     ensures stays { Stays (R.held rows.old) (R.held rows.new) result }
+    // If it is done, the rows are good ones, no batch is counted yet, and what stays keeps its number.
     ensures kept { OnOk result (KeepsGoodRows KeepsNumbers (R.held rows.old) (R.held rows.new)) }
 {
     let calls = one_list(args)?;

@@ -1,11 +1,11 @@
-//! What answers cost.
+//! What answers cost, in ticks.
 
 use moo_value::{Value, ValueList};
 
-/// So many bytes of a string cost a tick.
+/// How many bytes of a string in an answer cost a tick.
 const BYTES_A_TICK: u64 = 64;
 
-/// What an answer costs: a tick for each value in it, and one for each 64 bytes of its strings.
+/// How many ticks an answer costs: one for each value in it, at any depth, and one for each 64 bytes of a string.
 #[cycle(charging)]
 pub(crate) fn ticks_of(answer: &Value) -> u64 {
     match answer {
@@ -15,6 +15,7 @@ pub(crate) fn ticks_of(answer: &Value) -> u64 {
     }
 }
 
+/// How many ticks a list costs: one for itself, and those of its values. 2^64 - 1 stands for more.
 #[cycle(charging)]
 fn ticks_in(values: &ValueList) -> u64 {
     let mut ticks: u64 = 1;

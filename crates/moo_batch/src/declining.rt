@@ -1,4 +1,4 @@
-//! `decline`.
+//! The call `decline`, which takes a petition away.
 
 ghost use Rattle.std.specs.Prelude.{◌≡◌, ◌||◌, OnOk};
 ghost use Rattle.moo_world.specs.Numbers.{KeepsNumbers};
@@ -18,23 +18,26 @@ use moo_rows::Rows;
 use moo_value::{ObjNo, Value};
 use moo_world::ZERO;
 
-/// Whether the programmer is who asks, or a wizard.
+/// Whether the programmer may take away a petition that `who` made: its own, or any if the programmer is a wizard.
 fn may_decline<R: Rows>(rows: &R, programmer: ObjNo, who: ObjNo) -> bool
     ensures { result ≡ (same_object who programmer || is_wizard (world_in (R.held rows.now)) programmer) }
 {
     who == programmer || is_wizard(rows, programmer)
 }
 
-/// `decline(number)`: takes a petition away. E_INVARG if no petition has this number; E_PERM if the programmer is neither who asks nor a
-/// wizard. It answers 0. This server's own.
+/// `decline(number)`: takes a petition away, and answers 0. E_INVARG if no petition has this number; E_PERM if the programmer neither made
+/// the petition nor is a wizard. LambdaMOO has no such call.
 pub(crate) fn decline<R: Rows>(
     rows: &mut R,
     programmer: ObjNo,
     args: &[Value],
 ) -> Result<Value, Fault>
     requires good { IsGood (R.held rows.old).maps }
+    // The answer and the rows are those of `decline` in the model.
     ensures reaches { Reaches (given (one_integer args.now) (decline (state_in (R.held rows.old)) programmer)) (R.held rows.new) result }
+    // If it isn't done, the rows are as they were, unless memory ran out.
     ensures stays { Stays (R.held rows.old) (R.held rows.new) result }
+    // If it is done, the rows are good ones, no batch is counted yet, and what stays keeps its number.
     ensures kept { OnOk result (KeepsGoodRows KeepsNumbers (R.held rows.old) (R.held rows.new)) }
 {
     let number = one_integer(args)?;

@@ -15,12 +15,14 @@ use moo_value::{ObjNo, ValueList};
 use moo_world::{Batch, Call, CallName};
 use std::alloc::{AllocError, Global};
 
-/// What the petition asks for that a call grants, if it is among these rows and the programmer may see it.
+/// What the petition asks for that a `grant` names, in the rows `base`. `None` for another call, if no petition has the number, or if the
+/// programmer may not see the petition.
 fn petition_granted<'a, B: Rows>(
     base: &'a B,
     programmer: ObjNo,
     call: &Call,
 ) -> Option<&'a ValueList>
+    // They are the calls of some petition that the programmer may see.
     ensures { IfSome result (λ calls. (id : PetitionId) × (calls_seen (B.held base.now).maps programmer id ≡ Some calls.now)) }
 {
     if !matches!(call.name, CallName::Grant) {
@@ -30,7 +32,8 @@ fn petition_granted<'a, B: Rows>(
     calls_seen(base, programmer, PetitionId(u32::try_from(number).ok()?))
 }
 
-/// The facts of a refusal whose check failed on these rows. AllocError: memory ran out.
+/// What is told of a refusal besides its reason: names that the programmer may list, from `rows`, on which the check failed; and a petition
+/// that the programmer may see, from `base`, on which the batch was judged. The only error is out of memory.
 fn facts_of<'a, B: Rows, R: Rows>(
     alloc: Global,
     base: &'a B,
@@ -38,6 +41,7 @@ fn facts_of<'a, B: Rows, R: Rows>(
     batch: &Batch,
     refusal: Refusal,
 ) -> Result<Facts<'a>, AllocError>
+    // The rows are good ones, unless a call of a granted petition failed.
     requires { refusal.held ≡ None → IsGood (R.held rows.now).maps }
     ensures { IfOk result (AreFacts (world_of (R.held rows.now).maps) (B.held base.now).maps batch.now refusal) }
 {
@@ -70,8 +74,8 @@ fn facts_of<'a, B: Rows, R: Rows>(
     })
 }
 
-/// Shows a witness the refusal of a batch that was judged on the rows `base`, with its facts if it wants them. The other rows are those on
-/// which the check failed. If a granted petition fails, they have been changed by the calls that it holds before the one that failed.
+/// Shows a witness the refusal of a batch that was judged on the rows `base`, with its facts if the witness wants them and memory is left.
+/// The check failed on the rows `rows`. If a call of a granted petition failed, the calls of the petition before it have changed them.
 pub(crate) fn show_refusal<B: Rows, R: Rows, W: Witness>(
     alloc: Global,
     base: &B,
@@ -80,8 +84,11 @@ pub(crate) fn show_refusal<B: Rows, R: Rows, W: Witness>(
     refusal: Refusal,
     witness: &mut W,
 )
+    // The rows are good ones, unless a call of a granted petition failed.
     requires { refusal.held ≡ None → IsGood (R.held rows.now).maps }
+    // It takes no ticks.
     ensures ticks { W.left witness.new ≡ W.left witness.old }
+    // The witness sees this refusal, once, with its facts or with none.
     ensures sees { (facts : Option Facts)
         × IfSome facts (AreFacts (world_of (R.held rows.now).maps) (B.held base.now).maps batch.now refusal)
         × W.sees (W.kept witness.old) batch.now refusal facts (W.kept witness.new) }

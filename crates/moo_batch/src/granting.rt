@@ -1,4 +1,4 @@
-//! `grant`.
+//! The call `grant`, which makes the calls of a petition.
 
 ghost use Rattle.std.specs.Prelude.{◌≡◌, ◌≤◌, true, false, length, OnOk, IfErr};
 ghost use Rattle.std.specs.List.{list_all};
@@ -22,7 +22,8 @@ use moo_value::{ObjNo, Value};
 use moo_world::ZERO;
 use std::alloc::Global;
 
-/// One call that a petition holds, by the wizard who grants it. E_INVARG if it names no call on the world.
+/// Makes one call that a petition holds, for the wizard who grants it. E_INVARG if it isn't a call on the world; then the errors of the
+/// call.
 fn run_petitioned_call<R: Rows>(
     rows: &mut R,
     alloc: Global,
@@ -30,7 +31,9 @@ fn run_petitioned_call<R: Rows>(
     held: &Value,
 ) -> Result<Value, Fault>
     requires good { IsGood (R.held rows.old).maps }
+    // The call nests at most 32 deep, and its numbers and texts are within their limits.
     requires fit { fits held.now ≡ true }
+    // No call is made once the rows have said that their ticks are spent.
     requires leave { (R.held rows.old).base.is_spent ≡ false }
     ensures { Does (held_step (world_in (R.held rows.old)) wizard held.now) (R.held rows.old) (R.held rows.new) result }
 {
@@ -40,7 +43,7 @@ fn run_petitioned_call<R: Rows>(
     }
 }
 
-/// Why a granted petition fails, if the call at this place does.
+/// Why a grant fails, if the call at this place of its petition, from 0, fails so: for the same reason, with the place.
 fn held_at(place: u32, fault: Fault) -> Fault
     ensures { result ≡ held_at place fault }
 {
@@ -50,8 +53,8 @@ fn held_at(place: u32, fault: Fault) -> Fault
     }
 }
 
-/// The calls that a petition holds, one after another, up to the first that isn't done: those before it have changed the rows then. None
-/// is made once the rows say that no more are to be made.
+/// Makes the calls that a petition holds, one after another, up to the first that isn't done: the calls before it have changed the rows
+/// then. It makes none once the ticks of the rows are spent, and answers OutOfMemory.
 fn run_petitioned_calls<R: Rows>(
     rows: &mut R,
     alloc: Global,
@@ -59,9 +62,13 @@ fn run_petitioned_calls<R: Rows>(
     helds: &[Value],
 ) -> Result<Value, Fault>
     requires good { IsGood (R.held rows.old).maps }
+    // Each call nests at most 32 deep, and its numbers and texts are within their limits.
     requires fit { list_all fits helds.now ≡ true }
+    // There are at most 64.
     requires few { length helds.now ≤ MOST_HELD }
+    // The answer is 0 and the rows are those after all the calls; or it is why the first fails that isn't done, with its place from 0.
     ensures comes { ComesInTurn (held_steps 0 (world_in (R.held rows.old)) wizard helds.now) (R.held rows.new) result }
+    // If all are done, the rows are good ones, petitions and the sequence number are as they were, and what stays keeps its number.
     ensures kept { OnOk result (KeepInTurn wizard helds.now (R.held rows.old) (R.held rows.new)) }
 {
     let mut place: u32 = 0;
@@ -82,7 +89,7 @@ fn run_petitioned_calls<R: Rows>(
 ///
 /// E_PERM if the programmer isn't a wizard; then E_INVARG if there is no petition of this number; then the first error or Full of its
 /// calls, each of which asks first, as any call does, that the wizard is an object. The rows may then be half changed, and the caller drops
-/// them. This server's own.
+/// them. LambdaMOO has no such call.
 pub(crate) fn grant<R: Rows>(
     rows: &mut R,
     alloc: Global,
@@ -90,8 +97,11 @@ pub(crate) fn grant<R: Rows>(
     args: &[Value],
 ) -> Result<Value, Fault>
     requires good { IsGood (R.held rows.old).maps }
+    // The answer and the rows are those of `grant` in the model.
     ensures reaches { Reaches (given (one_integer args.now) (grant (state_in (R.held rows.old)) programmer)) (R.held rows.new) result }
+    // If a check of `grant` itself fails, the rows are as they were.
     ensures check { IfErr result (StaysAtCheck (R.held rows.old) (R.held rows.new)) }
+    // If it is done, the rows are good ones, no batch is counted yet, and each call of the petition kept numbers.
     ensures kept { OnOk result (KeepsGoodRows (GrantLeads programmer args.now) (R.held rows.old) (R.held rows.new)) }
 {
     let number = one_integer(args)?;

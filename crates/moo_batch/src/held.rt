@@ -11,7 +11,7 @@ ghost use Rattle.moo_world.specs.Requests.{held_call};
 use moo_value::{MooStr, Value};
 use moo_world::CallName;
 
-/// The string that values begin with, and the values after it.
+/// The string that values begin with, and the values after it; `None` if they don't begin with a string.
 fn first_text(values: &[Value]) -> Option<(&MooStr, &[Value])>
     ensures some { IfSome result (λ split. values.now ≡ Str split.0.now ∷ split.1.now) }
     ensures none { IfNone result (begins_with_text values.now ≡ false) }
@@ -22,7 +22,7 @@ fn first_text(values: &[Value]) -> Option<(&MooStr, &[Value])>
     }
 }
 
-/// The call that a name names, if it is one on the world.
+/// The call on the world that a name spells; `None` if it spells no call, or a call on petitions.
 fn name_of(name: &[u8]) -> Option<CallName>
     ensures { result ≡ option_and_then (λ n. if is_some (petition_call n) then None else Some n) (call_name_of name.now) }
 {
@@ -33,8 +33,8 @@ fn name_of(name: &[u8]) -> Option<CallName>
     }
 }
 
-/// The call that a petition holds: its name, and what it is given. None if it isn't a list that begins with the name of a call on the
-/// world. What it is given may still be too deep for a call.
+/// The call that a value in a petition is: its name and its arguments. `None` if the value isn't a list that begins with the name of a call
+/// on the world. The arguments may still nest too deep for a call.
 pub fn held_call(held: &Value) -> Option<(CallName, &[Value])>
     ensures some { IfSome result (λ call. held_call held.now ≡ Some (record { name = call.0; args = call.1.now })) }
     ensures none { IfNone result (held_call held.now ≡ None) }
@@ -48,13 +48,14 @@ pub fn held_call(held: &Value) -> Option<(CallName, &[Value])>
     Some((name, args))
 }
 
+/// Whether a value in a petition is a call on the world.
 fn is_call(held: &Value) -> bool
     ensures { result ≡ is_some (held_call held.now) }
 {
     held_call(held).is_some()
 }
 
-/// Whether each of them names a call on the world.
+/// Whether each value in a petition is a call on the world.
 pub(crate) fn are_calls(helds: &[Value]) -> bool
     ensures { result ≡ list_all (λ held. is_some (held_call held)) helds.now }
 {

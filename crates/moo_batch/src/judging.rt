@@ -29,15 +29,18 @@ use moo_value::{Code, ObjNo, Value};
 use moo_world::{Answers, Batch, Call, LAST_SEQ, is_due};
 use std::alloc::Global;
 
-/// The call at which a batch stopped, from 1, and why.
+/// The call at which a batch stopped, numbered from 1, and why.
 #[derive(Clone, Copy)]
 enum Stop {
+    /// A check of the call failed.
     Refused(Refusal),
+    /// No number is left for what the call makes.
     Full { call: u32 },
+    /// Memory ran out, or ticks were spent.
     OutOfMemory { call: u32 },
 }
 
-/// What a batch comes to. Only an accepted one changes anything.
+/// What a batch comes to. Only an accepted batch changes anything.
 #[derive(Drop)]
 pub enum Verdict {
     /// Every call was done: their answers in order, and the changes that make the rows into the next ones.
@@ -52,7 +55,7 @@ pub enum Verdict {
     OutOfMemory,
 }
 
-/// One call, on rows which haven't said that no more calls are to be made.
+/// Makes one call of a batch, on rows whose ticks aren't spent. The errors are those of `step`.
 fn step_on<R: Rows>(
     rows: &mut R,
     alloc: Global,
@@ -60,25 +63,30 @@ fn step_on<R: Rows>(
     call: &Call,
 ) -> Result<Value, Fault>
     requires good { IsGood (R.held rows.old).maps }
+    // No call is made once the rows have said that their ticks are spent.
     requires leave { (R.held rows.old).base.is_spent ≡ false }
+    // The answer and the rows are those of the call in the model.
     ensures reaches { Reaches (batch_call (state_in (R.held rows.old)) programmer call.now) (R.held rows.new) result }
+    // If a check of the call itself fails, the rows are as they were.
     ensures check { IfErr result (StaysAtCheck (R.held rows.old) (R.held rows.new)) }
+    // If it is done, the rows are good ones, no batch is counted yet, and what stays keeps its number.
     ensures kept { OnOk result (KeepsGoodRows (CallKeepsNumbers (is_grant call.now.name) programmer call.now.args) (R.held rows.old)
         (R.held rows.new)) }
 {
     step(rows, alloc, programmer, call)
 }
 
-/// Counts what an answer costs; whether one more call may be made.
-fn may_follow<R: Rows>(rows: &mut R, answer: &Value) -> bool
+/// Takes the ticks that an answer costs from those of the rows, and says whether one more call may be made: ticks are left.
+fn spend_on_answer<R: Rows>(rows: &mut R, answer: &Value) -> bool
+    // If one may, the rows are as they were.
     ensures { result ≡ true → R.held rows.new ≡ R.held rows.old }
 {
     rows.spend(ticks_of(answer));
     rows.may_call()
 }
 
-/// Does calls, one after another, up to the first that isn't done, or at which ticks are spent. The rows are then those after the calls
-/// before it, or changed or half changed by that call, and the caller drops them.
+/// Makes the calls of a batch, one after another, up to the first that isn't done, or at which ticks are spent. The rows are then those
+/// after the calls before it, or changed or half changed by that call, and the caller drops them.
 fn run_calls<R: Rows>(
     rows: &mut R,
     alloc: Global,
@@ -86,10 +94,14 @@ fn run_calls<R: Rows>(
     calls: &[Call],
 ) -> Result<Answers, Stop>
     requires good { IsGood (R.held rows.old).maps }
+    // There are at most 1,000, and ticks are left for the first.
     requires few { length calls.now ≤ MOST_CALLS }
     requires leave { (R.held rows.old).base.is_spent ≡ false }
+    // The answers and the rows are those of the calls in the model; or it stops at the first call that isn't done there.
     ensures comes { ComeTo (run_calls (state_in (R.held rows.old)) programmer calls.now) (state_in (R.held rows.new)) result }
+    // If all are done, the rows are good ones, no batch is counted yet, and each call kept numbers.
     ensures kept { OnOk result (HaveKept programmer calls.now (R.held rows.old) (R.held rows.new)) }
+    // At a check that fails, but for one of a granted petition's calls, the rows are good ones: those after the calls before.
     ensures good { IfErr result (IsGoodAt (R.held rows.new).maps) }
     ensures at { IfErr result (StandsAtCheck programmer calls.now (state_in (R.held rows.old)) (state_in (R.held rows.new))) }
 {
@@ -98,7 +110,7 @@ fn run_calls<R: Rows>(
         let number = answers.len() as u32 + 1;
         match step_on(rows, alloc, programmer, call) {
             Ok(answer) => {
-                if !may_follow(rows, &answer) {
+                if !spend_on_answer(rows, &answer) {
                     return Err(Stop::OutOfMemory { call: number });
                 }
                 if answers.push(answer).is_err() {
@@ -128,7 +140,9 @@ fn run_calls<R: Rows>(
 
 /// The changes of a batch without calls, on any rows with this head: the batch is counted. They take no memory.
 fn changes_without_calls(alloc: Global, head: Head) -> Changes
+    // A sequence number is left.
     requires room { head.seq < LAST_SEQ }
+    // Whatever the rows are, the changes give them the head with the next sequence number, and nothing else.
     ensures { (t : Maps) → AreChanges t (record t { head = record head { seq = head.seq + 1 } }) result }
 {
     let mut next = head;
@@ -143,8 +157,8 @@ fn changes_without_calls(alloc: Global, head: Head) -> Changes
     }
 }
 
-/// The verdict on a batch whose calls stopped, which left these rows over those that it was judged on. The witness sees a refusal, and
-/// ticks that are spent.
+/// The verdict on a batch whose calls stopped: judged on the rows `base`, they left the rows `rows`. The witness sees why the batch is
+/// refused, or at which call its ticks were spent.
 fn verdict_of_stop<B: Rows, R: Rows, W: Witness>(
     alloc: Global,
     base: &B,
@@ -153,14 +167,19 @@ fn verdict_of_stop<B: Rows, R: Rows, W: Witness>(
     stop: Stop,
     witness: &mut W,
 ) -> Verdict
+    // At a check that failed the rows are good ones, unless a call of a granted petition failed.
     requires { IsGoodAt (R.held rows.now).maps stop }
+    // The verdict is Refused, Full or OutOfMemory as the calls stopped, with the call and the error.
     ensures refused { (refusal : Refusal) → stop ≡ Stop.Refused refusal → result ≡ Verdict.Refused refusal.call (error_of refusal.reason) }
     ensures full { (call : ℕ) → stop ≡ Stop.Full call → result ≡ Verdict.Full call }
     ensures memory { (call : ℕ) → stop ≡ Stop.OutOfMemory call → result ≡ Verdict.OutOfMemory }
+    // It takes no ticks.
     ensures ticks { W.left witness.new ≡ W.left witness.old }
+    // The witness sees a refusal once, with its facts or with none.
     ensures sees { (refusal : Refusal) → stop ≡ Stop.Refused refusal → (facts : Option Facts)
         × IfSome facts (AreFacts (world_of (R.held rows.now).maps) (B.held base.now).maps batch.now refusal)
         × W.sees (W.kept witness.old) batch.now refusal facts (W.kept witness.new) }
+    // If the verdict is Full or OutOfMemory, the witness sees no refusal.
     ensures full_still { (call : ℕ) → stop ≡ Stop.Full call → W.kept witness.new ≡ W.kept witness.old }
     ensures memory_still { (call : ℕ) → stop ≡ Stop.OutOfMemory call → W.kept witness.new ≡ W.kept witness.old }
 {
@@ -182,11 +201,15 @@ fn verdict_of_stop<B: Rows, R: Rows, W: Witness>(
     }
 }
 
-/// Tells the witness how many ticks are left of so many after the calls of a batch, which take one at least.
+/// Tells the witness how many of its ticks are left after the calls of a batch, which take one at least. It does nothing if there is no
+/// bound (`None`).
 fn leave_ticks<R: Rows, W: Witness>(draft: &Draft<'_, R>, ticks: Option<u64>, witness: &mut W)
+    // They are the ticks that the witness had, and there was one if they are bounded.
     requires left { ticks ≡ W.left witness.old }
     requires some { (n : ℕ) → ticks ≡ Some n → 0 < n }
+    // The witness has one less, or fewer.
     ensures takes { TakesOne ticks (W.left witness.new) }
+    // It sees no refusal.
     ensures kept { W.kept witness.new ≡ W.kept witness.old }
 {
     if let Some(ticks) = ticks {
@@ -194,10 +217,10 @@ fn leave_ticks<R: Rows, W: Witness>(draft: &Draft<'_, R>, ticks: Option<u64>, wi
     }
 }
 
-/// The verdict on a batch on these rows, which stay as they are: stale if it names another number than the present
-/// one, else full if [`LAST_SEQ`] batches were accepted, else refused or full at the first call that isn't done, else
-/// accepted. A lack of memory comes only if a call is run; ticks that are spent are one. If it is accepted, what stays keeps its number,
-/// and what is new has one that was never given. The witness sees once why it is refused, and how many ticks are left.
+/// The verdict on a batch on these rows, which stay as they are. It is Stale if the batch names another number of accepted batches than the
+/// present one, else Full if [`LAST_SEQ`] batches were accepted, else Refused or Full at the first call that isn't done, else Accepted.
+/// OutOfMemory comes only if there is a call: memory ran out, or ticks were spent. If it is accepted, what stays keeps its number,
+/// and what is new has a number that was never given. The witness sees once why it is refused, and how many ticks are left.
 pub fn judge<R: Rows, W: Witness>(
     alloc: Global,
     rows: &R,
@@ -205,8 +228,11 @@ pub fn judge<R: Rows, W: Witness>(
     witness: &mut W,
 ) -> Verdict
     requires good { IsGood (R.held rows.now).maps }
+    // The verdict is that of the model on the state of these rows, and if it is accepted, the changes lead to the next state.
     ensures verdict { IsVerdict (R.held rows.now).maps batch.now result }
+    // No ticks come back, and a batch of which a call was made takes one at least.
     ensures ticks { TakesTicks (W.left witness.old) (W.left witness.new) result }
+    // The witness has seen the one refusal of a refused batch, and none of another.
     ensures seen { HasSeen W.sees (R.held rows.now).maps batch.now result (W.kept witness.old) (W.kept witness.new) }
 {
     let head = rows.head();

@@ -1,4 +1,4 @@
-//! `petitions`.
+//! The call `petitions`, which lists petitions.
 
 ghost use Rattle.std.specs.Prelude.{◌≡◌, map, ◌||◌, IfOk, OnOk};
 ghost use Rattle.std.specs.List.{filter};
@@ -18,7 +18,7 @@ use moo_value::{ObjNo, Value};
 use moo_world::list_of;
 use std::alloc::{AllocError, Global};
 
-/// A petition as it is listed: its number, who asks, and the calls.
+/// A petition as `petitions` lists it: `{number, who, calls}`. The only error is out of memory.
 fn value_of_petition(alloc: Global, id: PetitionId, row: &PetitionRow) -> Result<Value, AllocError>
     ensures { IfOk result (λ v. v ≡ listed (id, row.now)) }
 {
@@ -27,15 +27,16 @@ fn value_of_petition(alloc: Global, id: PetitionId, row: &PetitionRow) -> Result
     Ok(list_of(vec![in alloc; number, Value::Obj(row.who), calls]?))
 }
 
-/// Whether a petition is listed for a programmer who sees all, or sees those of its own.
+/// Whether `petitions` lists a petition for the programmer: any if it sees `all`, else its own.
 fn is_listed(row: &PetitionRow, all: bool, programmer: ObjNo) -> bool
     ensures { result ≡ (all || same_object row.now.who programmer) }
 {
     all || row.who == programmer
 }
 
-/// The petitions of a programmer, or all of them, as they are listed.
-fn all_listed<R: Rows>(
+/// The petitions that the programmer sees, all of them or its own, as `petitions` lists them, in the order of their numbers. The only error
+/// is out of memory.
+fn values_of_petitions<R: Rows>(
     rows: &R,
     alloc: Global,
     all: bool,
@@ -53,8 +54,8 @@ fn all_listed<R: Rows>(
     Ok(found)
 }
 
-/// `petitions()`: a list of `{number, who, calls}` for each petition, ascending: all of them for a wizard, else the programmer's own. It
-/// has no error. This server's own.
+/// `petitions()`: a list of `{number, who, calls}` for each petition, ascending: all of them for a wizard, else the programmer's own.
+/// E_ARGS if there are arguments. LambdaMOO has no such call.
 pub(crate) fn petitions<R: Rows>(
     rows: &R,
     alloc: Global,
@@ -62,11 +63,13 @@ pub(crate) fn petitions<R: Rows>(
     args: &[Value],
 ) -> Result<Value, Fault>
     requires good { IsGood (R.held rows.now).maps }
+    // The answer is that of `petitions` in the model.
     ensures reaches { Reaches (given (no_values args.now) (λ _. petitions (state_in (R.held rows.now)) programmer))
         (R.held rows.now) result }
+    // What every call of a batch keeps: here the rows stay.
     ensures kept { OnOk result (KeepsGoodRows KeepsNumbers (R.held rows.now) (R.held rows.now)) }
 {
     no_values(args)?;
-    let found = all_listed(rows, alloc, is_wizard(rows, programmer), programmer)?;
+    let found = values_of_petitions(rows, alloc, is_wizard(rows, programmer), programmer)?;
     Ok(list_of(found))
 }

@@ -1,4 +1,4 @@
-//! Petitions by number.
+//! Looking up petitions by number.
 
 ghost use Rattle.std.specs.Prelude.{◌≡◌, Some, None, IfSome, IfNone};
 ghost use Rattle.moo_world.specs.Requests.{petition_at};
@@ -7,9 +7,10 @@ ghost use Rattle.moo_batch.specs.Outcomes.{state_in};
 
 use moo_rows::{PetitionId, PetitionRow, Rows};
 
-/// The petition of a number, if there is one.
+/// The petition of a number that a call gives; `None` if no petition has the number.
 pub(crate) fn petition_at<R: Rows>(rows: &R, number: i64) -> Option<(PetitionId, &PetitionRow)>
     requires { IsGood (R.held rows.now).maps }
+    // It is the petition of the model under the number, and without one the model has none.
     ensures some { IfSome result (λ found. petition_at (state_in (R.held rows.now)) number ≡ Some (found.0, found.1.now)) }
     ensures none { IfNone result (petition_at (state_in (R.held rows.now)) number ≡ None) }
 {

@@ -1,4 +1,4 @@
-//! Any call of a batch.
+//! Making any call of a batch.
 
 ghost use Rattle.std.specs.Prelude.{◌≡◌, true, false, OnOk, IfErr};
 ghost use Rattle.std.specs.List.{list_all};
@@ -22,7 +22,8 @@ use moo_value::{ObjNo, Value};
 use moo_world::{Call, PetitionCall};
 use std::alloc::Global;
 
-/// A call of petitions, by a programmer who is an object.
+/// Makes a call on petitions, for a programmer who is an object. E_ARGS and E_TYPE if it doesn't take the arguments, then the errors of the
+/// call.
 fn petition_call<R: Rows>(
     rows: &mut R,
     alloc: Global,
@@ -31,11 +32,17 @@ fn petition_call<R: Rows>(
     args: &[Value],
 ) -> Result<Value, Fault>
     requires good { IsGood (R.held rows.old).maps }
+    // The programmer is an object.
     requires there { is_object (world_in (R.held rows.old)) programmer ≡ true }
+    // Each argument nests at most 32 deep, and its numbers and texts are within their limits.
     requires fit { list_all fits args.now ≡ true }
+    // The answer and the rows are those of the call in the model.
     ensures reaches { Reaches (petition_call_by (state_in (R.held rows.old)) programmer call args.now) (R.held rows.new) result }
+    // If a call but `grant` isn't done, the rows are as they were, unless memory ran out.
     ensures stays { grants call ≡ false → Stays (R.held rows.old) (R.held rows.new) result }
+    // If a check of the call itself fails, the rows are as they were, with `grant` too.
     ensures check { IfErr result (StaysAtCheck (R.held rows.old) (R.held rows.new)) }
+    // If it is done, the rows are good ones, no batch is counted yet, and what stays keeps its number.
     ensures kept { OnOk result (KeepsGoodRows (CallKeepsNumbers (grants call) programmer args.now) (R.held rows.old) (R.held rows.new)) }
 {
     match call {
@@ -46,9 +53,9 @@ fn petition_call<R: Rows>(
     }
 }
 
-/// One call of the programmer's, of any kind. E_PERM if the programmer isn't an object; then E_ARGS and E_TYPE; then the errors of the
-/// call. At an error, and if a number is wanted and none is left (Full), the rows are as they were, unless a petition was to be granted:
-/// then they may be half changed, as they may be out of memory, and the caller drops them.
+/// Makes one call for the programmer, on the world or on petitions. E_PERM if the programmer isn't an object; then E_ARGS and E_TYPE; then
+/// the errors of the call. At an error, and if a number is wanted and none is left (Full), the rows are as they were. Out of memory they
+/// may be half changed, as they may after a `grant` that isn't done, and the caller drops them.
 #[tactic(auto, unfolding(moo_world::specs::Requests::batch_call))]
 pub fn step<R: Rows>(
     rows: &mut R,
@@ -57,9 +64,13 @@ pub fn step<R: Rows>(
     call: &Call,
 ) -> Result<Value, Fault>
     requires good { IsGood (R.held rows.old).maps }
+    // The answer and the rows are those of the call in the model.
     ensures reaches { Reaches (batch_call (state_in (R.held rows.old)) programmer call.now) (R.held rows.new) result }
+    // If a call but `grant` isn't done, the rows are as they were, unless memory ran out.
     ensures stays { is_grant call.now.name ≡ false → Stays (R.held rows.old) (R.held rows.new) result }
+    // If a check of the call itself fails, the rows are as they were, with `grant` too.
     ensures check { IfErr result (StaysAtCheck (R.held rows.old) (R.held rows.new)) }
+    // If it is done, the rows are good ones, no batch is counted yet, and what stays keeps its number.
     ensures kept { OnOk result (KeepsGoodRows (CallKeepsNumbers (is_grant call.now.name) programmer call.now.args) (R.held rows.old)
         (R.held rows.new)) }
 {

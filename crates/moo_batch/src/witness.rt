@@ -1,4 +1,4 @@
-//! Who sees how a batch is judged.
+//! Witnesses, who see how batches are judged.
 
 ghost use Rattle.std.specs.Prelude.{◌≡◌, ℕ, Option, option_map};
 ghost use Rattle.moo_batch.specs.declared.witness.Facts.{Facts};
@@ -18,18 +18,18 @@ pub struct Refusal {
     pub reason: Reason,
 }
 
-/// What whoever tells of a refusal is told of the rows.
+/// What a witness is told of the rows when a batch is refused.
 #[derive(Drop)]
 pub struct Facts<'a> {
-    /// Names that its programmer may list.
+    /// Names that the programmer of the batch may list.
     pub names: Disclosure,
-    /// What the petition asks for that the call grants, if the batch doesn't make it and its programmer may see it.
+    /// What the petition asks for that the call grants, if the petition was there before the batch and the programmer may see it.
     pub petition: Option<&'a ValueList>,
     /// The number that the first petition of the batch gets.
     pub next_petition: u32,
 }
 
-/// Who says how many ticks a batch may take, and sees why it is refused, at the check that failed. It never sees rows.
+/// A witness says how many ticks a batch may take, and sees why the batch is refused, at the check that failed. It never sees rows.
 pub trait Witness {
     /// What it keeps of the refusals that it has seen.
     ghost Kept: { Type 0 };
@@ -42,16 +42,16 @@ pub trait Witness {
     /// How many ticks are left, or `None` if there is no bound.
     ghost left: { Self → Option ℕ };
 
-    /// How many ticks are left: so often rows may be looked up, put and removed. `None`: there is no bound.
+    /// How many ticks are left: how often rows may still be looked up, put and removed. `None` if there is no bound.
     fn ticks(&self) -> Option<u64>
         ensures { result ≡ left self.now };
 
-    /// So many are left from now on, if there is a bound.
+    /// Sets the number of ticks that are left, if there is a bound.
     fn leave(&mut self, ticks: u64)
         ensures left { left self.new ≡ option_map (λ _. ticks) (left self.old) }
         ensures kept { kept self.new ≡ kept self.old };
 
-    /// They were spent at this call of a batch, numbered from 1.
+    /// Tells it that the ticks were spent at this call of a batch, numbered from 1.
     fn see_spent(&mut self, call: u32)
         ensures left { left self.new ≡ left self.old }
         ensures kept { kept self.new ≡ kept self.old };
@@ -59,7 +59,7 @@ pub trait Witness {
     /// Whether it wants to be told the facts of a refusal.
     fn wants_facts(&self) -> bool;
 
-    /// A batch is refused. The facts are `None` if it doesn't want them, or memory ran out for them.
+    /// Shows it the refusal of a batch. The facts are `None` if it doesn't want them, or memory ran out for them.
     fn see(&mut self, batch: &Batch, refusal: Refusal, facts: Option<&Facts<'_>>)
         ensures left { left self.new ≡ left self.old }
         ensures sees { sees (kept self.old) batch.now refusal (option_map (λ f. f.now) facts.entry) (kept self.new) };

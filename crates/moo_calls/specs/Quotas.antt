@@ -6,10 +6,10 @@ use Rattle.moo_world.specs.Objects.{nothing, same_object}
 use Rattle.moo_world.specs.Quota.{quota_of}
 use Rattle.moo_world.specs.World.{World}
 
--- the quota of the owner given; `None` if #-1 was given
+-- how many objects may still be made for the owner given; `None` if #-1 was given, or if the owner has no quota
 abbrev pub quota_given : World → ObjNo → Option ℤ
 quota_given world owner = if same_object nothing owner then None else quota_of world owner
 
--- whether a quota, if there is one, has one left
+-- whether a quota is above 0, or there is none
 abbrev pub has_one_left : Option ℤ → Bool
 has_one_left quota = unwrap_or (option_map (λ number. int_lt (pos 0) number) quota) true

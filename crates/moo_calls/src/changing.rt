@@ -39,7 +39,7 @@ pub fn set_player_flag<R: Rows>(
     Ok(ZERO)
 }
 
-/// Whether an accept list has 1,000 entries at most.
+/// Whether an accept list has 1,000 entries at most. No list is within the limit too.
 fn is_short(list: &Option<ObjList>) -> bool
     ensures { result ≡ nat_le (length (unwrap_or list.now [])) MOST_ACCEPTED }
 {
@@ -62,6 +62,7 @@ pub fn set_accept<R: Rows>(
     list: Option<ObjList>,
 ) -> Result<Value, Fault>
     requires good { IsGood (R.held rows.old).maps }
+    // The objects of the list have numbers of 32 bits.
     requires numbers { list_all is_number (unwrap_or list []) ≡ true }
     ensures { Does (set_accept (world_in (R.held rows.old)) programmer x list) (R.held rows.old) (R.held rows.new) result }
 {
@@ -78,7 +79,8 @@ pub fn set_accept<R: Rows>(
     Ok(ZERO)
 }
 
-/// `set_player_flag`, by what it is given.
+/// Makes the call `set_player_flag` with a list of arguments: an object and a value. E_ARGS and E_TYPE if they are others, and then the
+/// errors of `set_player_flag`.
 pub(crate) fn set_player_flag_given<R: Rows>(
     rows: &mut R,
     alloc: Global,
@@ -92,7 +94,8 @@ pub(crate) fn set_player_flag_given<R: Rows>(
     set_player_flag(rows, alloc, programmer, x, value)
 }
 
-/// `set_accept`, by what it is given.
+/// Makes the call `set_accept` with a list of arguments: an object, and a list of objects or 0. E_ARGS and E_TYPE if they are others, and
+/// then the errors of `set_accept`.
 pub(crate) fn set_accept_given<R: Rows>(
     rows: &mut R,
     alloc: Global,
@@ -100,6 +103,7 @@ pub(crate) fn set_accept_given<R: Rows>(
     args: &[Value],
 ) -> Result<Value, Fault>
     requires good { IsGood (R.held rows.old).maps }
+    // Each argument nests at most 32 deep, and its numbers and texts are within their limits.
     requires fit { list_all fits args.now ≡ true }
     ensures { Does (named_call (world_in (R.held rows.old)) programmer SetAccept args.now) (R.held rows.old) (R.held rows.new) result }
 {

@@ -18,7 +18,7 @@ use moo_tree::{is_nothing, valid};
 use moo_value::{ObjNo, Value};
 use std::alloc::{AllocError, Global};
 
-/// The number of the next object, if one is left.
+/// The number of the next object; `None` if 2,147,483,647 has been given.
 fn next_object<R: Rows>(rows: &R) -> Option<ObjNo>
     ensures { result ≡ next_object (world_in (R.held rows.now)) }
 {
@@ -30,17 +30,18 @@ fn next_object<R: Rows>(rows: &R) -> Option<ObjNo>
     }
 }
 
-/// The object itself, if the owner is `#-1`.
+/// The owner of the new object x: x itself if the owner given is `#-1`, else the owner given.
 fn owner_or_self(x: ObjNo, owner: ObjNo) -> ObjNo
     ensures { result ≡ owner_or_self x owner }
 {
     if is_nothing(owner) { x } else { owner }
 }
 
-/// The quota of the owner given; `None` if `#-1` was given.
+/// The quota of the owner given: how many objects may still be made for it. `None` if `#-1` was given, or if the owner has no quota.
 fn quota_given<R: Rows>(rows: &R, owner: ObjNo) -> Option<i64>
     requires { IsGood (R.held rows.now).maps }
     ensures quota { result ≡ quota_given (world_in (R.held rows.now)) owner }
+    // It has one left if and only if the owner may afford one more object.
     ensures left { has_one_left result ≡ may_afford (world_in (R.held rows.now)) owner }
 {
     if is_nothing(owner) {
@@ -50,7 +51,7 @@ fn quota_given<R: Rows>(rows: &R, owner: ObjNo) -> Option<i64>
     }
 }
 
-/// Whether a quota, if there is one, has one left.
+/// Whether a quota is above 0, or there is none.
 fn has_one_left(quota: Option<i64>) -> bool
     ensures { result ≡ has_one_left quota }
 {
@@ -60,13 +61,18 @@ fn has_one_left(quota: Option<i64>) -> bool
     }
 }
 
-/// Takes one object from the owner's quota, if there is one.
+/// Takes one from the owner's quota, if there is one. The only error is out of memory.
 fn charge<R: Rows>(rows: &mut R, owner: ObjNo, quota: Option<i64>) -> Result<(), AllocError>
     requires good { IsGood (R.held rows.old).maps }
+    // The quota is the owner's, and there is none if the owner is `#-1`.
     requires quota { quota ≡ quota_given (world_in (R.held rows.old)) owner }
+    // It is above 0, or there is none.
     requires left { has_one_left quota ≡ true }
+    // The owner's quota is one lower, and the world is as it was otherwise.
     ensures world { OnOk result (world_in (R.held rows.new) ≡ charged (world_in (R.held rows.old)) owner) }
+    // The rows are good ones again; the sequence number and the petitions are as they were.
     ensures kept { OnOk result (Keeps (R.held rows.old) (R.held rows.new)) }
+    // Slots alone were written.
     ensures rest { OnOk result (IsSameButSlots (R.held rows.old).maps (R.held rows.new).maps) }
 {
     if quota.is_some() {
@@ -75,7 +81,7 @@ fn charge<R: Rows>(rows: &mut R, owner: ObjNo, quota: Option<i64>) -> Result<(),
     Ok(())
 }
 
-/// Why an object may not be made under a parent.
+/// Why the programmer may not make an object under this parent: it is neither fertile nor the programmer's, or it isn't an object.
 fn parent_fault<R: Rows>(rows: &R, parent: ObjNo) -> Reason
     ensures { result ≡ unfit_parent (world_in (R.held rows.now)) parent }
 {
@@ -89,7 +95,7 @@ fn parent_fault<R: Rows>(rows: &R, parent: ObjNo) -> Reason
 /// `create(parent, owner)`: makes an object under a parent, takes one from the owner's quota, and answers the new object.
 /// The owner is the programmer if none is given, and the object itself if it is `#-1`. E_PERM if the programmer
 /// may not use the parent, and then if it may not make an object for the owner; E_INVARG if the owner is neither an
-/// object nor `#-1`; E_QUOTA if the owner's quota is used up. Full if every number has been given.
+/// object nor `#-1`; E_QUOTA if the owner's quota is used up. Full if every number of an object has been given.
 /// LambdaMOO Programmer's Manual, 'Fundamental Operations on Objects'.
 pub fn create<R: Rows>(
     rows: &mut R,
@@ -123,7 +129,8 @@ pub fn create<R: Rows>(
     Ok(Value::Obj(x))
 }
 
-/// `create`, by what it is given.
+/// Makes the call `create` with a list of arguments: a parent, and an owner or none. E_ARGS and E_TYPE if they are others, and then the
+/// errors of `create`.
 pub(crate) fn create_given<R: Rows>(
     rows: &mut R,
     alloc: Global,

@@ -18,6 +18,7 @@ use std::alloc::Global;
 /// LambdaMOO Programmer's Manual, 'Properties on Objects' in the chapter on the database.
 pub fn field_of<R: Rows>(rows: &R, alloc: Global, x: ObjNo, field: BuiltIn) -> Result<Value, Fault>
     requires good { IsGood (R.held rows.now).maps }
+    // x is an object.
     requires there { is_object (world_in (R.held rows.now)) x ≡ true }
     ensures { Answers (Done (field_of (world_in (R.held rows.now)) x field) (world_in (R.held rows.now))) (R.held rows.now) result }
 {

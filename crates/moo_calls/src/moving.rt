@@ -47,7 +47,8 @@ pub fn move_into<R: Rows>(
     Ok(ZERO)
 }
 
-/// `move`, by what it is given.
+/// Makes the call `move` with a list of arguments: the object and its destination. E_ARGS and E_TYPE if they aren't two objects, and then
+/// the errors of `move`.
 pub(crate) fn move_given<R: Rows>(
     rows: &mut R,
     alloc: Global,

@@ -1,5 +1,5 @@
-//! The calls on properties, by what they are given: a function each, since a proof grows with what a function holds where it may
-//! end early.
+//! The calls on properties, each made with a list of arguments. E_ARGS is for another number of arguments, and then E_TYPE for one of
+//! another type. Each has a function of its own, since a proof grows with what a function holds where it may end early.
 
 ghost use Rattle.std.specs.Prelude.{◌≡◌, true};
 ghost use Rattle.std.specs.List.{list_all};
@@ -18,7 +18,7 @@ use moo_rows::Rows;
 use moo_value::{ObjNo, Value};
 use std::alloc::Global;
 
-/// `get`, by what it is given.
+/// Makes the call `get` with an object and a name. E_ARGS and E_TYPE if it is given others, and then the errors of `get`.
 pub(crate) fn get<R: Rows>(
     rows: &R,
     alloc: Global,
@@ -32,7 +32,7 @@ pub(crate) fn get<R: Rows>(
     values::get(rows, alloc, programmer, x, property)
 }
 
-/// `properties`, by what it is given.
+/// Makes the call `properties` with an object. E_ARGS and E_TYPE if it is given others, and then the errors of `properties`.
 pub(crate) fn properties<R: Rows>(
     rows: &R,
     alloc: Global,
@@ -45,7 +45,8 @@ pub(crate) fn properties<R: Rows>(
     moo_calls_properties::properties(rows, alloc, programmer, one_object(args)?)
 }
 
-/// `property_info`, by what it is given.
+/// Makes the call `property_info` with an object and a name. E_ARGS and E_TYPE if it is given others, and then the errors of
+/// `property_info`.
 pub(crate) fn property_info<R: Rows>(
     rows: &R,
     alloc: Global,
@@ -59,7 +60,8 @@ pub(crate) fn property_info<R: Rows>(
     moo_calls_properties::property_info(rows, alloc, programmer, x, property)
 }
 
-/// `is_clear_property`, by what it is given.
+/// Makes the call `is_clear_property` with an object and a name. E_ARGS and E_TYPE if it is given others, and then the errors of
+/// `is_clear_property`.
 pub(crate) fn is_clear_property<R: Rows>(
     rows: &R,
     programmer: ObjNo,
@@ -72,7 +74,7 @@ pub(crate) fn is_clear_property<R: Rows>(
     moo_calls_properties::is_clear_property(rows, programmer, x, property)
 }
 
-/// `set`, by what it is given.
+/// Makes the call `set` with an object, a name and a value. E_ARGS and E_TYPE if it is given others, and then the errors of `set`.
 pub(crate) fn set<R: Rows>(
     rows: &mut R,
     alloc: Global,
@@ -80,6 +82,7 @@ pub(crate) fn set<R: Rows>(
     args: &[Value],
 ) -> Result<Value, Fault>
     requires good { IsGood (R.held rows.old).maps }
+    // Each argument nests at most 32 deep, and its numbers and texts are within their limits.
     requires fit { list_all fits args.now ≡ true }
     ensures { Does (named_call (world_in (R.held rows.old)) programmer Set args.now) (R.held rows.old) (R.held rows.new) result }
 {
@@ -87,7 +90,8 @@ pub(crate) fn set<R: Rows>(
     values::set(rows, alloc, programmer, x, property, value)
 }
 
-/// `add_property`, by what it is given.
+/// Makes the call `add_property` with an object, a name, a value and `{owner, perms}`. E_ARGS and E_TYPE if it is given others, and then
+/// the errors of `add_property`.
 pub(crate) fn add_property<R: Rows>(
     rows: &mut R,
     alloc: Global,
@@ -95,6 +99,7 @@ pub(crate) fn add_property<R: Rows>(
     args: &[Value],
 ) -> Result<Value, Fault>
     requires good { IsGood (R.held rows.old).maps }
+    // Each argument nests at most 32 deep, and its numbers and texts are within their limits.
     requires fit { list_all fits args.now ≡ true }
     ensures { Does (named_call (world_in (R.held rows.old)) programmer AddProperty args.now) (R.held rows.old) (R.held rows.new) result }
 {
@@ -104,7 +109,8 @@ pub(crate) fn add_property<R: Rows>(
     )
 }
 
-/// `delete_property`, by what it is given.
+/// Makes the call `delete_property` with an object and a name. E_ARGS and E_TYPE if it is given others, and then the errors of
+/// `delete_property`.
 pub(crate) fn delete_property<R: Rows>(
     rows: &mut R,
     alloc: Global,
@@ -119,7 +125,8 @@ pub(crate) fn delete_property<R: Rows>(
     moo_calls_properties::delete_property(rows, alloc, programmer, x, property)
 }
 
-/// `set_property_info`, by what it is given.
+/// Makes the call `set_property_info` with an object, a name, and `{owner, perms}` or `{owner, perms, new-name}`. E_ARGS and E_TYPE if it
+/// is given others, and then the errors of `set_property_info`.
 pub(crate) fn set_property_info<R: Rows>(
     rows: &mut R,
     alloc: Global,
@@ -142,7 +149,8 @@ pub(crate) fn set_property_info<R: Rows>(
     )
 }
 
-/// `clear_property`, by what it is given.
+/// Makes the call `clear_property` with an object and a name. E_ARGS and E_TYPE if it is given others, and then the errors of
+/// `clear_property`.
 pub(crate) fn clear_property<R: Rows>(
     rows: &mut R,
     programmer: ObjNo,

@@ -1,5 +1,5 @@
-//! The calls on verbs, by what they are given: a function each, since a proof grows with what a function holds where it may
-//! end early.
+//! The calls on verbs, each made with a list of arguments. E_ARGS is for another number of arguments, and then E_TYPE for one of another
+//! type. Each has a function of its own, since a proof grows with what a function holds where it may end early.
 
 ghost use Rattle.moo_calls_shared.specs.Outcomes.{world_in, Answers, Does};
 ghost use Rattle.moo_world.specs.Rows.{IsGood};
@@ -14,7 +14,7 @@ use moo_rows::Rows;
 use moo_value::{ObjNo, Value};
 use std::alloc::Global;
 
-/// `verbs`, by what it is given.
+/// Makes the call `verbs` with an object. E_ARGS and E_TYPE if it is given others, and then the errors of `verbs`.
 pub(crate) fn verbs<R: Rows>(
     rows: &R,
     alloc: Global,
@@ -27,7 +27,8 @@ pub(crate) fn verbs<R: Rows>(
     moo_calls_verbs::verbs(rows, alloc, programmer, one_object(args)?)
 }
 
-/// `verb_info`, by what it is given.
+/// Makes the call `verb_info` with an object and a descriptor. E_ARGS and E_TYPE if it is given others, and then the errors of
+/// `verb_info`.
 pub(crate) fn verb_info<R: Rows>(
     rows: &R,
     alloc: Global,
@@ -41,7 +42,8 @@ pub(crate) fn verb_info<R: Rows>(
     moo_calls_verbs::verb_info(rows, alloc, programmer, x, &desc)
 }
 
-/// `verb_args`, by what it is given.
+/// Makes the call `verb_args` with an object and a descriptor. E_ARGS and E_TYPE if it is given others, and then the errors of
+/// `verb_args`.
 pub(crate) fn verb_args<R: Rows>(
     rows: &R,
     alloc: Global,
@@ -55,7 +57,8 @@ pub(crate) fn verb_args<R: Rows>(
     moo_calls_verbs::verb_args(rows, alloc, programmer, x, &desc)
 }
 
-/// `add_verb`, by what it is given.
+/// Makes the call `add_verb` with an object, `{owner, perms, names}` and `{dobj, prep, iobj}`. E_ARGS and E_TYPE if it is given others, and
+/// then the errors of `add_verb`.
 pub(crate) fn add_verb<R: Rows>(
     rows: &mut R,
     alloc: Global,
@@ -69,7 +72,8 @@ pub(crate) fn add_verb<R: Rows>(
     moo_calls_verbs::add_verb(rows, alloc, programmer, new.object, new.verb, new.args)
 }
 
-/// `delete_verb`, by what it is given.
+/// Makes the call `delete_verb` with an object and a descriptor. E_ARGS and E_TYPE if it is given others, and then the errors of
+/// `delete_verb`.
 pub(crate) fn delete_verb<R: Rows>(
     rows: &mut R,
     alloc: Global,
@@ -83,7 +87,8 @@ pub(crate) fn delete_verb<R: Rows>(
     moo_calls_verbs::delete_verb(rows, programmer, x, &desc)
 }
 
-/// `set_verb_info`, by what it is given.
+/// Makes the call `set_verb_info` with an object, a descriptor and `{owner, perms, names}`. E_ARGS and E_TYPE if it is given others, and
+/// then the errors of `set_verb_info`.
 pub(crate) fn set_verb_info<R: Rows>(
     rows: &mut R,
     alloc: Global,
@@ -97,7 +102,8 @@ pub(crate) fn set_verb_info<R: Rows>(
     moo_calls_verbs::set_verb_info(rows, alloc, programmer, new.object, &new.desc, new.verb)
 }
 
-/// `set_verb_args`, by what it is given.
+/// Makes the call `set_verb_args` with an object, a descriptor and `{dobj, prep, iobj}`. E_ARGS and E_TYPE if it is given others, and then
+/// the errors of `set_verb_args`.
 pub(crate) fn set_verb_args<R: Rows>(
     rows: &mut R,
     alloc: Global,

@@ -14,7 +14,7 @@ use moo_world::ZERO;
 use std::alloc::Global;
 
 /// `chparent(object, new-parent)`: puts an object under another parent, `#-1` for none, and answers 0. The object and its
-/// descendants lose the properties of ancestors that they have no more, and get those of the ancestors that are new. E_INVARG
+/// descendants lose the properties that only their former ancestors define, and get those of their new ancestors. E_INVARG
 /// if there is no such object, and if the new parent is neither an object nor `#-1`; E_PERM if the programmer neither owns
 /// the object nor is a wizard, and then if it may not use the parent; E_RECMOVE if the parent is the object or a
 /// descendant of it; E_INVARG if the object or a descendant defines a property of a name that the parent has.
@@ -51,7 +51,8 @@ pub fn chparent<R: Rows>(
     Ok(ZERO)
 }
 
-/// `chparent`, by what it is given.
+/// Makes the call `chparent` with a list of arguments: the object and its new parent. E_ARGS and E_TYPE if they aren't two objects, and
+/// then the errors of `chparent`.
 pub(crate) fn chparent_given<R: Rows>(
     rows: &mut R,
     alloc: Global,

@@ -17,9 +17,10 @@ use moo_value::{ObjNo, Value};
 use moo_world::{accept_value, flag, object_list};
 use std::alloc::Global;
 
-/// The row of an object, or E_INVARG.
+/// The row of an object; E_INVARG if no object has the number.
 fn object<R: Rows>(rows: &R, x: ObjNo) -> Result<&ObjRow, Fault>
     ensures there { IfOk result (λ row. row_of (world_in (R.held rows.now)) x ≡ Some row.now) }
+    // The only error is that x isn't an object, and only if it isn't one.
     ensures error { IfErr result (λ fault. fault ≡ Moo (NoObject x)) }
     ensures missing { IfErr result (λ fault. is_object (world_in (R.held rows.now)) x ≡ false) }
 {
@@ -29,7 +30,7 @@ fn object<R: Rows>(rows: &R, x: ObjNo) -> Result<&ObjRow, Fault>
     }
 }
 
-/// `valid(object)`: 1 if the number is that of an object, and 0 if it isn't. It has no error.
+/// `valid(object)`: 1 if the number is that of an object, and 0 if it isn't. It has no error but those of its arguments.
 /// LambdaMOO Programmer's Manual, 'Fundamental Operations on Objects'.
 pub(crate) fn valid<R: Rows>(rows: &R, args: &[Value]) -> Result<Value, Fault>
     ensures comes { Answers (given (one_object args.now) (valid (world_in (R.held rows.now)))) (R.held rows.now) result }
@@ -68,7 +69,7 @@ pub(crate) fn is_player<R: Rows>(rows: &R, args: &[Value]) -> Result<Value, Faul
     Ok(flag(object(rows, one_object(args)?)?.player))
 }
 
-/// `players()`: the list of all players, ascending. It has no error.
+/// `players()`: the list of all players, ascending. E_ARGS if there are arguments.
 /// LambdaMOO Programmer's Manual, 'Operations on Player Objects'.
 pub(crate) fn players<R: Rows>(rows: &R, alloc: Global, args: &[Value]) -> Result<Value, Fault>
     requires { IsGood (R.held rows.now).maps }
@@ -80,7 +81,7 @@ pub(crate) fn players<R: Rows>(rows: &R, alloc: Global, args: &[Value]) -> Resul
 }
 
 /// `max_object()`: the greatest number that was ever given to an object, even if that object is gone; `#-1` if
-/// none was given. It has no error.
+/// none was given. E_ARGS if there are arguments.
 /// LambdaMOO Programmer's Manual, 'Fundamental Operations on Objects'.
 pub(crate) fn max_object<R: Rows>(rows: &R, args: &[Value]) -> Result<Value, Fault>
     ensures comes { Answers (given (no_values args.now) (λ _. max_object (world_in (R.held rows.now)))) (R.held rows.now) result }
@@ -90,7 +91,7 @@ pub(crate) fn max_object<R: Rows>(rows: &R, args: &[Value]) -> Result<Value, Fau
 }
 
 /// `accept_list(object)`: the list of objects that the object itself accepts with their descendants, or 0 if it holds
-/// none. E_INVARG if there is no such object. This server's own.
+/// no list. E_INVARG if there is no such object. LambdaMOO has no such call.
 pub(crate) fn accept_list<R: Rows>(rows: &R, alloc: Global, args: &[Value]) -> Result<Value, Fault>
     ensures comes { Answers (given (one_object args.now) (accept_list (world_in (R.held rows.now)))) (R.held rows.now) result }
 {

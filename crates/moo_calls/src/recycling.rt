@@ -1,4 +1,4 @@
-//! The end of an object.
+//! Removing objects.
 
 ghost use Rattle.moo_world.specs.Calls.{recycle, named_call};
 ghost use Rattle.moo_world.specs.declared.name.CallName.TheVariants.{Recycle};
@@ -13,8 +13,8 @@ use moo_world::ZERO;
 use std::alloc::Global;
 
 /// `recycle(object)`: removes an object with its properties and verbs, gives one back to the quota of its former owner, and
-/// answers 0. Its children go to its parent, and what is in it to `#-1`. The quota is read when the object is gone, and one
-/// at the greatest integer stays. E_INVARG if there is no such object, and then E_PERM if the programmer neither owns it
+/// answers 0. Its children go to its parent, and its contents to `#-1`. The quota is read when the object is gone, and a quota
+/// of the greatest integer stays. E_INVARG if there is no such object, and then E_PERM if the programmer neither owns it
 /// nor is a wizard.
 /// LambdaMOO Programmer's Manual, 'Fundamental Operations on Objects'.
 pub fn recycle<R: Rows>(
@@ -38,7 +38,7 @@ pub fn recycle<R: Rows>(
     Ok(ZERO)
 }
 
-/// `recycle`, by what it is given.
+/// Makes the call `recycle` with a list of arguments: an object. E_ARGS and E_TYPE if they are others, and then the errors of `recycle`.
 pub(crate) fn recycle_given<R: Rows>(
     rows: &mut R,
     alloc: Global,

@@ -15,9 +15,9 @@ use moo_value::{ObjNo, Value};
 use moo_world::{BuiltIn, Change, ZERO};
 use std::alloc::Global;
 
-/// The change that a value is for a built-in property. E_PERM for `location` and `contents`, which `set` doesn't write;
-/// E_TYPE for a `name` that isn't a string and for an `owner` that isn't an object. Any value is one for the others, by its truth.
-/// OutOfMemory means out of memory and nothing else.
+/// The change of an object's row that sets a built-in property to a value. E_PERM for `location` and `contents`, which `set`
+/// doesn't write; E_TYPE for a `name` that isn't a string and for an `owner` that isn't an object. The others are flags, set to
+/// the truth of any value. OutOfMemory means out of memory and nothing else.
 fn change_of(alloc: Global, field: BuiltIn, value: &Value) -> Result<Change, Fault>
     ensures taken { TakenOrNot (change_of field value.now) result }
 {
@@ -46,7 +46,7 @@ fn may_set<R: Rows>(rows: &R, programmer: ObjNo, x: ObjNo, field: BuiltIn) -> bo
     }
 }
 
-/// Why the programmer may not name the object.
+/// Why the programmer may not name the object: it is a player, whom only a wizard names, or the programmer doesn't control it.
 fn namer_fault<R: Rows>(rows: &R, x: ObjNo) -> Reason
     ensures { result ≡ unset_reason (world_in (R.held rows.now)) x Name }
 {
@@ -56,7 +56,8 @@ fn namer_fault<R: Rows>(rows: &R, x: ObjNo) -> Reason
     }
 }
 
-/// Why the programmer may not set a built-in property of the object.
+/// Why the programmer may not set a built-in property of the object: it may not name the object, it doesn't control the object, or
+/// the property is one that only a wizard sets.
 fn setter_fault<R: Rows>(rows: &R, x: ObjNo, field: BuiltIn) -> Reason
     ensures { result ≡ unset_reason (world_in (R.held rows.now)) x field }
 {
@@ -67,7 +68,7 @@ fn setter_fault<R: Rows>(rows: &R, x: ObjNo, field: BuiltIn) -> Reason
     }
 }
 
-/// The owner that the change gives, if it gives one that isn't an object.
+/// The owner that the change gives, if it isn't an object; `None` if it is one, or if the change gives no owner.
 fn missing_owner<R: Rows>(rows: &R, change: &Change) -> Option<ObjNo>
     ensures { result ≡ (if owner_is_object (world_in (R.held rows.now)) change.now then None else Some (owner_given change.now)) }
 {
@@ -79,7 +80,7 @@ fn missing_owner<R: Rows>(rows: &R, change: &Change) -> Option<ObjNo>
 
 /// Sets a built-in property of an object, and answers 0. E_PERM for `location` and `contents`; E_TYPE for a `name` that is
 /// not a string and an `owner` that isn't an object; E_PERM if the programmer may not set it: a wizard may, and the object's
-/// owner may set `r`, `w`, `f` and, unless the object is a player, `name`; E_INVARG if the new owner isn't there.
+/// owner may set `r`, `w`, `f` and, unless the object is a player, `name`; E_INVARG if no object has the new owner's number.
 ///
 /// LambdaMOO Programmer's Manual, 'Properties on Objects' in the chapter on the database.
 pub fn set_built_in<R: Rows>(
@@ -91,7 +92,9 @@ pub fn set_built_in<R: Rows>(
     value: &Value,
 ) -> Result<Value, Fault>
     requires good { IsGood (R.held rows.old).maps }
+    // x is an object.
     requires there { is_object (world_in (R.held rows.old)) x ≡ true }
+    // The value nests at most 32 deep, and its numbers and texts are within their limits.
     requires fit { fits value.now ≡ true }
     ensures { Does (set_built_in (world_in (R.held rows.old)) programmer x field value.now) (R.held rows.old) (R.held rows.new) result }
 {

@@ -1,4 +1,4 @@
-//! One call.
+//! Making one call.
 
 ghost use Rattle.std.specs.Prelude.{◌≡◌, true};
 ghost use Rattle.std.specs.List.{list_all};
@@ -15,7 +15,8 @@ use moo_value::{ObjNo, Value};
 use moo_world::{Call, CallName};
 use std::alloc::Global;
 
-/// A call by its name, by a programmer who is an object. Petitions aren't part of the world, and their calls aren't among these.
+/// Makes the call of a name, for a programmer who is an object. E_ARGS and E_TYPE if it doesn't take the arguments, then the errors of the
+/// call. E_INVARG for the calls on petitions, which aren't in the world: a batch makes those itself.
 fn named_call<R: Rows>(
     rows: &mut R,
     alloc: Global,
@@ -24,6 +25,7 @@ fn named_call<R: Rows>(
     args: &[Value],
 ) -> Result<Value, Fault>
     requires good { IsGood (R.held rows.old).maps }
+    // Each argument nests at most 32 deep, and its numbers and texts are within their limits.
     requires fit { list_all fits args.now ≡ true }
     ensures { Does (named_call (world_in (R.held rows.old)) programmer name args.now) (R.held rows.old) (R.held rows.new) result }
 {
@@ -65,7 +67,7 @@ fn named_call<R: Rows>(
     }
 }
 
-/// One call on the world, of the programmer's. E_PERM if the programmer isn't an object; then E_ARGS and E_TYPE; then the errors of the
+/// Makes one call on the world for the programmer. E_PERM if the programmer isn't an object; then E_ARGS and E_TYPE; then the errors of the
 /// call. At an error, and if a number is wanted and none is left (Full), the rows are as they were. Out of memory, they may be
 /// half changed, and the caller drops them.
 #[tactic(auto, unfolding(moo_world::specs::Calls::world_call))]
@@ -81,7 +83,7 @@ pub fn step<R: Rows>(
     step_named(rows, alloc, programmer, call.name, call.args.items())
 }
 
-/// The same of a call whose name and arguments are apart.
+/// Makes one call on the world for the programmer, by the name and the arguments of the call. The errors are those of `step`.
 #[tactic(auto, unfolding(moo_world::specs::Calls::world_call))]
 pub fn step_named<R: Rows>(
     rows: &mut R,
@@ -91,6 +93,7 @@ pub fn step_named<R: Rows>(
     args: &[Value],
 ) -> Result<Value, Fault>
     requires good { IsGood (R.held rows.old).maps }
+    // Each argument nests at most 32 deep, and its numbers and texts are within their limits.
     requires fit { list_all fits args.now ≡ true }
     ensures { Does (world_call (world_in (R.held rows.old)) programmer (record { name = name; args = args.now }))
         (R.held rows.old) (R.held rows.new) result }

@@ -50,6 +50,7 @@ pub fn set<R: Rows>(
     value: &Value,
 ) -> Result<Value, Fault>
     requires good { IsGood (R.held rows.old).maps }
+    // The value nests at most 32 deep, and its numbers and texts are within their limits.
     requires fit { fits value.now ≡ true }
     ensures { Does (set (world_in (R.held rows.old)) programmer x name.now value.now) (R.held rows.old) (R.held rows.new) result }
 {

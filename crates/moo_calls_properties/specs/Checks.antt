@@ -10,21 +10,24 @@ use Rattle.moo_world.specs.declared.reason.Reason.TheVariants.{NoObject, NoPrope
 use Rattle.moo_world.specs.Outcomes.{Outcome, require◌else◌, ◌>>◌, ◌or_else◌, ◌>>=◌}
 use Rattle.moo_world.specs.Rights.{may_read_slot, may_write_slot}
 
--- the object has a property of the name, and the programmer may read it by its slot on that object
+-- a call that reads a slot: it fails unless the object has a property of the name and the programmer may read its slot on that object;
+-- then it goes on with the slot
 abbrev pub reading_slot : World → ObjNo → ObjNo → Name → (Slot → Outcome World) → Outcome World
 reading_slot world programmer object name then = do
   slot ← slot_of world object (folded name) or_else NoProperty object
   require may_read_slot world programmer slot else NoPropertyR object
   then slot
 
--- the object has a property of the name, and the programmer may write it by its slot on that object
+-- a call that writes a slot: it fails unless the object has a property of the name and the programmer may write its slot on that object;
+-- then it goes on with the slot
 abbrev pub writing_slot : World → ObjNo → ObjNo → Name → (Slot → Outcome World) → Outcome World
 writing_slot world programmer object name then = do
   slot ← slot_of world object (folded name) or_else NoProperty object
   require may_write_slot world programmer slot else NoPropertyW object
   then slot
 
--- the owner is an object, and the rights have the letters of a property's alone
+-- a call that gives a property an owner and rights: it fails unless the owner is an object and the rights are of the letters `r`, `w` and
+-- `c` alone; then it goes on with the rights
 abbrev pub taking_property_info : World → Info → (Bits → Outcome World) → Outcome World
 taking_property_info world (owner, perms) then = do
   require is_object world owner else NoObject owner

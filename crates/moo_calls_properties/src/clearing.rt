@@ -13,7 +13,7 @@ use moo_tree::valid;
 use moo_value::{MooStr, ObjNo, Value};
 use moo_world::{ZERO, flag};
 
-/// Whether a slot has no value of its own.
+/// Whether a slot has no value of its own, so that the object reads its parent's.
 fn is_clear(state: &SlotState) -> bool
     ensures { result ≡ is_clear state.now }
 {

@@ -13,7 +13,7 @@ ghost use Rattle.moo_world.specs.Answers.{zero};
 ghost use Rattle.moo_world.specs.Outcomes.{Outcome, Done, fails};
 ghost use Rattle.moo_world.specs.Changes.{property_added};
 ghost use Rattle.moo_world.specs.World.{World, is_object, is_property_name};
-ghost use Rattle.moo_props.specs.Names.{defines as defines_property, name_of};
+ghost use Rattle.moo_props.specs.Names.{defines, name_of};
 ghost use Rattle.moo_calls_shared.specs.Outcomes.{world_in, Answers, Does};
 ghost use Rattle.moo_calls_properties.specs.Checks.{taking_property_info};
 ghost use Rattle.moo_calls_shared.specs.Shown.{info_shown};
@@ -38,8 +38,10 @@ fn is_property_name(name: &MooStr) -> bool
 /// descendant defines one of that name.
 pub(crate) fn may_define<R: Rows>(rows: &R, x: ObjNo, name: &MooStr) -> Result<(), Reason>
     requires { IsGood (R.held rows.now).maps }
+    // There is an error if and only if x may not define a property of the name.
     ensures ok { OnOk result (may_define (world_in (R.held rows.now)) x name.now ≡ true) }
     ensures err { OnErr result (may_define (world_in (R.held rows.now)) x name.now ≡ false) }
+    // The reason: no property may have the name, or else the object that defines one of that name.
     ensures why { IfErr result (λ reason. reason ≡ undefined_reason (world_in (R.held rows.now)) x name.now) }
 {
     if !is_property_name(name) {
@@ -51,11 +53,14 @@ pub(crate) fn may_define<R: Rows>(rows: &R, x: ObjNo, name: &MooStr) -> Result<(
     }
 }
 
-/// The property of a name that x itself defines.
+/// The property of a name that x itself defines; `None` if x defines no property of the name.
 pub(crate) fn own_property<R: Rows>(rows: &R, x: ObjNo, name: &MooStr) -> Option<PropId>
     requires { IsGood (R.held rows.now).maps }
+    // There is one if and only if x itself defines a property of the name.
     ensures exact { is_some result ≡ defines_name (world_in (R.held rows.now)) x name.now }
-    ensures own { IfSome result (λ id. defines_property (R.held rows.now).maps x id ≡ true) }
+    // x is the object that defines it.
+    ensures own { IfSome result (λ id. defines (R.held rows.now).maps x id ≡ true) }
+    // It has the name, but for the case of letters.
     ensures named { IfSome result (λ id. name_of (R.held rows.now).maps id ≡ folded name.now) }
 {
     let Some(found) = slot_of(rows, x, name) else {
@@ -79,8 +84,10 @@ pub(crate) fn defines<R: Rows>(rows: &R, x: ObjNo, name: &MooStr) -> bool
 /// The rights that a property takes with an owner, or E_INVARG: if the owner isn't an object, then if the rights have a
 /// letter other than `r`, `w` and `c`.
 pub(crate) fn bits_taken<R: Rows>(rows: &R, info: Info<'_>) -> Result<Bits, Reason>
+    // If there is no error, the owner is an object and the rights are those of the letters.
     ensures owner { OnOk result (is_object (world_in (R.held rows.now)) info.entry.owner ≡ true) }
     ensures bits { IfOk result (λ bits. bits_of info.entry.perms.now ≡ Some bits) }
+    // At an error, a call that takes this owner and these letters fails for the reason, whatever it would do then.
     ensures err { IfErr result (λ reason. (then : Bits → Outcome World) →
         taking_property_info (world_in (R.held rows.now)) (info_shown info.entry) then ≡ fails reason) }
 {
@@ -93,7 +100,7 @@ pub(crate) fn bits_taken<R: Rows>(rows: &R, info: Info<'_>) -> Result<Bits, Reas
     Ok(bits)
 }
 
-/// Whether a number is left for one more property.
+/// Whether a number is left for one more property: the last one is 4,294,967,294.
 fn has_number_left<R: Rows>(rows: &R) -> bool
     ensures { result ≡ nat_lt (world_in (R.held rows.now)).next_prop 4294967295 }
 {
@@ -109,13 +116,16 @@ fn bits_to_define<R: Rows>(
     info: Info<'_>,
 ) -> Result<Bits, Fault>
     requires { IsGood (R.held rows.now).maps }
+    // With these rights, `add_property` of any value answers 0, and x defines the property: its slot on x holds the value.
     ensures ok { IfOk result (λ bits. (v : Value) →
         add_property (world_in (R.held rows.now)) programmer x name.now v (info_shown info.entry)
         ≡ Done zero (property_added (world_in (R.held rows.now)) x name.now
         (record { definer = x; owner = info.entry.owner; bits = bits; state = Set v }))) }
+    // At an error, `add_property` of any value ends with it.
     ensures err { IfErr result (λ fault. (v : Value) →
         Answers (add_property (world_in (R.held rows.now)) programmer x name.now v (info_shown info.entry))
         (R.held rows.now) (Err fault)) }
+    // If there is no error, x is an object that may define a property of the name, and a number is left for it.
     ensures there { OnOk result (is_object (world_in (R.held rows.now)) x ≡ true) }
     ensures free { OnOk result (may_define (world_in (R.held rows.now)) x name.now ≡ true) }
     ensures left { OnOk result (nat_lt (world_in (R.held rows.now)).next_prop 4294967295 ≡ true) }
@@ -153,6 +163,7 @@ pub fn add_property<R: Rows>(
     info: Info<'_>,
 ) -> Result<Value, Fault>
     requires good { IsGood (R.held rows.old).maps }
+    // The value nests at most 32 deep, and its numbers and texts are within their limits.
     requires fit { fits value.now ≡ true }
     ensures { Does (add_property (world_in (R.held rows.old)) programmer x name.now value.now (info_shown info.entry))
         (R.held rows.old) (R.held rows.new) result }

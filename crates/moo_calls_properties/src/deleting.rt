@@ -1,4 +1,4 @@
-//! The end of a property.
+//! Deleting properties.
 
 ghost use Rattle.moo_world.specs.PropertyCalls.{delete_property};
 ghost use Rattle.moo_world.specs.Rows.{IsGood};

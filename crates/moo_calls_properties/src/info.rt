@@ -24,15 +24,15 @@ use moo_value::{MooStr, ObjNo, Value};
 use moo_world::ZERO;
 use std::alloc::{AllocError, Global};
 
-/// Whether the owner is the one that there is, or the programmer may give another one.
+/// Whether the programmer may give a slot this owner: the present owner, or anybody if the programmer is a wizard.
 fn may_give<R: Rows>(rows: &R, programmer: ObjNo, owner: ObjNo, present: ObjNo) -> bool
     ensures { result ≡ (same_object owner present || is_wizard (world_in (R.held rows.now)) programmer) }
 {
     owner == present || rights::is_wizard(rows, programmer)
 }
 
-/// Nothing if a property of x may have the new name, or there is none; else E_INVARG: if x itself doesn't define it, then if no new
-/// property of x may have the name.
+/// Tests whether the property of a name on x may have the new name: always if no new name is given. E_INVARG if x itself doesn't
+/// define the property, then if no new property of x may have the new name.
 fn may_rename<R: Rows>(
     rows: &R,
     x: ObjNo,
@@ -40,8 +40,10 @@ fn may_rename<R: Rows>(
     new: Option<&MooStr>,
 ) -> Result<(), Reason>
     requires { IsGood (R.held rows.now).maps }
+    // There is an error if and only if the property may not have the new name.
     ensures ok { OnOk result (may_rename (world_in (R.held rows.now)) x name.now (option_map (λ n. n.now) new.entry) ≡ true) }
     ensures err { OnErr result (may_rename (world_in (R.held rows.now)) x name.now (option_map (λ n. n.now) new.entry) ≡ false) }
+    // The reason: x doesn't define the property, or why x may not define one of the new name.
     ensures why { IfErr result (λ reason.
         reason ≡ unrenamed_reason (world_in (R.held rows.now)) x name.now (option_map (λ n. n.now) new.entry)) }
 {
@@ -76,10 +78,14 @@ fn change_info<R: Rows>(
     new: Option<MooStr>,
 ) -> Result<(), AllocError>
     requires good { IsGood (R.held rows.old).maps }
+    // x has the property.
     requires has { is_some (get (R.held rows.old).maps.slots (x, id)) ≡ true }
+    // No new name is given, or x may give the property the new one.
     requires may { may_rename (world_of (R.held rows.old).maps) x (spelling_of (R.held rows.old).maps id) new ≡ true }
+    // The slot on x has the owner and the rights, and the property has the new name everywhere.
     ensures world { OnOk result (let name = spelling_of (R.held rows.old).maps id in
         world_of (R.held rows.new).maps ≡ renamed_to (info_set (world_of (R.held rows.old).maps) x name owner bits) x name new) }
+    // The rows are good ones again; the sequence number and the petitions are as they were.
     ensures kept { OnOk result (Keeps (R.held rows.old) (R.held rows.new)) }
 {
     set_info(alloc, rows, x, id, owner, bits)?;
@@ -99,14 +105,19 @@ fn property_to_change<R: Rows>(
     new_name: Option<&MooStr>,
 ) -> Result<(PropId, Bits), Fault>
     requires { IsGood (R.held rows.now).maps }
+    // With these rights, `set_property_info` answers 0: the slot has the owner and the rights, and the property the new name.
     ensures ok { IfOk result (λ found. let w = world_in (R.held rows.now) in let new = option_map (λ n. n.now) new_name.entry in
         set_property_info w programmer x name.now (info_shown info.entry) new
         ≡ Done zero (renamed_to (info_set w x name.now info.entry.owner found.1) x name.now new)) }
+    // At an error, `set_property_info` ends with it.
     ensures err { IfErr result (λ fault. let new = option_map (λ n. n.now) new_name.entry in
         Answers (set_property_info (world_in (R.held rows.now)) programmer x name.now (info_shown info.entry) new)
         (R.held rows.now) (Err fault)) }
+    // x has the property that was found.
     ensures held { IfOk result (λ found. is_some (get (R.held rows.now).maps.slots (x, found.0)) ≡ true) }
+    // That property has the name, but for the case of letters.
     ensures named { IfOk result (λ found. name_of (R.held rows.now).maps found.0 ≡ folded name.now) }
+    // No new name is given, or x may give the property the new one.
     ensures may { OnOk result (may_rename (world_in (R.held rows.now)) x name.now (option_map (λ n. n.now) new_name.entry) ≡ true) }
 {
     if !valid(rows, x) {
@@ -131,8 +142,8 @@ fn property_to_change<R: Rows>(
 /// if there is no such object; E_PROPNF if it has no property of the name; E_INVARG if the owner isn't an object, then if
 /// perms has a letter other than `r`, `w` and `c`; E_PERM if the programmer may not write the object's own slot of it, then
 /// if the owner is another one than before and the programmer isn't a wizard; E_INVARG if there is a new name and the object
-/// itself doesn't define the property, or no new property of the object may have that name. So it is if the new name
-/// differs from the old one in case alone.
+/// itself doesn't define the property, or no new property of the object may have that name. A new name that differs from the
+/// old one in case alone is E_INVARG too: the object defines a property of that name.
 /// LambdaMOO Programmer's Manual, 'Operations on Properties'.
 pub fn set_property_info<R: Rows>(
     rows: &mut R,

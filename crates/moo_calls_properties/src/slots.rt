@@ -30,8 +30,8 @@ pub(crate) fn may_write<R: Rows>(rows: &R, programmer: ObjNo, found: FoundSlot<'
     rights::may_write_slot(rows, programmer, found.slot)
 }
 
-/// The slot on x by which a call reads a property, or the error: E_PROPNF if x has no property of the name, then E_PERM
-/// if the programmer may not read x's own slot of it.
+/// The slot on x by which a call reads the property of a name, or the error: E_PROPNF if x has no property of the name,
+/// then E_PERM if the programmer may not read x's own slot of it.
 pub(crate) fn readable_slot<'a, R: Rows>(
     rows: &'a R,
     programmer: ObjNo,
@@ -39,11 +39,15 @@ pub(crate) fn readable_slot<'a, R: Rows>(
     name: &MooStr,
 ) -> Result<FoundSlot<'a>, Reason>
     requires { IsGood (R.held rows.now).maps }
+    // A call that reads the slot goes on with it, whatever it does then.
     ensures ok { IfOk result (λ found. (then : Slot → Outcome World) →
         reading_slot (world_in (R.held rows.now)) programmer x name.now then ≡ then (slot_seen found.definer found.slot.now)) }
+    // At an error, such a call fails for the reason.
     ensures err { IfErr result (λ reason. (then : Slot → Outcome World) →
         reading_slot (world_in (R.held rows.now)) programmer x name.now then ≡ fails reason) }
+    // x has the property that was found.
     ensures held { IfOk result (λ found. is_some (get (R.held rows.now).maps.slots (x, found.id)) ≡ true) }
+    // That property has the name, but for the case of letters.
     ensures named { IfOk result (λ found. name_of (R.held rows.now).maps found.id ≡ folded name.now) }
 {
     let Some(found) = slot_of(rows, x, name) else {
@@ -55,8 +59,8 @@ pub(crate) fn readable_slot<'a, R: Rows>(
     Ok(found)
 }
 
-/// The slot on x by which a call writes a property, or the error: E_PROPNF if x has no property of the name, then E_PERM
-/// if the programmer may not write x's own slot of it.
+/// The slot on x by which a call writes the property of a name, or the error: E_PROPNF if x has no property of the name,
+/// then E_PERM if the programmer may not write x's own slot of it.
 pub(crate) fn writable_slot<'a, R: Rows>(
     rows: &'a R,
     programmer: ObjNo,
@@ -64,13 +68,18 @@ pub(crate) fn writable_slot<'a, R: Rows>(
     name: &MooStr,
 ) -> Result<FoundSlot<'a>, Reason>
     requires { IsGood (R.held rows.now).maps }
+    // It is the slot on x of the property of the name.
     ensures slot { IfOk result (λ found.
         slot_of (world_in (R.held rows.now)) x (folded name.now) ≡ Some (slot_seen found.definer found.slot.now)) }
+    // The programmer may write it.
     ensures may { IfOk result (λ found.
         may_write_slot (world_in (R.held rows.now)) programmer (slot_seen found.definer found.slot.now) ≡ true) }
+    // At an error, a call that writes the slot fails for the reason.
     ensures err { IfErr result (λ reason. (then : Slot → Outcome World) →
         writing_slot (world_in (R.held rows.now)) programmer x name.now then ≡ fails reason) }
+    // x has the property that was found.
     ensures held { IfOk result (λ found. is_some (get (R.held rows.now).maps.slots (x, found.id)) ≡ true) }
+    // That property has the name, but for the case of letters.
     ensures named { IfOk result (λ found. name_of (R.held rows.now).maps found.id ≡ folded name.now) }
 {
     let Some(found) = slot_of(rows, x, name) else {

@@ -12,6 +12,7 @@ use Rattle.moo_world.specs.Outcomes.{Outcome, Done, Full, fails}
 use Rattle.moo_calls_shared.specs.declared.fault.Fault.{Fault}
 use Rattle.moo_calls_shared.specs.declared.fault.Fault.TheVariants.{Moo, Held as of_held, Full as NoneLeft, OutOfMemory}
 
+-- the world of the rows that are held: objects, properties and verbs, without petitions and sequence numbers
 abbrev pub world_in : Held → World
 world_in held = world_of held.maps
 
@@ -30,11 +31,11 @@ pub record Does (outcome : Outcome World) (old new : Held) (result : Result Valu
   pub comes : ComesTo outcome old new result
   pub kept : OnOk result (Keeps old new)
 
--- what a call answers that only reads
+-- what a call answers that only reads: the rows stay
 abbrev pub Answers : Outcome World → Held → Result Value Fault → Type 0
 Answers outcome rows result = ComesTo outcome rows rows result
 
--- what a value is taken for, or why it isn't taken; or out of memory
+-- a reader of a value answers what the value is taken for, or the reason why it isn't taken; or out of memory
 abbrev pub TakenOrNot : {A : Type 0} → Result A Reason → Result A Fault → Type 0
 TakenOrNot taken (Ok a) = taken ≡ Ok a
 TakenOrNot taken (Err (Moo reason)) = taken ≡ Err reason
@@ -42,7 +43,7 @@ TakenOrNot taken (Err (of_held place reason)) = ⊥
 TakenOrNot taken (Err NoneLeft) = ⊥
 TakenOrNot taken (Err OutOfMemory) = ⊤
 
--- what is read from what a call is given, or its error; or out of memory
+-- a reader of the arguments of a call answers what it reads, or the error of the model; or out of memory
 abbrev pub GivenOrNot : {A : Type 0} → Result A Code → Result A Fault → Type 0
 GivenOrNot read (Ok a) = read ≡ Ok a
 GivenOrNot read (Err (Moo (Given code))) = read ≡ Err code

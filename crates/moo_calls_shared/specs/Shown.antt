@@ -9,10 +9,10 @@ use Rattle.moo_calls_shared.specs.declared.verb_args.ArgTexts.{ArgTexts}
 abbrev pub info_shown : Info → arguments.Info
 info_shown info = (info.owner, info.perms.now)
 
--- the same of a verb, with its names
+-- the owner and the letters of the rights of a verb, and its names
 abbrev pub verb_info_shown : VerbInfo → arguments.Info × Name
 verb_info_shown verb = (info_shown verb.info, verb.names.now)
 
--- the arguments of a verb
+-- the texts of a verb's arguments: the direct object, the preposition and the indirect object
 abbrev pub args_shown : ArgTexts → Name × Name × Name
 args_shown args = (args.dobj.now, args.prep.now, args.iobj.now)

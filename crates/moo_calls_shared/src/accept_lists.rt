@@ -10,7 +10,7 @@ use moo_value::{Code, ObjNo, Value};
 use moo_world::Reason;
 use std::alloc::{AllocError, Global};
 
-/// The objects of a list that has only objects. The only error is out of memory.
+/// The objects of a list of values, in order; `None` if a value isn't an object. The only error is out of memory.
 fn objects_among(alloc: Global, values: &[Value]) -> Result<Option<ObjList>, AllocError>
     ensures { IfOk result (λ found. found ≡ objects_among values.now) }
 {
@@ -24,7 +24,7 @@ fn objects_among(alloc: Global, values: &[Value]) -> Result<Option<ObjList>, All
     Ok(Some(ObjList::from_vec(found)))
 }
 
-/// What `set_accept` takes: an object, and a list of objects, or 0 for no list. E_ARGS for another number of arguments, and
+/// What `set_accept` takes: an object, and a list of objects, or 0 for no list. E_ARGS unless there are two arguments, and
 /// then E_TYPE for anything else. OutOfMemory means out of memory and nothing else.
 pub fn object_and_accept(alloc: Global, args: &[Value]) -> Result<(ObjNo, Option<ObjList>), Fault>
     ensures given { GivenOrNot (object_and_accept args.now) result }

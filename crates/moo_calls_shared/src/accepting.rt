@@ -15,6 +15,7 @@ use std::alloc::Global;
 /// Whether the list has the thing or an ancestor of it. The thing's ancestors are gathered once, and each entry of the list is looked up
 /// among them: (m + n) log m steps for n entries and m ancestors. If there is no memory for that, each entry is climbed for.
 fn takes<R: Rows>(alloc: Global, rows: &R, list: &[ObjNo], thing: ObjNo) -> bool
+    // Parents and locations are objects or `#-1`, without loops.
     requires { IsTree (world_in (R.held rows.now)) }
     ensures { result ≡ list_any (λ a. is_among a (chain (world_in (R.held rows.now)) thing)) list.now }
 {
@@ -25,8 +26,9 @@ fn takes<R: Rows>(alloc: Global, rows: &R, list: &[ObjNo], thing: ObjNo) -> bool
 }
 
 /// The accept list that counts for the destination: that of the nearest object that holds one, from the destination up its
-/// ancestors. An empty one counts too. None if none of them holds one.
+/// ancestors. An empty list counts too. `None` if neither the destination nor an ancestor holds a list.
 fn list_that_counts<R: Rows>(rows: &R, to: ObjNo) -> Option<&ObjList>
+    // Parents and locations are objects or `#-1`, without loops.
     requires { IsTree (world_in (R.held rows.now)) }
     ensures { let w = world_in (R.held rows.now) in option_map (λ list. list.now) result ≡ accept_along w (chain w to) }
 {
@@ -40,11 +42,12 @@ fn list_that_counts<R: Rows>(rows: &R, to: ObjNo) -> Option<&ObjList>
     None
 }
 
-/// Whether the destination takes the thing in: `#-1` takes everything, and an object what the accept list that counts for it
-/// has, or has an ancestor of. Without a list it takes nothing.
+/// Whether the destination takes the thing in. `#-1` takes everything in. An object takes in each thing that is on the accept list that
+/// counts for it, or that has an ancestor on the list. Without a list it takes nothing in.
 ///
 /// A stored list in place of the verb `accept` of the LambdaMOO Programmer's Manual, 'Object Movement'.
 pub fn accepts<R: Rows>(alloc: Global, rows: &R, to: ObjNo, thing: ObjNo) -> bool
+    // Parents and locations are objects or `#-1`, without loops.
     requires { IsTree (world_in (R.held rows.now)) }
     ensures { result ≡ accepts (world_in (R.held rows.now)) to thing }
 {

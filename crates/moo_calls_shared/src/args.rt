@@ -7,7 +7,7 @@ ghost use Rattle.moo_world.specs.Arguments.{object_and_value, object_text_and_va
 
 use moo_value::{Code, MooStr, ObjNo, Value};
 
-/// No values; E_ARGS if there are any.
+/// Tests the arguments of a call that takes none: E_ARGS if there are any.
 pub fn no_values(args: &[Value]) -> Result<(), Code>
     ensures { result ≡ no_values args.now }
 {
@@ -18,7 +18,7 @@ pub fn no_values(args: &[Value]) -> Result<(), Code>
     }
 }
 
-/// An object.
+/// The object that a call takes as its one argument. E_ARGS unless there is one argument; E_TYPE if it isn't an object.
 pub fn one_object(args: &[Value]) -> Result<ObjNo, Code>
     ensures { result ≡ one_object args.now }
 {
@@ -29,7 +29,7 @@ pub fn one_object(args: &[Value]) -> Result<ObjNo, Code>
     }
 }
 
-/// Two objects.
+/// The two objects that a call takes. E_ARGS unless there are two arguments; E_TYPE if one of them isn't an object.
 pub fn two_objects(args: &[Value]) -> Result<(ObjNo, ObjNo), Code>
     ensures { result ≡ two_objects args.now }
 {
@@ -40,8 +40,9 @@ pub fn two_objects(args: &[Value]) -> Result<(ObjNo, ObjNo), Code>
     }
 }
 
-/// An object and a name.
+/// The object and the name that a call takes. E_ARGS unless there are two arguments; E_TYPE if they aren't an object and a string.
 pub fn object_and_text(args: &[Value]) -> Result<(ObjNo, &MooStr), Code>
+    // The object and the text, by reference.
     ensures ok { IfOk result (λ p. object_and_text args.now ≡ Ok (p.0, p.1.now)) }
     ensures err { IfErr result (λ code. object_and_text args.now ≡ Err code) }
 {
@@ -52,8 +53,9 @@ pub fn object_and_text(args: &[Value]) -> Result<(ObjNo, &MooStr), Code>
     }
 }
 
-/// An object and a value.
+/// The object and the value that a call takes. E_ARGS unless there are two arguments; E_TYPE if the first isn't an object.
 pub fn object_and_value(args: &[Value]) -> Result<(ObjNo, &Value), Code>
+    // The object and the value, by reference.
     ensures ok { IfOk result (λ p. object_and_value args.now ≡ Ok (p.0, p.1.now)) }
     ensures err { IfErr result (λ code. object_and_value args.now ≡ Err code) }
 {
@@ -64,11 +66,15 @@ pub fn object_and_value(args: &[Value]) -> Result<(ObjNo, &Value), Code>
     }
 }
 
-/// An object, a name and a value, which fits if all the arguments do.
+/// The object, the name and the value that a call takes. E_ARGS unless there are three arguments; E_TYPE if the first two aren't an object
+/// and a string. The value fits the limits of a value, since all the arguments do.
 pub fn object_text_and_value(args: &[Value]) -> Result<(ObjNo, &MooStr, &Value), Code>
+    // Each argument nests at most 32 deep, and its numbers and texts are within their limits.
     requires { list_all fits args.now ≡ true }
+    // The object, the text and the value, by reference.
     ensures ok { IfOk result (λ p. object_text_and_value args.now ≡ Ok (p.0, p.1.now, p.2.now)) }
     ensures err { IfErr result (λ code. object_text_and_value args.now ≡ Err code) }
+    // The value has these limits too.
     ensures fit { IfOk result (λ p. fits p.2.now ≡ true) }
 {
     match args {
@@ -78,7 +84,8 @@ pub fn object_text_and_value(args: &[Value]) -> Result<(ObjNo, &MooStr, &Value),
     }
 }
 
-/// A parent and an owner, who is the programmer if none is given.
+/// The parent and the owner that `create` takes; the owner is the programmer if none is given. E_ARGS unless there are one or two
+/// arguments; E_TYPE if one of them isn't an object.
 pub fn parent_and_owner(args: &[Value], programmer: ObjNo) -> Result<(ObjNo, ObjNo), Code>
     ensures { result ≡ parent_and_owner programmer args.now }
 {

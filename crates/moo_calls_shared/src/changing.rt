@@ -14,8 +14,8 @@ use std::alloc::{AllocError, Global};
 
 /// Changes one field of an object, and nothing else. The only error is out of memory.
 ///
-/// A new location has to be `#-1`, or an object that isn't x and isn't in it; an accept list has 1,000 entries at most. Names,
-/// and the numbers of owners and of what a list names, keep the limits of their types.
+/// A new location has to be `#-1`, or an object that isn't x and isn't in x; an accept list has 1,000 entries at most. Names,
+/// the numbers of owners and the numbers on an accept list keep the limits of their types.
 pub fn change_row<R: Rows>(
     rows: &mut R,
     alloc: Global,
@@ -23,9 +23,13 @@ pub fn change_row<R: Rows>(
     change: Change,
 ) -> Result<(), AllocError>
     requires good { IsGood (R.held rows.old).maps }
+    // x is an object.
     requires there { is_object (world_in (R.held rows.old)) x ≡ true }
+    // The new content of the field is within its limits, and a new location closes no ring.
     requires allowed { is_allowed_change (world_in (R.held rows.old)) x change ≡ true }
+    // The world is the old one but for that field of x.
     ensures world { OnOk result (world_in (R.held rows.new) ≡ field_changed (world_in (R.held rows.old)) x change) }
+    // The rows are good ones again; the sequence number and the petitions are as they were.
     ensures kept { OnOk result (Keeps (R.held rows.old) (R.held rows.new)) }
 {
     let row = match rows.object(x) {

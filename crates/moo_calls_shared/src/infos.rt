@@ -9,14 +9,14 @@ ghost use Rattle.moo_calls_shared.specs.Shown.{info_shown};
 
 use moo_value::{Code, MooStr, ObjNo, Value};
 
-/// An owner and the letters of rights.
+/// The owner and the letters of the rights that a call gives a property or a verb.
 #[derive(Clone, Copy)]
 pub struct Info<'a> {
     pub owner: ObjNo,
     pub perms: &'a MooStr,
 }
 
-/// `{owner, perms}`.
+/// The owner and the letters of `{owner, perms}`; `None` for another number of values, or for values of other types.
 fn info_in(values: &[Value]) -> Option<Info<'_>>
     ensures { option_map info_shown result ≡ info_in values.now }
 {
@@ -38,11 +38,15 @@ pub struct NewProperty<'a> {
     pub info: Info<'a>,
 }
 
-/// What `add_property` takes; the value fits if all the arguments do.
+/// What `add_property` takes. E_ARGS unless there are four arguments; E_TYPE if they aren't an object, a string, a value and
+/// `{owner, perms}`. The value fits the limits of a value, since all the arguments do.
 pub fn new_property(args: &[Value]) -> Result<NewProperty<'_>, Code>
+    // Each argument nests at most 32 deep, and its numbers and texts are within their limits.
     requires { list_all fits args.now ≡ true }
+    // The object, the name, the value, and the owner and the letters.
     ensures ok { IfOk result (λ p. new_property args.now ≡ Ok (p.object, (p.name.now, p.value.now, info_shown p.info))) }
     ensures err { IfErr result (λ code. new_property args.now ≡ Err code) }
+    // The value has these limits too.
     ensures fit { IfOk result (λ p. fits p.value.now ≡ true) }
 {
     match args {
@@ -65,7 +69,8 @@ pub fn new_property(args: &[Value]) -> Result<NewProperty<'_>, Code>
     }
 }
 
-/// `{owner, perms}` or `{owner, perms, new-name}`.
+/// The owner, the letters and the new name of `{owner, perms}` or `{owner, perms, new-name}`; `None` for another number of values, or for
+/// values of other types.
 fn info_and_name_in(values: &[Value]) -> Option<(Info<'_>, Option<&MooStr>)>
     ensures { option_map (λ p. (info_shown p.0, option_map (λ n. n.now) p.1)) result ≡ info_and_name_in values.now }
 {
@@ -97,8 +102,10 @@ pub struct NewPropertyInfo<'a> {
     pub new_name: Option<&'a MooStr>,
 }
 
-/// What `set_property_info` takes.
+/// What `set_property_info` takes. E_ARGS unless there are three arguments; E_TYPE if they aren't an object, a string, and
+/// `{owner, perms}` or `{owner, perms, new-name}`.
 pub fn new_property_info(args: &[Value]) -> Result<NewPropertyInfo<'_>, Code>
+    // The object, the name of the property, the owner and the letters, and the new name if one is given.
     ensures ok { IfOk result (λ p. new_property_info args.now ≡ Ok (record {
       object = p.object;
       name = p.name.now;

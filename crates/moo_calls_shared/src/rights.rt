@@ -109,13 +109,16 @@ fn is_writable<R: Rows>(rows: &R, x: ObjNo) -> bool
 /// Whether the programmer may read a property: the owner of its slot on the very object, a wizard, or anybody if the slot's
 /// r bit is set. The definer doesn't count.
 pub fn may_read_slot<R: Rows>(rows: &R, programmer: ObjNo, slot: &SlotRow) -> bool
+    // Whoever the definer is.
     ensures { (definer : ObjNo) → result ≡ may_read_slot (world_in (R.held rows.now)) programmer (slot_seen definer slot.now) }
 {
     is_wizard(rows, programmer) || programmer == slot.owner || slot.bits.r
 }
 
-/// Whether the programmer may write a property, in the same way by the w bit.
+/// Whether the programmer may write a property: the owner of its slot on the very object, a wizard, or anybody if the slot's
+/// w bit is set. The definer doesn't count.
 pub fn may_write_slot<R: Rows>(rows: &R, programmer: ObjNo, slot: &SlotRow) -> bool
+    // Whoever the definer is.
     ensures { (definer : ObjNo) → result ≡ may_write_slot (world_in (R.held rows.now)) programmer (slot_seen definer slot.now) }
 {
     is_wizard(rows, programmer) || programmer == slot.owner || slot.bits.w
@@ -128,7 +131,7 @@ pub fn may_read_verb<R: Rows>(rows: &R, programmer: ObjNo, verb: &VerbRow) -> bo
     is_wizard(rows, programmer) || programmer == verb.owner || verb.bits.r
 }
 
-/// Whether the programmer may change a verb, in the same way by the w bit.
+/// Whether the programmer may change a verb: its owner, a wizard, or anybody if its w bit is set.
 pub fn may_write_verb<R: Rows>(rows: &R, programmer: ObjNo, verb: &VerbRow) -> bool
     ensures { result ≡ may_write_verb (world_in (R.held rows.now)) programmer verb.now }
 {

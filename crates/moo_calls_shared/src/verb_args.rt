@@ -13,7 +13,7 @@ use moo_value::{Code, MooStr, ObjNo, Value};
 use moo_world::{Desc, Reason};
 use std::alloc::{AllocError, Global};
 
-/// The descriptor that a value is: a number or a word. None for any other value. The only error is out of memory.
+/// The descriptor that a value is: a number or a word. `None` for any other value. The only error is out of memory.
 fn desc_of(alloc: Global, value: &Value) -> Result<Option<Desc>, AllocError>
     ensures { IfOk result (λ desc. desc ≡ desc_of value.now) }
 {
@@ -24,7 +24,8 @@ fn desc_of(alloc: Global, value: &Value) -> Result<Option<Desc>, AllocError>
     }
 }
 
-/// What `verb_info`, `verb_args` and `delete_verb` take: an object and a descriptor.
+/// What `verb_info`, `verb_args` and `delete_verb` take: an object and a descriptor. E_ARGS unless there are two arguments, and then
+/// E_TYPE for anything else. OutOfMemory means out of memory and nothing else.
 pub fn object_and_desc(alloc: Global, args: &[Value]) -> Result<(ObjNo, Desc), Fault>
     ensures given { GivenOrNot (object_and_desc args.now) result }
 {
@@ -45,7 +46,7 @@ pub struct VerbInfo<'a> {
     pub names: &'a MooStr,
 }
 
-/// `{owner, perms, names}`.
+/// The owner, the letters and the names of `{owner, perms, names}`; `None` for another number of values, or for values of other types.
 fn verb_info_in(values: &[Value]) -> Option<VerbInfo<'_>>
     ensures { option_map verb_info_shown result ≡ verb_info_in values.now }
 {
@@ -69,7 +70,7 @@ pub struct ArgTexts<'a> {
     pub iobj: &'a MooStr,
 }
 
-/// `{dobj, prep, iobj}`.
+/// The three texts of `{dobj, prep, iobj}`; `None` for another number of values, or if one isn't a string.
 fn texts_in(values: &[Value]) -> Option<ArgTexts<'_>>
     ensures { option_map args_shown result ≡ texts_in values.now }
 {
@@ -89,7 +90,8 @@ pub struct NewVerb<'a> {
     pub args: ArgTexts<'a>,
 }
 
-/// What `add_verb` takes.
+/// What `add_verb` takes. E_ARGS unless there are three arguments; E_TYPE if they aren't an object, `{owner, perms, names}` and
+/// `{dobj, prep, iobj}`.
 pub fn new_verb(args: &[Value]) -> Result<NewVerb<'_>, Code>
     ensures ok { IfOk result (λ p. new_verb args.now ≡ Ok (p.object, (verb_info_shown p.verb, args_shown p.args))) }
     ensures err { IfErr result (λ code. new_verb args.now ≡ Err code) }
@@ -121,7 +123,8 @@ pub struct NewVerbInfo<'a> {
     pub verb: VerbInfo<'a>,
 }
 
-/// What `set_verb_info` takes.
+/// What `set_verb_info` takes. E_ARGS unless there are three arguments, and then E_TYPE for anything but an object, a descriptor and
+/// `{owner, perms, names}`. OutOfMemory means out of memory and nothing else.
 pub fn new_verb_info(alloc: Global, args: &[Value]) -> Result<NewVerbInfo<'_>, Fault>
     ensures given { GivenOrNot (new_verb_info args.now)
         (result_map_both (λ p. (p.object, (p.desc, verb_info_shown p.verb))) (λ fault. fault) result) }
@@ -154,7 +157,8 @@ pub struct NewVerbArgs<'a> {
     pub args: ArgTexts<'a>,
 }
 
-/// What `set_verb_args` takes.
+/// What `set_verb_args` takes. E_ARGS unless there are three arguments, and then E_TYPE for anything but an object, a descriptor and
+/// `{dobj, prep, iobj}`. OutOfMemory means out of memory and nothing else.
 pub fn new_verb_args(alloc: Global, args: &[Value]) -> Result<NewVerbArgs<'_>, Fault>
     ensures given { GivenOrNot (new_verb_args args.now)
         (result_map_both (λ p. (p.object, (p.desc, args_shown p.args))) (λ fault. fault) result) }

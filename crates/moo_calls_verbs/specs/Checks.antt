@@ -13,7 +13,8 @@ use Rattle.moo_world.specs.Outcomes.{Outcome, require◌else◌, ◌>>◌, ◌or
 use Rattle.moo_world.specs.Rights.{may_read_verb}
 use Rattle.moo_world.specs.Descriptors.{found_verb}
 
--- it is an object, a verb of that object itself is meant, and the programmer may read it
+-- a call that reads a verb: it fails unless there is the object, the descriptor means a verb of that object itself, and the programmer may
+-- read the verb; then it goes on with the verb
 abbrev pub reading_verb : World → ObjNo → ObjNo → Desc → (VerbRow → Outcome World) → Outcome World
 reading_verb world programmer object descriptor then = do
   require is_object world object else NoObject object
@@ -21,7 +22,8 @@ reading_verb world programmer object descriptor then = do
   require may_read_verb world programmer verb else NoVerbR object
   then verb
 
--- the owner is an object, the rights have the letters of a verb's alone, and the names have a word
+-- a call that gives a verb an owner, rights and names: it fails unless the owner is an object, the rights are of the letters `r`, `w`, `x`
+-- and `d` alone, and the names have a word; then it goes on with the rights
 abbrev pub taking_verb_info : World → Info → Name → (VerbBits → Outcome World) → Outcome World
 taking_verb_info world (owner, perms) names then = do
   require is_object world owner else NoObject owner

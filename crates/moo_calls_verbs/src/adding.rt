@@ -22,7 +22,7 @@ use moo_verbs::{check_names, read_args};
 use moo_world::ZERO;
 use std::alloc::Global;
 
-/// Whether the names have a word.
+/// Whether the names of a verb have a word: they are neither empty nor all spaces.
 fn has_word(names: &MooStr) -> bool
     ensures { result ≡ has_word names.now }
 {
@@ -32,9 +32,11 @@ fn has_word(names: &MooStr) -> bool
 /// The rights that a verb takes with an owner and names, or E_INVARG: if the owner isn't an object, then if the rights have
 /// a letter other than `r`, `w`, `x` and `d`, then if the names are empty or all spaces.
 pub(crate) fn bits_taken<R: Rows>(rows: &R, verb: VerbInfo<'_>) -> Result<VerbBits, Reason>
+    // If there is no error, the owner is an object, the rights are those of the letters, and the names have a word.
     ensures owner { OnOk result (is_object (world_in (R.held rows.now)) verb.entry.info.owner ≡ true) }
     ensures bits { IfOk result (λ bits. verb_bits_of verb.entry.info.perms.now ≡ Some bits) }
     ensures names { OnOk result (has_word verb.entry.names.now ≡ true) }
+    // At an error, a call that takes this owner, these letters and these names fails for the reason, whatever it would do then.
     ensures err { IfErr result (λ reason. (then : VerbBits → Outcome World) →
         taking_verb_info (world_in (R.held rows.now))
         (info_shown verb.entry.info) verb.entry.names.now then ≡ fails reason) }
@@ -51,7 +53,7 @@ pub(crate) fn bits_taken<R: Rows>(rows: &R, verb: VerbInfo<'_>) -> Result<VerbBi
     Ok(bits)
 }
 
-/// The arguments that texts name, if they name some.
+/// The argument specifiers that three texts name; `None` if a text names none.
 pub(crate) fn args_of(args: ArgTexts<'_>) -> Option<ArgSpec>
     ensures { result ≡ args_of args.entry.dobj.now args.entry.prep.now args.entry.iobj.now }
 {
@@ -66,6 +68,7 @@ fn verb_taken<R: Rows>(
     verb: VerbInfo<'_>,
     args: ArgTexts<'_>,
 ) -> Result<(VerbBits, ArgSpec), Fault>
+    // With these rights and arguments, `add_verb` answers 0 and puts the verb last on x.
     ensures ok { IfOk result (λ taken.
         add_verb (world_in (R.held rows.now)) programmer x (info_shown verb.entry.info) verb.entry.names.now (args_shown args.entry)
         ≡ Done zero (verb_added (world_in (R.held rows.now)) x (record {
@@ -74,9 +77,11 @@ fn verb_taken<R: Rows>(
           bits = taken.0;
           args = taken.1;
         }))) }
+    // At an error, `add_verb` ends with it.
     ensures err { IfErr result (λ fault. Answers
         (add_verb (world_in (R.held rows.now)) programmer x (info_shown verb.entry.info) verb.entry.names.now (args_shown args.entry))
         (R.held rows.now) (Err fault)) }
+    // If there is no error, x is an object, the names have a word, and a number is left for the verb.
     ensures there { OnOk result (is_object (world_in (R.held rows.now)) x ≡ true) }
     ensures names { OnOk result (has_word verb.entry.names.now ≡ true) }
     ensures left { OnOk result (nat_lt (world_in (R.held rows.now)).next_verb 4294967295 ≡ true) }
@@ -103,7 +108,7 @@ fn verb_taken<R: Rows>(
 /// `add_verb(x, {owner, perms, names}, {dobj, prep, iobj})`: puts a verb last in the directory of an object and answers 0.
 /// E_INVARG if x or the owner isn't an object, if the rights have a letter other than `r`, `w`, `x` and `d`, if the
 /// names are empty or all spaces, and if a verb may not have the arguments; then E_PERM if the programmer may
-/// not write x, and if the owner is another one and the programmer isn't a wizard. Full if every number has been given.
+/// not write x, and if the programmer is neither the owner nor a wizard. Full if every number of a verb has been given.
 /// LambdaMOO Programmer's Manual, 'Operations on Verbs'.
 pub fn add_verb<R: Rows>(
     rows: &mut R,

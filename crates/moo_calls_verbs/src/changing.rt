@@ -31,6 +31,7 @@ pub fn delete_verb<R: Rows>(
 ) -> Result<Value, Fault>
     requires { IsGood (R.held rows.old).maps }
     ensures does { Does (delete_verb (world_in (R.held rows.old)) programmer x desc.now) (R.held rows.old) (R.held rows.new) result }
+    // One row is gone, that of the verb which the descriptor means: the other verbs keep their numbers.
     ensures gone { OnOk result
         ((id : VerbId)
         × (option_map (λ f. f.0) (found_verb (world_in (R.held rows.old)) x desc.now) ≡ Some (verb_place (R.held rows.old).maps x id))
@@ -53,7 +54,7 @@ pub fn delete_verb<R: Rows>(
 /// `set_verb_info(x, desc, {owner, perms, names})`: changes the owner, the rights and the names of a verb and answers 0.
 /// E_INVARG if x isn't an object; E_VERBNF if no verb of x itself is meant; E_INVARG if the owner isn't an object, if
 /// the rights have a letter other than `r`, `w`, `x` and `d`, and if the names are empty or all spaces; then E_PERM if
-/// the programmer may not write the verb, and if the owner is another one and the programmer isn't a wizard.
+/// the programmer may not write the verb, and if the programmer is neither the new owner nor a wizard.
 /// LambdaMOO Programmer's Manual, 'Operations on Verbs'.
 pub fn set_verb_info<R: Rows>(
     rows: &mut R,

@@ -40,8 +40,9 @@ pub fn verbs<R: Rows>(rows: &R, alloc: Global, programmer: ObjNo, x: ObjNo) -> R
     Ok(answer)
 }
 
-/// A text as a string. It may be one, so that the only error is out of memory.
+/// A string of a text that the server itself writes. The only error is out of memory.
 fn text(alloc: Global, text: &'static str) -> Result<MooStr, AllocError>
+    // The text has only characters that a string may have.
     requires { IsText text.now }
     ensures { IfOk result (λ s. s ≡ text.now) }
 {
@@ -58,8 +59,10 @@ fn readable_verb<'a, R: Rows>(
     desc: &Desc,
 ) -> Result<&'a VerbRow, Reason>
     requires { IsGood (R.held rows.now).maps }
+    // A call that reads the verb goes on with it, whatever it does then.
     ensures ok { IfOk result (λ verb. (then : VerbRow → Outcome World) →
         reading_verb (world_in (R.held rows.now)) programmer x desc.now then ≡ then verb.now) }
+    // At an error, such a call fails for the reason.
     ensures err { IfErr result (λ reason. (then : VerbRow → Outcome World) →
         reading_verb (world_in (R.held rows.now)) programmer x desc.now then ≡ fails reason) }
 {
@@ -75,7 +78,7 @@ fn readable_verb<'a, R: Rows>(
     Ok(found.row)
 }
 
-/// `{owner, perms, names}` of a verb. The only error is out of memory.
+/// The answer of `verb_info`: `{owner, perms, names}` of a verb. The only error is out of memory.
 fn info_of(alloc: Global, verb: &VerbRow) -> Result<Value, AllocError>
     ensures { IfOk result (λ value. value
         ≡ list_of (Obj verb.now.owner ∷ Str (verb_letters_of verb.now.bits) ∷ Str verb.now.names ∷ [])) }
@@ -108,7 +111,7 @@ pub fn verb_info<R: Rows>(
     Ok(answer)
 }
 
-/// `{dobj, prep, iobj}` of a verb. The only error is out of memory.
+/// The answer of `verb_args`: `{dobj, prep, iobj}` of a verb. The only error is out of memory.
 fn args_of(alloc: Global, args: ArgSpec) -> Result<Value, AllocError>
     ensures { IfOk result (λ value. value
         ≡ list_of (Str (object_spec_text args.dobj) ∷ Str (prep_text args.prep) ∷ Str (object_spec_text args.iobj) ∷ [])) }

@@ -5,10 +5,11 @@ use Rattle.std.specs.Ordering.{is_eq, ordering_then}
 use Rattle.sqlite.specs.Order.{Row, column, value_cmp}
 use Rattle.sqlite_trees.specs.View.{is_int}
 
--- two rows have one key
+-- two rows have one key, which is their first column
 abbrev pub is_same_number : Row → Row → Bool
 is_same_number a b = is_eq (value_cmp (column a 0) (column b 0))
 
+-- two rows have one key, which is the pair of their first two columns
 abbrev pub is_same_pair : Row → Row → Bool
 is_same_pair a b = is_eq (ordering_then (value_cmp (column a 0) (column b 0)) (value_cmp (column a 1) (column b 1)))
 

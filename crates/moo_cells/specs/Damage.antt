@@ -20,12 +20,13 @@ use Rattle.moo_cells.specs.declared.fault.CellFault.TheVariants.{Damaged, NewerV
 abbrev pub IsNewer : Tables → Type 0
 IsNewer t = IsNewerThan greatest_version t.head
 
--- there is no head of the version of the tables with a number of the next petition, and it isn't that of a later version either
+-- `head` has no head of the version within its limits, or `petition_head` no number of the next petition; and the version isn't a later
+-- one
 abbrev pub IsBadHead : Tables → Key → Type 0
 IsBadHead t Head = ¬ (HasHead (version_number t.version) t.head × HasCounter t.version t.petition_head) × ¬ (IsNewer t)
 IsBadHead t _ = ⊥
 
--- a row is there that can't be read
+-- a table has a row at the key, and it can't be read
 abbrev pub IsBadCell : Tables → Key → Type 0
 IsBadCell t Head = ⊥
 IsBadCell t (Object n) = IsUnread (ReadsObject t.version) t.object n

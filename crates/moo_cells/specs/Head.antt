@@ -3,7 +3,7 @@ use Rattle.std.specs.Prelude.{◌≡◌, ◌≢◌, ℕ, ◌<◌, ◌≤◌, ℤ
 use Rattle.std.specs.Prelude.{List, [], ◌∷◌, Option, None, Some, find}
 use Rattle.sqlite.specs.Order.{Row}
 use Rattle.sqlite.specs.Tree.{has_rowid}
-use Rattle.sqlite.specs.declared.types.Value.TheVariants.{Int as Number}
+use Rattle.sqlite.specs.declared.types.Value.TheVariants.{Int}
 use Rattle.moo_rows.specs.declared.row.Head.{Head}
 use Rattle.moo_tables_rows.specs.declared.version.Version.{Version}
 use Rattle.moo_tables_rows.specs.Version.{present, version_number}
@@ -20,14 +20,14 @@ greatest_version = version_number present
 -- the cells of a head, in the order of the columns
 abbrev pub head_row : (version seq top next_prop next_verb : ℤ) → Row
 head_row version seq top next_prop next_verb =
-    Number (pos 1) ∷ Number version ∷ Number seq ∷ Number top ∷ Number next_prop ∷ Number next_verb ∷ []
+    Int (pos 1) ∷ Int version ∷ Int seq ∷ Int top ∷ Int next_prop ∷ Int next_verb ∷ []
 
 -- the table has exactly one row, of id 1, and these are its cells
 pub record HeadIs (table : ℤ → Option Row) (cells : Row) : Type 0 where
   pub row : table (pos 1) ≡ Some cells
   pub alone : (n : ℤ) → n ≢ pos 1 → table n ≡ None
 
--- the limits of the counters that the table of the head has
+-- the counters of a head are within their limits
 pub record HeadFits (head : Head) : Type 0 where
   pub top : (negsuc 0 ≤ℤ head.top) × (head.top ≤ℤ pos 2147483647)
   pub next_prop : (0 < head.next_prop) × (head.next_prop ≤ 4294967295)
@@ -47,7 +47,7 @@ ReadsNewer known cells =
 abbrev pub ReadsKnown : ℤ → Row → Type 0
 ReadsKnown version cells = (head : Head) × ReadsHead version head cells
 
--- rows by their ids
+-- the table whose rows these are, by their first column
 abbrev pub by_rowid : List Row → ℤ → Option Row
 by_rowid rows = λ n. find (has_rowid n) rows
 
@@ -55,15 +55,15 @@ by_rowid rows = λ n. find (has_rowid n) rows
 abbrev pub HoldsHead : Version → List Row → Head → Type 0
 HoldsHead version rows head = (cells : Row) × HeadIs (by_rowid rows) cells × ReadsHead (version_number version) head cells
 
--- tables of a version past this one
+-- `head` is one row of id 1, of a version past this one
 abbrev pub IsNewerThan : ℤ → (ℤ → Option Row) → Type 0
 IsNewerThan known table = (cells : Row) × HeadIs table cells × ReadsNewer known cells
 
--- tables that have a head of this version
+-- `head` is one row of id 1, of a head of this version within its limits
 abbrev pub HasHead : ℤ → (ℤ → Option Row) → Type 0
 HasHead version table = (cells : Row) × HeadIs table cells × ReadsKnown version cells
 
--- the limits of a counter
+-- a number is within the limits of a counter
 abbrev pub IsCounter : ℕ → Type 0
 IsCounter next = (0 < next) × (next ≤ 4294967295)
 
@@ -71,11 +71,12 @@ IsCounter next = (0 < next) × (next ≤ 4294967295)
 abbrev pub ReadsCounter : Version → (ℤ → Option Row) → ℕ → Type 0
 ReadsCounter version table next = ShowsCounter version table next × IsCounter next
 
--- the table has such a number, as that of a version without petitions always does
+-- the table has a number of the next petition, within its limits; a version without petitions always has 1
 abbrev pub HasCounter : Version → (ℤ → Option Row) → Type 0
 HasCounter version table = (next : ℕ) × ReadsCounter version table next
 
--- the fault of a head
+-- What the fault of a head says, by whether there is one of the version and whether there is one of a newer version: `BadHead`, that
+-- there is neither; `NewerVersion`, that there is a newer one.
 abbrev pub SaysOfHead : (known newer : Type 0) → CellFault → Type 0
 SaysOfHead known newer (Damaged kind key) = (kind ≡ BadHead) × (key ≡ the_head) × ¬ known × ¬ newer
 SaysOfHead known newer NewerVersion = newer

@@ -13,7 +13,7 @@ abbrev pub ShowsAccept : List ℕ → Option (List ObjNo) → Type 0
 ShowsAccept text None = text ≡ []
 ShowsAccept text (Some objects) = Spells (object_list objects) text
 
--- the cells show the row, in every version alike
+-- the cells are those of this object, with its accept list in any spelling; every version has the same
 abbrev pub ShowsObject : Version → ObjNo → Row → ObjRow → Type 0
 ShowsObject version n cells row = (accept : List ℕ) × ShowsAccept accept row.accept × (cells ≡ object_row_cells n row accept)
 
@@ -22,7 +22,7 @@ abbrev pub StandFrom : ℕ → Row → Row → Type 0
 StandFrom at cells [] = Unit
 StandFrom at cells (cell ∷ more) = (column cells at ≡ cell) × StandFrom (suc at) cells more
 
--- the accept list is in the last column
+-- the place of the accept list: the last column
 abbrev pub accept_place : ℕ
 accept_place = pred (length object_table.columns)
 

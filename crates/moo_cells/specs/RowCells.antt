@@ -2,7 +2,7 @@
 use Rattle.std.specs.Prelude.{◌≡◌, ◌≢◌, Bool, true, false, ℕ, ℤ, pos, List, [], ◌∷◌, Option, Some, None}
 use Rattle.sqlite.specs.Order.{Row}
 use Rattle.sqlite.specs.declared.types.Value.{Value as Cell}
-use Rattle.sqlite.specs.declared.types.Value.TheVariants.{Int as Number, Text}
+use Rattle.sqlite.specs.declared.types.Value.TheVariants.{Int, Text}
 use Rattle.moo_value.specs.declared.value.ObjNo.{ObjNo}
 use Rattle.moo_value.specs.declared.value.Value.TheVariants.{List as a_list}
 use Rattle.moo_value.specs.Literal.{Spells}
@@ -28,40 +28,43 @@ abbrev pub ShowsSlotState : List ℕ → SlotState → Type 0
 ShowsSlotState text Clear = text ≡ []
 ShowsSlotState text (Set v) = Spells v text
 
--- the cells of each other row, in the order of the columns; a version may have its own
+-- the cells are those of this property
 abbrev pub ShowsProp : Version → PropId → Row → PropRow → Type 0
-ShowsProp version id cells row = cells ≡ Number (pos id.0) ∷ Number row.definer.0 ∷ Text row.name ∷ []
+ShowsProp version id cells row = cells ≡ Int (pos id.0) ∷ Int row.definer.0 ∷ Text row.name ∷ []
 
 -- the cell of the rights on a property: their letters in any order and case, or their number
 abbrev pub ShowsRights : (lettered : Bool) → Cell → Bits → Type 0
 ShowsRights true cell bits = (text : List ℕ) × (bits_of text ≡ Some bits) × (cell ≡ Text text)
-ShowsRights false cell bits = cell ≡ Number (bits_number bits)
+ShowsRights false cell bits = cell ≡ Int (bits_number bits)
 
+-- the cell of the rights on a property, as the version has them: letters in any order and case, or a number
 abbrev pub ShowsBits : Version → Cell → Bits → Type 0
 ShowsBits version = ShowsRights (has_lettered_bits version)
 
+-- the cells are those of this slot, with the rights as the version has them and the value in any spelling
 abbrev pub ShowsSlot : Version → ObjNo × PropId → Row → SlotRow → Type 0
 ShowsSlot version key cells row =
     (bits : Cell) × (value : List ℕ) × ShowsBits version bits row.bits × ShowsSlotState value row.state
-    × (cells ≡ Number key.0.0 ∷ Number (pos key.1.0) ∷ Number row.owner.0 ∷ bits ∷ Text value ∷ [])
+    × (cells ≡ Int key.0.0 ∷ Int (pos key.1.0) ∷ Int row.owner.0 ∷ bits ∷ Text value ∷ [])
 
--- the bits in any order and case, the preposition as its whole set
+-- the cells are those of this verb: the bits in any order and case, the preposition as its whole set
 abbrev pub ShowsVerb : Version → ObjNo × VerbId → Row → VerbRow → Type 0
 ShowsVerb version key cells row =
     (bits : List ℕ) × (verb_bits_of bits ≡ Some row.bits)
-    × (cells ≡ Number key.0.0 ∷ Number (pos key.1.0) ∷ Text row.names ∷ Number row.owner.0 ∷ Text bits
+    × (cells ≡ Int key.0.0 ∷ Int (pos key.1.0) ∷ Text row.names ∷ Int row.owner.0 ∷ Text bits
     ∷ Text (object_spec_text row.args.dobj) ∷ Text (prep_text row.args.prep) ∷ Text (object_spec_text row.args.iobj) ∷ [])
 
--- the calls in any spelling
+-- the cells are those of this petition, with its calls in any spelling
 abbrev pub ShowsPetition : Version → PetitionId → Row → PetitionRow → Type 0
 ShowsPetition version id cells row =
     (calls : List ℕ) × Spells (a_list row.calls) calls
-    × (cells ≡ Number (pos id.0) ∷ Number row.who.0 ∷ Text calls ∷ [])
+    × (cells ≡ Int (pos id.0) ∷ Int row.who.0 ∷ Text calls ∷ [])
 
 -- the number of the next petition: it is in one row of id 1, or it is that of the first if there are no petitions
 abbrev pub ShowsNext : (petitions : Bool) → (ℤ → Option Row) → ℕ → Type 0
 ShowsNext true table next = (table (pos 1) ≡ Some (petition_head_cells next)) × ((n : ℤ) → n ≢ pos 1 → table n ≡ None)
 ShowsNext false table next = next ≡ 1
 
+-- the tables of a version have this number of the next petition: in one row of id 1, or 1 if it has no petitions
 abbrev pub ShowsCounter : Version → (ℤ → Option Row) → ℕ → Type 0
 ShowsCounter version = ShowsNext (has_petitions version)

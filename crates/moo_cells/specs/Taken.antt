@@ -25,18 +25,22 @@ pub record TakesTable {K X : Type 0} {cmp : K → K → Ordering} (map_of : Maps
   pub fills : FillsTable apart holds reads cells (map_of after)
   pub kept : after ≡ with_map before (map_of after)
 
+-- the rows of the table of objects were read into the map of objects, and the other maps stay
 abbrev pub TakesObjects : Version → State → State → Maps → Maps → Type 0
 TakesObjects version = TakesTable (λ m. m.objects) (λ m rows. record m { objects = rows }) HaveNumbers (HoldsEachRow has_rowid object_number (ReadsObject version))
     (ReadsObject version) Object version
 
+-- the rows of the table of properties were read into the map of properties, and the other maps stay
 abbrev pub TakesProps : Version → State → State → Maps → Maps → Type 0
 TakesProps version = TakesTable (λ m. m.props) (λ m rows. record m { props = rows }) HaveNumbers (HoldsEachRow has_rowid prop_number (ReadsProp version))
     (ReadsProp version) Prop version
 
+-- the rows of the table of slots were read into the map of slots, and the other maps stay
 abbrev pub TakesSlots : Version → State → State → Maps → Maps → Type 0
 TakesSlots version = TakesTable (λ m. m.slots) (λ m rows. record m { slots = rows }) HavePairs (HoldsEachRow has_key_pair slot_number (ReadsSlot version))
     (ReadsSlot version) Slot version
 
+-- the rows of the table of verbs were read into the map of verbs, and the other maps stay
 abbrev pub TakesVerbs : Version → State → State → Maps → Maps → Type 0
 TakesVerbs version = TakesTable (λ m. m.verbs) (λ m rows. record m { verbs = rows }) HavePairs (HoldsEachRow has_key_pair verb_number (ReadsVerb version))
     (ReadsVerb version) Verb version

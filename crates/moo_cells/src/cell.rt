@@ -3,7 +3,7 @@
 ghost use Rattle.std.specs.Prelude.{◌≡◌, ◌≢◌, ℕ, ℤ, pos, ◌<◌, Bool, true, false, List, Some, IfOk, IfErr, IsTrue, FitsSigned};
 ghost use Rattle.std.specs.Int.{w64};
 ghost use Rattle.sqlite.specs.Order.{column};
-ghost use Rattle.sqlite.specs.declared.types.Value.TheVariants.{Int as Number, Text};
+ghost use Rattle.sqlite.specs.declared.types.Value.TheVariants.{Int, Text};
 ghost use Rattle.sqlite_trees.specs.View.{is_int};
 ghost use Rattle.moo_value.specs.declared.value.ObjNo.{ObjNo};
 ghost use Rattle.moo_rows.specs.declared.row.Bits.{Bits};
@@ -30,11 +30,14 @@ use std::alloc::Global;
 /// The greatest number of a property, a verb or a petition: one less than the greatest counter.
 const MAX_ID: u32 = u32::MAX - 1;
 
-/// The whole number in a column.
+/// The whole number in a column. `Unreadable` if the cell has something else, or there is no such column.
 pub(crate) fn int_at(cells: &Row, at: usize) -> Result<i64, RowFault>
-    ensures ok { IfOk result (λ n. column cells.now at ≡ Number n) }
+    // The cell has the number.
+    ensures ok { IfOk result (λ n. column cells.now at ≡ Int n) }
+    // It is a number of 64 bits with a sign.
     ensures fits { IfOk result (λ n. FitsSigned w64 n) }
-    ensures err { IfErr result (λ _. (n : ℤ) → column cells.now at ≢ Number n) }
+    // The cell has no whole number.
+    ensures err { IfErr result (λ _. (n : ℤ) → column cells.now at ≢ Int n) }
 {
     match cells.get_ref(at) {
         Ok(ValueRef::Int(number)) => Ok(number),
@@ -42,10 +45,11 @@ pub(crate) fn int_at(cells: &Row, at: usize) -> Result<i64, RowFault>
     }
 }
 
-/// The whole number in a column that has one.
+/// The whole number in a column that is known to have one.
 pub(crate) fn int_in(cells: &Row, at: usize) -> i64
+    // The cell has a whole number.
     requires { IsTrue (is_int (column cells.now at)) }
-    ensures value { column cells.now at ≡ Number result }
+    ensures value { column cells.now at ≡ Int result }
     ensures fits { FitsSigned w64 result }
 {
     match cells.get_ref(at) {
@@ -54,7 +58,7 @@ pub(crate) fn int_in(cells: &Row, at: usize) -> i64
     }
 }
 
-/// The bytes of the text in a column.
+/// The bytes of the text in a column. `Unreadable` if the cell has something else, or there is no such column.
 pub(crate) fn text_at(cells: &Row, at: usize) -> Result<&[u8], RowFault>
     ensures ok { IfOk result (λ text. column cells.now at ≡ Text text.now) }
     ensures err { IfErr result (λ _. (text : List ℕ) → column cells.now at ≢ Text text) }
@@ -65,11 +69,14 @@ pub(crate) fn text_at(cells: &Row, at: usize) -> Result<&[u8], RowFault>
     }
 }
 
-/// The number of 32 bits in a column.
+/// The number of an object in a column, -2,147,483,648 to 2,147,483,647. `Unreadable` if the cell has something else.
 pub(crate) fn object_at(cells: &Row, at: usize) -> Result<ObjNo, RowFault>
-    ensures ok { IfOk result (λ n. column cells.now at ≡ Number n.0) }
+    // The cell has the number.
+    ensures ok { IfOk result (λ n. column cells.now at ≡ Int n.0) }
+    // It is a number of 32 bits with a sign.
     ensures fits { IfOk result (λ n. is_number n ≡ true) }
-    ensures err { IfErr result (λ _. (n : ObjNo) → is_number n ≡ true → column cells.now at ≢ Number n.0) }
+    // The cell has no such number.
+    ensures err { IfErr result (λ _. (n : ObjNo) → is_number n ≡ true → column cells.now at ≢ Int n.0) }
 {
     match i32::try_from(int_at(cells, at)?) {
         Ok(number) => Ok(ObjNo(number)),
@@ -77,11 +84,14 @@ pub(crate) fn object_at(cells: &Row, at: usize) -> Result<ObjNo, RowFault>
     }
 }
 
-/// The number of a property, a verb or a petition in a column.
+/// The number of a property, a verb or a petition in a column, 1 to 4,294,967,294. `Unreadable` if the cell has something else.
 pub(crate) fn id_at(cells: &Row, at: usize) -> Result<u32, RowFault>
-    ensures ok { IfOk result (λ n. column cells.now at ≡ Number (pos n)) }
+    // The cell has the number.
+    ensures ok { IfOk result (λ n. column cells.now at ≡ Int (pos n)) }
+    // It is above 0 and below the greatest counter.
     ensures fits { IfOk result (λ n. IsId n) }
-    ensures err { IfErr result (λ _. (n : ℕ) → IsId n → column cells.now at ≢ Number (pos n)) }
+    // The cell has no such number.
+    ensures err { IfErr result (λ _. (n : ℕ) → IsId n → column cells.now at ≢ Int (pos n)) }
 {
     match u32::try_from(int_at(cells, at)?) {
         Ok(number) if 0 < number && number <= MAX_ID => Ok(number),
@@ -89,7 +99,7 @@ pub(crate) fn id_at(cells: &Row, at: usize) -> Result<u32, RowFault>
     }
 }
 
-/// The 0 or 1 in a column.
+/// The flag in a column: 0 or 1. `Unreadable` if the cell has something else.
 pub(crate) fn flag_at(cells: &Row, at: usize) -> Result<bool, RowFault>
     ensures ok { IfOk result (λ b. column cells.now at ≡ flag_cell b) }
     ensures err { IfErr result (λ _. (b : Bool) → column cells.now at ≢ flag_cell b) }
@@ -101,16 +111,19 @@ pub(crate) fn flag_at(cells: &Row, at: usize) -> Result<bool, RowFault>
     }
 }
 
-/// The string in a column.
+/// The string in a column. `Unreadable` if the cell has no text, or one that isn't a string of a world; `OutOfMemory`.
 pub(crate) fn string_at(alloc: Global, cells: &Row, at: usize) -> Result<MooStr, RowFault>
+    // The cell has the text.
     ensures ok { IfOk result (λ text. column cells.now at ≡ Text text) }
+    // It is within the limits of a string.
     ensures fits { IfOk result (λ text. is_text text ≡ true) }
+    // If the fault is `Unreadable`, the cell has no text within these limits.
     ensures err { IfErr result (λ fault. fault ≡ Unreadable → (text : List ℕ) → is_text text ≡ true → column cells.now at ≢ Text text) }
 {
     Ok(MooStr::from_bytes(alloc, text_at(cells, at)?)?)
 }
 
-/// The rights on a property whose letters are in a column.
+/// The rights on a property whose letters are in a column. `Unreadable` if the cell spells none.
 fn lettered_bits_at(cells: &Row, at: usize) -> Result<Bits, RowFault>
     ensures ok { IfOk result (λ bits. ShowsRights true (column cells.now at) bits) }
     ensures err { IfErr result (λ _. (bits : Bits) → ¬ (ShowsRights true (column cells.now at) bits)) }
@@ -121,7 +134,7 @@ fn lettered_bits_at(cells: &Row, at: usize) -> Result<Bits, RowFault>
     }
 }
 
-/// The rights on a property whose number is in a column.
+/// The rights on a property whose number, 0 to 7, is in a column. `Unreadable` if the cell has something else.
 fn numbered_bits_at(cells: &Row, at: usize) -> Result<Bits, RowFault>
     ensures ok { IfOk result (λ bits. ShowsRights false (column cells.now at) bits) }
     ensures err { IfErr result (λ _. (bits : Bits) → ¬ (ShowsRights false (column cells.now at) bits)) }
@@ -132,7 +145,7 @@ fn numbered_bits_at(cells: &Row, at: usize) -> Result<Bits, RowFault>
     }
 }
 
-/// The rights on a property in a column: letters or a number, as the version has them.
+/// The rights on a property in a column: letters or a number, as the version has them. `Unreadable` if the cell has neither.
 pub(crate) fn bits_at(version: Version, cells: &Row, at: usize) -> Result<Bits, RowFault>
     ensures ok { IfOk result (λ bits. ShowsBits version (column cells.now at) bits) }
     ensures err { IfErr result (λ _. (bits : Bits) → ¬ (ShowsBits version (column cells.now at) bits)) }
@@ -143,9 +156,11 @@ pub(crate) fn bits_at(version: Version, cells: &Row, at: usize) -> Result<Bits, 
     numbered_bits_at(cells, at)
 }
 
-/// The rights on a verb whose letters are in a column.
+/// The bits of a verb whose letters are in a column. `Unreadable` if the cell spells none.
 pub(crate) fn verb_bits_at(cells: &Row, at: usize) -> Result<VerbBits, RowFault>
+    // The cell has a text that spells the bits.
     ensures ok { IfOk result (λ bits. (text : List ℕ) × (verb_bits_of text ≡ Some bits) × (column cells.now at ≡ Text text)) }
+    // The cell has no text that spells bits.
     ensures err { IfErr result (λ _. (text : List ℕ) (bits : VerbBits) → verb_bits_of text ≡ Some bits → column cells.now at ≢ Text text) }
 {
     match VerbBits::of_letters(text_at(cells, at)?) {
@@ -154,7 +169,7 @@ pub(crate) fn verb_bits_at(cells: &Row, at: usize) -> Result<VerbBits, RowFault>
     }
 }
 
-/// The place of a verb's arguments in a column.
+/// What a verb takes as its direct or indirect object, in a column: `this`, `none` or `any`. `Unreadable` if the cell has another text.
 pub(crate) fn object_spec_at(cells: &Row, at: usize) -> Result<ObjectSpec, RowFault>
     ensures ok { IfOk result (λ place. column cells.now at ≡ Text (object_spec_text place)) }
     ensures err { IfErr result (λ _. (place : ObjectSpec) → column cells.now at ≢ Text (object_spec_text place)) }
@@ -165,7 +180,7 @@ pub(crate) fn object_spec_at(cells: &Row, at: usize) -> Result<ObjectSpec, RowFa
     }
 }
 
-/// The preposition of a verb's arguments in a column.
+/// The preposition that a verb takes, in a column. `Unreadable` if the cell has another text.
 pub(crate) fn prep_at(cells: &Row, at: usize) -> Result<Preposition, RowFault>
     ensures ok { IfOk result (λ prep. column cells.now at ≡ Text (prep_text prep)) }
     ensures err { IfErr result (λ _. (prep : Preposition) → column cells.now at ≢ Text (prep_text prep)) }

@@ -13,15 +13,17 @@ use crate::fault::CellFault;
 use crate::rows::read_rows;
 use moo_damage::damage_of;
 use moo_memory::Flat;
-use moo_tables::CellLists as Cells;
+use moo_tables::CellLists;
 use std::alloc::Global;
 
 /// The rows that the tables show, if they are those of a world.
 ///
 /// Errors: `Damaged` with the first kind of damage that is met and the least key at which it is; `NewerVersion` if the
 /// head is that of a later version, and then nothing else is tested; `OutOfMemory`.
-pub fn read_cells(alloc: Global, lists: Cells) -> Result<Flat, CellFault>
+pub fn read_cells(alloc: Global, lists: CellLists) -> Result<Flat, CellFault>
+    // In each table the keys are whole numbers, and each is above the one before.
     requires { AreListed lists }
+    // The tables show the rows that are read.
     ensures rows { IfOk result (λ rows. ShowsRows (tables_of lists) rows.maps) }
     // What is read is good whatever the tables hold.
     ensures good { IfOk result (λ rows. IsGood rows.maps) }
@@ -29,7 +31,7 @@ pub fn read_cells(alloc: Global, lists: Cells) -> Result<Flat, CellFault>
     ensures limit { IfOk result (λ rows. rows.maps.head.seq < 2 ^ 63) }
     // Good rows that the tables show are the ones that are read.
     ensures one { (m : Maps) → ShowsRows (tables_of lists) m → IsGood m → IfOk result (λ rows. rows.maps ≡ m) }
-    // Which fault it is.
+    // A fault is told only if it is met: the first kind of damage with its least key, or a head of a later version.
     ensures fault { IfErr result (SaysOfCells (tables_of lists)) }
     // Tables that show good rows are read, unless memory runs out.
     ensures whole { (m : Maps) → ShowsRows (tables_of lists) m → IsGood m → IfErr result (λ fault. fault ≡ CellFault.OutOfMemory) }

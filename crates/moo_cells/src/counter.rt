@@ -15,10 +15,11 @@ const COLUMNS: usize = 2;
 /// The number of the first petition.
 pub(crate) const FIRST_PETITION: u32 = 1;
 
-/// The next number of a property, a verb or a petition.
+/// The next number of a property, a verb or a petition, from its cell; None if that isn't 1 to 4,294,967,295.
 pub(crate) fn counter_in(number: i64) -> Option<u32>
     ensures some { IfSome result (λ counter. number ≡ pos counter) }
     ensures within { IfSome result (λ counter. IsCounter counter) }
+    // If there isn't one, the number isn't that of a counter within its limits.
     ensures none { IfNone result ((counter : ℕ) → IsCounter counter → number ≢ pos counter) }
 {
     match u32::try_from(number) {
@@ -27,10 +28,12 @@ pub(crate) fn counter_in(number: i64) -> Option<u32>
     }
 }
 
-/// The number of the next petition that these cells show.
+/// The number of the next petition that the cells of a row of `petition_head` show; None if they aren't id 1 and a counter within its
+/// limits.
 fn counter_of(cells: &Row) -> Option<u32>
     ensures some { IfSome result (λ next. cells.now ≡ petition_head_cells next) }
     ensures within { IfSome result (λ next. IsCounter next) }
+    // If there isn't one, the cells aren't id 1 and a counter within its limits.
     ensures none { IfNone result ((next : ℕ) → IsCounter next → cells.now ≢ petition_head_cells next) }
 {
     if cells.column_count() != COLUMNS {
@@ -44,9 +47,10 @@ fn counter_of(cells: &Row) -> Option<u32>
     counter_in(next)
 }
 
-/// The number of the next petition, from the rows of its table; that of the first, if the version has no petitions. None if the
-/// table isn't one row of id 1 with a counter.
+/// The number of the next petition, from the rows of `petition_head`; 1, if the version has no petitions. None if the table isn't one row
+/// of id 1 with a counter within its limits.
 pub(crate) fn read_counter(version: Version, rows: &[Row]) -> Option<u32>
+    // The keys are whole numbers that rise.
     requires { AreKeyed rows.now }
     ensures some { IfSome result (λ next. ReadsCounter version (by_rowid rows.now) next) }
     ensures none { IfNone result (¬ (HasCounter version (by_rowid rows.now))) }

@@ -33,10 +33,12 @@ struct HeadCells {
     next_verb: i64,
 }
 
-/// The numbers in these cells.
+/// The six numbers in the cells of a row of `head`. `Unreadable` if there aren't six, or one isn't a whole number.
 fn numbers_of(cells: &Row) -> Result<HeadCells, RowFault>
     ensures ok { IfOk result (λ numbers. cells.now ≡ cells_of numbers) }
+    // Each is a number of 64 bits with a sign.
     ensures words { IfOk result (λ numbers. AreWords numbers) }
+    // The cells aren't six whole numbers.
     ensures err { IfErr result (λ _. (numbers : HeadCells) → ¬ (cells.now ≡ cells_of numbers)) }
 {
     if cells.column_count() != COLUMNS {
@@ -58,7 +60,7 @@ fn numbers_of(cells: &Row) -> Result<HeadCells, RowFault>
     })
 }
 
-/// How many batches were accepted.
+/// The number of the batches that were accepted, from its cell; None if that is below 0.
 fn seq_in(number: i64) -> Option<u64>
     ensures some { IfSome result (λ seq. number ≡ pos seq) }
     ensures limit { IfSome result (λ seq. seq < 2 ^ 63) }
@@ -67,11 +69,13 @@ fn seq_in(number: i64) -> Option<u64>
     u64::try_from(number).ok()
 }
 
-/// The greatest number of an object, from its cell; `None` if that isn't -1 to 2,147,483,647.
+/// The greatest number of an object, from its cell; None if that isn't -1 to 2,147,483,647.
 fn top_in(number: i64) -> Option<i32>
     ensures some { IfSome result (λ top. number ≡ top) }
     ensures within { IfSome result (λ top. (negsuc 0 ≤ℤ top) × (top ≤ℤ pos 2147483647)) }
+    // It is a number of 32 bits with a sign.
     ensures fits { IfSome result (λ top. FitsSigned w32 top) }
+    // If there isn't one, the cell isn't within these limits.
     ensures none { IfNone result (((negsuc 0 ≤ℤ number) × (number ≤ℤ pos 2147483647)) → ⊥) }
 {
     match i32::try_from(number) {
@@ -80,12 +84,14 @@ fn top_in(number: i64) -> Option<i32>
     }
 }
 
-/// The head of these numbers, if they are within its limits. The number of the next petition, which isn't among them, is
-/// that of the first.
+/// The head of these numbers; None if one isn't within its limits. The number of the next petition, which isn't among them, is that of
+/// the first.
 fn head_within(numbers: HeadCells) -> Option<Head>
+    // They come from cells: numbers of 64 bits with a sign.
     requires { AreWords numbers }
     ensures some { IfSome result (λ head. IsHead numbers head) }
     ensures limit { IfSome result (λ head. head.seq < 2 ^ 63) }
+    // If there isn't one, no head within its limits has these numbers.
     ensures none { IfNone result ((head : Head) → ¬ (IsHead numbers head)) }
 {
     let seq = seq_in(numbers.seq)?;
@@ -101,10 +107,13 @@ fn head_within(numbers: HeadCells) -> Option<Head>
     })
 }
 
-/// The head that these cells show in tables of this version.
+/// The head that the cells of a row show in tables of this version. `Damaged(BadHead, Head)` if they show none within its limits, and
+/// `NewerVersion` if they are those of a later version than the present one.
 fn head_of(version: Version, cells: &Row) -> Result<Head, CellFault>
+    // The cells are those of the head, in this version.
     ensures ok { IfOk result (λ head. ReadsHead (version_number version) head cells.now) }
     ensures limit { IfOk result (λ head. head.seq < 2 ^ 63) }
+    // Damaged: they are those of no head of this version, nor of a later one. NewerVersion: they are those of a later one.
     ensures err { IfErr result (SaysOfHead (ReadsKnown (version_number version) cells.now) (ReadsNewer greatest_version cells.now)) }
 {
     let Ok(numbers) = numbers_of(cells) else {
@@ -125,11 +134,14 @@ fn head_of(version: Version, cells: &Row) -> Result<Head, CellFault>
     }
 }
 
-/// The head of tables of this version, from the rows of its own table.
+/// The head of tables of this version, from the rows of `head`. It fails as `head_of` does, and if there isn't just one row.
 fn head_in(version: Version, rows: &[Row]) -> Result<Head, CellFault>
+    // The keys are whole numbers that rise.
     requires { AreKeyed rows.now }
+    // The table has this head, in this version.
     ensures ok { IfOk result (HoldsHead version rows.now) }
     ensures limit { IfOk result (λ head. head.seq < 2 ^ 63) }
+    // Damaged: the table has no head of this version, nor of a later one. NewerVersion: it has one of a later version.
     ensures err { IfErr result (SaysOfHead
         (HasHead (version_number version) (by_rowid rows.now)) (IsNewerThan greatest_version (by_rowid rows.now))) }
 {
@@ -146,11 +158,18 @@ fn head_in(version: Version, rows: &[Row]) -> Result<Head, CellFault>
 /// counters within their limits, or in a version with petitions `petition_head` isn't one row of id 1 with a counter within its
 /// limits; `NewerVersion` if the table of the head is one row of id 1 with whole numbers, the version above the present one.
 pub(crate) fn read_head(version: Version, rows: &[Row], counters: &[Row]) -> Result<Head, CellFault>
+    // The keys of `head` are whole numbers that rise.
     requires head { AreKeyed rows.now }
+    // The keys of `petition_head` are whole numbers that rise.
     requires counter { AreKeyed counters.now }
+    // `head` has these numbers within their limits.
     ensures ok { IfOk result (HoldsHead version rows.now) }
+    // `petition_head` has the number of the next petition.
     ensures counter { IfOk result (λ head. ReadsCounter version (by_rowid counters.now) head.next_petition) }
+    // The number of the last batch is that of a cell.
     ensures limit { IfOk result (λ head. head.seq < 2 ^ 63) }
+    // Damaged: one of the two tables doesn't have the numbers, and the version isn't a later one. NewerVersion: the version is a later
+    // one.
     ensures err { IfErr result (SaysOfHead
         (HasHead (version_number version) (by_rowid rows.now) × HasCounter version (by_rowid counters.now))
         (IsNewerThan greatest_version (by_rowid rows.now))) }

@@ -18,10 +18,10 @@ ghost use Rattle.moo_cells.specs.Shows.{ShowsRows};
 ghost use Rattle.moo_cells.specs.Holding.{KeepsTable};
 ghost use Rattle.moo_cells.specs.Taken.{TakesTable, TakesTables};
 
-use crate::filled::Filling;
+use crate::filling::Filling;
 use crate::head::read_head;
-use crate::rows::under;
-use crate::table_row::{ReadRow, read_table};
+use crate::read_row::{ReadRow, read_table};
+use crate::rows::head_alone;
 use moo_damage::damage_of;
 use moo_memory::Flat;
 use moo_rows::{ObjRow, PetitionRow, PropRow, SlotRow, VerbRow};
@@ -29,7 +29,8 @@ use moo_tables::{CellTable, Version, are_numbered, feed_table, small_cells_of};
 use sqlite::{Alter, Connection, Error, Row};
 use std::alloc::Global;
 
-/// The rows with what each row of a table shows, of which they have none yet; None if some row shows nothing, or if memory ran out.
+/// Reads a table, and puts what each of its rows shows into the maps, which have none of them yet. None if some row shows no row within
+/// its limits, or if memory ran out.
 fn take_table<R: ReadRow, S: Alter>(
     alloc: Global,
     conn: &mut Connection<S>,
@@ -37,8 +38,11 @@ fn take_table<R: ReadRow, S: Alter>(
     table: CellTable,
     rows: Flat,
 ) -> Result<Option<Flat>, Error>
+    // The version has this table.
     requires { HasTable version table }
+    // Nothing is written, and it fails only if the store does, or at the limit on steps.
     ensures reads { OnlyReads version (state S.Store conn.old) (state S.Store conn.new) result }
+    // If the kind of rows has the laws of `KeepsTable`: the map of the table has just what its rows show, and the other maps stay.
     ensures taken { KeepsTable R.order (R.reads version) R.apart R.in_order (R.holds version) (R.unread version) R.whole R.tells →
         R.map_of rows.maps ≡ empty → IfOk result (λ o. IfSome o (λ after. TakesTable R.map_of R.with_map R.apart (R.holds version)
         (R.reads version) table version (state S.Store conn.old) (state S.Store conn.new) rows.maps after.maps)) }
@@ -48,15 +52,19 @@ fn take_table<R: ReadRow, S: Alter>(
     Ok(filling.into_rows(whole))
 }
 
-/// The rows with what the four large tables show, if they have a head alone before; None if some row shows nothing, or if memory ran out.
+/// Reads the tables of objects, properties, slots and verbs, one after another, and puts their rows into maps that have a head alone.
+/// None if some row shows no row within its limits, or if memory ran out.
 fn take_tables<S: Alter>(
     alloc: Global,
     conn: &mut Connection<S>,
     version: Version,
     rows: Flat,
 ) -> Result<Option<Flat>, Error>
+    // The maps have a head alone.
     requires { rows.maps ≡ record no_maps { head = rows.maps.head } }
+    // Nothing is written, and it fails only if the store does, or at the limit on steps.
     ensures reads { OnlyReads version (state S.Store conn.old) (state S.Store conn.new) result }
+    // Each map has just what the rows of its table show, and the head and the petitions stay.
     ensures taken { IfOk result (λ o. IfSome o (λ after.
         TakesTables version (state S.Store conn.old) (state S.Store conn.new) rows.maps after.maps)) }
 {
@@ -76,8 +84,9 @@ fn take_tables<S: Alter>(
     Ok(verbs)
 }
 
-/// Whether the first column of each of three tables is a whole number that rises from row to row.
+/// Whether the first column of each of three tables, as of the three small ones, is a whole number that rises from row to row.
 pub(crate) fn are_each_numbered(one: &[Row], two: &[Row], three: &[Row]) -> bool
+    // If the answer is true, the keys of each table are whole numbers that rise.
     ensures one { result ≡ true → AreKeyed one.now }
     ensures two { result ≡ true → AreKeyed two.now }
     ensures three { result ≡ true → AreKeyed three.now }
@@ -85,13 +94,15 @@ pub(crate) fn are_each_numbered(one: &[Row], two: &[Row], three: &[Row]) -> bool
     are_numbered(one) && are_numbered(two) && are_numbered(three)
 }
 
-/// The rows within their limits that the tables show; None if they show no such rows, or if memory ran out.
+/// Reads all tables: the rows within their limits that they show. None if they show no such rows, or if memory ran out.
 fn take_rows<S: Alter>(
     alloc: Global,
     conn: &mut Connection<S>,
     version: Version,
 ) -> Result<Option<Flat>, Error>
+    // Nothing is written, and it fails only if the store does, or at the limit on steps.
     ensures reads { OnlyReads version (state S.Store conn.old) (state S.Store conn.new) result }
+    // The tables show the rows that are read.
     ensures shown { HasCleanDisk (state S.Store conn.new) → IfOk result (λ o. IfSome o (λ rows. (tables : Tables) →
         Rests (state S.Store conn.old) tables → tables.version ≡ version → ShowsRows tables rows.maps)) }
     ensures within { IfOk result (λ o. IfSome o (λ rows. AreWithin rows.maps)) }
@@ -104,7 +115,7 @@ fn take_rows<S: Alter>(
     let Ok(first) = read_head(version, &head, &petition_head) else {
         return Ok(None);
     };
-    let all = take_tables(alloc, conn, version, under(alloc, first))?;
+    let all = take_tables(alloc, conn, version, head_alone(alloc, first))?;
     let Some(mut rows) = all else {
         return Ok(None);
     };
@@ -114,7 +125,7 @@ fn take_rows<S: Alter>(
     }
 }
 
-/// The rows that the tables of a connection show, if they are those of a world; None if they aren't, or if memory ran out.
+/// The rows that the tables of a connection show, if they are those of a world; None if they show no world, or if memory ran out.
 ///
 /// Nothing is written. After a fault of the store the tables are as they were, unless the fault shut the connection.
 pub fn read_in_turn<S: Alter>(
@@ -122,11 +133,14 @@ pub fn read_in_turn<S: Alter>(
     conn: &mut Connection<S>,
     version: Version,
 ) -> Result<Option<Flat>, Error>
+    // Nothing is written, and it fails only if the store does, or at the limit on steps.
     ensures reads { OnlyReads version (state S.Store conn.old) (state S.Store conn.new) result }
+    // The tables show the rows that are read.
     ensures shown { HasCleanDisk (state S.Store conn.new) → IfOk result (λ o. IfSome o (λ rows. (tables : Tables) →
         Rests (state S.Store conn.old) tables → tables.version ≡ version → ShowsRows tables rows.maps)) }
     // What is read is good whatever the tables hold.
     ensures good { IfOk result (λ o. IfSome o (λ rows. IsGood rows.maps)) }
+    // The number of the last batch is that of a cell, and so is below 2^63.
     ensures limit { IfOk result (λ o. IfSome o (λ rows. rows.maps.head.seq < 2 ^ 63)) }
     // Good rows that the tables show are the ones that are read.
     ensures one { HasCleanDisk (state S.Store conn.new) → IfOk result (λ o. IfSome o (λ rows. (tables : Tables) (m : Maps) →

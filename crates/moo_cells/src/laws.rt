@@ -10,7 +10,7 @@ ghost use Rattle.moo_damage.specs.declared.kind.Key.{Key};
 ghost use Rattle.moo_cells.specs.Shows.{ShowsRows};
 ghost use Rattle.moo_cells.specs.Damage.{IsMet, IsNewer, Damage};
 
-/// Tables show one set of rows within the limits at most.
+/// Tables show at most one set of rows within the limits.
 pub fn one_set_of_rows()
     ensures { (t : Tables) (m n : Maps) → ShowsRows t m → AreWithin m → ShowsRows t n → AreWithin n → m ≡ n }
 {}
@@ -21,7 +21,7 @@ pub fn shown_without_damage()
     ensures damage { (t : Tables) (m : Maps) → ShowsRows t m → IsGood m → (kind : Kind) (key : Key) → ¬ (IsMet t kind key) }
 {}
 
-/// Damage is of one kind and at one key.
+/// Tables have one damage at most: of one kind, and at one key.
 pub fn one_damage()
     ensures { (t : Tables) (kind other : Kind) (key at : Key) → Damage t kind key → Damage t other at → (kind ≡ other) × (key ≡ at) }
 {}

@@ -9,8 +9,8 @@ mod cells;
 mod comparing;
 mod counter;
 mod fault;
-mod filled;
 mod filling;
+mod filling_order;
 mod head;
 mod in_turn;
 mod laws;
@@ -18,12 +18,12 @@ mod literal;
 mod object;
 mod petition;
 mod prop;
+mod read_row;
 mod rows;
 mod showing;
 mod showing_in_turn;
 mod slot;
-mod spent;
-mod table_row;
+mod spent_cells;
 mod verb;
 
 pub use cells::read_cells;
@@ -35,4 +35,4 @@ pub use rows::read_rows;
 pub use showing_in_turn::show_in_turn;
 
 /// The rows of each table, as they are listed.
-pub use moo_tables::CellLists as Cells;
+pub use moo_tables::CellLists;

@@ -12,7 +12,7 @@ ghost use Rattle.moo_cells.specs.Holding.{object_number, object_key, IsLess, Has
 use crate::cell::{flag_at, int_in, object_at, string_at};
 use crate::fault::RowFault;
 use crate::literal::accept_at;
-use crate::table_row::ReadRow;
+use crate::read_row::ReadRow;
 use moo_damage::Key;
 use moo_rows::ObjRow;
 use moo_tables::Version;
@@ -26,7 +26,7 @@ const COLUMNS: usize = 12;
 /// The number that stands for no object.
 const NOTHING: ObjNo = ObjNo(-1);
 
-/// An object that has the flags in these cells, and nothing else.
+/// An object that has the six flags in these cells, and nothing else yet. `Unreadable` if one of the cells is neither 0 nor 1.
 fn flags_of(alloc: Global, cells: &Row) -> Result<ObjRow, RowFault>
     ensures ok { IfOk result (λ row. HasFlags cells.now row) }
     ensures err { IfErr result (λ _. (row : ObjRow) → ¬ (HasFlags cells.now row)) }

@@ -9,7 +9,7 @@ ghost use Rattle.moo_cells.specs.Holding.{petition_number, petition_key, IsLess,
 use crate::cell::{id_at, int_in, object_at};
 use crate::fault::RowFault;
 use crate::literal::calls_at;
-use crate::table_row::ReadRow;
+use crate::read_row::ReadRow;
 use moo_damage::Key;
 use moo_rows::{PetitionId, PetitionRow};
 use moo_tables::Version;

@@ -10,7 +10,7 @@ ghost use Rattle.moo_cells.specs.Holding.{prop_number, prop_key, IsLess, HasWhol
 
 use crate::cell::{id_at, int_in, object_at, string_at};
 use crate::fault::RowFault;
-use crate::table_row::ReadRow;
+use crate::read_row::ReadRow;
 use moo_damage::Key;
 use moo_rows::{PropId, PropRow};
 use moo_tables::Version;

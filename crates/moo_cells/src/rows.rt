@@ -11,14 +11,14 @@ ghost use Rattle.moo_cells.specs.Damage.{IsMet, IsNewer, SaysOfCells};
 
 use crate::fault::CellFault;
 use crate::head::read_head;
-use crate::table_row::read_table;
+use crate::read_row::read_table;
 use moo_memory::Flat;
 use moo_rows::{Head, ObjRow, PetitionRow, PropRow, Rows, SlotRow, VerbRow};
-use moo_tables::CellLists as Cells;
+use moo_tables::CellLists;
 use std::alloc::Global;
 
-/// No rows under this head.
-pub(crate) fn under(alloc: Global, head: Head) -> Flat
+/// Rows that have this head and nothing else.
+pub(crate) fn head_alone(alloc: Global, head: Head) -> Flat
     ensures { result.maps ≡ record no_maps { head = head } }
 {
     let mut rows = Flat::new(alloc);
@@ -26,20 +26,28 @@ pub(crate) fn under(alloc: Global, head: Head) -> Flat
     rows
 }
 
-/// Puts what each table shows, one after another, in rows that have a head alone. The cells of the rows are let go soon after
-/// they are read.
-fn read_tables(alloc: Global, lists: Cells, rows: &mut Flat) -> Result<(), CellFault>
+/// Puts what each table shows, one after another, into rows that have a head alone. The cells of the rows are let go soon after they are
+/// read. `Damaged` with `BadCell` and the least key of a row that shows none within its limits; `OutOfMemory`.
+fn read_tables(alloc: Global, lists: CellLists, rows: &mut Flat) -> Result<(), CellFault>
+    // In each table the keys are whole numbers, and each is above the one before.
     requires listed { AreListed lists }
+    // The head of the rows is that of the tables.
     requires head { HoldsHead lists.version lists.head.items rows.old.maps.head }
+    // So is its number of the next petition.
     requires counter { ReadsCounter lists.version (by_rowid lists.petition_head.items) rows.old.maps.head.next_petition }
+    // The rows have a head alone.
     requires none { rows.old.maps ≡ record no_maps { head = rows.old.maps.head } }
     ensures head { OnOk result (rows.new.maps.head ≡ rows.old.maps.head) }
+    // The tables show the rows that are read.
     ensures shown { OnOk result (ShowsRows (tables_of lists) rows.new.maps) }
+    // Each row is within its limits.
     ensures within { OnOk result (AreWithin rows.new.maps) }
+    // The tables aren't of a later version, and neither a bad head nor a bad cell is met.
     ensures read { OnOk result (¬ (IsNewer (tables_of lists)) × NoneBefore (IsMet (tables_of lists)) 3) }
+    // A fault is told only if it is met in the tables.
     ensures fault { IfErr result (SaysOfCells (tables_of lists)) }
 {
-    let Cells {
+    let CellLists {
         version,
         object,
         prop,
@@ -59,17 +67,22 @@ fn read_tables(alloc: Global, lists: Cells, rows: &mut Flat) -> Result<(), CellF
 ///
 /// Errors: `Damaged` with `BadHead` or `BadCell`, the first of the two that is met, and its least key; `NewerVersion`;
 /// `OutOfMemory`.
-pub fn read_rows(alloc: Global, lists: Cells) -> Result<Flat, CellFault>
+pub fn read_rows(alloc: Global, lists: CellLists) -> Result<Flat, CellFault>
+    // In each table the keys are whole numbers, and each is above the one before.
     requires { AreListed lists }
+    // The tables show the rows that are read.
     ensures shown { IfOk result (λ rows. ShowsRows (tables_of lists) rows.maps) }
+    // Each row is within its limits.
     ensures within { IfOk result (λ rows. AreWithin rows.maps) }
+    // The number of the last batch is that of a cell, and so is below 2^63.
     ensures limit { IfOk result (λ rows. rows.maps.head.seq < 2 ^ 63) }
-    // Neither a bad head nor a bad cell is met.
+    // The tables aren't of a later version, and neither a bad head nor a bad cell is met.
     ensures read { OnOk result (¬ (IsNewer (tables_of lists)) × NoneBefore (IsMet (tables_of lists)) 3) }
+    // A fault is told only if it is met in the tables.
     ensures fault { IfErr result (SaysOfCells (tables_of lists)) }
 {
     let head = read_head(lists.version, &lists.head, &lists.petition_head)?;
-    let mut rows = under(alloc, head);
+    let mut rows = head_alone(alloc, head);
     match read_tables(alloc, lists, &mut rows) {
         Ok(()) => Ok(rows),
         Err(fault) => Err(fault),

@@ -5,14 +5,14 @@ ghost use Rattle.std.specs.FinMap.{entries};
 ghost use Rattle.moo_cells.specs.Each.{ShowEach};
 
 use crate::fault::RowFault;
-use crate::table_row::ReadRow;
+use crate::read_row::ReadRow;
 use moo_memory::Flat;
 use moo_rows::Row as _;
 use moo_tables::Version;
 use sqlite::Row;
 use std::alloc::{AllocError, Global};
 
-/// Whether these cells show this row. An `Err` means that memory ran out.
+/// Whether the cells of a row show this row, under this key. An `Err` means that memory ran out.
 fn shows<R: ReadRow>(
     alloc: Global,
     version: Version,
@@ -20,6 +20,7 @@ fn shows<R: ReadRow>(
     key: R::Key,
     row: &R,
 ) -> Result<bool, AllocError>
+    // If the answer is true, the cells show this row, within its limits. Nothing is promised of false.
     ensures { IfOk result (λ shows. shows ≡ true → R.reads version key cells.now row.now) }
 {
     match R::read(alloc, version, cells) {
@@ -29,13 +30,15 @@ fn shows<R: ReadRow>(
     }
 }
 
-/// Whether the rows of a table of this version show all rows of their kind, one for one. An `Err` means that memory ran out.
+/// Whether the rows of a table of this version show all rows of their kind, one for one, in the order of the keys. An `Err` means that
+/// memory ran out.
 pub(crate) fn show_each<R: ReadRow>(
     alloc: Global,
     version: Version,
     cells: &[Row],
     rows: &Flat,
 ) -> Result<bool, AllocError>
+    // If the answer is true, the first row shows the first entry of the map, and so on, and none is left over on either side.
     ensures { IfOk result (λ show. show ≡ true → ShowEach (R.reads version) cells.now (entries (R.map_of rows.now.maps))) }
 {
     let mut last = None;

@@ -18,16 +18,17 @@ ghost use Rattle.moo_cells.specs.Taken.{TakesTable, TakesTables};
 
 use crate::comparing::shows_head;
 use crate::in_turn::are_each_numbered;
+use crate::read_row::ReadRow;
 use crate::showing::show_each;
-use crate::table_row::ReadRow;
 use moo_memory::Flat;
 use moo_rows::{ObjRow, PetitionRow, PropRow, Rows, SlotRow, VerbRow};
 use moo_tables::{CellTable, Version, cells_of, small_cells_of};
 use sqlite::{Alter, Connection, Error, Row};
 use std::alloc::Global;
 
-/// Whether the rows of a table of this version are seen to show all rows of their kind, one for one; false too if memory ran out.
+/// Whether the rows of a table of this version are seen to show all rows of their kind, one for one. False too if memory ran out.
 fn are_shown<R: ReadRow>(alloc: Global, version: Version, cells: &[Row], rows: &Flat) -> bool
+    // If the answer is true, the first row shows the first entry of the map, and so on, and none is left over on either side.
     ensures { result ≡ true → ShowEach (R.reads version) cells.now (entries (R.map_of rows.now.maps)) }
 {
     match show_each::<R>(alloc, version, cells, rows) {
@@ -36,7 +37,7 @@ fn are_shown<R: ReadRow>(alloc: Global, version: Version, cells: &[Row], rows: &
     }
 }
 
-/// The same of a table of a connection.
+/// Reads a table of a connection. Whether its rows are seen to show all rows of their kind, one for one; false too if memory ran out.
 fn show_table<R: ReadRow, S: Alter>(
     alloc: Global,
     conn: &mut Connection<S>,
@@ -44,8 +45,11 @@ fn show_table<R: ReadRow, S: Alter>(
     table: CellTable,
     rows: &Flat,
 ) -> Result<bool, Error>
+    // The version has this table.
     requires { HasTable version table }
+    // Nothing is written, and it fails only if the store does, or at the limit on steps.
     ensures reads { OnlyReads version (state S.Store conn.old) (state S.Store conn.new) result }
+    // If the kind of rows has the laws of `KeepsTable`: if the answer is true, reading the table would give the very rows of this kind.
     ensures shown { KeepsTable R.order (R.reads version) R.apart R.in_order (R.holds version) (R.unread version) R.whole R.tells →
         IfOk result (λ show. show ≡ true → TakesTable R.map_of R.with_map R.apart (R.holds version) (R.reads version)
         table version (state S.Store conn.old) (state S.Store conn.new) rows.now.maps rows.now.maps) }
@@ -54,14 +58,17 @@ fn show_table<R: ReadRow, S: Alter>(
     Ok(are_shown::<R>(alloc, version, &cells, rows))
 }
 
-/// The same of the four large tables.
+/// Reads the tables of objects, properties, slots and verbs, one after another. Whether each is seen to show all rows of its kind, one
+/// for one; false too if memory ran out.
 fn show_tables<S: Alter>(
     alloc: Global,
     conn: &mut Connection<S>,
     version: Version,
     rows: &Flat,
 ) -> Result<bool, Error>
+    // Nothing is written, and it fails only if the store does, or at the limit on steps.
     ensures reads { OnlyReads version (state S.Store conn.old) (state S.Store conn.new) result }
+    // If the answer is true, reading the four tables would give the very rows.
     ensures shown { IfOk result (λ show. show ≡ true →
         TakesTables version (state S.Store conn.old) (state S.Store conn.new) rows.now.maps rows.now.maps) }
 {
@@ -90,7 +97,9 @@ pub fn show_in_turn<S: Alter>(
     version: Version,
     rows: &Flat,
 ) -> Result<bool, Error>
+    // Nothing is written, and it fails only if the store does, or at the limit on steps.
     ensures reads { OnlyReads version (state S.Store conn.old) (state S.Store conn.new) result }
+    // If the answer is true, the tables show these rows. Nothing is promised of false.
     ensures shown { HasCleanDisk (state S.Store conn.new) → IfOk result (λ show. show ≡ true → (tables : Tables) →
         Rests (state S.Store conn.old) tables → tables.version ≡ version → ShowsRows tables rows.now.maps) }
 {

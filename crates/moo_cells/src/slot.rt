@@ -8,7 +8,7 @@ ghost use Rattle.moo_cells.specs.Holding.{slot_number, slot_key, IsPairLess, Has
 use crate::cell::{bits_at, id_at, int_in, object_at};
 use crate::fault::RowFault;
 use crate::literal::state_at;
-use crate::table_row::ReadRow;
+use crate::read_row::ReadRow;
 use moo_damage::Key;
 use moo_rows::{PropId, SlotRow};
 use moo_tables::Version;

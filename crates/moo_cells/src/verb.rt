@@ -10,7 +10,7 @@ ghost use Rattle.moo_cells.specs.Holding.{verb_number, verb_key, IsPairLess, Has
 
 use crate::cell::{id_at, int_in, object_at, object_spec_at, prep_at, string_at, verb_bits_at};
 use crate::fault::RowFault;
-use crate::table_row::ReadRow;
+use crate::read_row::ReadRow;
 use moo_damage::Key;
 use moo_rows::{ArgSpec, VerbId, VerbRow};
 use moo_tables::Version;
@@ -22,7 +22,8 @@ use std::alloc::Global;
 /// How many columns the table of verbs has.
 const COLUMNS: usize = 8;
 
-/// The arguments in the cells of a verb.
+/// The arguments in the cells of a verb: direct object, preposition, indirect object. `Unreadable` if a cell has none of the allowed
+/// words.
 fn args_of(cells: &Row) -> Result<ArgSpec, RowFault>
     ensures ok { IfOk result (λ args. HasArgs cells.now args) }
     ensures err { IfErr result (λ _. (args : ArgSpec) → ¬ (HasArgs cells.now args)) }

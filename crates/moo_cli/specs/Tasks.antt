@@ -26,7 +26,7 @@ HasText rows id text = first_of id rows ≡ Some text
 abbrev pub is_set : Text → List Row → Bool
 is_set id rows = option_map_or (λ text. bytes_eq text (codes "true")) (first_of id rows) false
 
--- which batches are run: those of a text, and whether they stop
+-- which batches are run, by the arguments: those of the text that is named, and they stop if the flag is given
 abbrev pub AreBatches : List Row → Batches → Type 0
 AreBatches rows batches = HasText rows (codes "BATCHES") batches.path.now × (batches.options.stop ≡ is_set (codes "stop") rows)
 
@@ -59,16 +59,14 @@ command_of (Load dump) = codes "load"
 command_of Check = codes "check"
 command_of (Serve service) = codes "serve"
 
--- the arguments of its command, beside the file, are these
+-- the arguments of an action's command, beside the file, are those of the action
 abbrev pub HasArguments : List Row → Action → Type 0
-HasArguments rows Init = ⊤
 HasArguments rows (Apply batches) = AreBatches rows batches
 HasArguments rows (Rehearse batches) = AreBatches rows batches
 HasArguments rows (Ask batches) = HasText rows (codes "BATCHES") batches.now
-HasArguments rows Dump = ⊤
 HasArguments rows (Load dump) = HasText rows (codes "DUMP") dump.now
-HasArguments rows Check = ⊤
 HasArguments rows (Serve service) = IsService rows service
+HasArguments rows action = ⊤
 
 -- the task is that of a command's name and matches
 abbrev pub IsTask : Text × List Row → Task → Type 0
@@ -102,6 +100,7 @@ pub record Request : Type 0 where
   pub options : Option Options
   pub service : Option Service
 
+-- what a task asks for, as a request
 abbrev pub request_of : Task → Request
 request_of task = record {
   command = command_of task.action;
@@ -111,7 +110,7 @@ request_of task = record {
   service = service_of task.action;
 }
 
--- the batches of standard input on a new world, and they don't stop
+-- the task of the program's name alone: it runs the batches of standard input on a new world, and they don't stop
 abbrev pub IsDefault : Task → Type 0
 IsDefault task =
     (task.file.now ≡ codes ":memory:") × (batches : Batches) × (task.action ≡ Apply batches)
@@ -133,6 +132,7 @@ NamesTask words task =
 abbrev pub NamesAlone : List Text → Task → Type 0
 NamesAlone words task = (other : Task) → NamesTask words other → request_of other ≡ request_of task
 
+-- the words name no task
 abbrev pub NamesNone : List Text → Type 0
 NamesNone words = (task : Task) → ¬ (NamesTask words task)
 
@@ -141,6 +141,6 @@ abbrev pub IsRefusal : List Text → Usage → Type 0
 IsRefusal words (Refused error) = HasKind (mistakes words) error
 IsRefusal words Absent = (mistakes words ≡ []) × NamesNone words
 
--- this is one that is as said; or there is none
+-- what was found fits; or nothing was found, and nothing fits
 abbrev pub IsAny : {T : Type 0} → (T → Type 0) → Option T → Type 0
 IsAny Fits found = MatchOption found ((x : _) → ¬ (Fits x)) Fits

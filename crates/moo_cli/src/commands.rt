@@ -10,16 +10,19 @@ use crate::help;
 use clap::{Arg, ArgAction, Command, value_parser};
 use std::alloc::{AllocError, Global};
 
+/// An argument that must be there, and is a text.
 fn text_arg<'a>(alloc: Global, id: &'a str, about: &'a str) -> Arg<'a>
     ensures rule { rule_of result ≡ text_rule id.entry.now }
+    // It is an argument of its command alone, and not of the commands below that.
     ensures local { result.global ≡ false }
 {
     Arg::new(alloc, id).required(true).help(about)
 }
 
-/// A flag: it is there or it isn't.
+/// An argument that is a flag, written `--` and its name: it is given or it isn't.
 fn flag_arg<'a>(alloc: Global, name: &'a str, about: &'a str) -> Arg<'a>
     ensures rule { rule_of result ≡ record (new_rule name.entry.now) { long = Some name.entry.now; action = Some SetTrue } }
+    // It is an argument of its command alone, and not of the commands below that.
     ensures local { result.global ≡ false }
 {
     Arg::new(alloc, name)
@@ -28,8 +31,10 @@ fn flag_arg<'a>(alloc: Global, name: &'a str, about: &'a str) -> Arg<'a>
         .help(about)
 }
 
+/// The argument PORT of `serve`: a number from 1 to 65,535, which must be there.
 fn port_arg<'a>(alloc: Global) -> Arg<'a>
     ensures rule { rule_of result ≡ record (number_rule (codes "PORT") 1 65535) { required = true } }
+    // It is an argument of its command alone, and not of the commands below that.
     ensures local { result.global ≡ false }
 {
     Arg::new(alloc, "PORT")
@@ -38,8 +43,10 @@ fn port_arg<'a>(alloc: Global) -> Arg<'a>
         .help(help::PORT)
 }
 
+/// The argument COUNT of `serve`: a number from 0 to 1,000,000, which may be left out.
 fn count_arg<'a>(alloc: Global) -> Arg<'a>
     ensures rule { rule_of result ≡ number_rule (codes "COUNT") 0 1000000 }
+    // It is an argument of its command alone, and not of the commands below that.
     ensures local { result.global ≡ false }
 {
     Arg::new(alloc, "COUNT")
@@ -47,8 +54,10 @@ fn count_arg<'a>(alloc: Global) -> Arg<'a>
         .help(help::COUNT)
 }
 
+/// The option `--ticks` of `serve`: a number from 1,000 to 4,294,967,295, which may be left out.
 fn ticks_arg<'a>(alloc: Global) -> Arg<'a>
     ensures rule { rule_of result ≡ record (number_rule (codes "ticks") 1000 4294967295) { long = Some (codes "ticks") } }
+    // It is an argument of its command alone, and not of the commands below that.
     ensures local { result.global ≡ false }
 {
     Arg::new(alloc, "ticks")
@@ -60,11 +69,13 @@ fn ticks_arg<'a>(alloc: Global) -> Arg<'a>
 /// A command with what help says of it and no arguments yet.
 fn new_command<'a>(alloc: Global, name: &'a str, about: &'a str, more: &'a str) -> Command<'a>
     ensures shape { app_of result ≡ new_app name.entry.now }
+    // No argument of it is one of the commands below it too.
     ensures local { (fields_of result).has_globals ≡ false }
 {
     Command::new(alloc, name).about(about).after_help(more)
 }
 
+/// A command of a file. AllocError if memory runs out, as in each function below.
 fn file_command<'a>(
     alloc: Global,
     name: &'a str,
@@ -72,6 +83,7 @@ fn file_command<'a>(
     more: &'a str,
 ) -> Result<Command<'a>, AllocError>
     ensures shape { IfOk result (λ command. app_of command ≡ file_app name.entry.now) }
+    // No argument of it is one of the commands below it too.
     ensures local { IfOk result (λ command. (fields_of command).has_globals ≡ false) }
 {
     new_command(alloc, name, about, more).arg(text_arg(alloc, "FILE", help::FILE))
@@ -87,6 +99,7 @@ fn text_command<'a>(
     text: &'a str,
 ) -> Result<Command<'a>, AllocError>
     ensures shape { IfOk result (λ command. app_of command ≡ with_rule (file_app name.entry.now) (text_rule id.entry.now)) }
+    // No argument of it is one of the commands below it too.
     ensures local { IfOk result (λ command. (fields_of command).has_globals ≡ false) }
 {
     file_command(alloc, name, about, more)?.arg(text_arg(alloc, id, text))
@@ -100,6 +113,7 @@ fn batches_command<'a>(
     more: &'a str,
 ) -> Result<Command<'a>, AllocError>
     ensures shape { IfOk result (λ command. app_of command ≡ batches_app name.entry.now) }
+    // No argument of it is one of the commands below it too.
     ensures local { IfOk result (λ command. (fields_of command).has_globals ≡ false) }
 {
     text_command(alloc, name, about, more, "BATCHES", help::BATCHES)
@@ -113,13 +127,16 @@ fn running_command<'a>(
     more: &'a str,
 ) -> Result<Command<'a>, AllocError>
     ensures shape { IfOk result (λ command. app_of command ≡ running_app name.entry.now) }
+    // No argument of it is one of the commands below it too.
     ensures local { IfOk result (λ command. (fields_of command).has_globals ≡ false) }
 {
     batches_command(alloc, name, about, more)?.arg(flag_arg(alloc, "stop", help::STOP))
 }
 
+/// The command `load`, of a file and a dump.
 fn load_command<'a>(alloc: Global) -> Result<Command<'a>, AllocError>
     ensures shape { IfOk result (λ command. app_of command ≡ with_rule (file_app (codes "load")) (text_rule (codes "DUMP"))) }
+    // No argument of it is one of the commands below it too.
     ensures local { IfOk result (λ command. (fields_of command).has_globals ≡ false) }
 {
     text_command(
@@ -132,8 +149,10 @@ fn load_command<'a>(alloc: Global) -> Result<Command<'a>, AllocError>
     )
 }
 
+/// The command `serve`, of a file, a port, how many connections are served, and how many ticks a request has.
 fn serve_command<'a>(alloc: Global) -> Result<Command<'a>, AllocError>
     ensures shape { IfOk result (λ command. app_of command ≡ serve_app) }
+    // No argument of it is one of the commands below it too.
     ensures local { IfOk result (λ command. (fields_of command).has_globals ≡ false) }
 {
     file_command(alloc, "serve", help::SERVE, help::SERVE_MORE)?
@@ -142,12 +161,14 @@ fn serve_command<'a>(alloc: Global) -> Result<Command<'a>, AllocError>
         .arg(ticks_arg(alloc))
 }
 
-/// A program with one more command. Memory may have run out for either.
+/// A program with one more command. AllocError if memory ran out for either, or runs out.
 fn with_command<'a>(
     program: Result<Command<'a>, AllocError>,
     command: Result<Command<'a>, AllocError>,
 ) -> Result<Command<'a>, AllocError>
+    // No argument of the command is one of the commands below it too.
     requires { IfOk command (λ command. (fields_of command).has_globals ≡ false) }
+    // The commands of the new program are those of the old one, and then this command.
     ensures { (old added : App) → IfOk program.entry (λ program. app_of program ≡ old)
         → IfOk command.entry (λ command. app_of command ≡ added) → IfOk result (λ new. app_of new ≡ with_subcommand old added.top) }
 {
@@ -163,6 +184,7 @@ fn program<'a>(alloc: Global) -> Command<'a>
         .subcommand_required(true)
 }
 
+/// The program with all its commands.
 pub(crate) fn moo_command<'a>(alloc: Global) -> Result<Command<'a>, AllocError>
     ensures { IfOk result (λ command. app_of command ≡ moo_app) }
 {

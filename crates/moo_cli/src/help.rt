@@ -1,4 +1,4 @@
-//! What help says.
+//! The texts that `moo --help` and `moo COMMAND --help` print, and the version.
 
 pub(crate) const VERSION: &str = "1.0.0";
 

@@ -14,6 +14,7 @@ use std::alloc::{AllocError, Global};
 #[derive(Clone, Copy, Drop)]
 pub struct Task<'a> {
     pub file: &'a str,
+    /// What is done with that file.
     pub action: Action<'a>,
 }
 
@@ -72,26 +73,29 @@ pub enum Usage {
     Absent,
 }
 
-// How many connections are served at most if a number is given, and if none is.
+/// How many connections are served at most, if a number is given.
 const MOST_CONNECTIONS: u32 = 1_000_000;
 
+/// How many connections are served if no number is given.
 const ENDLESS: u32 = 4_294_967_295;
 
-// How many ticks a request has at least, at most, and if no number is given.
+/// How many ticks a request has at least.
 const LEAST_TICKS: u32 = 1000;
 
+/// How many ticks a request has at most.
 const MOST_TICKS: u32 = 4_294_967_295;
 
+/// How many ticks a request has if no number is given.
 const TICKS: u32 = 4_000_000;
 
-// The text of an argument.
+/// The text of the argument with this name. None if it isn't given.
 fn text_of<'a>(matches: &ArgMatches<'a>, id: &str) -> Option<&'a str>
     ensures { option_map (λ text. text.now) result ≡ first_of id.now (rows_of (found_of matches.now)) }
 {
     matches.get_str(id)
 }
 
-// Whether a flag is given.
+/// Whether the flag with this name is given.
 fn flag_of(matches: &ArgMatches<'_>, id: &str) -> bool
     ensures { result ≡ is_set id.now (rows_of (found_of matches.now)) }
 {
@@ -101,14 +105,14 @@ fn flag_of(matches: &ArgMatches<'_>, id: &str) -> bool
     }
 }
 
-// The number of an argument.
+/// The number that the argument with this name is, 0 to 4,294,967,295. None if it isn't given, or isn't such a number.
 fn number_of(matches: &ArgMatches<'_>, id: &str) -> Option<u32>
     ensures { IsAny (λ n. HasNumber (rows_of (found_of matches.now)) id.now n × (n < 2 ^ 32)) result }
 {
     matches.get_one::<u32>(id)
 }
 
-// The number of an argument within bounds, or if it isn't given this one.
+/// The number that the argument with this name is, or `absent` if it isn't given. None if it isn't a number from `least` to `most`.
 fn number_or(matches: &ArgMatches<'_>, id: &str, least: u32, most: u32, absent: u32) -> Option<u32>
     ensures { IsAny (HasNumberOr (rows_of (found_of matches.now)) id.now least most absent) result }
 {
@@ -124,7 +128,8 @@ fn number_or(matches: &ArgMatches<'_>, id: &str, least: u32, most: u32, absent: 
     }
 }
 
-// What `serve` is told.
+/// How `serve` is to answer: its port, how many connections it serves, and how many ticks a request has. None if one of them isn't within
+/// its bounds, or no port is given.
 fn service_in(matches: &ArgMatches<'_>) -> Option<Service>
     ensures { IsAny (IsService (rows_of (found_of matches.now))) result }
 {
@@ -141,7 +146,7 @@ fn service_in(matches: &ArgMatches<'_>) -> Option<Service>
     })
 }
 
-// How a command is to run its batches.
+/// How a command is to run its batches: whether `--stop` is given.
 fn options_in(matches: &ArgMatches<'_>) -> Options
     ensures { result.stop ≡ is_set (codes "stop") (rows_of (found_of matches.now)) }
 {
@@ -150,7 +155,7 @@ fn options_in(matches: &ArgMatches<'_>) -> Options
     }
 }
 
-// Which batches a command is to run, and how.
+/// Which batches a command is to run, and how. None if no text of batches is named.
 fn batches_in<'a>(matches: &ArgMatches<'a>) -> Option<Batches<'a>>
     ensures { IsAny (AreBatches (rows_of (found_of matches.now))) result }
 {
@@ -159,8 +164,9 @@ fn batches_in<'a>(matches: &ArgMatches<'a>) -> Option<Batches<'a>>
     Some(Batches { path, options })
 }
 
-// The action of a command that reads a text.
+/// The action of a command that reads a text of batches or a dump. None if the name is that of another command, or no text is named.
 fn text_action_in<'a>(name: &str, matches: &ArgMatches<'a>) -> Option<Action<'a>>
+    // None only if no action that reads a text is that of the command's name and arguments.
     ensures { IsAny (λ action. (name.now ≡ command_of action) × HasArguments (rows_of (found_of matches.now)) action
         × (is_some (text_word action) ≡ true)) result }
 {
@@ -181,7 +187,8 @@ fn text_action_in<'a>(name: &str, matches: &ArgMatches<'a>) -> Option<Action<'a>
     }
 }
 
-// The action of a command's name and matches.
+/// The action of a command, by its name and its arguments. None if the program has no such command, or an argument is missing or isn't such
+/// a number.
 fn action_in<'a>(name: &str, matches: &ArgMatches<'a>) -> Option<Action<'a>>
     ensures { IsAny (λ action. (name.now ≡ command_of action) × HasArguments (rows_of (found_of matches.now)) action) result }
 {
@@ -199,7 +206,7 @@ fn action_in<'a>(name: &str, matches: &ArgMatches<'a>) -> Option<Action<'a>>
     }
 }
 
-// The task of the command among the matches.
+/// The task that the command and its arguments are. None if no command is named, or an argument is missing or isn't such a number.
 fn task_in<'a>(matches: &ArgMatches<'a>) -> Option<Task<'a>>
     ensures { IsAny (λ task. (found : Text × List Row) × (subcommand_rows_of matches.now ≡ Some found) × IsTask found task) result }
 {
@@ -214,10 +221,13 @@ fn task_in<'a>(matches: &ArgMatches<'a>) -> Option<Task<'a>>
 /// With no other word it is `apply :memory: -`. Refused if `clap` refuses the words, as it does if they ask for help or the version,
 /// or if memory runs out. Absent if it takes them and they name no task. So words that name a task are refused only if memory runs out.
 pub fn read_words<'a>(alloc: Global, words: &'a [&'a str]) -> Result<Task<'a>, Usage>
+    // The task is one that the words name.
     ensures task { IfOk result (NamesTask (map (λ word. word.now) words.entry.now)) }
     // No other task is named by these words.
     ensures alone { IfOk result (NamesAlone (map (λ word. word.now) words.entry.now)) }
+    // The words have the mistake that the error tells, or memory ran out; or they have none and name no task.
     ensures refused { IfErr result (IsRefusal (map (λ word. word.now) words.entry.now)) }
+    // The program's name alone is never refused.
     ensures more { IsErr result → 1 < length words.entry.now }
 {
     if words.len() <= 1 {

@@ -17,7 +17,7 @@ NamesApart m x =
     (i j : PropId) (p q : PropRow) → get m.props i ≡ Some p → get m.props j ≡ Some q → 0 < i.0 → 0 < j.0 →
     has_slot m x i ≡ true → has_slot m x j ≡ true → folded p.name ≡ folded q.name → i ≡ j
 
--- of these objects it is known
+-- on each of these objects no two properties have one name
 abbrev pub AreApart : Maps → FinMap object_cmp (Unit {0}) → Type 0
 AreApart m known = (x : ObjNo) → get known x ≡ Some tt → NamesApart m x
 
@@ -27,13 +27,15 @@ DefinersApart m = (id : PropId) (p : PropRow) → get m.props id ≡ Some p → 
 
 -- ---- properties noted under their folded names
 
+-- properties by folded names
 abbrev pub Noted : Type 0
 Noted = BTreeMap (Vec ℕ) PropId
 
+-- the property that is noted under a name
 abbrev pub noted_as : Noted → Name → Option PropId
 noted_as noted n = lookup (λ k. same_text n k.items) noted.entries
 
--- no other property is noted there
+-- no property is noted there but this one
 abbrev pub is_alone : Option PropId → PropId → Bool
 is_alone None id = true
 is_alone (Some other) id = nat_eq other.0 id.0

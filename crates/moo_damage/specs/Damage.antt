@@ -24,16 +24,19 @@ use Rattle.moo_props.specs.Names.{defines}
 use Rattle.moo_damage.specs.declared.trees.TreeLink.{TreeLink}
 use Rattle.moo_damage.specs.declared.trees.TreeLink.TheVariants.{Parent, Location}
 
--- past-head: a number that was never given
+-- past-head: the number of an object was never given
 abbrev pub is_object_past : Head → ObjNo → Bool
 is_object_past head x = int_lt x.0 (pos 0) || int_lt head.top x.0
 
+-- past-head: the number of a property was never given
 abbrev pub is_prop_past : Head → PropId → Bool
 is_prop_past head id = nat_le head.next_prop id.0
 
+-- past-head: the number of a verb was never given
 abbrev pub is_verb_past : Head → ObjNo × VerbId → Bool
 is_verb_past head key = nat_le head.next_verb key.1.0
 
+-- past-head: the number of a petition was never given
 abbrev pub is_petition_past : Head → PetitionId → Bool
 is_petition_past head id = nat_le head.next_petition id.0
 
@@ -54,11 +57,11 @@ next_of link m x = option_map (link_of link) (get m.objects x)
 abbrev pub HasEnd : TreeLink → Maps → ObjNo → Type 0
 HasEnd link m x = (l : List ObjNo) × Climbs (next_of link m) x l
 
--- parent-loop, place-loop: and it doesn't
+-- parent-loop, place-loop: the chain of links from x doesn't end
 abbrev pub Loops : TreeLink → Maps → ObjNo → Type 0
 Loops link m x = (l : List ObjNo) → ¬ (Climbs (next_of link m) x l)
 
--- no-definer
+-- no-definer: the definer of a property isn't an object
 abbrev pub lacks_definer : Maps → PropRow → Bool
 lacks_definer m p = not (is_object (world_of m) p.definer)
 
@@ -75,19 +78,19 @@ is_double m id p = list_any (λ e. nat_lt e.0.0 id.0 && share_name (world_of m) 
 abbrev pub is_owed : Maps → ObjNo × PropId → Bool
 is_owed m key = unwrap_or (option_map (λ p. is_among p.definer (chain (world_of m) key.0)) (get m.props key.1)) false
 
--- strange-slot
+-- strange-slot: the property of a slot isn't owed to its object
 abbrev pub is_strange : Maps → ObjNo × PropId → Bool
 is_strange m key = not (is_owed m key)
 
--- missing-slot
+-- missing-slot: a property is owed to an object, which has no slot of it
 abbrev pub is_missing : Maps → ObjNo × PropId → Bool
 is_missing m key = is_owed m key && not (is_some (get m.slots key))
 
--- clear-definer
+-- clear-definer: a slot is clear on the object that defines its property
 abbrev pub is_clear_definer : Maps → ObjNo × PropId → SlotRow → Bool
 is_clear_definer m key row = is_clear row.state && defines m key.0 key.1
 
--- strange-verb
+-- strange-verb: a verb is under a number that isn't an object's
 abbrev pub is_strange_verb : Maps → ObjNo × VerbId → Bool
 is_strange_verb m key = not (is_object (world_of m) key.0)
 
@@ -103,25 +106,29 @@ goes_down link m x row =
     same_object nothing (link_of link row)
     || unwrap_or (option_map (λ above. is_lt (object_cmp (link_of link row) x) || same_object nothing (link_of link above)) (get m.objects (link_of link row))) false
 
--- each is
+-- each object is linked to nothing, or to an object that has a lesser number or is linked to nothing
 abbrev pub LinksDescend : TreeLink → Maps → Type 0
 LinksDescend link m = (x : ObjNo) (row : ObjRow) → get m.objects x ≡ Some row → goes_down link m x row ≡ true
 
 -- ---- none of this is so
 
+-- each number was given
 pub record NumbersGiven (m : Maps) : Type 0 where
   pub objects : (x : ObjNo) (row : ObjRow) → get m.objects x ≡ Some row → is_object_past m.head x ≡ false
   pub props : (id : PropId) (p : PropRow) → get m.props id ≡ Some p → is_prop_past m.head id ≡ false
   pub verbs : (key : ObjNo × VerbId) (v : VerbRow) → get m.verbs key ≡ Some v → is_verb_past m.head key ≡ false
   pub petitions : (id : PetitionId) (row : PetitionRow) → get m.petitions id ≡ Some row → is_petition_past m.head id ≡ false
 
+-- each chain of these links ends
 abbrev pub LinksEnd : TreeLink → Maps → Type 0
 LinksEnd link m = (x : ObjNo) (row : ObjRow) → get m.objects x ≡ Some row → HasEnd link m x
 
+-- each definer is an object, and no name is double
 pub record PropsRight (m : Maps) : Type 0 where
   pub definers : (id : PropId) (p : PropRow) → get m.props id ≡ Some p → lacks_definer m p ≡ false
   pub names : (id : PropId) (p : PropRow) → get m.props id ≡ Some p → is_double m id p ≡ false
 
+-- the slots are just those that are owed, none is clear on its definer, and each verb is of an object
 pub record SlotsRight (m : Maps) : Type 0 where
   pub owed : (key : ObjNo × PropId) (s : SlotRow) → get m.slots key ≡ Some s → is_strange m key ≡ false
   pub there : (x : ObjNo) (row : ObjRow) → get m.objects x ≡ Some row →
@@ -129,6 +136,7 @@ pub record SlotsRight (m : Maps) : Type 0 where
   pub set : (key : ObjNo × PropId) (s : SlotRow) → get m.slots key ≡ Some s → is_clear_definer m key s ≡ false
   pub verbs : (key : ObjNo × VerbId) (v : VerbRow) → get m.verbs key ≡ Some v → is_strange_verb m key ≡ false
 
+-- no kind of damage is met: numbers, links, properties, slots and verbs are right
 pub record IsClean (m : Maps) : Type 0 where
   pub numbers : NumbersGiven m
   pub chains : LinksEnd Parent m

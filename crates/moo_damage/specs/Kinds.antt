@@ -44,7 +44,7 @@ table (Slot n id) = 3
 table (Verb n id) = 4
 table (Petition id) = 5
 
--- and in one table by number
+-- one key is before another: by tables, and in one table by number
 abbrev pub IsBelow : Key → Key → Type 0
 IsBelow (Object n) (Object k) = n <ℤ k
 IsBelow (Prop i) (Prop j) = i <ℤ j
@@ -59,6 +59,7 @@ IsBelow a b = table a < table b
 abbrev pub Has : {K X : Type 0} → (K → Option X) → (K → X → Type 0) → K → Type 0
 Has {X = X} rows bad key = (row : X) × (rows key ≡ Some row) × bad key row
 
+-- the kind is met at the object
 abbrev pub AtObject : Maps → Kind → ObjNo → Type 0
 AtObject m PastHead = Has (get m.objects) (λ x row. is_object_past m.head x ≡ true)
 AtObject m NoParent = Has (get m.objects) (λ x row. is_lost Parent m row ≡ true)
@@ -67,23 +68,27 @@ AtObject m NoPlace = Has (get m.objects) (λ x row. is_lost Location m row ≡ t
 AtObject m PlaceLoop = Has (get m.objects) (λ x row. Loops Location m x)
 AtObject m _ = λ x. ⊥
 
+-- the kind is met at the property
 abbrev pub AtProp : Maps → Kind → PropId → Type 0
 AtProp m PastHead = Has (get m.props) (λ id row. is_prop_past m.head id ≡ true)
 AtProp m NoDefiner = Has (get m.props) (λ id row. lacks_definer m row ≡ true)
 AtProp m DoubleName = Has (get m.props) (λ id row. is_double m id row ≡ true)
 AtProp m _ = λ id. ⊥
 
+-- the kind is met at the slot
 abbrev pub AtSlot : Maps → Kind → ObjNo × PropId → Type 0
 AtSlot m StrangeSlot = Has (get m.slots) (λ key row. is_strange m key ≡ true)
 AtSlot m MissingSlot = λ key. IsSome (get m.objects key.0) × (is_missing m key ≡ true)
 AtSlot m ClearDefiner = Has (get m.slots) (λ key row. is_clear_definer m key row ≡ true)
 AtSlot m _ = λ key. ⊥
 
+-- the kind is met at the verb
 abbrev pub AtVerb : Maps → Kind → ObjNo × VerbId → Type 0
 AtVerb m PastHead = Has (get m.verbs) (λ key row. is_verb_past m.head key ≡ true)
 AtVerb m StrangeVerb = Has (get m.verbs) (λ key row. is_strange_verb m key ≡ true)
 AtVerb m _ = λ key. ⊥
 
+-- the kind is met at the petition
 abbrev pub AtPetition : Maps → Kind → PetitionId → Type 0
 AtPetition m PastHead = Has (get m.petitions) (λ id row. is_petition_past m.head id ≡ true)
 AtPetition m _ = λ id. ⊥
@@ -101,11 +106,12 @@ InRows m kind (Verb n (negsuc i)) = ⊥
 InRows m kind (Petition (pos id)) = AtPetition m kind (record { 0 = id })
 InRows m kind (Petition (negsuc i)) = ⊥
 
--- the kinds of a link: it names no object; the chain of links doesn't end
+-- the kind of damage of a link that names no object
 abbrev pub lost_kind : TreeLink → Kind
 lost_kind Parent = NoParent
 lost_kind Location = NoPlace
 
+-- the kind of damage of a chain of links that doesn't end
 abbrev pub loop_kind : TreeLink → Kind
 loop_kind Parent = ParentLoop
 loop_kind Location = PlaceLoop
@@ -116,7 +122,7 @@ loop_kind Location = PlaceLoop
 abbrev pub NoneBefore : (Kind → Key → Type 0) → ℕ → Type 0
 NoneBefore meets n = (kind : Kind) → rank kind < n → (key : Key) → ¬ (meets kind key)
 
--- the key is the least of those that meet it; none meets it
+-- the key is the least at which this is met; `None` if it is met at none
 abbrev pub IsLeast : (Key → Type 0) → Option Key → Type 0
 IsLeast meets None = (key : Key) → ¬ (meets key)
 IsLeast meets (Some key) = meets key × ((other : Key) → IsBelow other key → ¬ (meets other))
@@ -130,5 +136,6 @@ abbrev pub IsFirstBefore : (Kind → Key → Type 0) → ℕ → Option (Kind ×
 IsFirstBefore meets n None = NoneBefore meets n
 IsFirstBefore meets n (Some d) = IsFirstMet meets d.0 d.1
 
+-- the kind is met in the rows at the key and at none below it, and no kind before it is met anywhere
 abbrev pub IsFirstInRows : Maps → Kind → Key → Type 0
 IsFirstInRows m = IsFirstMet (InRows m)

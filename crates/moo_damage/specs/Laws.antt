@@ -7,11 +7,11 @@ use Rattle.moo_damage.specs.Damage.{IsClean}
 use Rattle.moo_damage.specs.Kinds.{InRows}
 use Rattle.moo_damage.specs.Limits.{AreWithin}
 
--- rows within the limits that nothing is wrong with are sound rows of a well formed world, with petitions as they may be beside it
+-- rows within the limits that have no damage are good ones: sound rows of a well formed world, with petitions as they may be beside it
 abbrev pub CleanRowsAreGood : Type 0
 CleanRowsAreGood = (m : Maps) → AreWithin m → IsClean m → IsGood m
 
--- and good rows are rows that nothing is wrong with
+-- good rows have no damage: numbers, links, properties, slots and verbs are right
 abbrev pub GoodRowsAreClean : Type 0
 GoodRowsAreClean = (m : Maps) → IsGood m → IsClean m
 

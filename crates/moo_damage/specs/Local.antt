@@ -23,6 +23,7 @@ pub record SlotsHold (m : Maps) : Type 0 where
   pub there : (x : ObjNo) (row : ObjRow) → get m.objects x ≡ Some row →
       (id : PropId) (p : PropRow) → get m.props id ≡ Some p → is_missing m (x, id) ≡ false
 
+-- the object has a slot of the property
 abbrev pub has_slot : Maps → ObjNo → PropId → Bool
 has_slot m x id = is_some (get m.slots (x, id))
 
@@ -30,7 +31,7 @@ has_slot m x id = is_some (get m.slots (x, id))
 abbrev pub comes_down : Maps → ObjNo × PropId → Bool
 comes_down m key = unwrap_or (option_map (λ row. defines m key.0 key.1 || has_slot m row.parent key.1) (get m.objects key.0)) false
 
--- a slot of y, of a property that x has no slot of
+-- y has a slot of a property that x has no slot of
 abbrev pub lacks_one_of : Maps → ObjNo → ObjNo → Bool
 lacks_one_of m x y = list_any (λ e. not (has_slot m x e.0.1)) (slots_of_left y (record { 0 = 0 }) m)
 
@@ -44,11 +45,11 @@ pub record AreLocal (m : Maps) : Type 0 where
   pub apart : (i j : PropId) (p q : PropRow) → get m.props i ≡ Some p → get m.props j ≡ Some q →
       has_slot m p.definer j ≡ true → folded p.name ≡ folded q.name → i ≡ j
 
--- if it holds along chains that end, the slots are just those that are owed, and their names are apart
+-- if each row and its neighbours are right, and chains end, the slots are just those that are owed, and no name is double
 abbrev pub LocalSlotsHold : Type 0
 LocalSlotsHold = (m : Maps) → IsTree (world_of m) → AreLocal m → SlotsHold m
 
--- and the other way: if it holds of the slots, with definers that are there, it holds of each row and its neighbours
+-- if the slots are just those that are owed, no name is double, and definers are objects, each row and its neighbours are right
 abbrev pub HeldSlotsAreLocal : Type 0
 HeldSlotsAreLocal =
     (m : Maps) → IsTree (world_of m) → ((id : PropId) (p : PropRow) → get m.props id ≡ Some p → 0 < id.0)

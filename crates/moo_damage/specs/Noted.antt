@@ -8,6 +8,7 @@ use Rattle.moo_damage.specs.declared.trees.TreeLink.{TreeLink}
 use Rattle.moo_damage.specs.Damage.{HasEnd, Loops}
 use Rattle.moo_damage.specs.First.{IsLeastBad}
 
+-- the chains of the objects that are known end
 abbrev pub AreEnding : TreeLink → Maps → FinMap object_cmp (Unit {0}) → Type 0
 AreEnding link m known = (x : ObjNo) → get known x ≡ Some tt → HasEnd link m x
 
@@ -15,7 +16,7 @@ AreEnding link m known = (x : ObjNo) → get known x ≡ Some tt → HasEnd link
 abbrev pub AllEnd : TreeLink → Maps → List ObjNo → Type 0
 AllEnd link m path = AllByRecursion (HasEnd link m) path
 
--- if the chains of these objects end, it is known of them too
+-- the chains of all objects that are known then end, if those of the path do and those of the objects known before
 abbrev pub NotesEnding : List ObjNo → (old new : FinMap object_cmp (Unit {0})) → Type 0
 NotesEnding path old new = (link : TreeLink) (m : Maps) → AllEnd link m path → AreEnding link m old → AreEnding link m new
 

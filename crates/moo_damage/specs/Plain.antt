@@ -7,9 +7,10 @@ use Rattle.moo_rows.specs.Maps.{Maps}
 use Rattle.moo_damage.specs.declared.trees.TreeLink.TheVariants.{Parent, Location}
 use Rattle.moo_damage.specs.Damage.{is_object_past, goes_down}
 
--- the number was given, and both links go down
+-- one look shows that the object is right: its number was given, and both links go down
 abbrev pub is_plain_object : Maps → ObjNo → ObjRow → Bool
 is_plain_object m x row = not (is_object_past m.head x) && (goes_down Parent m x row && goes_down Location m x row)
 
+-- one look at each object shows that it is right
 abbrev pub ArePlain : Maps → Type 0
 ArePlain m = (x : ObjNo) (row : ObjRow) → get m.objects x ≡ Some row → is_plain_object m x row ≡ true

@@ -7,6 +7,7 @@ use Rattle.moo_damage.specs.declared.kind.Kind.TheVariants.{DoubleName, StrangeS
 use Rattle.moo_damage.specs.declared.kind.Key.{Key}
 use Rattle.moo_damage.specs.declared.kind.Key.TheVariants.{Head, Object, Prop, Slot, Verb, Petition}
 
+-- the word of a kind of damage
 abbrev pub kind_text : Kind → List ℕ
 kind_text BadHead = codes "bad-head"
 kind_text BadCell = codes "bad-cell"
@@ -23,6 +24,7 @@ kind_text ClearDefiner = codes "clear-definer"
 kind_text StrangeVerb = codes "strange-verb"
 kind_text Mismatch = codes "mismatch"
 
+-- a key in writing: `head`, `#3`, `p7` for a property, `#3 p7` for a slot, `#3 v7` for a verb, `r7` for a petition
 abbrev pub key_text : Key → List ℕ
 key_text Head = codes "head"
 key_text (Object n) = codes "#" ++ signed_decimal n

@@ -1,4 +1,4 @@
-//! Tests of each row of a map: the first one that fails.
+//! Testing each row of a map for one kind of damage.
 
 ghost use Rattle.std.specs.Prelude.{◌≡◌, Bool};
 ghost use Rattle.std.specs.List.{list_any};
@@ -24,9 +24,9 @@ use moo_value::{ObjNo, same_name};
 
 /// A kind of row whose numbers the head counts.
 pub(crate) trait NumberedRow: KeyedRow {
-    /// Whether the number of a key was never given.
     ghost is_past: { Head → Self.Key → Bool };
 
+    /// Whether the number of a key was never given, as the head counts them.
     fn is_past(head: Head, key: Self::Key) -> bool
         ensures { result ≡ is_past head key };
 }
@@ -63,7 +63,7 @@ impl NumberedRow for PetitionRow {
     }
 }
 
-/// The least key whose number was never given, or none.
+/// The least key of a row whose number was never given; `None` if each was.
 pub(crate) fn first_past<T: NumberedRow, R: Rows>(rows: &R) -> Option<T::Key>
     ensures { IsLeastPassing (T.map_of (R.held rows.now).maps) (λ key _. T.is_past (R.held rows.now).maps.head key) result }
 {
@@ -81,21 +81,21 @@ pub(crate) fn is_lost<R: Rows>(rows: &R, link: TreeLink, row: &ObjRow) -> bool
     !valid(rows, next)
 }
 
-/// The least object whose link names neither an object nor `#-1`, or none.
+/// The least object whose link names neither an object nor `#-1`; `None` if there is none.
 pub(crate) fn first_lost<R: Rows>(rows: &R, link: TreeLink) -> Option<ObjNo>
     ensures { IsLeastPassing (R.held rows.now).maps.objects (λ _ row. is_lost link (R.held rows.now).maps row) result }
 {
     first_bad::<ObjRow, R, _>(rows, |_x, row| is_lost(rows, link, row))
 }
 
-/// The least property whose definer isn't an object, or none.
+/// The least property whose definer isn't an object; `None` if there is none.
 pub(crate) fn first_undefined<R: Rows>(rows: &R) -> Option<PropId>
     ensures { IsLeastPassing (R.held rows.now).maps.props (λ _ row. lacks_definer (R.held rows.now).maps row) result }
 {
     first_bad::<PropRow, R, _>(rows, |_id, row| !valid(rows, row.definer))
 }
 
-/// The least verb of what isn't an object, or none.
+/// The least verb under a number that isn't an object's; `None` if there is none.
 pub(crate) fn first_strange_verb<R: Rows>(rows: &R) -> Option<(ObjNo, VerbId)>
     ensures { IsLeastPassing (R.held rows.now).maps.verbs (λ key _. is_strange_verb (R.held rows.now).maps key) result }
 {
@@ -104,6 +104,7 @@ pub(crate) fn first_strange_verb<R: Rows>(rows: &R) -> Option<(ObjNo, VerbId)>
 
 /// Whether two properties have one name, on one object or on an object and its ancestor.
 fn share_name<R: Rows>(rows: &R, one: &PropRow, other: &PropRow) -> bool
+    // Parents and locations are objects or `#-1`, without loops.
     requires { IsTree (world_of (R.held rows.now).maps) }
     ensures { result ≡ share_name (world_of (R.held rows.now).maps) one.now other.now }
 {
@@ -116,8 +117,9 @@ fn share_name<R: Rows>(rows: &R, one: &PropRow, other: &PropRow) -> bool
     is_under(rows, other.definer, one.definer)
 }
 
-/// Whether a property of lesser number has the name already.
+/// Whether a property of lesser number has the name of a property already, on the same object, an ancestor or a descendant.
 pub(crate) fn is_double<R: Rows>(rows: &R, id: PropId, row: &PropRow) -> bool
+    // Parents and locations are objects or `#-1`, without loops.
     requires { IsTree (world_of (R.held rows.now).maps) }
     ensures { result ≡ is_double (R.held rows.now).maps id row.now }
 {
@@ -126,8 +128,9 @@ pub(crate) fn is_double<R: Rows>(rows: &R, id: PropId, row: &PropRow) -> bool
     })
 }
 
-/// Whether an object of the chain of x defines the property.
+/// Whether an object is owed a slot of a property: the object or an ancestor defines it.
 fn is_owed<R: Rows>(rows: &R, key: (ObjNo, PropId)) -> bool
+    // Parents and locations are objects or `#-1`, without loops.
     requires { IsTree (world_of (R.held rows.now).maps) }
     ensures { result ≡ is_owed (R.held rows.now).maps key }
 {
@@ -137,14 +140,18 @@ fn is_owed<R: Rows>(rows: &R, key: (ObjNo, PropId)) -> bool
     }
 }
 
+/// Whether a slot is one of a property that its object isn't owed.
 pub(crate) fn is_strange<R: Rows>(rows: &R, key: (ObjNo, PropId)) -> bool
+    // Parents and locations are objects or `#-1`, without loops.
     requires { IsTree (world_of (R.held rows.now).maps) }
     ensures { result ≡ is_strange (R.held rows.now).maps key }
 {
     !is_owed(rows, key)
 }
 
+/// Whether an object is owed a slot of a property and has none.
 fn is_missing<R: Rows>(rows: &R, key: (ObjNo, PropId)) -> bool
+    // Parents and locations are objects or `#-1`, without loops.
     requires { IsTree (world_of (R.held rows.now).maps) }
     ensures { result ≡ is_missing (R.held rows.now).maps key }
 {
@@ -154,6 +161,7 @@ fn is_missing<R: Rows>(rows: &R, key: (ObjNo, PropId)) -> bool
     rows.slot(key).is_none()
 }
 
+/// Whether a slot has no value of its own.
 fn is_clear(state: &SlotState) -> bool
     ensures { result ≡ is_clear state.now }
 {
@@ -163,6 +171,7 @@ fn is_clear(state: &SlotState) -> bool
     }
 }
 
+/// Whether an object defines a property.
 pub(crate) fn defines<R: Rows>(rows: &R, key: (ObjNo, PropId)) -> bool
     ensures { result ≡ defines (R.held rows.now).maps key.0 key.1 }
 {
@@ -172,6 +181,7 @@ pub(crate) fn defines<R: Rows>(rows: &R, key: (ObjNo, PropId)) -> bool
     }
 }
 
+/// Whether a slot is clear on the object that defines its property.
 fn is_clear_definer<R: Rows>(rows: &R, key: (ObjNo, PropId), row: &SlotRow) -> bool
     ensures { result ≡ is_clear_definer (R.held rows.now).maps key row.now }
 {
@@ -191,14 +201,15 @@ fn has_clear<R: Rows>(rows: &R, key: (ObjNo, PropId)) -> bool
     }
 }
 
-/// Whether a property has a clear slot on its definer.
+/// Whether any property has a clear slot on its definer.
 fn any_clear_own<R: Rows>(rows: &R) -> bool
     ensures { result ≡ list_any (λ e. has_clear (R.held rows.now).maps e.1.definer e.0) (entries (R.held rows.now).maps.props) }
 {
     any_bad::<PropRow, R, _>(rows, |id, row| has_clear(rows, (row.definer, id)))
 }
 
-/// The least slot on its definer that is clear, or none: slots are looked at only if a property has such a one.
+/// The least slot that is clear on the definer of its property; `None` if there is none. Slots are looked at only if a property has such a
+/// slot.
 pub(crate) fn first_clear<R: Rows>(rows: &R) -> Option<(ObjNo, PropId)>
     ensures { IsLeastPassing (R.held rows.now).maps.slots (is_clear_definer (R.held rows.now).maps) result }
 {
@@ -208,16 +219,18 @@ pub(crate) fn first_clear<R: Rows>(rows: &R) -> Option<(ObjNo, PropId)>
     first_bad::<SlotRow, R, _>(rows, |key, row| is_clear_definer(rows, key, row))
 }
 
-/// The least property that x is owed and has no slot of, or none.
+/// The least property that x is owed and has no slot of; `None` if there is none.
 fn first_missing_of<R: Rows>(rows: &R, x: ObjNo) -> Option<PropId>
+    // Parents and locations are objects or `#-1`, without loops.
     requires { IsTree (world_of (R.held rows.now).maps) }
     ensures { Misses (R.held rows.now).maps x result }
 {
     first_bad::<PropRow, R, _>(rows, |key, _row| is_missing(rows, (x, key)))
 }
 
-/// The least slot that is owed and isn't there, or none.
+/// The least object and property of which a slot is owed and isn't there; `None` if there are none.
 pub(crate) fn first_missing<R: Rows>(rows: &R) -> Option<(ObjNo, PropId)>
+    // Parents and locations are objects or `#-1`, without loops.
     requires { IsTree (world_of (R.held rows.now).maps) }
     ensures { IsFirstMissing (R.held rows.now).maps result }
 {

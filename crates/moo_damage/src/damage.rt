@@ -1,4 +1,4 @@
-//! What is wrong with rows, if anything.
+//! Finding what is wrong with rows.
 
 ghost use Rattle.std.specs.Prelude.{◌≡◌, suc, true, IfOk, IfSome, IfNone};
 ghost use Rattle.moo_world.specs.Rows.{world_of, IsGood};
@@ -17,9 +17,12 @@ use crate::trees::TreeLink;
 use moo_rows::{PetitionRow, PropRow, Rows, VerbRow};
 use std::alloc::{AllocError, Global};
 
-/// Numbers past those of the head.
+/// The first row whose number was never given, of objects, properties, verbs and petitions in this order; `None` if each was. `plain` says
+/// that the objects are known to be right.
 fn wrong_number<R: Rows>(rows: &R, plain: bool) -> Option<(Kind, Key)>
+    // `plain` is true only if each object is right.
     requires { plain ≡ true → ArePlain (R.held rows.now).maps }
+    // It is the first damage of the kinds before the fourth: a number that was never given.
     ensures first { IsFirstBefore (InRows (R.held rows.now).maps) 4 result }
     ensures given { IfNone result (NumbersGiven (R.held rows.now).maps) }
 {
@@ -38,17 +41,22 @@ fn wrong_number<R: Rows>(rows: &R, plain: bool) -> Option<(Kind, Key)>
     None
 }
 
-/// A link that names no object, or a chain of links without an end. An `Err` is a lack of memory.
+/// The first object whose link names no object, or else whose chain of links has no end; `None` if there is none. The only error is out of
+/// memory.
 fn wrong_link<R: Rows>(
     alloc: Global,
     rows: &R,
     link: TreeLink,
     plain: bool,
 ) -> Result<Option<(Kind, Key)>, AllocError>
+    // `plain` is true only if each object is right.
     requires plain { plain ≡ true → ArePlain (R.held rows.now).maps }
     requires numbers { NumbersGiven (R.held rows.now).maps }
+    // No damage of a kind before that of a link that names no object is met.
     requires before { NoneBefore (InRows (R.held rows.now).maps) (rank (lost_kind link)) }
+    // It is the first damage up to the kind of a chain without an end.
     ensures first { IfOk result (IsFirstBefore (InRows (R.held rows.now).maps) (suc (rank (loop_kind link)))) }
+    // If there is none, each chain of these links ends.
     ensures ends { IfOk result (λ o. IfNone o (LinksEnd link (R.held rows.now).maps)) }
 {
     if let Some(x) = lost_object(rows, link, plain) {
@@ -60,11 +68,16 @@ fn wrong_link<R: Rows>(
     }
 }
 
-/// A property that is defined nowhere, or twice.
+/// The first property whose definer isn't an object, or else whose name another one has; `None` if there is none. `hold` says that the
+/// slots are known to be just those that are owed.
 fn wrong_prop<R: Rows>(rows: &R, hold: bool) -> Option<(Kind, Key)>
+    // Parents and locations are objects or `#-1`, without loops.
     requires tree { IsTree (world_of (R.held rows.now).maps) }
+    // `hold` is true only if the slots are just those that are owed.
     requires hold { hold ≡ true → SlotsHold (R.held rows.now).maps }
+    // No damage of the kinds up to that of locations without an end is met.
     requires before { NoneBefore (InRows (R.held rows.now).maps) 8 }
+    // It is the first damage of the kinds before the tenth: no definer, or a double name.
     ensures first { IsFirstBefore (InRows (R.held rows.now).maps) 10 result }
     ensures right { IfNone result (PropsRight (R.held rows.now).maps) }
 {
@@ -77,11 +90,16 @@ fn wrong_prop<R: Rows>(rows: &R, hold: bool) -> Option<(Kind, Key)>
     None
 }
 
-/// A slot too many, one too few, one that has to be set, or a verb of no object.
+/// The first slot that is not owed, else that is missing, else that is clear on its definer, else the first verb of no object; `None` if
+/// there is none. `hold` says that the slots are known to be just those that are owed.
 fn wrong_slot<R: Rows>(rows: &R, hold: bool) -> Option<(Kind, Key)>
+    // Parents and locations are objects or `#-1`, without loops.
     requires tree { IsTree (world_of (R.held rows.now).maps) }
+    // `hold` is true only if the slots are just those that are owed.
     requires hold { hold ≡ true → SlotsHold (R.held rows.now).maps }
+    // No damage of the kinds up to that of a double name is met.
     requires before { NoneBefore (InRows (R.held rows.now).maps) 10 }
+    // It is the first damage of the kinds before the last: of slots, or of verbs.
     ensures first { IsFirstBefore (InRows (R.held rows.now).maps) 14 result }
     ensures right { IfNone result (SlotsRight (R.held rows.now).maps) }
 {
@@ -102,12 +120,15 @@ fn wrong_slot<R: Rows>(rows: &R, hold: bool) -> Option<(Kind, Key)>
 
 /// What is wrong with rows: the first of the kinds of damage from `PastHead` to `StrangeVerb` that is met, with its least key: objects
 /// come before properties, and these before slots, verbs and petitions, in this order. None if no kind is met: the rows then show
-/// a well formed world, and petitions as they may be beside it. An `Err` is a lack of memory.
+/// a well formed world, and petitions as they may be beside it. The only error is out of memory.
 ///
 /// Its time is that of going over the rows and of looking up each one's neighbours. Only rows of which a slot is wrong take longer.
 pub fn damage_of<R: Rows>(alloc: Global, rows: &R) -> Result<Option<(Kind, Key)>, AllocError>
+    // Each row is within the limits of its columns.
     requires { AreWithin (R.held rows.now).maps }
+    // If there is none, the rows are good ones.
     ensures good { IfOk result (λ o. IfNone o (IsGood (R.held rows.now).maps)) }
+    // Else it is the first kind that is met, with its least key.
     ensures first { IfOk result (λ o. IfSome o (λ d. IsFirstInRows (R.held rows.now).maps d.0 d.1)) }
 {
     let plain = are_plain(rows);

@@ -1,4 +1,4 @@
-//! Kinds of damage, and the rows at which they are found.
+//! The kinds of damage, and the keys of the rows at which they are found.
 
 ghost use Rattle.std.specs.Prelude.{◌≡◌, pos, Some};
 ghost use Rattle.moo_damage.specs.declared.kind.Key.TheVariants as keys;

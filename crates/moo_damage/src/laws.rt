@@ -1,29 +1,29 @@
-//! Laws of the definitions.
+//! Laws of the definitions of damage.
 
 ghost use Rattle.moo_damage.specs.Laws.{CleanRowsAreGood, GoodRowsAreClean, GoodRowsHaveNoDamage};
 ghost use Rattle.moo_damage.specs.Local.{HeldSlotsAreLocal, LocalSlotsHold};
 
-/// Rows within the limits that nothing is wrong with are sound, of a well formed world, with petitions as they may be beside it.
+/// Rows within their limits that have no damage are good ones: they show a well formed world, and petitions as they may be beside it.
 pub fn clean_rows_are_good()
     ensures { CleanRowsAreGood }
 {}
 
-/// With sound rows of a well formed world nothing is wrong.
+/// Good rows pass each test of damage.
 pub fn good_rows_are_clean()
     ensures { GoodRowsAreClean }
 {}
 
-/// No kind of damage is met in sound rows of a well formed world.
+/// No kind of damage is met at any key of good rows.
 pub fn good_rows_have_no_damage()
     ensures { GoodRowsHaveNoDamage }
 {}
 
-/// If what each slot and its neighbours show is right, and chains end, the slots are just those that are owed.
+/// If each slot is right by a look at its object and the parent's slots, and chains end, the slots are just those that are owed.
 pub fn local_slots_hold()
     ensures { LocalSlotsHold }
 {}
 
-/// And the other way: of slots that are just those that are owed, each is right as its neighbours show it.
+/// If the slots are just those that are owed, each slot is right by a look at its object and the parent's slots.
 pub fn held_slots_are_local()
     ensures { HeldSlotsAreLocal }
 {}

@@ -1,4 +1,4 @@
-//! Tests of each row and its neighbours, from which the slots are just those that are owed.
+//! Testing whether the slots are just those that are owed, by a look at each row and its neighbours.
 
 ghost use Rattle.std.specs.Prelude.{◌≡◌, ◌<◌, true, not, IfOk, Some};
 ghost use Rattle.std.specs.List.{list_any};
@@ -18,13 +18,14 @@ use moo_rows::{ObjRow, PropId, PropRow, Rows, SlotRow, each_slot_of};
 use moo_value::ObjNo;
 use std::alloc::{AllocError, Global};
 
+/// Whether an object has a slot of a property.
 fn has_slot<R: Rows>(rows: &R, x: ObjNo, id: PropId) -> bool
     ensures { result ≡ has_slot (R.held rows.now).maps x id }
 {
     rows.slot((x, id)).is_some()
 }
 
-/// Whether a property has no slot on its definer.
+/// Whether any property has no slot on its definer.
 fn any_lacks_own<R: Rows>(rows: &R) -> bool
     ensures { result ≡ list_any (λ e. not (has_slot (R.held rows.now).maps e.1.definer e.0)) (entries (R.held rows.now).maps.props) }
 {
@@ -46,14 +47,14 @@ fn comes_down<R: Rows>(rows: &R, key: (ObjNo, PropId)) -> bool
     }
 }
 
-/// Whether a slot comes neither from its own object nor from the parent.
+/// Whether any slot is on an object that neither defines its property nor has a parent with a slot of it.
 fn any_from_nowhere<R: Rows>(rows: &R) -> bool
     ensures { result ≡ list_any (λ e. not (comes_down (R.held rows.now).maps e.0)) (entries (R.held rows.now).maps.slots) }
 {
     any_bad::<SlotRow, R, _>(rows, |key, _row| !comes_down(rows, key))
 }
 
-/// Whether x has no slot of a property that y has a slot of.
+/// Whether x has no slot of some property that y has a slot of.
 fn lacks_one_of<R: Rows>(rows: &R, x: ObjNo, y: ObjNo) -> bool
     ensures { result ≡ lacks_one_of (R.held rows.now).maps x y }
 {
@@ -65,21 +66,24 @@ fn lacks_one_of<R: Rows>(rows: &R, x: ObjNo, y: ObjNo) -> bool
     false
 }
 
-/// Whether an object has no slot of a property that its parent has a slot of.
+/// Whether any object has no slot of a property that its parent has a slot of.
 fn any_lacks_one<R: Rows>(rows: &R) -> bool
     ensures { result ≡ list_any (λ e. lacks_one_of (R.held rows.now).maps e.0 e.1.parent) (entries (R.held rows.now).maps.objects) }
 {
     any_bad::<ObjRow, R, _>(rows, |x, row| lacks_one_of(rows, x, row.parent))
 }
 
-/// Whether the slots are seen to be just those that are owed, by a look at each slot, its object and the parent's slots. Those of
+/// Whether the slots are known to be just those that are owed, by a look at each slot, its object and the parent's slots. The slots of
 /// good rows always are.
 ///
-/// No chain is climbed: along chains that end, what each object has of its parent it has of all ancestors. An `Err` is a lack of memory.
+/// No chain is climbed: along chains that end, what each object has of its parent it has of all ancestors. The only error is out of memory.
 pub(crate) fn slots_hold<R: Rows>(alloc: Global, rows: &R) -> Result<bool, AllocError>
+    // Parents and locations are objects or `#-1`, without loops, and properties are numbered from 1.
     requires tree { IsTree (world_of (R.held rows.now).maps) }
     requires numbered { (id : PropId) (p : PropRow) → get (R.held rows.now).maps.props id ≡ Some p → 0 < id.0 }
+    // If it says so, no name is double, no slot is strange and none is missing.
     ensures hold { IfOk result (λ hold. hold ≡ true → SlotsHold (R.held rows.now).maps) }
+    // Of good rows it says so.
     ensures good { IsGood (R.held rows.now).maps → IfOk result (λ hold. hold ≡ true) }
 {
     if any_lacks_own(rows) {
@@ -94,8 +98,10 @@ pub(crate) fn slots_hold<R: Rows>(alloc: Global, rows: &R) -> Result<bool, Alloc
     names_apart(alloc, rows)
 }
 
-/// The least property whose name one of lesser number has, or None. It isn't looked for if the slots are known to hold.
+/// The least property whose name one of lesser number has; `None` if there is none. It isn't looked for if the slots are known to be just
+/// those that are owed (`hold`).
 pub(crate) fn double_name<R: Rows>(rows: &R, hold: bool) -> Option<PropId>
+    // Chains end, and `hold` is true only if the slots are just those that are owed.
     requires tree { IsTree (world_of (R.held rows.now).maps) }
     requires hold { hold ≡ true → SlotsHold (R.held rows.now).maps }
     ensures { IsLeastPassing (R.held rows.now).maps.props (is_double (R.held rows.now).maps) result }
@@ -106,8 +112,10 @@ pub(crate) fn double_name<R: Rows>(rows: &R, hold: bool) -> Option<PropId>
     first_bad::<PropRow, R, _>(rows, |id, row| is_double(rows, id, row))
 }
 
-/// The least slot that its object is not owed, or None. It isn't looked for if the slots are known to hold.
+/// The least slot that its object isn't owed; `None` if there is none. It isn't looked for if the slots are known to be just those that are
+/// owed (`hold`).
 pub(crate) fn strange_slot<R: Rows>(rows: &R, hold: bool) -> Option<(ObjNo, PropId)>
+    // Chains end, and `hold` is true only if the slots are just those that are owed.
     requires tree { IsTree (world_of (R.held rows.now).maps) }
     requires hold { hold ≡ true → SlotsHold (R.held rows.now).maps }
     ensures { IsLeastPassing (R.held rows.now).maps.slots (λ key _. is_strange (R.held rows.now).maps key) result }
@@ -118,8 +126,10 @@ pub(crate) fn strange_slot<R: Rows>(rows: &R, hold: bool) -> Option<(ObjNo, Prop
     first_bad::<SlotRow, R, _>(rows, |key, _row| is_strange(rows, key))
 }
 
-/// The least slot that is owed and isn't there, or None. It isn't looked for if the slots are known to hold.
+/// The least object and property of which a slot is owed and isn't there; `None` if there are none. They aren't looked for if the slots are
+/// known to be just those that are owed (`hold`).
 pub(crate) fn missing_slot<R: Rows>(rows: &R, hold: bool) -> Option<(ObjNo, PropId)>
+    // Chains end, and `hold` is true only if the slots are just those that are owed.
     requires tree { IsTree (world_of (R.held rows.now).maps) }
     requires hold { hold ≡ true → SlotsHold (R.held rows.now).maps }
     ensures { IsFirstMissing (R.held rows.now).maps result }

@@ -1,4 +1,4 @@
-//! Whether names stand once on the objects that define properties, in time that grows with the slots of these objects.
+//! Testing whether no two properties of an object have one name, in time that grows with the slots of the objects that define properties.
 
 ghost use Rattle.std.specs.Prelude.{◌≡◌, IfOk, OnOk, true};
 ghost use Rattle.std.specs.FinMap.{get};
@@ -13,14 +13,16 @@ use moo_value::{MooStr, ObjNo};
 use std::alloc::{AllocError, Global};
 use std::collections::BTreeMap;
 
-/// Notes a property under its name, and answers whether no other was noted there. An `Err` is a lack of memory.
+/// Notes a property under its name, and answers whether no other property was noted under it. The only error is out of memory.
 fn note_name(
     alloc: Global,
     noted: &mut BTreeMap<Vec<u8>, PropId>,
     name: &MooStr,
     id: PropId,
 ) -> Result<bool, AllocError>
+    // The property is noted under its name, and every other name has what it had.
     ensures noted { OnOk result (NotesName name.now id noted.old noted.new) }
+    // Whether the name had no property, or this one.
     ensures alone { IfOk result (λ alone. alone ≡ is_alone (noted_as noted.old (folded name.now)) id) }
 {
     let key = name.bytes().to_ascii_lowercase(alloc)?;
@@ -30,7 +32,8 @@ fn note_name(
     }
 }
 
-/// Notes the property of a number, if there is one, and answers whether no other of its name was noted. An `Err` is a lack of memory.
+/// Notes the property of a number, if there is one, and answers whether no other property was noted under its name. The only error is out
+/// of memory.
 fn note_prop<R: Rows>(
     alloc: Global,
     rows: &R,
@@ -45,9 +48,10 @@ fn note_prop<R: Rows>(
     }
 }
 
-/// Whether no two properties that x has slots of have one name. An `Err` is a lack of memory.
+/// Whether no two properties that x has slots of have one name. The only error is out of memory.
 fn names_apart_on<R: Rows>(alloc: Global, rows: &R, x: ObjNo) -> Result<bool, AllocError>
     ensures apart { IfOk result (λ apart. apart ≡ true → NamesApart (R.held rows.now).maps x) }
+    // Of sound rows it says so.
     ensures sound { IsSound (R.held rows.now).maps → IfOk result (λ apart. apart ≡ true) }
 {
     let mut noted = BTreeMap::new(alloc);
@@ -60,16 +64,20 @@ fn names_apart_on<R: Rows>(alloc: Global, rows: &R, x: ObjNo) -> Result<bool, Al
     Ok(true)
 }
 
-/// The same, of an object that is looked at once: those of which it's known are noted. An `Err` is a lack of memory.
+/// Whether no two properties that x has slots of have one name. Each object is looked at once: `known` has the objects of which it is
+/// known. The only error is out of memory.
 fn seen_apart<R: Rows>(
     alloc: Global,
     rows: &R,
     known: &mut BTreeMap<ObjNo, ()>,
     x: ObjNo,
 ) -> Result<bool, AllocError>
+    // On each object that is known no two properties have one name.
     requires { AreApart (R.held rows.now).maps (contents object_cmp known.old) }
+    // So it is of the objects that are known then.
     ensures known { OnOk result (AreApart (R.held rows.now).maps (contents object_cmp known.new)) }
     ensures apart { IfOk result (λ apart. apart ≡ true → NamesApart (R.held rows.now).maps x) }
+    // Of sound rows it says so.
     ensures sound { IsSound (R.held rows.now).maps → IfOk result (λ apart. apart ≡ true) }
 {
     if ordered::get(known, x).is_some() {
@@ -83,9 +91,11 @@ fn seen_apart<R: Rows>(
     Ok(true)
 }
 
-/// Whether no two properties have one name on an object that defines a property. An `Err` is a lack of memory.
+/// Whether no two properties that an object has slots of have one name, on each object that defines a property. The only error is out of
+/// memory.
 pub(crate) fn names_apart<R: Rows>(alloc: Global, rows: &R) -> Result<bool, AllocError>
     ensures apart { IfOk result (λ apart. apart ≡ true → DefinersApart (R.held rows.now).maps) }
+    // Of sound rows it says so.
     ensures sound { IsSound (R.held rows.now).maps → IfOk result (λ apart. apart ≡ true) }
 {
     let mut known = BTreeMap::new(alloc);

@@ -1,4 +1,4 @@
-//! One look at each object, which shows of most rows that nothing is wrong with the numbers and the links of objects.
+//! One look at each object, by which the numbers and the links of most worlds are known to be right.
 
 ghost use Rattle.std.specs.Prelude.{◌≡◌, IsTrue, IfOk, true};
 ghost use Rattle.moo_damage.specs.Damage.{is_object_past, is_lost, LinksHold};
@@ -13,7 +13,7 @@ use moo_rows::{ObjRow, Rows};
 use moo_value::ObjNo;
 use std::alloc::{AllocError, Global};
 
-/// Whether the number of an object was given, and both of its links go down.
+/// Whether one look shows that an object is right: its number was given, and both of its links go down.
 fn is_plain_object<R: Rows>(rows: &R, x: ObjNo, row: &ObjRow) -> bool
     ensures { result ≡ is_plain_object (R.held rows.now).maps x row.now }
 {
@@ -26,14 +26,16 @@ fn is_plain_object<R: Rows>(rows: &R, x: ObjNo, row: &ObjRow) -> bool
     goes_down(rows, TreeLink::Location, x, row)
 }
 
-/// Whether each object is plain. Then none has a number that was never given, a link that names no object, or a chain without an end.
+/// Whether one look at each object shows that it is right. Then none has a number that was never given, a link that names no object, or a
+/// chain without an end.
 pub(crate) fn are_plain<R: Rows>(rows: &R) -> bool
     ensures { IsTrue result → ArePlain (R.held rows.now).maps }
 {
     first_bad::<ObjRow, R, _>(rows, |x, row| !is_plain_object(rows, x, row)).is_none()
 }
 
-/// The least object whose number was never given, or none. It isn't looked for if the objects are known to be plain.
+/// The least object whose number was never given; `None` if there is none. It isn't looked for if the objects are known to be right
+/// (`plain`).
 pub(crate) fn past_object<R: Rows>(rows: &R, plain: bool) -> Option<ObjNo>
     requires { plain ≡ true → ArePlain (R.held rows.now).maps }
     ensures { IsLeastPassing (R.held rows.now).maps.objects (λ x _. is_object_past (R.held rows.now).maps.head x) result }
@@ -44,7 +46,8 @@ pub(crate) fn past_object<R: Rows>(rows: &R, plain: bool) -> Option<ObjNo>
     first_past::<ObjRow, R>(rows)
 }
 
-/// The least object whose link names neither an object nor `#-1`, or none. It isn't looked for if the objects are known to be plain.
+/// The least object whose link names neither an object nor `#-1`; `None` if there is none. It isn't looked for if the objects are known to
+/// be right (`plain`).
 pub(crate) fn lost_object<R: Rows>(rows: &R, link: TreeLink, plain: bool) -> Option<ObjNo>
     requires { plain ≡ true → ArePlain (R.held rows.now).maps }
     ensures { IsLeastPassing (R.held rows.now).maps.objects (λ _ row. is_lost link (R.held rows.now).maps row) result }
@@ -55,14 +58,15 @@ pub(crate) fn lost_object<R: Rows>(rows: &R, link: TreeLink, plain: bool) -> Opt
     first_lost(rows, link)
 }
 
-/// The least object whose chain of links doesn't end, or none. It isn't looked for if the objects are known to be plain. An `Err` is a
-/// lack of memory.
+/// The least object whose chain of links doesn't end; `None` if there is none. It isn't looked for if the objects are known to be right
+/// (`plain`). The only error is out of memory.
 pub(crate) fn looping_object<R: Rows>(
     alloc: Global,
     rows: &R,
     link: TreeLink,
     plain: bool,
 ) -> Result<Option<ObjNo>, AllocError>
+    // Each link names an object or `#-1`.
     requires links { LinksHold link (R.held rows.now).maps }
     requires plain { plain ≡ true → ArePlain (R.held rows.now).maps }
     ensures { IfOk result (IsFirstLoop link (R.held rows.now).maps) }

@@ -1,4 +1,4 @@
-//! Chains of links that don't end.
+//! Finding chains of links that don't end.
 
 ghost use Rattle.std.specs.Prelude.{◌≡◌, ◌≤◌, IsTrue, IfOk, IfSome, IfNone, OnOk, true, is_some, length};
 ghost use Rattle.std.specs.FinMap.{entries, get};
@@ -16,7 +16,7 @@ use moo_value::ObjNo;
 use std::alloc::{AllocError, Global};
 use std::collections::BTreeMap;
 
-/// What an object's row links it to.
+/// The two links of an object's row: to its parent, and to its location.
 #[derive(Clone, Copy)]
 pub enum TreeLink {
     Parent,
@@ -34,7 +34,7 @@ impl TreeLink {
         }
     }
 
-    /// The kind of a link that names no object.
+    /// The kind of damage of a link that names no object.
     pub(crate) fn missing_kind(self) -> Kind
         ensures { result ≡ lost_kind self }
     {
@@ -44,7 +44,7 @@ impl TreeLink {
         }
     }
 
-    /// The kind of a chain of links without an end.
+    /// The kind of damage of a chain of links without an end.
     pub(crate) fn loops(self) -> Kind
         ensures { result ≡ loop_kind self }
     {
@@ -69,14 +69,15 @@ pub(crate) fn goes_down<R: Rows>(rows: &R, link: TreeLink, x: ObjNo, row: &ObjRo
     }
 }
 
-/// Whether each object is. Then each chain ends.
+/// Whether each object is linked to nothing, or to an object that has a lesser number or is linked to nothing. Then each chain ends.
 fn links_descend<R: Rows>(rows: &R, link: TreeLink) -> bool
     ensures { IsTrue result → LinksDescend link (R.held rows.now).maps }
 {
     first_bad::<ObjRow, R, _>(rows, |x, row| !goes_down(rows, link, x, row)).is_none()
 }
 
-/// The objects from x up to one that is known to end, or to the end itself; None if the chain doesn't end.
+/// The objects from x up its chain of links to one whose chain is known to end, or to the end; `None` if the chain doesn't end. The only
+/// error is out of memory.
 fn climb<R: Rows>(
     alloc: Global,
     rows: &R,
@@ -85,12 +86,18 @@ fn climb<R: Rows>(
     count: u64,
     x: ObjNo,
 ) -> Result<Option<Vec<ObjNo>>, AllocError>
+    // Each link names an object or `#-1`.
     requires links { LinksHold link (R.held rows.now).maps }
+    // The chains of the objects that are known end.
     requires known { AreEnding link (R.held rows.now).maps (contents object_cmp known.now) }
+    // x is an object.
     requires object { is_some (get (R.held rows.now).maps.objects x) ≡ true }
+    // There are at most `count` objects.
     requires count { length (entries (R.held rows.now).maps.objects) ≤ count }
+    // With a path, the chains of its objects and of x end.
     ensures ends { IfOk result (λ o. IfSome o (λ path.
         AllEnd link (R.held rows.now).maps path.items × HasEnd link (R.held rows.now).maps x)) }
+    // Without one, the chain of x doesn't end.
     ensures loops { IfOk result (λ o. IfNone o (Loops link (R.held rows.now).maps x)) }
 {
     let mut path = Vec::new(alloc);
@@ -112,7 +119,7 @@ fn climb<R: Rows>(
     }
 }
 
-/// Notes that the chains of these objects end.
+/// Notes the objects of a path as ones whose chains are known to end. The only error is out of memory.
 fn note_path(known: &mut BTreeMap<ObjNo, ()>, path: &[ObjNo]) -> Result<(), AllocError>
     ensures { OnOk result (NotesEnding path.now (contents object_cmp known.old) (contents object_cmp known.new)) }
 {
@@ -122,17 +129,17 @@ fn note_path(known: &mut BTreeMap<ObjNo, ()>, path: &[ObjNo]) -> Result<(), Allo
     Ok(())
 }
 
-/// The least object whose chain of links doesn't end, or none. An `Err` is a lack of memory.
+/// The least object whose chain of links doesn't end; `None` if there is none. The only error is out of memory.
 ///
 /// In most worlds each object is linked to one of a lesser number, or to a root as a new world's system object is, and that is looked
-/// for first, without any memory. Else
-/// each object is climbed over once: what is known to end is noted, and the first chain that is longer than there are
-/// objects is the answer.
+/// for first, without any memory. Else each object is climbed over once: the objects whose chains are known to end are noted, and the
+/// first object whose chain is longer than there are objects is the answer.
 pub fn first_loop<R: Rows>(
     alloc: Global,
     rows: &R,
     link: TreeLink,
 ) -> Result<Option<ObjNo>, AllocError>
+    // Each link names an object or `#-1`.
     requires { LinksHold link (R.held rows.now).maps }
     ensures { IfOk result (IsFirstLoop link (R.held rows.now).maps) }
 {

@@ -42,7 +42,7 @@ abbrev pub IsFor : Bool → Interest → Type 0
 IsFor writes interest = (is_readable interest ≡ true) × (is_writable interest ≡ writes)
 
 module _ {S K R W : Type 0} (does : S → SocketCall K R W → S → Type 0) where
-  -- a source is watched, or isn't
+  -- A source is registered under this mark, for bytes and, if so, for room to write. It is watched then, or isn't.
   abbrev pub Watches : ℤ → ℕ → Bool → Bool → S → S → Type 0
   Watches number mark writes did old new = (interest : Interest) × IsFor writes interest × does old (registers number mark interest did) new
 

@@ -48,14 +48,14 @@ module _ {R W : Type 0} where
   abbrev pub answers_of : List (Leaving R W) → ℕ
   answers_of leaving = min (sum_by held_of leaving) (2 ^ 64 - 1) - largest_of leaving
 
--- The answer at this place is given up, for its place, and the others stay.
+-- The answer at this place is given up, since another connection needs its place, and the others stay.
 abbrev pub CutsAt : {R W : Type 0} → ℕ → List (Leaving R W) → List (Leaving R W) → Type 0
 CutsAt {R} {W} place old new = (it : Leaving R W) × (new ≡ set old place it) × (it.stage ≡ ended Crowded (get_or old place it).stage)
 
 module _ {R W : Type 0}
     {inward : Inward.Ghosts R} {incoming : Incoming.Ghosts R} {reader : Reading.Ghosts R} {outward : Outward.Ghosts W}
     {writer : Writing.Ghosts W} where
-  -- its request is whole, or nothing more of it comes
+  -- it is to be handed out: its request is whole, or nothing more of it comes
   abbrev pub IsReady : Slot R W inward incoming reader outward writer → Type 0
   IsReady slot = slot.rests ≡ true
 
@@ -83,14 +83,14 @@ module _ {R W : Type 0}
   abbrev pub IsCrowdedOut : Slot R W inward incoming reader outward writer → Slot R W inward incoming reader outward writer → Type 0
   IsCrowdedOut old new = (new.rests ≡ true) × (new.reader.coming ≡ Unread) × (new.cause ≡ Crowded)
 
-  -- One that lingers is let go, or else the oldest unfinished request that may be is given up, or else none.
+  -- A connection that lingers is let go, or else the oldest unfinished request that may be given up is, or else nothing changes.
   abbrev pub EndsOne : Duration → Held R W inward incoming reader outward writer → Held R W inward incoming reader outward writer → Type 0
   EndsOne now old new =
       (TurnsFirst IsLingering (λ _ it. it.stage ≡ Done) old.leaving.items new.leaving.items × (new.slots ≡ old.slots))
       ⊎ (HoldsOfNone IsLingering old.leaving.items × (new.leaving ≡ old.leaving)
       × (TurnsFirst (IsStale now) IsCrowdedOut old.slots.items new.slots.items ⊎ (HoldsOfNone (IsStale now) old.slots.items × (new.slots ≡ old.slots))))
 
-  -- If it is pressed, one answer that is stuck is given up, if one is; else none.
+  -- If too much of answers is held and a request is whole, the first answer that is stuck is given up, if one is. Else nothing changes.
   abbrev pub Relieves : Duration → Held R W inward incoming reader outward writer → Held R W inward incoming reader outward writer → Type 0
   Relieves now old new =
       (IsPressed old × TurnsFirst (IsStuck now) (λ _ it. it.stage ≡ Lost Crowded) old.leaving.items new.leaving.items)
@@ -100,7 +100,7 @@ module _ {R W : Type 0}
   abbrev pub spared_for : Duration → Slot R W inward incoming reader outward writer → ℕ
   spared_for now slot = (GRACE + 1) * 1_000_000 - (as_nanos now - as_nanos slot.since)
 
-  -- it is this long; or none, if it can be ended
+  -- for so long this request can't be ended yet; or none, if it can be
   abbrev pub IsSpared : Duration → Option Duration → Slot R W inward incoming reader outward writer → Type 0
   IsSpared now None slot = spared_for now slot ≡ 0
   IsSpared now (Some left) slot = as_nanos left ≡ spared_for now slot

@@ -65,7 +65,7 @@ module _ {R W : Type 0}
   HappensToBook (ends it) old new =
       (new.slots ≡ old.slots) × TakesOut old.leaving it new.leaving × LetsGo it old.losses new.losses
 
-  -- deeds one after another; the head of the list is the last one
+  -- the deeds that lead from a book to another, one after another; the head of the list is the last deed
   abbrev pub After : List (Deed (Slot R W inward incoming reader outward writer) R W)
       → Book (Slot R W inward incoming reader outward writer) R W → Book (Slot R W inward incoming reader outward writer) R W → Type 0
   After [] old new = new ≡ old
@@ -79,7 +79,7 @@ module _ {R W : Type 0}
     pub after : After deeds old new
     pub count : count_taken deeds ≡ came
 
-  -- nothing happened to what a desk holds but deeds, and none came
+  -- nothing happened to what a desk holds but deeds, and no connection came
   abbrev pub Goes : Held R W inward incoming reader outward writer → Held R W inward incoming reader outward writer → Type 0
   Goes old new = Keep 0 (book_of old) (book_of new)
 

@@ -42,7 +42,8 @@ module _ {R W : Type 0}
     pub ripe : ∥ IsRipe it.is_limited it.reader.coming it.reader.bytes.items ∥₁
     pub peer : inward.peer it.reader.reader ≡ outward.peer it.writer.writer
 
-  -- The first one that is to be handed out, in the order in which they came, isn't held any more; or there is none.
+  -- The first connection that is to be handed out, in the order in which they came, isn't held any more; or there is none, and nothing
+  -- changed.
   abbrev pub TakesSlot : Book (Slot R W inward incoming reader outward writer) R W
       → Option (Slot R W inward incoming reader outward writer) → Book (Slot R W inward incoming reader outward writer) R W → Type 0
   TakesSlot old None new = new ≡ old

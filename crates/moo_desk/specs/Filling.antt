@@ -1,4 +1,4 @@
--- What came of filling.
+-- What came of gathering more of a request.
 use Rattle.std.specs.Prelude.{◌≡◌, ◌≢◌, ℕ, ⊤, Ok, Err}
 use Rattle.std.specs.IoError.{error_kind}
 use Rattle.std.specs.declared.io.Error.{Error}
@@ -17,7 +17,8 @@ module _ {R : Type 0} (reads : R → Gave → R → Type 0) where
   FailsToFill old new OutOfMemory = ⊤
   FailsToFill old new other = ⊥
 
-  -- The reader was read, unless memory ran out, and gave what is told; it is told if bytes came.
+  -- The reader was read once, unless memory ran out, and what it gave is what is told: bytes came, none are there now, the peer has ended,
+  -- or the read failed. If none came, what was gathered stays.
   abbrev pub Fills : Gathered R → Gathered R → Filled → Type 0
   Fills old new Grew = (count : ℕ) × reads old.reader (Ok count) new.reader
   Fills old new Waits =

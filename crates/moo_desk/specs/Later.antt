@@ -28,14 +28,15 @@ SendsOn writer old new =
 module _ {R W : Type 0}
     {inward : Inward.Ghosts R} {incoming : Incoming.Ghosts R} {reader : Reading.Ghosts R} {outward : Outward.Ghosts W}
     {writer : Writing.Ghosts W} where
-  -- At most whether it is looked at changed: one that was to be looked at still is.
+  -- Nothing of a request changed but, at most, whether the next round looks at it. One that was to be looked at still is.
   pub record IsOnlyWoken (old new : Slot R W inward incoming reader outward writer) : Type 0 where
     pub halves : (new.reader ≡ old.reader) × (new.writer ≡ old.writer) × (new.is_limited ≡ old.is_limited)
     pub ends : (new.rests ≡ old.rests) × (new.cause ≡ old.cause)
     pub times : (new.since ≡ old.since) × (new.heard ≡ old.heard) × (new.looked ≡ old.looked)
     pub due : (new.mark ≡ old.mark) × (old.is_due ≡ true → new.is_due ≡ true)
 
-  -- The same connection while its request is gathered. Once it is to be handed out nothing more is read of it, and it isn't given up.
+  -- A connection whose request is gathered, and that connection later. Once it is to be handed out nothing more is read of it, and it isn't
+  -- given up.
   pub record IsGathered (old new : Slot R W inward incoming reader outward writer) : Type 0 where
     pub request : GathersOn reader old.reader new.reader
     pub peer : inward.peer new.reader.reader ≡ inward.peer old.reader.reader
@@ -44,8 +45,8 @@ module _ {R W : Type 0}
     pub since : new.since ≡ old.since
     pub rests : old.rests ≡ true → (new.rests ≡ true) × (new.reader ≡ old.reader) × (new.cause ≡ old.cause)
 
--- The same connection after its request was judged, with the answer to this peer. An answer that was sent whole isn't lost later, and one
--- that is lost isn't sent.
+-- A connection whose request was judged, and that connection later, with its answer to this peer. An answer that was sent whole isn't lost
+-- later, and one that is lost isn't sent.
 pub record IsLater {R W : Type 0} (writer : Writing.Ghosts W) (to : W → ℤ) (old new : Leaving R W) : Type 0 where
   pub answer : SendsOn writer old.writer new.writer
   pub peer : to new.writer.writer ≡ to old.writer.writer

@@ -17,12 +17,12 @@ use Rattle.moo_desk.specs.declared.slot.TheConstants.{SILENCE, PATIENCE}
 abbrev pub Gave : Type 0
 Gave = Result ℕ Error
 
--- of how many bytes at most a request is taken, by what is known of its end
+-- How many bytes of a request are taken at most: as many as it has, if that is known, or 8,192 while its head isn't whole.
 abbrev pub limit_of : Option ℕ → ℕ
 limit_of (Some total) = total
 limit_of None = MAX_HEAD
 
--- over so many nanoseconds went by
+-- more than so many nanoseconds went by between two times
 abbrev pub IsLonger : ℕ → Duration → Duration → Type 0
 IsLonger nanos from to = nanos < as_nanos to - as_nanos from
 

@@ -14,7 +14,7 @@ use Rattle.moo_desk.specs.Read.{Gave, IsLonger}
 module _ {R W : Type 0}
     {inward : Inward.Ghosts R} {incoming : Incoming.Ghosts R} {reader : Reading.Ghosts R} {outward : Outward.Ghosts W}
     {writer : Writing.Ghosts W} where
-  -- it was read
+  -- its reader was read once, and gave something
   abbrev pub WasRead : Slot R W inward incoming reader outward writer → Slot R W inward incoming reader outward writer → Type 0
   WasRead old new = (gave : Gave) × inward.reads old.reader.reader gave new.reader.reader
 
@@ -22,7 +22,8 @@ module _ {R W : Type 0}
   abbrev pub IsReadIfDue : Slot R W inward incoming reader outward writer → Slot R W inward incoming reader outward writer → Type 0
   IsReadIfDue old new = old.rests ≡ false → old.is_due ≡ true → WasRead old new ⊎ (new.rests ≡ true)
 
-  -- Each that is due is read, or is to be handed out after this, if this holds; else the first unfinished one.
+  -- If `All` holds, each request that is due is read, or is to be handed out after this. Else that is so of those up to the first
+  -- unfinished one.
   abbrev pub ReadsDue : Type 0 → List (Slot R W inward incoming reader outward writer)
       → List (Slot R W inward incoming reader outward writer) → Type 0
   ReadsDue All [] [] = ⊤
@@ -33,7 +34,8 @@ module _ {R W : Type 0}
   abbrev pub gathered_of : List (Slot R W inward incoming reader outward writer) → ℕ
   gathered_of slots = sum_by (λ slot. length slot.reader.bytes.items) slots
 
-  -- It is this time now: when it came stays, bytes that come are heard now, and whether that is too long ago is seen now.
+  -- The same request later, at the time `now`: when it came stays, bytes that come are heard at that time, and whether either is too long
+  -- ago is seen at that time, if at all.
   pub record IsTimed (now : Duration) (old new : Slot R W inward incoming reader outward writer) : Type 0 where
     pub since : new.since ≡ old.since
     pub heard : (new.heard ≡ now) ⊎ ((new.heard ≡ old.heard) × (new.reader.bytes.items ≡ old.reader.bytes.items))
@@ -43,7 +45,7 @@ module _ {R W : Type 0}
   abbrev pub IsStale : Duration → Slot R W inward incoming reader outward writer → Type 0
   IsStale now slot = (slot.rests ≡ false) × IsLonger (GRACE * 1_000_000) slot.since now
 
-  -- those with a mark of which this holds are due, and those that were stay so
+  -- a request with a mark of which this holds is due, and one that was due stays so
   abbrev pub IsWokenFor : (ℕ → Type 0) → Slot R W inward incoming reader outward writer
       → Slot R W inward incoming reader outward writer → Type 0
   IsWokenFor Told old new = (new.mark ≡ old.mark) × (Told old.mark ⊎ (old.is_due ≡ true) → new.is_due ≡ true)

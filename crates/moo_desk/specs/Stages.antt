@@ -20,14 +20,14 @@ MayFollow Lingering new = (new ≡ Lingering) ⊎ (new ≡ Done)
 MayFollow Done new = new ≡ Done
 MayFollow (Lost cause) new = new ≡ Lost cause
 
--- how many of so many bytes are still held
+-- how many bytes of an answer are held at a stage, of so many that weren't sent
 abbrev pub unsent_at : Stage → ℕ → ℕ
 unsent_at Sending unsent = unsent
 unsent_at Lingering unsent = 0
 unsent_at Done unsent = 0
 unsent_at (Lost cause) unsent = 0
 
--- the stage of one that is given up for a cause
+-- the stage of a connection that is given up for a cause, by the stage at which it was
 abbrev pub ended : Cause → Stage → Stage
 ended cause Sending = Lost cause
 ended cause Lingering = Done

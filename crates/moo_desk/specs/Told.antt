@@ -5,13 +5,14 @@ use Rattle.moo_arrivals.specs.declared.cause.Loss.{Loss}
 use Rattle.moo_arrivals.specs.declared.route.Route.TheVariants.{Unknown}
 use Rattle.moo_desk.specs.declared.losses.Losses.{Losses}
 
--- one more is noted; or, if there is no memory for it, that there is one more
+-- this loss is noted as the last one; or, if there is no memory for it, that there is one more
 abbrev pub NotesLoss : Losses → Loss → Losses → Type 0
 NotesLoss old loss new =
     ((new.all.items ≡ old.all.items ++ loss ∷ []) × (new.more ≡ old.more))
     ⊎ ((new.all.items ≡ old.all.items) × (new.more ≡ min (old.more + 1) (2 ^ 32 - 1)))
 
--- One that was noted is told of, and isn't noted any more; then one for which there was no memory. None is told of only if there is none.
+-- A loss that was noted is told of, and isn't noted any more; after all of these, one for which there was no memory. None is told of only
+-- if there is none.
 abbrev pub TellsOf : Losses → Option Loss → Losses → Type 0
 TellsOf old None new = (old.all.items ≡ []) × (old.more ≡ 0) × (new.all.items ≡ []) × (new.more ≡ 0)
 TellsOf old (Some loss) new =

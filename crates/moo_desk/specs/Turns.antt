@@ -29,7 +29,7 @@ period_of (it ∷ others) = GRACE * 1_000_000
 abbrev pub HasWaited : {G : Type 0} → (G → Duration → List ℕ → G → Type 0) → (Duration → Type 0) → List ℕ → G → Type 0
 HasWaited {G} waits Fits told gate = (before : G) × (most : Duration) × Fits most × waits before most told gate
 
--- it is due to ask what may have changed: the last time is long ago, or many connections were handed out since
+-- the gate is to be asked what may have changed: that was over 1 millisecond ago, or 8 connections were handed out since
 abbrev pub IsDueToAsk : Duration → Duration → ℕ → Type 0
 IsDueToAsk now asked turns = IsLonger (PERIOD * 1_000_000) asked now ⊎ (TURNS ≤ turns)
 

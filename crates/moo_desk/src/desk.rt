@@ -24,20 +24,24 @@ use std::time::{Clock, Duration};
 /// How long the desk waits at once, in milliseconds, if no connection is to be ended before.
 const PAUSE: u64 = 1000;
 
-/// After how many connections that were handed out, or how many milliseconds, it is asked what may have changed, though some are whole.
+/// After how many connections that were handed out the gate is asked what may have changed, though some requests are whole.
 const TURNS: u32 = 8;
 
+/// After how many milliseconds the gate is asked what may have changed, though some requests are whole.
 const PERIOD: u64 = 1;
 
-/// What came of taking a connection.
+/// What came of asking the gate for a connection.
 #[derive(Clone, Copy, PartialEq, Eq, Drop)]
 enum Took {
+    /// One came, and is held.
     One,
+    /// None came.
     Nobody,
+    /// One came, and is lost.
     Lost,
 }
 
-/// Connections side by side.
+/// The connections that a gate gave, side by side in one thread.
 #[derive(Drop)]
 pub struct Desk<'a, G: Gate, C> {
     clock: &'a C,
@@ -48,18 +52,19 @@ pub struct Desk<'a, G: Gate, C> {
     mark: usize,
     /// A connection may be at the gate.
     has_news: bool,
-    /// What the last wait told.
+    /// The marks that the last wait told.
     told: Vec<usize>,
-    /// When it was asked last what may have changed, and how many were handed out since.
+    /// When the gate was last asked what may have changed.
     asked: Duration,
+    /// How many connections were handed out since then.
     turns: u32,
-    /// When each connection was looked at last.
+    /// When the desk last looked at each connection, though nothing was told of it.
     swept: Duration,
     ghost room: { MOST ≤ vec_capacity told },
 }
 
 impl<'a, G: Gate + Drop, C: Clock> Desk<'a, G, C> {
-    /// A desk with no connections, and room for all that it may have.
+    /// A desk with no connections, and room for the 64 that it may hold. The error: memory ran out.
     pub fn new(alloc: Global, clock: &'a C, gate: G) -> Result<Desk<'a, G, C>, AllocError>
         ensures { IfOk result (λ desk. HoldsNone desk.held × (desk.gate ≡ gate)) }
     {
@@ -77,11 +82,12 @@ impl<'a, G: Gate + Drop, C: Clock> Desk<'a, G, C> {
         })
     }
 
+    /// The time of the monotonic clock, or 0 if it can't be read.
     fn now(&self) -> Duration {
         self.clock.monotonic().unwrap_or(Duration::from_secs(0))
     }
 
-    /// A mark that no other connection has.
+    /// Gives the next mark, 1 or more. No other connection has it.
     fn next_mark(&mut self) -> usize
         ensures same { (self.new.held ≡ self.old.held) × (self.new.gate ≡ self.old.gate) × (self.new.has_news ≡ self.old.has_news) }
         ensures next { (result ≡ self.new.mark) × (self.old.mark + 1 < 2 ^ 64 → result ≡ self.old.mark + 1) }
@@ -90,11 +96,14 @@ impl<'a, G: Gate + Drop, C: Clock> Desk<'a, G, C> {
         self.mark
     }
 
-    /// Takes the connection that came, if one did.
+    /// Asks the gate for the next connection, and holds it. Nobody if none is there, or the system has no room for one; Lost if the gate
+    /// failed, or memory ran out.
     fn take_one(&mut self, now: Duration) -> Took
+        // Each connection that the gate gave is held, but for one at most that was lost as it came. None was unless the result is Lost.
         ensures one { Admits 1 (book_of self.old.held, G.gave self.old.gate) (book_of self.new.held, G.gave self.new.gate) }
         ensures none { result ≢ Took.Lost →
             Admits 0 (book_of self.old.held, G.gave self.old.gate) (book_of self.new.held, G.gave self.new.gate) }
+        // The gate was asked, and what it gave is what became of it: held as the last connection, lost, or nobody.
         ensures comes { (taken : Taken G.Reader G.Writer) × G.takes self.old.gate taken self.new.gate
             × ComesIn now self.new.mark taken result (self.old.held, self.old.has_news) (self.new.held, self.new.has_news) }
     {
@@ -116,14 +125,18 @@ impl<'a, G: Gate + Drop, C: Clock> Desk<'a, G, C> {
         }
     }
 
-    /// Takes the next connection, if one came and so many are still to come. If there is no room, it is taken in place of another. While a
-    /// request that is whole is to be judged none is taken, so that whoever came first is judged first.
+    /// Takes the next connection from the gate, if one may be there and fewer than `left` requests are gathered. If 64 connections are
+    /// held, one of them is ended for it, and none is taken if none can be. While a whole request waits to be judged none is taken, so that
+    /// whoever came first is judged first.
     fn take_next(&mut self, left: usize, now: Duration) -> Took
+        // Each connection that the gate gave is held, but for one at most that was lost as it came. None was unless the result is Lost.
         ensures one { Admits 1 (book_of self.old.held, G.gave self.old.gate) (book_of self.new.held, G.gave self.new.gate) }
         ensures none { result ≢ Took.Lost →
             Admits 0 (book_of self.old.held, G.gave self.old.gate) (book_of self.new.held, G.gave self.new.gate) }
+        // If the next may be taken, the gate is asked for it, and room is made for one that came.
         ensures takes { MayTake left now self.old.has_news self.old.held →
             TakesIn G.takes now self.new.mark result self.old.gate self.new.gate (self.old.held, self.old.has_news) (self.new.held, self.new.has_news) }
+        // Else the gate isn't asked, and nothing changes.
         ensures waits { ¬ (MayTake left now self.old.has_news self.old.held) → (result ≡ Took.Nobody) × (self.new ≡ self.old) }
     {
         if !self.may_take(left, now) {
@@ -136,6 +149,8 @@ impl<'a, G: Gate + Drop, C: Clock> Desk<'a, G, C> {
         took
     }
 
+    /// Whether the next connection may be taken: one may be at the gate, fewer than `left` requests are gathered, there is a place for it
+    /// or a connection that can be ended, and no whole request waits to be judged.
     fn may_take(&self, left: usize, now: Duration) -> bool
         ensures yes { result ≡ true → MayTake left now self.now.has_news self.now.held }
         ensures no { result ≡ false → ¬ (MayTake left now self.now.has_news self.now.held) }
@@ -144,7 +159,8 @@ impl<'a, G: Gate + Drop, C: Clock> Desk<'a, G, C> {
         self.has_news && self.held.slots.len() < left && has_room && !self.held.has_whole()
     }
 
-    /// How long the desk waits at most, and how long it doesn't look at a connection of which nothing was told.
+    /// How long the desk waits at most, and doesn't look at a connection of which nothing was told: 1 second, or 200 milliseconds while
+    /// answers are sent.
     fn period(&self) -> Duration
         ensures { as_nanos result ≡ period_of self.now.held.leaving.items }
     {
@@ -155,7 +171,8 @@ impl<'a, G: Gate + Drop, C: Clock> Desk<'a, G, C> {
         }
     }
 
-    /// How long it may wait at most, so that nothing is due before.
+    /// How long the desk may wait: for a period, or, if 64 connections are held, until the oldest unfinished request may be ended for
+    /// another's place.
     fn patience(&self, now: Duration) -> Duration
         ensures { EndsInTime now self.now.held result }
     {
@@ -166,17 +183,19 @@ impl<'a, G: Gate + Drop, C: Clock> Desk<'a, G, C> {
         }
     }
 
-    /// Waits until something may have changed, but not past a time at which something may be due.
+    /// Waits until the gate tells of a change, but no longer than `patience` says.
     fn pause(&mut self, now: Duration)
+        // No connection comes, and nothing happens to those that are held but deeds.
         ensures all { Goes self.old.held self.new.held }
         ensures gate { G.gave self.new.gate ≡ G.gave self.old.gate }
+        // The wait ends before anything is due: within a period, and once a place may be had.
         ensures waits { HasWaited G.waits (EndsInTime now self.old.held) self.new.told.items self.new.gate }
     {
         let most = self.patience(now);
         self.wait(most);
     }
 
-    /// Waits so, unless something changed.
+    /// Waits as `pause` does, unless something changed in this round.
     fn pause_unless(&mut self, changed: bool, now: Duration)
         ensures all { Goes self.old.held self.new.held }
         ensures gate { G.gave self.new.gate ≡ G.gave self.old.gate }
@@ -187,10 +206,11 @@ impl<'a, G: Gate + Drop, C: Clock> Desk<'a, G, C> {
         }
     }
 
-    /// Waits for so long at most, and has those be looked at of which something is told.
+    /// Waits for `most` at most until the gate tells of a change. The next round looks at the connections whose marks it told.
     fn wait(&mut self, most: Duration)
         ensures all { Goes self.old.held self.new.held }
         ensures gate { G.gave self.new.gate ≡ G.gave self.old.gate }
+        // The gate was waited for, for this time at most, and its marks are kept.
         ensures waits { HasWaited G.waits (λ it. it ≡ most) self.new.told.items self.new.gate }
         ensures turns { self.new.turns ≡ 0 }
     {
@@ -201,7 +221,7 @@ impl<'a, G: Gate + Drop, C: Clock> Desk<'a, G, C> {
         self.turns = 0;
     }
 
-    /// Has those be looked at of which something was told.
+    /// Has the next round look at the connections whose marks the last wait told, and ask the gate for a connection if it told `NEWS`.
     fn wake_told(&mut self)
         ensures all { Goes self.old.held self.new.held }
         ensures gate { self.new.gate ≡ self.old.gate }
@@ -213,10 +233,12 @@ impl<'a, G: Gate + Drop, C: Clock> Desk<'a, G, C> {
         }
     }
 
-    /// Asks what may have changed, if that is due, so that nobody waits for long though some are always whole.
+    /// Asks the gate what may have changed, without waiting, if it was asked over 1 millisecond ago or 8 connections were handed out since.
+    /// So nobody waits for long though some requests are always whole.
     fn ask_if_due(&mut self, now: Duration)
         ensures all { Goes self.old.held self.new.held }
         ensures gate { G.gave self.new.gate ≡ G.gave self.old.gate }
+        // If it is due, the gate is asked by a wait of no time; else nothing changes.
         ensures asks { IsDueToAsk now self.old.asked self.old.turns →
             HasWaited G.waits (λ most. as_nanos most ≡ 0) self.new.told.items self.new.gate }
         ensures stays { ¬ (IsDueToAsk now self.old.asked self.old.turns) → self.new ≡ self.old }
@@ -227,10 +249,12 @@ impl<'a, G: Gate + Drop, C: Clock> Desk<'a, G, C> {
         }
     }
 
-    /// Has each be looked at, if that is due.
+    /// Has the next round look at each connection, though nothing was told of it, and ask the gate for one, if the last time is a period
+    /// ago.
     fn sweep(&mut self, now: Duration)
         ensures all { Goes self.old.held self.new.held }
         ensures gate { G.gave self.new.gate ≡ G.gave self.old.gate }
+        // After a period each request that is gathered is due, and one may be at the gate. Before that nothing changes.
         ensures sweeps { period_of self.old.held.leaving.items ≤ as_nanos now - as_nanos self.old.swept →
             (self.new.swept ≡ now) × (self.new.has_news ≡ true)
             × Each (IsWokenFor (λ _. ⊤)) self.old.held.slots.items self.new.held.slots.items }
@@ -243,7 +267,7 @@ impl<'a, G: Gate + Drop, C: Clock> Desk<'a, G, C> {
         }
     }
 
-    /// Asks what may have changed, and has each be looked at, as that is due.
+    /// Asks the gate what may have changed, and has the next round look at each connection, if either is due.
     fn listen(&mut self, now: Duration)
         ensures all { Goes self.old.held self.new.held }
         ensures gate { G.gave self.new.gate ≡ G.gave self.old.gate }
@@ -252,9 +276,10 @@ impl<'a, G: Gate + Drop, C: Clock> Desk<'a, G, C> {
         self.sweep(now);
     }
 
-    /// Does what can be done without waiting: takes a connection, gathers and sends. What came of taking one, and whether anything else
-    /// changed.
+    /// One round, without waiting: takes a connection from the gate, gathers requests, gives up an answer if too much of answers is held,
+    /// and sends answers. It tells what came of taking a connection, and whether anything was gathered, sent or let go.
     fn go_round(&mut self, routes: &Routes, left: u32, now: Duration) -> (Took, bool)
+        // Each connection that the gate gave is held, but for one at most that was lost as it came. None was unless the result is Lost.
         ensures one { Admits 1 (book_of self.old.held, G.gave self.old.gate) (book_of self.new.held, G.gave self.new.gate) }
         ensures none { result.0 ≢ Took.Lost →
             Admits 0 (book_of self.old.held, G.gave self.old.gate) (book_of self.new.held, G.gave self.new.gate) }
@@ -267,8 +292,10 @@ impl<'a, G: Gate + Drop, C: Clock> Desk<'a, G, C> {
         (took, has_gathered || has_sent)
     }
 
-    /// Sends what can be sent at once, and holds the connection until its answer is sent or lost.
+    /// Sends what can be sent of an answer at once, and holds its connection until all of it is sent, or it is lost. If memory runs out it
+    /// is lost, and that is noted.
     fn hold(&mut self, mut leaving: Leaving<G::Reader, G::Writer>, now: Duration)
+        // From a desk that holds this connection too only deeds lead on.
         ensures all { Keep 0 (with_back (book_of self.old.held) leaving) (book_of self.new.held) }
         ensures gate { G.gave self.new.gate ≡ G.gave self.old.gate }
     {
@@ -289,7 +316,8 @@ impl<'a, G: Gate + Drop, C: Clock> Desk<'a, G, C> {
         }
     }
 
-    /// Waits until each answer is sent or lost. After so many rounds that no system gets there, what is left is given up.
+    /// Sends until each answer that is held is sent or lost. After 2^64 - 1 rounds, which no system gets to, the answers that are still
+    /// held are given up.
     fn send_out(&mut self)
         ensures all { Goes self.old.held self.new.held }
         ensures gate { G.gave self.new.gate ≡ G.gave self.old.gate }
@@ -356,6 +384,7 @@ impl<'a, G: Gate + Drop, C: Clock> Arrivals for Desk<'a, G, C> {
         closing: Closing,
         route: Route,
     )
+        // The connection is held until all of its answer was sent, or its loss is noted. No other comes.
         ensures back { TakesBack (self.old.held, G.gave self.old.gate) connection (self.new.held, G.gave self.new.gate) }
 
         // It is held with this route, and closed so.

@@ -11,18 +11,18 @@ use crate::slot::Slot;
 use std::net::OpenStream;
 use std::time::Duration;
 
-/// A question about an item.
+/// A question about an item, answered by yes or no.
 pub trait Question<T> {
-    /// What it asks of it.
+    /// The question, and the item of which it asks.
     ghost asks: { Self → T → Type 0 };
 
-    /// Whether that holds of it.
+    /// Whether the answer is yes for this item.
     fn holds(&self, item: &T) -> bool
         ensures yes { result ≡ true → asks self.now item.now }
         ensures no { result ≡ false → ¬ (asks self.now item.now) };
 }
 
-/// The place of the first item of which it holds.
+/// The place of the first item for which the answer to a question is yes. None if no item has that answer.
 pub fn first<T, Q: Question<T>>(items: &[T], question: &Q) -> Option<usize>
     ensures first { IsFirstPlace (Q.asks question.now) items.now result }
     ensures bound { IfSome result (λ place. place < length items.now) }
@@ -37,7 +37,7 @@ pub fn first<T, Q: Question<T>>(items: &[T], question: &Q) -> Option<usize>
     None
 }
 
-/// Whether it holds of any.
+/// Whether the answer to a question is yes for one of the items at least.
 pub fn any<T, Q: Question<T>>(items: &[T], question: &Q) -> bool
     ensures yes { result ≡ true → ¬ (HoldsOfNone (Q.asks question.now) items.now) }
     ensures no { result ≡ false → HoldsOfNone (Q.asks question.now) items.now }
@@ -48,7 +48,7 @@ pub fn any<T, Q: Question<T>>(items: &[T], question: &Q) -> bool
     }
 }
 
-/// Is its request unfinished, and may it be given up?
+/// Is its request unfinished, and may it be given up for another's place?
 #[derive(Clone, Copy, Drop)]
 pub struct Stale {
     pub now: Duration,
@@ -62,7 +62,7 @@ impl<R: Inward, W: Outward> Question<Slot<R, W>> for Stale {
     }
 }
 
-/// Is it to be handed out?
+/// Is its request whole, or does nothing more of it come, so that it is to be handed out?
 #[derive(Clone, Copy, Drop)]
 pub struct Ready;
 
@@ -98,7 +98,7 @@ impl<R: Inward + OpenStream, W: Outward + OpenStream> Question<Leaving<R, W>> fo
     }
 }
 
-/// Is its answer held, and did its peer take nothing of it for a while?
+/// Is its answer held, and did its peer take nothing of it for over 1 second?
 #[derive(Clone, Copy, Drop)]
 pub struct Stuck {
     pub now: Duration,

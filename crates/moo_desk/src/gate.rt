@@ -38,9 +38,11 @@ pub trait Inward: Incoming {
     /// The reader before a read, what the read gave, and the reader after it.
     ghost reads: { Self → Gave → Self → Type 0 };
 
-    /// Reads as `Read::read` does.
+    /// Reads bytes into the buffer, as `Read::read` does, and answers how many; 0 is the end. An error if the read failed, and of the kind
+    /// WouldBlock if no bytes are there now.
     fn take_in(&mut self, buf: &mut [u8]) -> Result<usize>
         ensures bound { ReadsAtMost result buf.new }
+        // The bytes are taken from what the reader still had.
         ensures bytes { ReadConsumes (Self.remaining self.old) (Self.remaining self.new) result buf.new }
         ensures peer { peer self.new ≡ peer self.old }
         ensures read { 0 < length buf.new → reads self.old result self.new };
@@ -51,7 +53,8 @@ pub trait Outward: Write {
     /// The number of its connection.
     ghost peer: { Self → ℤ };
 
-    /// Writes as `Write::write` does.
+    /// Writes bytes of the buffer, as `Write::write` does, and answers how many. An error if the write failed, and of the kind WouldBlock
+    /// if none are taken now.
     fn put_out(&mut self, buf: &[u8]) -> Result<usize>
         ensures bound { WritesAtMost result buf.now }
         ensures bytes { WriteAppends (Self.contents self.old) (Self.contents self.new) result buf.now }
@@ -79,7 +82,9 @@ pub trait Gate {
     /// Takes the next connection, if one is there: the reader and the writer of one peer. If it takes none and one is there, the next wait
     /// tells `NEWS`.
     fn take(&mut self) -> Taken<Self::Reader, Self::Writer>
+        // The reader and the writer of a connection that came are of one peer.
         ensures pair { IsOfOnePeer Self.Reader.peer Self.Writer.peer result }
+        // Each connection that came is counted, once.
         ensures count { CountsTaken (gave self.old) result (gave self.new) }
         ensures taken { takes self.old result self.new };
 
@@ -87,15 +92,18 @@ pub trait Gate {
     fn watch(&mut self, reader: &Self::Reader, mark: usize) -> bool
         ensures { gave self.new ≡ gave self.old };
 
-    /// The same of the connection of this writer, and also when the writer may take more. This mark is told in place of an earlier one.
+    /// From now on a wait also ends when bytes may have come from the peer of this writer, or when the writer may take more, and tells this
+    /// mark then, in place of an earlier one; whether it does.
     fn watch_writer(&mut self, writer: &Self::Writer, mark: usize) -> bool
         ensures { gave self.new ≡ gave self.old };
 
     /// Waits until something that is watched may have changed, but no longer than this. What changed is told by its mark, and that a
     /// connection may have come by `NEWS`. A mark may be told though nothing changed.
     fn wait(&mut self, most: Duration, told: &mut Vec<usize>)
+        // The list has room for the marks of 64 changes, so that no memory is taken.
         requires { MOST ≤ vec_capacity told.old }
         ensures gave { gave self.new ≡ gave self.old }
+        // The list has the marks of this wait, and no earlier ones.
         ensures told { waits self.old most told.new.items self.new }
         ensures room { vec_capacity told.old ≤ vec_capacity told.new };
 }

@@ -2,7 +2,6 @@
 
 ghost use Rattle.std.specs.Prelude.{◌≡◌, ◌≤◌, ◌<◌, ◌++◌, ℕ, List, [], length, drop};
 ghost use Rattle.std.specs.Io.KnownBytes.{Keeps, prepend_known};
-ghost use Rattle.moo_desk.specs.declared.gathered.Coming.TheVariants.{More as StillMore};
 
 use crate::gate::Inward;
 use moo_arrivals::Cause;
@@ -48,9 +47,9 @@ pub struct Gathered<R> {
 }
 
 impl<R> Gathered<R> {
-    /// Nothing was gathered yet.
+    /// A reader of which nothing was gathered yet, and more may come.
     pub fn new(alloc: Global, reader: R) -> Gathered<R>
-        ensures { (result.reader ≡ reader) × (result.bytes.items ≡ []) × (result.at ≡ 0) × (result.coming ≡ StillMore) }
+        ensures { (result.reader ≡ reader) × (result.bytes.items ≡ []) × (result.at ≡ 0) × (result.coming ≡ Coming.More) }
     {
         Gathered {
             reader,
@@ -64,14 +63,18 @@ impl<R> Gathered<R> {
 impl<R: Inward> Gathered<R> {
     ghost use Rattle.moo_desk.specs.Filling.{Fills};
 
-    /// Takes a piece of what the reader has now, up to so many bytes in all. Whoever reads sees no difference.
+    /// Gathers up to 4,096 bytes of what the reader has now, and no more than `limit` in all. Whoever reads sees no difference. If none
+    /// came it tells why: none are there now, the peer has ended, the reader failed, or memory ran out.
     pub fn fill(&mut self, limit: usize) -> Filled
         requires { length self.old.bytes.items < limit }
+        // What was gathered and not read yet and what the reader still has, joined, is as before.
         ensures invisible { Keeps (prepend_known (drop self.old.at self.old.bytes.items) (R.remaining self.old.reader))
             (prepend_known (drop self.new.at self.new.bytes.items) (R.remaining self.new.reader)) }
         ensures bound { length self.new.bytes.items ≤ limit }
+        // What was gathered stays, and more may follow it.
         ensures grows { (more : List ℕ) × (self.new.bytes.items ≡ self.old.bytes.items ++ more) }
         ensures same { (self.new.coming ≡ self.old.coming) × (R.peer self.new.reader ≡ R.peer self.old.reader) }
+        // The reader was read once, unless memory ran out, and what it gave is what is told.
         ensures fills { Fills R.reads self.old self.new result }
     {
         let mut piece = [0; PIECE];

@@ -18,7 +18,7 @@ pub struct Half {
 }
 
 impl Half {
-    /// The reader and the writer of a socket. None if memory runs out; the socket is closed then.
+    /// Makes the reader and the writer of a socket. None if memory runs out; the socket is closed then.
     pub(crate) fn both(alloc: Global, socket: TcpStream) -> Option<(Half, Half)>
         ensures { IfSome result (λ both. (both.0.socket.value ≡ socket) × (both.1.socket.value ≡ socket)) }
     {

@@ -1,7 +1,6 @@
 //! The connections that a desk holds: those whose requests are gathered, those whose answers are sent, and the losses that were noted.
 
 ghost use Rattle.std.specs.Prelude.{◌≡◌, ◌⊎◌, ◌+◌, ◌≤◌, ◌<◌, ⊤, [], true, false, length, min, Some, None, IfOk};
-ghost use Rattle.moo_arrivals.specs.declared.cause.Cause.{Cause as Why};
 ghost use Rattle.moo_desk.specs.declared.leaving.Stage.TheVariants.{Done, Lost};
 ghost use Rattle.moo_desk.specs.Deeds.{LetsGo, Goes, HoldsNone, book_of};
 ghost use Rattle.moo_desk.specs.Choices.{CutsAt, EndsOne, HasNoSpare, HasWhole, IsCrowdedOut, IsLingering, IsReady, IsSpared, IsUnfinished, Relieves, count_of};
@@ -41,7 +40,7 @@ pub struct Held<R: Inward, W: Outward> {
 }
 
 impl<R: Inward + OpenStream + Drop, W: Outward + OpenStream + Drop> Held<R, W> {
-    /// No connections, and room for all that may be held.
+    /// No connections, and room for the 64 that may be held and one more. The error: memory ran out.
     pub fn new(alloc: Global) -> Result<Held<R, W>, AllocError>
         ensures { IfOk result (λ held. HoldsNone held) }
     {
@@ -59,6 +58,7 @@ impl<R: Inward + OpenStream + Drop, W: Outward + OpenStream + Drop> Held<R, W> {
         self.slots.len().saturating_add(self.leaving.len())
     }
 
+    /// Whether 64 connections or more are held, so that another has no place.
     pub fn is_full(&self) -> bool
         ensures full { result ≡ true → MOST ≤ length self.now.slots.items + length self.now.leaving.items }
         ensures room { result ≡ false → length self.now.slots.items + length self.now.leaving.items < MOST }
@@ -66,14 +66,15 @@ impl<R: Inward + OpenStream + Drop, W: Outward + OpenStream + Drop> Held<R, W> {
         self.count() >= MOST
     }
 
-    /// The place of the first unfinished request that may be ended.
+    /// The place of the oldest unfinished request that may be ended for another's place: it came over 200 milliseconds ago. None if none
+    /// may.
     fn first_stale(&self, now: Duration) -> Option<usize>
         ensures { IsFirstPlace (IsStale now) self.now.slots.items result }
     {
         first(&self.slots, &Stale { now })
     }
 
-    /// The place of a connection that only waits for its peer's last bytes.
+    /// The place of the first connection that only waits for its peer's last bytes. None if none does.
     fn first_lingering(&self) -> Option<usize>
         ensures { IsFirstPlace IsLingering self.now.leaving.items result }
     {
@@ -91,9 +92,13 @@ impl<R: Inward + OpenStream + Drop, W: Outward + OpenStream + Drop> Held<R, W> {
     /// If more are held than may be, ends the connection that can best be spared, if one can be: one that lingers, or else the oldest
     /// unfinished request.
     pub fn shed(&mut self, now: Duration)
+        // No connection comes, and nothing happens to those that are held but deeds.
         ensures all { Goes self.old self.new }
+        // While 64 at most are held none is ended.
         ensures few { count_of self.old ≤ MOST → self.new ≡ self.old }
+        // Else one that lingers is let go, or the oldest unfinished request that may be ended is given up, or none can be.
         ensures full { MOST < count_of self.old → EndsOne now self.old self.new }
+        // When each request came stays, and whether that is too long ago is seen by this time.
         ensures times { Each (IsTimed now) self.old.slots.items self.new.slots.items }
     {
         if self.count() <= MOST {
@@ -106,10 +111,12 @@ impl<R: Inward + OpenStream + Drop, W: Outward + OpenStream + Drop> Held<R, W> {
         }
     }
 
-    /// Gives up the answer at this place.
+    /// Gives up the answer at this place, since another connection needs it.
     fn cut_answer(&mut self, place: usize)
+        // No connection comes, and nothing happens to those that are held but deeds.
         ensures all { Goes self.old self.new }
         ensures slots { self.new.slots ≡ self.old.slots }
+        // The answer at this place is given up as crowded out, and the others stay.
         ensures cuts { place < length self.old.leaving.items → CutsAt place self.old.leaving.items self.new.leaving.items }
     {
         if place < self.leaving.len() {
@@ -117,10 +124,14 @@ impl<R: Inward + OpenStream + Drop, W: Outward + OpenStream + Drop> Held<R, W> {
         }
     }
 
-    /// Gives up the request at this place, if it may be ended. It isn't read any more, and handed out so.
+    /// Gives up the request at this place, since another connection needs it, if it may be ended. It isn't read any more, and handed out
+    /// so.
     fn cut_request(&mut self, place: usize, now: Duration)
+        // No connection comes, and nothing happens to those that are held but deeds.
         ensures all { Goes self.old self.new }
+        // When each request came stays, and whether that is too long ago is seen by this time.
         ensures times { Each (IsTimed now) self.old.slots.items self.new.slots.items }
+        // At the place of the oldest that may be ended, that one is given up, and the others stay.
         ensures cuts { IsFirstPlace (IsStale now) self.old.slots.items (Some place) →
             TurnsFirst (IsStale now) IsCrowdedOut self.old.slots.items self.new.slots.items }
         ensures answers { self.new.leaving ≡ self.old.leaving }
@@ -130,9 +141,10 @@ impl<R: Inward + OpenStream + Drop, W: Outward + OpenStream + Drop> Held<R, W> {
         }
     }
 
-    /// Steps each connection whose request was judged and that is due, and lets go of those that are over; whether anything went, came or was
-    /// let go.
+    /// Steps each connection whose request was judged and that is due, and lets go of those that are over; whether anything went, came or
+    /// was let go.
     pub fn send_all(&mut self, now: Duration) -> bool
+        // No connection comes, and nothing happens to those that are held but deeds.
         ensures { Goes self.old self.new }
     {
         let mut changed = step_all(&mut self.leaving, now);
@@ -145,8 +157,9 @@ impl<R: Inward + OpenStream + Drop, W: Outward + OpenStream + Drop> Held<R, W> {
         changed
     }
 
-    /// Lets one go that is over; whether there was any.
+    /// Lets go of the first connection that is over, and notes the loss of its answer if it was lost; whether one was over.
     fn end_one(&mut self) -> bool
+        // No connection comes, and nothing happens to those that are held but deeds.
         ensures { Goes self.old self.new }
     {
         let Some(place) = self.leaving.iter().position(|it| it.is_over()) else {
@@ -160,9 +173,10 @@ impl<R: Inward + OpenStream + Drop, W: Outward + OpenStream + Drop> Held<R, W> {
         false
     }
 
-    /// Notes whether the answer of a connection that is over was lost.
+    /// Notes the loss of a connection that is over, if its answer was lost.
     pub fn note_loss(&mut self, over: Leaving<R, W>)
-        ensures ends { (over.stage ≡ Done) ⊎ ((cause : Why) × (over.stage ≡ Lost cause)) →
+        // It is let go: all of its answer was sent, or its loss is noted, once.
+        ensures ends { (over.stage ≡ Done) ⊎ ((cause : Cause) × (over.stage ≡ Lost cause)) →
             LetsGo over self.old.losses self.new.losses }
         ensures same { (self.new.leaving ≡ self.old.leaving) × (self.new.slots ≡ self.old.slots) }
     {
@@ -171,8 +185,10 @@ impl<R: Inward + OpenStream + Drop, W: Outward + OpenStream + Drop> Held<R, W> {
         }
     }
 
-    /// Gives up each answer that is held. After that none is.
+    /// Gives up each connection whose request was judged, and holds none of them after that. What its peer hasn't got of its answer is
+    /// lost, for the cause Late.
     pub fn give_up_all(&mut self)
+        // No connection comes, and nothing happens to those that are held but deeds.
         ensures all { Goes self.old self.new }
         ensures none { self.new.leaving.items ≡ [] }
     {
@@ -183,7 +199,8 @@ impl<R: Inward + OpenStream + Drop, W: Outward + OpenStream + Drop> Held<R, W> {
         }
     }
 
-    /// Whether one is to be handed out.
+    /// Whether a connection is to be handed out: its request is whole, or nothing more of it comes, and less than 32 MiB of answers are
+    /// held beside the largest.
     pub fn has_whole(&self) -> bool
         ensures yes { result ≡ true → HasWhole self.now }
         ensures no { result ≡ false → ¬ (HasWhole self.now) }
@@ -191,7 +208,7 @@ impl<R: Inward + OpenStream + Drop, W: Outward + OpenStream + Drop> Held<R, W> {
         all_held_bytes(&self.leaving) < BUDGET && self.is_any_ready()
     }
 
-    /// Whether a request is whole, or nothing more of it comes.
+    /// Whether the request of a connection that is held is whole, or nothing more of it comes.
     fn is_any_ready(&self) -> bool
         ensures yes { result ≡ true → ¬ (HoldsOfNone IsReady self.now.slots.items) }
         ensures no { result ≡ false → HoldsOfNone IsReady self.now.slots.items }
@@ -199,7 +216,8 @@ impl<R: Inward + OpenStream + Drop, W: Outward + OpenStream + Drop> Held<R, W> {
         any(&self.slots, &Ready)
     }
 
-    /// The longest connected one whose request is whole, or of which nothing more comes. None while too much of answers is held.
+    /// Takes the connection that came first of those whose request is whole, or of which nothing more comes. None if there is none, and
+    /// while 32 MiB of answers or more are held beside the largest.
     pub fn next_whole(&mut self) -> Option<Slot<R, W>>
         ensures { TakesSlot (book_of self.old) result (book_of self.new) }
     {
@@ -212,6 +230,7 @@ impl<R: Inward + OpenStream + Drop, W: Outward + OpenStream + Drop> Held<R, W> {
 
     /// For how long the oldest unfinished request can't be ended yet. None if it can be, or if there is none.
     pub fn spared_time(&self, now: Duration) -> Option<Duration>
+        // The result is that of the oldest one: 201 milliseconds from when it came.
         ensures oldest { OfFirst IsUnfinished (IsSpared now result) self.now.slots.items }
         ensures none { HoldsOfNone IsUnfinished self.now.slots.items → result ≡ None }
     {
@@ -223,29 +242,36 @@ impl<R: Inward + OpenStream + Drop, W: Outward + OpenStream + Drop> Held<R, W> {
         if left.is_zero() { None } else { Some(left) }
     }
 
-    /// Gathers what is there; whether anything changed.
+    /// Gathers what is there of each request that is due, or of the first unfinished one alone while 32 MiB of requests or more are
+    /// gathered; whether anything changed.
     pub fn gather(&mut self, routes: &Routes, now: Duration) -> bool
+        // No connection comes, and nothing happens to those that are held but deeds.
         ensures all { Goes self.old self.new }
 
-        // Each that is due is read, or is to be handed out after this; of very much the first unfinished one.
+        // Each that is due is read, or is to be handed out after this; while 32 MiB are gathered, the first unfinished one.
         ensures reads { ReadsDue (gathered_of self.old.slots.items < BUDGET) self.old.slots.items self.new.slots.items }
+        // When each came stays, bytes that come are heard at this time, and whether either is too long ago is seen by this time.
         ensures times { Each (IsTimed now) self.old.slots.items self.new.slots.items }
     {
         gather_all(&mut self.slots, routes, now)
     }
 
-    /// Has those be looked at that have this mark.
+    /// Has the next round look at each connection that has this mark.
     pub fn wake_at(&mut self, mark: usize)
+        // No connection comes, and nothing happens to those that are held but deeds.
         ensures all { Goes self.old self.new }
+        // Each request with this mark is due, and those that were due stay so.
         ensures wakes { Each (IsWokenFor (λ it. it ≡ mark)) self.old.slots.items self.new.slots.items }
     {
         wake_slots(&mut self.slots, mark);
         wake_leaving(&mut self.leaving, mark);
     }
 
-    /// Has each be looked at.
+    /// Has the next round look at each connection.
     pub fn wake_all(&mut self)
+        // No connection comes, and nothing happens to those that are held but deeds.
         ensures all { Goes self.old self.new }
+        // Each request is due.
         ensures wakes { Each (IsWokenFor (λ _. ⊤)) self.old.slots.items self.new.slots.items }
     {
         wake_all_slots(&mut self.slots);
@@ -254,8 +280,11 @@ impl<R: Inward + OpenStream + Drop, W: Outward + OpenStream + Drop> Held<R, W> {
 
     /// If too much of answers is held and a request is whole, gives up an answer of which its peer took nothing for a while.
     pub fn relieve(&mut self, now: Duration)
+        // No connection comes, and nothing happens to those that are held but deeds.
         ensures all { Goes self.old self.new }
         ensures slots { self.new.slots ≡ self.old.slots }
+        // While 32 MiB of answers are held beside the largest and a request is whole, the first answer that is stuck is given up; else
+        // none.
         ensures relieves { Relieves now self.old self.new }
     {
         if all_held_bytes(&self.leaving) < BUDGET || !self.is_any_ready() {

@@ -2,8 +2,7 @@
 
 ghost use Rattle.std.specs.Prelude.{◌≡◌, ◌≢◌, ◌≤◌, ◌<◌, ◌+◌, ◌-◌, ◌*◌, ◌/◌, ◌⊎◌, ℕ, List, length, drop, true, false, IfSome, IfNone};
 ghost use Rattle.std.specs.Io.KnownBytes.{Consumes, Keeps, append_known};
-ghost use Rattle.moo_arrivals.specs.declared.cause.Cause.TheVariants.{Late as TooLate};
-ghost use Rattle.moo_desk.specs.declared.leaving.Stage.TheVariants.{Sending as StillSends, Lingering, Done, Lost};
+ghost use Rattle.moo_desk.specs.declared.leaving.Stage.TheVariants.{Lingering, Done, Lost};
 ghost use Rattle.moo_desk.specs.Read.{IsLonger};
 ghost use Rattle.moo_desk.specs.Stages.{IsSentAt, MayFollow, ended, patience_of};
 
@@ -18,19 +17,22 @@ use std::time::Duration;
 /// For how many seconds an answer is sent, beside one for each million bytes.
 const PATIENCE: u64 = 60;
 
+/// For how many bytes of an answer one more second is given.
 const MEGABYTE: usize = 1_000_000;
 
 /// After how many seconds in which its peer takes nothing an answer may be given up if too much of answers is held.
 const STALL: u64 = 1;
 
-/// For how many seconds a peer is listened to after its answer, and how many bytes are thrown away.
+/// For how many seconds a peer is listened to after its answer.
 const LINGER: u64 = 1;
 
+/// How many bytes of a peer are thrown away after its answer.
 const DRAIN: usize = 65_536;
 
+/// How many bytes of a peer are thrown away at once.
 const PIECE: usize = 4096;
 
-/// What is done with it.
+/// What is done with a connection after its request was judged.
 #[derive(Clone, Copy, Drop)]
 pub enum Stage {
     /// Its answer is sent.
@@ -53,6 +55,7 @@ pub struct Leaving<R, W> {
     pub stage: Stage,
     /// When it came to this stage.
     pub since: Duration,
+    /// How many bytes that its peer sent were thrown away.
     pub drained: usize,
     /// When its peer took or sent something last.
     pub moved: Duration,
@@ -64,21 +67,21 @@ pub struct Leaving<R, W> {
 }
 
 impl<R, W> Leaving<R, W> {
-    /// It is looked at if it has this mark.
+    /// Has the next round look at this connection, if it has this mark.
     pub fn wake_at(&mut self, mark: usize)
         ensures { (self.new.writer ≡ self.old.writer) × (self.new.route ≡ self.old.route) × (self.new.stage ≡ self.old.stage) }
     {
         self.is_due |= self.mark == mark;
     }
 
-    /// It is looked at, since something may have changed.
+    /// Has the next round look at this connection, since something may have changed.
     pub fn wake(&mut self)
         ensures { (self.new.writer ≡ self.old.writer) × (self.new.route ≡ self.old.route) × (self.new.stage ≡ self.old.stage) }
     {
         self.is_due = true;
     }
 
-    /// Whether it is at its stage for more seconds than these.
+    /// Whether the connection came to its stage more than so many seconds ago.
     fn has_waited(&self, now: Duration, seconds: u64) -> bool
         ensures yes { result ≡ true → IsLonger (seconds * 1_000_000_000) self.now.since now }
         ensures no { result ≡ false → ¬ (IsLonger (seconds * 1_000_000_000) self.now.since now) }
@@ -86,9 +89,9 @@ impl<R, W> Leaving<R, W> {
         now.saturating_sub(self.since) > Duration::from_secs(seconds)
     }
 
-    /// For how many seconds its answer may be sent.
+    /// For how many seconds its answer may be sent: 60, and one for each million bytes.
     fn patience(&self) -> u64
-        ensures { result ≡ patience_of StillSends (length self.now.writer.text.items) }
+        ensures { result ≡ patience_of Stage.Sending (length self.now.writer.text.items) }
     {
         PATIENCE.saturating_add((self.writer.text.len() / MEGABYTE) as u64)
     }
@@ -97,7 +100,7 @@ impl<R, W> Leaving<R, W> {
 impl<R: Inward + OpenStream, W: Outward + OpenStream> Leaving<R, W> {
     ghost use Rattle.moo_desk.specs.Choices.{IsLate, IsStuck, held_of};
 
-    /// Whether bytes came that weren't read.
+    /// Whether the peer sent bytes that weren't read: gathered ones, or one that the socket has now.
     fn has_more(&self) -> bool
         ensures { self.now.reader.at < length self.now.reader.bytes.items → result ≡ true }
     {
@@ -106,9 +109,12 @@ impl<R: Inward + OpenStream, W: Outward + OpenStream> Leaving<R, W> {
             || matches!(self.reader.reader.peek(&mut byte), Ok(1))
     }
 
-    /// Closes it as it is to be closed, now that its answer is sent. If gently, its peer is told that nothing more is written.
+    /// Closes the connection after all of its answer was sent, as its `closing` says. If that is gently, its peer is told that nothing more
+    /// is written, and is listened to; else nothing more is done.
     fn close(&mut self, now: Duration)
+        // All of its answer was sent.
         requires { self.old.writer.sent ≡ length self.old.writer.text.items }
+        // Nothing more of its answer is sent.
         ensures same { (self.new.writer.text ≡ self.old.writer.text) × (self.new.writer.sent ≡ self.old.writer.sent)
             × (self.new.writer.writer ≡ self.old.writer.writer) × (self.new.route ≡ self.old.route) }
         ensures gentle { self.old.closing ≡ Closing.Gently → self.new.stage ≡ Lingering }
@@ -128,16 +134,21 @@ impl<R: Inward + OpenStream, W: Outward + OpenStream> Leaving<R, W> {
         }
     }
 
-    /// Sends what its peer takes now; whether it took any.
+    /// Sends what the peer takes now of the answer, or closes the connection if all was sent; whether any went, or it was closed. The
+    /// answer is lost if its writer failed, or if the peer takes nothing and the patience is over.
     fn send(&mut self, now: Duration) -> bool
-        requires { self.old.stage ≡ StillSends }
+        requires { self.old.stage ≡ Stage.Sending }
         ensures answer { (self.new.writer.text.items ≡ self.old.writer.text.items) × (self.new.route ≡ self.old.route) }
+        // What the writer has and what is still unsent, joined, is as before.
         ensures invisible { Keeps (append_known (W.contents self.old.writer.writer) (drop self.old.writer.sent self.old.writer.text.items))
             (append_known (W.contents self.new.writer.writer) (drop self.new.writer.sent self.new.writer.text.items)) }
         ensures peer { W.peer self.new.writer.writer ≡ W.peer self.old.writer.writer }
+        // One that is to be closed gently isn't let go before its peer was listened to.
         ensures gentle { self.old.closing ≡ Closing.Gently → self.new.stage ≢ Done }
-        ensures late { self.new.stage ≡ Lost TooLate → IsLate now self.old }
-        ensures patient { result ≡ false → (self.new.stage ≡ StillSends) ⊎ (self.new.stage ≡ Lingering) → ¬ (IsLate now self.new) }
+        // It is given up as late only after its patience.
+        ensures late { self.new.stage ≡ Lost Cause.Late → IsLate now self.old }
+        // If nothing went and it is still held, its patience isn't over.
+        ensures patient { result ≡ false → (self.new.stage ≡ Stage.Sending) ⊎ (self.new.stage ≡ Lingering) → ¬ (IsLate now self.new) }
     {
         if self.writer.unsent() == 0 {
             self.close(now);
@@ -155,15 +166,19 @@ impl<R: Inward + OpenStream, W: Outward + OpenStream> Leaving<R, W> {
         false
     }
 
-    /// Throws away a piece of what its peer sent; whether there was any. In all 65,536 bytes are taken at most.
+    /// Throws away up to 4,096 bytes of what the peer sent; whether there were any. After 65,536 bytes in all, after 1 second, and once the
+    /// peer has ended or its reader failed, nothing more is done with the connection.
     fn drain(&mut self, now: Duration) -> bool
         requires { self.old.stage ≡ Lingering }
         ensures same { (self.new.writer ≡ self.old.writer) × (self.new.route ≡ self.old.route) }
+        // Its peer is still listened to, or it is let go.
         ensures stage { MayFollow Lingering self.new.stage }
         ensures few { self.old.drained ≤ 65536 → self.new.drained ≤ 65536 }
+        // Each byte that is taken of the peer is counted.
         ensures takes { (bytes : List ℕ) × Consumes (R.remaining self.old.reader.reader) (R.remaining self.new.reader.reader) bytes
             × (self.old.drained + length bytes ≡ self.new.drained) }
-        ensures patient { result ≡ false → (self.new.stage ≡ StillSends) ⊎ (self.new.stage ≡ Lingering) → ¬ (IsLate now self.new) }
+        // If none came and its peer is still listened to, that isn't for longer than it may be.
+        ensures patient { result ≡ false → (self.new.stage ≡ Stage.Sending) ⊎ (self.new.stage ≡ Lingering) → ¬ (IsLate now self.new) }
     {
         let mut piece = [0; PIECE];
         if self.drained >= DRAIN || self.has_waited(now, LINGER) {
@@ -186,10 +201,12 @@ impl<R: Inward + OpenStream, W: Outward + OpenStream> Leaving<R, W> {
         false
     }
 
-    /// Does what can be done without waiting; whether anything went or came. It isn't due if nothing did.
+    /// Sends what the peer takes of its answer now, or throws away what it sent after that; whether anything went or came. Nothing is
+    /// waited for. The connection isn't due after this if nothing went or came.
     pub fn step(&mut self, now: Duration) -> bool
-        // Its answer stays the same. Of what is written, now or later, nothing changes.
+        // Its answer and its route stay.
         ensures answer { (self.new.writer.text.items ≡ self.old.writer.text.items) × (self.new.route ≡ self.old.route) }
+        // What the writer has and what is still unsent, joined, is as before.
         ensures invisible { Keeps (append_known (W.contents self.old.writer.writer) (drop self.old.writer.sent self.old.writer.text.items))
             (append_known (W.contents self.new.writer.writer) (drop self.new.writer.sent self.new.writer.text.items)) }
         ensures peer { W.peer self.new.writer.writer ≡ W.peer self.old.writer.writer }
@@ -197,10 +214,11 @@ impl<R: Inward + OpenStream, W: Outward + OpenStream> Leaving<R, W> {
         ensures whole { IsSentAt self.new.stage → self.new.writer.sent ≡ length self.new.writer.text.items }
         ensures stage { MayFollow self.old.stage self.new.stage }
         // After a refusal, which is closed gently, its peer is listened to first.
-        ensures gentle { self.old.closing ≡ Closing.Gently → self.old.stage ≡ StillSends → self.new.stage ≢ Done }
-        // An answer is given up as late only after its patience, and one of which nothing goes isn't held longer; nor is a peer listened to.
-        ensures late { self.old.stage ≡ StillSends → self.new.stage ≡ Lost TooLate → IsLate now self.old }
-        ensures patient { result ≡ false → (self.new.stage ≡ StillSends) ⊎ (self.new.stage ≡ Lingering) → ¬ (IsLate now self.new) }
+        ensures gentle { self.old.closing ≡ Closing.Gently → self.old.stage ≡ Stage.Sending → self.new.stage ≢ Done }
+        // An answer is given up as late only after its patience.
+        ensures late { self.old.stage ≡ Stage.Sending → self.new.stage ≡ Lost Cause.Late → IsLate now self.old }
+        // One of which nothing goes isn't held for longer than that, nor is a peer that sends nothing listened to for longer than 1 second.
+        ensures patient { result ≡ false → (self.new.stage ≡ Stage.Sending) ⊎ (self.new.stage ≡ Lingering) → ¬ (IsLate now self.new) }
     {
         let went = match self.stage {
             Stage::Sending => self.send(now),
@@ -214,9 +232,11 @@ impl<R: Inward + OpenStream, W: Outward + OpenStream> Leaving<R, W> {
         went
     }
 
-    /// Does what can be done at once.
+    /// Begins to send the answer: takes one step, and a second one if anything went in the first. A short answer is sent and its connection
+    /// closed so, without a wait.
     pub fn begin(&mut self, now: Duration)
         ensures answer { (self.new.writer.text.items ≡ self.old.writer.text.items) × (self.new.route ≡ self.old.route) }
+        // What the writer has and what is still unsent, joined, is as before.
         ensures invisible { Keeps (append_known (W.contents self.old.writer.writer) (drop self.old.writer.sent self.old.writer.text.items))
             (append_known (W.contents self.new.writer.writer) (drop self.new.writer.sent self.new.writer.text.items)) }
         ensures peer { W.peer self.new.writer.writer ≡ W.peer self.old.writer.writer }
@@ -225,9 +245,10 @@ impl<R: Inward + OpenStream, W: Outward + OpenStream> Leaving<R, W> {
         let _went = self.step(now) && self.step(now);
     }
 
-    /// Does what can be done if it is due.
+    /// Takes a step if the connection is due; whether anything went or came.
     pub fn turn(&mut self, now: Duration) -> bool
         ensures answer { (self.new.writer.text.items ≡ self.old.writer.text.items) × (self.new.route ≡ self.old.route) }
+        // What the writer has and what is still unsent, joined, is as before.
         ensures invisible { Keeps (append_known (W.contents self.old.writer.writer) (drop self.old.writer.sent self.old.writer.text.items))
             (append_known (W.contents self.new.writer.writer) (drop self.new.writer.sent self.new.writer.text.items)) }
         ensures peer { W.peer self.new.writer.writer ≡ W.peer self.old.writer.writer }
@@ -236,11 +257,13 @@ impl<R: Inward + OpenStream, W: Outward + OpenStream> Leaving<R, W> {
         self.is_due && self.step(now)
     }
 
-    /// Nothing more is waited for, for this cause: what its peer hasn't got of its answer is lost. If it only listens it is let go.
+    /// Gives the connection up for this cause: an answer that is still being sent is lost, and a peer isn't listened to any more.
     pub fn give_up(&mut self, cause: Cause)
         ensures same { (self.new.writer ≡ self.old.writer) × (self.new.route ≡ self.old.route) }
         ensures stage { MayFollow self.old.stage self.new.stage }
+        // Nothing more is done with it.
         ensures over { (self.new.stage ≡ Done) ⊎ ((cause : _) × (self.new.stage ≡ Lost cause)) }
+        // An answer that was still being sent is lost for this cause, and one that was lost before keeps its cause.
         ensures ends { self.new.stage ≡ ended cause self.old.stage }
     {
         match self.stage {
@@ -250,7 +273,7 @@ impl<R: Inward + OpenStream, W: Outward + OpenStream> Leaving<R, W> {
         }
     }
 
-    /// Whether its answer is held, and its peer took nothing of it for a while.
+    /// Whether its answer is held, and its peer took nothing of it for over 1 second.
     pub fn is_stuck(&self, now: Duration) -> bool
         ensures yes { result ≡ true → IsStuck now self.now }
         ensures no { result ≡ false → ¬ (IsStuck now self.now) }
@@ -259,13 +282,15 @@ impl<R: Inward + OpenStream, W: Outward + OpenStream> Leaving<R, W> {
             && now.saturating_sub(self.moved) > Duration::from_secs(STALL)
     }
 
+    /// Whether nothing more is done with the connection: it was closed, or its answer was lost.
     pub fn is_over(&self) -> bool
-        ensures holds { result ≡ false → (self.now.stage ≡ StillSends) ⊎ (self.now.stage ≡ Lingering) }
+        ensures holds { result ≡ false → (self.now.stage ≡ Stage.Sending) ⊎ (self.now.stage ≡ Lingering) }
         ensures over { result ≡ true → (self.now.stage ≡ Done) ⊎ ((cause : _) × (self.now.stage ≡ Lost cause)) }
     {
         matches!(self.stage, Stage::Done | Stage::Lost(_))
     }
 
+    /// Whether all of its answer was sent, and it only waits for its peer's last bytes.
     pub fn is_lingering(&self) -> bool
         ensures yes { result ≡ true → self.now.stage ≡ Lingering }
         ensures no { result ≡ false → self.now.stage ≢ Lingering }
@@ -273,7 +298,7 @@ impl<R: Inward + OpenStream, W: Outward + OpenStream> Leaving<R, W> {
         matches!(self.stage, Stage::Lingering)
     }
 
-    /// What is told of it, if its answer was lost.
+    /// The route and the cause of its loss, if its answer was lost. None if it wasn't.
     pub fn loss(&self) -> Option<Loss>
         ensures told { IfSome result (λ loss. (loss.route ≡ self.now.route) × (self.now.stage ≡ Lost loss.cause)) }
         ensures none { IfNone result ((cause : _) → self.now.stage ≢ Lost cause) }
@@ -287,7 +312,7 @@ impl<R: Inward + OpenStream, W: Outward + OpenStream> Leaving<R, W> {
         }
     }
 
-    /// How many bytes of its answer are held.
+    /// How many bytes of its answer are still to be sent: 0 if it is lost.
     pub fn held_bytes(&self) -> usize
         ensures { result ≡ held_of self.now }
     {

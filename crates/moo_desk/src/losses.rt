@@ -15,7 +15,7 @@ pub struct Losses {
 }
 
 impl Losses {
-    /// None, with room for so many.
+    /// No losses, with room for so many. The error: memory ran out.
     pub fn new(alloc: Global, room: usize) -> Result<Losses, AllocError>
         ensures { IfOk result (λ losses. (losses.all.items ≡ []) × (losses.more ≡ 0)) }
     {
@@ -25,7 +25,7 @@ impl Losses {
         })
     }
 
-    /// One more was lost.
+    /// Notes one more loss. If memory runs out, only that there is one more is noted, up to 4,294,967,295.
     pub fn add(&mut self, loss: Loss)
         ensures { NotesLoss self.old loss self.new }
     {
@@ -34,7 +34,8 @@ impl Losses {
         }
     }
 
-    /// Takes one of them, to be told of.
+    /// Takes one loss, to be told of. After those that were noted, it takes those for which there was no memory, each with the route
+    /// Unknown and the cause OutOfMemory. None if there is none.
     pub fn take(&mut self) -> Option<Loss>
         ensures { TellsOf self.old result self.new }
     {

@@ -31,7 +31,7 @@ pub struct Outgoing<W> {
 }
 
 impl<W> Outgoing<W> {
-    /// Nothing is to be sent yet.
+    /// A writer with no text to send yet.
     pub fn new(alloc: Global, writer: W) -> Outgoing<W>
         ensures { (result.writer ≡ writer) × (result.text.items ≡ []) × (result.sent ≡ 0) }
     {
@@ -42,7 +42,7 @@ impl<W> Outgoing<W> {
         }
     }
 
-    /// How many bytes weren't sent yet.
+    /// How many bytes of the text weren't sent yet.
     pub fn unsent(&self) -> usize
         ensures { result ≡ length self.now.text.items - self.now.sent }
     {
@@ -51,10 +51,12 @@ impl<W> Outgoing<W> {
 }
 
 impl<W: Outward> Outgoing<W> {
-    /// Hands on what the writer takes now. Of what is written, now or later, nothing changes.
+    /// Hands the writer the next bytes of the text, up to 262,144. Stuck if the writer takes none now; Broken if it failed, or takes
+    /// no more.
     pub fn send(&mut self) -> Sending
         ensures text { self.new.text ≡ self.old.text }
         ensures peer { W.peer self.new.writer ≡ W.peer self.old.writer }
+        // What the writer has and what is still unsent, joined, is as before.
         ensures invisible { Keeps (append_known (W.contents self.old.writer) (drop self.old.sent self.old.text.items))
             (append_known (W.contents self.new.writer) (drop self.new.sent self.new.text.items)) }
     {

@@ -1,4 +1,4 @@
-//! What is done for all connections in a round.
+//! What a round does for all connections.
 
 ghost use Rattle.std.specs.Prelude.{◌≡◌, ◌<◌, ⊤, min};
 ghost use Rattle.moo_desk.specs.Choices.{answers_of};
@@ -16,14 +16,18 @@ use std::time::Duration;
 /// How many bytes are gathered at once, and how many of answers are held, beside the largest of each.
 pub const BUDGET: usize = 32 * 1024 * 1024;
 
-/// Steps each that is due, but only the oldest unfinished one once too much was gathered; whether anything changed.
+/// Takes what is there of each request that is due, but of the oldest unfinished one alone while 32 MiB of requests or more are gathered;
+/// whether anything changed.
 pub fn gather_all<R: Inward, W: Outward>(
     slots: &mut [Slot<R, W>],
     routes: &Routes,
     now: Duration,
 ) -> bool
+    // Each connection is as it was, but for what was gathered of its request.
     ensures gathers { Each IsGathered slots.old slots.new }
+    // Each that is due is read, or is to be handed out after this; while 32 MiB are gathered, the first unfinished one.
     ensures reads { ReadsDue (gathered_of slots.old < BUDGET) slots.old slots.new }
+    // When each came stays, bytes that come are heard at this time, and whether either is too long ago is seen by this time.
     ensures times { Each (IsTimed now) slots.old slots.new }
 {
     let is_full = gathered_bytes(slots) >= BUDGET;
@@ -37,7 +41,7 @@ pub fn gather_all<R: Inward, W: Outward>(
     changed
 }
 
-/// How many bytes were gathered.
+/// How many bytes of requests are gathered, up to 18,446,744,073,709,551,615.
 fn gathered_bytes<R: Inward, W: Outward>(slots: &[Slot<R, W>]) -> usize
     ensures { result ≡ min (gathered_of slots.now) usize.MAX }
 {
@@ -48,11 +52,12 @@ fn gathered_bytes<R: Inward, W: Outward>(slots: &[Slot<R, W>]) -> usize
     sum
 }
 
-/// Steps each that is due; whether anything went or came.
+/// Takes a step for each connection whose request was judged and that is due; whether anything went or came.
 pub fn step_all<R: Inward + OpenStream, W: Outward + OpenStream>(
     leaving: &mut [Leaving<R, W>],
     now: Duration,
 ) -> bool
+    // Each connection is as it was, but for what was sent of its answer and what that led to.
     ensures { Each (IsLater W.Write W.peer) leaving.old leaving.new }
 {
     let mut changed = false;
@@ -62,7 +67,7 @@ pub fn step_all<R: Inward + OpenStream, W: Outward + OpenStream>(
     changed
 }
 
-/// How many bytes of answers are held, beside the largest.
+/// How many bytes of answers are still to be sent, beside those of the largest.
 pub fn all_held_bytes<R: Inward + OpenStream, W: Outward + OpenStream>(
     leaving: &[Leaving<R, W>],
 ) -> usize
@@ -78,8 +83,9 @@ pub fn all_held_bytes<R: Inward + OpenStream, W: Outward + OpenStream>(
     sum.saturating_sub(largest)
 }
 
-/// Has a wait end when bytes come of any whose request isn't whole.
+/// Has the next wait end when bytes come of a request that isn't whole.
 pub fn watch_all<G: Gate>(gate: &mut G, slots: &mut [Slot<G::Reader, G::Writer>])
+    // Nothing is read of a request, or given up.
     ensures all { Each IsGathered slots.old slots.new }
     ensures gate { G.gave gate.new ≡ G.gave gate.old }
 {
@@ -88,9 +94,10 @@ pub fn watch_all<G: Gate>(gate: &mut G, slots: &mut [Slot<G::Reader, G::Writer>]
     }
 }
 
-/// Has those requests be looked at that have this mark.
+/// Has the next round look at each request that has this mark.
 pub fn wake_slots<R: Inward, W: Outward>(slots: &mut [Slot<R, W>], mark: usize)
     ensures gathers { Each IsGathered slots.old slots.new }
+    // Each request with this mark is due, and those that were due stay so.
     ensures wakes { Each (IsWokenFor (λ it. it ≡ mark)) slots.old slots.new }
 {
     for slot in slots {
@@ -98,7 +105,7 @@ pub fn wake_slots<R: Inward, W: Outward>(slots: &mut [Slot<R, W>], mark: usize)
     }
 }
 
-/// Has those answers be looked at that have this mark.
+/// Has the next round look at each answer that has this mark.
 pub fn wake_leaving<R, W: Outward>(leaving: &mut [Leaving<R, W>], mark: usize)
     ensures { Each (IsLater W.Write W.peer) leaving.old leaving.new }
 {
@@ -107,9 +114,10 @@ pub fn wake_leaving<R, W: Outward>(leaving: &mut [Leaving<R, W>], mark: usize)
     }
 }
 
-/// Has each request be looked at.
+/// Has the next round look at each request.
 pub fn wake_all_slots<R: Inward, W: Outward>(slots: &mut [Slot<R, W>])
     ensures gathers { Each IsGathered slots.old slots.new }
+    // Each request is due.
     ensures wakes { Each (IsWokenFor (λ _. ⊤)) slots.old slots.new }
 {
     for slot in slots {
@@ -117,7 +125,7 @@ pub fn wake_all_slots<R: Inward, W: Outward>(slots: &mut [Slot<R, W>])
     }
 }
 
-/// Has each answer be looked at.
+/// Has the next round look at each answer.
 pub fn wake_all_leaving<R, W: Outward>(leaving: &mut [Leaving<R, W>])
     ensures { Each (IsLater W.Write W.peer) leaving.old leaving.new }
 {

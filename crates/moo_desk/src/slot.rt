@@ -27,7 +27,7 @@ const PATIENCE: u64 = 30;
 pub struct Slot<R: Inward, W: Outward> {
     pub reader: Gathered<R>,
     pub writer: Outgoing<W>,
-    /// Neither of them waits.
+    /// Neither the reader nor the writer ever waits.
     pub is_limited: bool,
     /// When it came, when bytes of it came last, and when it was last seen whether that is too long ago.
     pub since: Duration,
@@ -37,7 +37,7 @@ pub struct Slot<R: Inward, W: Outward> {
     pub cause: Cause,
     /// How many bytes the request has, once that is known.
     pub total: Option<usize>,
-    /// It is to be handed out.
+    /// It is to be handed out: its request is whole, or nothing more of it comes, or its waits aren't limited.
     pub rests: bool,
     /// By which a wait tells that bytes may have come.
     pub mark: usize,
@@ -59,10 +59,14 @@ pub struct Slot<R: Inward, W: Outward> {
     ghost idle: { ∥ (is_due ≡ false → HasFoundNothing R.reads reader.reader) ∥₁ },
 }
 
-/// How many bytes a request has that begins with these, once its head tells.
+/// How many bytes a request has that begins with these, if that was known before, or if these hold its head. None while more of the head is
+/// to come, and before the first byte.
 fn total_of(routes: &Routes, bytes: &[u8], known: Option<usize>) -> Option<usize>
+    // What was known before is so of these bytes too.
     requires { ∥ IsKnownFrom bytes.now known ∥₁ }
+    // The request is whole from so many bytes on.
     ensures known { ∥ IsKnownFrom bytes.now result ∥₁ }
+    // While it isn't known, the head has room for another byte.
     ensures room { length bytes.now ≤ limit_of known → result ≡ None → length bytes.now < limit_of None }
 {
     let count = bytes.len();
@@ -75,9 +79,11 @@ fn total_of(routes: &Routes, bytes: &[u8], known: Option<usize>) -> Option<usize
     }
 }
 
-/// Whether as many bytes came as the request has, if it begins with these.
+/// Whether these bytes are a whole request: as many as `total`. It isn't whole while that isn't known.
 fn is_whole(bytes: &[u8], total: Option<usize>) -> bool
+    // A request that begins with these bytes is whole from `total` on.
     requires known { ∥ IsKnownFrom bytes.now total ∥₁ }
+    // While that isn't known, its head has room for another byte.
     requires room { total ≡ None → length bytes.now < limit_of None }
     ensures whole { result ≡ true → ∥ IsWhole bytes.now ∥₁ }
     ensures room { result ≡ false → length bytes.now < limit_of total }
@@ -92,6 +98,8 @@ impl<R: Inward, W: Outward> Slot<R, W> {
     ghost use Rattle.moo_desk.specs.Later.{IsOnlyWoken};
     ghost use Rattle.moo_desk.specs.Rounds.{IsStale};
 
+    /// A connection that came now, of which nothing was read yet. If its reads may wait, it isn't read here: it is to be handed out at
+    /// once.
     pub fn new(
         alloc: Global,
         reader: R,
@@ -100,10 +108,13 @@ impl<R: Inward, W: Outward> Slot<R, W> {
         mark: usize,
         now: Duration,
     ) -> Slot<R, W>
+        // The reader and the writer are of one peer.
         requires { R.peer reader ≡ W.peer writer }
         ensures reader { (result.reader.reader ≡ reader) × (result.reader.bytes.items ≡ []) }
         ensures writer { (result.writer.writer ≡ writer) × (result.writer.sent ≡ 0) × (result.writer.text.items ≡ []) }
+        // The first round after this looks at it, and it came now.
         ensures due { (result.is_due ≡ true) × (result.mark ≡ mark) × (result.since ≡ now) × (result.heard ≡ now) }
+        // It is to be handed out at once only if its waits aren't limited.
         ensures limited { (result.is_limited ≡ is_limited) × (result.rests ≡ not is_limited) }
     {
         Slot {
@@ -122,7 +133,7 @@ impl<R: Inward, W: Outward> Slot<R, W> {
         }
     }
 
-    /// It is looked at, since bytes may have come.
+    /// Has the next round look at this request, since bytes may have come.
     pub fn wake(&mut self)
         ensures same { IsOnlyWoken self.old self.new }
         ensures due { self.new.is_due ≡ true }
@@ -130,7 +141,7 @@ impl<R: Inward, W: Outward> Slot<R, W> {
         self.is_due = true;
     }
 
-    /// It is looked at if it has this mark.
+    /// Has the next round look at this request, if it has this mark.
     pub fn wake_at(&mut self, mark: usize)
         ensures same { IsOnlyWoken self.old self.new }
         ensures due { self.old.mark ≡ mark → self.new.is_due ≡ true }
@@ -138,7 +149,7 @@ impl<R: Inward, W: Outward> Slot<R, W> {
         self.is_due |= self.mark == mark;
     }
 
-    /// From now on a wait ends when bytes come, if more are waited for and it can be watched.
+    /// Has each later wait of the gate end when bytes of this request come, if more are waited for, and if the gate can watch it.
     pub fn watch<G: Gate<Reader = R, Writer = W>>(&mut self, gate: &mut G)
         ensures same { IsOnlyWoken self.old self.new }
         ensures gate { G.gave gate.new ≡ G.gave gate.old }
@@ -148,13 +159,16 @@ impl<R: Inward, W: Outward> Slot<R, W> {
         }
     }
 
-    /// Nothing more is waited for, for this cause. What came of the request isn't judged, unless it is whole.
+    /// Gives up the request for this cause: nothing more of it is read, and it is to be handed out. What came of it isn't judged, unless it
+    /// is whole.
     pub fn give_up(&mut self, cause: Cause, now: Duration)
+        // The cause holds: a read failed, its peer was silent or slow for too long, another connection needs its place, or memory ran out.
         requires { ∥ MayGiveUp R.reads self.old.reader.reader self.old.since self.old.heard now cause ∥₁ }
         ensures stays { (self.new.reader.bytes ≡ self.old.reader.bytes) × (self.new.reader.at ≡ self.old.reader.at)
             × (self.new.reader.reader ≡ self.old.reader.reader) × (self.new.writer ≡ self.old.writer)
             × (self.new.is_limited ≡ self.old.is_limited) }
         ensures ends { (self.new.reader.coming ≡ Unread) × (self.new.rests ≡ true) × (self.new.cause ≡ cause) }
+        // When it came and when bytes came last stays, so that its type can keep why it was given up.
         ensures times { (self.new.since ≡ self.old.since) × (self.new.heard ≡ self.old.heard) × (self.new.looked ≡ now) }
     {
         self.looked = now;
@@ -163,8 +177,9 @@ impl<R: Inward, W: Outward> Slot<R, W> {
         self.rests = true;
     }
 
-    /// Its peer has ended. What came is judged.
+    /// Ends the request, since its peer has ended: it is to be handed out, and what came of it is judged.
     fn end(&mut self)
+        // The last read found the end.
         requires { ∥ LastGave R.reads (Ok 0) self.old.reader.reader ∥₁ }
         ensures stays { (self.new.reader.bytes ≡ self.old.reader.bytes) × (self.new.reader.at ≡ self.old.reader.at)
             × (self.new.reader.reader ≡ self.old.reader.reader) × (self.new.writer ≡ self.old.writer)
@@ -176,7 +191,8 @@ impl<R: Inward, W: Outward> Slot<R, W> {
         self.rests = true;
     }
 
-    /// Whether its request is unfinished, and may be given up if another connection needs its place.
+    /// Whether its request is unfinished, and came over 200 milliseconds ago, so that it may be given up if another connection needs its
+    /// place.
     pub fn is_stale(&self, now: Duration) -> bool
         ensures old { result ≡ true → IsStale now self.now }
         ensures young { result ≡ false → ¬ (IsStale now self.now) }
@@ -184,9 +200,12 @@ impl<R: Inward, W: Outward> Slot<R, W> {
         !self.rests && now.saturating_sub(self.since) > Duration::from_millis(GRACE)
     }
 
-    /// Why it was waited for long enough, if it was.
+    /// Why the request was waited for long enough: Silent if no byte came for over 10 seconds, Late if it came over 30 seconds ago. None if
+    /// it wasn't.
     fn lateness(&self, now: Duration) -> Option<Cause>
+        // It may be given up for this cause.
         ensures some { IfSome result (λ cause. MayGiveUp R.reads self.now.reader.reader self.now.since self.now.heard now cause) }
+        // It may be given up neither as silent nor as late.
         ensures none { IfNone result (¬ (MayGiveUp R.reads self.now.reader.reader self.now.since self.now.heard now Cause.Silent)
             × ¬ (MayGiveUp R.reads self.now.reader.reader self.now.since self.now.heard now Cause.Late)) }
     {
@@ -203,15 +222,20 @@ impl<R: Inward, W: Outward> Slot<R, W> {
 impl<R: Inward, W: Outward> Slot<R, W> {
     ghost use Rattle.moo_desk.specs.Rounds.{IsReadIfDue, IsTimed};
 
-    /// Takes what is there of its request, without waiting; whether anything changed. Whoever reads sees no difference.
+    /// Takes what is there of its request, without waiting; whether anything changed. It is to be handed out once it is whole, its peer has
+    /// ended, or it is given up. Whoever reads sees no difference.
     pub fn step(&mut self, routes: &Routes, now: Duration) -> bool
+        // What was gathered and not read yet and what the reader still has, joined, is as before.
         ensures invisible { Keeps (prepend_known (drop self.old.reader.at self.old.reader.bytes.items) (R.remaining self.old.reader.reader))
             (prepend_known (drop self.new.reader.at self.new.reader.bytes.items) (R.remaining self.new.reader.reader)) }
         ensures peer { R.peer self.new.reader.reader ≡ R.peer self.old.reader.reader }
         ensures writer { (self.new.writer ≡ self.old.writer) × (self.new.is_limited ≡ self.old.is_limited) }
+        // Once it is to be handed out nothing more is read of it, and it isn't given up.
         ensures rests { self.old.rests ≡ true →
             (self.new.rests ≡ true) × (self.new.reader ≡ self.old.reader) × (self.new.cause ≡ self.old.cause) }
+        // If it is unfinished and due it is read, or it is to be handed out after this.
         ensures read { IsReadIfDue self.old self.new }
+        // When it came stays, bytes that come are heard at this time, and whether either is too long ago is seen by this time.
         ensures times { IsTimed now self.old self.new }
     {
         if self.rests {
@@ -244,15 +268,19 @@ impl<R: Inward, W: Outward> Slot<R, W> {
         }
     }
 
-    /// Takes what is there of its request, if it may by now and is due.
+    /// Takes what is there of its request, if it `may` be read in this round and is due; whether anything changed.
     pub fn turn(&mut self, may: bool, routes: &Routes, now: Duration) -> bool
+        // What was gathered and not read yet and what the reader still has, joined, is as before.
         ensures invisible { Keeps (prepend_known (drop self.old.reader.at self.old.reader.bytes.items) (R.remaining self.old.reader.reader))
             (prepend_known (drop self.new.reader.at self.new.reader.bytes.items) (R.remaining self.new.reader.reader)) }
         ensures peer { R.peer self.new.reader.reader ≡ R.peer self.old.reader.reader }
         ensures writer { (self.new.writer ≡ self.old.writer) × (self.new.is_limited ≡ self.old.is_limited) }
+        // Once it is to be handed out nothing more is read of it, and it isn't given up.
         ensures rests { self.old.rests ≡ true →
             (self.new.rests ≡ true) × (self.new.reader ≡ self.old.reader) × (self.new.cause ≡ self.old.cause) }
+        // If it may be read, is unfinished and due, it is read, or it is to be handed out after this.
         ensures read { may ≡ true → IsReadIfDue self.old self.new }
+        // When it came stays, bytes that come are heard at this time, and whether either is too long ago is seen by this time.
         ensures times { IsTimed now self.old self.new }
     {
         may && self.is_due && self.step(routes, now)

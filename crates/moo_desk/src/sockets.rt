@@ -39,16 +39,19 @@ pub trait Sockets {
     /// What was asked, what came of it, and the sockets before and after that.
     ghost does: { Self → SocketCall Self.Socket Self.Reader Self.Writer → Self → Type 0 };
 
+    /// The system's number of the listener.
     fn listener_number(&self) -> RawFd
         ensures { result ≡ listener self.now };
 
+    /// The system's number of the socket that a reader is of.
     fn reader_number(&self, reader: &Self::Reader) -> RawFd
         ensures { result ≡ Self.Reader.peer reader.now };
 
+    /// The system's number of the socket that a writer is of.
     fn writer_number(&self, writer: &Self::Writer) -> RawFd
         ensures { result ≡ Self.Writer.peer writer.now };
 
-    /// Accepts the next connection, if one is there.
+    /// Accepts the next connection. An error of the kind WouldBlock if none is there, and another if one can't be accepted.
     fn accept(&mut self) -> Result<Self::Socket>
         ensures { does self.old (accepts result) self.new };
 
@@ -61,11 +64,13 @@ pub trait Sockets {
         ensures does { does self.old (splits socket result) self.new }
         ensures pair { IfSome result (λ both. (Self.Reader.peer both.0 ≡ number socket) × (Self.Writer.peer both.1 ≡ number socket)) };
 
-    /// Has a change of this source end a wait, which then tells this mark.
+    /// Has a change of this source end a wait, which then tells this mark. An error if the system can't watch it, as if it is registered
+    /// already.
     fn register(&mut self, source: RawFd, mark: usize, interest: Interest) -> Result<()>
         ensures { does self.old (registers source mark interest (is_ok result)) self.new };
 
-    /// The same of a source that is registered already.
+    /// Has a change of a source that is registered already end a wait, which then tells this mark in place of its earlier one. An error if
+    /// the system can't watch it, as if it isn't registered.
     fn reregister(&mut self, source: RawFd, mark: usize, interest: Interest) -> Result<()>
         ensures { does self.old (reregisters source mark interest (is_ok result)) self.new };
 
@@ -89,7 +94,7 @@ pub struct SocketGate<S> {
     ghost room: { events_capacity events ≡ MOST },
 }
 
-/// Whether the system has no room for another open file.
+/// Whether an error says that the system has no room for another open file, of this program or of all.
 fn is_no_file(error: &Error) -> bool
     ensures yes { result ≡ true → IsNoFile error.now }
     ensures no { result ≡ false → ¬ (IsNoFile error.now) }
@@ -100,7 +105,8 @@ fn is_no_file(error: &Error) -> bool
     }
 }
 
-/// What is said of a connection that couldn't be accepted.
+/// What a gate says if the system accepted no connection, by its error: Nobody if none is there, NoRoom if there is no room for another
+/// open file, else Failed.
 fn why_none<R, W>(error: &Error) -> Taken<R, W>
     ensures { SaysWhy error.now result }
 {
@@ -113,17 +119,19 @@ fn why_none<R, W>(error: &Error) -> Taken<R, W>
     }
 }
 
-/// Has a change of this source end a wait, though it may be registered already; whether it does.
+/// Has a change of this source end a wait, whether it is registered already or not; whether it does.
 fn watch_anew<S: Sockets>(sockets: &mut S, number: RawFd, mark: usize, interest: Interest) -> bool
+    // It is watched under this mark in place of an earlier one, if it had one.
     ensures { (writes : _) → IsFor writes interest → WatchesAnew S.does number mark writes result sockets.old sockets.new }
 {
     sockets.reregister(number, mark, interest).is_ok()
         || sockets.register(number, mark, interest).is_ok()
 }
 
-/// Tells the marks of these events.
+/// Lists the marks of these events, in their order.
 fn tell_marks(events: &Events, told: &mut Vec<usize>)
     requires none { told.old.items ≡ [] }
+    // The list has room for all of them, so that no memory is taken.
     requires room { length (events_items events.now) ≤ vec_capacity told.old }
     ensures marks { told.new.items ≡ marks_of (events_items events.now) }
     ensures room { vec_capacity told.new ≡ vec_capacity told.old }
@@ -134,8 +142,9 @@ fn tell_marks(events: &Events, told: &mut Vec<usize>)
 }
 
 impl<S: Sockets + Drop> SocketGate<S> {
-    /// A gate over these sockets. An error if the listener can't be watched.
+    /// A gate over these sockets. An error if the listener can't be watched, or if memory runs out.
     pub fn new(alloc: Global, mut sockets: S) -> Result<SocketGate<S>>
+        // It gave no connection yet, and a wait ends when one comes.
         ensures { IfOk result (λ gate. (gate.gave ≡ 0) × (gate.has_taken ≡ false)
             × Watches S.does (S.listener sockets) NEWS false true sockets gate.sockets) }
     {
@@ -153,10 +162,13 @@ impl<S: Sockets + Drop> SocketGate<S> {
 }
 
 impl<S: Sockets> SocketGate<S> {
-    /// Whether a connection was taken since the last wait, and the listener is watched anew.
+    /// Whether the next connection is to be asked for only after a wait: one was taken since the last wait, and the listener, which this
+    /// watches anew then, ends the wait if another is there.
     fn has_to_wait(&mut self) -> bool
+        // One was taken, and the listener is watched.
         ensures waits { result ≡ true → (self.old.has_taken ≡ true)
             × WatchesAnew S.does (S.listener self.old.sockets) NEWS false true self.old.sockets self.new.sockets }
+        // None was taken since the last wait, or the listener can't be watched.
         ensures asks { result ≡ false → Asks S.does (S.listener self.old.sockets) self.old.has_taken self.old.sockets self.new.sockets }
         ensures same { (self.new.has_taken ≡ self.old.has_taken) × (self.new.gave ≡ self.old.gave) }
     {

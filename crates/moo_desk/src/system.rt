@@ -96,7 +96,8 @@ pub struct SocketDesk<'a> {
 }
 
 impl<'a> SocketDesk<'a> {
-    /// Binds a port of 127.0.0.1. An error if it can't be bound.
+    /// Listens on a port of 127.0.0.1, and makes the desk of its connections. An error if the port can't be bound or watched, or if memory
+    /// runs out.
     pub fn listen(rt: &'a HostRuntime, port: u16) -> Result<SocketDesk<'a>>
         ensures { IfOk result (λ it. HoldsNone it.desk.held × (it.desk.gate.gave ≡ 0)) }
     {

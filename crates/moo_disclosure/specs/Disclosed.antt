@@ -25,7 +25,8 @@ use Rattle.moo_world.specs.declared.reason.Reason.TheVariants.{NoProperty, NotDe
 abbrev pub names_listed : World → ObjNo → ObjNo → List Name
 names_listed world programmer object = if may_read_object world programmer object then property_names_of world object else []
 
--- where the property of a call may be defined, on the object and its ancestors: on all of them, or on the object alone
+-- the objects on which the property of a call may be defined, of the object and its ancestors: all of them for a call that reads, sets or
+-- clears a property, the object alone for one that deletes or renames it, and none for another call
 abbrev pub objects_searched : CallName → List ObjNo → List ObjNo
 objects_searched call chain = elim call [
   | Get ↦ chain
@@ -38,21 +39,22 @@ objects_searched call chain = elim call [
   | _ ↦ []
 ]
 
--- the object and the name that a call begins with
+-- the object and the name that are a call's first two arguments
 abbrev pub property_given : List Value → Option (ObjNo × Name)
 property_given (Obj object ∷ Str name ∷ rest) = Some (object, name)
 property_given args = None
 
--- the object hasn't, or doesn't define, a property of the name
+-- whether the reason is that the object hasn't, or doesn't define, a property of the name
 abbrev pub lacks_property : Reason → Bool
 lacks_property reason = elim reason [ NoProperty object ↦ true | NotDefined object ↦ true | NotRenamed object ↦ true | _ ↦ false ]
 
--- the first 200 names that the programmer may list there, if the object has no property of the name
+-- the first 200 names that the programmer may list on the objects where the call looks for its property, if the object has no property of
+-- the name
 abbrev pub names_near : World → ObjNo → CallName → ObjNo × Name → List Name
 names_near world programmer call (object, name) = if is_some (slot_of world object (folded name)) then []
     else take 200 (flat_map (names_listed world programmer) (objects_searched call (chain world object)))
 
--- the names among which the call may have meant one
+-- the names among which the call may have meant one, if it was refused for the want of a property
 abbrev pub names_meant : World → ObjNo → CallName → List Value → Reason → List Name
 names_meant world programmer call args reason =
     if lacks_property reason then elim (property_given args) [ None ↦ [] | Some given ↦ names_near world programmer call given ] else []

@@ -12,7 +12,8 @@ use moo_value::{MooStr, ObjNo, Value};
 use moo_world::Reason;
 use std::alloc::{AllocError, Global};
 
-/// The first name of a property that an object defines and the new parent has, as long as not too many names were looked at.
+/// The first of the names of the properties which an object defines that the new parent has a property of. `None` if there is none among
+/// the first 200 names.
 fn name_shared<R: Rows>(rows: &R, definer: ObjNo, new: ObjNo) -> Option<&MooStr>
     requires { IsGood (R.held rows.now).maps }
     ensures { option_map (λ name. name.now) result ≡ name_shared (world_of (R.held rows.now).maps) definer new }
@@ -30,7 +31,7 @@ fn name_shared<R: Rows>(rows: &R, definer: ObjNo, new: ObjNo) -> Option<&MooStr>
     None
 }
 
-/// The new parent that a call of `chparent` gives.
+/// The new parent, the second argument of a `chparent`; `None` if that isn't an object.
 fn new_parent_given(args: &[Value]) -> Option<ObjNo>
     ensures { result ≡ new_parent_given args.now }
 {
@@ -40,8 +41,8 @@ fn new_parent_given(args: &[Value]) -> Option<ObjNo>
     }
 }
 
-/// The name of the property that keeps a call from being done, if the programmer may list what its definer defines. An `Err` is a lack of
-/// memory.
+/// The name of the property that keeps an object from its new parent. `None` if the call was refused for another reason, if the programmer
+/// may not list the properties of its definer, or if it isn't among the definer's first 200. The only error is out of memory.
 pub(crate) fn clash_name<R: Rows>(
     alloc: Global,
     rows: &R,

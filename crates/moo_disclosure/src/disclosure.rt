@@ -16,12 +16,12 @@ use std::alloc::{AllocError, Global};
 pub struct Disclosure {
     /// The names among which the call may have meant one.
     pub meant: Vec<MooStr>,
-    /// The name of the property that clashes with one of the call.
+    /// The name of the property that keeps an object from its new parent.
     pub clash: Option<MooStr>,
 }
 
-/// What the refusal of a call tells in the world of these rows. Of a call that a granted petition holds these may be half changed, and no
-/// name is told. An `Err` is a lack of memory.
+/// What the refusal of a call tells in the world of the rows. The refusal of a call that a granted petition holds (`is_held`) tells no
+/// name: the rows may be half changed. The only error is out of memory.
 pub fn disclosure_of<R: Rows>(
     alloc: Global,
     rows: &R,
@@ -31,11 +31,14 @@ pub fn disclosure_of<R: Rows>(
     reason: Reason,
     is_held: bool,
 ) -> Result<Disclosure, AllocError>
+    // The rows of a call that a granted petition holds may be half changed; those of others are good ones.
     requires { is_held ≡ false → IsGood (R.held rows.now).maps }
+    // It tells the names that the call may have meant, and the name that keeps the object from its new parent.
     ensures meant { IfOk result (λ told. is_held ≡ false →
         told.meant.items ≡ names_meant (world_of (R.held rows.now).maps) programmer call args.now reason) }
     ensures clash { IfOk result (λ told. is_held ≡ false →
         told.clash ≡ clash_name (world_of (R.held rows.now).maps) programmer args.now reason) }
+    // Of a call that a granted petition holds it tells no name.
     ensures held { IfOk result (λ told. is_held ≡ true → (told.meant.items ≡ []) × (told.clash ≡ None)) }
 {
     if is_held {

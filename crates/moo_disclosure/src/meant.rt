@@ -14,10 +14,11 @@ use moo_value::{MooStr, ObjNo, Value};
 use moo_world::{CallName, Reason};
 use std::alloc::{AllocError, Global};
 
-/// So many names are looked at, from the object up its ancestors: a refusal is told in the same time however many properties there are.
+/// The most names of properties that are looked at for one refusal, from the object up its ancestors: a refusal is told in a bounded time
+/// however many properties there are.
 pub(crate) const MOST_LOOKED_AT: usize = 200;
 
-/// Adds the names of the properties that an object defines, as long as there is room for them. An `Err` is a lack of memory.
+/// Adds the names of the properties that an object defines, in their order, until there are 200. The only error is out of memory.
 fn add_names<R: Rows>(
     alloc: Global,
     rows: &R,
@@ -25,6 +26,7 @@ fn add_names<R: Rows>(
     names: &mut Vec<MooStr>,
 ) -> Result<(), AllocError>
     requires good { IsGood (R.held rows.now).maps }
+    // There are at most 200 names yet.
     requires room { length names.old.items ≤ 200 }
     ensures { IfOk result (λ _. names.new.items
         ≡ take 200 (names.old.items ++ property_names_of (world_of (R.held rows.now).maps) x)) }
@@ -38,7 +40,7 @@ fn add_names<R: Rows>(
     Ok(())
 }
 
-/// Adds the names that the programmer may list on an object, as long as there is room for them. An `Err` is a lack of memory.
+/// Adds the names that the programmer may list on an object, in their order, until there are 200. The only error is out of memory.
 fn add_listed<R: Rows>(
     alloc: Global,
     rows: &R,
@@ -47,6 +49,7 @@ fn add_listed<R: Rows>(
     names: &mut Vec<MooStr>,
 ) -> Result<(), AllocError>
     requires good { IsGood (R.held rows.now).maps }
+    // There are at most 200 names yet.
     requires room { length names.old.items ≤ 200 }
     ensures { IfOk result (λ _. names.new.items
         ≡ take 200 (names.old.items ++ names_listed (world_of (R.held rows.now).maps) programmer x)) }
@@ -57,7 +60,7 @@ fn add_listed<R: Rows>(
     Ok(())
 }
 
-/// The first names that the programmer may list on these objects. An `Err` is a lack of memory.
+/// The first 200 names that the programmer may list on a list of objects, in order. The only error is out of memory.
 fn names_on<R: Rows>(
     alloc: Global,
     rows: &R,
@@ -75,8 +78,8 @@ fn names_on<R: Rows>(
     Ok(names)
 }
 
-/// The objects on which the property of a call may be defined: the object and its ancestors, or the object alone. An `Err` is a lack of
-/// memory.
+/// The objects on which the property of a call may be defined: the object and its ancestors for a call that reads, sets or clears a
+/// property, the object alone for `delete_property` and `set_property_info`, and none for another call. The only error is out of memory.
 fn objects_searched<R: Rows>(
     alloc: Global,
     rows: &R,
@@ -101,7 +104,7 @@ fn objects_searched<R: Rows>(
     }
 }
 
-/// The object and the name that a call begins with.
+/// The object and the name that are a call's first two arguments; `None` if they are others.
 fn property_given(args: &[Value]) -> Option<(ObjNo, &MooStr)>
     ensures { option_map (λ given. (given.0, given.1.now)) result ≡ property_given args.now }
 {
@@ -121,8 +124,8 @@ fn lacks_property(reason: Reason) -> bool
     )
 }
 
-/// The names among which a refused call may have meant one, all of which its programmer may list: none if it isn't refused for the want
-/// of a property, or if the object has one of the name that is given. An `Err` is a lack of memory.
+/// The names among which a refused call may have meant one: the first 200 that its programmer may list. None if the call isn't refused for
+/// the want of a property, or if the object has a property of the name that is given. The only error is out of memory.
 pub(crate) fn names_meant<R: Rows>(
     alloc: Global,
     rows: &R,

@@ -16,7 +16,7 @@ use Rattle.moo_world.specs.Objects.{same_object}
 use Rattle.moo_world.specs.Rows.{slot_seen, world_of}
 use Rattle.moo_world.specs.World.{chain}
 
--- the properties that d defines, of these
+-- the numbers of the properties that d defines, of some properties
 abbrev pub ids_defined_by : ObjNo → List (PropId × PropRow) → List PropId
 ids_defined_by d es = map (λ e. e.0) (filter (λ e. same_object e.1.definer d) es)
 
@@ -28,19 +28,20 @@ ids_defined t d = ids_defined_by d (entries t.props)
 abbrev pub ids_listed : BTreeMap ObjNo (Vec PropId) → ObjNo → List PropId
 ids_listed ids d = unwrap_or (option_map (λ v. v.items) (tree_get object_cmp ids d)) []
 
--- the line of a property
+-- the line of the property of a number, which x defines; nothing if no property has the number
 abbrev pub property_line_of : Maps → ObjNo → PropId → List ℕ
 property_line_of t x id = elim (get t.props id) [ None ↦ [] | Some p ↦ property_line x p.name ]
 
--- the line of the slot of a property on x
+-- the line of a slot on x, from the row of its property and its own; nothing without one of them
 abbrev pub slot_line_by : ObjNo → Option PropRow → Option SlotRow → List ℕ
 slot_line_by x (Some p) (Some s) = slot_line x (p.definer, p.name) (slot_seen p.definer s)
 slot_line_by x _ _ = []
 
+-- the line of the slot on x of the property of a number; nothing if x has no such slot
 abbrev pub slot_line_of : Maps → ObjNo → PropId → List ℕ
 slot_line_of t x id = slot_line_by x (get t.props id) (get t.slots (x, id))
 
--- the lines of the slots on x of what these objects define
+-- the lines of the slots on x of the properties that some objects define, by these objects in order
 abbrev pub slot_lines_over : Maps → ObjNo → List ObjNo → List ℕ
 slot_lines_over t x l = flat_map (λ d. flat_map (slot_line_of t x) (ids_defined t d)) l
 

@@ -2,7 +2,7 @@
 use Rattle.std.specs.Prelude.{Option}
 use Rattle.std.specs.Option.{option_map}
 use Rattle.moo_value.specs.declared.value.ObjNo.{ObjNo}
-use Rattle.moo_dump.specs.declared.seen.Look.{Look}
+use Rattle.moo_dump.specs.declared.looking.Look.{Look}
 use Rattle.moo_world.specs.ObjectLists.{children_of, contents_of}
 use Rattle.moo_world.specs.World.{World, WorldObject}
 
@@ -23,6 +23,6 @@ look_at w x r = record {
   contents = contents_of w x;
 }
 
--- None if x isn't an object
+-- what the object of a number looks like; `None` if no object has it
 abbrev pub look_of : World → ObjNo → Option Look
 look_of w x = option_map (look_at w x) (w.object x)

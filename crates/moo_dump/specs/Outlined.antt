@@ -3,7 +3,7 @@ use Rattle.moo_rows.specs.Maps.{Maps}
 use Rattle.moo_dump.specs.Lines.{ListsDefinitions, SkipUp}
 use Rattle.moo_dump.specs.declared.outline.Outline.{Outline}
 
--- it has what each object defines, and its entries lead up
+-- the outline has what each object defines, and each of its entries leads up the chain
 pub record IsOutline (t : Maps) (outline : Outline) : Type 0 where
   pub listed : ListsDefinitions t outline.definitions
   pub up : SkipUp t outline.skips

@@ -1,4 +1,4 @@
-//! A text, compared with the dump of rows.
+//! Comparing a text with the dump of rows.
 
 ghost use Rattle.std.specs.Prelude.{◌≡◌, ◌≢◌, ◌≤◌, ◌<◌, ◌++◌, ℕ, List, length, take, slice_get, IfOk, IfErr, OnOk};
 ghost use Rattle.moo_dump.specs.Difference.{TellsDifference};
@@ -19,7 +19,7 @@ use std::alloc::{AllocError, Global};
 /// Why a text wasn't found to be a dump.
 #[derive(Clone, Copy)]
 pub enum CompareFault {
-    /// The text isn't the dump: after so many bytes that they have in common one of them ends, or the next bytes differ.
+    /// The text isn't the dump: after this many bytes that they have in common one of them ends, or the next bytes differ.
     Differs(usize),
     /// Memory ran out.
     OutOfMemory,
@@ -35,8 +35,10 @@ impl From<AllocError> for CompareFault {
 
 /// How many bytes two texts have in common at the front.
 fn common_prefix_len(a: &[u8], b: &[u8]) -> usize
+    // Each of the two has so many bytes.
     ensures first { result ≤ length a.now }
     ensures second { result ≤ length b.now }
+    // These are the same, and the next byte of `b`, if there is one, isn't that of `a`.
     ensures shared { take result a.now ≡ take result b.now }
     ensures longest { result < length b.now → slice_get b.now result ≢ slice_get a.now result }
 {
@@ -50,11 +52,14 @@ fn common_prefix_len(a: &[u8], b: &[u8]) -> usize
     count
 }
 
-/// The place at which a text goes on after a piece of the dump, which begins at `at`.
+/// The place at which a text goes on after a piece of the dump, which begins at `at`. Differs if the text doesn't have the piece there.
 fn after_piece(text: &[u8], at: usize, piece: &[u8]) -> Result<usize, CompareFault>
+    // The text has the place `at`, and the place at which it goes on.
     requires { at ≤ length text.now }
     ensures within { IfOk result (λ next. next ≤ length text.now) }
+    // Up to there the text is what it was up to `at`, and then the piece.
     ensures ok { IfOk result (λ next. take next text.now ≡ take at text.now ++ piece.now) }
+    // A fault names the first difference, whatever the dump has after the piece.
     ensures err { IfErr result (λ fault. (rest : List ℕ) → TellsDifference (take at text.now ++ (piece.now ++ rest)) text.now fault) }
 {
     let count = common_prefix_len(&text[at..], piece);
@@ -64,7 +69,8 @@ fn after_piece(text: &[u8], at: usize, piece: &[u8]) -> Result<usize, CompareFau
     Ok(at + count)
 }
 
-/// The place at which a text goes on after the lines of the objects, which begin at `start`.
+/// The place at which a text goes on after the lines of the objects, which begin at `start`. Differs if the text doesn't have these lines
+/// there; OutOfMemory if memory runs out.
 fn after_objects<R: Rows>(
     alloc: Global,
     rows: &R,
@@ -73,10 +79,14 @@ fn after_objects<R: Rows>(
     start: usize,
 ) -> Result<usize, CompareFault>
     requires good { IsGood (R.held rows.now).maps }
+    // The outline is of these rows.
     requires outline { IsOutline (R.held rows.now).maps outline.now }
+    // The text has the place `start`, and the place at which it goes on.
     requires start { start ≤ length text.now }
     ensures within { IfOk result (λ next. next ≤ length text.now) }
+    // Up to there the text is what it was up to `start`, and then the lines of the objects.
     ensures ok { IfOk result (λ next. take next text.now ≡ take start text.now ++ objects_text (R.held rows.now).maps) }
+    // A fault names the first difference, whatever the dump has after these lines.
     ensures err { IfErr result (λ fault. (rest : List ℕ)
         → TellsDifference (take start text.now ++ (objects_text (R.held rows.now).maps ++ rest)) text.now fault) }
 {
@@ -88,16 +98,20 @@ fn after_objects<R: Rows>(
     Ok(at)
 }
 
-/// The place at which a text goes on after the lines of the petitions, which begin at `start`.
+/// The place at which a text goes on after the lines of the petitions, which begin at `start`. Differs if the text doesn't have these lines
+/// there; OutOfMemory if memory runs out.
 fn after_petitions<R: Rows>(
     alloc: Global,
     rows: &R,
     text: &[u8],
     start: usize,
 ) -> Result<usize, CompareFault>
+    // The text has the place `start`, and the place at which it goes on.
     requires { start ≤ length text.now }
     ensures within { IfOk result (λ next. next ≤ length text.now) }
+    // Up to there the text is what it was up to `start`, and then the lines of the petitions.
     ensures ok { IfOk result (λ next. take next text.now ≡ take start text.now ++ petitions_text (R.held rows.now).maps) }
+    // A fault names the first difference, whatever the dump has after these lines.
     ensures err { IfErr result (λ fault. (rest : List ℕ)
         → TellsDifference (take start text.now ++ (petitions_text (R.held rows.now).maps ++ rest)) text.now fault) }
 {
@@ -117,6 +131,7 @@ fn after_petitions<R: Rows>(
 pub fn compare<R: Rows>(alloc: Global, rows: &R, text: &[u8]) -> Result<(), CompareFault>
     requires { IsGood (R.held rows.now).maps }
     ensures ok { OnOk result (dump (state_of (R.held rows.now).maps) ≡ text.now) }
+    // A fault names the first difference, unless memory ran out.
     ensures err { IfErr result (TellsDifference (dump (state_of (R.held rows.now).maps)) text.now) }
 {
     let outline = outline_of(alloc, rows)?;

@@ -3,7 +3,7 @@
 ghost use Rattle.std.specs.Prelude.{◌≡◌, ◌++◌, [], ◌∷◌, OnOk, IfOk, if◌then◌else◌};
 ghost use Rattle.moo_dump.specs.Lines.{ListsDefinitions, ids_listed};
 ghost use Rattle.moo_world.specs.Objects.{same_object};
-ghost use Rattle.moo_value.specs.declared.value.ObjNo.{ObjNo as Object};
+ghost use Rattle.moo_value.specs.declared.value.ObjNo.{ObjNo};
 
 use moo_rows::{PropId, Rows, each_prop};
 use moo_value::ObjNo;
@@ -13,7 +13,7 @@ use std::collections::BTreeMap;
 /// The properties that each object defines, in the order of definition. An object that defines none needn't be there.
 pub(crate) type Definitions = BTreeMap<ObjNo, Vec<PropId>>;
 
-/// The properties that each object defines, by one walk over all of them.
+/// The properties that each object defines, by one walk over all properties. The only error is out of memory.
 pub(crate) fn all_definitions<R: Rows>(alloc: Global, rows: &R) -> Result<Definitions, AllocError>
     ensures { IfOk result (ListsDefinitions (R.held rows.now).maps) }
 {
@@ -24,14 +24,15 @@ pub(crate) fn all_definitions<R: Rows>(alloc: Global, rows: &R) -> Result<Defini
     Ok(definitions)
 }
 
-/// One more property that an object defines, the last one of its list.
+/// Adds a property that an object defines as the last one of its list. The only error is out of memory.
 fn add_definition(
     alloc: Global,
     definitions: &mut Definitions,
     definer: ObjNo,
     id: PropId,
 ) -> Result<(), AllocError>
-    ensures { OnOk result ((d : Object) →
+    // The list of that object has the property more, and every other list stays.
+    ensures { OnOk result ((d : ObjNo) →
         ids_listed definitions.new d ≡ ids_listed definitions.old d ++ (if same_object definer d then id ∷ [] else [])) }
 {
     match definitions.get_mut(&definer) {

@@ -1,4 +1,4 @@
-//! A dump.
+//! Dumping rows as text.
 
 ghost use Rattle.std.specs.Prelude.{◌≡◌, ℕ, take, IfOk, OnOk, OnErr};
 ghost use Rattle.std.specs.Io.KnownBytes.{Appends};
@@ -18,7 +18,8 @@ use moo_text::put_all;
 use std::alloc::{AllocError, Global};
 use std::io::Write;
 
-/// The lines of the counters.
+/// The first two lines of a dump: `seq` with how many batches were accepted, and `top` with the greatest number that an object was given.
+/// The only error is out of memory.
 #[tactic(auto, unfolding(moo_world::specs::Rows::world_shown))]
 pub(crate) fn heading_text<R: Rows>(alloc: Global, rows: &R) -> Result<Vec<u8>, AllocError>
     ensures { IfOk result (λ text. text.items ≡ heading (state_of (R.held rows.now).maps)) }
@@ -30,7 +31,8 @@ pub(crate) fn heading_text<R: Rows>(alloc: Global, rows: &R) -> Result<Vec<u8>, 
     Ok(text.into_bytes())
 }
 
-/// Writes the lines of the objects, ascending.
+/// Writes the lines of the objects, ascending. Write if the writer fails or takes no bytes, OutOfMemory if memory runs out; the beginning
+/// of the lines may be written then.
 fn put_objects<R: Rows, W: Write>(
     alloc: Global,
     rows: &R,
@@ -38,8 +40,10 @@ fn put_objects<R: Rows, W: Write>(
     output: &mut W,
 ) -> Result<(), RowsDumpFault>
     requires good { IsGood (R.held rows.now).maps }
+    // The outline is of these rows.
     requires outline { IsOutline (R.held rows.now).maps outline.now }
     ensures ok { OnOk result (Appends (W.contents output.old) (W.contents output.new) (objects_text (R.held rows.now).maps)) }
+    // At a fault the first bytes of the lines are written, some number of them.
     ensures err { OnErr result (AppendsFront (W.contents output.old) (W.contents output.new) (objects_text (R.held rows.now).maps)) }
 {
     for (x, _) in each_object(rows) {
@@ -49,13 +53,15 @@ fn put_objects<R: Rows, W: Write>(
     Ok(())
 }
 
-/// Writes the lines of the petitions, ascending.
+/// Writes the lines of the petitions, ascending. Write if the writer fails or takes no bytes, OutOfMemory if memory runs out; the
+/// beginning of the lines may be written then.
 fn put_petitions<R: Rows, W: Write>(
     alloc: Global,
     rows: &R,
     output: &mut W,
 ) -> Result<(), RowsDumpFault>
     ensures ok { OnOk result (Appends (W.contents output.old) (W.contents output.new) (petitions_text (R.held rows.now).maps)) }
+    // At a fault the first bytes of the lines are written, some number of them.
     ensures err { OnErr result (AppendsFront (W.contents output.old) (W.contents output.new) (petitions_text (R.held rows.now).maps)) }
 {
     for (id, row) in each_petition(rows) {
@@ -65,19 +71,20 @@ fn put_petitions<R: Rows, W: Write>(
     Ok(())
 }
 
-/// Writes all that the rows hold as text: `seq` with the number of the batches that were taken, `top` with the greatest
+/// Writes all that the rows hold as text: `seq` with how many batches were accepted, `top` with the greatest
 /// number that an object was given, and then for each object, ascending, the lines `object`, `property` for each name that
 /// it defines, `slot` for each property that it has, by definers from the object up its chain, and `verb` for each of its
 /// verbs; then for each petition, ascending, the line `petition`, with its number, who asks and the calls; then `end`.
 /// After `object`, `property`, `slot`, `verb` and `petition` comes a literal list.
 ///
-/// Write if the writer fails or takes no bytes, OutOfMemory if memory runs out; a front of the text is written then.
+/// Write if the writer fails or takes no bytes, OutOfMemory if memory runs out; the beginning of the text may be written then.
 ///
 /// All properties and all objects are gone over once, and then each object takes as many look-ups as it has lines. How long its chain
 /// is doesn't count.
 pub fn dump<R: Rows, W: Write>(alloc: Global, rows: &R, output: &mut W) -> Result<(), RowsDumpFault>
     requires { IsGood (R.held rows.now).maps }
     ensures ok { OnOk result (Appends (W.contents output.old) (W.contents output.new) (dump (state_of (R.held rows.now).maps))) }
+    // At a fault the first bytes are written, some number of them.
     ensures err { OnErr result ((count : ℕ)
         × Appends (W.contents output.old) (W.contents output.new) (take count (dump (state_of (R.held rows.now).maps)))) }
 {

@@ -12,7 +12,7 @@ use moo_verbs::{bits_letters, print_object_spec, print_prep};
 use moo_world::{accept_value, flag, list_of};
 use std::alloc::{AllocError, Global};
 
-/// Appends a word and a literal list of these values, as a line.
+/// Appends a line of a word and a literal list of values. The only error is out of memory; some of the bytes may be there then.
 fn put_line(
     alloc: Global,
     word: &[u8],
@@ -28,8 +28,9 @@ fn put_line(
     out.extend_from_slice(b"\n")
 }
 
-/// A text as a value.
+/// The string of a text that the server itself writes. The only error is out of memory.
 fn string(alloc: Global, text: &str) -> Result<Value, AllocError>
+    // The text has only characters that a string may have.
     requires { IsText text.now }
     ensures { IfOk result (λ v. v ≡ Value.Str text.now) }
 {
@@ -37,7 +38,7 @@ fn string(alloc: Global, text: &str) -> Result<Value, AllocError>
     Ok(Value::Str(MooStr::from_vec(bytes)))
 }
 
-/// Appends the line of an object.
+/// Appends the line of an object. The only error is out of memory; some of the bytes may be there then.
 pub(crate) fn put_object_line(
     alloc: Global,
     x: ObjNo,
@@ -65,7 +66,7 @@ pub(crate) fn put_object_line(
     put_line(alloc, b"object", values, out)
 }
 
-/// Appends the line of a property that x defines.
+/// Appends the line of a property that x defines. The only error is out of memory.
 pub(crate) fn put_property_line(
     alloc: Global,
     x: ObjNo,
@@ -79,7 +80,7 @@ pub(crate) fn put_property_line(
     put_line(alloc, b"property", values, out)
 }
 
-/// Appends the line of the slot of a property on x.
+/// Appends the line of the slot of a property on x. The only error is out of memory.
 pub(crate) fn put_slot_line(
     alloc: Global,
     x: ObjNo,
@@ -109,7 +110,8 @@ pub(crate) fn put_slot_line(
     put_line(alloc, b"slot", values, out)
 }
 
-/// The arguments that a verb takes, as texts.
+/// The argument specifiers of a verb as strings: the direct object, the preposition and the indirect object. The only error is out of
+/// memory.
 fn arg_strings(alloc: Global, args: ArgSpec) -> Result<(Value, Value, Value), AllocError>
     ensures dobj { IfOk result (λ texts. texts.0 ≡ Value.Str (object_spec_text args.dobj)) }
     ensures prep { IfOk result (λ texts. texts.1 ≡ Value.Str (prep_text args.prep)) }
@@ -121,7 +123,7 @@ fn arg_strings(alloc: Global, args: ArgSpec) -> Result<(Value, Value, Value), Al
     Ok((dobj, prep, iobj))
 }
 
-/// Appends the line of a verb of x.
+/// Appends the line of a verb of x. The only error is out of memory.
 pub(crate) fn put_verb_line(
     alloc: Global,
     x: ObjNo,
@@ -145,7 +147,7 @@ pub(crate) fn put_verb_line(
     put_line(alloc, b"verb", values, out)
 }
 
-/// The line of a petition.
+/// The line of a petition. The only error is out of memory.
 pub(crate) fn petition_text(
     alloc: Global,
     id: PetitionId,

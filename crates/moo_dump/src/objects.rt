@@ -11,12 +11,12 @@ ghost use Rattle.moo_world.specs.World.{IsTree, chain, directory_of};
 use crate::definitions::defined_by;
 use crate::lines::{put_object_line, put_property_line, put_slot_line, put_verb_line};
 use crate::outline::Outline;
-use crate::skips::past;
+use crate::skips::skip_up_from;
 use moo_rows::{PropId, Rows, VerbId, each_verb_of};
 use moo_value::ObjNo;
 use std::alloc::{AllocError, Global};
 
-/// Appends the lines of the properties that x defines.
+/// Appends the lines of the properties that x defines. The only error is out of memory; some of the bytes may be there then.
 fn put_properties<R: Rows>(
     alloc: Global,
     rows: &R,
@@ -34,7 +34,7 @@ fn put_properties<R: Rows>(
     Ok(())
 }
 
-/// Appends the line of the slot of a property on x, if it has one.
+/// Appends the line of the slot of a property on x; nothing if x has no such slot. The only error is out of memory.
 fn put_slot<R: Rows>(
     alloc: Global,
     rows: &R,
@@ -53,7 +53,7 @@ fn put_slot<R: Rows>(
     }
 }
 
-/// Appends the lines of the slots of these properties on x.
+/// Appends the lines of the slots of some properties on x, in order. The only error is out of memory.
 fn put_slots_of<R: Rows>(
     alloc: Global,
     rows: &R,
@@ -69,8 +69,8 @@ fn put_slots_of<R: Rows>(
     Ok(())
 }
 
-/// Appends the lines of the slots of x, by definers from x up its chain. Of the objects above x only those are passed that define
-/// something, and so have lines here.
+/// Appends the lines of the slots of x, by definers from x up its chain. The way up skips the objects that define nothing: they have no
+/// lines here. The only error is out of memory.
 fn put_slots<R: Rows>(
     alloc: Global,
     rows: &R,
@@ -78,20 +78,23 @@ fn put_slots<R: Rows>(
     x: ObjNo,
     out: &mut Vec<u8>,
 ) -> Result<(), AllocError>
+    // Parents and locations are objects or `#-1`, without loops.
     requires tree { IsTree (world_of (R.held rows.now).maps) }
+    // The outline is of these rows.
     requires outline { IsOutline (R.held rows.now).maps outline.now }
+    // The lines are those of the slots of all properties that an object of its chain defines.
     ensures { OnOk result (out.new.items
         ≡ out.old.items ++ slot_lines_over (R.held rows.now).maps x (chain (world_of (R.held rows.now).maps) x)) }
 {
     let mut at = x;
     while let Some(row) = rows.object(at) {
         put_slots_of(alloc, rows, x, defined_by(&outline.definitions, at), out)?;
-        at = past(&outline.skips, row.parent);
+        at = skip_up_from(&outline.skips, row.parent);
     }
     Ok(())
 }
 
-/// Appends the lines of the verbs of x, in the order of the directory.
+/// Appends the lines of the verbs of x, in the order of the directory. The only error is out of memory.
 fn put_verbs<R: Rows>(
     alloc: Global,
     rows: &R,
@@ -108,7 +111,8 @@ fn put_verbs<R: Rows>(
     Ok(())
 }
 
-/// The lines of an object: its row, the names that it defines, its slots by definers up its chain, its verbs.
+/// The lines of an object: its row, the names that it defines, its slots by definers up its chain, its verbs. No lines if no object has
+/// the number. The only error is out of memory.
 pub(crate) fn object_text<R: Rows>(
     alloc: Global,
     rows: &R,
@@ -116,6 +120,7 @@ pub(crate) fn object_text<R: Rows>(
     x: ObjNo,
 ) -> Result<Vec<u8>, AllocError>
     requires good { IsGood (R.held rows.now).maps }
+    // The outline is of these rows.
     requires outline { IsOutline (R.held rows.now).maps outline.now }
     ensures { IfOk result (λ text. text.items ≡ object_lines (world_of (R.held rows.now).maps) x) }
 {

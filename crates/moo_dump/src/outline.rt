@@ -18,8 +18,9 @@ pub(crate) struct Outline {
     pub(crate) skips: Skips,
 }
 
-/// The outline of all objects.
+/// The outline of all objects. The only error is out of memory.
 pub(crate) fn outline_of<R: Rows>(alloc: Global, rows: &R) -> Result<Outline, AllocError>
+    // Parents and locations are objects or `#-1`, without loops.
     requires { IsTree (world_of (R.held rows.now).maps) }
     ensures { IfOk result (IsOutline (R.held rows.now).maps) }
 {

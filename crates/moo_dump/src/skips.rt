@@ -1,4 +1,4 @@
-//! Ways up a chain that pass the objects which define nothing.
+//! Skipping the objects of a chain that define nothing.
 
 ghost use Rattle.std.specs.Prelude.{◌≡◌, ◌⊎◌, OnOk, IfOk};
 ghost use Rattle.std.specs.List.{AllByRecursion};
@@ -13,11 +13,12 @@ use moo_value::ObjNo;
 use std::alloc::{AllocError, Global};
 use std::collections::BTreeMap;
 
-/// For objects that define nothing, one further up, below which nothing on the way defines anything. An object needn't be there.
+/// For objects that define nothing, an object further up the chain, below which no object on the way defines anything. Not every such
+/// object has an entry.
 pub(crate) type Skips = BTreeMap<ObjNo, ObjNo>;
 
-/// Where the way up from x goes on: at x, or further up, past objects that define nothing.
-pub(crate) fn past(skips: &Skips, x: ObjNo) -> ObjNo
+/// The object at which the way up a chain goes on from x: x itself, or the object that the entry of x leads to.
+pub(crate) fn skip_up_from(skips: &Skips, x: ObjNo) -> ObjNo
     ensures { (t : Maps) → SkipUp t skips.now → (result ≡ x) ⊎ LeadsUp t x result }
 {
     match skips.get(&x) {
@@ -26,7 +27,8 @@ pub(crate) fn past(skips: &Skips, x: ObjNo) -> ObjNo
     }
 }
 
-/// The objects from x up that define nothing and have no entry yet, and where the way goes on after them.
+/// The objects from x up its chain that define nothing and have no entry yet, and the object at which the way up goes on after them: one
+/// that defines something, one that an entry leads to, or `#-1`. The only error is out of memory.
 fn way_up<R: Rows>(
     alloc: Global,
     rows: &R,
@@ -34,9 +36,13 @@ fn way_up<R: Rows>(
     skips: &Skips,
     x: ObjNo,
 ) -> Result<(Vec<ObjNo>, ObjNo), AllocError>
+    // Parents and locations are objects or `#-1`, without loops.
     requires tree { IsTree (world_of (R.held rows.now).maps) }
+    // The definitions are those of these rows.
     requires listed { ListsDefinitions (R.held rows.now).maps definitions.now }
+    // Each entry that there is leads up.
     requires up { SkipUp (R.held rows.now).maps skips.now }
+    // An entry for each of the objects leads up.
     ensures { IfOk result (λ way. AllByRecursion (λ y. LeadsUp (R.held rows.now).maps y way.1) way.0.items) }
 {
     let mut way = Vec::new(alloc);
@@ -54,8 +60,9 @@ fn way_up<R: Rows>(
     Ok((way, at))
 }
 
-/// Adds an entry for each object of a way.
+/// Adds an entry for each object of a way, which leads to the object `above`. The only error is out of memory.
 fn add_way(skips: &mut Skips, way: &[ObjNo], above: ObjNo) -> Result<(), AllocError>
+    // If each entry led up, and the new ones do, each entry does.
     ensures { OnOk result ((t : Maps) → SkipUp t skips.old → AllByRecursion (λ y. LeadsUp t y above) way.now → SkipUp t skips.new) }
 {
     for y in way {
@@ -64,7 +71,7 @@ fn add_way(skips: &mut Skips, way: &[ObjNo], above: ObjNo) -> Result<(), AllocEr
     Ok(())
 }
 
-/// An entry for each object that has children and defines nothing.
+/// An entry for each object that has children and defines nothing. The only error is out of memory.
 ///
 /// Each object is passed once, and once more from each of its children.
 pub(crate) fn all_skips<R: Rows>(
@@ -72,8 +79,11 @@ pub(crate) fn all_skips<R: Rows>(
     rows: &R,
     definitions: &Definitions,
 ) -> Result<Skips, AllocError>
+    // Parents and locations are objects or `#-1`, without loops.
     requires tree { IsTree (world_of (R.held rows.now).maps) }
+    // The definitions are those of these rows.
     requires listed { ListsDefinitions (R.held rows.now).maps definitions.now }
+    // Each entry leads up the chain of its object, past objects that define nothing.
     ensures { IfOk result (SkipUp (R.held rows.now).maps) }
 {
     let mut skips = BTreeMap::new(alloc);

@@ -19,7 +19,7 @@ use Rattle.moo_store.specs.declared.fault.StoreFault.TheVariants.{Store, OutOfMe
 use Rattle.moo_files.specs.declared.remains.Remains.{Remains}
 use Rattle.moo_files.specs.declared.remains.Remains.TheVariants as remains
 
--- the name isn't a path, but `:memory:` or a URI
+-- the name isn't the path of a file: it is `:memory:`, or a URI, which begins with `file:`
 abbrev pub names_no_file : List ℕ → Bool
 names_no_file path = bytes_eq path (codes ":memory:") || starts_with (λ a b. a == b) path (codes "file:")
 
@@ -38,8 +38,8 @@ module _ {D : Type 0} {g : Ghosts D} where
   IsRefused error left = (error ≡ SqliteFailure code.OutOfMemory) ⊎ ((0 < faults_left left) ⊎ IsFullLeft left)
 
 module _ {T D : Type 0} {g : Ghosts D} where
-  -- Why files are refused: they weren't opened and that was denied, memory ran out, a call of the disk failed, or they are as long as their
-  -- format allows. Or a connection to them is open, and this is so of it.
+  -- Why files are refused: they weren't opened, since the host denied them; memory ran out, a call of the disk failed, or they are as
+  -- long as their format allows; or a connection to them is open, and it has a cause of its own.
   abbrev pub HasCauseOr : (Held (FileStore D g) → Type 0) → Type 0 → StoreFault → Remains T D g → Type 0
   HasCauseOr Over Denied fault (remains.Leftover left) = (fault ≡ OutOfMemory) ⊎ ((0 < faults_left left) ⊎ IsFullLeft left)
   HasCauseOr Over Denied fault (remains.Connection conn) = Over conn
@@ -57,6 +57,6 @@ module _ {D : Type 0} {g : Ghosts D} where
       ⊎ ((0 < (file_state conn).faults) ⊎ (Migrated
       × ((fault ≡ Store (SqliteFailure code.TooBig)) ⊎ (fault ≡ Store (SqliteFailure code.NoRowid)))))
 
--- the name isn't a path, or it is denied
+-- the name isn't a path, or the host denies it
 abbrev pub IsDenied : (List ℕ → Type 0) → List ℕ → Type 0
 IsDenied denies path = IsTrue (names_no_file path) ⊎ denies path

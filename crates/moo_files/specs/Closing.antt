@@ -27,15 +27,16 @@ module _ {D : Type 0} {g : Ghosts D} where
   IsLeftOf store (left.Unopened now) = ⊥
   IsLeftOf store (left.Store now) = (trees : Trees) → recovers now trees → store.may_leave trees
 
-  -- the database file alone holds the last commit, and so it does after a crash; or closing failed
+  -- A closed connection left its last commit in the database file alone, and so it is after a crash; or closing failed, and an open store
+  -- came back.
   abbrev pub IsClosedAs : Held (FileStore D g) → Leftover D g → Type 0
   IsClosedAs conn (left.Files now) = AreClean g now.log now.db → IsCopied conn now
   IsClosedAs conn (left.Unopened now) = ⊥
   IsClosedAs conn (left.Store now) = IsClosed conn now
 
 module _ {T D : Type 0} {g : Ghosts D} where
-  -- A connection was closed, and anything else is as it was. Before that the connection's trees were numbered, and as a rule they are
-  -- numbered still.
+  -- What is left of files was closed. A connection was closed as `IsClosedAs` says, and its trees had been numbered; anything else is as
+  -- it was.
   abbrev pub IsClosedFrom : Remains T D g → Remains T D g → Type 0
   IsClosedFrom (remains.Connection conn) now = (left : Leftover D g) × (now ≡ remains.Leftover left) × IsClosedAs conn left
       × (IsCleanLeft left → HasCleanDisk (file_state conn) × IsLeftOf (file_state conn) left × IsNumberedStore conn.store

@@ -15,16 +15,16 @@ use Rattle.moo_files.specs.Opened.{Contents, Nothing, Database as Holds, Unfit}
 use Rattle.moo_files.specs.Remains.{ExcusesMalformed, KeepsNothingBut, KeepsSuch}
 use Rattle.moo_files.specs.declared.remains.Remains.{Remains}
 
--- the files held half a first page, and the connection shows no rows; or it shows what `sqlite` finds in them
+-- the files held no database, or half a first page of one, and the connection shows no rows; or it shows what `sqlite` finds in them
 abbrev pub IsNewOrFound : Image → Database → Type 0
 IsNewOrFound image store = (IsBlank image × IsEmpty store.committed.trees) ⊎ FindsIn image store
 
--- while it is open a crash leaves its last commit alone
+-- while a store is open, a crash leaves its last commit alone
 abbrev pub OnlyLeaves : Database → Type 0
 OnlyLeaves store = IsTrue store.is_open → (trees : Trees) → store.may_leave trees → trees ≡ store.committed.trees
 
 module _ {D : Type 0} {g : Ghosts D} where
-  -- A connection is open, outside a transaction, with no limit on steps. On a clean disk it works, and shows what it should.
+  -- A connection is open, outside a transaction, with no limit on steps. On a clean disk it works, and what it shows is as it has to be.
   pub record IsConnected (Shows : Database → Type 0) (conn : Held (FileStore D g)) : Type 0 where
     pub outside : conn.in_transaction ≡ false
     pub unlimited : conn.step_limit ≡ None
@@ -33,14 +33,14 @@ module _ {D : Type 0} {g : Ghosts D} where
     pub left : OnlyLeaves (file_state conn)
 
 module _ {T D : Type 0} {g : Ghosts D} where
-  -- This database wasn't opened. It is never said that it isn't ours, nor that it is malformed unless the disk failed. The files hold it
-  -- still.
+  -- The files hold this database, and no connection to it was opened. No fault says that it isn't ours, nor, unless the disk failed, that
+  -- it is malformed. The files hold it still.
   pub record IsUnconnected (trees : Trees) (image : Image) (fault : StoreFault) (rest : Remains T D g) : Type 0 where
     pub own : fault ≢ not_ours
     pub malformed : ExcusesMalformed fault rest
     pub kept : KeepsSuch (λ found. found ≡ trees) image rest
 
-  -- what is said of files to which there is no connection
+  -- what is said, by what the files hold, if no connection to them was opened
   abbrev pub Unconnects : Contents → Image → StoreFault → Remains T D g → Type 0
   Unconnects Nothing image fault rest = KeepsNothingBut (λ _. ⊥) image rest
   Unconnects (Holds trees) image fault rest = IsUnconnected trees image fault rest

@@ -49,7 +49,7 @@ IsLeftBy store image = HoldsSuch store.may_leave image
 abbrev pub HoldsNoDatabase : Image → Type 0
 HoldsNoDatabase image = IsNothing image ⊎ IsBlank image
 
--- they hold nothing, or a database without rows, or such a database
+-- files hold nothing, or a database without rows, or a database of which this is true
 abbrev pub HoldsNothingBut : (Trees → Type 0) → Image → Type 0
 HoldsNothingBut P image = HoldsNoDatabase image ⊎ ∥ HoldsSuch (λ trees. IsEmpty trees ⊎ P trees) image ∥₁
 
@@ -57,16 +57,16 @@ HoldsNothingBut P image = HoldsNoDatabase image ⊎ ∥ HoldsSuch (λ trees. IsE
 abbrev pub HasNoSums : Image → Type 0
 HasNoSums image = (trees : Trees) (held : HoldsDatabase image trees) → is_summed held.0 ≡ false
 
--- the tables of no version of ours
+-- a database has the tables of no version of ours
 abbrev pub HasOtherTables : Trees → Type 0
 HasOtherTables trees = (version : Version) → ¬ IsDatabase (record { schema = schema_of version; trees = trees })
 
--- tables of an earlier version
+-- a database has the tables of an earlier version
 abbrev pub HasEarlierTables : Trees → Type 0
 HasEarlierTables trees =
     (version : Version) × IsEarlier version × IsDatabase (record { schema = schema_of version; trees = trees })
 
--- any table, index or view
+-- a database has any table, index or view
 abbrev pub HasAnyTable : Trees → Type 0
 HasAnyTable trees = ¬ IsDatabase (record { schema = no_schema; trees = trees })
 
@@ -74,11 +74,11 @@ HasAnyTable trees = ¬ IsDatabase (record { schema = no_schema; trees = trees })
 abbrev pub ReadsAs : Image → Trees → Type 0
 ReadsAs image trees = ∥ ((size : ℕ) × HoldsIn size image trees) ∥₁
 
--- they read as a sound database with tables of ours
+-- a log and its file read as a sound database with tables of ours
 abbrev pub ReadsAsOurs : Image → Type 0
 ReadsAsOurs image = (trees : Trees) × ReadsAs image trees × (¬ HasOtherTables trees)
 
--- they hold nothing, or they read as a database without tables
+-- a log and its file hold nothing, or they read as a database without tables
 abbrev pub HoldsNoTable : Image → Type 0
 HoldsNoTable image = HoldsNoDatabase image ⊎ ((trees : Trees) × ReadsAs image trees × (¬ HasAnyTable trees))
 

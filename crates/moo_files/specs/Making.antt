@@ -33,6 +33,7 @@ pub data Site : Type 0 where
   Empty : Site
   Filled : Trees → Site
 
+-- the files hold what this site says
 abbrev pub IsSite : Image → Site → Type 0
 IsSite image Empty = HoldsNoDatabase image
 IsSite image (Filled trees) = HoldsTrees image trees
@@ -57,8 +58,8 @@ module _ {D : Type 0} {g : Ghosts D} where
     pub over : (site : Site) → IsSite image site → HasCleanDisk (store_of over_files world) → TakesWorld site
 
 module _ {T D : Type 0} {g : Ghosts D} where
-  -- What files keep in which no world was made. A database stays as it is; one without any table may hold what was committed, if that
-  -- is so. Files without a database hold none still, or one without rows, or what was committed.
+  -- What files hold after a refusal, if no world was made in them. A database stays as it is; one without any table may hold what was
+  -- committed, if that has this property. Files without a database hold none still, or one without rows, or what was committed.
   abbrev pub KeepsSite : (Trees → Type 0) → Site → Image → Remains T D g → Type 0
   KeepsSite Made Empty image rest = KeepsNothingBut Made image rest
   KeepsSite Made (Filled trees) image rest = KeepsSuch (λ found. (found ≡ trees) ⊎ ((¬ HasAnyTable trees) × Made found)) image rest
@@ -70,7 +71,7 @@ module _ {T D : Type 0} {g : Ghosts D} where
     pub spared : ¬ HoldsNoDatabase image → IsCleanRemains rest → Spares image rest
     pub kept : (site : Site) → IsSite image site → IsCleanRemains rest → KeepsSite Made site image rest
 
-  -- what making the world of these rows does
+  -- what making the world of these rows in files answers: a World, or a fault and what is left of the files
   abbrev pub Makes : Maps → Image → Attempt T D g → Type 0
   Makes rows image (Ok world) = IsMadeIn rows image world
   Makes rows image (Err e) = IsUnmadeIn (λ found. LeavesAsMade found rows) image e.0 e.1

@@ -34,13 +34,15 @@ pub data Contents : Type 0 where
   Database : Trees → Contents
   Unfit : Contents
 
+-- the files hold what these contents say
 abbrev pub Hold : Image → Contents → Type 0
 Hold image Nothing = IsNothing image
 Hold image (Database trees) = HoldsTrees image trees
 Hold image Unfit = ¬ ReadsAsOurs image
 
 module _ {D : Type 0} {g : Ghosts D} where
-  -- whatever the files hold: the World works, and what is said of rows alone is said of its own; and what was opened reads as ours
+  -- Whatever the files hold, a World that was opened works, and what is said of rows alone is said of its own. The files read as a sound
+  -- database with tables of ours.
   pub record IsOpenedOver (image : Image) (world : World (FileStore D g)) : Type 0 where
     pub unseen : Stands over_files world (Works (rows_alone world.rows.maps))
     pub sound : HasCleanDisk (store_of over_files world) → ReadsAsOurs image
@@ -64,7 +66,8 @@ module _ {D : Type 0} {g : Ghosts D} where
   Opens Unfit world = ⊥
 
 module _ {T D : Type 0} {g : Ghosts D} where
-  -- whatever the files hold: if they weren't opened, it was for one of few reasons; and files that hold anything are spared
+  -- Files are refused, whatever they hold. If they weren't opened, the fault is CannotOpen, NotADatabase of an empty file, DatabaseBusy
+  -- or OutOfMemory. Files that hold anything are spared.
   pub record IsRefusedFrom (image : Image) (fault : StoreFault) (rest : Remains T D g) : Type 0 where
     pub stopped : MayStopAs fault rest
     pub spared : ¬ IsNothing image → IsCleanRemains rest → Spares image rest
@@ -78,7 +81,7 @@ module _ {T D : Type 0} {g : Ghosts D} where
     pub malformed : ExcusesMalformed fault rest
     pub kept : StillHoldsTrees image rest trees
 
-  -- no damage is told of anything but a database of ours
+  -- what is said of a refusal, by what the files hold: no damage is told of anything but a database of ours
   abbrev pub Refuses : Contents → Image → StoreFault → Remains T D g → Type 0
   Refuses Nothing image fault rest = IsOfStore fault × KeepsNothingBut (λ _. ⊥) image rest
   Refuses (Database trees) image fault rest = RefusesOver trees image fault rest
@@ -89,6 +92,6 @@ module _ {T D : Type 0} {g : Ghosts D} where
   abbrev pub OpensHeld : Image → Attempt T D g → Type 0
   OpensHeld image r = (m : Moment) → HoldsMoment image m → IfOk r (λ world. HasCleanDisk (store_of over_files world) → OpensAt m world)
 
-  -- and if none is opened, the store failed or memory ran out
+  -- if the files hold a moment, and no World is opened, the store failed or memory ran out
   abbrev pub RefusesHeld : Image → Attempt T D g → Type 0
   RefusesHeld image r = (m : Moment) → HoldsMoment image m → IfErr r (λ e. IsCleanRemains e.1 → IsOfStore e.0)

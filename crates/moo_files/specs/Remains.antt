@@ -23,12 +23,15 @@ use Rattle.moo_files.specs.Contents.{HoldsSuch, HoldsNothingBut, HasNoSums, IsKe
 use Rattle.moo_files.specs.declared.remains.Remains.{Remains}
 use Rattle.moo_files.specs.declared.remains.Remains.TheVariants as remains
 
+-- the fault of a file that can't be opened: there is none of this name, or the host refused it
 abbrev pub cannot_open : StoreFault
 cannot_open = Store (SqliteFailure CannotOpen)
 
+-- the fault of a file that is open elsewhere
 abbrev pub busy : StoreFault
 busy = Store (SqliteFailure DatabaseBusy)
 
+-- the fault of a file that isn't a whole database
 abbrev pub malformed : StoreFault
 malformed = Store (SqliteFailure DatabaseCorrupt)
 
@@ -53,7 +56,7 @@ module _ {T D : Type 0} {g : Ghosts D} where
   MayStopAs fault (remains.NotOpened seal) = (fault ≡ cannot_open) ⊎ ((fault ≡ OutOfMemory) ⊎ (fault ≡ busy))
   MayStopAs fault opened = ⊤
 
-  -- if the host couldn't open the files, this is so
+  -- if the start was spent on files that couldn't be opened, this is so
   abbrev pub IfNotOpened : Remains T D g → Type 0 → Type 0
   IfNotOpened (remains.NotOpened seal) P = P
   IfNotOpened rest P = ⊤
@@ -74,8 +77,8 @@ module _ {D : Type 0} {g : Ghosts D} where
   abbrev pub IsResealed : Unopened D g → Image → Image → Type 0
   IsResealed now image found = NamesSize image (stored_size (state_of now).page_size) × StandsAs (state_of now).page_size image found
 
-  -- Whatever a crash leaves of files that held this image is so, or is a database of which this is true. If they were left while `sqlite`
-  -- took them up and their pages end in checksums, they may also be resealed.
+  -- Whatever a crash leaves of files that held this image has the first property, or is a database that has the second one. If they were
+  -- left while `sqlite` took them up and their pages end in checksums, they may also be resealed.
   abbrev pub LeftoverKeeps : (Image → Type 0) → (Trees → Type 0) → Image → Leftover D g → Type 0
   LeftoverKeeps Is P image (left.Files now) = (found : Image) → outcomes g now.log now.db found → Is found
   LeftoverKeeps Is P image (left.Unopened now) = (found : Image) → (state_of now).may_leave found →
@@ -97,15 +100,16 @@ module _ {D : Type 0} {g : Ghosts D} where
   LeftoverSpares image (left.Store now) = (trees : Trees) → recovers now trees → AreFoundIn image trees
 
 module _ {T D : Type 0} {g : Ghosts D} where
-  -- What files that held this image hold is so, and what a crash leaves of them. Of files that weren't opened it is what they held; of
-  -- those that `sqlite` couldn't open nothing is said. Of the databases that an open store leaves this is true.
+  -- What files that held this image hold has the first property, and so has what a crash leaves of them. Of files that weren't opened it
+  -- is what they held; of those that `sqlite` couldn't open nothing is said. The databases that an open store leaves have the second
+  -- property.
   abbrev pub KeepsAs : (Image → Type 0) → (Trees → Type 0) → Image → Remains T D g → Type 0
   KeepsAs Is P image (remains.Untouched start) = Is image
   KeepsAs Is P image (remains.NotOpened seal) = ⊤
   KeepsAs Is P image (remains.Leftover left) = LeftoverKeeps Is P image left
   KeepsAs Is P image (remains.Connection conn) = (trees : Trees) → (file_state conn).may_leave trees → P trees
 
-  -- files that held this image hold such a database
+  -- files that held this image hold a database that has this property
   abbrev pub KeepsSuch : (Trees → Type 0) → Image → Remains T D g → Type 0
   KeepsSuch P = KeepsAs (HoldsSuch P) P
 
@@ -117,7 +121,7 @@ module _ {T D : Type 0} {g : Ghosts D} where
   abbrev pub StillHolds : Image → Remains T D g → State → Type 0
   StillHolds image remains s = KeepsSuch (λ trees. LeavesState trees s) image remains
 
-  -- files that held nothing hold nothing still, a database without rows, or such a database
+  -- files that held nothing hold nothing still, a database without rows, or a database that has this property
   abbrev pub KeepsNothingBut : (Trees → Type 0) → Image → Remains T D g → Type 0
   KeepsNothingBut P = KeepsAs (HoldsNothingBut P) (λ trees. IsEmpty trees ⊎ P trees)
 

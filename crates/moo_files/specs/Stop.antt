@@ -27,7 +27,7 @@ module _ {D : Type 0} {g : Ghosts D} where
   abbrev pub IsNumberedStore : FileStore D g → Type 0
   IsNumberedStore store = IsTrue (view store).is_numbered
 
-  -- It is so of a store that couldn't be closed too, if that is open still, or was shut before the closing.
+  -- The trees of a store that couldn't be closed are numbered too, if that is open still, or was shut before the closing.
   abbrev pub KeepsTreesNumbered : Held (FileStore D g) → Leftover D g → Type 0
   KeepsTreesNumbered conn (left.Store now) = IsTrue (view now).is_open ⊎ ((view conn.store).is_open ≡ false) → IsNumberedStore now
   KeepsTreesNumbered conn now = ⊤
@@ -38,8 +38,9 @@ module _ {D : Type 0} {g : Ghosts D} where
   LeftStoreLeaves now next = (IsNumberedStore now × DiskLeaves now next) ⊎ HoldsSuch (recovers now) next
 
 module _ {T D : Type 0} {g : Ghosts D} where
-  -- The same of files that held an image, over which no task ran. Those that weren't opened are as they were. (Those that `sqlite` failed
-  -- to open are taken as such: it says nothing of them.) If they were being opened, their pages end in no checksums (SQLite's cksumvfs).
+  -- Of files that held an image, over which no task ran, the disk may leave these bytes. Those that weren't opened are as they were.
+  -- (Those that `sqlite` failed to open are taken as such: it says nothing of them.) If they were being opened, their pages end in no
+  -- checksums (SQLite's cksumvfs).
   abbrev pub BytesLeave : Image → Remains T D g → Image → Type 0
   BytesLeave image (remains.Leftover (left.Files now)) next = outcomes g now.log now.db next
   BytesLeave image (remains.Leftover (left.Unopened now)) next =
@@ -48,7 +49,7 @@ module _ {T D : Type 0} {g : Ghosts D} where
   BytesLeave image (remains.Connection conn) next = DiskLeaves conn.store next
   BytesLeave image unopened next = next ≡ image
 
-  -- if they have a connection, its trees are numbered
+  -- if what is left of the files has a connection, its trees are numbered
   abbrev pub AreNumbered : Remains T D g → Type 0
   AreNumbered (remains.Connection conn) = IsNumberedStore conn.store
   AreNumbered rest = ⊤

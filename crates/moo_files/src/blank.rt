@@ -30,8 +30,9 @@ const FULL: Error = Error::SqliteFailure(ErrorCode::DiskFull);
 
 const UNSOUND: Error = Error::SqliteFailure(ErrorCode::NotADatabase);
 
-/// Why a blank database can't be made.
+/// The error that is told if a blank database can't be made.
 fn make_error(error: OpenError) -> Error
+    // A lack of memory is told as such.
     ensures { error ≡ OpenError.OutOfMemory → result ≡ Error.SqliteFailure ErrorCode.OutOfMemory }
 {
     match error {
@@ -42,8 +43,9 @@ fn make_error(error: OpenError) -> Error
     }
 }
 
-/// Why the files can't be looked at.
+/// The error that is told if `sqlite` can't look at the files, to see whether they hold a database.
 fn probe_error(error: sqlite_wal::Error) -> Error
+    // A lack of memory is told as such.
     ensures { error ≡ log_error.OutOfMemory → result ≡ Error.SqliteFailure ErrorCode.OutOfMemory }
 {
     match error {
@@ -53,16 +55,20 @@ fn probe_error(error: sqlite_wal::Error) -> Error
     }
 }
 
-/// The files before anything was read of them. They come back if memory is refused.
+/// Takes up the two files, before anything was read of them. They come back if memory is refused.
 fn new_unopened<D: Disk>(
     alloc: Global,
     files: Files<D>,
     size: PageSize,
     options: Options,
 ) -> Result<Unopened<D>, Files<D>>
+    // The files that come back are these.
     ensures back { IfErr result (λ left. (left.log ≡ files.log) × (left.db ≡ files.db)) }
+    // Those that were taken up are these.
     ensures files { IfOk result (λ fresh. files_of fresh ≡ (files.log, files.db)) }
+    // Their pages have this size.
     ensures size { IfOk result (λ fresh. (state_of fresh).page_size ≡ bytes_of size) }
+    // No table is expected in them.
     ensures none { IfOk result (λ fresh. wanted_by fresh ≡ []) }
 {
     let pager = match Pager::new(alloc, files, size, options) {
@@ -75,20 +81,28 @@ fn new_unopened<D: Disk>(
     }
 }
 
-/// A connection to a new database without tables, in files that hold none.
+/// Makes a database without tables in files that hold none, with pages of 1,024 bytes, and connects to it. The errors are those of
+/// `open_or_make`, each with what is left of the files.
 fn connect_blank<D: Disk + Drop>(
     alloc: Global,
     files: Files<D>,
     size: PageSize,
     options: Options,
 ) -> Result<Connection<FileStore<D>>, (Error, Leftover<D>)>
+    // The disk lets the log be used.
     requires log { IsTrue (D.Disk.is_usable files.log) }
+    // The disk lets the database file be used.
     requires db { IsTrue (D.Disk.is_usable files.db) }
+    // The pages have 1,024 bytes.
     requires size { bytes_of size ≡ 1024 }
+    // On a clean disk the connection works.
     ensures opened { IfOk result (λ c. HasCleanDisk (file_state c) → IsOpened c) }
+    // It shows a database without tables and rows.
     ensures empty { IfOk result (λ c. HasCleanDisk (file_state c) → AreClean D.Disk files.log files.db
         × IsEmpty (file_state c).committed.trees) }
+    // It is in no transaction, and has no limit on steps.
     ensures fresh { IfOk result IsNew }
+    // After an error files that held no database hold none still, or one without tables; and the disk refused, or memory ran out.
     ensures left { IfErr result (λ e. IsCleanLeft e.1 → AreClean D.Disk files.log files.db
         × (IsBlank (image_of D.Disk files) → LeavesBlank files e.1 × IsRefused e.0 e.1)) }
 {
@@ -116,11 +130,15 @@ pub fn open_or_make<D: Disk + Drop>(
     mut files: Files<D>,
     options: Options,
 ) -> Result<Connection<FileStore<D>>, (Error, Leftover<D>)>
+    // The disk lets the log be used.
     requires log { IsTrue (D.Disk.is_usable files.log) }
+    // The disk lets the database file be used.
     requires db { IsTrue (D.Disk.is_usable files.db) }
+    // On a clean disk the connection works.
     ensures opened { IfOk result (λ c. HasCleanDisk (file_state c) → IsOpened c) }
-    // So of files that hold a database it shows what they hold, and of those that hold none it shows none.
+    // Of files that hold a database it shows what they hold, and of those that hold none it shows none.
     ensures found { IfOk result (λ c. HasCleanDisk (file_state c) → MakesOrFinds files c) }
+    // It is in no transaction, and has no limit on steps.
     ensures fresh { IfOk result IsNew }
     // After an error files that hold a database are as they were.
     ensures spared { IfErr result (λ e. IsCleanLeft e.1 → SparesFiles files e.1) }

@@ -14,6 +14,7 @@ use sqlite_trees::store::Store;
 ///
 /// If closing failed, a part of what was committed may be in the log alone, which the next open reads.
 pub fn close_connection<D: Disk + Drop>(conn: Connection<FileStore<D>>) -> Leftover<D>
+    // If the disk is clean after the closing, it was clean before.
     ensures clean { IsCleanLeft result → HasCleanDisk (file_state conn) }
     // What the files then hold, and what a crash leaves of them, is a database that a crash might have left before.
     ensures left { IsCleanLeft result → IsLeftOf (file_state conn) result }

@@ -4,7 +4,7 @@ ghost use Rattle.std.specs.Prelude.{◌≡◌, ◌≢◌, ◌⊎◌, IfOk, IfErr
 ghost use Rattle.sqlite.specs.Start.{FindsIn};
 ghost use Rattle.sqlite.specs.Tree.{Trees};
 ghost use Rattle.sqlite.specs.WalFiles.{image_at};
-ghost use Rattle.sqlite_std_file.specs.declared.pair.OpenError.{OpenError as Refusal};
+ghost use Rattle.sqlite_std_file.specs.declared.pair.OpenError.{OpenError};
 ghost use Rattle.moo_store.specs.OpeningRows.{IsOfStore, not_ours};
 ghost use Rattle.moo_files.specs.Causes.{HasCauseOr, IsDenied, IsOpenable};
 ghost use Rattle.moo_files.specs.Connected.{IsConnected, IsNewOrFound, Unconnects};
@@ -24,10 +24,12 @@ use sqlite_std_file::OpenError as PathError;
 use std::alloc::Global;
 use std::io::ErrorKind;
 
-/// Why a database can't be opened, as a fault.
+/// The fault that is told if `sqlite` can't open the files.
 fn open_fault(error: Error) -> StoreFault
     ensures store { IsOfStore result }
+    // A lack of memory is told as such.
     ensures memory { error ≡ Error.SqliteFailure ErrorCode.OutOfMemory → result ≡ StoreFault.OutOfMemory }
+    // Any other error is told as it is.
     ensures other { error ≢ Error.SqliteFailure ErrorCode.OutOfMemory → result ≡ StoreFault.Store error }
 {
     match error {
@@ -40,7 +42,7 @@ const CANNOT_OPEN: StoreFault = StoreFault::Store(Error::SqliteFailure(ErrorCode
 
 const BUSY: StoreFault = StoreFault::Store(Error::SqliteFailure(ErrorCode::DatabaseBusy));
 
-/// Why the two files at a path can't be opened, as a fault.
+/// The fault that is told if the two files at a path can't be opened.
 fn path_fault(error: PathError) -> StoreFault
     ensures { (result ≡ cannot_open) ⊎ ((result ≡ StoreFault.OutOfMemory) ⊎ (result ≡ busy)) }
 {
@@ -52,21 +54,32 @@ fn path_fault(error: PathError) -> StoreFault
     }
 }
 
-/// The two files at a path, and how `sqlite` opens them, with a random seed for the log's salts. `:memory:` and a URI aren't paths.
+/// Opens the two files at a path, and says how `sqlite` is to open them, with a random seed for the log's salts. Store with `CannotOpen`:
+/// the name is `:memory:` or a URI, there is no random number, or the files can't be opened. Store with `DatabaseBusy`: they are open
+/// elsewhere. `OutOfMemory`. With each fault the unspent start comes back, or the seal of one that was spent in vain.
 fn open_pair<T: Start, H: WorldFiles<T>>(
     host: &H,
     path: &str,
     start: T,
 ) -> Result<(Files<H::Disk>, Options), (StoreFault, Remains<T, H::Disk>)>
+    // The caller may open this path.
     requires may { H.may_open host.now path.now }
+    // The disk lets both files be used.
     ensures usable { IfOk result (λ pair. IsTrue (H.Disk.Disk.is_usable pair.0.log) × IsTrue (H.Disk.Disk.is_usable pair.0.db)) }
+    // They hold what the start says.
     ensures start { IfOk result (λ pair. HoldStart T.Start H.Disk.Disk pair.0) }
+    // A fault is one of the store or of memory.
     ensures fault { IfErr result (λ e. IsOfStore e.0) }
+    // It doesn't say that the files aren't ours or are malformed.
     ensures own { IfErr result (λ e. (e.0 ≢ not_ours) × (e.0 ≢ malformed)) }
+    // It is one of those that come before any file is open.
     ensures stopped { IfErr result (λ e. MayStopAs e.0 e.1) }
+    // No file was opened.
     ensures unopened { IfErr result (λ e. IsUnopened e.1) }
+    // The name isn't a path, or the host denied it.
     ensures denied { IsErr result → IsDenied (H.denies host.now) path.now }
-    ensures refused { IfErr result (λ e. IfNotOpened e.1 ((error : Refusal) × H.refuses host.now path.now error)) }
+    // If the start was spent, the host said why the files can't be opened.
+    ensures refused { IfErr result (λ e. IfNotOpened e.1 ((error : OpenError) × H.refuses host.now path.now error)) }
 {
     if names_no_file(path) {
         return Err((CANNOT_OPEN, Remains::Untouched(start)));
@@ -80,21 +93,25 @@ fn open_pair<T: Start, H: WorldFiles<T>>(
     }
 }
 
-/// A connection to files in which a world is to be made, or the fault and what is left of them. In files that hold no database a
-/// blank one is made first, as `open_or_make` does.
+/// Opens a connection to files in which a world is to be made. In files that hold no database a blank one is made first, as
+/// `open_or_make` does. The faults are those of `open_pair` and `open_or_make`, each with what is left of the files.
 pub(crate) fn open_new<T: Start, H: WorldFiles<T>>(
     alloc: Global,
     host: &H,
     path: &str,
     start: T,
 ) -> Result<Connection<FileStore<H::Disk>>, (StoreFault, Remains<T, H::Disk>)>
+    // The caller may open this path.
     requires may { H.may_open host.now path.now }
+    // The connection shows no rows, in files that held no database; or what `sqlite` finds in the files.
     ensures connects { IfOk result (IsConnected (IsNewOrFound (image_at T.Start))) }
-    // Otherwise the store failed, and no world was begun.
+    // After a fault no world was begun, and the store failed or memory ran out.
     ensures unmade { IfErr result (λ e. IsUnmadeIn (λ _. ⊥) (image_at T.Start) e.0 e.1) }
+    // Files that hold nothing or a database are refused only if the host denied them, the disk refused, or memory ran out.
     ensures cause { IsOpenable (image_at T.Start) →
         IfErr result (λ e. IsCleanRemains e.1 → HasCauseOr (λ _. ⊥) (IsDenied (H.denies host.now) path.now) e.0 e.1) }
-    ensures refusing { IfErr result (λ e. IfNotOpened e.1 ((error : Refusal) × H.refuses host.now path.now error)) }
+    // If the files couldn't be opened, the host said so.
+    ensures by_host { IfErr result (λ e. IfNotOpened e.1 ((error : OpenError) × H.refuses host.now path.now error)) }
 {
     let (files, options) = match open_pair(host, path, start) {
         Ok(pair) => pair,
@@ -106,23 +123,31 @@ pub(crate) fn open_new<T: Start, H: WorldFiles<T>>(
     }
 }
 
-/// A connection to the files, or the fault and what is left of them.
+/// Opens a connection to the files of a world. It makes no database. The faults are those of `open_pair` and of `sqlite`, each with what
+/// is left of the files.
 pub(crate) fn open_connection<T: Start, H: WorldFiles<T>>(
     alloc: Global,
     host: &H,
     path: &str,
     start: T,
 ) -> Result<Connection<FileStore<H::Disk>>, (StoreFault, Remains<T, H::Disk>)>
+    // The caller may open this path.
     requires may { H.may_open host.now path.now }
+    // The connection shows what `sqlite` finds in the files.
     ensures connects { IfOk result (IsConnected (FindsIn (image_at T.Start))) }
+    // A fault is one of the store or of memory.
     ensures fault { IfErr result (λ e. IsOfStore e.0) }
+    // Files that are refused are spared. If they weren't opened, the fault is CannotOpen, NotADatabase of an empty file, DatabaseBusy or
+    // OutOfMemory.
     ensures refused { IfErr result (λ e. IsRefusedFrom (image_at T.Start) e.0 e.1) }
+    // A database that isn't opened stays as it is, and is called malformed only if the disk failed.
     ensures unconnects { (held : Contents) → Hold (image_at T.Start) held →
         IfErr result (λ e. IsCleanRemains e.1 → Unconnects held (image_at T.Start) e.0 e.1) }
     // A database is refused only if the host denied it, the disk refused, or memory ran out.
     ensures cause { (trees : Trees) → HoldsTrees (image_at T.Start) trees →
         IfErr result (λ e. IsCleanRemains e.1 → HasCauseOr (λ _. ⊥) (IsDenied (H.denies host.now) path.now) e.0 e.1) }
-    ensures refusing { IfErr result (λ e. IfNotOpened e.1 ((error : Refusal) × H.refuses host.now path.now error)) }
+    // If the files couldn't be opened, the host said so.
+    ensures by_host { IfErr result (λ e. IfNotOpened e.1 ((error : OpenError) × H.refuses host.now path.now error)) }
 {
     let (files, options) = match open_pair(host, path, start) {
         Ok(pair) => pair,

@@ -4,7 +4,7 @@ ghost use Rattle.std.specs.Prelude.{◌≡◌, ◌<◌, ◌^◌, IfSome, IfErr, 
 ghost use Rattle.sqlite.specs.Held.{state};
 ghost use Rattle.sqlite.specs.Files.{over_files};
 ghost use Rattle.sqlite.specs.WalFiles.{image_at};
-ghost use Rattle.sqlite_std_file.specs.declared.pair.OpenError.{OpenError as Refusal};
+ghost use Rattle.sqlite_std_file.specs.declared.pair.OpenError.{OpenError};
 ghost use Rattle.moo_world.specs.Rows.{IsGood};
 ghost use Rattle.moo_store.specs.Loading.{Loads};
 ghost use Rattle.moo_files.specs.Causes.{HasCauseOr, IsDenied, IsOpenable};
@@ -26,9 +26,13 @@ pub fn make_in<S: Alter + Drop>(
     conn: Connection<S>,
     rows: Option<Flat>,
 ) -> Result<World<S>, (StoreFault, Connection<S>)>
+    // The connection is in no transaction.
     requires outside { (state S.Store conn).in_transaction ≡ false }
+    // The rows are those of a world.
     requires good { IfSome rows (λ r. IsGood r.maps) }
+    // A cell holds the number of the last batch as a signed number of 64 bits.
     requires limit { IfSome rows (λ r. r.maps.head.seq < 2 ^ 63) }
+    // The World has these very rows, each in its printed cells; or the database is as it was, and there is a cause.
     ensures loads { Loads S.Store (rows_made rows) conn result }
 {
     match rows {
@@ -44,9 +48,13 @@ pub(crate) fn make_files<D: Disk + Drop>(
     conn: Connection<FileStore<D>>,
     rows: Option<Flat>,
 ) -> Result<World<FileStore<D>>, (StoreFault, Connection<FileStore<D>>)>
+    // The connection is in no transaction.
     requires outside { conn.in_transaction ≡ false }
+    // The rows are those of a world.
     requires good { IfSome rows (λ r. IsGood r.maps) }
+    // A cell holds the number of the last batch as a signed number of 64 bits.
     requires limit { IfSome rows (λ r. r.maps.head.seq < 2 ^ 63) }
+    // The World has these very rows, each in its printed cells; or the database is as it was, and there is a cause.
     ensures loads { Loads over_files (rows_made rows) conn result }
 {
     make_in(alloc, conn, rows)
@@ -67,15 +75,18 @@ pub fn make_from<T: Start, H: WorldFiles<T>>(
     start: T,
     rows: Option<Flat>,
 ) -> Result<World<FileStore<H::Disk>>, (StoreFault, Remains<T, H::Disk>)>
+    // The caller may open this path.
     requires may { H.may_open host.now path.now }
+    // The rows are those of a world.
     requires good { IfSome rows (λ r. IsGood r.maps) }
+    // A cell holds the number of the last batch as a signed number of 64 bits.
     requires limit { IfSome rows (λ r. r.maps.head.seq < 2 ^ 63) }
     // The world of these rows is made only in files that have room for it: nothing, half a first page, or a database without any table.
     // It has the very rows, with their numbers, each in its printed cells, and no other row is in any table; a crash leaves these. Else the
     // store failed, and the files hold what they held, or that world, whole, in the same cells.
     ensures makes { Makes (rows_made rows) (image_at T.Start) result }
-    // If they couldn't be opened, the host said so.
-    ensures refusing { IfErr result (λ e. IfNotOpened e.1 ((error : Refusal) × H.refuses host.now path.now error)) }
+    // If the files couldn't be opened, the host said so.
+    ensures by_host { IfErr result (λ e. IfNotOpened e.1 ((error : OpenError) × H.refuses host.now path.now error)) }
     // Files that hold nothing or a database are refused only if the host, the disk or memory did; and once a connection is open, if they
     // have room for a world, only if the disk failed, memory ran out, or a row is too big or has no number left.
     ensures cause { IsOpenable (image_at T.Start) →

@@ -6,7 +6,7 @@ ghost use Rattle.sqlite.specs.State.{HasCleanDisk};
 ghost use Rattle.sqlite.specs.Files.{over_files};
 ghost use Rattle.sqlite.specs.Tree.{Trees};
 ghost use Rattle.sqlite.specs.WalFiles.{image_at};
-ghost use Rattle.sqlite_std_file.specs.declared.pair.OpenError.{OpenError as Refusal};
+ghost use Rattle.sqlite_std_file.specs.declared.pair.OpenError.{OpenError};
 ghost use Rattle.moo_tables_rows.specs.Tables.{Tables};
 ghost use Rattle.moo_store.specs.Opening.{Adopting};
 ghost use Rattle.moo_store.specs.OpeningRows.{SaysOr, AreMigrated, not_ours};
@@ -30,13 +30,18 @@ const CANNOT_OPEN: StoreFault = StoreFault::Store(Error::SqliteFailure(ErrorCode
 
 const NO_DATABASE: StoreFault = StoreFault::Store(Error::SqliteFailure(ErrorCode::NotADatabase));
 
-/// Why a file with this metadata is refused before it is opened: there is no file, or it holds no byte. An empty file would be made a
-/// blank database by opening it. A log beside an empty file counts for nothing.
+/// Why a file with this metadata is refused before it is opened: there is no file, or it holds no byte. None if neither is so. An empty
+/// file would be made a blank database by opening it. A log beside an empty file counts for nothing.
 fn refusal_of_metadata(found: io::Result<Metadata>) -> Option<StoreFault>
+    // If there is no file, or it can't be looked at, it can't be opened.
     ensures missing { IsErr found → result ≡ Some cannot_open }
+    // A file without a byte isn't a database.
     ensures empty { IfOk found (λ meta. IsFile (file_type meta) → metadata_len meta ≡ 0 → result ≡ Some not_ours) }
+    // Any other file isn't refused yet.
     ensures fit { IfOk found (λ meta. (IsFile (file_type meta) → metadata_len meta ≢ 0) → result ≡ None) }
+    // No other fault comes.
     ensures fault { IfSome result (λ fault. (fault ≡ cannot_open) ⊎ (fault ≡ not_ours)) }
+    // A fault comes only of such files.
     ensures unfit { IsSome result → IsUnfit found }
 {
     match found {
@@ -46,13 +51,15 @@ fn refusal_of_metadata(found: io::Result<Metadata>) -> Option<StoreFault>
     }
 }
 
-/// `adopt` at the store in files, over any disk. What is known of that store weighs on each function that calls a generic one
-/// at it, so that this call stands alone.
+/// `adopt` at the store in files, over any disk. What is known of that store weighs on each function that calls a generic one at it, so
+/// this call has a function of its own.
 pub fn adopt_files<D: Disk + Drop>(
     alloc: Global,
     conn: Connection<FileStore<D>>,
 ) -> Result<World<FileStore<D>>, (StoreFault, Connection<FileStore<D>>)>
+    // The connection is in no transaction.
     requires outside { conn.in_transaction ≡ false }
+    // As of `adopt`: a World of the tables' good rows, or a fault, the connection and the database as it was.
     ensures adopts { Adopting over_files conn result }
 {
     adopt(alloc, conn)
@@ -73,6 +80,7 @@ pub fn open_from<T: Start, H: WorldFiles<T>>(
     path: &str,
     start: T,
 ) -> Result<World<FileStore<H::Disk>>, (StoreFault, Remains<T, H::Disk>)>
+    // The caller may look at this path and open it.
     requires may { H.may_open host.now path.now }
     // A World that is opened works at its own rows, which are good, and the files read as a sound database with tables of ours.
     ensures opened { IfOk result (IsOpenedOver (image_at T.Start)) }
@@ -80,12 +88,15 @@ pub fn open_from<T: Start, H: WorldFiles<T>>(
     // migrated to.
     ensures opens { (held : Contents) → Hold (image_at T.Start) held →
         IfOk result (λ world. HasCleanDisk (store_of over_files world) → Opens held world) }
-    // Files that are refused are spared. If they weren't opened it is for one of few reasons, and that they couldn't be the host said.
+    // Files that are refused are spared. If they weren't opened, the fault is CannotOpen, NotADatabase of an empty file, DatabaseBusy or
+    // OutOfMemory.
     ensures refused { IfErr result (λ e. IsRefusedFrom (image_at T.Start) e.0 e.1) }
-    // No damage is told of a state or of other tables, and they hold what they held, or what that was migrated to.
+    // By what the files hold: no damage is told of a state or of other tables, and they hold what they held, or what that was migrated
+    // to.
     ensures refuses { (held : Contents) → Hold (image_at T.Start) held →
         IfErr result (λ e. IsCleanRemains e.1 → Refuses held (image_at T.Start) e.0 e.1) }
-    ensures refusing { IfErr result (λ e. IfNotOpened e.1 ((error : Refusal) × H.refuses host.now path.now error)) }
+    // If the files couldn't be opened, the host said so.
+    ensures by_host { IfErr result (λ e. IfNotOpened e.1 ((error : OpenError) × H.refuses host.now path.now error)) }
     // Before a connection is open a database is refused only if the host denied it, the disk refused, or memory ran out.
     ensures cause { (trees : Trees) → HoldsTrees (image_at T.Start) trees →
         IfErr result (λ e. IsCleanRemains e.1 → HasCause (IsDenied (H.denies host.now) path.now) e.0 e.1) }

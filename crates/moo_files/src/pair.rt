@@ -13,16 +13,21 @@ use std::marker::PhantomData;
 #[derive(Drop)]
 pub struct NotOpened<T>(PhantomData<T>);
 
-/// The two files at a path, or why they can't be opened.
+/// Opens the two files at a path by spending a start. An error says why they can't be opened, with the seal of the start.
 pub(crate) fn open_files<T: Start, H: WorldFiles<T>>(
     host: &H,
     path: &str,
     start: T,
 ) -> Result<Files<H::Disk>, (OpenError, NotOpened<T>)>
+    // The caller may open this path.
     requires may { H.may_open host.now path.now }
+    // The disk lets both files be used.
     ensures usable { IfOk result (λ files. IsTrue (H.Disk.Disk.is_usable files.log) × IsTrue (H.Disk.Disk.is_usable files.db)) }
+    // They hold what the start says.
     ensures start { IfOk result (HoldStart T.Start H.Disk.Disk) }
+    // The host said why they can't be opened.
     ensures refused { IfErr result (λ e. H.refuses host.now path.now e.0) }
+    // The host denied the path.
     ensures denied { IsErr result → H.denies host.now path.now }
 {
     match host.open_database(path, start) {

@@ -9,7 +9,9 @@ use sqlite_disk::Disk;
 
 /// Files as `sqlite_std_file::open` gives them are usable and hold what the start says, as `WorldFiles::open_database` promises it.
 pub fn fresh_files_hold_start<T: Start>(files: &Files<FileFrom<T>>)
+    // The disk lets both files be used.
     ensures usable { IsTrue (file_is_usable T.Start files.now.log) → IsTrue (file_is_usable T.Start files.now.db)
         → IsTrue (⟦<FileFrom<T> as Disk>⟧.is_usable files.now.log) × IsTrue (⟦<FileFrom<T> as Disk>⟧.is_usable files.now.db) }
+    // They hold what the start says, and no call on them failed.
     ensures start { IsFresh true files.now.log → IsFresh false files.now.db → HoldStart T.Start ⟦<FileFrom<T> as Disk>⟧ files.now }
 {}

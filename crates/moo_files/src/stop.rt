@@ -28,10 +28,10 @@ use sqlite_disk::Disk;
 /// `image` is any contents of the log and of the database file that the disk allows (`DiskLeaves`). The disk was clean up to the stop.
 /// `close_connection` says of a connection that its trees are numbered.
 pub fn disk_leaves_a_database<D: Disk>()
-    // So it is if all that the connection may leave are databases.
+    // If all that the connection may leave are databases.
     ensures left { (conn : Held (FileStore D D.Disk)) (image : Image) → HasCleanDisk (file_state conn) → IsNumberedStore conn.store →
         AreDatabases (file_state conn).may_leave → DiskLeaves conn.store image → IsLeftBy (file_state conn) image }
-    // So it is of the connection of a World at a place whose cells are known.
+    // If it is that of a World, at a place whose cells are known.
     ensures place { (conn : Held (FileStore D D.Disk)) (place : Place) (image : Image) → HasCleanDisk (file_state conn) →
         IsNumberedStore conn.store → IsSome (moment_of place).cells → CrashLeavesAt (file_state conn) place →
         DiskLeaves conn.store image → IsLeftBy (file_state conn) image }
@@ -43,12 +43,14 @@ pub fn disk_leaves_a_database<D: Disk>()
 /// `image` is what they held, and `next` any contents that the disk allows (`BytesLeave`). The disk was clean up to the stop.
 /// `Remains::close` says of files that have a connection that its trees are numbered.
 pub fn disk_leaves_what_was_kept<T, D: Disk>()
+    // Files that kept a state hold it.
     ensures state { (s : State) (image : Image) (rest : Remains T D D.Disk) (next : Image) → IsCleanRemains rest → AreNumbered rest →
         HoldsState image s → StillHolds image rest s → BytesLeave image rest next → HoldsState next s }
+    // Files that kept a database hold it, or what it was migrated to.
     ensures trees { (trees : Trees) (image : Image) (rest : Remains T D D.Disk) (next : Image) → IsCleanRemains rest →
         AreNumbered rest → HoldsTrees image trees → AreDatabases (IsKept trees) → StillHoldsTrees image rest trees →
         BytesLeave image rest next → HoldsSuch (IsKept trees) next }
-    // So they hold a moment that was spared.
+    // Files that kept a moment hold it, or one of the same rows that it was migrated to.
     ensures moment { (m : Moment) (image : Image) (rest : Remains T D D.Disk) (next : Image) → IsCleanRemains rest →
         AreNumbered rest → HoldsMoment image m →
         KeepsSuch (λ trees. (end : Moment) × IsSparedMoment m end × AreTreesOf end trees) image rest →
@@ -63,7 +65,7 @@ pub fn open_after_stop<C: Disk, T, D: Disk>()
         IsNumberedStore stopped.connection.store → DiskLeaves stopped.connection.store image → OpensHeld image opened →
         (m : Moment) × MayBeLeft place m × HoldsMoment image m
         × IfOk opened (λ world. HasCleanDisk (store_of over_files world) → OpensAt m world) }
-    // It is never called damaged.
+    // If no World is opened, the files aren't called damaged: the store failed or memory ran out.
     ensures refused { (stopped : World (FileStore C C.Disk)) (place : Place) (image : Image) (opened : Attempt T D D.Disk) →
         Stands over_files stopped place → IsSome (moment_of place).cells → HasCleanDisk (store_of over_files stopped) →
         IsNumberedStore stopped.connection.store → DiskLeaves stopped.connection.store image → RefusesHeld image opened →

@@ -19,13 +19,14 @@ use moo_store::{StoreFault, World};
 use sqlite::{FileStore, Unknown};
 use std::alloc::Global;
 
-/// As `open_from`, for a file that nobody has read. At each refusal the file is closed; a log that an earlier run left is copied into it
-/// first.
+/// Opens the world that a file holds, as `open_from` does, for a file that nobody has read. At each refusal the file is closed; a log
+/// that an earlier run left is copied into it first.
 pub fn open_at<H: WorldFiles<Unknown>>(
     alloc: Global,
     host: &H,
     path: &str,
 ) -> Result<World<FileStore<H::Disk>>, StoreFault>
+    // The caller may look at this path and open it.
     requires may { H.may_open host.now path.now }
     // Whatever the file holds, the World works at its own rows, which are good, and what is said of rows alone is said of them.
     ensures { IfOk result (λ world. Stands over_files world (Works (rows_alone world.rows.maps))) }
@@ -39,17 +40,20 @@ pub fn open_at<H: WorldFiles<Unknown>>(
     }
 }
 
-/// As `make_from`, the opening world, for a file that nobody has read. At each refusal the file is closed.
+/// Makes the opening world in a file, as `make_from` does, for a file that nobody has read. At each refusal the file is closed.
 pub fn create_at<H: WorldFiles<Unknown>>(
     alloc: Global,
     host: &H,
     path: &str,
 ) -> Result<World<FileStore<H::Disk>>, StoreFault>
+    // The caller may open this path.
     requires may { H.may_open host.now path.now }
-    // The World works at the opening rows, and if the disk returns what was written, at a moment that has each in its printed cells.
+    // The World works at the opening rows.
     ensures unseen { IfOk result (λ world. Stands over_files world (Works (rows_alone opening_maps))) }
+    // If the disk returns what was written, it works at a moment that has each of these rows in its printed cells.
     ensures seen { IfOk result (λ world. HasCleanDisk (store_of over_files world) →
         (m : Moment) × IsMadeOf opening_maps m × Stands over_files world (Works m)) }
+    // A fault is one of the store or of memory.
     ensures fault { IfErr result IsOfStore }
 {
     match make_from(alloc, host, path, Unknown, None) {

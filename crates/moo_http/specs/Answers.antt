@@ -6,7 +6,7 @@ use Rattle.moo_world.specs.Judge.{State, judge, is_due}
 use Rattle.moo_store.specs.Answered.{reply_of, answer_of, answers_alone, state_behind}
 use Rattle.moo_store.specs.Moves.{RunsAt, AsksAt}
 use Rattle.moo_store.specs.Moment.{state_of_moment}
-use Rattle.moo_store.specs.Place.{Place, Works, Failed, Between}
+use Rattle.moo_store.specs.Place.{Place, Works}
 use Rattle.moo_http_request.specs.declared.asked.Asked.{Asked}
 use Rattle.moo_http_request.specs.declared.asked.Asked.TheVariants.{Refused, Calls, Each, Question}
 use Rattle.moo_http_request.specs.declared.each.Each.{Each as Apart}
@@ -33,8 +33,7 @@ answer s (Question question) = (outcome.Told (told_of question s), s)
 -- a World that works tells what holds at its state; one that failed is closed
 abbrev pub tell : (State → RequestOutcome) → Place → RequestOutcome
 tell told (Works m) = told (state_of_moment m)
-tell told (Failed m) = outcome.Closed
-tell told (Between m next) = outcome.Closed
+tell told place = outcome.Closed
 
 -- What comes of what is asked of a World at this place, and to which place that leads. A batch is run or asked as that of a text.
 abbrev pub Comes : Place → Asked → RequestOutcome → Place → Type 0
@@ -46,12 +45,12 @@ Comes from (Question question) o to = (o ≡ tell (λ s. outcome.Told (told_of q
 
 -- the World takes memory for what it hands out
 abbrev pub TakesMemory : Asked → Type 0
-TakesMemory (Refused refusal) = ⊥
 TakesMemory (Calls Run batch) = ⊤
-TakesMemory (Calls Ask batch) = ⊥
 TakesMemory (Each each) = ⊤
 TakesMemory (Question question) = TellingTakesMemory question
+TakesMemory asked = ⊥
 
--- So it comes; or memory for what is handed out is refused, and nothing changes.
+-- What may come of what is asked of a World at this place, and where that leads: what holds there; or memory for what is handed out is
+-- refused, and nothing changes.
 abbrev pub MayAnswer : Place → Asked → RequestOutcome → Place → Type 0
 MayAnswer from asked o to = Comes from asked o to ⊎ (TakesMemory asked × (o ≡ outcome.NoMemory) × (to ≡ from))

@@ -25,7 +25,7 @@ TellsOutcome whys (Replied reply) lines rest = (line : Option (String Global)) �
 TellsOutcome whys (each_replied replies seq) lines rest = AreTold whys replies lines rest
 TellsOutcome whys outcome lines rest = ⊤
 
--- so is what is shown, unless nothing is
+-- The lines that an answer shows are those with which the outcome is told; or it shows none.
 abbrev pub IsToldWith : List Why → RequestOutcome → List (Option (List ℕ)) → Type 0
 IsToldWith whys outcome shown = (shown ≡ []) ⊎ ((lines : List (Option (String Global))) × (rest : List Why)
     × (shown ≡ whys_shown lines) × TellsOutcome whys outcome lines rest)

@@ -6,13 +6,13 @@ use Rattle.moo_store.specs.declared.fault.StoreFault.TheVariants as fault
 use Rattle.moo_http_response.specs.declared.outcome.RequestOutcome.{RequestOutcome}
 use Rattle.moo_http_response.specs.declared.outcome.RequestOutcome.TheVariants as outcome
 
--- by the fault of a call
+-- what comes of a request, by the fault of the call on the World
 abbrev pub lost_by : StoreFault → RequestOutcome
 lost_by fault.OutOfMemory = outcome.NoMemory
 lost_by fault.Closed = outcome.Closed
 lost_by other = outcome.Fault
 
--- by the result of a batch that was run or asked
+-- what comes of a request, by the result of its batch, which was run or asked
 abbrev pub came_of : Result Reply StoreFault → RequestOutcome
 came_of (Ok reply) = outcome.Replied reply
 came_of (Err why) = lost_by why

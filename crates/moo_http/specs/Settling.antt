@@ -3,15 +3,15 @@ use Rattle.std.specs.Prelude.{◌≡◌, ◌+◌, ◌⊎◌, ℕ, zero, suc, Opt
 use Rattle.moo_arrivals.specs.declared.cause.Loss.{Loss}
 
 module _ {A : Type 0} (loses : A → Option Loss → A → Type 0) where
-  -- A source was asked for one, from so many that were answered and so many that failed: one that it tells of was answered, and has failed.
-  -- Or it wasn't asked.
+  -- A source was asked once for a connection whose answer was lost, where so many counted as answered and so many as failed. One that it
+  -- tells of counts as failed, and no more as answered. Or the source wasn't asked.
   abbrev pub TellsLoss : A → ℕ → ℕ → A → ℕ → ℕ → Type 0
   TellsLoss from answered failed to left lost =
       ((to ≡ from) × (left ≡ answered) × (lost ≡ failed))
       ⊎ ((loses from None to × (left ≡ answered) × (lost ≡ failed))
       ⊎ ((loss : Loss) × loses from (Some loss) to × (answered ≡ left + 1) × (lost ≡ failed + 1)))
 
-  -- so often, one after another
+  -- A source was asked so often for a connection whose answer was lost, one time after another.
   abbrev pub TellsLosses : ℕ → A → ℕ → ℕ → A → ℕ → ℕ → Type 0
   TellsLosses zero from answered failed to left lost = (to ≡ from) × (left ≡ answered) × (lost ≡ failed)
   TellsLosses (suc n) from answered failed to left lost =

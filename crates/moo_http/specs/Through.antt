@@ -27,16 +27,17 @@ FailedThrough Read from to peer = (to ≡ from) × Keeps peer.before peer.after
 FailedThrough OutOfMemory from to peer =
     Keeps peer.before peer.after × ((to ≡ from) ⊎ ((output : List ℕ) × Yields from to peer output))
 
--- an answer of which nothing is left to be sent is the peer's answer
+-- If nothing is left to be sent of an answer that was written whole, the peer got all of it.
 abbrev pub AnswersPass : Type 0
 AnswersPass = (from to : Place) (peer judge : Traffic) → Passes peer judge [] → Exchanged (Ok tt) from to judge →
     Exchanged (Ok tt) from to peer
 
--- of another the peer has a front
+-- If something is left to be sent of an answer that was written whole, the peer got a front of it.
 abbrev pub FrontsPass : Type 0
 FrontsPass = (from to : Place) (peer judge : Traffic) (unsent : List ℕ) → Passes peer judge unsent →
     Exchanged (Ok tt) from to judge → Exchanged (Err Write) from to peer
 
+-- If a connection met a fault, its peer sees what belongs to that fault.
 abbrev pub FaultsPass : Type 0
 FaultsPass = (fault : ServeFault) (from to : Place) (peer judge : Traffic) (unsent : List ℕ) → Passes peer judge unsent →
     Exchanged (Err fault) from to judge → FailedThrough fault from to peer

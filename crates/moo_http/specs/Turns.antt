@@ -37,7 +37,7 @@ Exchanged (Err Read) from to bytes = (to ≡ from) × (bytes.after ≡ bytes.bef
 Exchanged (Err OutOfMemory) from to bytes =
     (bytes.after ≡ bytes.before) × ((to ≡ from) ⊎ ((output : List ℕ) × Yields from to bytes output))
 
--- The same, by whether it was answered. If its request is said to be unread, this holds.
+-- What came of a connection, by whether it was answered. If it failed since its request is unread, `Unread` holds.
 abbrev pub Visited : Type 0 → Bool → Place → Place → Traffic → Type 0
 Visited Unread true from to bytes = Exchanged (Ok tt) from to bytes
 Visited Unread false from to bytes = (fault : ServeFault) × (fault ≡ Read → Unread) × Exchanged (Err fault) from to bytes
@@ -62,23 +62,23 @@ pub data Happening : Type 0 where
   visit : Bool → Happening
   settle : Option Loss → Happening
 
+-- how many turns of connections ended with an answer
 abbrev pub answered_in : List Happening → ℕ
 answered_in [] = 0
 answered_in (visit true ∷ turns) = suc (answered_in turns)
-answered_in (visit false ∷ turns) = answered_in turns
-answered_in (settle told ∷ turns) = answered_in turns
+answered_in (turn ∷ turns) = answered_in turns
 
+-- how many turns of connections ended without an answer
 abbrev pub failed_in : List Happening → ℕ
 failed_in [] = 0
-failed_in (visit true ∷ turns) = failed_in turns
 failed_in (visit false ∷ turns) = suc (failed_in turns)
-failed_in (settle told ∷ turns) = failed_in turns
+failed_in (turn ∷ turns) = failed_in turns
 
+-- of how many connections whose answers were lost the source told
 abbrev pub lost_in : List Happening → ℕ
 lost_in [] = 0
-lost_in (visit answered ∷ turns) = lost_in turns
 lost_in (settle (Some loss) ∷ turns) = suc (lost_in turns)
-lost_in (settle None ∷ turns) = lost_in turns
+lost_in (turn ∷ turns) = lost_in turns
 
 -- a source of connections, by what it is before and after it hands one out and takes one back, by the bytes that are known of them, and by
 -- when a reader of them fails
@@ -116,7 +116,8 @@ module _ {A R W : Type 0} (source : Arrivals.Ghosts A R W) (reader : Reading.Gho
   abbrev pub AttendsAll : ℕ → ℕ → A → Place → A → Place → Type 0
   AttendsAll answered failed old from new to = Attended answered failed old from new to × HasNoneLeft source.loses answered new
 
-  -- What comes of the service, by its result.
+  -- What comes of a service over one source, by its result: its turns lead from place to place, and its two lines are written, or a front
+  -- of them.
   abbrev pub ServesFrom : Result (Unit {0}) ServiceFault → ℕ → ℕ → A → Place → A → Place → Option (List ℕ) → Option (List ℕ) → Type 0
   ServesFrom result port count old from new to before after =
       SaysByResult (λ answered failed. AttendsAll answered failed old from new to) ((new ≡ old) × (to ≡ from)) result port count before after

@@ -21,7 +21,7 @@ use moo_world::{Batch, is_due};
 use sqlite::Alter;
 use std::alloc::Global;
 
-/// What comes of what the World refused.
+/// What comes of a request, by the fault of the World: NoMemory if memory ran out, Closed if the World had failed before, else Fault.
 fn outcome_of_fault(fault: StoreFault) -> RequestOutcome
     ensures { result ≡ lost_by fault }
 {
@@ -34,7 +34,7 @@ fn outcome_of_fault(fault: StoreFault) -> RequestOutcome
     }
 }
 
-/// What comes of a batch that was run or asked.
+/// What comes of a batch that was run or asked, by its reply or the fault of the World.
 fn outcome_of_reply(reply: Result<Reply, StoreFault>) -> RequestOutcome
     ensures { result ≡ came_of reply }
 {
@@ -44,27 +44,34 @@ fn outcome_of_reply(reply: Result<Reply, StoreFault>) -> RequestOutcome
     }
 }
 
+/// Runs one batch, which is committed if it is accepted. Why it is refused is kept, if that is wanted.
 fn run_batch<S: Alter + Drop>(
     world: &mut World<S>,
     batch: &Batch,
     whys: &mut Whys,
 ) -> RequestOutcome
+    // Wherever the World was, what comes of it is what a run comes to there, and the World is where that leads.
     ensures moves { MovesBy S.Store world.old world.new (λ from to. MayAnswer from (Asked.Calls Mode.Run batch.now) result to) }
+    // Unless the batch was accepted, or the store failed in it, it is the very World.
     ensures still { IsStillOrAdvanced S.Store world.old world.new }
+    // If it is refused its refusal is kept, and else none.
     ensures seen { HasSeenAsked world.old.rows.maps (Asked.Calls Mode.Run batch.now) result (seen_by whys.old) (seen_by whys.new) }
 {
     outcome_of_reply(world.run_one(batch, whys))
 }
 
+/// Asks what one batch would come to at present. Why it would be refused is kept, if that is wanted.
 fn ask_batch<S: Alter + Drop>(world: &World<S>, batch: &Batch, whys: &mut Whys) -> RequestOutcome
     ensures comes { (place : Place) → Stands S.Store world.now place →
         MayAnswer place (Asked.Calls Mode.Ask batch.now) result place }
+    // If it would be refused its refusal is kept, and else none.
     ensures seen { HasSeenAsked world.now.rows.maps (Asked.Calls Mode.Ask batch.now) result (seen_by whys.old) (seen_by whys.new) }
 {
     outcome_of_reply(world.ask(batch, whys))
 }
 
-/// What comes of calls that are asked each alone, at this present number.
+/// What comes of calls that are asked each alone of a World with this number: a reply to each, or Stale if they are meant for another
+/// number.
 fn ask_each_at<S: Alter + Drop>(
     world: &World<S>,
     each: &Each,
@@ -84,7 +91,7 @@ fn ask_each_at<S: Alter + Drop>(
     }
 }
 
-/// What comes of calls that are asked each alone.
+/// What comes of calls that are asked each alone. Why each would be refused is kept, if that is wanted.
 fn ask_each<S: Alter + Drop>(world: &World<S>, each: &Each, whys: &mut Whys) -> RequestOutcome
     ensures comes { (place : Place) → Stands S.Store world.now place → MayAnswer place (Asked.Each each.now) result place }
     ensures seen { HasSeenAsked world.now.rows.maps (Asked.Each each.now) result (seen_by whys.old) (seen_by whys.new) }
@@ -95,7 +102,7 @@ fn ask_each<S: Alter + Drop>(world: &World<S>, each: &Each, whys: &mut Whys) -> 
     }
 }
 
-/// What comes of a question to a World of these rows that works.
+/// What comes of a question to a World that works and has these rows. NoMemory if memory runs out.
 fn ask_rows<R: Rows>(alloc: Global, rows: &R, question: Question) -> RequestOutcome
     requires { IsGood (R.held rows.now).maps }
     ensures { let place = Works (rows_alone (R.held rows.now).maps) in MayAnswer place (Asked.Question question) result place }
@@ -106,7 +113,7 @@ fn ask_rows<R: Rows>(alloc: Global, rows: &R, question: Question) -> RequestOutc
     }
 }
 
-/// What comes of a question.
+/// What comes of a question to a World. Closed if the World has failed, NoMemory if memory runs out.
 fn ask_question<S: Alter + Drop>(
     alloc: Global,
     world: &World<S>,
@@ -120,7 +127,7 @@ fn ask_question<S: Alter + Drop>(
     }
 }
 
-/// Runs or asks one batch.
+/// Runs or asks one batch. Why it is refused is kept, if that is wanted.
 #[tactic(auto, using(crate::proofs::Going::still_none))]
 fn take_batch<S: Alter + Drop>(
     world: &mut World<S>,
@@ -128,8 +135,11 @@ fn take_batch<S: Alter + Drop>(
     batch: &Batch,
     whys: &mut Whys,
 ) -> RequestOutcome
+    // Wherever the World was, what comes of it is what a run or an asking comes to there, and the World is where that leads.
     ensures moves { MovesBy S.Store world.old world.new (λ from to. MayAnswer from (Asked.Calls mode batch.now) result to) }
+    // Unless the batch was accepted, or the store failed in it, it is the very World.
     ensures still { IsStillOrAdvanced S.Store world.old world.new }
+    // If it is refused its refusal is kept, and else none.
     ensures seen { HasSeenAsked world.old.rows.maps (Asked.Calls mode batch.now) result (seen_by whys.old) (seen_by whys.new) }
 {
     match mode {
@@ -138,7 +148,8 @@ fn take_batch<S: Alter + Drop>(
     }
 }
 
-/// Does what is asked. Why a batch is refused, or each call that is asked alone, is kept in their order if it is wanted.
+/// Does what a request asks: runs or asks a batch, asks calls each alone, answers a question, or refuses it. Why a batch is refused, or
+/// each call that is asked alone, is kept in their order if that is wanted.
 #[tactic(auto, using(crate::proofs::Going::still_none))]
 pub(crate) fn consult<S: Alter + Drop>(
     alloc: Global,
@@ -149,7 +160,9 @@ pub(crate) fn consult<S: Alter + Drop>(
     // Wherever the World was, what comes of it is what holds there. Only a batch that is run leads on: it keeps the cells of the rows that
     // it leaves as they are, and all numbers.
     ensures moves { MovesBy S.Store world.old world.new (λ from to. MayAnswer from asked.now result to) }
+    // Unless a batch was accepted, or the store failed in it, it is the very World.
     ensures still { IsStillOrAdvanced S.Store world.old world.new }
+    // Of a batch, or of each call that is asked alone, a refusal is kept if it is refused, and else none.
     ensures seen { HasSeenAsked world.old.rows.maps asked.now result (seen_by whys.old) (seen_by whys.new) }
 {
     match asked {

@@ -22,13 +22,16 @@ pub fn answers_are_defined()
 
 /// What is exchanged through a desk is what the peer sees: all of its answer once nothing is left to be sent, else a front of it.
 pub fn exchanges_pass_through()
+    // If nothing is left to be sent of an answer, the peer got all of it; if something is left, a front of it.
     ensures sent { AnswersPass }
     ensures lost { FrontsPass }
+    // If the connection met a fault, the peer sees what belongs to that fault.
     ensures failed { FaultsPass }
 {}
 
 /// The turns of connections lead on by accepted batches, and by nothing else: to whatever may be left where they end.
 pub fn connections_lead_on<A: Arrivals>()
+    // If accepted batches led to where the turns began, accepted batches lead to where they end.
     ensures leads { (m : Moment) (answered failed : ℕ) (old new : A) (from to : Place) →
         Attended A.Arrivals A.Reader.Read A.Reader.fails A.Writer.Write answered failed old from new to → LeadsTo m from → LeadsTo m to }
 {}

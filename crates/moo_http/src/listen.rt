@@ -1,4 +1,4 @@
-//! Connections, served in turn.
+//! The connections of a source, served one after another.
 
 ghost use Rattle.std.specs.Prelude.{◌≡◌, ◌⊎◌, ◌+◌, ◌^◌, ◌<◌, ℕ, true, false};
 ghost use Rattle.moo_store.specs.Moves.{MovesBy};
@@ -39,11 +39,13 @@ pub fn serve_connection<S: Alter + Drop, R: Incoming, W: Write>(
     ensures visited { MovesBy S.Store world.old world.new (λ from to.
         Visited (HasFailed R.fails connection.new.reader ⊎ (connection.old.is_limited ≡ false)) result from to
         (traffic_of R.Read W.Write connection.old connection.new)) }
+    // One whose waits aren't limited isn't read, nothing is written to it, and the World isn't asked.
     ensures unlimited { connection.old.is_limited ≡ false →
         (result ≡ false) × (world.new ≡ world.old) × (connection.new ≡ connection.old) }
     // If it was answered by a refusal, the note says that it is to be closed gently.
     ensures gentle { result ≡ true →
         ClosesGently (R.remaining connection.old.reader) (R.remaining connection.new.reader) note.new.closing }
+    // Unless a batch was accepted, or the store failed in it, it is the very World.
     ensures still { IsStillOrAdvanced S.Store world.old world.new }
 {
     let is_limited = connection.is_limited;
@@ -71,8 +73,10 @@ pub fn serve_next<S: Alter + Drop, A: Arrivals>(
     world: &mut World<S>,
     note: &mut Note,
 ) -> bool
+    // The source hands out one connection, which is served and taken back; or it hands out none, and the World isn't asked.
     ensures turn { MovesBy S.Store world.old world.new (λ from to.
         Visit A.Arrivals A.Reader.Read A.Reader.fails A.Writer.Write result arrivals.old from arrivals.new to) }
+    // Unless a batch was accepted, or the store failed in it, it is the very World.
     ensures still { IsStillOrAdvanced S.Store world.old world.new }
 {
     let Some(mut connection) = arrivals.accept(means.routes, left) else {
@@ -94,9 +98,11 @@ fn settle_one<'a, A: Arrivals, C: Clock + Eprint>(
     is_last: bool,
 ) -> bool
     requires { served.old.answered + served.old.failed < 2 ^ 32 }
+    // A connection of which the source tells counts as failed, and no more as answered. Else the counts stay.
     ensures tells { TellsLoss A.loses arrivals.old served.old.answered served.old.failed
         arrivals.new served.new.answered served.new.failed }
     ensures more { result ≡ true → served.new.answered + 1 ≡ served.old.answered }
+    // None is left to be told of: none counts as answered, or the source told of none.
     ensures none { result ≡ false → HasNoneLeft A.loses served.new.answered arrivals.new }
 {
     if served.answered == 0 {
@@ -111,15 +117,18 @@ fn settle_one<'a, A: Arrivals, C: Clock + Eprint>(
     true
 }
 
-/// Asks a source for each connection whose answer was lost after its turn, once each answer is sent or lost.
+/// Asks a source for all connections whose answers were lost after their turns, once each answer is sent or lost. Each has failed, and the
+/// log is told.
 fn settle_rest<'a, A: Arrivals, C: Clock + Eprint>(
     arrivals: &mut A,
     log: &mut Log<'a, C>,
     served: &mut Served,
 )
     requires { served.old.answered + served.old.failed < 2 ^ 32 }
+    // Each connection of which the source tells counts as failed, and no more as answered.
     ensures tells { (asked : ℕ) × TellsLosses A.loses asked arrivals.old served.old.answered served.old.failed
         arrivals.new served.new.answered served.new.failed }
+    // None is left to be told of: none counts as answered, or the source told of none.
     ensures none { HasNoneLeft A.loses served.new.answered arrivals.new }
 {
     for _ in 0..served.answered {
@@ -138,8 +147,10 @@ fn serve_each<'a, S: Alter + Drop, A: Arrivals, C: Clock + Eprint>(
     count: u32,
 ) -> Served
     ensures count { result.answered + result.failed ≡ count }
+    // The World was led on by what the connections asked, in their order, and by nothing else. So many were answered, and so many failed.
     ensures serves { MovesBy S.Store world.old world.new (λ from to. Attended A.Arrivals A.Reader.Read A.Reader.fails
         A.Writer.Write result.answered result.failed arrivals.old from arrivals.new to) }
+    // Unless a batch was accepted, or the store failed in one, it is the very World.
     ensures still { IsStillOrAdvanced S.Store world.old world.new }
 {
     let mut served = Served {
@@ -169,12 +180,13 @@ pub fn serve_on<'a, S: Alter + Drop, A: Arrivals, C: Clock + Eprint>(
     count: u32,
 ) -> Served
     ensures count { result.answered + result.failed ≡ count }
-    // The World was led on by what the connections asked that the source handed out, in their order, each of which got its answer or failed,
-    // and by nothing else. So many of them were answered, and so many failed. Just the batches that they asked and that were run wrote to
-    // the tables: each keeps the cells of what stays, and all numbers. At last the source told of no lost answer, unless none counts as
-    // answered.
+    // The World was led on by what the connections asked that the source handed out, in their order, each of which got its answer or
+    // failed, and by nothing else. So many of them were answered, and so many failed. Just the batches that they asked and that were run
+    // wrote to the tables: each keeps the cells of what stays, and all numbers. At last the source told of no lost answer, unless none
+    // counts as answered.
     ensures serves { MovesBy S.Store world.old world.new (λ from to. AttendsAll A.Arrivals A.Reader.Read A.Reader.fails
         A.Writer.Write result.answered result.failed arrivals.old from arrivals.new to) }
+    // Unless a batch was accepted, or the store failed in one, it is the very World.
     ensures still { IsStillOrAdvanced S.Store world.old world.new }
 {
     let mut served = serve_each(means, arrivals, log, world, count);

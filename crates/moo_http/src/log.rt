@@ -24,14 +24,14 @@ fn seconds<C: Clock>(clock: &C) -> u64 {
     }
 }
 
-/// Puts the line of one connection.
+/// Writes the line of one connection: the time, its route and what went wrong.
 fn put_line<C: Eprint>(rt: &C, second: u64, route: Route, trouble: Trouble) {
     if let Ok(date) = HttpDate::from_unix_secs(second) {
         let _said = eprintln!(rt; "moo: {date}: {route}: {trouble}");
     }
 }
 
-/// Says how many had no line, if any.
+/// Writes how many connections had no line, if any had none.
 fn put_untold<C: Eprint>(rt: &C, untold: u32) {
     if untold > 0 {
         let _said = eprintln!(rt; "moo: {untold} more connections failed or were answered 503");
@@ -39,6 +39,7 @@ fn put_untold<C: Eprint>(rt: &C, untold: u32) {
 }
 
 impl<'a, C: Clock + Eprint> Log<'a, C> {
+    /// A log on this console, to which nothing was told yet.
     pub fn new(rt: &'a C) -> Log<'a, C> {
         Log {
             rt,
@@ -46,7 +47,7 @@ impl<'a, C: Clock + Eprint> Log<'a, C> {
         }
     }
 
-    /// Tells of a connection, if it failed or was answered 503, and the second has room for a line.
+    /// Writes the line of a connection that failed or was answered 503, if the second has room for one; else it is counted.
     pub(crate) fn tell(&mut self, note: Note) {
         let Some(trouble) = note.trouble else {
             return;
@@ -62,7 +63,7 @@ impl<'a, C: Clock + Eprint> Log<'a, C> {
         }
     }
 
-    /// Says how many had no line after the last one.
+    /// Writes how many connections had no line after the last line.
     pub(crate) fn finish(&mut self) {
         put_untold(self.rt, self.rate.untold);
         self.rate = Rate::new();

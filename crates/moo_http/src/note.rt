@@ -14,7 +14,9 @@ use std::fmt::{self, Display, Formatter};
 /// Why a connection failed, or was answered 503.
 #[derive(Clone, Copy, Drop)]
 pub enum Trouble {
+    /// It can't be taken from its source.
     NotTaken,
+    /// Its waits aren't limited, so that it isn't read.
     NotLimited,
     /// The request wasn't gathered to its end.
     Read(Cause),
@@ -22,12 +24,17 @@ pub enum Trouble {
     Write,
     /// The answer wasn't taken to its end.
     Lost(Cause),
+    /// Memory ran out, and it has no answer.
     OutOfMemory,
+    /// It was answered 503: the World had failed before.
     Closed,
+    /// It was answered 503: the store failed.
     Store,
+    /// It was answered 503: memory or ticks ran out.
     NoMemory,
 }
 
+/// The words that the log has for it.
 impl Display for Trouble {
     fn fmt<W: fmt::Write>(&self, f: &mut Formatter<W>) -> fmt::Result {
         let text = match self {
@@ -47,7 +54,7 @@ impl Display for Trouble {
     }
 }
 
-/// What a fault means for a connection whose request, if it can't be read, fails for this cause.
+/// Why a connection failed, by the fault of serving it. `cause` is why its request can't be read, if that is the fault.
 fn trouble_of_fault(fault: ServeFault, cause: Cause) -> Trouble {
     match fault {
         ServeFault::Read => Trouble::Read(cause),
@@ -75,6 +82,7 @@ fn route_of_batch(mode: Mode) -> Route {
     }
 }
 
+/// The route that a request asked for, or Unknown if it was refused.
 fn route_of(asked: &Asked) -> Route {
     match asked {
         Asked::Refused(_) => Route::Unknown,
@@ -94,7 +102,7 @@ fn closing_after(asked: &Asked) -> Closing
     }
 }
 
-/// Why a reply is answered 503, if it is.
+/// Why a batch with this reply is answered 503, or None if it has another status.
 fn trouble_of_reply(reply: &Reply) -> Option<Trouble>
     ensures some { IfSome result (λ _. (reply_response reply.now).status ≡ 503) }
     ensures none { IfNone result ((reply_response reply.now).status ≢ 503) }
@@ -105,7 +113,7 @@ fn trouble_of_reply(reply: &Reply) -> Option<Trouble>
     }
 }
 
-/// Why an outcome is answered 503, if it is.
+/// Why a request with this outcome is answered 503, or None if it has another status.
 fn trouble_of(outcome: &RequestOutcome) -> Option<Trouble>
     ensures some { IfSome result (λ _. (response_of outcome.now).status ≡ 503) }
     ensures none { IfNone result ((response_of outcome.now).status ≢ 503) }
@@ -120,7 +128,7 @@ fn trouble_of(outcome: &RequestOutcome) -> Option<Trouble>
 }
 
 impl Note {
-    /// Before anything is known of the connection.
+    /// The note on a connection of which nothing is known yet.
     pub fn new() -> Note {
         Note {
             route: Route::Unknown,
@@ -130,7 +138,7 @@ impl Note {
         }
     }
 
-    /// Of a connection whose answer was lost after its turn.
+    /// The note on a connection whose answer was lost after its turn.
     pub(crate) fn of_loss(loss: Loss) -> Note {
         Note {
             route: loss.route,
@@ -140,7 +148,7 @@ impl Note {
         }
     }
 
-    /// Notes what is asked.
+    /// Notes the route that is asked for, and how the connection is to be closed after its answer.
     pub(crate) fn asks(&mut self, asked: &Asked)
         ensures { (refusal : Refusal) → asked.now ≡ Asked.Refused refusal → self.new.closing ≡ Closing.Gently }
     {
@@ -148,14 +156,14 @@ impl Note {
         self.closing = closing_after(asked);
     }
 
-    /// Notes what comes of it.
+    /// Notes why what was asked is answered 503, if it is.
     pub(crate) fn comes_to(&mut self, outcome: &RequestOutcome)
         ensures { self.new.closing ≡ self.old.closing }
     {
         self.trouble = trouble_of(outcome);
     }
 
-    /// Notes that the connection failed. A failure of the store is the deeper cause.
+    /// Notes that the connection failed, and is to be closed at once. What was noted before stays, as that the store failed.
     pub(crate) fn fails(&mut self, trouble: Trouble) {
         if self.trouble.is_none() {
             self.trouble = Some(trouble);
@@ -163,7 +171,7 @@ impl Note {
         self.closing = Closing::AtOnce;
     }
 
-    /// Notes how serving it ended; whether it was answered.
+    /// Notes the fault that serving the connection ended with, if it met one; whether it was answered.
     pub(crate) fn ends(&mut self, served: Result<(), ServeFault>) -> bool
         ensures answered { result ≡ is_ok served }
         ensures closing { result ≡ true → self.new.closing ≡ self.old.closing }

@@ -14,7 +14,7 @@ pub(crate) struct Rate {
 }
 
 impl Rate {
-    /// Before the first line.
+    /// The rate before the first line.
     pub(crate) fn new() -> Rate
         ensures { (result.told ≡ 0) × (result.untold ≡ 0) }
     {
@@ -25,7 +25,7 @@ impl Rate {
         }
     }
 
-    /// In this second. Another second than that of the last line begins anew.
+    /// The rate in this second. In another second than that of the last line none is told yet.
     pub(crate) fn at(self, second: u64) -> Rate
         ensures second { result.second ≡ second }
         ensures same { second ≡ self.second → result.told ≡ self.told }
@@ -47,7 +47,7 @@ impl Rate {
         self.told < MOST
     }
 
-    /// After one more line is told.
+    /// The rate after one more line is told.
     pub(crate) fn with_told(self) -> Rate
         requires { self.told < 10 }
         ensures { (result.second ≡ self.second) × (result.told ≡ self.told + 1) × (result.untold ≡ 0) }
@@ -59,7 +59,7 @@ impl Rate {
         }
     }
 
-    /// After one more line isn't told.
+    /// The rate after a connection that got no line. At most 4,294,967,295 of these are counted.
     pub(crate) fn with_untold(self) -> Rate
         ensures kept { (result.second ≡ self.second) × (result.told ≡ self.told) }
         ensures more { self.untold < 2 ^ 32 - 1 → result.untold ≡ self.untold + 1 }

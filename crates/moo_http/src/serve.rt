@@ -1,4 +1,4 @@
-//! One request, answered.
+//! One request of a connection, and its answer.
 
 ghost use Rattle.std.specs.Prelude.{◌≡◌, ◌≢◌, IfErr, OnOk};
 ghost use Rattle.moo_store.specs.Moves.{MovesBy};
@@ -26,6 +26,7 @@ use std::io::Write;
 pub struct Means<'r> {
     pub alloc: Global,
     pub routes: &'r Routes,
+    /// How many ticks each request has.
     pub ticks: u32,
 }
 
@@ -39,7 +40,8 @@ pub(crate) struct Inquiry {
     pub(crate) asks_why: bool,
 }
 
-/// Does what is asked, and writes the answer, which says why it is refused if that is asked too.
+/// Does what a request asks, and writes the answer, which says why it is refused if that is asked too. Write if the writer fails;
+/// OutOfMemory if memory for the answer runs out.
 fn serve_asked<S: Alter + Drop, W: Write>(
     means: &Means<'_>,
     inquiry: &Inquiry,
@@ -47,11 +49,15 @@ fn serve_asked<S: Alter + Drop, W: Write>(
     world: &mut World<S>,
     note: &mut Note,
 ) -> Result<(), ServeFault>
+    // Wherever the World was, the answer that holds there is written, as far as the result says, and the World is where that leads.
     ensures answered { MovesBy S.Store world.old world.new (λ from to. AnswersAsked inquiry.now.is_head inquiry.now.asks_why
         inquiry.now.asked result from to (W.contents writer.old) (W.contents writer.new)) }
+    // Unless a batch was accepted, or the store failed in it, it is the very World.
     ensures still { IsStillOrAdvanced S.Store world.old world.new }
+    // Nothing is written at another fault than Write.
     ensures unwritten { IfErr result (λ fault. fault ≢ ServeFault.Write → writer.new ≡ writer.old) }
     ensures fault { IfErr result (λ fault. fault ≢ ServeFault.Read) }
+    // After a refusal the note says that the connection is to be closed gently.
     ensures gentle { (refusal : Refusal) → inquiry.now.asked ≡ Asked.Refused refusal → note.new.closing ≡ Closing.Gently }
 {
     note.asks(&inquiry.asked);
@@ -86,7 +92,9 @@ pub fn serve_one<S: Alter + Drop, R: Incoming, W: Write>(
         })) }
     // Unless a batch was accepted, or the store failed in it, it is the very World.
     ensures still { IsStillOrAdvanced S.Store world.old world.new }
+    // Nothing is written at another fault than Write.
     ensures unwritten { IfErr result (λ fault. fault ≢ ServeFault.Write → writer.new ≡ writer.old) }
+    // If the reader failed the World isn't asked.
     ensures unread { IfErr result (λ fault. fault ≡ ServeFault.Read → world.new ≡ world.old) }
     // The reader did fail, at the last read.
     ensures cause { IfErr result (λ fault. fault ≡ ServeFault.Read → HasFailed R.fails reader.new) }

@@ -56,21 +56,24 @@ impl From<AllocError> for ServiceFault {
     }
 }
 
+/// The line that tells the port. AllocError if memory runs out.
 fn listening_text(alloc: Global, port: u16) -> Result<String, AllocError>
     ensures { IfOk result (λ text. string_bytes text ≡ listening_line port) }
 {
     format!(in alloc; "listening 127.0.0.1:{port}\n")
 }
 
+/// The line that tells how many connections were answered, and how many failed. AllocError if memory runs out.
 fn served_text(alloc: Global, answered: u32, failed: u32) -> Result<String, AllocError>
     ensures { IfOk result (λ text. string_bytes text ≡ served_line answered failed) }
 {
     format!(in alloc; "served {answered} failed {failed}\n")
 }
 
-/// Writes a text, and flushes it so that it is seen at once.
+/// Writes a text, and flushes it so that it is seen at once. Write if the output fails.
 fn say<W: Write>(output: &mut W, text: &str) -> Result<(), ServiceFault>
     ensures ok { OnOk result (Appends (W.contents output.old) (W.contents output.new) text.now) }
+    // At a fault a front of it is written.
     ensures err { OnErr result (WritesFront text.now (W.contents output.old) (W.contents output.new)) }
     ensures fault { IfErr result (λ fault. fault ≢ ServiceFault.Port) }
 {
@@ -83,8 +86,10 @@ fn say<W: Write>(output: &mut W, text: &str) -> Result<(), ServiceFault>
     Ok(())
 }
 
+/// Writes the line that tells the port. Write if the output fails; OutOfMemory if memory runs out.
 fn say_listening<W: Write>(alloc: Global, output: &mut W, port: u16) -> Result<(), ServiceFault>
     ensures ok { OnOk result (Appends (W.contents output.old) (W.contents output.new) (listening_line port)) }
+    // At a fault a front of it is written.
     ensures err { OnErr result (WritesFront (listening_line port) (W.contents output.old) (W.contents output.new)) }
     ensures fault { IfErr result (λ fault. fault ≢ ServiceFault.Port) }
 {
@@ -92,8 +97,11 @@ fn say_listening<W: Write>(alloc: Global, output: &mut W, port: u16) -> Result<(
     say(output, line.as_str())
 }
 
+/// Writes the line that tells how many connections were answered and how many failed. Write if the output fails; OutOfMemory if memory runs
+/// out.
 fn say_served<W: Write>(alloc: Global, output: &mut W, served: Served) -> Result<(), ServiceFault>
     ensures ok { OnOk result (Appends (W.contents output.old) (W.contents output.new) (served_line served.answered served.failed)) }
+    // At a fault a front of it is written.
     ensures err { OnErr result (WritesFront (served_line served.answered served.failed)
         (W.contents output.old) (W.contents output.new)) }
     ensures fault { IfErr result (λ fault. fault ≢ ServiceFault.Port) }
@@ -114,10 +122,13 @@ pub fn serve_from<S: Alter + Drop, A: Arrivals, C: Clock + Eprint, W: Write>(
     duty: Duty,
     output: &mut W,
 ) -> Result<(), ServiceFault>
+    // The World was led on by what the connections asked that the source handed out, and by nothing else. The two lines tell the port and
+    // how many were answered and failed; at a fault a front of them is written.
     ensures serves { MovesBy S.Store world.old world.new (λ from to.
         ServesFrom A.Arrivals A.Reader.Read A.Reader.fails A.Writer.Write result duty.port duty.count
         arrivals.old from arrivals.new to (W.contents output.old) (W.contents output.new)) }
     ensures fault { IfErr result (λ fault. fault ≢ ServiceFault.Port) }
+    // Unless a batch was accepted, or the store failed in one, it is the very World.
     ensures still { IsStillOrAdvanced S.Store world.old world.new }
 {
     let routes = Routes::new(tools.alloc)?;

@@ -13,7 +13,8 @@ use moo_reasons::{Whys, call_why};
 use moo_text::Reply;
 use std::alloc::{AllocError, Global};
 
-/// Why a text isn't a call, if it isn't one.
+/// The sentence that says why a text isn't a call. None if the text is one, or isn't known. AllocError if memory runs out, as in each
+/// function of this file.
 fn text_why(alloc: Global, text: &Option<String>) -> Result<Option<String>, AllocError> {
     match text {
         Some(text) => Ok(Some(call_why(alloc, text)?)),
@@ -21,7 +22,7 @@ fn text_why(alloc: Global, text: &Option<String>) -> Result<Option<String>, Allo
     }
 }
 
-/// A list of one sentence, or of none.
+/// The list with this one entry.
 fn one_of(alloc: Global, why: Option<String>) -> Result<Vec<Option<String>>, AllocError>
     ensures { IfOk result (λ whys. whys.items ≡ why ∷ []) }
 {
@@ -30,7 +31,7 @@ fn one_of(alloc: Global, why: Option<String>) -> Result<Vec<Option<String>>, All
     Ok(whys)
 }
 
-/// What is wrong with a body, if it is refused.
+/// The sentence that says what is wrong with a body, in a list. The list is empty if no body was refused, or that isn't known.
 fn body_why(alloc: Global, asked: &Asked) -> Result<Vec<Option<String>>, AllocError> {
     let Asked::Refused(refused) = asked else {
         return Ok(Vec::new(alloc));
@@ -42,13 +43,14 @@ fn body_why(alloc: Global, asked: &Asked) -> Result<Vec<Option<String>>, AllocEr
     }
 }
 
-/// Why a call that was asked alone got this reply, or why its text isn't one.
+/// The sentence that says why a call that was asked alone is refused, or why its text isn't a call. None if it is answered.
 fn alone_why(
     alloc: Global,
     seen: &mut Whys,
     reply: &Option<Reply>,
     text: Option<&Option<String>>,
 ) -> Result<Option<String>, AllocError>
+    // A reply that refuses takes the first refusal that was seen and is left.
     ensures { IfOk result (λ line. TellsPlace seen.old.seen.items reply.now line seen.new.seen.items) }
 {
     match (reply, text) {
@@ -58,13 +60,14 @@ fn alone_why(
     }
 }
 
-/// Why each of the calls that were asked alone is refused, if it is.
+/// The sentences that say why calls that were asked alone are refused, each in the place of its call, and None for one that is answered.
 fn each_whys(
     alloc: Global,
     seen: &mut Whys,
     replies: &Replies,
     texts: &[Option<String>],
 ) -> Result<Vec<Option<String>>, AllocError>
+    // Each reply that refuses takes the first refusal that was seen and is left.
     ensures { IfOk result (λ lines. AreTold seen.old.seen.items replies.now lines.items seen.new.seen.items) }
 {
     let mut each = Vec::new(alloc);
@@ -75,7 +78,7 @@ fn each_whys(
     Ok(each)
 }
 
-/// The texts that aren't calls, of calls that were asked alone.
+/// The texts of calls that were asked alone which aren't calls, each in its place.
 fn bad_texts(asked: &Asked) -> &[Option<String>] {
     match asked {
         Asked::Each(each) => each.batches.bad_texts(),
@@ -83,7 +86,8 @@ fn bad_texts(asked: &Asked) -> &[Option<String>] {
     }
 }
 
-/// The place, from 1, of the last of the calls asked alone of which so many were judged. Texts that aren't calls have places too.
+/// The place, from 1, of the last call that was judged, if `judged` of the calls asked alone were. Texts that aren't calls have places too.
+/// None if what was asked isn't calls alone, or fewer of its texts are calls.
 fn last_place(asked: &Asked, judged: u32) -> Option<u32> {
     let Asked::Each(each) = asked else {
         return None;
@@ -100,7 +104,8 @@ fn last_place(asked: &Asked, judged: u32) -> Option<u32> {
     None
 }
 
-/// Which call spent the ticks of the request, if one did. A call alone isn't judged if no tick was left for it, and then it is the one.
+/// The sentence that says which call spent the ticks of the request, in a list: None if none did. A call alone isn't judged if no tick was
+/// left for it, and then it is the one.
 fn spent_why(
     alloc: Global,
     seen: &mut Whys,
@@ -118,7 +123,8 @@ fn spent_why(
     one_of(alloc, seen.spent_why(Some(place))?)
 }
 
-/// Why what was asked is refused, if its body, its batch or one of its calls alone is, or has spent the ticks of the request.
+/// The sentences that say why what was asked is refused: of calls that are asked alone one for each, else the first. They say it of a body,
+/// of a batch, of calls alone, and of the call that spent the ticks of the request.
 fn find_whys(
     alloc: Global,
     seen: &mut Whys,
@@ -136,15 +142,15 @@ fn find_whys(
     }
 }
 
-/// The bytes of the answer to what was asked, which say why it is refused if that was asked too: of each reply that refuses the first line
-/// that is left. Nothing is said of it if memory runs out.
-/// AllocError: memory for the answer was refused.
+/// The bytes of the answer to what was asked, which say why it is refused if that was asked too. If memory for the sentences runs out, the
+/// answer says nothing of why. AllocError if memory for the answer runs out.
 pub(crate) fn answer_with_whys(
     alloc: Global,
     seen: &mut Whys,
     inquiry: &Inquiry,
     outcome: RequestOutcome,
 ) -> Result<Vec<u8>, AllocError>
+    // Each reply that refuses is told with the first refusal that was seen and is left; nothing is told if that wasn't asked.
     ensures { IfOk result (λ bytes. (whys : List (Option (List ℕ))) × (inquiry.now.asks_why ≡ false → whys ≡ [])
         × (bytes.items ≡ response_text inquiry.now.is_head (response_with inquiry.now.asks_why whys outcome))
         × IsToldWith seen.old.seen.items outcome whys) }

@@ -32,7 +32,7 @@ ShowsHead bytes (Whole found) = HeadStands bytes found
 ShowsHead bytes Refused = (more : List ℕ) → Lacks (bytes ++ more)
 ShowsHead bytes Empty = ⊥
 
--- a head ends in the last piece, which has at most 1,024 bytes
+-- the bytes end less than 1,024 bytes after a head that was found: it ends in the last piece that was read
 abbrev pub IsClose : List ℕ → HeadRead → Type 0
 IsClose bytes (Whole found) = length bytes < found.spans.len + 1024
 IsClose bytes Refused = ⊤

@@ -1,5 +1,5 @@
 -- What the lines of a head say of who sent it, and of the length of a body.
-use Rattle.std.specs.Prelude.{◌≡◌, ◌<◌, ℕ, List, [], ◌∷◌, Bool, Option, Some, None, map, codes, bytes_eq, nat_lt, length}
+use Rattle.std.specs.Prelude.{◌≡◌, ◌<◌, ℕ, List, [], ◌∷◌, Bool, Option, Some, None, map, codes, bytes_eq, nat_lt, length, if◌then◌else◌}
 use Rattle.std.specs.List.{filter}
 use Rattle.std.specs.Char.{to_ascii_lowercase}
 use Rattle.moo_http_request.specs.declared.lines.FoundLine.{FoundLine}
@@ -9,7 +9,7 @@ use Rattle.moo_http_request.specs.declared.lines.FoundLine.TheVariants.{Nothing,
 abbrev pub Line : Type 0
 Line = List ℕ × List ℕ
 
--- the same letters, in any case
+-- two names have the same letters, in any case
 abbrev pub is_same_name : List ℕ → List ℕ → Bool
 is_same_name x y = bytes_eq (map to_ascii_lowercase x) (map to_ascii_lowercase y)
 
@@ -17,7 +17,7 @@ is_same_name x y = bytes_eq (map to_ascii_lowercase x) (map to_ascii_lowercase y
 abbrev pub values_of : List ℕ → List Line → List (List ℕ)
 values_of name lines = map (λ line. line.1) (filter (λ line. is_same_name line.0 name) lines)
 
--- what was found of them
+-- What was found of the values of lines that have one name: none, the one value, or more than one.
 abbrev pub IsFoundAmong : List (List ℕ) → FoundLine → Type 0
 IsFoundAmong values Nothing = values ≡ []
 IsFoundAmong values (One value) = values ≡ value.now ∷ []
@@ -31,18 +31,11 @@ is_from_page lines = nat_lt 0 (length (values_of (codes "origin") lines))
 abbrev pub is_coded : List Line → Bool
 is_coded lines = nat_lt 0 (length (values_of (codes "transfer-encoding") lines))
 
--- the one text
+-- the text of a list of one text; None if it has none or more
 abbrev pub only : List (List ℕ) → Option (List ℕ)
-only [] = None
 only (text ∷ []) = Some text
-only (text ∷ other ∷ texts) = None
+only texts = None
 
--- the text, if no coding is named
-abbrev pub unless_coded : List (List ℕ) → Option (List ℕ) → Option (List ℕ)
-unless_coded [] text = text
-unless_coded (coding ∷ codings) text = None
-
--- the one stated length of the body, as it is written
+-- the one stated length of the body, as it is written, if no coding is named
 abbrev pub length_text : List Line → Option (List ℕ)
-length_text lines = unless_coded (values_of (codes "transfer-encoding") lines)
-    (only (values_of (codes "content-length") lines))
+length_text lines = if is_coded lines then None else only (values_of (codes "content-length") lines)

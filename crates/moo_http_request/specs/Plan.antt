@@ -16,7 +16,7 @@ use Rattle.moo_http_request.specs.declared.question.Question.{Question}
 use Rattle.moo_http_request.specs.declared.plan.Plan.{Plan}
 use Rattle.moo_http_request.specs.declared.plan.Plan.TheVariants.{Decided, Body}
 use Rattle.moo_http_request.specs.declared.question.Topic.{Topic}
-use Rattle.moo_http_request.specs.declared.question.Topic.TheVariants.{Seq, Object, Objects, Dump}
+use Rattle.moo_http_request.specs.declared.question.Topic.TheVariants.{Seq, Object, Objects}
 use Rattle.moo_http_request.specs.Hosts.{is_own_line}
 use Rattle.moo_http_request.specs.Lines.{Line, is_from_page, is_coded, length_text}
 use Rattle.moo_http_request.specs.Numbers.{bounded_of}
@@ -38,10 +38,10 @@ is_why target = is_why_query (after_first (λ b. b == 63) target)
 
 -- the method of a route
 abbrev pub method_of : Endpoint → Method
-method_of (Batch mode) = Post
-method_of Each = Post
 method_of (About topic) = Get
+method_of endpoint = Post
 
+-- a method as a head writes it
 abbrev pub method_text : Method → List ℕ
 method_text Get = codes "GET"
 method_text Post = codes "POST"
@@ -50,7 +50,8 @@ method_text Post = codes "POST"
 abbrev pub length_of : List Line → Option ℕ
 length_of lines = option_and_then (λ text. if nat_le (length text) 10 then bounded_of 9999999999 text else None) (length_text lines)
 
--- a body says it, if its length is stated: no coding is named, and one number states it; and at most 1,048,576
+-- The body says what is asked, if its length is stated and is at most 1,048,576. Else the request is refused: a line names a coding, no
+-- line or more than one states a length, or it is too large.
 abbrev pub body_plan : Form → List Line → Option ℕ → Plan
 body_plan form lines None = Decided (Refused (if is_coded lines then Coded else NoLength))
 body_plan form lines (Some n) = if nat_lt MAX_BODY n then Decided (Refused TooLarge) else Body form n
@@ -60,38 +61,37 @@ abbrev pub question_plan : Topic → Option Question → Plan
 question_plan topic None = Decided (Refused (NoNumber topic))
 question_plan topic (Some question) = Decided (Asks question)
 
+-- what a route plans for a request that has its method: to read a body, or to answer a question
 abbrev pub endpoint_plan : Endpoint → List ℕ → List Line → Plan
 endpoint_plan (Batch mode) path lines = body_plan (form.Batch mode) lines (length_of lines)
 endpoint_plan Each path lines = body_plan form.Each lines (length_of lines)
 endpoint_plan (About topic) path lines = question_plan topic (question_of topic path)
 
--- the method of a route, then what it needs
+-- a request with another method than its route has is refused; else the route plans it
 abbrev pub allowed_plan : Endpoint → List ℕ → List ℕ → List Line → Plan
 allowed_plan endpoint method path lines =
     if bytes_eq method (method_text (method_of endpoint)) then endpoint_plan endpoint path lines else Decided (Refused (NotAllowed endpoint))
 
--- the routes that aren't for a request to another machine
+-- the routes that are refused to a request for another machine: all but these
 abbrev pub is_guarded : Endpoint → Bool
 is_guarded (Batch mode) = false
-is_guarded Each = true
 is_guarded (About Seq) = false
 is_guarded (About Object) = false
-is_guarded (About Objects) = true
-is_guarded (About Dump) = true
+is_guarded endpoint = true
 
--- why a path has no route: it names a topic, and leaves out its number; or it is none of ours
+-- why a path has no route: it names the topic of an object or of objects, and leaves out the number; or it names nothing of the service
 abbrev pub path_refusal : List ℕ → Refusal
 path_refusal path =
     if bytes_eq path (codes "/object") || bytes_eq path (codes "/object/") then NoNumber Object
     else if bytes_eq path (codes "/objects") || bytes_eq path (codes "/objects/") then NoNumber Objects else NotFound
 
--- first the route, then whether it is for this machine, then its method
+-- A path without a route is refused, then a request for another machine if its route is guarded. Else its method is looked at.
 abbrev pub routed_plan : Option Endpoint → List ℕ → List ℕ → List Line → Plan
 routed_plan None method path lines = Decided (Refused (path_refusal path))
 routed_plan (Some endpoint) method path lines =
     if is_guarded endpoint && not (list_all is_own_line lines) then Decided (Refused Forbidden) else allowed_plan endpoint method path lines
 
--- a page of a browser is refused, whatever it asks
+-- what a method, a target and lines decide: a page of a browser is refused, whatever it asks; else the route of the path plans the request
 abbrev pub plan_of : List ℕ → List ℕ → List Line → Plan
 plan_of method target lines =
     if is_from_page lines then Decided (Refused Forbidden) else routed_plan (endpoint_of (path_of target)) method (path_of target) lines
@@ -100,7 +100,7 @@ plan_of method target lines =
 abbrev pub plan_by : RequestHead → Plan
 plan_by head = plan_of head.method head.target (map name_and_value head.fields)
 
--- the bytes that are read after the head
+-- how many bytes a plan reads after the head
 abbrev pub body_size : Plan → ℕ
 body_size (Decided asked) = 0
 body_size (Body form n) = n
@@ -109,5 +109,6 @@ body_size (Body form n) = n
 abbrev pub asks_why : RequestHead → Bool
 asks_why head = is_why head.target
 
+-- whether the method is HEAD
 abbrev pub is_head : RequestHead → Bool
 is_head head = bytes_eq head.method (codes "HEAD")

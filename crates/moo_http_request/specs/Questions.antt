@@ -6,6 +6,7 @@ use Rattle.moo_http_request.specs.declared.question.Topic.{Topic}
 use Rattle.moo_http_request.specs.declared.question.Topic.TheVariants.{Seq, Object, Objects, Dump}
 use Rattle.moo_http_request.specs.Numbers.{number_of}
 
+-- every topic once
 abbrev pub all_topics : List Topic
 all_topics = Seq ∷ Object ∷ Objects ∷ Dump ∷ []
 
@@ -16,7 +17,7 @@ pattern Object = codes "/object/{n}"
 pattern Objects = codes "/objects/{n}"
 pattern Dump = codes "/dump"
 
--- one of them
+-- a path of each topic, as an example
 abbrev pub sample_path : Topic → List ℕ
 sample_path Seq = codes "/seq"
 sample_path Object = codes "/object/12"

@@ -8,6 +8,7 @@ use Rattle.moo_text.specs.LineReading.{object_of}
 use Rattle.moo_world.specs.declared.call.TheConstants.{MOST_CALLS}
 use Rattle.moo_text.specs.declared.line.TheConstants.{LONGEST_LINE}
 
+-- who asks, the texts of the calls, and the number that they are meant for, if the body states one
 pub record Shape : Type 0 where
   pub programmer : ObjNo
   pub calls : List (List ℕ)
@@ -22,23 +23,21 @@ texts_of (item d ds) = option_and_then (λ text. option_map (λ texts. text ∷ 
 abbrev pub are_within : List (List ℕ) → Bool
 are_within texts = nat_le (length texts) MOST_CALLS && list_all (λ text. nat_le (length text) LONGEST_LINE) texts
 
--- a number written in digits alone, below 2^63
+-- a number that was written in digits alone, if it is below 2^63
 abbrev pub seq_of : Option ℕ → Option (Option ℕ)
 seq_of None = None
 seq_of (Some n) = if nat_lt n (2 ^ 63) then Some (Some n) else None
 
--- no number if the key is absent or null
+-- the number under the key `at`, and no number if the key is absent or null; None if it has another value
 abbrev pub stated_at : Option Data → Option (Option ℕ)
 stated_at None = Some None
 stated_at (Some d) = if is_some (as_null d) then Some None else seq_of (option_and_then as_u64 (as_number d))
 
--- the shape that the three parts make
+-- the shape that the three parts make, if the body has each of them and the texts are within the limits
 abbrev pub shape_from : Option ObjNo → Option (List (List ℕ)) → Option (Option ℕ) → Option Shape
 shape_from (Some programmer) (Some calls) (Some at) =
     if are_within calls then Some (record { programmer = programmer; calls = calls; at = at }) else None
-shape_from (Some programmer) (Some calls) None = None
-shape_from (Some programmer) None at = None
-shape_from None calls at = None
+shape_from programmer calls at = None
 
 -- the shape that the JSON has
 abbrev pub shape_of : Data → Option Shape

@@ -10,11 +10,11 @@ use Rattle.moo_http_request.specs.Found.{Lacks}
 use Rattle.moo_http_request.specs.Request.{Receives}
 use Rattle.moo_http_request.specs.declared.head.TheConstants.{MAX_HEAD}
 
--- more bytes change nothing of what these ask
+-- a request that is whole: bytes that follow these change nothing of what these ask
 abbrev pub IsWhole : List ℕ → Type 0
 IsWhole input = (more : List ℕ) (received : Received) → Receives input received → Receives (input ++ more) received
 
--- what they ask is refused, since the request is cut off
+-- what these bytes ask is refused as a bad request, since the request is cut off
 abbrev pub IsCutOff : List ℕ → Type 0
 IsCutOff input = (received : Received) → Receives input received → (is_head asks_why : Bool) × (received ≡ Request is_head asks_why (Refused BadRequest))
 

@@ -11,7 +11,9 @@ use moo_world::Batch;
 /// The method that a route has.
 #[derive(Clone, Copy, Drop)]
 pub enum Method {
+    /// Of a route that answers a question.
     Get,
+    /// Of a route to which batches or calls are sent.
     Post,
 }
 
@@ -41,7 +43,9 @@ pub enum Refusal {
 /// Whether a batch is to be run, or only asked what it would answer.
 #[derive(Clone, Copy, Drop)]
 pub enum Mode {
+    /// It is run, and committed if it is accepted.
     Run,
+    /// It is only asked, and nothing changes.
     Ask,
 }
 
@@ -68,7 +72,7 @@ pub enum Asked {
 }
 
 impl Asked {
-    /// A refusal. Nothing is known to be wrong with a body.
+    /// What a request asks that is refused for this reason. It tells of nothing that is wrong with a body.
     pub(crate) fn refuse(refusal: Refusal) -> Asked
         ensures { result ≡ Asked.Refused refusal }
     {

@@ -29,7 +29,7 @@ use moo_world::{Batch, Calls};
 use serde_json::Value;
 use std::alloc::{AllocError, Global};
 
-/// The calls of texts.
+/// The calls that the texts of a body are.
 #[derive(Drop)]
 pub enum CallsRead {
     /// Each text is a call.
@@ -38,8 +38,9 @@ pub enum CallsRead {
     Bad(u32),
 }
 
-/// The calls of texts.
+/// Reads each text as a call, up to the first that isn't one. AllocError if memory runs out.
 fn read_calls(alloc: Global, texts: &[&str]) -> Result<CallsRead, AllocError>
+    // The texts are at most 1,000.
     requires { length texts.now ≤ MOST_CALLS }
     ensures { IfOk result (λ read. calls_shown read ≡ calls_from 1 (map (λ text. text.now) texts.now)) }
 {
@@ -62,7 +63,7 @@ fn bad_call(alloc: Global, texts: &[&str], number: u32) -> Option<BodyFault> {
     Some(BodyFault::Call(text))
 }
 
-/// The batch that a shape asks.
+/// The one batch of the calls of a shape, or a refusal with the number of its first text that isn't a call. AllocError if memory runs out.
 fn read_batch(alloc: Global, mode: Mode, shape: &Shape<'_>) -> Result<Asked, AllocError>
     requires { length shape.now.calls.items ≤ MOST_CALLS }
     ensures { IfOk result (λ asked. asked ≡ form_asked (Form.Batch mode) (shape_shown shape.now)) }
@@ -83,7 +84,7 @@ fn read_batch(alloc: Global, mode: Mode, shape: &Shape<'_>) -> Result<Asked, All
     }
 }
 
-/// What a shape asks.
+/// What a body of this shape asks: one batch of its calls, or a batch of each. AllocError if memory runs out.
 fn read_asked(alloc: Global, form: Form, shape: &Shape<'_>) -> Result<Asked, AllocError>
     requires { length shape.now.calls.items ≤ MOST_CALLS }
     ensures { IfOk result (λ asked. asked ≡ form_asked form (shape_shown shape.now)) }
@@ -97,14 +98,14 @@ fn read_asked(alloc: Global, form: Form, shape: &Shape<'_>) -> Result<Asked, All
     }
 }
 
-/// A body that has no shape is refused.
+/// The refusal of a body that isn't JSON, or has another shape. It carries the first check that fails.
 fn refuse_shape(fault: ShapeFault) -> Asked
     ensures { result ≡ Asked.Refused Refusal.BadRequest }
 {
     Asked::Refused(Refused::new(Refusal::BadRequest, Some(BodyFault::Shape(fault))))
 }
 
-/// What a JSON asks.
+/// What a body asks that is this JSON; a bad request if it hasn't the shape. AllocError if memory runs out.
 fn read_asked_json(alloc: Global, form: Form, value: &Value) -> Result<Asked, AllocError>
     ensures { IfOk result (λ asked.
         asked ≡ option_map_or (form_asked form) (shape_of (view value.now)) (Asked.Refused Refusal.BadRequest)) }
@@ -115,7 +116,7 @@ fn read_asked_json(alloc: Global, form: Form, value: &Value) -> Result<Asked, Al
     }
 }
 
-/// What a body asks.
+/// What the bytes of a body ask; a bad request if they aren't JSON of the shape. AllocError if memory runs out.
 fn read_asked_body(alloc: Global, form: Form, body: &[u8]) -> Result<Asked, AllocError>
     ensures { IfOk result (BodyAsks form body.now) }
 {
@@ -125,7 +126,8 @@ fn read_asked_body(alloc: Global, form: Form, body: &[u8]) -> Result<Asked, Allo
     }
 }
 
-/// What comes of a plan whose head ends at `start` of the bytes. Nothing is read if it is decided.
+/// What a request asks whose head ends at `start` of the bytes, and decides this plan. Nothing is read if the head decides all; else its
+/// body is. Read if the reader fails; OutOfMemory if memory runs out.
 pub(crate) fn follow_plan<R: Incoming>(
     alloc: Global,
     reader: &mut R,
@@ -135,13 +137,19 @@ pub(crate) fn follow_plan<R: Incoming>(
 ) -> Result<Asked, ReadFault>
     requires inside { start ≤ length bytes.old.items }
     requires short { start ≤ MAX_HEAD }
+    // A body has at most 1,048,576 bytes.
     requires bound { IsBounded plan }
+    // What the reader gave follows the bytes that were there.
     ensures grows { OnOk result (Grows (R.remaining reader.old) (R.remaining reader.new) bytes.old.items bytes.new.items) }
+    // What is asked is what the plan and the bytes after the head ask, whatever follows them.
     ensures asks { IfOk result (λ asked. Settles (R.remaining reader.new) bytes.new.items
         (λ input. PlanAsks plan (drop start input) asked)) }
+    // No byte after the body is read.
     ensures few { OnOk result (length bytes.new.items ≤ max (length bytes.old.items) (start + body_size plan)) }
+    // After a fault the reader gave no more than was left of the body.
     ensures breaks { OnErr result
         (TakesAtMost ((start + body_size plan) - length bytes.old.items) (R.remaining reader.old) (R.remaining reader.new)) }
+    // Read is answered only if the reader failed.
     ensures cause { IfErr result (λ fault. fault ≡ ReadFault.Read → HasFailed R.fails reader.new) }
 {
     match plan {

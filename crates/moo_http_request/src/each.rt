@@ -38,7 +38,7 @@ impl Batches {
         self.items.as_slice()
     }
 
-    /// Each text that isn't a call, at its place. It may be unknown.
+    /// Each text that isn't a call, at its place, and None at the places of the others. The list is empty if memory for it was refused.
     pub fn bad_texts(&self) -> &[Option<String>] {
         self.bad_texts.as_slice()
     }
@@ -51,7 +51,7 @@ pub struct Each {
     pub batches: Batches,
 }
 
-/// A batch of the one call that a text is. None if it isn't a call.
+/// A batch of the one call that a text is. None if it isn't a call. AllocError if memory runs out.
 fn read_alone(alloc: Global, programmer: ObjNo, text: &str) -> Result<Option<Batch>, AllocError>
     ensures { IfOk result (λ batch. batch ≡ alone programmer text.now) }
 {
@@ -67,7 +67,7 @@ fn read_alone(alloc: Global, programmer: ObjNo, text: &str) -> Result<Option<Bat
     }))
 }
 
-/// Each text that isn't a call. AllocError: memory for the texts is refused.
+/// Each text that isn't a call, at its place, and None at the places of the others. AllocError if memory runs out.
 fn bad_texts(
     alloc: Global,
     texts: &[&str],
@@ -83,7 +83,8 @@ fn bad_texts(
     Ok(bad)
 }
 
-/// A batch of each text, and the texts that aren't calls. These are unknown if memory for them is refused.
+/// A batch of each text, and the texts that aren't calls, which are left out if memory for them is refused. AllocError if memory for the
+/// batches runs out.
 pub(crate) fn read_each(
     alloc: Global,
     programmer: ObjNo,

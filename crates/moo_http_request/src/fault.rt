@@ -1,11 +1,11 @@
-//! Why nothing is received.
+//! Why a request isn't received.
 
 ghost use Rattle.std.specs.Prelude.{◌≡◌};
 ghost use Rattle.moo_http_request.specs.declared.fault.ReadFault.TheVariants.{OutOfMemory};
 
 use std::alloc::AllocError;
 
-/// Why nothing is received.
+/// Why a request isn't received.
 #[derive(Clone, Copy, Drop)]
 pub enum ReadFault {
     /// The reader failed.

@@ -40,6 +40,7 @@ pub enum HeadRead {
 pub(crate) fn parse_head(bytes: &[u8]) -> Option<HeadRead>
     requires { (0 < length bytes.now) × (length bytes.now ≤ MAX_HEAD) }
     ensures found { IfSome result (ShowsHead bytes.now) }
+    // While more of the head may come, the bytes begin with none.
     ensures partial { result ≡ None → HasNoRequest bytes.now }
 {
     let mut headers = [EMPTY_HEADER_SPAN; MAX_LINES];
@@ -50,17 +51,23 @@ pub(crate) fn parse_head(bytes: &[u8]) -> Option<HeadRead>
     }
 }
 
-/// Reads the head of a request, and no further once it is whole.
+/// Reads the head of a request, of at most 8,192 bytes and 32 lines, in pieces of up to 1,024 bytes. It reads no more pieces once the head
+/// is whole. Read if the reader fails; OutOfMemory if memory runs out.
 pub(crate) fn read_head<R: Incoming>(
     reader: &mut R,
     bytes: &mut Vec<u8>,
 ) -> Result<HeadRead, ReadFault>
     requires { bytes.old.items ≡ [] }
+    // The bytes are those that the reader gave.
     ensures takes { OnOk result (Consumes (R.remaining reader.old) (R.remaining reader.new) bytes.new.items) }
+    // A head that was found is at their front; one that is refused can't follow, and nothing was there if it is empty.
     ensures head { IfOk result (FindsHead (R.remaining reader.new) bytes.new.items) }
     ensures few { OnOk result (length bytes.new.items ≤ MAX_HEAD) }
+    // Less than 1,024 bytes were read after a head.
     ensures close { IfOk result (IsClose bytes.new.items) }
+    // After a fault the reader gave at most 8,192 bytes.
     ensures breaks { OnErr result (TakesAtMost MAX_HEAD (R.remaining reader.old) (R.remaining reader.new)) }
+    // Read is answered only if the reader failed.
     ensures cause { IfErr result (λ fault. fault ≡ ReadFault.Read → HasFailed R.fails reader.new) }
 {
     if !read_more(reader, bytes, MAX_HEAD)? {

@@ -10,6 +10,7 @@ use crate::lines::has_name;
 use crate::numbers::number_at_most;
 use httparse::spans::HeaderSpan;
 
+/// The greatest number of a port.
 const GREATEST_PORT: u64 = 65_535;
 
 /// Whether what follows a name is nothing, or a colon and a port.
@@ -40,7 +41,7 @@ fn is_name_of(value: &[u8], name: &[u8]) -> bool
     has_front(value, name) && is_port(&value[name.len()..])
 }
 
-/// Whether a value names this machine.
+/// Whether a value names this machine: 127.0.0.1, localhost or [::1], with or without a port.
 fn is_own_host(value: &[u8]) -> bool
     ensures { result ≡ is_own_host value.now }
 {
@@ -49,16 +50,18 @@ fn is_own_host(value: &[u8]) -> bool
         || is_name_of(value, b"[::1]")
 }
 
-/// Whether a line isn't one that names a machine, or names this one.
+/// Whether a line names no machine but this one: it has another name than host, or its value names this machine.
 fn is_own_line(bytes: &[u8], line: HeaderSpan) -> bool
+    // The place of the line is inside the bytes.
     requires within { IsHeaderWithin (length bytes.now) line }
     ensures { result ≡ is_own_line (header_bytes bytes.now line) }
 {
     !has_name(bytes, line, b"host") || is_own_host(line.value.of(bytes))
 }
 
-/// Whether no line names another machine.
+/// Whether no line of a head names another machine than this one.
 pub(crate) fn is_for_us(bytes: &[u8], lines: &[HeaderSpan]) -> bool
+    // The places of the lines are inside the bytes.
     requires within { All (IsHeaderWithin (length bytes.now)) lines.now }
     ensures { result ≡ list_all is_own_line (map (header_bytes bytes.now) lines.now) }
 {

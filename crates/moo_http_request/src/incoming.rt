@@ -13,7 +13,7 @@ pub trait Incoming: Read {
     /// The reader before a read that failed, and after it.
     ghost fails: { Self → Self → Type 0 };
 
-    /// Reads as `Read::read` does.
+    /// Reads bytes into the buffer, as `Read::read` does, and answers how many; 0 is the end. An error if the read failed.
     fn receive(&mut self, buf: &mut [u8]) -> Result<usize>
         ensures bound { ReadsAtMost result buf.new }
         ensures bytes { ReadConsumes (Self.remaining self.old) (Self.remaining self.new) result buf.new }

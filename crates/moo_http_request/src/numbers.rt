@@ -4,15 +4,16 @@ ghost use Rattle.std.specs.Prelude.{◌≡◌, ◌<◌, ◌≤◌, ◌^◌, ◌+
 ghost use Rattle.moo_value.specs.Literal.{is_digit};
 ghost use Rattle.moo_http_request.specs.Numbers.{bounded_of, number_of};
 
-/// The value of a digit, 0 to 9.
+/// The value of a digit, 0 to 9. None if the byte isn't one.
 fn digit_value(byte: u8) -> Option<u64>
     ensures { MatchOption result (is_digit byte ≡ false) (λ value. (is_digit byte ≡ true) × (value ≡ byte - 48) × (value ≤ 9)) }
 {
     byte.is_ascii_digit().then(|| u64::from(byte - b'0'))
 }
 
-/// The number with one more digit; a number over the limit stays.
+/// The number with one more digit at its end. One that is over the limit already stays, so that it can't overflow.
 fn with_digit(number: u64, digit: u64, most: u64) -> u64
+    // So ten times the limit can't overflow.
     requires limit { most < 2 ^ 59 }
     requires digit { digit ≤ 9 }
     ensures low { number ≤ most → result ≡ 10 * number + digit }
@@ -25,8 +26,9 @@ fn with_digit(number: u64, digit: u64, most: u64) -> u64
     }
 }
 
-/// The number of one or more digits, if it is at most `most`.
+/// The number that one or more digits write. None if a byte isn't a digit, there is none, or the number is over `most`.
 pub(crate) fn number_at_most(text: &[u8], most: u64) -> Option<u64>
+    // So ten times the limit can't overflow.
     requires { most < 2 ^ 59 }
     ensures value { result ≡ bounded_of most text.now }
     ensures bound { IfSome result (λ number. number ≤ most) }
@@ -41,7 +43,7 @@ pub(crate) fn number_at_most(text: &[u8], most: u64) -> Option<u64>
     (number <= most).then_some(number)
 }
 
-/// The negative of a size.
+/// The negative of a size, which fits 32 bits: the size is at most 2,147,483,648.
 fn negate(size: u64) -> i32
     requires { size ≤ 2147483648 }
     ensures { result ≡ neg_ℤ (pos size) }
@@ -49,20 +51,20 @@ fn negate(size: u64) -> i32
     (0 - size as i64) as i32
 }
 
-/// A number that fits.
-fn positive(number: u64) -> i32
+/// A size as a number of 32 bits: it is at most 2,147,483,647.
+fn to_signed(number: u64) -> i32
     requires { number ≤ 2147483647 }
     ensures { result ≡ pos number }
 {
     number as i32
 }
 
-/// The number of an optional minus and one or more digits, if it fits 32 bits.
+/// The number that an optional minus and one or more digits write, -2,147,483,648 to 2,147,483,647. None if a text writes no such number.
 pub(crate) fn number_in(text: &[u8]) -> Option<i32>
     ensures { result ≡ number_of text.now }
 {
     match text {
         [b'-', digits @ ..] => number_at_most(digits, 2_147_483_648).map(negate),
-        _ => number_at_most(text, 2_147_483_647).map(positive),
+        _ => number_at_most(text, 2_147_483_647).map(to_signed),
     }
 }

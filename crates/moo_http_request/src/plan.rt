@@ -22,18 +22,20 @@ pub const MAX_BODY: u64 = 1_048_576;
 /// What the head of a request decides: what is asked, or that a body says it, with its length.
 #[derive(Drop)]
 pub enum Plan {
+    /// The head alone says what is asked.
     Decided(Asked),
+    /// The body says it, which has so many bytes.
     Body(Form, u64),
 }
 
-/// The target before its first question mark.
+/// The path of a target: what is before its first question mark.
 fn path(target: &str) -> &str
     ensures { result.now ≡ path_of target.now }
 {
     target.split_once('?').map_or(target, |(path, _)| path)
 }
 
-/// Whether a query asks why a request is refused.
+/// Whether a query asks why a request is refused: it is `why`, `why=` or `why=1`.
 fn is_why_query(query: &str) -> bool
     ensures { result ≡ is_why_query query.now }
 {
@@ -57,7 +59,7 @@ pub(crate) fn asks_why(target: &[u8]) -> bool
     str::from_utf8(target).is_ok_and(has_why_query)
 }
 
-/// The method of a route.
+/// The method of a route: POST if batches or calls are sent to it, GET if it answers a question.
 fn method_for(endpoint: Endpoint) -> Method
     ensures { result ≡ method_of endpoint }
 {
@@ -67,7 +69,7 @@ fn method_for(endpoint: Endpoint) -> Method
     }
 }
 
-/// Whether a method is the one that is wanted.
+/// Whether the method of a request is the one that its route has.
 fn is_method(method: &[u8], wanted: Method) -> bool
     ensures { result ≡ bytes_eq method.now (method_text wanted) }
 {
@@ -79,6 +81,7 @@ fn is_method(method: &[u8], wanted: Method) -> bool
 
 /// The stated length of the body; None if it isn't stated once, in 1 to 10 digits, or a coding is beside it.
 fn body_length(bytes: &[u8], lines: &[HeaderSpan]) -> Option<u64>
+    // The places of the lines are inside the bytes.
     requires within { All (IsHeaderWithin (length bytes.now)) lines.now }
     ensures { result ≡ length_of (map (header_bytes bytes.now) lines.now) }
 {
@@ -90,8 +93,9 @@ fn body_length(bytes: &[u8], lines: &[HeaderSpan]) -> Option<u64>
     }
 }
 
-/// Why a body has no length.
+/// Why a request whose body has no stated length is refused: a line names a coding, or else none states a length.
 fn length_refusal(bytes: &[u8], lines: &[HeaderSpan]) -> Refusal
+    // The places of the lines are inside the bytes.
     requires within { All (IsHeaderWithin (length bytes.now)) lines.now }
     ensures { result ≡ (if is_coded (map (header_bytes bytes.now) lines.now) then Refusal.Coded else Refusal.NoLength) }
 {
@@ -102,8 +106,9 @@ fn length_refusal(bytes: &[u8], lines: &[HeaderSpan]) -> Refusal
     }
 }
 
-/// A body says it, unless its length isn't stated or is over the limit.
+/// The plan of a request with a body, which is read by its stated length. It is refused if none is stated, or one over 1,048,576 bytes.
 fn plan_body(form: Form, bytes: &[u8], lines: &[HeaderSpan]) -> Plan
+    // The places of the lines are inside the bytes.
     requires within { All (IsHeaderWithin (length bytes.now)) lines.now }
     ensures value { let head = map (header_bytes bytes.now) lines.now in result ≡ body_plan form head (length_of head) }
     ensures bound { IsBounded result }
@@ -120,7 +125,8 @@ fn plan_body(form: Form, bytes: &[u8], lines: &[HeaderSpan]) -> Plan
     }
 }
 
-/// The question that a path of the topic asks. If it asks none, it has no number.
+/// The plan of a GET about this topic: the question that its path asks, or a refusal, since the path has no number where the topic needs
+/// one.
 fn plan_question(topic: Topic, question: Option<Question>) -> Plan
     ensures value { result ≡ question_plan topic question }
     ensures bound { IsBounded result }
@@ -131,8 +137,9 @@ fn plan_question(topic: Topic, question: Option<Question>) -> Plan
     }
 }
 
-/// What a route of the right method needs.
+/// The plan of a request with the method of its route: the route reads a body, or its path asks a question.
 fn plan_endpoint(endpoint: Endpoint, path: &[u8], bytes: &[u8], lines: &[HeaderSpan]) -> Plan
+    // The places of the lines are inside the bytes.
     requires within { All (IsHeaderWithin (length bytes.now)) lines.now }
     ensures value { result ≡ endpoint_plan endpoint path.now (map (header_bytes bytes.now) lines.now) }
     ensures bound { IsBounded result }
@@ -156,7 +163,7 @@ fn is_guarded(endpoint: Endpoint) -> bool
     }
 }
 
-/// First the method of a route, then what it needs.
+/// The plan of a request that may use its route: it is refused if it has another method than the route, else the route plans it.
 fn plan_allowed(
     endpoint: Endpoint,
     method: &[u8],
@@ -164,6 +171,7 @@ fn plan_allowed(
     bytes: &[u8],
     lines: &[HeaderSpan],
 ) -> Plan
+    // The places of the lines are inside the bytes.
     requires within { All (IsHeaderWithin (length bytes.now)) lines.now }
     ensures value { result ≡ allowed_plan endpoint method.now path.now (map (header_bytes bytes.now) lines.now) }
     ensures bound { IsBounded result }
@@ -176,7 +184,7 @@ fn plan_allowed(
     }
 }
 
-/// Why a path has no route: it leaves out a number, or it is none of ours.
+/// Why a path has no route: it names the topic of an object or of objects and leaves out the number, or it names nothing of the service.
 fn path_refusal(path: &[u8]) -> Refusal
     ensures { result ≡ path_refusal path.now }
 {
@@ -189,7 +197,8 @@ fn path_refusal(path: &[u8]) -> Refusal
     }
 }
 
-/// First the route, then whether it is for this machine, then its method.
+/// The plan of a request, by the route of its path: it is refused if there is none, and then if it is for another machine and the route is
+/// guarded. Then its method is looked at.
 fn plan_route(
     endpoint: Option<Endpoint>,
     method: &[u8],
@@ -197,6 +206,7 @@ fn plan_route(
     bytes: &[u8],
     lines: &[HeaderSpan],
 ) -> Plan
+    // The places of the lines are inside the bytes.
     requires within { All (IsHeaderWithin (length bytes.now)) lines.now }
     ensures value { result ≡ routed_plan endpoint method.now path.now (map (header_bytes bytes.now) lines.now) }
     ensures bound { IsBounded result }
@@ -212,8 +222,9 @@ fn plan_route(
     }
 }
 
-/// What a head decides, by the path of its target.
+/// The plan of a request, by the path of its target. One that a page of a browser sent is refused, whatever it asks.
 fn plan_path(routes: &Routes, method: &[u8], path: &str, bytes: &[u8], lines: &[HeaderSpan]) -> Plan
+    // The places of the lines are inside the bytes.
     requires within { All (IsHeaderWithin (length bytes.now)) lines.now }
     ensures value { let head = map (header_bytes bytes.now) lines.now in
         result ≡ (if is_from_page head then Plan.Decided (Asked.Refused Refusal.Forbidden)
@@ -226,7 +237,7 @@ fn plan_path(routes: &Routes, method: &[u8], path: &str, bytes: &[u8], lines: &[
     plan_route(routes.find(path), method, path.as_bytes(), bytes, lines)
 }
 
-/// What the parts of a head decide.
+/// What a head decides, by its method, its target, and its lines, which are at these places of the bytes.
 pub(crate) fn make_plan(
     routes: &Routes,
     method: &[u8],
@@ -234,9 +245,11 @@ pub(crate) fn make_plan(
     bytes: &[u8],
     lines: &[HeaderSpan],
 ) -> Plan
+    // The places of the lines are inside the bytes.
     requires within { All (IsHeaderWithin (length bytes.now)) lines.now }
     requires text { IsUtf8 target.now }
     ensures value { result ≡ plan_of method.now target.now (map (header_bytes bytes.now) lines.now) }
+    // A body that is to be read has at most 1,048,576 bytes.
     ensures bound { IsBounded result }
 {
     match str::from_utf8(target) {

@@ -11,9 +11,13 @@ use std::fmt::{self, Display, Formatter};
 /// What a GET asks about. Each topic has one route.
 #[derive(Clone, Copy, Drop)]
 pub enum Topic {
+    /// The number of accepted batches.
     Seq,
+    /// One object.
     Object,
+    /// The objects from a number on.
     Objects,
+    /// The whole world.
     Dump,
 }
 
@@ -33,7 +37,7 @@ pub enum Question {
 /// Every topic.
 const ALL: [Topic; 4] = [Topic::Seq, Topic::Object, Topic::Objects, Topic::Dump];
 
-/// The number that a path has after so many bytes.
+/// The number that a path has after `start` bytes. None if it has something else there.
 fn number_after(path: &[u8], start: usize) -> Option<i32>
     ensures { result ≡ number_of (drop start path.now) }
 {

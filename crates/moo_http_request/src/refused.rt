@@ -10,6 +10,7 @@ use std::marker::Model;
 #[derive(Drop)]
 pub struct Refused {
     refusal: Refusal,
+    /// What is wrong with the body, if that is known.
     wrong: Option<BodyFault>,
 }
 
@@ -22,21 +23,21 @@ impl Model for Refused {
 }
 
 impl Refused {
-    /// This refusal, and what is wrong with the body, if that is known.
+    /// A refusal for this reason, with what is wrong with the body, if that is known.
     pub(crate) fn new(refusal: Refusal, wrong: Option<BodyFault>) -> Refused
         ensures { result ≡ refusal }
     {
         Refused { refusal, wrong }
     }
 
-    /// The refusal.
+    /// Why the request is refused.
     pub fn refusal(&self) -> Refusal
         ensures { result ≡ self.now }
     {
         self.refusal
     }
 
-    /// What is wrong with the body, if it is whole and that is known.
+    /// What is wrong with a body that is whole. None if the head is refused, the body is cut off, or that isn't known.
     pub fn wrong(&self) -> Option<&BodyFault> {
         self.wrong.as_ref()
     }

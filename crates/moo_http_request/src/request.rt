@@ -32,6 +32,7 @@ pub enum Received {
 
 /// Whether the method of a head is HEAD.
 fn is_head(bytes: &[u8], head: &HeadSpans) -> bool
+    // The places of the parts of the head are inside the bytes.
     requires within { IsRequestWithin bytes.now head.now.headers head.now.spans }
     ensures { (parts : RequestHead) → IsRequestAt bytes.now head.now.headers head.now.spans parts → result ≡ is_head_of parts }
 {
@@ -40,6 +41,7 @@ fn is_head(bytes: &[u8], head: &HeadSpans) -> bool
 
 /// Whether it is to be said why, if a request with this head is refused.
 fn asks_why(bytes: &[u8], head: &HeadSpans) -> bool
+    // The places of the parts of the head are inside the bytes.
     requires within { IsRequestWithin bytes.now head.now.headers head.now.spans }
     requires found { IsRequestOf bytes.now head.now.headers head.now.spans }
     ensures { (parts : RequestHead) → IsRequestAt bytes.now head.now.headers head.now.spans parts → result ≡ asks_why_of parts }
@@ -47,8 +49,9 @@ fn asks_why(bytes: &[u8], head: &HeadSpans) -> bool
     plan::asks_why(head.spans.path.of(bytes))
 }
 
-/// What a head decides.
+/// What a head decides, whose parts are at these places of the bytes.
 pub(crate) fn plan_head(routes: &Routes, bytes: &[u8], head: &HeadSpans) -> Plan
+    // The places are inside the bytes, and the parts of a head were found there.
     requires within { IsRequestWithin bytes.now head.now.headers head.now.spans }
     requires found { IsRequestOf bytes.now head.now.headers head.now.spans }
     ensures value { (parts : RequestHead) → IsRequestAt bytes.now head.now.headers head.now.spans parts → result ≡ plan_by parts }

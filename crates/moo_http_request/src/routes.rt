@@ -29,7 +29,8 @@ pub struct Routes {
     ghost known: { ∥ router ≡ service_rows ∥₁ },
 }
 
-/// Adds a route. AllocError if memory runs out, since each text is a route and no two clash.
+/// Adds the route of this text. AllocError if memory runs out: the router has no other error for the texts of the service, of which each is
+/// a route, and no two clash.
 fn add_route(
     router: &mut Router<Endpoint>,
     text: &str,
@@ -71,7 +72,7 @@ impl Routes {
         Ok(Routes { router })
     }
 
-    /// The endpoint that a path names.
+    /// The endpoint that a path names. None if it has no route.
     pub(crate) fn find(&self, path: &str) -> Option<Endpoint>
         ensures { result ≡ endpoint_of path.now }
     {

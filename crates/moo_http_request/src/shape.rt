@@ -22,16 +22,16 @@ pub struct Shape<'a> {
     pub at: Option<u64>,
 }
 
-/// What a JSON has.
+/// Whether a JSON has the shape of a body.
 #[derive(Drop)]
 pub enum ShapeRead<'a> {
-    /// The shape.
+    /// It has this shape.
     Whole(Shape<'a>),
-    /// Another one, by the first check that fails.
+    /// It has another one, by the first check that fails.
     Bad(ShapeFault),
 }
 
-/// The texts of an array of strings. `None` is another array.
+/// The texts of an array of strings. None if an entry isn't a string. AllocError if memory runs out.
 fn call_texts_in<'a>(alloc: Global, items: &'a [Value]) -> Result<Option<Vec<&'a str>>, AllocError>
     ensures { IfOk result (λ found. option_map (λ texts. map (λ text. text.now) texts.items) found
         ≡ texts_of (items_view items.now)) }
@@ -46,7 +46,7 @@ fn call_texts_in<'a>(alloc: Global, items: &'a [Value]) -> Result<Option<Vec<&'a
     Ok(Some(texts))
 }
 
-/// The number under `at`, which may be absent or null. `None` is another value.
+/// The number under the key `at`, 0 to 9,223,372,036,854,775,807; no number if the key is absent or null. None if it has another value.
 fn at_in(found: Option<&Value>) -> Option<Option<u64>>
     ensures { result ≡ stated_at (option_map (λ value. view value.now) found.entry) }
 {
@@ -56,19 +56,21 @@ fn at_in(found: Option<&Value>) -> Option<Option<u64>>
     }
 }
 
+/// Whether each text has at most 262,144 bytes, as many as a line of a batch.
 fn all_within_line(texts: &[&str]) -> bool
     ensures { result ≡ list_all (λ text. nat_le (length text.now) LONGEST_LINE) texts.now }
 {
     texts.iter().all(|text| text.len() <= LONGEST_LINE)
 }
 
-fn are_short(texts: &[&str]) -> bool
+/// Whether the texts of a body are within its limits: at most 1,000 texts, of at most 262,144 bytes each.
+fn are_within_limits(texts: &[&str]) -> bool
     ensures { result ≡ are_within (map (λ text. text.now) texts.now) }
 {
     texts.len() <= MOST_CALLS && all_within_line(texts)
 }
 
-/// The JSON that the bytes are. `None` if they aren't JSON.
+/// The JSON that the bytes are. None if they aren't JSON. AllocError if memory runs out.
 pub(crate) fn read_json(alloc: Global, bytes: &[u8]) -> Result<Option<Value>, AllocError>
     ensures { IfOk result (λ found. MatchOption found
         (IsUtf8 bytes.now → read bytes.now ≡ None)
@@ -81,8 +83,8 @@ pub(crate) fn read_json(alloc: Global, bytes: &[u8]) -> Result<Option<Value>, Al
     }
 }
 
-/// What a JSON without a key lacks: the key, if it is an object.
-fn without(value: &Value, key: ShapeFault) -> ShapeFault {
+/// Why a JSON doesn't have a key: it lacks that key, or isn't an object.
+fn missing_key(value: &Value, key: ShapeFault) -> ShapeFault {
     if value.is_object() {
         key
     } else {
@@ -90,7 +92,7 @@ fn without(value: &Value, key: ShapeFault) -> ShapeFault {
     }
 }
 
-/// Which of the two limits the texts are over.
+/// Which limit the texts are over: one is too long, if they aren't too many.
 fn over_limit(texts: &[&str]) -> ShapeFault {
     if texts.len() <= MOST_CALLS {
         ShapeFault::LongCall
@@ -99,12 +101,13 @@ fn over_limit(texts: &[&str]) -> ShapeFault {
     }
 }
 
-/// The shape that the JSON has.
+/// The shape of a body that is this JSON: who asks, the calls, and the number that they are meant for. Bad with the first check that fails.
+/// AllocError if memory runs out.
 pub(crate) fn shape_in(alloc: Global, value: &Value) -> Result<ShapeRead<'_>, AllocError>
     ensures { IfOk result (λ found. shape_read_shown found ≡ shape_of (view value.now)) }
 {
     let Some(named) = value.get("as") else {
-        return Ok(ShapeRead::Bad(without(value, ShapeFault::NoProgrammer)));
+        return Ok(ShapeRead::Bad(missing_key(value, ShapeFault::NoProgrammer)));
     };
     let Some(text) = named.as_str() else {
         return Ok(ShapeRead::Bad(ShapeFault::ProgrammerNoText));
@@ -124,7 +127,7 @@ pub(crate) fn shape_in(alloc: Global, value: &Value) -> Result<ShapeRead<'_>, Al
     let Some(at) = at_in(value.get("at")) else {
         return Ok(ShapeRead::Bad(ShapeFault::NoNumber));
     };
-    if !are_short(&calls) {
+    if !are_within_limits(&calls) {
         return Ok(ShapeRead::Bad(over_limit(&calls)));
     }
     Ok(ShapeRead::Whole(Shape {

@@ -19,7 +19,7 @@ pub enum Wanted {
     Total(usize),
 }
 
-/// The bytes of the body that a plan asks for.
+/// How many bytes the body has that a plan reads: 0 if it reads none.
 fn size_of(plan: &Plan) -> u64
     ensures { result ≡ body_size plan.now }
 {
@@ -33,6 +33,7 @@ fn size_of(plan: &Plan) -> u64
 /// has in all: with so many it is whole, and more bytes change nothing of what is asked; with fewer it is cut off.
 pub fn wants(routes: &Routes, bytes: &[u8]) -> Wanted
     requires { (0 < length bytes.now) × (length bytes.now ≤ MAX_HEAD) }
+    // The bytes show that: no head ends in them yet, or the request is whole from so many bytes on, and cut off before.
     ensures shows { ShowsEnd bytes.now result }
     ensures bound { (n : ℕ) → result ≡ Total n → n ≤ 1056768 }
 {

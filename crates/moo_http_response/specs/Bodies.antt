@@ -6,7 +6,7 @@ use Rattle.moo_value.specs.declared.value.ObjNo.{ObjNo}
 use Rattle.moo_value.specs.declared.value.Value.{Value}
 use Rattle.moo_value.specs.declared.value.Value.TheVariants.{Obj}
 use Rattle.moo_value.specs.Literal.{print}
-use Rattle.moo_dump.specs.declared.seen.Look.{Look}
+use Rattle.moo_dump.specs.declared.looking.Look.{Look}
 
 -- an array of texts
 abbrev pub strings : List (List ℕ) → Items
@@ -23,10 +23,11 @@ call_body None call word = object (member (codes "call") (number (unsigned call)
 call_body (Some why) call word =
     object (member (codes "call") (number (unsigned call)) (member (codes "error") (string word) (member (codes "why") (string why) no_members)))
 
+-- a batch named another number of accepted batches: the present one
 abbrev pub stale_body : ℕ → Data
 stale_body seq = object (member (codes "error") (string (codes "stale")) (member (codes "seq") (number (unsigned seq)) no_members))
 
--- each answer as its printed literal, and the number
+-- each answer as its printed literal, and the number of accepted batches
 abbrev pub accepted_body : List Value → ℕ → Data
 accepted_body answers seq = object (member (codes "answers") (array (strings (map print answers))) (member (codes "seq") (number (unsigned seq)) no_members))
 
@@ -34,9 +35,11 @@ accepted_body answers seq = object (member (codes "answers") (array (strings (ma
 abbrev pub object_text : ObjNo → List ℕ
 object_text x = print (Obj x)
 
+-- an array of objects, each as its printed literal
 abbrev pub objects : List ObjNo → Data
 objects xs = array (strings (map object_text xs))
 
+-- 1 for a flag that is set, and else 0
 abbrev pub flag_data : Bool → Data
 flag_data set = number (unsigned (cond set 1 0))
 

@@ -2,10 +2,11 @@
 use Rattle.std.specs.Prelude.{ℕ, List, [], ◌∷◌, ◌++◌, Option, Some, None, codes, decimal, unwrap_or}
 use Rattle.http.specs.StatusCode.{reason_phrase}
 
+-- the two bytes that end a line of a head
 abbrev pub line_end : List ℕ
 line_end = 13 ∷ 10 ∷ []
 
--- the line that names the method of the route
+-- the line that names the method of the route, or nothing if none is to be named
 abbrev pub allow_line : Option (List ℕ) → List ℕ
 allow_line None = []
 allow_line (Some method) = codes "allow: " ++ method ++ line_end

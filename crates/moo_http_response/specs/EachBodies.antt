@@ -22,15 +22,16 @@ reply_body why (Full call) = error_body why (codes "full")
 reply_body why (Stale seq) = error_body None (codes "stale")
 reply_body why NoMemory = error_body None (codes "nomemory")
 
--- the same of a text, which may be no call
+-- the reply to a text alone, or that the text isn't a call, and why, if that is told
 abbrev pub alone_body : Option (List ℕ) → Option Reply → Data
 alone_body why None = error_body why (codes "malformed")
 alone_body why (Some reply) = reply_body why reply
 
--- each with the sentence in its place
+-- the replies to texts alone, each with the sentence in its place
 abbrev pub each_items : List (Option (List ℕ)) → List (Option Reply) → List Data
 each_items whys [] = []
 each_items whys (reply ∷ replies) = alone_body (first_why whys) reply ∷ each_items (drop 1 whys) replies
 
+-- the replies to texts alone, and the number of accepted batches
 abbrev pub each_body : List (Option (List ℕ)) → List (Option Reply) → ℕ → Data
 each_body whys replies seq = object (member (codes "each") (array (items_of (each_items whys replies))) (member (codes "seq") (number (unsigned seq)) no_members))

@@ -3,19 +3,11 @@ use Rattle.std.specs.Prelude.{List, ℕ, Bool, Option, Some, None, codes, if◌t
 use Rattle.moo_http_request.specs.declared.asked.Mode.TheVariants.{Run, Ask}
 use Rattle.moo_http_request.specs.declared.asked.Refusal.{Refusal}
 use Rattle.moo_http_request.specs.declared.asked.Refusal.TheVariants.{Coded, NoLength, NotFound, NoNumber, NotAllowed}
-use Rattle.moo_http_request.specs.declared.question.Topic.{Topic}
 use Rattle.moo_http_request.specs.declared.question.Topic.TheVariants.{Seq, Object, Objects, Dump}
 use Rattle.moo_http_request.specs.declared.routes.Endpoint.{Endpoint}
 use Rattle.moo_http_request.specs.declared.routes.Endpoint.TheVariants.{Batch, Each, About}
 
--- the number that a path of the topic wants, if it wants one
-abbrev pub number_why : Topic → Option (List ℕ)
-number_why Object = Some (codes "/object wants a number: /object/0")
-number_why Objects = Some (codes "/objects wants a number: /objects/0")
-number_why Seq = None
-number_why Dump = None
-
--- the method of a route
+-- the sentence that tells the method of a route
 abbrev pub method_why : Endpoint → List ℕ
 method_why (Batch Run) = codes "/batch is asked by POST"
 method_why (Batch Ask) = codes "/ask is asked by POST"
@@ -30,10 +22,11 @@ abbrev pub head_why : Refusal → Option (List ℕ)
 head_why Coded = Some (codes "chunked bodies aren't read: send content-length")
 head_why NoLength = Some (codes "content-length isn't one number")
 head_why NotFound = Some (codes "no route has this path")
-head_why (NoNumber topic) = number_why topic
+head_why (NoNumber Object) = Some (codes "/object wants a number: /object/0")
+head_why (NoNumber Objects) = Some (codes "/objects wants a number: /objects/0")
 head_why (NotAllowed endpoint) = Some (method_why endpoint)
 head_why other = None
 
--- it is told if that is asked
+-- why the head is refused, if the request asks why
 abbrev pub head_told : Bool → Refusal → Option (List ℕ)
 head_told asks_why refusal = if asks_why then head_why refusal else None

@@ -7,6 +7,7 @@ use Rattle.moo_http_response.specs.declared.entry.Entry.{Entry}
 use Rattle.moo_http_response.specs.declared.page.Page.{Page}
 use Rattle.moo_http_response.specs.Bodies.{object_text, flag_data}
 
+-- an object in a list, with its number and its fields
 abbrev pub entry_body : Entry → Data
 entry_body e = object
     (member (codes "f") (flag_data e.f)
@@ -26,6 +27,7 @@ abbrev pub next_data : Option ObjNo → Data
 next_data None = null
 next_data (Some x) = string (object_text x)
 
+-- the objects of a page, the first that it leaves out, and the number of accepted batches
 abbrev pub page_body : Page → ℕ → Data
 page_body page seq = object
     (member (codes "next") (next_data page.next)

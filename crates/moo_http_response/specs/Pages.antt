@@ -35,6 +35,7 @@ before_page n = record { 0 = int_max n.0 (pos 0) -ℤ pos 1 }
 abbrev pub objects_past : World → ObjNo → List ObjNo
 objects_past w last = filter (λ x. is_past object_cmp (Some last) x) (objects_of w)
 
+-- the first of the objects, if there is one
 abbrev pub first_of : List ObjNo → Option ObjNo
 first_of [] = None
 first_of (x ∷ xs) = Some x

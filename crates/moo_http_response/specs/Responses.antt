@@ -30,10 +30,12 @@ pub record Response : Type 0 where
 abbrev pub json : ℕ → Option (List ℕ) → Data → Response
 json status allow body = record { status = status; allow = allow; kind = codes "application/json"; body = compact_text body }
 
+-- a body of JSON, without a method to name
 abbrev pub plain : ℕ → Data → Response
 plain status body = json status None body
 
--- with why a head is refused, if it is asked; and why a body is, if that is told
+-- The response to a request that is refused before the World is asked. It says why a head is refused if the request asks, and why a body is
+-- if that is told.
 abbrev pub told_refusal : Bool → Option (List ℕ) → Refusal → Response
 told_refusal asks_why why BadRequest = plain 400 (error_body why (codes "bad request"))
 told_refusal asks_why why Coded = plain 400 (error_body (head_told asks_why Coded) (codes "bad request"))
@@ -46,7 +48,7 @@ told_refusal asks_why why (NotAllowed endpoint) =
 told_refusal asks_why why TooLarge = plain 413 (error_body None (codes "too large"))
 told_refusal asks_why why (Malformed call) = plain 400 (call_body why call (codes "malformed"))
 
--- with why a batch is refused, or ticks are spent, if that is told
+-- The response to a batch, by its reply. It says why the batch is refused, or which call spent the ticks, if that is told.
 abbrev pub told_reply : Option (List ℕ) → Reply → Response
 told_reply why reply.NoMemory = plain 503 (error_body why (codes "nomemory"))
 told_reply why (reply.Stale seq) = plain 409 (stale_body seq)
@@ -54,7 +56,7 @@ told_reply why (reply.Refused call code) = plain 409 (call_body why call (name c
 told_reply why (reply.Full call) = plain 409 (call_body why call (codes "full"))
 told_reply why (reply.Accepted seq answers) = plain 200 (accepted_body answers seq)
 
--- a dump is plain text, and all else is JSON
+-- the response to a question, by what it is told: a dump is plain text, and all else is JSON
 abbrev pub told_response : Told → Response
 told_response (told.Seq seq) = plain 200 (object (member (codes "seq") (number (unsigned seq)) no_members))
 told_response (told.Object look) = plain 200 (look_body look)
@@ -66,7 +68,7 @@ told_response (told.Dump text) = record { status = 200; allow = None; kind = cod
 abbrev pub response_text : Bool → Response → List ℕ
 response_text is_head r = head_text r.status r.kind r.allow (length r.body) ++ (if is_head then [] else r.body)
 
--- with why what was asked is refused, as far as that is told
+-- The response to a request, by what came of it. It says why the request is refused, as far as that is told.
 abbrev pub response_with : Bool → List (Option (List ℕ)) → RequestOutcome → Response
 response_with asks_why whys (Refused refusal) = told_refusal asks_why (first_why whys) refusal
 response_with asks_why whys Closed = plain 503 (error_body None (codes "closed"))
@@ -76,9 +78,10 @@ response_with asks_why whys (Replied reply) = told_reply (first_why whys) reply
 response_with asks_why whys (Each replies seq) = plain 200 (each_body whys replies seq)
 response_with asks_why whys (Tells told) = told_response told
 
--- the same two, if no why is told
+-- the response to a batch, by its reply, if no why is told
 abbrev pub reply_response : Reply → Response
 reply_response reply = told_reply None reply
 
+-- the response to a request, by what came of it, if no why is told
 abbrev pub response_of : RequestOutcome → Response
 response_of outcome = response_with false [] outcome

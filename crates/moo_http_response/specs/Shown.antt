@@ -3,7 +3,7 @@ use Rattle.std.specs.Prelude.{◌≡◌, option_map}
 use Rattle.moo_http_response.specs.Responses as spec
 use Rattle.moo_http_response.specs.declared.response.Response.{Response}
 
--- the status, the method, the kind and the body are those of a response
+-- a response of the code has the status, the method to name, the kind and the body of this one
 pub record Shows (r : Response) (response : spec.Response) : Type 0 where
   pub status : r.status ≡ response.status
   pub allow : option_map (λ method. method.now) r.allow ≡ response.allow

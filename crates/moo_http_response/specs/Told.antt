@@ -20,6 +20,4 @@ told_of Dump s = told.Dump (dump s)
 -- memory is taken for what is told
 abbrev pub TellingTakesMemory : Question → Type 0
 TellingTakesMemory Seq = ⊥
-TellingTakesMemory (Object n) = ⊤
-TellingTakesMemory (Objects n) = ⊤
-TellingTakesMemory Dump = ⊤
+TellingTakesMemory question = ⊤

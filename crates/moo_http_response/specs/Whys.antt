@@ -7,6 +7,6 @@ abbrev pub first_why : List (Option (List ℕ)) → Option (List ℕ)
 first_why [] = None
 first_why (why ∷ whys) = why
 
--- what the sentences of the code show
+-- the bytes of the sentences of the code, each in its place
 abbrev pub whys_shown : List (Option (String Global)) → List (Option (List ℕ))
 whys_shown whys = map (option_map string_bytes) whys

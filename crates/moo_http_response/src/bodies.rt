@@ -12,7 +12,7 @@ use moo_value::{Value as Literal, print_literal};
 use serde_json::{Map, Value, put};
 use std::alloc::{AllocError, Global};
 
-/// An object without floats, printed.
+/// An object of JSON as text, without spaces. It has no floats. AllocError if memory runs out, as in each function of this file.
 pub(crate) fn print_object(alloc: Global, fields: Map<String, Value>) -> Result<String, AllocError>
     requires { members_have_float (members_view fields.entries) ≡ false }
     ensures { IfOk result (λ text. string_bytes text ≡ compact_text (object (members_view fields.entries))) }
@@ -20,7 +20,7 @@ pub(crate) fn print_object(alloc: Global, fields: Map<String, Value>) -> Result<
     Value::Object(fields).to_string(alloc)
 }
 
-/// A word under `error`.
+/// The fields of an object of JSON that has a word under `error` alone.
 pub(crate) fn error_fields(alloc: Global, word: &str) -> Result<Map<String, Value>, AllocError>
     ensures { IfOk result (λ fields. members_view fields.entries ≡ member (codes "error") (string word.now) no_members) }
 {
@@ -30,7 +30,7 @@ pub(crate) fn error_fields(alloc: Global, word: &str) -> Result<Map<String, Valu
     Ok(fields)
 }
 
-/// A word under `error`.
+/// The body with a word under `error` alone.
 pub(crate) fn error_text(alloc: Global, word: &str) -> Result<String, AllocError>
     ensures { IfOk result (λ text. string_bytes text ≡ compact_text (error_body None word.now)) }
 {
@@ -38,7 +38,7 @@ pub(crate) fn error_text(alloc: Global, word: &str) -> Result<String, AllocError
     print_object(alloc, fields)
 }
 
-/// A call, by its number, and what befell it.
+/// The body that tells of one call: its number under `call`, and what befell it under `error`.
 pub(crate) fn call_text(alloc: Global, call: u32, word: &str) -> Result<String, AllocError>
     ensures { IfOk result (λ text. string_bytes text ≡ compact_text (call_body None call word.now)) }
 {
@@ -47,7 +47,7 @@ pub(crate) fn call_text(alloc: Global, call: u32, word: &str) -> Result<String, 
     print_object(alloc, fields)
 }
 
-/// A word under `error`, and why, if that is told.
+/// The body with a word under `error`, and a sentence that says why under `why`, if that is told.
 pub(crate) fn told_error_text(
     alloc: Global,
     word: &str,
@@ -64,7 +64,7 @@ pub(crate) fn told_error_text(
     print_object(alloc, fields)
 }
 
-/// A call, by its number, what befell it, and why, if that is told.
+/// The body that tells of one call: its number under `call`, what befell it under `error`, and why under `why`, if that is told.
 pub(crate) fn told_call_text(
     alloc: Global,
     call: u32,
@@ -83,7 +83,7 @@ pub(crate) fn told_call_text(
     print_object(alloc, fields)
 }
 
-/// The present number, if a batch named another.
+/// The body of a refusal since the batch named another number of accepted batches: the present one under `seq`.
 pub(crate) fn stale_text(alloc: Global, seq: u64) -> Result<String, AllocError>
     ensures { IfOk result (λ text. string_bytes text ≡ compact_text (stale_body seq)) }
 {
@@ -92,7 +92,7 @@ pub(crate) fn stale_text(alloc: Global, seq: u64) -> Result<String, AllocError>
     print_object(alloc, fields)
 }
 
-/// A number under a key.
+/// The body with a number under this key alone.
 pub(crate) fn number_text(alloc: Global, key: &str, number: u64) -> Result<String, AllocError>
     ensures { IfOk result (λ text.
         string_bytes text ≡ compact_text (object (member key.now (a_number (unsigned number)) no_members))) }
@@ -102,7 +102,7 @@ pub(crate) fn number_text(alloc: Global, key: &str, number: u64) -> Result<Strin
     print_object(alloc, fields)
 }
 
-/// The printed literal of a value.
+/// The literal that prints a value, as in `"a"` or `#3`.
 pub(crate) fn literal_text(alloc: Global, value: &Literal) -> Result<String, AllocError>
     ensures { IfOk result (λ text. string_bytes text ≡ print value.now) }
 {
@@ -112,7 +112,7 @@ pub(crate) fn literal_text(alloc: Global, value: &Literal) -> Result<String, All
     Ok(String::from_utf8(bytes).unwrap())
 }
 
-/// An array of the printed literals.
+/// The entries of an array of JSON: each answer as the text of its literal.
 fn literals(alloc: Global, answers: &[Literal]) -> Result<Vec<Value>, AllocError>
     ensures { IfOk result (λ list. items_view list.items ≡ strings (map print answers.now)) }
 {
@@ -123,7 +123,8 @@ fn literals(alloc: Global, answers: &[Literal]) -> Result<Vec<Value>, AllocError
     Ok(list)
 }
 
-/// The answers of a batch, each as its printed literal, and the number.
+/// The body that tells of an accepted batch: each answer as the text of its literal under `answers`, and the number of accepted batches
+/// under `seq`.
 pub(crate) fn accepted_text(
     alloc: Global,
     answers: &[Literal],

@@ -16,7 +16,7 @@ use moo_value::Value as Literal;
 use serde_json::{Map, Value, put};
 use std::alloc::{AllocError, Global};
 
-/// A word under `error`, and why, if that is told.
+/// The entry of a call that is refused: a word under `error`, and why under `why`, if that is told.
 fn error_in(alloc: Global, word: &str, why: Option<&str>) -> Result<Value, AllocError>
     ensures { IfOk result (λ value. view value ≡ error_body (option_map (λ w. w.now) why.entry) word.now) }
 {
@@ -29,7 +29,7 @@ fn error_in(alloc: Global, word: &str, why: Option<&str>) -> Result<Value, Alloc
     Ok(Value::Object(fields))
 }
 
-/// The first answer as its printed literal, or null.
+/// The first answer as the text of its literal, or null if there is none.
 fn first_in(alloc: Global, answers: &[Literal]) -> Result<Value, AllocError>
     ensures { IfOk result (λ value. view value ≡ first_answer answers.now) }
 {
@@ -39,7 +39,7 @@ fn first_in(alloc: Global, answers: &[Literal]) -> Result<Value, AllocError>
     }
 }
 
-/// The first answer under `answer`.
+/// The entry of a call that is answered: its answer under `answer`.
 fn answer_in(alloc: Global, answers: &[Literal]) -> Result<Value, AllocError>
     ensures { IfOk result (λ value. view value ≡ object (member (codes "answer") (first_answer answers.now) no_members)) }
 {
@@ -49,7 +49,7 @@ fn answer_in(alloc: Global, answers: &[Literal]) -> Result<Value, AllocError>
     Ok(Value::Object(fields))
 }
 
-/// The reply to a call alone, and why it is refused, if that is told.
+/// The entry of a call by its reply: its answer, or an error and why the call is refused, if that is told.
 fn reply_in(alloc: Global, reply: &Reply, why: Option<&str>) -> Result<Value, AllocError>
     ensures { IfOk result (λ value. view value ≡ reply_body (option_map (λ w. w.now) why.entry) reply.now) }
 {
@@ -62,7 +62,7 @@ fn reply_in(alloc: Global, reply: &Reply, why: Option<&str>) -> Result<Value, Al
     }
 }
 
-/// What a text is answered, which may be no call.
+/// The entry of a text by its reply, or that of a text that isn't a call.
 fn alone_in(alloc: Global, reply: &Option<Reply>, why: Option<&str>) -> Result<Value, AllocError>
     ensures { IfOk result (λ value. view value ≡ alone_body (option_map (λ w. w.now) why.entry) reply.now) }
 {
@@ -72,7 +72,7 @@ fn alone_in(alloc: Global, reply: &Option<Reply>, why: Option<&str>) -> Result<V
     }
 }
 
-/// An array of what the calls are answered.
+/// The entries of all texts, in their order, each with the sentence in its place.
 fn replies_in(
     alloc: Global,
     replies: &[Option<Reply>],
@@ -87,7 +87,8 @@ fn replies_in(
     Ok(list)
 }
 
-/// What each call alone is answered, and the number of accepted batches.
+/// The body that tells what each call is answered alone under `each`, and the number of accepted batches under `seq`. AllocError if memory
+/// runs out.
 pub(crate) fn each_text(
     alloc: Global,
     replies: &Replies,

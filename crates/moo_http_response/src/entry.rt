@@ -44,13 +44,14 @@ impl Model for Entries {
 }
 
 impl Entries {
-    /// These objects.
+    /// A list of these objects, in their order.
     pub(crate) fn from_vec(items: Vec<Entry>) -> Entries
         ensures { result ≡ items.items }
     {
         Entries { items }
     }
 
+    /// The objects, in their order.
     pub(crate) fn items(&self) -> &[Entry]
         ensures { result.now ≡ self.now }
     {
@@ -81,7 +82,7 @@ fn find_entry<R: Rows>(alloc: Global, rows: &R, x: ObjNo) -> Result<Option<Entry
     }))
 }
 
-/// Lists an object after those that are listed. An `Err` is a lack of memory.
+/// Adds the object with this number to the end of a list, if there is one. The only error is a lack of memory.
 pub(crate) fn list_object<R: Rows>(
     alloc: Global,
     rows: &R,

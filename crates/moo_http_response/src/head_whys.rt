@@ -1,13 +1,13 @@
 //! Why a head is refused, in sentences for people.
 
 ghost use Rattle.std.specs.Prelude.{◌≡◌, option_map};
-ghost use Rattle.moo_http_response.specs.HeadWhys.{number_why, method_why, head_why, head_told};
+ghost use Rattle.moo_http_response.specs.HeadWhys.{method_why, head_why, head_told};
 
 use moo_http_request::{Endpoint, Mode, Refusal, Topic};
 
-/// The number that a path of the topic wants, if it wants one.
+/// The sentence that tells which number a path of the topic wants. None if it wants none.
 fn number_why(topic: Topic) -> Option<&'static str>
-    ensures { option_map (λ why. why.now) result ≡ number_why topic }
+    ensures { option_map (λ why. why.now) result ≡ head_why (Refusal.NoNumber topic) }
 {
     match topic {
         Topic::Object => Some("/object wants a number: /object/0"),
@@ -17,7 +17,7 @@ fn number_why(topic: Topic) -> Option<&'static str>
     }
 }
 
-/// The method of the route of a topic.
+/// The sentence that tells the method of the route of a topic.
 fn topic_why(topic: Topic) -> &'static str
     ensures { result.now ≡ method_why (Endpoint.About topic) }
 {
@@ -29,7 +29,7 @@ fn topic_why(topic: Topic) -> &'static str
     }
 }
 
-/// The method of a route.
+/// The sentence that tells the method of a route.
 fn method_why(endpoint: Endpoint) -> &'static str
     ensures { result.now ≡ method_why endpoint }
 {
@@ -41,7 +41,8 @@ fn method_why(endpoint: Endpoint) -> &'static str
     }
 }
 
-/// Why a head is refused. None if it isn't the head, or if nothing is said of it.
+/// The sentence that tells why a head is refused. None if the body is refused and not the head, or if there is no sentence for that
+/// refusal.
 fn head_why(refusal: Refusal) -> Option<&'static str>
     ensures { option_map (λ why. why.now) result ≡ head_why refusal }
 {
@@ -55,7 +56,7 @@ fn head_why(refusal: Refusal) -> Option<&'static str>
     }
 }
 
-/// Why a head is refused, if that is asked.
+/// The sentence that tells why a head is refused, if the request asks why.
 pub(crate) fn head_told(asks_why: bool, refusal: Refusal) -> Option<&'static str>
     ensures { option_map (λ why. why.now) result ≡ head_told asks_why refusal }
 {

@@ -9,6 +9,7 @@ use moo_value::{ObjNo, Value, ValueList};
 /// nothing else; its contract is what it is for.
 #[cycle(limits)]
 pub(crate) fn read_limits(value: &Value)
+    // Each number in the value is in its range, and each string is a text.
     ensures { HoldIn InRange IsText value.now }
 {
     match value {
@@ -26,6 +27,7 @@ pub(crate) fn read_limits(value: &Value)
     }
 }
 
+/// Reads the numbers and strings of the values in a list.
 #[cycle(limits)]
 fn read_limits_in(list: &ValueList)
     ensures { HoldInside InRange IsText list.now }

@@ -13,13 +13,14 @@ use moo_value::{MooStr, ObjNo, Value as Literal};
 use serde_json::{Map, Value, put};
 use std::alloc::{AllocError, Global};
 
-/// An object, as `#3`.
+/// The literal of an object, as `#3`. AllocError if memory runs out, as in each function of this file.
 fn object_in(alloc: Global, x: ObjNo) -> Result<String, AllocError>
     ensures { IfOk result (λ text. string_bytes text ≡ object_text x) }
 {
     literal_text(alloc, &Literal::Obj(x))
 }
 
+/// The entries of an array of JSON: each object as the text of its literal.
 fn objects_in(alloc: Global, objects: &[ObjNo]) -> Result<Vec<Value>, AllocError>
     ensures { IfOk result (λ list. items_view list.items ≡ strings (map object_text objects.now)) }
 {
@@ -30,6 +31,7 @@ fn objects_in(alloc: Global, objects: &[ObjNo]) -> Result<Vec<Value>, AllocError
     Ok(list)
 }
 
+/// The name of an object as text.
 fn name_in(alloc: Global, name: &MooStr) -> Result<String, AllocError>
     ensures { IfOk result (λ text. string_bytes text ≡ name.now) }
 {
@@ -37,6 +39,7 @@ fn name_in(alloc: Global, name: &MooStr) -> Result<String, AllocError>
     Ok(String::from_utf8(bytes).unwrap())
 }
 
+/// Puts an array of objects under a key, in place of what is there.
 fn put_objects(
     fields: &mut Map<String, Value>,
     alloc: Global,
@@ -49,6 +52,7 @@ fn put_objects(
     put(fields, alloc, key, Value::Array(list))
 }
 
+/// Puts an object under a key, as the text of its literal.
 pub(crate) fn put_object(
     fields: &mut Map<String, Value>,
     alloc: Global,
@@ -61,6 +65,7 @@ pub(crate) fn put_object(
     put(fields, alloc, key, Value::String(text))
 }
 
+/// Puts the name of an object under a key.
 pub(crate) fn put_name(
     fields: &mut Map<String, Value>,
     alloc: Global,
@@ -73,6 +78,7 @@ pub(crate) fn put_name(
     put(fields, alloc, key, Value::String(text))
 }
 
+/// Puts 1 under a key for a flag that is set, and else 0.
 pub(crate) fn put_flag(
     fields: &mut Map<String, Value>,
     alloc: Global,
@@ -84,7 +90,7 @@ pub(crate) fn put_flag(
     put(fields, alloc, key, Value::from(u64::from(set)))
 }
 
-/// The name of an object, and the objects that its fields name.
+/// Puts the name of an object, and the objects that its fields name, each under its key.
 fn put_links(fields: &mut Map<String, Value>, alloc: Global, look: &Look) -> Result<(), AllocError>
     ensures { OnOk result (members_view fields.new.entries ≡ with_links look.now (members_view fields.old.entries)) }
 {
@@ -96,7 +102,7 @@ fn put_links(fields: &mut Map<String, Value>, alloc: Global, look: &Look) -> Res
     put_object(fields, alloc, "parent", look.parent)
 }
 
-/// The marks and bits of an object.
+/// Puts the flags of an object, each under its key.
 fn put_flags(fields: &mut Map<String, Value>, alloc: Global, look: &Look) -> Result<(), AllocError>
     ensures { OnOk result (members_view fields.new.entries ≡ with_flags look.now (members_view fields.old.entries)) }
 {
@@ -108,7 +114,7 @@ fn put_flags(fields: &mut Map<String, Value>, alloc: Global, look: &Look) -> Res
     put_flag(fields, alloc, "wizard", look.wizard)
 }
 
-/// The fields of an object, its children and what is in it.
+/// The body that tells what an object looks like: its fields, its children and what is in it.
 pub(crate) fn look_text(alloc: Global, look: &Look) -> Result<String, AllocError>
     ensures { IfOk result (λ text. string_bytes text ≡ compact_text (look_body look.now)) }
 {

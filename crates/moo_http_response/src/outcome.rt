@@ -5,7 +5,7 @@ use crate::told::Told;
 use moo_http_request::Refusal;
 use moo_text::Reply;
 
-/// What came of a request; what refuses it is first, in the order of the answers' table.
+/// What came of a request. The forms that refuse it come first.
 #[derive(Drop)]
 pub enum RequestOutcome {
     /// It was refused before the World was asked.

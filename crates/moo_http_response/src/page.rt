@@ -1,7 +1,7 @@
 //! A page of the list of all objects.
 
 ghost use Rattle.std.specs.Prelude.{◌≡◌, ◌<◌, ◌≤◌, ◌⊎◌, Some, None, IfOk, MatchOption};
-ghost use Rattle.moo_http_response.specs.Pages.{before_page as before_page_of, page_of};
+ghost use Rattle.moo_http_response.specs.Pages.{before_page, page_of};
 ghost use Rattle.moo_rows.specs.Ordered.{IsNext};
 ghost use Rattle.moo_world.specs.Rows.{world_of};
 ghost use Rattle.moo_world.specs.World.{IsTree};
@@ -11,7 +11,7 @@ use moo_rows::Rows;
 use moo_value::ObjNo;
 use std::alloc::{AllocError, Global};
 
-/// A page has so many objects at most.
+/// How many objects a page has at most.
 const MOST: u32 = 1000;
 
 /// Some of the objects, ascending, and the first that follows them.
@@ -21,15 +21,16 @@ pub struct Page {
     pub next: Option<ObjNo>,
 }
 
-/// The number before that of the first object of a page.
+/// The number before the first one that a page may have: one less than the number that is asked for, and -1 if that is below 0.
 fn before_page(from: ObjNo) -> ObjNo
-    ensures { result ≡ before_page_of from }
+    ensures { result ≡ before_page from }
 {
     ObjNo(from.0.max(0) - 1)
 }
 
-/// The object past the last one, if a page with so many has room for it.
+/// The first object past `last`, if there is one, and if a page of `count` objects has room for it.
 fn next_within<R: Rows>(rows: &R, last: ObjNo, count: u32) -> Option<ObjNo>
+    // None if 1,000 are listed, or no object is past `last`.
     ensures { MatchOption result ((1000 ≤ count) ⊎ IsNext (R.held rows.now).maps.objects (Some last) None)
         (λ x. (count < 1000) × IsNext (R.held rows.now).maps.objects (Some last) (Some x)) }
 {
@@ -40,8 +41,10 @@ fn next_within<R: Rows>(rows: &R, last: ObjNo, count: u32) -> Option<ObjNo>
     }
 }
 
-/// The objects from a number on, at most 1,000 of them. The only error is a lack of memory.
+/// The objects from a number on, ascending, at most 1,000 of them, and the number of the first that is left out. The only error is a lack
+/// of memory.
 pub(crate) fn list_page<R: Rows>(alloc: Global, rows: &R, from: ObjNo) -> Result<Page, AllocError>
+    // The objects of the rows are a tree of parents.
     requires { IsTree (world_of (R.held rows.now).maps) }
     ensures { IfOk result (λ page. page ≡ page_of (world_of (R.held rows.now).maps) from) }
 {

@@ -15,7 +15,8 @@ use moo_value::ObjNo;
 use serde_json::{Map, Value, put};
 use std::alloc::{AllocError, Global};
 
-/// The number and the name of an object, and the objects that its fields name.
+/// Puts the number and the name of an object, and the objects that its fields name, each under its key. AllocError if memory runs out, as
+/// in each function of this file.
 fn put_links(
     fields: &mut Map<String, Value>,
     alloc: Global,
@@ -30,7 +31,7 @@ fn put_links(
     put_object(fields, alloc, "parent", entry.parent)
 }
 
-/// The marks and bits of an object.
+/// Puts the flags of an object, each under its key.
 fn put_flags(
     fields: &mut Map<String, Value>,
     alloc: Global,
@@ -46,6 +47,7 @@ fn put_flags(
     put_flag(fields, alloc, "wizard", entry.wizard)
 }
 
+/// The entry of an object in the list of a page.
 fn entry_in(alloc: Global, entry: &Entry) -> Result<Value, AllocError>
     ensures { IfOk result (λ value. view value ≡ entry_body entry.now) }
 {
@@ -55,6 +57,7 @@ fn entry_in(alloc: Global, entry: &Entry) -> Result<Value, AllocError>
     Ok(Value::Object(fields))
 }
 
+/// The entries of all objects of a page, in their order.
 fn entries_in(alloc: Global, entries: &[Entry]) -> Result<Vec<Value>, AllocError>
     ensures { IfOk result (λ list. items_view list.items ≡ items_of (map entry_body entries.now)) }
 {
@@ -65,7 +68,7 @@ fn entries_in(alloc: Global, entries: &[Entry]) -> Result<Vec<Value>, AllocError
     Ok(list)
 }
 
-/// The number of the first object that is left out, or null.
+/// Puts the first object that the page leaves out under `next`, or null if it leaves out none.
 fn put_next(
     fields: &mut Map<String, Value>,
     alloc: Global,
@@ -79,7 +82,8 @@ fn put_next(
     }
 }
 
-/// The objects of a page, the first that is left out, and the number of accepted batches.
+/// The body that tells a page: its objects under `objects`, the first that is left out under `next`, and the number of accepted batches
+/// under `seq`.
 pub(crate) fn page_text(alloc: Global, page: &Page, seq: u64) -> Result<String, AllocError>
     ensures { IfOk result (λ text. string_bytes text ≡ compact_text (page_body page.now seq)) }
 {

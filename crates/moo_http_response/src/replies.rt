@@ -25,14 +25,14 @@ impl Model for Replies {
 }
 
 impl Replies {
-    /// These replies.
+    /// The replies to calls alone, in the order of the calls.
     pub fn from_vec(items: Vec<Option<Reply>>) -> Replies
         ensures { result ≡ items.items }
     {
         Replies { items }
     }
 
-    /// The replies, in order.
+    /// The replies, in the order of the calls.
     pub fn items(&self) -> &[Option<Reply>]
         ensures { result.now ≡ self.now }
     {

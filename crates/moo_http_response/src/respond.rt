@@ -23,6 +23,7 @@ use moo_text::Reply;
 use moo_world::Answers;
 use std::alloc::{AllocError, Global};
 
+/// The name of the method of a route.
 fn method_name(endpoint: Endpoint) -> &'static str
     ensures { result.now ≡ method_text (method_of endpoint) }
 {
@@ -32,7 +33,7 @@ fn method_name(endpoint: Endpoint) -> &'static str
     }
 }
 
-/// A response of JSON that names no method.
+/// The response with this status and this body of JSON, without a line `allow`.
 fn with_body(status: StatusCode, body: String) -> Response
     ensures status { result.status ≡ status }
     ensures allow { result.allow ≡ None }
@@ -47,7 +48,7 @@ fn with_body(status: StatusCode, body: String) -> Response
     }
 }
 
-/// A word under `error`.
+/// The response with this status and a word under `error`. AllocError if memory runs out, as in each function of this file.
 fn error(alloc: Global, status: StatusCode, word: &str) -> Result<Response, AllocError>
     ensures { IfOk result (λ r. Shows r (plain status (error_body None word.now))) }
 {
@@ -55,7 +56,7 @@ fn error(alloc: Global, status: StatusCode, word: &str) -> Result<Response, Allo
     Ok(with_body(status, body))
 }
 
-/// A word under `error`, and why, if that is told.
+/// The response with this status, a word under `error`, and why under `why`, if that is told.
 fn told_error(
     alloc: Global,
     status: StatusCode,
@@ -68,7 +69,7 @@ fn told_error(
     Ok(with_body(status, body))
 }
 
-/// A call, what befell it, and why, if that is told.
+/// The response with this status that tells of one call: its number, what befell it, and why, if that is told.
 fn call_error(
     alloc: Global,
     status: StatusCode,
@@ -82,13 +83,15 @@ fn call_error(
     Ok(with_body(status, body))
 }
 
-fn stale(alloc: Global, seq: u64) -> Result<Response, AllocError>
+/// The response to a batch that named another number of accepted batches than the present one: 409.
+fn stale_response(alloc: Global, seq: u64) -> Result<Response, AllocError>
     ensures { IfOk result (λ r. Shows r (plain 409 (stale_body seq))) }
 {
     let body = stale_text(alloc, seq)?;
     Ok(with_body(StatusCode::CONFLICT, body))
 }
 
+/// The response to an accepted batch: 200, with its answers.
 fn accepted_response(alloc: Global, answers: &Answers, seq: u64) -> Result<Response, AllocError>
     ensures { IfOk result (λ r. Shows r (plain 200 (accepted_body answers.now seq))) }
 {
@@ -96,7 +99,8 @@ fn accepted_response(alloc: Global, answers: &Answers, seq: u64) -> Result<Respo
     Ok(with_body(StatusCode::OK, body))
 }
 
-fn each(
+/// The response to calls that are asked each alone: 200, with the reply to each.
+fn each_response(
     alloc: Global,
     replies: &Replies,
     seq: u64,
@@ -108,7 +112,8 @@ fn each(
     Ok(with_body(StatusCode::OK, body))
 }
 
-fn say(alloc: Global, told: Told) -> Result<Response, AllocError>
+/// The response to a question, by what it is told: 404 if the object isn't there, else 200.
+fn question_response(alloc: Global, told: Told) -> Result<Response, AllocError>
     ensures { IfOk result (λ r. Shows r (told_response told)) }
 {
     let status = status_of(&told);
@@ -122,7 +127,7 @@ fn say(alloc: Global, told: Told) -> Result<Response, AllocError>
     })
 }
 
-/// No length of a body is stated, and why that is refused, if it is asked.
+/// The response to a request whose body has no stated length: 400, and why, if the request asks.
 fn no_length(alloc: Global, asks_why: bool, refusal: Refusal) -> Result<Response, AllocError>
     ensures { IfOk result (λ r. Shows r (plain 400 (error_body (head_told asks_why refusal) (codes "bad request")))) }
 {
@@ -130,7 +135,7 @@ fn no_length(alloc: Global, asks_why: bool, refusal: Refusal) -> Result<Response
     told_error(alloc, StatusCode::BAD_REQUEST, "bad request", why)
 }
 
-/// A path asks nothing, and why, if that is asked.
+/// The response to a path that asks nothing: 404, and why, if the request asks.
 fn not_found(alloc: Global, asks_why: bool, refusal: Refusal) -> Result<Response, AllocError>
     ensures { IfOk result (λ r. Shows r (plain 404 (error_body (head_told asks_why refusal) (codes "not found")))) }
 {
@@ -138,7 +143,7 @@ fn not_found(alloc: Global, asks_why: bool, refusal: Refusal) -> Result<Response
     told_error(alloc, StatusCode::NOT_FOUND, "not found", why)
 }
 
-/// A route has another method, and which, if that is asked.
+/// The response to a request with another method than its route has: 405, with a line `allow`, and why, if the request asks.
 fn not_allowed(alloc: Global, asks_why: bool, endpoint: Endpoint) -> Result<Response, AllocError>
     ensures { IfOk result (λ r. Shows r (json 405 (Some (method_text (method_of endpoint)))
         (error_body (head_told asks_why (Refusal.NotAllowed endpoint)) (codes "method not allowed")))) }
@@ -153,6 +158,7 @@ fn not_allowed(alloc: Global, asks_why: bool, endpoint: Endpoint) -> Result<Resp
     })
 }
 
+/// The response to a request that is refused before the World is asked.
 fn refuse(
     alloc: Global,
     refusal: Refusal,
@@ -176,19 +182,20 @@ fn refuse(
     }
 }
 
-/// Memory or ticks ran out, and which call spent these, if that is told.
+/// The response if memory or ticks ran out: 503, and which call spent the ticks, if that is told.
 fn no_memory(alloc: Global, why: Option<&str>) -> Result<Response, AllocError>
     ensures { IfOk result (λ r. Shows r (told_reply (option_map (λ w. w.now) why.entry) Reply.NoMemory)) }
 {
     told_error(alloc, StatusCode::SERVICE_UNAVAILABLE, "nomemory", why)
 }
 
+/// The response to a batch, by its reply, and why the batch is refused, if that is told.
 fn reply_to(alloc: Global, reply: &Reply, why: Option<&str>) -> Result<Response, AllocError>
     ensures { IfOk result (λ r. Shows r (told_reply (option_map (λ w. w.now) why.entry) reply.now)) }
 {
     match reply {
         Reply::NoMemory => no_memory(alloc, why),
-        Reply::Stale { seq } => stale(alloc, *seq),
+        Reply::Stale { seq } => stale_response(alloc, *seq),
         Reply::Refused { call, code } => {
             call_error(alloc, StatusCode::CONFLICT, *call, code.name(), why)
         }
@@ -197,7 +204,8 @@ fn reply_to(alloc: Global, reply: &Reply, why: Option<&str>) -> Result<Response,
     }
 }
 
-/// The response to what came of a request.
+/// The response to a request, by what came of it. `whys` are the sentences that say why, if they are told: of calls that are asked each
+/// alone one for each, else the first.
 pub(crate) fn respond(
     alloc: Global,
     outcome: RequestOutcome,
@@ -212,7 +220,7 @@ pub(crate) fn respond(
         RequestOutcome::Fault => error(alloc, StatusCode::SERVICE_UNAVAILABLE, "fault"),
         RequestOutcome::NoMemory => no_memory(alloc, why_of(whys, 0)),
         RequestOutcome::Replied(reply) => reply_to(alloc, &reply, why_of(whys, 0)),
-        RequestOutcome::Each(replies, seq) => each(alloc, &replies, seq, whys),
-        RequestOutcome::Told(told) => say(alloc, told),
+        RequestOutcome::Each(replies, seq) => each_response(alloc, &replies, seq, whys),
+        RequestOutcome::Told(told) => question_response(alloc, told),
     }
 }

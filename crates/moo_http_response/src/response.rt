@@ -16,6 +16,7 @@ pub(crate) struct Response {
     pub body: Vec<u8>,
 }
 
+/// The phrase of a status, or no text if it has none.
 fn reason(status: StatusCode) -> &'static str
     ensures { result.now ≡ unwrap_or (reason_phrase status) [] }
 {
@@ -35,6 +36,7 @@ fn allow_line(alloc: Global, allow: Option<&str>) -> Result<String, AllocError>
     }
 }
 
+/// The head of a response: its lines, with the size of its body in bytes, and the empty line. AllocError if memory runs out.
 fn print_head(
     alloc: Global,
     status: StatusCode,
@@ -63,7 +65,7 @@ fn print_head(
     .concat(alloc)
 }
 
-/// The bytes, with a head before them. They aren't copied if their memory has room for it.
+/// A body with its head before it. The body isn't copied if its memory has room for the head. AllocError if memory runs out.
 fn after_head(bytes: Vec<u8>, head: &[u8]) -> Result<Vec<u8>, AllocError>
     ensures { IfOk result (λ whole. whole.items ≡ head.now ++ bytes.items) }
 {
@@ -73,7 +75,7 @@ fn after_head(bytes: Vec<u8>, head: &[u8]) -> Result<Vec<u8>, AllocError>
     Ok(whole)
 }
 
-/// The bytes of a response. To HEAD the body is left off.
+/// The bytes of a response: its head and its body, and to HEAD the head alone. AllocError if memory runs out.
 pub(crate) fn print_response(
     alloc: Global,
     response: Response,

@@ -4,7 +4,7 @@ ghost use Rattle.std.specs.Prelude.{◌≡◌};
 
 use std::marker::Model;
 
-/// The bytes of a text.
+/// A text that is told as it is, as a dump.
 #[derive(Drop)]
 pub struct Text {
     bytes: Vec<u8>,
@@ -26,7 +26,7 @@ impl Text {
         Text { bytes }
     }
 
-    /// Its bytes.
+    /// The bytes of the text.
     pub(crate) fn into_vec(self) -> Vec<u8>
         ensures { result.items ≡ self }
     {

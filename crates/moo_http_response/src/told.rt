@@ -37,7 +37,7 @@ pub enum Told {
     Dump(Text),
 }
 
-/// What a look tells. It shows nothing if there isn't such an object.
+/// What is told of a look at an object: what it looks like, or NoObject if no object has the number.
 fn told_of_look(look: Option<Look>) -> Told
     ensures { result ≡ option_map_or Told.Object look Told.NoObject }
 {
@@ -60,6 +60,7 @@ fn dump_with_room<R: Rows>(alloc: Global, rows: &R) -> Result<Text, AllocError>
 /// What the rows of a world tell of a question. The only error is a lack of memory.
 pub fn tell<R: Rows>(alloc: Global, rows: &R, question: Question) -> Result<Told, AllocError>
     requires { IsGood (R.held rows.now).maps }
+    // It tells what the state of the rows does.
     ensures told { IfOk result (λ told. told ≡ told_of question (state_of (R.held rows.now).maps)) }
     ensures memory { OnErr result (TellingTakesMemory question) }
 {
@@ -73,7 +74,7 @@ pub fn tell<R: Rows>(alloc: Global, rows: &R, question: Question) -> Result<Told
     }
 }
 
-/// The status of what is told.
+/// The status of the response to a question, by what it is told: 404 if the object isn't there, else 200.
 pub(crate) fn status_of(told: &Told) -> StatusCode
     ensures { result ≡ (told_response told.now).status }
 {
@@ -83,7 +84,7 @@ pub(crate) fn status_of(told: &Told) -> StatusCode
     }
 }
 
-/// The kind of the body of what is told.
+/// The kind of the body of the response to a question, by what it is told: a dump is plain text, and all else is JSON.
 pub(crate) fn kind_of(told: &Told) -> &'static str
     ensures { result.now ≡ (told_response told.now).kind }
 {
@@ -93,7 +94,7 @@ pub(crate) fn kind_of(told: &Told) -> &'static str
     }
 }
 
-/// The bytes of the body of what is told.
+/// The bytes of the body of the response to a question, by what it is told. AllocError if memory runs out.
 pub(crate) fn told_bytes(alloc: Global, told: Told) -> Result<Vec<u8>, AllocError>
     ensures { IfOk result (λ bytes. bytes.items ≡ (told_response told).body) }
 {

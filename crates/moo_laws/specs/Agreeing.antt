@@ -30,7 +30,7 @@ only_asks programmer batch = same_object batch.programmer programmer
 
 -- ---- states that agree
 
--- the programmer may see a petition: it is theirs, or they are a wizard
+-- the programmer may see a petition: it is the programmer's own, or the programmer is a wizard
 abbrev pub may_see_petition : State → ObjNo → PetitionRow → Bool
 may_see_petition state programmer row = is_wizard state.world programmer || same_object row.who programmer
 
@@ -53,7 +53,8 @@ SameOwnPetitions programmer state other = (id : PetitionId) (row : PetitionRow) 
 
 -- ---- what is told
 
--- two verdicts tell the same: the same answers, or the same refusal at the same call
+-- two verdicts tell the same: the same answers, or the same error at the same call, or no room at the same call, or the same number of
+-- accepted batches
 abbrev pub SameVerdict : Verdict → Verdict → Type 0
 SameVerdict (Accepted answers next) (Accepted other_answers other_next) = other_answers ≡ answers
 SameVerdict (Refused place code) (Refused other_place other_code) = (other_place ≡ place) × (other_code ≡ code)
@@ -69,6 +70,6 @@ refusal_of state batch = elim (run_calls state batch.programmer batch.calls) [ F
 abbrev pub TellTheSame : List Batch → State → State → Type 0
 TellTheSame batches state other = AllZip SameVerdict (verdicts state batches) (verdicts other batches)
 
--- the state with another value there
+-- the state in which a property has another value on an object
 abbrev pub with_value : State → ObjNo → Name → Value → State
 with_value state object name value = record state { world = value_set state.world object name value }

@@ -15,7 +15,7 @@ use Rattle.moo_world.specs.World.{World, Slot, is_object, row_passes, owner_of, 
 
 -- ---- quotas that wizards keep
 
--- it is a wizard, or was an object and is gone
+-- the number is that of a wizard, or of an object that is gone
 abbrev pub IsWizardOrGone : World → ObjNo → Type 0
 IsWizardOrGone world who = (who.0 ≤ℤ world.top) × (is_object world who ≡ true → is_wizard world who ≡ true)
 
@@ -34,11 +34,11 @@ pub record HasKeptQuota (world : World) (owner : ObjNo) (quota : ℤ) : Type 0 w
 abbrev pub makes : CallName → Bool
 makes name = elim name [ Create ↦ true | _ ↦ false ]
 
--- the call that recycles one
+-- the call that recycles an object
 abbrev pub ends : CallName → Bool
 ends name = elim name [ Recycle ↦ true | _ ↦ false ]
 
--- how many of these calls are of a kind
+-- how many of some calls are of a kind
 abbrev pub of_kind : (CallName → Bool) → List Call → ℕ
 of_kind kind [] = 0
 of_kind kind (call ∷ calls) = cond (kind call.name) 1 0 + of_kind kind calls
@@ -50,8 +50,8 @@ calls_of_kind kind programmer state (batch ∷ batches) =
     cond (same_object batch.programmer programmer && is_accepted (judge state batch)) (of_kind kind batch.calls) 0
     + calls_of_kind kind programmer (left_by state (judge state batch)) batches
 
--- The quota is kept still. It has fallen by one for each object that was made. It has risen by one for each that was recycled, or by less if it
--- may have come to the greatest integer.
+-- The quota is kept still. It has fallen by one for each object that was made. It has risen by one for each that was recycled, or by less
+-- if it may have come to the greatest integer.
 abbrev pub QuotaMoves : World → ObjNo → ℤ → ℕ → ℕ → Type 0
 QuotaMoves next owner quota made recycled =
     (now : ℤ) × HasKeptQuota next owner now × ((back : ℕ) × (back ≤ recycled) × (now +ℤ pos made ≡ quota +ℤ pos back)

@@ -6,7 +6,7 @@ use Rattle.moo_world.specs.Objects.{Name}
 use Rattle.moo_world.specs.Rights.{may_read_object}
 use Rattle.moo_world.specs.World.{World, property_names_of}
 
--- `properties` of some object answers the programmer with the name, among others
+-- `properties` of some object, which the programmer may read, has the name in its answer
 abbrev pub IsListed : World → ObjNo → Name → Type 0
 IsListed world programmer name =
     (object : ObjNo) × (may_read_object world programmer object ≡ true) × Contains (property_names_of world object) name

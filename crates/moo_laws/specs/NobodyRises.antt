@@ -19,7 +19,7 @@ NoWizardActs state (batch ∷ batches) =
     (is_accepted (judge state batch) ≡ true → is_wizard state.world batch.programmer ≡ false)
     × NoWizardActs (left_by state (judge state batch)) batches
 
--- whoever is a player, a programmer or a wizard was one
+-- whoever is a player, a programmer or a wizard in the next world was one before
 pub record NobodyRises (world next : World) : Type 0 where
   pub players : (object : ObjNo) → row_passes (λ row. row.player) next object ≡ true →
       row_passes (λ row. row.player) world object ≡ true
@@ -33,13 +33,13 @@ pub record NobodyRises (world next : World) : Type 0 where
 abbrev pub NamedSlot : Type 0
 NamedSlot = Name × Slot
 
--- what a call makes of a slot of an object: nothing, if it takes it away
+-- what a call makes of a slot of an object: nothing, if the call takes it away
 abbrev pub slot_behind_call : World → World → Call → ObjNo → NamedSlot → Option NamedSlot
 slot_behind_call world next call object (name, slot) = option_and_then
     (λ now. if same_object slot.definer now.definer then Some (name_after world call object name, now) else None)
     (slot_of next object (name_after world call object name))
 
--- what calls in turn make of it
+-- what calls of a programmer, one after another, make of a slot of an object: nothing, if one takes it away or isn't done
 abbrev pub slot_behind_calls : State → ObjNo → List Call → ObjNo → NamedSlot → Option NamedSlot
 slot_behind_calls state programmer [] object named = Some named
 slot_behind_calls state programmer (call ∷ calls) object named = elim (batch_call state programmer call) [
@@ -49,7 +49,7 @@ slot_behind_calls state programmer (call ∷ calls) object named = elim (batch_c
   | Full ↦ None
 ]
 
--- what batches in turn make of it: only those that are accepted do anything
+-- what batches, one after another, make of a slot of an object: only those that are accepted do anything
 abbrev pub slot_behind : State → List Batch → ObjNo → NamedSlot → Option NamedSlot
 slot_behind state [] object named = Some named
 slot_behind state (batch ∷ batches) object named =

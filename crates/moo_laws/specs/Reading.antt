@@ -12,7 +12,7 @@ use Rattle.moo_world.specs.PropertyCalls.{is_clear}
 use Rattle.moo_world.specs.Rights.{may_read_slot}
 use Rattle.moo_world.specs.World.{World, Slot, SameButSlots, chain, slot_of, read_of}
 
--- a call on the world that changes nothing
+-- the call is one on the world that changes nothing
 abbrev pub is_question : CallName → Bool
 is_question name = elim name [
   | Valid ↦ true

@@ -18,19 +18,22 @@ ghost use Rattle.moo_laws.specs.Reading.{IsHidden, LookAlike};
 ///
 /// LambdaMOO Programmer's Manual, 'Properties on Objects' in the chapter on the database. Petitions are this server's own.
 pub fn reading_batches_tell_no_more()
+    // A batch that only reads has the same verdict in both states.
     ensures batch { (programmer : ObjNo) (state other : State) (batch : Batch) → AgreeFor programmer state other →
         only_asks programmer batch ≡ true → SameVerdict (judge state batch) (judge other batch) }
-    // The states agree after it too.
+    // The two states agree after the batch too.
     ensures after { (programmer : ObjNo) (state other : State) (batch : Batch) → AgreeFor programmer state other →
         only_asks programmer batch ≡ true →
         AgreeFor programmer (left_by state (judge state batch)) (left_by other (judge other batch)) }
+    // So batches, one after another, have the same verdicts in both.
     ensures batches { (programmer : ObjNo) (state other : State) (batches : List Batch) → AgreeFor programmer state other →
         list_all (only_asks programmer) batches ≡ true → TellTheSame batches state other }
-    // Whoever may not read a value learns nothing of it: with another value there, each verdict is the same.
+    // Whoever may not read a value learns nothing of it: with another value in its place, each verdict is the same.
     ensures values { (programmer object : ObjNo) (name : Name) (value : Value) (state : State) (batches : List Batch) →
         IsWellFormed state.world → IsHidden state.world programmer object name → list_all (only_asks programmer) batches ≡ true →
         TellTheSame batches state (with_value state object name value) }
-    // Of somebody who isn't a wizard only their own petitions have to be the same, whatever the others are.
+    // Two states agree for somebody who isn't a wizard if the worlds look alike, as many batches were accepted, and the programmer's own
+    // petitions are the same, whatever the petitions of others are.
     ensures petitions { (programmer : ObjNo) (state other : State) → is_wizard state.world programmer ≡ false →
         LookAlike programmer state.world other.world → other.seq ≡ state.seq → SameOwnPetitions programmer state other →
         AgreeFor programmer state other }

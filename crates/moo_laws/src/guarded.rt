@@ -18,20 +18,21 @@ ghost use Rattle.moo_laws.specs.Guarded.{AlikeFor, IsGuarded, is_batch_of};
 
 /// What somebody who isn't a wizard is told by any batches depends on no guarded value, and on nothing of the petitions of others but their
 /// numbers: from two states that are alike for the programmer the batches have the same verdicts, one after another, and leave states that
-/// are alike. What they give may nest 32 deep, with integers of 64 bits, objects whose numbers have 32, and strings that are texts.
+/// are alike. What the batches give may nest 32 deep, with integers of 64 bits, objects whose numbers have 32, and strings that are texts.
 ///
 /// LambdaMOO Programmer's Manual, 'Properties on Objects' in the chapter on the database. Petitions are this server's own.
 pub fn batches_tell_no_more()
+    // Batches have the same verdicts in both states, and leave states that are alike.
     ensures batches { (programmer : ObjNo) (state other : State) (batches : List Batch) → IsFormed state →
         is_wizard state.world programmer ≡ false → AlikeFor programmer state other →
         list_all (is_batch_of programmer) batches ≡ true →
         TellTheSame batches state other × AlikeFor programmer (after state batches) (after other batches) }
-    // A guarded value may be any: the states are alike, whatever it is. Each value makes another state.
+    // A guarded value may be any value: the states are alike, whatever it is. Different values make different states.
     ensures values { (programmer object : ObjNo) (name : Name) (slot : Slot) (value other : Value) (state : State) →
         slot_of state.world object (folded name) ≡ Some slot → IsGuarded state.world programmer slot.definer (folded name) →
         AlikeFor programmer state (with_value state object name value) ×
         (with_value state object name value ≡ with_value state object name other → value ≡ other) }
-    // Nor does it matter which of the others made a petition, and for what.
+    // A petition of somebody else may be of anybody but the programmer, and ask for any calls: the states are alike.
     ensures petitions { (programmer : ObjNo) (state : State) (id : PetitionId) (row other : PetitionRow) →
         get state.petitions id ≡ Some row → same_object row.who programmer ≡ false → same_object other.who programmer ≡ false →
         AlikeFor programmer state (record state { petitions = insert state.petitions id other }) }

@@ -8,5 +8,6 @@ ghost use Rattle.moo_laws.specs.ObjectNumbers.{KeepsObjectNumbers};
 /// Over any batches, a wizard's too, the number of an object isn't given again: under a number that was given there is the object that was
 /// there before, or none.
 pub fn object_numbers_stay()
+    // The greatest number that was given doesn't fall, and each object under a number given before was there before.
     ensures { (state : State) (batches : List Batch) → KeepsObjectNumbers state.world (after state batches).world }
 {}

@@ -11,10 +11,11 @@ ghost use Rattle.moo_world.specs.Calls.{world_call};
 ghost use Rattle.moo_laws.specs.Reading.{is_question, IsHidden, LookAlike, SameAnswer};
 
 /// What a call that only reads answers depends on no value that the programmer may not read: in two worlds that look alike to a programmer,
-/// it has one answer, or fails for one reason. What a call that changes something tells isn't said here.
+/// it has one answer, or fails for one reason. `batches_tell_no_more` is about calls that change something.
 ///
 /// LambdaMOO Programmer's Manual, 'Properties on Objects' in the chapter on the database.
 pub fn questions_tell_no_more()
+    // The call has one answer, or fails for one reason, in both worlds.
     ensures answers { (programmer : ObjNo) (world other : World) (call : Call) → LookAlike programmer world other →
         is_question call.name ≡ true → SameAnswer (world_call world programmer call) (world_call other programmer call) }
     // A value that is hidden from the programmer may be any: the world looks alike with another one.

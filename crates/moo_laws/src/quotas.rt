@@ -16,6 +16,7 @@ ghost use Rattle.moo_laws.specs.NobodyRises.{NoWizardActs};
 ///
 /// LambdaMOO Programmer's Manual, 'Fundamental Operations on Objects': `create` and `recycle`.
 pub fn kept_quotas_move()
+    // The quota after the batches is the one before, by the `create` and `recycle` calls of its owner that were accepted.
     ensures { (owner : ObjNo) (quota : ℤ) (state : State) (batches : List Batch) → IsFormed state →
         list_all (λ batch. list_all arguments_fit batch.calls) batches ≡ true → NoWizardActs state batches →
         HasKeptQuota state.world owner quota →

@@ -14,10 +14,11 @@ ghost use Rattle.moo_laws.specs.Guarded.{AlikeFor, is_batch_of};
 ///
 /// LambdaMOO Programmer's Manual, 'Properties on Objects' in the chapter on the database. Reasons of refusals are this server's own.
 pub fn reasons_tell_no_more()
+    // From states that are alike, any batch of somebody who isn't a wizard has the same first call that fails, and why; or none.
     ensures alike { (programmer : ObjNo) (state other : State) (batch : Batch) → IsFormed state →
         is_wizard state.world programmer ≡ false → AlikeFor programmer state other → is_batch_of programmer batch ≡ true →
         refusal_of other batch ≡ refusal_of state batch }
-    // So it is from states that agree, for a batch that only reads.
+    // From states that agree, a batch that only reads has the same first call that fails, and why; or none.
     ensures agree { (programmer : ObjNo) (state other : State) (batch : Batch) → AgreeFor programmer state other →
         only_asks programmer batch ≡ true → refusal_of other batch ≡ refusal_of state batch }
 {}

@@ -22,7 +22,7 @@ ghost use Rattle.moo_disclosure.specs.Disclosed.{clash_name, names_meant};
 ///
 /// LambdaMOO Programmer's Manual, 'Properties on Objects' in the chapter on the database. Reasons of refusals are this server's own.
 pub fn refusals_tell_no_more()
-    // From states that agree for the programmer, or that are alike, the same reason tells the same.
+    // From states that agree for the programmer, or that are alike, a refusal for a reason tells the same names.
     ensures agree { (programmer : ObjNo) (state other : State) (call : CallName) (args : List Value) (reason : Reason) →
         AgreeFor programmer state other →
         (names_meant other.world programmer call args reason ≡ names_meant state.world programmer call args reason)
@@ -31,13 +31,14 @@ pub fn refusals_tell_no_more()
         AlikeFor programmer state other →
         (names_meant other.world programmer call args reason ≡ names_meant state.world programmer call args reason)
         × (clash_name other.world programmer args reason ≡ clash_name state.world programmer args reason) }
-    // So are the states on which any call of a batch is made: the world in which these names are looked for.
+    // The states on which any call of a batch is made, where these names are looked for, are alike or agree if those before it do.
     ensures alike_before { (programmer : ObjNo) (state other : State) (batch : Batch) (place : ℕ) → IsFormed state →
         is_wizard state.world programmer ≡ false → AlikeFor programmer state other → is_batch_of programmer batch ≡ true →
         AlikeFor programmer (state_before_call state programmer batch.calls place) (state_before_call other programmer batch.calls place) }
     ensures agree_before { (programmer : ObjNo) (state other : State) (batch : Batch) (place : ℕ) → AgreeFor programmer state other →
         only_asks programmer batch ≡ true →
         AgreeFor programmer (state_before_call state programmer batch.calls place) (state_before_call other programmer batch.calls place) }
+    // Each name that is told is one that `properties` of some object answers the programmer with.
     ensures listed { (programmer : ObjNo) (world : World) (call : CallName) (args : List Value) (reason : Reason) →
         All (IsListed world programmer) (names_meant world programmer call args reason)
         × IfSome (clash_name world programmer args reason) (IsListed world programmer) }

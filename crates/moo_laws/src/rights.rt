@@ -18,10 +18,11 @@ ghost use Rattle.moo_laws.specs.NobodyRises.{NoWizardActs, KeepsRights};
 ///
 /// LambdaMOO Programmer's Manual, 'Fundamental Object Attributes' and 'Properties on Objects' in the chapter on the database.
 pub fn nobody_rises()
+    // Over any batches, of which no accepted one is a wizard's at its turn.
     ensures batches { (state : State) (batches : List Batch) → IsFormed state →
         list_all (λ batch. list_all arguments_fit batch.calls) batches ≡ true → NoWizardActs state batches →
         KeepsRights state batches (after state batches) }
-    // One batch between good rows: nothing is asked of what it gives.
+    // Over one batch between good rows, whatever its calls give.
     ensures batch { (batch : Batch) (rows next : Maps) → IsGood rows → BatchLeads batch rows next →
         state_of next ≡ left_by (state_of rows) (judge (state_of rows) batch) → is_wizard (world_of rows) batch.programmer ≡ false →
         KeepsRights (state_of rows) (batch ∷ []) (state_of next) }

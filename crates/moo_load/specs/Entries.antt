@@ -27,7 +27,7 @@ pub data Entry : Type 0 where
   a_verb : ObjNo → VerbRow → Entry
   a_petition : PetitionId × PetitionRow → Entry
 
--- its line
+-- the line of an entry
 abbrev pub entry_text : Entry → List ℕ
 entry_text (an_object x row) = object_line x row
 entry_text (a_property x n) = property_line x n
@@ -35,7 +35,7 @@ entry_text (a_slot x p s) = slot_line x p s
 entry_text (a_verb x v) = verb_line x v
 entry_text (a_petition e) = petition_line e
 
--- the values of its line
+-- the values of the line of an entry
 abbrev pub entry_values : Entry → List Value
 entry_values (an_object x row) = object_values x row
 entry_values (a_property x n) = Obj x ∷ Str n ∷ []
@@ -43,7 +43,7 @@ entry_values (a_slot x p s) = Obj x ∷ Obj p.0 ∷ Str p.1 ∷ Obj s.owner ∷ 
 entry_values (a_verb x v) = verb_values x v
 entry_values (a_petition e) = petition_values e.0 e.1
 
--- the limits of its row
+-- the row of an entry is within the limits of its columns
 abbrev pub RowFits : Entry → Type 0
 RowFits (an_object x row) = row_fits row ≡ true
 RowFits (a_property x n) = is_property_name n ≡ true
@@ -51,12 +51,12 @@ RowFits (a_slot x p s) = state_fits s.state ≡ true
 RowFits (a_verb x v) = verb_fits v ≡ true
 RowFits (a_petition e) = (0 < e.0.0) × (e.0.0 < 4294967295) × (petition_fits e.1 ≡ true)
 
--- it keeps the limits of its row, and its values are within theirs
+-- the row of an entry is within its limits, and so is each value of its line
 pub record EntryFits (e : Entry) : Type 0 where
   pub row : RowFits e
   pub values : AllByRecursion Fits (entry_values e)
 
--- a number is left for its row
+-- a number is left for the row of an entry: one of a property or of a verb takes the next one
 abbrev pub NumberIsLeft : Entry → Maps → Type 0
 NumberIsLeft (an_object x row) m = Unit {0}
 NumberIsLeft (a_property x n) m = m.head.next_prop < 4294967295
@@ -64,7 +64,7 @@ NumberIsLeft (a_slot x p s) m = Unit {0}
 NumberIsLeft (a_verb x v) m = m.head.next_verb < 4294967295
 NumberIsLeft (a_petition e) m = Unit {0}
 
--- the maps with its row put, if it isn't a slot
+-- the maps with the row of an entry put, unless it is a slot
 abbrev pub entry_taken : Entry → Maps → Maps
 entry_taken (an_object x row) m = record m { objects = insert m.objects x row }
 entry_taken (a_property x n) m = property_taken m (record { definer = x; name = n })
@@ -81,7 +81,7 @@ abbrev pub carried : {T : Type 0} → (Entry → T → T) → List Entry → T �
 carried step [] t = t
 carried step (e ∷ es) t = carried step es (step e t)
 
--- each of them has what it needs of what is carried to it
+-- each entry has what it needs of what is carried over the entries before it
 abbrev pub EachHas : {T : Type 0} → (Entry → T → Type 0) → (Entry → T → T) → List Entry → T → Type 0
 EachHas Needs step [] t = Unit {0}
 EachHas Needs step (e ∷ es) t = Needs e t × EachHas Needs step es (step e t)
@@ -90,6 +90,6 @@ EachHas Needs step (e ∷ es) t = Needs e t × EachHas Needs step es (step e t)
 abbrev pub entries_taken : List Entry → Maps → Maps
 entries_taken es m = carried entry_taken es m
 
--- a number is left for each row
+-- a number is left for the row of each entry, one after another
 abbrev pub NumbersAreLeft : List Entry → Maps → Type 0
 NumbersAreLeft es m = EachHas NumberIsLeft entry_taken es m

@@ -19,7 +19,7 @@ use Rattle.moo_load.specs.declared.line.Word.TheVariants.{Object, Property as Pr
 abbrev pub IsOneLine : List ℕ → Type 0
 IsOneLine bytes = list_all (λ byte. not (byte == 10)) bytes ≡ true
 
--- what the line of a row begins with
+-- the word that the line of a row begins with
 abbrev pub word_text : Word → List ℕ
 word_text Object = codes "object"
 word_text PropertyWord = codes "property"
@@ -36,6 +36,6 @@ pub record ArePrinted (values : List Value) (text : List ℕ) : Type 0 where
 abbrev pub slot_values : ObjNo → ObjNo → Name → SlotRow → List Value
 slot_values x definer name s = Obj x ∷ Obj definer ∷ Str name ∷ Obj s.owner ∷ Str (letters_of s.bits) ∷ state_values s.state
 
--- the values of a petition's line
+-- the values of a petition's line: its number, who asks, and the calls
 abbrev pub petition_values : PetitionId → PetitionRow → List Value
 petition_values id row = Int (pos id.0) ∷ Obj row.who ∷ a_list row.calls ∷ []

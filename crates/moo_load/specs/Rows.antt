@@ -20,17 +20,17 @@ pub record AreRead (m : Maps) : Type 0 where
 abbrev pub first_head : State → Head
 first_head s = record { top = s.world.top; next_prop = 1; next_verb = 1; next_petition = 1; seq = s.seq }
 
--- with a property more, under the next number
+-- the rows with one property more, under the next number
 abbrev pub property_taken : Maps → PropRow → Maps
 property_taken m row =
     record m { head = record (m.head) { next_prop = m.head.next_prop + 1 }; props = insert m.props (record { 0 = m.head.next_prop }) row }
 
--- with a verb of x more, under the next number
+-- the rows with one verb of x more, under the next number
 abbrev pub verb_taken : Maps → ObjNo → VerbRow → Maps
 verb_taken m x row =
     record m { head = record (m.head) { next_verb = m.head.next_verb + 1 }; verbs = insert m.verbs (x, record { 0 = m.head.next_verb }) row }
 
--- with a petition more, and the next number above its own
+-- the rows with one petition more, and the number of the next petition above it
 abbrev pub petition_taken : Maps → PetitionId → PetitionRow → Maps
 petition_taken m id row =
     record m { head = record (m.head) { next_petition = max m.head.next_petition (id.0 + 1) }; petitions = insert m.petitions id row }

@@ -22,18 +22,20 @@ use Rattle.moo_world.specs.World.{World, Slot, row_of, slot_of, defined_by_any, 
 abbrev pub all_properties : World → List Property
 all_properties w = defined_by_any w (objects_of w)
 
--- every verb with its object, in the same way
+-- every verb with its object, by objects in ascending order, and of one object in the order of its directory
 abbrev pub all_verbs : World → List (ObjNo × VerbRow)
 all_verbs w = flat_map (λ x. map (λ v. (x, v)) (directory_of w x)) (objects_of w)
 
--- what has a number in a list, if the first has 1
+-- the element of a number in a list, counted from 1
 abbrev pub at_number : {A : Type 0} → List A → ℕ → Option A
 at_number l zero = None
 at_number l (suc n) = slice_get l n
 
+-- the row of a property: its definer and its name
 abbrev pub property_row : Property → PropRow
 property_row p = record { definer = p.0; name = p.1 }
 
+-- the row of a slot: its owner, its rights and its value
 abbrev pub dumped_slot : Slot → SlotRow
 dumped_slot k = record { owner = k.owner; bits = k.bits; state = k.state }
 

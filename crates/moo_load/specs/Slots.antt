@@ -11,15 +11,15 @@ use Rattle.moo_load.specs.declared.taking.LastSlot.{LastSlot}
 use Rattle.moo_load.specs.Entries.{Entry, a_slot}
 use Rattle.moo_load.specs.RowsOf.{property_row, dumped_slot}
 
--- no slot is put yet
+-- the slot that was put last, before any is: on no object
 abbrev pub no_slot : LastSlot
 no_slot = record { object = record { 0 = negsuc 0 }; definer = record { 0 = negsuc 0 }; id = record { 0 = 0 } }
 
--- the number of the last property of a definer for which a slot was put on x, just before; or else 0
+-- the number of the property whose slot was put last, if that was a slot on x of a property of the definer; else 0
 abbrev pub number_before : LastSlot → ObjNo → ObjNo → PropId
 number_before last x definer = if int_eq last.object.0 x.0 && int_eq last.definer.0 definer.0 then last.id else record { 0 = 0 }
 
--- the property has this number, and is the next one of its definer
+-- the property has this number, and is the next one of its definer after the slot that was put last
 pub record IsNextProperty (m : Maps) (last : LastSlot) (x : ObjNo) (p : Property) (id : PropId) : Type 0 where
   pub next : IsFirst prop_cmp (is_definer m p.0) (number_before last x p.0) (Some id)
   pub row : get m.props id ≡ Some (property_row p)
@@ -29,7 +29,7 @@ abbrev pub SlotIsNext : (Property → PropId) → Entry → LastSlot × Maps →
 SlotIsNext number (a_slot x p k) t = IsNextProperty t.1 t.0 x p (number p)
 SlotIsNext number e t = Unit {0}
 
--- the slot that is put last, and the maps, after a line
+-- after the line of an entry: the slot that was put last, and the maps with the slot of the line put
 abbrev pub slot_line_put : (Property → PropId) → Entry → LastSlot × Maps → LastSlot × Maps
 slot_line_put number (a_slot x p k) t =
     (record { object = x; definer = p.0; id = number p }, record (t.1) { slots = insert t.1.slots (x, number p) (dumped_slot k) })

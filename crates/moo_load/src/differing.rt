@@ -1,4 +1,4 @@
-//! How a text differs from the dump of what was read of it.
+//! How a text differs from the dump of the rows that were read from it.
 
 ghost use Rattle.moo_world.specs.Rows.{IsGood};
 
@@ -8,7 +8,7 @@ use moo_dump::dump;
 use moo_rows::Rows;
 use std::alloc::{AllocError, Global};
 
-/// The number of the first line after that of this number that is the same as a line.
+/// The number of the first line of a text, after the line of a number, that has the bytes of a line. `None` if there is none.
 fn same_line_after(text: &[u8], number: u64, line: &[u8]) -> Option<u64> {
     let mut at: u64 = 0;
     for other in text.split(|byte| *byte == b'\n') {
@@ -20,7 +20,7 @@ fn same_line_after(text: &[u8], number: u64, line: &[u8]) -> Option<u64> {
     None
 }
 
-/// The place at which the line begins that has this place in it.
+/// The place at which a line of a text begins, by any place in the line.
 fn start_of(text: &[u8], place: usize) -> usize {
     let front = text.get(..place).unwrap_or(text);
     match front.iter().rposition(|byte| *byte == b'\n') {
@@ -29,7 +29,7 @@ fn start_of(text: &[u8], place: usize) -> usize {
     }
 }
 
-/// The line that begins at a place of a dump, if it has one there.
+/// The line that begins at a place of a dump; `None` if the dump ends before it.
 fn line_of(dump: &[u8], start: usize) -> Option<&[u8]> {
     if start < dump.len() {
         line_from(dump, start)
@@ -38,8 +38,8 @@ fn line_of(dump: &[u8], start: usize) -> Option<&[u8]> {
     }
 }
 
-/// How a text differs from a dump of which it has the bytes up to this place: a line of it belongs here, or the line is written in
-/// another way.
+/// How a text differs from a dump, whose bytes it has up to a place: it goes on after the end of the dump, a later line of it belongs
+/// here, or the line is written in another way.
 fn difference(text: &[u8], dump: &[u8], place: usize) -> DumpReason {
     let start = start_of(dump, place);
     let Some(line) = line_of(dump, start) else {
@@ -56,7 +56,7 @@ fn difference(text: &[u8], dump: &[u8], place: usize) -> DumpReason {
     }
 }
 
-/// How a text differs from the dump of the rows, of which it has the bytes up to this place. AllocError: memory ran out.
+/// How a text differs from the dump of the rows, whose bytes it has up to a place. AllocError: memory ran out.
 pub(crate) fn difference_at<R: Rows>(
     alloc: Global,
     rows: &R,

@@ -38,7 +38,7 @@ impl From<AllocError> for LoadFault {
 pub(crate) enum LineFault {
     /// No dump has the line, for this reason.
     Unreadable(DumpReason),
-    /// There is no memory for what it says.
+    /// Memory ran out for what it says.
     OutOfMemory,
 }
 
@@ -65,10 +65,13 @@ impl From<LiteralFault> for LineFault {
 }
 
 impl LineFault {
-    /// The fault of the text in which it is that of the line at this place.
+    /// The fault of the text whose line at the place `at` has this fault: it names the line by its number.
     pub(crate) fn within(self, text: &[u8], at: usize) -> LoadFault
+        // The text has the place.
         requires { at ≤ length text.now }
+        // The text has a line of the number.
         ensures says { SaysOfText text.now result }
+        // It is OutOfMemory if the fault of the line is.
         ensures line { result ≢ OutOfMemory → self ≢ none_left }
     {
         match self {

@@ -1,4 +1,4 @@
-//! The whole text that a reader gives.
+//! Reading the whole text that a reader gives.
 
 ghost use Rattle.std.specs.Prelude.{◌≡◌, ◌≤◌, ◌<◌, length, IfOk, IfErr, IfSome, OnOk};
 ghost use Rattle.std.specs.Io.KnownBytes.{Consumes, IsAtEnd};
@@ -39,6 +39,7 @@ pub fn read_text<R: Read>(alloc: Global, reader: &mut R) -> Result<Vec<u8>, Inpu
     ensures given { IfOk result (λ text. Consumes (R.remaining reader.old) (R.remaining reader.new) text.items) }
     ensures end { OnOk result (IsAtEnd (R.remaining reader.new)) }
     ensures whole { IfOk result (λ text. IfSome (R.remaining reader.old) (λ bytes. text.items ≡ bytes)) }
+    // It is within the limit, and only a longer one is too long.
     ensures limit { IfOk result (λ text. length text.items ≤ LONGEST_TEXT) }
     ensures long { IfErr result (λ fault. fault ≡ TooLong → IfSome (R.remaining reader.old) (λ bytes. LONGEST_TEXT < length bytes)) }
 {

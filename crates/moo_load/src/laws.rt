@@ -11,13 +11,17 @@ ghost use Rattle.moo_world.specs.Rows.{IsGood};
 /// A dump names one state: two well formed states with the same dump have the same objects, with their rows, definitions, slots
 /// and verbs, the same petitions, and the same counts. Only the numbers of the next property, verb and petition may differ.
 pub fn one_state()
+    // The states are the same but for the numbers of the next property, verb and petition.
     ensures { (s t : State) → IsHeld s → IsHeld t → dump s ≡ dump t → AreTheSame s t }
 {}
 
 /// The rows that the dump of a well formed state is read as are good, and they show the state, with the same dump.
 pub fn rows_show_the_state()
+    // The rows are good ones, for a state with a number left for each property and verb.
     ensures good { (s : State) (m : Maps) → IsHeld s → HasNumbers s → AreRowsOf s m → IsGood m }
+    // They show the state, but for the numbers of the next property, verb and petition.
     ensures same { (s : State) (m : Maps) → IsHeld s → HasNumbers s → AreRowsOf s m → AreTheSame (state_of m) s }
+    // They have its dump.
     ensures dump { (s : State) (m : Maps) → IsHeld s → HasNumbers s → AreRowsOf s m → dump (state_of m) ≡ dump s }
 {}
 

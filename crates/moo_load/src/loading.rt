@@ -1,4 +1,4 @@
-//! A world from its dump.
+//! Loading a world from its dump.
 
 ghost use Rattle.std.specs.Prelude.{◌≡◌, ◌≢◌, ◌<◌, ◌^◌, length, IfOk, IfErr, OnOk};
 ghost use Rattle.moo_world.specs.Rows.{IsGood};
@@ -20,11 +20,13 @@ use moo_memory::Flat;
 use moo_rows::Rows;
 use std::alloc::Global;
 
-/// Refuses rows whose dump isn't the text, with the first line that differs.
+/// Tests whether the dump of the rows is the text. NotADump with the first line that differs, and how; OutOfMemory if memory runs out.
 fn check_dump<R: Rows>(alloc: Global, rows: &R, text: &[u8]) -> Result<(), LoadFault>
     requires { IsGood (R.held rows.now).maps }
     ensures same { OnOk result (dump (state_of (R.held rows.now).maps) ≡ text.now) }
+    // The text has a line of the number that a fault names.
     ensures fault { IfErr result (SaysOfText text.now) }
+    // There is a fault, but for out of memory, only if the text isn't the dump.
     ensures err { IfErr result (λ fault. fault ≢ LoadFault.OutOfMemory → dump (state_of (R.held rows.now).maps) ≢ text.now) }
 {
     match compare(alloc, rows, text) {
@@ -37,11 +39,14 @@ fn check_dump<R: Rows>(alloc: Global, rows: &R, text: &[u8]) -> Result<(), LoadF
     }
 }
 
-/// Refuses rows that show no world, and rows whose dump isn't the text.
+/// Tests whether the rows show a world, and whether its dump is the text. Damaged with the first kind of damage, NotADump with the first
+/// line that differs, OutOfMemory if memory runs out.
 fn judge_rows<R: Rows>(alloc: Global, rows: &R, text: &[u8]) -> Result<(), LoadFault>
+    // Each row is within the limits of its columns.
     requires { AreWithin (R.held rows.now).maps }
     ensures good { OnOk result (IsGood (R.held rows.now).maps) }
     ensures same { OnOk result (dump (state_of (R.held rows.now).maps) ≡ text.now) }
+    // The text has a line of the number that a fault names; or rows have the damage, and none before it.
     ensures fault { IfErr result (SaysOfText text.now) }
     // The rows of a state aren't refused if the text is its dump.
     ensures complete { IfErr result (λ fault. fault ≢ LoadFault.OutOfMemory → (s : State) → IsHeld s → HasNumbers s → dump s ≡ text.now
@@ -68,9 +73,11 @@ fn judge_rows<R: Rows>(alloc: Global, rows: &R, text: &[u8]) -> Result<(), LoadF
 pub fn read_dump(alloc: Global, text: &[u8]) -> Result<Flat, LoadFault>
     ensures loaded { IfOk result (λ rows. dump (state_of rows.maps) ≡ text.now) }
     ensures good { IfOk result (λ rows. IsGood rows.maps) }
+    // Fewer than 2^63 batches were accepted.
     ensures limit { IfOk result (λ rows. rows.maps.head.seq < 2 ^ 63) }
     // Properties and verbs have the numbers of their order in the text. The next number of each kind is one above the last.
     ensures numbered { IfOk result (λ rows. AreRowsOf (state_of rows.maps) rows.maps) }
+    // The text has a line of the number that a fault names; or rows have the damage, and none before it.
     ensures fault { IfErr result (SaysOfText text.now) }
     // No dump of a well formed state is refused. A longer one may have more properties or verbs than there are numbers.
     ensures complete { IfErr result (λ fault. fault ≢ LoadFault.OutOfMemory → length text.now < 4294967295 → (s : State) → IsHeld s →

@@ -1,8 +1,8 @@
-//! The values of an object's line.
+//! Reading the values of an object's line.
 
 ghost use Rattle.std.specs.Prelude.{◌≡◌, ◌≢◌, true, IfOk, IfErr};
-ghost use Rattle.moo_value.specs.declared.value.ObjNo.{ObjNo as Object};
-ghost use Rattle.moo_rows.specs.declared.row.ObjRow.{ObjRow as Row};
+ghost use Rattle.moo_value.specs.declared.value.ObjNo.{ObjNo};
+ghost use Rattle.moo_rows.specs.declared.row.ObjRow.{ObjRow};
 ghost use Rattle.moo_dump.specs.Dump.{object_values};
 ghost use Rattle.moo_world.specs.World.{row_fits};
 
@@ -13,11 +13,15 @@ use moo_rows::ObjRow;
 use moo_value::{ObjNo, Value};
 use std::alloc::Global;
 
-/// The object with its number.
+/// The number and the row of an object, from the values of its line. The error is the first value, from left to right, that isn't as a dump
+/// has it, or their count; or OutOfMemory.
 pub(crate) fn read_object(alloc: Global, values: &[Value]) -> LineResult<(ObjNo, ObjRow)>
+    // The values are those of its line.
     ensures shown { IfOk result (λ r. values.now ≡ object_values r.0 r.1) }
+    // The row is within the limits of its columns.
     ensures fits { IfOk result (λ r. row_fits r.1 ≡ true) }
-    ensures err { IfErr result (λ fault. fault ≢ LineFault.OutOfMemory → (x : Object) (row : Row) → row_fits row ≡ true →
+    // There is a fault, but for out of memory, only if they aren't the values of such an object's line.
+    ensures err { IfErr result (λ fault. fault ≢ LineFault.OutOfMemory → (x : ObjNo) (row : ObjRow) → row_fits row ≡ true →
         values.now ≢ object_values x row) }
 {
     let [

@@ -1,4 +1,4 @@
-//! Lines of a text, by the places at which they begin.
+//! Finding lines of a text by the places at which they begin.
 
 ghost use Rattle.std.specs.Prelude.{◌≡◌, ◌==◌, ◌≤◌, ◌<◌, ◌+◌, ◌∷◌, ◌++◌, ℕ, List, length, drop, IfSome, IsSomeAnd};
 ghost use Rattle.std.specs.List.{position_from};
@@ -7,6 +7,7 @@ ghost use Rattle.moo_load.specs.Printed.{IsOneLine};
 
 /// The number of the line that a place of the text is in, from 1.
 pub(crate) fn line_at(text: &[u8], at: usize) -> u64
+    // The text has the place.
     requires { at ≤ length text.now }
     ensures { IsLineOf text.now result }
 {
@@ -19,7 +20,7 @@ pub(crate) fn line_at(text: &[u8], at: usize) -> u64
     number
 }
 
-/// The place of the first line end.
+/// The place of the first line end, from 0; `None` if there is none.
 fn end_of(bytes: &[u8]) -> Option<usize>
     ensures first { result ≡ position_from (λ byte. byte == 10) 0 bytes.now }
     ensures within { IfSome result (λ end. end < length bytes.now) }
@@ -29,8 +30,11 @@ fn end_of(bytes: &[u8]) -> Option<usize>
 
 /// The line that begins at a place of the text, without its end; `None` if no end follows.
 pub(crate) fn line_from(text: &[u8], at: usize) -> Option<&[u8]>
+    // The text has the place.
     requires { at ≤ length text.now }
+    // The line and its end are in the text.
     ensures within { IfSome result (λ line. at + length line.now < length text.now) }
+    // If bytes without a line end, and then one, begin at the place, these bytes are the line.
     ensures found { (line rest : List ℕ) → IsOneLine line → drop at text.now ≡ line ++ 10 ∷ rest → IsSomeAnd result (λ l. l.now ≡ line) }
 {
     let rest = &text[at..];

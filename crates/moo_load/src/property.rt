@@ -1,8 +1,8 @@
-//! The values of a property's line.
+//! Reading the values of a property's line.
 
 ghost use Rattle.std.specs.Prelude.{◌≡◌, ◌≢◌, ◌∷◌, [], true, IfOk, IfErr};
 ghost use Rattle.moo_value.specs.declared.value.Value.TheVariants.{Obj, Str};
-ghost use Rattle.moo_rows.specs.declared.row.PropRow.{PropRow as Row};
+ghost use Rattle.moo_rows.specs.declared.row.PropRow.{PropRow};
 ghost use Rattle.moo_world.specs.World.{is_property_name};
 
 use crate::fault::{LineFault, LineResult};
@@ -21,11 +21,14 @@ fn is_property_name(name: &MooStr) -> bool
     0 < length && length <= MAX_NAME && BuiltIn::of_name(name).is_none()
 }
 
-/// The property with its definer.
+/// The definer and the name of a property, from the values of its line. The error is the first value, from left to right, that isn't as a
+/// dump has it, or their count; or OutOfMemory.
 pub(crate) fn read_property(alloc: Global, values: &[Value]) -> LineResult<PropRow>
+    // The values are those of its line.
     ensures shown { IfOk result (λ row. values.now ≡ Obj row.definer ∷ Str row.name ∷ []) }
     ensures fits { IfOk result (λ row. is_property_name row.name ≡ true) }
-    ensures err { IfErr result (λ fault. fault ≢ LineFault.OutOfMemory → (row : Row) → is_property_name row.name ≡ true
+    // There is a fault, but for out of memory, only if they aren't the values of such a property's line.
+    ensures err { IfErr result (λ fault. fault ≢ LineFault.OutOfMemory → (row : PropRow) → is_property_name row.name ≡ true
         → values.now ≢ Obj row.definer ∷ Str row.name ∷ []) }
 {
     let [definer, name] = values else {

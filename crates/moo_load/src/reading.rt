@@ -1,9 +1,9 @@
-//! The rows of a dump. Its lines are gone over twice: the slots, which name their properties by definers that may come later,
-//! are put once all properties are.
+//! Reading the rows of a dump. Its lines are gone over twice: the slots name their properties by definers that may come later, and are
+//! put once all properties are.
 
 ghost use Rattle.std.specs.Prelude.{◌≡◌, ◌≢◌, ◌≤◌, ◌∷◌, ◌++◌, [], List, length, drop, IfOk, IfErr, OnOk};
 ghost use Rattle.std.specs.List.{AllByRecursion};
-ghost use Rattle.moo_rows.specs.declared.row.PropId.{PropId as AProperty};
+ghost use Rattle.moo_rows.specs.declared.row.PropId.{PropId};
 ghost use Rattle.moo_load.specs.Entries.{Entry, entry_text, entry_lines, EntryFits, NumberIsLeft};
 ghost use Rattle.moo_load.specs.Entries.{NumbersAreLeft, entry_taken, entries_taken, carried, EachHas};
 ghost use Rattle.moo_load.specs.Loaded.{SaysOfText};
@@ -24,13 +24,15 @@ use moo_rows::{PropId, Rows};
 use moo_value::ObjNo;
 use std::alloc::Global;
 
-/// Puts the row of a line, if it isn't a slot.
+/// Puts the row of a line into the rows, unless it is a slot. The error is why the line can't be read, or NoNumber; or OutOfMemory.
 fn take_line(alloc: Global, line: &[u8], rows: &mut Flat) -> LineResult<()>
     requires { AreRead rows.old.maps }
+    // The rows are within their limits, and fewer than 2^63 batches were accepted.
     ensures read { OnOk result (AreRead rows.new.maps) }
     // The line of an entry is taken as the entry, unless there is no number or no memory left.
     ensures put { OnOk result ((e : Entry) → EntryFits e → line.now ++ 10 ∷ [] ≡ entry_text e →
         rows.new.maps ≡ entry_taken e rows.old.maps) }
+    // There is a fault, but for out of memory, only if no entry has the line, or no number is left for it.
     ensures err { IfErr result (λ fault. fault ≢ LineFault.OutOfMemory → (e : Entry) → EntryFits e → NumberIsLeft e rows.old.maps →
         line.now ++ 10 ∷ [] ≢ entry_text e) }
 {
@@ -48,7 +50,8 @@ fn take_line(alloc: Global, line: &[u8], rows: &mut Flat) -> LineResult<()>
     }
 }
 
-/// Puts the slot of a line, if it is one.
+/// Puts the slot of a line into the rows, if the line is a slot's, and answers the slot that was put last. The error is why the line can't
+/// be read, or that another slot belongs here; or OutOfMemory.
 fn take_slot_line(
     alloc: Global,
     line: &[u8],
@@ -56,12 +59,14 @@ fn take_slot_line(
     rows: &mut Flat,
 ) -> LineResult<LastSlot>
     requires { AreRead rows.old.maps }
+    // The rows are within their limits, and fewer than 2^63 batches were accepted.
     ensures read { OnOk result (AreRead rows.new.maps) }
     // The line of an entry puts its slot, if the slot's property is the next one of its definer.
-    ensures put { IfOk result (λ put. (number : Property → AProperty) (e : Entry) → EntryFits e →
+    ensures put { IfOk result (λ put. (number : Property → PropId) (e : Entry) → EntryFits e →
         SlotIsNext number e (last, rows.old.maps) → line.now ++ 10 ∷ [] ≡ entry_text e
         → (put, rows.new.maps) ≡ slot_line_put number e (last, rows.old.maps)) }
-    ensures err { IfErr result (λ fault. fault ≢ LineFault.OutOfMemory → (number : Property → AProperty) (e : Entry) → EntryFits e →
+    // There is a fault, but for out of memory, only if no entry has the line, or its slot isn't the next one.
+    ensures err { IfErr result (λ fault. fault ≢ LineFault.OutOfMemory → (number : Property → PropId) (e : Entry) → EntryFits e →
         SlotIsNext number e (last, rows.old.maps)
         → line.now ++ 10 ∷ [] ≢ entry_text e) }
 {
@@ -74,17 +79,22 @@ fn take_slot_line(
     }
 }
 
-/// Puts the rows of the lines from a place to the last line, but for the slots.
+/// Puts the rows of the lines from a place to the last line into the rows, but for the slots. NotADump with the first line that can't be
+/// read; OutOfMemory if memory runs out.
 fn take_lines(alloc: Global, text: &[u8], start: usize, rows: &mut Flat) -> Result<(), LoadFault>
+    // The text has the place.
     requires start { start ≤ length text.now }
     requires read { AreRead rows.old.maps }
+    // The rows are within their limits, and fewer than 2^63 batches were accepted.
     ensures read { OnOk result (AreRead rows.new.maps) }
     // The lines of entries are taken as the entries, unless there is no number or no memory left.
     ensures put { OnOk result ((es : List Entry) → AllByRecursion EntryFits es → drop start text.now ≡ entry_lines es
         → rows.new.maps ≡ entries_taken es rows.old.maps) }
+    // There is a fault, but for out of memory, only if no entries have the lines, or numbers aren't left for them.
     ensures err { IfErr result (λ fault. fault ≢ LoadFault.OutOfMemory → (es : List Entry) → AllByRecursion EntryFits es →
         NumbersAreLeft es rows.old.maps
         → drop start text.now ≢ entry_lines es) }
+    // The text has a line of the number that a fault names.
     ensures fault { IfErr result (SaysOfText text.now) }
 {
     let mut at = start;
@@ -100,18 +110,23 @@ fn take_lines(alloc: Global, text: &[u8], start: usize, rows: &mut Flat) -> Resu
     }
 }
 
-/// Puts the slots of the lines from a place to the last line.
+/// Puts the slots of the lines from a place to the last line into the rows. NotADump with the first line that can't be read, or whose slot
+/// isn't the next one; OutOfMemory if memory runs out.
 fn take_slots(alloc: Global, text: &[u8], start: usize, rows: &mut Flat) -> Result<(), LoadFault>
+    // The text has the place.
     requires start { start ≤ length text.now }
     requires read { AreRead rows.old.maps }
+    // The rows are within their limits, and fewer than 2^63 batches were accepted.
     ensures read { OnOk result (AreRead rows.new.maps) }
     // The lines of entries put their slots, if each has the next property of its definer.
-    ensures put { OnOk result ((number : Property → AProperty) (es : List Entry) → AllByRecursion EntryFits es
+    ensures put { OnOk result ((number : Property → PropId) (es : List Entry) → AllByRecursion EntryFits es
         → EachHas (SlotIsNext number) (slot_line_put number) es (no_slot, rows.old.maps) → drop start text.now ≡ entry_lines es
         → rows.new.maps ≡ (carried (slot_line_put number) es (no_slot, rows.old.maps)).1) }
-    ensures err { IfErr result (λ fault. fault ≢ LoadFault.OutOfMemory → (number : Property → AProperty) (es : List Entry) →
+    // There is a fault, but for out of memory, only if no entries have the lines, or a slot isn't the next one.
+    ensures err { IfErr result (λ fault. fault ≢ LoadFault.OutOfMemory → (number : Property → PropId) (es : List Entry) →
         AllByRecursion EntryFits es
         → EachHas (SlotIsNext number) (slot_line_put number) es (no_slot, rows.old.maps) → drop start text.now ≢ entry_lines es) }
+    // The text has a line of the number that a fault names.
     ensures fault { IfErr result (SaysOfText text.now) }
 {
     let mut at = start;
@@ -133,12 +148,16 @@ fn take_slots(alloc: Global, text: &[u8], start: usize, rows: &mut Flat) -> Resu
     }
 }
 
-/// The rows of a dump, within their limits. Whether they show a world, and whether its dump is the text, isn't asked.
+/// The rows that the lines of a dump say, within the limits of their columns. NotADump with the first line that can't be read; OutOfMemory
+/// if memory runs out. Whether the rows show a world, and whether its dump is the text, isn't asked.
 pub(crate) fn read_rows(alloc: Global, text: &[u8]) -> Result<Flat, LoadFault>
+    // The rows are within their limits, and fewer than 2^63 batches were accepted.
     ensures read { IfOk result (λ rows. AreRead rows.maps) }
     // The dump of a state is read as the rows of the state, unless memory runs out.
     ensures put { IfOk result (λ rows. (s : State) → IsHeld s → dump s ≡ text.now → AreRowsOf s rows.maps) }
+    // There is a fault, but for out of memory, only if the text isn't the dump of a state with numbers left.
     ensures err { IfErr result (λ fault. fault ≢ LoadFault.OutOfMemory → (s : State) → IsHeld s → HasNumbers s → dump s ≢ text.now) }
+    // The text has a line of the number that a fault names.
     ensures fault { IfErr result (SaysOfText text.now) }
 {
     let (head, start) = read_heading(alloc, text)?;

@@ -1,11 +1,11 @@
-//! The values of a slot's line.
+//! Reading the values of a slot's line.
 
 ghost use Rattle.std.specs.Prelude.{◌≡◌, ◌≢◌, true, ◌&&◌, IfOk, IfErr};
-ghost use Rattle.moo_value.specs.declared.value.ObjNo.{ObjNo as Object};
+ghost use Rattle.moo_value.specs.declared.value.ObjNo.{ObjNo};
 ghost use Rattle.moo_value.specs.declared.value.Value.TheVariants.{Str};
-ghost use Rattle.moo_rows.specs.declared.row.Bits.{Bits as Rights};
-ghost use Rattle.moo_rows.specs.declared.row.SlotRow.{SlotRow as Row};
-ghost use Rattle.moo_rows.specs.declared.row.SlotState.{SlotState as State};
+ghost use Rattle.moo_rows.specs.declared.row.Bits.{Bits};
+ghost use Rattle.moo_rows.specs.declared.row.SlotRow.{SlotRow};
+ghost use Rattle.moo_rows.specs.declared.row.SlotState.{SlotState};
 ghost use Rattle.moo_rows.specs.Bits.{letters_of};
 ghost use Rattle.moo_dump.specs.Dump.{state_values};
 ghost use Rattle.moo_load.specs.Printed.{slot_values};
@@ -20,7 +20,7 @@ use moo_rows::{Bits, SlotRow, SlotState};
 use moo_value::{MooStr, ObjNo, Value, fits};
 use std::alloc::Global;
 
-/// A slot, with the object that it is on and the property by its definer and its name.
+/// What the line of a slot says: the object that it is on, its property by definer and name, and its row.
 #[derive(Drop)]
 pub(crate) struct SlotLine {
     pub(crate) object: ObjNo,
@@ -29,10 +29,11 @@ pub(crate) struct SlotLine {
     pub(crate) row: SlotRow,
 }
 
-/// The rights that a value spells in their order.
+/// The rights on a property that a string spells, in the order `rwc`. NoText, NoLetters, or Letters if they are in another order.
 fn bits_of(value: &Value) -> LineResult<Bits>
     ensures ok { IfOk result (λ bits. value.now ≡ Str (letters_of bits)) }
-    ensures err { IfErr result (λ _. (bits : Rights) → value.now ≢ Str (letters_of bits)) }
+    // There is a fault only if the value isn't the string of such letters.
+    ensures err { IfErr result (λ _. (bits : Bits) → value.now ≢ Str (letters_of bits)) }
 {
     let text = text_of(value, "letters")?;
     match Bits::read(text) {
@@ -42,11 +43,14 @@ fn bits_of(value: &Value) -> LineResult<Bits>
     }
 }
 
-/// What a slot holds: 0 for nothing, or 1 with the value.
+/// What a slot holds, from the last values of its line: clear for 0, set for 1 and a value. NoState for others; OutOfMemory if memory runs
+/// out.
 fn state_of(alloc: Global, values: &[Value]) -> LineResult<SlotState>
+    // The values are those that a dump writes of it.
     ensures shown { IfOk result (λ state. values.now ≡ state_values state) }
     ensures fits { IfOk result (λ state. state_fits state ≡ true) }
-    ensures err { IfErr result (λ fault. fault ≢ LineFault.OutOfMemory → (state : State) → state_fits state ≡ true →
+    // There is a fault, but for out of memory, only if a dump writes them of no slot within the limits.
+    ensures err { IfErr result (λ fault. fault ≢ LineFault.OutOfMemory → (state : SlotState) → state_fits state ≡ true →
         values.now ≢ state_values state) }
 {
     match values {
@@ -62,11 +66,15 @@ fn state_of(alloc: Global, values: &[Value]) -> LineResult<SlotState>
     }
 }
 
-/// The slot.
-pub(crate) fn dumped_slot(alloc: Global, values: &[Value]) -> LineResult<SlotLine>
+/// The slot that the values of its line say. The error is the first value, from left to right, that isn't as a dump has it, or their
+/// count; or OutOfMemory.
+pub(crate) fn read_slot(alloc: Global, values: &[Value]) -> LineResult<SlotLine>
+    // The values are those of its line.
     ensures shown { IfOk result (λ slot. values.now ≡ slot_values slot.object slot.definer slot.name slot.row) }
+    // The owner and the value are within their limits.
     ensures fits { IfOk result (λ slot. (is_number slot.row.owner && state_fits slot.row.state) ≡ true) }
-    ensures err { IfErr result (λ fault. fault ≢ LineFault.OutOfMemory → (x definer : Object) (name : Name) (row : Row) →
+    // There is a fault, but for out of memory, only if they aren't the values of such a slot's line.
+    ensures err { IfErr result (λ fault. fault ≢ LineFault.OutOfMemory → (x definer : ObjNo) (name : Name) (row : SlotRow) →
         state_fits row.state ≡ true
         → values.now ≢ slot_values x definer name row) }
 {

@@ -1,20 +1,20 @@
-//! Rows, put as their lines say.
+//! Putting rows as the lines of a dump say.
 
 ghost use Rattle.std.specs.Prelude.{◌≡◌, ◌≢◌, ◌<◌, ◌∷◌, [], true, Some, OnOk, IfOk, IfErr};
-ghost use Rattle.moo_value.specs.declared.value.ObjNo.{ObjNo as Object};
+ghost use Rattle.moo_value.specs.declared.value.ObjNo.{ObjNo};
 ghost use Rattle.moo_value.specs.declared.value.Value.TheVariants.{Obj, Str};
-ghost use Rattle.moo_rows.specs.declared.row.ObjRow.{ObjRow as ObjectRow};
-ghost use Rattle.moo_rows.specs.declared.row.PetitionId.{PetitionId as Id};
-ghost use Rattle.moo_rows.specs.declared.row.PetitionRow.{PetitionRow as APetition};
-ghost use Rattle.moo_rows.specs.declared.row.PropId.{PropId as AProperty};
-ghost use Rattle.moo_rows.specs.declared.row.PropRow.{PropRow as APropRow};
-ghost use Rattle.moo_rows.specs.declared.row.VerbRow.{VerbRow as Verb};
+ghost use Rattle.moo_rows.specs.declared.row.ObjRow.{ObjRow};
+ghost use Rattle.moo_rows.specs.declared.row.PetitionId.{PetitionId};
+ghost use Rattle.moo_rows.specs.declared.row.PetitionRow.{PetitionRow};
+ghost use Rattle.moo_rows.specs.declared.row.PropId.{PropId};
+ghost use Rattle.moo_rows.specs.declared.row.PropRow.{PropRow};
+ghost use Rattle.moo_rows.specs.declared.row.VerbRow.{VerbRow};
 ghost use Rattle.moo_rows.specs.Maps.{with_object, with_slot};
 ghost use Rattle.moo_dump.specs.Dump.{object_values, verb_values};
 ghost use Rattle.moo_load.specs.Printed.{petition_values, slot_values};
 ghost use Rattle.moo_load.specs.Rows.{AreRead, property_taken, verb_taken, petition_taken};
 ghost use Rattle.moo_load.specs.RowsOf.{dumped_slot};
-ghost use Rattle.moo_load.specs.Slots.{IsNextProperty, number_before as the_number_before};
+ghost use Rattle.moo_load.specs.Slots.{IsNextProperty, number_before};
 ghost use Rattle.moo_world.specs.Objects.{Property};
 ghost use Rattle.moo_world.specs.Petitions.{petition_fits};
 ghost use Rattle.moo_world.specs.World.{Slot, row_fits, state_fits, verb_fits, is_property_name};
@@ -24,19 +24,21 @@ use crate::object::read_object;
 use crate::petition::read_petition;
 use crate::property::read_property;
 use crate::reason::DumpReason;
-use crate::slot::{SlotLine, dumped_slot};
+use crate::slot::{SlotLine, read_slot};
 use crate::verb::read_verb;
 use moo_memory::Flat;
 use moo_rows::{PetitionId, PropId, Rows, VerbId};
 use moo_value::{ObjNo, Value};
 use std::alloc::Global;
 
-/// Puts an object.
+/// Puts an object into the rows. The error is why the values can't be read; or OutOfMemory.
 pub(crate) fn take_object(alloc: Global, values: &[Value], rows: &mut Flat) -> LineResult<()>
     requires { AreRead rows.old.maps }
     ensures read { OnOk result (AreRead rows.new.maps) }
-    ensures put { OnOk result ((x : Object) (row : ObjectRow) → values.now ≡ object_values x row → rows.new ≡ with_object rows.old x row) }
-    ensures err { IfErr result (λ fault. fault ≢ LineFault.OutOfMemory → (x : Object) (row : ObjectRow) → row_fits row ≡ true →
+    // If the values are those of an object's line, that object is put.
+    ensures put { OnOk result ((x : ObjNo) (row : ObjRow) → values.now ≡ object_values x row → rows.new ≡ with_object rows.old x row) }
+    // There is a fault, but for out of memory, only if they aren't such values.
+    ensures err { IfErr result (λ fault. fault ≢ LineFault.OutOfMemory → (x : ObjNo) (row : ObjRow) → row_fits row ≡ true →
         values.now ≢ object_values x row) }
 {
     let (number, row) = read_object(alloc, values)?;
@@ -44,14 +46,15 @@ pub(crate) fn take_object(alloc: Global, values: &[Value], rows: &mut Flat) -> L
     Ok(())
 }
 
-/// Puts a property under the next number.
+/// Puts a property into the rows, under the next number. The error is why the values can't be read, or NoNumber; or OutOfMemory.
 pub(crate) fn take_property(alloc: Global, values: &[Value], rows: &mut Flat) -> LineResult<()>
     requires { AreRead rows.old.maps }
     ensures read { OnOk result (AreRead rows.new.maps) }
-    ensures put { OnOk result ((row : APropRow) → values.now ≡ Obj row.definer ∷ Str row.name ∷ [] →
+    // If the values are those of a property's line, that property is put under the next number.
+    ensures put { OnOk result ((row : PropRow) → values.now ≡ Obj row.definer ∷ Str row.name ∷ [] →
         rows.new.maps ≡ property_taken rows.old.maps row) }
-    // Unless there is no number left.
-    ensures err { IfErr result (λ fault. fault ≢ LineFault.OutOfMemory → rows.old.maps.head.next_prop < 4294967295 → (row : APropRow) →
+    // There is a fault, but for out of memory, only if they aren't such values, or no number is left.
+    ensures err { IfErr result (λ fault. fault ≢ LineFault.OutOfMemory → rows.old.maps.head.next_prop < 4294967295 → (row : PropRow) →
         is_property_name row.name ≡ true
         → values.now ≢ Obj row.definer ∷ Str row.name ∷ []) }
 {
@@ -67,15 +70,16 @@ pub(crate) fn take_property(alloc: Global, values: &[Value], rows: &mut Flat) ->
     Ok(())
 }
 
-/// Puts a verb under the next number.
+/// Puts a verb into the rows, under the next number. The error is why the values can't be read, or NoNumber; or OutOfMemory.
 pub(crate) fn take_verb(alloc: Global, values: &[Value], rows: &mut Flat) -> LineResult<()>
     requires { AreRead rows.old.maps }
     ensures read { OnOk result (AreRead rows.new.maps) }
-    ensures put { OnOk result ((x : Object) (row : Verb) → values.now ≡ verb_values x row →
+    // If the values are those of a verb's line, that verb is put under the next number.
+    ensures put { OnOk result ((x : ObjNo) (row : VerbRow) → values.now ≡ verb_values x row →
         rows.new.maps ≡ verb_taken rows.old.maps x row) }
-    // Unless there is no number left.
+    // There is a fault, but for out of memory, only if they aren't such values, or no number is left.
     ensures err { IfErr result (λ fault. fault ≢ LineFault.OutOfMemory → rows.old.maps.head.next_verb < 4294967295 →
-        (x : Object) (row : Verb) → verb_fits row ≡ true
+        (x : ObjNo) (row : VerbRow) → verb_fits row ≡ true
         → values.now ≢ verb_values x row) }
 {
     let (object, row) = read_verb(alloc, values)?;
@@ -90,14 +94,16 @@ pub(crate) fn take_verb(alloc: Global, values: &[Value], rows: &mut Flat) -> Lin
     Ok(())
 }
 
-/// Puts a petition. The next one gets a number above it.
+/// Puts a petition into the rows; the number of the next petition is above it. The error is why the values can't be read; or OutOfMemory.
 pub(crate) fn take_petition(alloc: Global, values: &[Value], rows: &mut Flat) -> LineResult<()>
     requires { AreRead rows.old.maps }
     ensures read { OnOk result (AreRead rows.new.maps) }
-    ensures put { OnOk result ((id : Id) (row : APetition) → values.now ≡ petition_values id row →
+    // If the values are those of a petition's line, that petition is put under its number.
+    ensures put { OnOk result ((id : PetitionId) (row : PetitionRow) → values.now ≡ petition_values id row →
         rows.new.maps ≡ petition_taken rows.old.maps id row) }
-    ensures err { IfErr result (λ fault. fault ≢ LineFault.OutOfMemory → (id : Id) (row : APetition) → 0 < id.0 → id.0 < 4294967295 →
-        petition_fits row ≡ true
+    // There is a fault, but for out of memory, only if they aren't such values.
+    ensures err { IfErr result (λ fault. fault ≢ LineFault.OutOfMemory → (id : PetitionId) (row : PetitionRow) → 0 < id.0 →
+        id.0 < 4294967295 → petition_fits row ≡ true
         → values.now ≢ petition_values id row) }
 {
     let (id, row) = read_petition(alloc, values)?;
@@ -116,9 +122,9 @@ pub(crate) struct LastSlot {
     pub(crate) id: PropId,
 }
 
-/// The number of the property whose slot was put just before, if that was one of this definer on this object, or else 0.
+/// The number of the property whose slot was put last, if that was a slot on this object of a property of this definer; else 0.
 fn number_before(last: LastSlot, object: ObjNo, definer: ObjNo) -> PropId
-    ensures { result ≡ the_number_before last object definer }
+    ensures { result ≡ number_before last object definer }
 {
     if last.object == object && last.definer == definer {
         last.id
@@ -127,10 +133,11 @@ fn number_before(last: LastSlot, object: ObjNo, definer: ObjNo) -> PropId
     }
 }
 
-/// The property of a slot. A dump has the slots of an object that one definer has given it in the order of its properties, so
-/// that the next one is the property after the last.
+/// The property of a slot; `None` if it isn't the next one of its definer. A dump has the slots of an object that one definer has given it
+/// in the order of the definer's properties, so that the next one is the property after the last.
 fn property_of<R: Rows>(rows: &R, last: LastSlot, slot: &SlotLine) -> Option<PropId>
-    ensures { (id : AProperty) → IsNextProperty (R.held rows.now).maps last slot.now.object (slot.now.definer, slot.now.name) id →
+    // If the slot is of the next property of its definer, it is that property.
+    ensures { (id : PropId) → IsNextProperty (R.held rows.now).maps last slot.now.object (slot.now.definer, slot.now.name) id →
         result ≡ Some id }
 {
     let after = number_before(last, slot.object, slot.definer);
@@ -143,8 +150,9 @@ fn property_of<R: Rows>(rows: &R, last: LastSlot, slot: &SlotLine) -> Option<Pro
     }
 }
 
-/// Why a slot isn't that of the next property of its definer.
-fn other_property<R: Rows>(rows: &R, last: LastSlot, slot: &SlotLine) -> DumpReason {
+/// Why a slot isn't that of the next property of its definer: the definer isn't an object, another slot comes first, or the definer has no
+/// further property.
+fn slot_order_reason<R: Rows>(rows: &R, last: LastSlot, slot: &SlotLine) -> DumpReason {
     if rows.object(slot.definer).is_none() {
         return DumpReason::NoDefiner(slot.definer);
     }
@@ -155,7 +163,8 @@ fn other_property<R: Rows>(rows: &R, last: LastSlot, slot: &SlotLine) -> DumpRea
     }
 }
 
-/// Puts a slot, the next one after the last.
+/// Puts a slot into the rows, and answers it as the one that was put last. The error is why the values can't be read, or that another slot
+/// belongs here; or OutOfMemory.
 pub(crate) fn take_slot(
     alloc: Global,
     values: &[Value],
@@ -165,17 +174,18 @@ pub(crate) fn take_slot(
     requires { AreRead rows.old.maps }
     ensures read { OnOk result (AreRead rows.new.maps) }
     // The slot of the next property is put under its number.
-    ensures put { IfOk result (λ put. (x : Object) (p : Property) (k : Slot) (id : AProperty) →
+    ensures put { IfOk result (λ put. (x : ObjNo) (p : Property) (k : Slot) (id : PropId) →
         values.now ≡ slot_values x p.0 p.1 (dumped_slot k)
         → IsNextProperty rows.old.maps last x p id → (put ≡ record { object = x; definer = p.0; id = id })
         × (rows.new ≡ with_slot rows.old (x, id) (dumped_slot k))) }
-    ensures err { IfErr result (λ fault. fault ≢ LineFault.OutOfMemory → (x : Object) (p : Property) (k : Slot) (id : AProperty) →
+    // There is a fault, but for out of memory, only if it isn't the slot of the next property.
+    ensures err { IfErr result (λ fault. fault ≢ LineFault.OutOfMemory → (x : ObjNo) (p : Property) (k : Slot) (id : PropId) →
         state_fits k.state ≡ true
         → IsNextProperty rows.old.maps last x p id → values.now ≢ slot_values x p.0 p.1 (dumped_slot k)) }
 {
-    let slot = dumped_slot(alloc, values)?;
+    let slot = read_slot(alloc, values)?;
     let Some(id) = property_of(rows, last, &slot) else {
-        return Err(LineFault::Unreadable(other_property(rows, last, &slot)));
+        return Err(LineFault::Unreadable(slot_order_reason(rows, last, &slot)));
     };
     let last = LastSlot {
         object: slot.object,

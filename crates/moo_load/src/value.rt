@@ -1,4 +1,4 @@
-//! The values of a line.
+//! Reading single values of a line.
 
 ghost use Rattle.std.specs.Prelude.{◌≡◌, ◌≢◌, ◌≤◌, ◌<◌, ℕ, true, Bool, List, Option, Some, map, length, IfOk, IfErr};
 ghost use Rattle.moo_value.specs.declared.value.ObjNo.{ObjNo};
@@ -15,10 +15,11 @@ use moo_value::{MooStr, ObjNo, Value};
 use moo_world::MOST_ACCEPTED;
 use std::alloc::{AllocError, Global};
 
-/// The object that a value is, which is named by this word in a reason.
+/// The object that a value is. NoObject, with the word `what` for the value, if it is of another type.
 pub(crate) fn object_of(value: &Value, what: &'static str) -> LineResult<ObjNo>
     ensures ok { IfOk result (λ x. value.now ≡ Obj x) }
     ensures fits { IfOk result (λ x. is_number x ≡ true) }
+    // There is a fault only if the value isn't an object.
     ensures err { IfErr result (λ _. (x : ObjNo) → value.now ≢ Obj x) }
 {
     match value {
@@ -27,10 +28,11 @@ pub(crate) fn object_of(value: &Value, what: &'static str) -> LineResult<ObjNo>
     }
 }
 
-/// The string that a value is, which is named by this word in a reason.
+/// The string that a value is. NoText, with the word `what` for the value, if it is of another type.
 pub(crate) fn text_of<'a>(value: &'a Value, what: &'static str) -> LineResult<&'a MooStr>
     ensures ok { IfOk result (λ text. value.now ≡ Str text.now) }
     ensures fits { IfOk result (λ text. is_text text.now ≡ true) }
+    // There is a fault only if the value isn't a string.
     ensures err { IfErr result (λ _. (text : List ℕ) → value.now ≢ Str text) }
 {
     match value {
@@ -43,9 +45,10 @@ pub(crate) fn text_of<'a>(value: &'a Value, what: &'static str) -> LineResult<&'
     }
 }
 
-/// The 0 or 1 that a value is, which is named by this word in a reason.
+/// The flag that a value is: 0 or 1. NoFlag, with the word `what` for the value, if it is another value.
 pub(crate) fn flag_of(value: &Value, what: &'static str) -> LineResult<bool>
     ensures ok { IfOk result (λ holds. value.now ≡ flag holds) }
+    // There is a fault only if the value is neither 0 nor 1.
     ensures err { IfErr result (λ _. (holds : Bool) → value.now ≢ flag holds) }
 {
     match value {
@@ -55,10 +58,12 @@ pub(crate) fn flag_of(value: &Value, what: &'static str) -> LineResult<bool>
     }
 }
 
-/// The objects of a list that has only objects, and not too many.
+/// The objects of an accept list: at most 1,000 values, each an object. NoAcceptList or NoObject for others; OutOfMemory if memory runs
+/// out.
 fn objects_of(alloc: Global, values: &[Value]) -> LineResult<ObjList>
     ensures ok { IfOk result (λ objects. values.now ≡ map Obj objects) }
     ensures fits { IfOk result (λ objects. accept_fits (Some objects) ≡ true) }
+    // There is a fault, but for out of memory, only if they aren't at most 1,000 objects.
     ensures err { IfErr result (λ fault. fault ≢ LineFault.OutOfMemory → (objects : List ObjNo) → length objects ≤ MOST_ACCEPTED →
         values.now ≢ map Obj objects) }
 {
@@ -73,10 +78,12 @@ fn objects_of(alloc: Global, values: &[Value]) -> LineResult<ObjList>
     Ok(ObjList::from_vec(objects))
 }
 
-/// The accept list that a value is: a list of objects, or 0 for none.
+/// The accept list that a value is: a list of at most 1,000 objects, or `None` for 0. NoAcceptList or NoObject for others; OutOfMemory if
+/// memory runs out.
 pub(crate) fn accept_of(alloc: Global, value: &Value) -> LineResult<Option<ObjList>>
     ensures ok { IfOk result (λ accept. value.now ≡ accept_value accept) }
     ensures fits { IfOk result (λ accept. accept_fits accept ≡ true) }
+    // There is a fault, but for out of memory, only if a dump writes the value of no accept list.
     ensures err { IfErr result (λ fault. fault ≢ LineFault.OutOfMemory → (accept : Option (List ObjNo)) → accept_fits accept ≡ true →
         value.now ≢ accept_value accept) }
 {

@@ -1,4 +1,4 @@
-//! Lines of a text, found by what they say. A line that can't be read is none of them.
+//! Finding lines of a text by what they say. A line that can't be read is never found.
 
 use moo_value::{LiteralFault, Value, read_whole_literal};
 use std::alloc::{AllocError, Global};
@@ -23,13 +23,13 @@ pub(crate) fn has_word(line: &[u8], word: &[u8]) -> bool {
     word_of(line) == word
 }
 
-/// What follows the word of a line and its space.
+/// The bytes of a line after its word and the space that follows it.
 pub(crate) fn literal_of(line: &[u8]) -> &[u8] {
     let start = word_of(line).len().saturating_add(1);
     line.get(start..).unwrap_or(&[])
 }
 
-/// The values of the list of a line; none if it has no list. AllocError: memory ran out.
+/// The values of the list of a line; no values if the line has no list. AllocError: memory ran out.
 pub(crate) fn values_in(alloc: Global, line: &[u8]) -> Result<Vec<Value>, AllocError> {
     match read_whole_literal(alloc, literal_of(line)) {
         Ok(Value::List(list)) => Ok(list.into_vec()),
@@ -38,7 +38,7 @@ pub(crate) fn values_in(alloc: Global, line: &[u8]) -> Result<Vec<Value>, AllocE
     }
 }
 
-/// Whether values begin with these.
+/// Whether a list of values begins with the values of another.
 pub(crate) fn begin_with(values: &[Value], front: &[Value]) -> bool {
     front.len() <= values.len()
         && values
@@ -47,7 +47,7 @@ pub(crate) fn begin_with(values: &[Value], front: &[Value]) -> bool {
             .all(|(value, other)| value.same(other))
 }
 
-/// The first line that begins with the word and with these values. AllocError: memory ran out.
+/// The first line whose word is `word` and whose list begins with the values `front`; `None` if there is none. AllocError: memory ran out.
 pub(crate) fn line_with(
     alloc: Global,
     text: &[u8],
@@ -67,7 +67,7 @@ pub(crate) fn line_with(
     Ok(None)
 }
 
-/// The line that is the one of this count, from 1, among those that begin with the word. AllocError: memory ran out.
+/// The line of a count, from 1, among the lines whose word is `word`; `None` if there are fewer. AllocError: memory ran out.
 pub(crate) fn counted_line(
     alloc: Global,
     text: &[u8],
@@ -89,7 +89,7 @@ pub(crate) fn counted_line(
     Ok(None)
 }
 
-/// The line of this number, from 1, or no byte if the text has none.
+/// The line of a number, from 1; no bytes if the text has no such line.
 pub(crate) fn line_numbered(text: &[u8], number: u64) -> &[u8] {
     let mut at: u64 = 0;
     for line in text.split(|byte| *byte == b'\n') {

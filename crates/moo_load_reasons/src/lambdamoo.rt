@@ -1,4 +1,4 @@
-//! Databases of LambdaMOO, which are text and none of ours.
+//! Recognizing databases of LambdaMOO, which are text, and aren't dumps of this server.
 
 use std::fs::{self, File};
 use std::io::Read;
@@ -6,7 +6,7 @@ use std::io::Read;
 /// How the first line of a LambdaMOO database begins.
 const FRONT: &[u8] = b"** LambdaMOO Database, ";
 
-/// What is said of one.
+/// What is said of a LambdaMOO database.
 pub const WHAT_TO_DO: &str =
     "a LambdaMOO database: tools/from_lambdamoo.py makes a dump of it for `moo load`";
 
@@ -15,7 +15,7 @@ pub fn is_lambdamoo(text: &[u8]) -> bool {
     text.starts_with(FRONT)
 }
 
-/// Whether the file of a path does. Nothing is read of what isn't a file, as a pipe.
+/// Whether the file of a path begins as a LambdaMOO database does. False if it can't be read. What isn't a file, as a pipe, isn't opened.
 pub fn holds_lambdamoo(rt: &HostRuntime, path: &str) -> bool {
     match fs::metadata(rt, path) {
         Ok(data) if data.is_file() => {}

@@ -3,8 +3,8 @@
 //! These words go to standard error. Nothing that is proved rests on them: `moo_load` refuses the text, with its reason.
 #![tactic(auto)]
 
-mod broken;
-mod damaged;
+mod bad_lines;
+mod damage;
 mod finding;
 mod lambdamoo;
 mod order;

@@ -1,12 +1,12 @@
-//! What is said of a text that gives no world.
+//! The text that says why a text gives no world.
 
 use moo_value::{ObjNo, Value, print_literal};
 use std::alloc::{AllocError, Global};
 
-/// So many bytes of a value or of a line are shown.
+/// The most bytes of a value or of a line that are shown.
 const MOST_SHOWN: usize = 60;
 
-/// What is said so far. Each `put` adds to its end, and runs out of memory at most.
+/// What is said so far. Each `put` adds to its end, and fails only if memory runs out.
 #[derive(Drop)]
 pub(crate) struct Said {
     pub(crate) alloc: Global,
@@ -30,16 +30,18 @@ impl Said {
         }
     }
 
+    /// Adds words, which are ASCII.
     pub(crate) fn put(&mut self, words: &str) -> Result<(), AllocError> {
         self.text.extend_from_slice(words.as_bytes())
     }
 
+    /// Adds a number in decimal.
     pub(crate) fn put_number(&mut self, number: u64) -> Result<(), AllocError> {
         let digits = number.to_string(self.alloc)?;
         self.put(digits.as_str())
     }
 
-    /// The line, if one is known, and that the text isn't a dump.
+    /// Adds the number of the line, if one is known, and that the text isn't a dump.
     pub(crate) fn put_place(&mut self, number: Option<u64>) -> Result<(), AllocError> {
         if let Some(number) = number {
             self.put("line ")?;
@@ -49,7 +51,7 @@ impl Said {
         self.put("not a dump: ")
     }
 
-    /// A value, and of a long one its front.
+    /// Adds the literal of a value: the first 60 bytes and two dots, if it is longer.
     pub(crate) fn put_value(&mut self, value: &Value) -> Result<(), AllocError> {
         let most = self.text.len().saturating_add(MOST_SHOWN);
         print_literal(self.alloc, value, &mut self.text)?;
@@ -60,11 +62,13 @@ impl Said {
         Ok(())
     }
 
+    /// Adds an object, as `#3`.
     pub(crate) fn put_object(&mut self, object: ObjNo) -> Result<(), AllocError> {
         self.put_value(&Value::Obj(object))
     }
 
-    /// Bytes of a line between single quotes, a question mark for each that doesn't print, and of many the first ones.
+    /// Adds bytes of a line between single quotes: the first 60 and two dots, if there are more, with a question mark for each byte that
+    /// doesn't print.
     pub(crate) fn put_shown(&mut self, bytes: &[u8]) -> Result<(), AllocError> {
         self.put("'")?;
         for byte in bytes.iter().take(MOST_SHOWN) {

@@ -1,4 +1,4 @@
-//! Slots that are missing or too many, with the line that shows it.
+//! Telling which slot is missing or too many, with the line that shows it.
 
 use crate::finding::{begin_with, counted_line, has_word, line_with, values_in};
 use crate::order::put_slot_wanted;
@@ -8,7 +8,8 @@ use moo_value::{ObjNo, Value};
 use std::alloc::{AllocError, Global};
 use std::collections::BTreeMap;
 
-/// The first values of the line of a slot: its object, and the definer and the name of its property.
+/// The first values of the line of a slot: its object, and the definer and the name of the property of this count, from 1, in the text.
+/// AllocError: memory ran out.
 fn slot_front(
     alloc: Global,
     text: &[u8],
@@ -24,7 +25,7 @@ fn slot_front(
     Ok(front)
 }
 
-/// What is wrong with the slot on an object of the property of this count.
+/// Says what is wrong with the slot on an object of the property of this count, from 1, in the text. The only error is out of memory.
 pub(crate) fn put_slot_damage(
     said: &mut Said,
     text: &[u8],
@@ -47,7 +48,8 @@ pub(crate) fn put_slot_damage(
     put_strange_slot(said, text, object, &front)
 }
 
-/// That an object has no property of a slot, whose line begins with these values.
+/// Says that an object has no property of a slot, whose line begins with the values `front`, or isn't an object. The only error is out of
+/// memory.
 fn put_strange_slot(
     said: &mut Said,
     text: &[u8],
@@ -68,7 +70,7 @@ fn put_strange_slot(
     }
 }
 
-/// The parents of the objects that have lines.
+/// The parent of each object that has a line in the text. AllocError: memory ran out.
 fn all_parents(alloc: Global, text: &[u8]) -> Result<BTreeMap<ObjNo, ObjNo>, AllocError> {
     let mut parents = BTreeMap::new(alloc);
     for line in text.split(|byte| *byte == b'\n') {
@@ -84,7 +86,7 @@ fn all_parents(alloc: Global, text: &[u8]) -> Result<BTreeMap<ObjNo, ObjNo>, All
     Ok(parents)
 }
 
-/// The objects from x up its chain to the definer of a property. No chain is longer than there are parents.
+/// The objects from x up its chain to the definer of a property. No chain is longer than there are parents. AllocError: memory ran out.
 fn chain_to(
     alloc: Global,
     parents: &BTreeMap<ObjNo, ObjNo>,
@@ -103,7 +105,8 @@ fn chain_to(
     Ok(nearer)
 }
 
-/// Whether a line of an object, whose number is all of `front`, comes before the slots of what objects above these define.
+/// Whether a line of an object, which is all of `front`, comes before the slots of properties that objects above those of `nearer` define:
+/// it is a property, or a slot of a property that one of `nearer` defines. AllocError: memory ran out.
 fn comes_before(
     alloc: Global,
     line: &[u8],
@@ -126,7 +129,7 @@ fn comes_before(
 }
 
 /// The number of the line at which the slot of a property on an object is wanted: the first one after the object's that doesn't come
-/// before the slot. None if it isn't found. AllocError: memory ran out.
+/// before the slot. `None` if there is no such line. AllocError: memory ran out.
 fn place_of_slot(
     alloc: Global,
     text: &[u8],

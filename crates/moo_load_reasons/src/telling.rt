@@ -1,7 +1,7 @@
-//! Why a text gives no world, in words for people. Nothing that is proved rests on them.
+//! Telling why a text gives no world, in words for people. Nothing that is proved rests on them.
 
-use crate::broken::put_broken;
-use crate::damaged::put_damage;
+use crate::bad_lines::put_broken;
+use crate::damage::put_damage;
 use crate::finding::line_numbered;
 use crate::order::put_order;
 use crate::said::Said;
@@ -10,7 +10,7 @@ use moo_load::{DumpReason, LoadFault};
 use std::alloc::{AllocError, Global};
 
 /// What is wrong with a text that gives no world: `line 18: not a dump: a value is followed by ', '`. A damage that is in no line
-/// is told without one. None if memory ran out.
+/// is told without one. `None` if memory ran out while the text was loaded.
 ///
 /// Nothing is proved of the words. AllocError: memory ran out.
 pub fn why_of_fault(
@@ -30,7 +30,7 @@ pub fn why_of_fault(
     Ok(Some(said.into_text()))
 }
 
-/// What is wrong with a line.
+/// Says what is wrong with the line of a number, by the reason for which loading refused it. The only error is out of memory.
 fn put_reason(
     said: &mut Said,
     text: &[u8],

@@ -1,4 +1,4 @@
-//! Values that a row can't have.
+//! Telling why a row can't have a value of its line.
 
 use crate::finding::{has_word, values_in};
 use crate::said::Said;
@@ -6,7 +6,7 @@ use moo_load::DumpReason;
 use moo_verbs::print_prep;
 use std::alloc::AllocError;
 
-/// That the value of this name isn't of its kind.
+/// Says that the value of this name isn't an object, a text or a flag. The only error is out of memory.
 pub(crate) fn put_kind(said: &mut Said, what: &str, why: DumpReason) -> Result<(), AllocError> {
     said.put("the ")?;
     said.put(what)?;
@@ -17,7 +17,7 @@ pub(crate) fn put_kind(said: &mut Said, what: &str, why: DumpReason) -> Result<(
     })
 }
 
-/// The value at a place of the line's list, if it has one there.
+/// Says the value at a place, from 0, of a line's list; nothing if it has none there. The only error is out of memory.
 pub(crate) fn put_value_at(said: &mut Said, line: &[u8], place: usize) -> Result<(), AllocError> {
     let values = values_in(said.alloc, line)?;
     match values.get(place) {
@@ -26,12 +26,12 @@ pub(crate) fn put_value_at(said: &mut Said, line: &[u8], place: usize) -> Result
     }
 }
 
-/// The place of the letters in a line's list.
+/// The place, from 0, of the letters of rights in the list of a verb's line or a slot's.
 fn letters_place(line: &[u8]) -> usize {
     if has_word(line, b"verb") { 3 } else { 4 }
 }
 
-/// What a dump writes in place of the value at a place.
+/// Says what a dump writes in place of the value at a place of a line's list. The only error is out of memory.
 fn put_for(said: &mut Said, line: &[u8], place: usize, right: &str) -> Result<(), AllocError> {
     said.put("a dump writes \"")?;
     said.put(right)?;
@@ -39,7 +39,7 @@ fn put_for(said: &mut Said, line: &[u8], place: usize, right: &str) -> Result<()
     put_value_at(said, line, place)
 }
 
-/// What is wrong with a value.
+/// Says why a row can't have a value of its line. The only error is out of memory.
 pub(crate) fn put_row(said: &mut Said, line: &[u8], why: DumpReason) -> Result<(), AllocError> {
     match why {
         DumpReason::Letters(bits) => put_for(said, line, letters_place(line), bits.letters()),
@@ -70,6 +70,7 @@ pub(crate) fn put_row(said: &mut Said, line: &[u8], why: DumpReason) -> Result<(
     }
 }
 
+/// Why a row can't have a value, in a sentence that doesn't show the value.
 fn row_sentence(why: DumpReason) -> &'static str {
     match why {
         DumpReason::NoVerbNames => "a verb needs a name",

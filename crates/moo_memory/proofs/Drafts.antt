@@ -1,5 +1,5 @@
 -- The links of a draft's objects, and the properties that its objects define.
-use Rattle.moo_memory.{proofs.Words.{◌≡◌, ◌≢◌, List, Bool, true, false, ◌||◌, ◌+◌, cond, Option, None, Some, Less, Equal, Greater, Ordering, unwrap_or, is_some, refl, sym, ap, ◌∙◌, subst, eq_by_cmp, is_eq, FinMap, get, insert, get-insert, ObjNo, PropId, Held, Maps, LinkSets, may_have, may-as-kept, kept-may, on_ok, has-insert, lacked-insert, slot_total, changed, object_exact, object_cmp, prop_cmp, slot_cmp, is_kept, is_own_candidate, is_to_nothing, has_link, ties_of, row_has, row_defined, AreOfDefiners, AreByName, Tag, tag_of, named_cmp, named_total, row_named, name_hash, kept-insert, named-covers, named-more, named-put, named-remove, or_first, or_second, object_total, prop_total, overlaid, of_changes, is_that, may_have_own, is_candidate_of_either, EitherCovers}, specs.declared.own.OwnLinks.{OwnLinks}, proofs.Overlays.{get-overlaid, overlaid-insert}}
+use Rattle.moo_memory.{proofs.Words.{◌≡◌, ◌≢◌, List, Bool, true, false, ◌||◌, ◌+◌, cond, Option, None, Some, Less, Equal, Greater, Ordering, unwrap_or, is_some, refl, sym, ap, ◌∙◌, subst, eq_by_cmp, is_eq, FinMap, get, insert, get-insert, ObjNo, PropId, Held, Maps, LinkSets, may_have, may-as-kept, kept-may, on_ok, has-insert, lacked-insert, slot_total, changed, object_exact, object_cmp, prop_cmp, slot_cmp, is_kept, is_own_candidate, is_to_nothing, has_link, ties_of, row_has, row_defined, AreOfDefiners, AreByName, Tag, tag_of, named_cmp, named_total, row_named, name_hash, kept-insert, named-covers, named-more, named-put, named-remove, or_first, or_second, object_total, prop_total, overlaid, of_changes, is_that, may_have_own, is_candidate_of_either, EitherCovers}, specs.declared.own_links.OwnLinks.{OwnLinks}, proofs.Overlays.{get-overlaid, overlaid-insert}}
 use Rattle.std.{specs.Prelude.{⊤, ℕ, OnErr, OnOk}, proofs.Common.{Result, Ok, Err}, proofs.lemmas.Bool.{true≢false}, specs.Cmp.{IsTotalOrder}, proofs.lemmas.Map.Lookups.{CmpEqualImpliesEq}, proofs.lemmas.Result.{on_err_weaker, on_ok_weaker}}
 use Rattle.moo_rows.{specs.declared.row.ObjRow.{ObjRow}, specs.declared.row.PropRow.{PropRow}, specs.declared.row.Link.{Link}, proofs.Linking.{defined-put, defined-remove}}
 

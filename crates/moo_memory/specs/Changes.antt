@@ -24,7 +24,7 @@ pub record AreChanges (base new : Maps) (changes : Changes) : Type 0 where
   pub verbs : IsChanges verb_cmp (get base.verbs) (get new.verbs) changes.verbs
   pub petitions : IsChanges petition_cmp (get base.petitions) (get new.petitions) changes.petitions
 
--- no row is changed, and the head is this
+-- the changes in which no row is, with this head
 abbrev pub only_head : Head → Changes
 only_head head = record { head = head; objects = []; props = []; slots = []; verbs = []; petitions = [] }
 

@@ -8,7 +8,7 @@ use Rattle.moo_memory.specs.Changes.{AreChanges, only_head}
 abbrev pub ChangesAreUnique : Type 0
 ChangesAreUnique = (base new : Maps) (a b : Changes) → AreChanges base new a → AreChanges base new b → a ≡ b
 
--- and changes lead from some rows to no two others
+-- changes lead from some rows to one set of rows at most
 abbrev pub ChangesGiveTheRows : Type 0
 ChangesGiveTheRows = (base new other : Maps) (changes : Changes) → AreChanges base new changes → AreChanges base other changes → new ≡ other
 

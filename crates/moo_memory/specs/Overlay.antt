@@ -11,7 +11,7 @@ module _ {K X : Type 0} {cmp : K → K → Ordering} where
   changed base key None = remove base key
   changed base key (Some row) = insert base key row
 
-  -- the map with the keys of a list changed
+  -- the map with the keys of a list changed, from the last to the first
   abbrev pub changed_all : FinMap cmp X → List (K × Option X) → FinMap cmp X
   changed_all base [] = base
   changed_all base (e ∷ es) = changed (changed_all base es) e.0 e.1

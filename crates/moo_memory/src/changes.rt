@@ -65,7 +65,7 @@ pub struct Changes {
     pub petitions: ChangeList<PetitionId, PetitionRow>,
 }
 
-/// Whether a key has this row, or isn't there if this is `None`.
+/// Whether the row that a key has equals `row`: two rows that are equal, or two that are missing.
 fn has_row<V: Row>(held: Option<&V>, row: &Option<V>) -> bool
     ensures { IsTrue result ↔ (option_map (λ held. held.now) held.entry ≡ row.now) }
 {
@@ -76,12 +76,14 @@ fn has_row<V: Row>(held: Option<&V>, row: &Option<V>) -> bool
     }
 }
 
-/// The keys of these changes whose rows differ from the base, with their new rows. The only error is that memory runs out.
+/// Of the changed keys those whose rows differ from the base, ascending, each with its new row, or `None` if it has none. The only error is
+/// that memory runs out.
 fn differing_rows<R: Rows, V: KeyedRow>(
     alloc: Global,
     base: &R,
     changes: BTreeMap<V::Key, Option<V>>,
 ) -> Result<ChangeList<V::Key, V>, AllocError>
+    // The list is exactly the keys whose rows differ between the base and the base with these changes over it.
     ensures { IfOk result (λ list. IsChanges V.Key.cmp (map.get (V.map_of (R.held base.now).maps))
         (row_over (map.get (V.map_of (R.held base.now).maps)) (contents V.Key.cmp changes)) list) }
 {
@@ -94,13 +96,14 @@ fn differing_rows<R: Rows, V: KeyedRow>(
     Ok(ChangeList::from_vec(changed))
 }
 
-/// The keys whose rows differ from the base, with their new rows. The only error is that memory runs out. Most drafts change rows of one
-/// map or two, so that a map without changes isn't gone over.
+/// Of the changed keys those whose rows differ from the base, as `differing_rows` lists them. The only error is that memory runs out. Most
+/// drafts change rows of one map or two, so that a map without changes isn't gone over.
 pub(crate) fn changed_rows<R: Rows, V: KeyedRow>(
     alloc: Global,
     base: &R,
     changes: BTreeMap<V::Key, Option<V>>,
 ) -> Result<ChangeList<V::Key, V>, AllocError>
+    // The list is exactly the keys whose rows differ between the base and the base with these changes over it.
     ensures { IfOk result (λ list. IsChanges V.Key.cmp (map.get (V.map_of (R.held base.now).maps))
         (row_over (map.get (V.map_of (R.held base.now).maps)) (contents V.Key.cmp changes)) list) }
 {
@@ -110,11 +113,12 @@ pub(crate) fn changed_rows<R: Rows, V: KeyedRow>(
     differing_rows(alloc, base, changes)
 }
 
-/// Makes the changes of one kind of row.
+/// Puts and removes the rows of one kind as a list of changes says, in its order. An `Err` is a lack of memory, and then some are made.
 fn apply_each<R: Rows, V: KeyedRow>(
     rows: &mut R,
     changes: ChangeList<V::Key, V>,
 ) -> Result<(), AllocError>
+    // The map of the kind has each of the changes, and the other maps are as they were.
     ensures { OnOk result ((R.held rows.new).maps
         ≡ V.with_map (R.held rows.old).maps (changed_each (V.map_of (R.held rows.old).maps) changes)) }
 {
@@ -127,8 +131,9 @@ fn apply_each<R: Rows, V: KeyedRow>(
     Ok(())
 }
 
-/// Makes the changes of all maps, and sets the head.
+/// Sets the head, and makes the changes of all five maps. An `Err` is a lack of memory, and then some are made.
 fn apply_all<R: Rows>(rows: &mut R, changes: Changes) -> Result<(), AllocError>
+    // If these are the changes from the old rows to others, the rows are those others.
     ensures { OnOk result ((new : Maps) → AreChanges (R.held rows.old).maps new changes → (R.held rows.new).maps ≡ new) }
 {
     rows.set_head(changes.head);
@@ -142,6 +147,7 @@ fn apply_all<R: Rows>(rows: &mut R, changes: Changes) -> Result<(), AllocError>
 /// Makes the changes in the rows that they are changes of. The only error is that memory runs out, and then some are made
 /// and some are not.
 pub fn apply_changes(rows: &mut Flat, changes: Changes) -> Result<(), AllocError>
+    // If these are the changes from the old rows to others, the rows are those others.
     ensures { OnOk result ((new : Maps) → AreChanges rows.old.maps new changes → rows.new.maps ≡ new) }
 {
     apply_all(rows, changes)

@@ -8,7 +8,7 @@ use crate::either::{next_defined_of_either, next_linked_of_either, next_named_of
 use crate::links::{definer_of, forget_defined, row_defined, row_has};
 use crate::names::{forget_tagged, row_named, tag_if, tag_of};
 use crate::overlay;
-use crate::own::OwnLinks;
+use crate::own_links::OwnLinks;
 use crate::ticks::Ticks;
 use moo_rows::{
     Head, Link, ObjRow, PetitionId, PetitionRow, PropId, PropRow, Rows, SlotRow, VerbId, VerbRow,
@@ -76,9 +76,12 @@ impl<'a, R: Rows> Model for Draft<'a, R> {
 }
 
 impl<'a, R: Rows> Draft<'a, R> {
-    /// A draft without changes, whose rows may be looked up, put and removed so often. Past that a row that is put or removed is refused.
+    /// A draft without changes, whose rows may be looked up, put and removed as often as there are ticks. Past that each put and each
+    /// removal is refused.
     pub fn within(alloc: Global, base: &'a R, ticks: u64) -> Draft<'a, R>
+        // Its rows are those of the base.
         ensures maps { result.maps ≡ (R.held base.now).maps }
+        // It is over these rows, has so many ticks, and calls may be made on it.
         ensures base { result.base ≡ record { maps = (R.held base.now).maps; most = ticks; is_spent = false } }
         ensures writes { result.writes ≡ 0 }
     {
@@ -102,6 +105,7 @@ impl<'a, R: Rows> Draft<'a, R> {
 
     /// How many ticks are left. No more rows were put and removed than there were ticks.
     pub fn ticks_left(&self) -> u64
+        // What is left and what was written make no more than the draft was given.
         ensures { result + self.now.writes ≤ self.now.base.most }
     {
         self.ticks.left_after(self.writes)
@@ -110,6 +114,7 @@ impl<'a, R: Rows> Draft<'a, R> {
     /// The changes that make the base into the draft: a row that is put back isn't a change, nor is the removal of a row
     /// that the base doesn't have. The only error is that memory runs out.
     pub fn into_changes(self) -> Result<Changes, AllocError>
+        // They are the changes from the base to the draft.
         ensures { IfOk result (λ changes. AreChanges self.entry.base.maps self.entry.maps changes) }
     {
         Ok(Changes {
@@ -127,7 +132,7 @@ impl<'a, R: Rows> Rows for Draft<'a, R> {
     ghost held = { λ d. d };
 
     fn may_go_on(&self) -> bool {
-        self.ticks.are_kept()
+        self.ticks.are_enough()
     }
 
     fn spend(&self, ticks: u64) {
@@ -135,7 +140,7 @@ impl<'a, R: Rows> Rows for Draft<'a, R> {
     }
 
     fn may_call(&mut self) -> bool {
-        if !self.ticks.are_kept() {
+        if !self.ticks.are_enough() {
             self.is_spent = true;
         }
         !self.is_spent
@@ -267,7 +272,7 @@ impl<'a, R: Rows> Rows for Draft<'a, R> {
     }
 
     fn remove_prop(&mut self, key: PropId) -> Result<(), AllocError> {
-        let row = overlay::own(&self.props, key);
+        let row = overlay::new_row(&self.props, key);
         let definer = definer_of(row);
         let tag = tag_if(row);
         overlay::put(&mut self.props, &mut self.writes, &self.ticks, key, None)?;

@@ -11,12 +11,13 @@ ghost use Rattle.moo_memory.specs.Forgotten.{has_key};
 
 use crate::links::next_defined;
 use crate::names::next_tagged;
-use crate::own::OwnLinks;
+use crate::own_links::OwnLinks;
 use moo_rows::{Link, ObjRow, PropId, Rows, ordered};
 use moo_value::ObjNo;
 use std::collections::BTreeMap;
 
-/// The next object that has the link in the base, or is changed and to be looked at for it. Takes no memory.
+/// The least object past `after` that has the link in the base, or is changed and to be looked at for the link; `None` if there is none.
+/// Takes no memory.
 pub(crate) fn next_linked_of_either<R: Rows>(
     base: &R,
     changes: &BTreeMap<ObjNo, Option<ObjRow>>,
@@ -34,7 +35,7 @@ pub(crate) fn next_linked_of_either<R: Rows>(
     )
 }
 
-/// The next property that x defines in the base, or may define among the changes. Takes no memory.
+/// The least property past `after` that x defines in the base, or may define among the changes; `None` if there is none. Takes no memory.
 pub(crate) fn next_defined_of_either<R: Rows>(
     base: &R,
     definers: &BTreeMap<(ObjNo, PropId), ()>,
@@ -49,7 +50,8 @@ pub(crate) fn next_defined_of_either<R: Rows>(
     )
 }
 
-/// The next property that x defines under the name in the base, or may define among the changes. Takes no memory.
+/// The least property past `after` that x defines under the name in the base, or may define so among the changes, where it is kept for the
+/// hash of the name; `None` if there is none. Takes no memory.
 pub(crate) fn next_named_of_either<R: Rows>(
     base: &R,
     names: &BTreeMap<((ObjNo, u64), PropId), ()>,

@@ -4,7 +4,7 @@ ghost use Rattle.std.specs.Prelude.{◌≡◌, IfOk, IsOk};
 ghost use Rattle.moo_rows.specs.Maps.{no_maps, without_object, without_prop, without_slot, without_verb, without_petition};
 
 use crate::links::{
-    Links, are_same, definer_of, forget_defined, next_defined, row_defined, row_has, ties_of,
+    Links, definer_of, forget_defined, next_defined, row_defined, row_has, same_ties, ties_of,
 };
 use crate::listing::list_tied;
 use crate::names::{forget_tagged, keep_property, next_tagged, row_named, tag_if, tag_of};
@@ -91,7 +91,7 @@ impl Flat {
         }
     }
 
-    /// Equal rows, with a count of writes of their own. An `Err` is a lack of memory.
+    /// Rows that equal these, whose count of writes begins anew. An `Err` is a lack of memory.
     pub fn copy(&self, _alloc: Global) -> Result<Flat, AllocError>
         ensures { IfOk result (λ copy. copy.maps ≡ self.now.maps) }
     {
@@ -171,7 +171,7 @@ impl Rows for Flat {
         let ties = row.ties();
         let old = ordered::replace(&mut self.objects, key, row)?;
         let was = ties_of(old.as_ref());
-        if are_same(was, ties) {
+        if same_ties(was, ties) {
             self.writes.rise();
             return Ok(());
         }

@@ -12,7 +12,7 @@ mod listing;
 mod names;
 mod opening;
 mod overlay;
-mod own;
+mod own_links;
 mod surface;
 mod ticks;
 

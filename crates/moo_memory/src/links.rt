@@ -40,7 +40,7 @@ impl Model for Links {
     } };
 }
 
-/// The ties of a row, if there is one.
+/// The ties of a row: its parent, its location, and whether it is a player. `None` if there is no row.
 pub fn ties_of(row: Option<&ObjRow>) -> Option<Ties>
     ensures { result ≡ option_map ties_of (option_map (λ row. row.now) row.entry) }
 {
@@ -50,14 +50,14 @@ pub fn ties_of(row: Option<&ObjRow>) -> Option<Ties>
     }
 }
 
-/// Whether these are the old ties.
-pub fn are_same(old: Option<Ties>, ties: Ties) -> bool
+/// Whether the old ties are these too: they aren't if there was no row.
+pub fn same_ties(old: Option<Ties>, ties: Ties) -> bool
     ensures { IsTrue result ↔ (old ≡ Some ties) }
 {
     old == Some(ties)
 }
 
-/// Whether there is a row, and it has the link.
+/// Whether there is a row of an object, and the object has the link.
 pub fn row_has(row: Option<&ObjRow>, link: Link) -> bool
     ensures { result ≡ row_has link (option_map (λ row. row.now) row.entry) }
 {
@@ -67,7 +67,7 @@ pub fn row_has(row: Option<&ObjRow>, link: Link) -> bool
     }
 }
 
-/// Whether there is a row, and x defines it.
+/// Whether there is a row of a property, and x defines it.
 pub fn row_defined(row: Option<&PropRow>, x: ObjNo) -> bool
     ensures { result ≡ row_defined x (option_map (λ row. row.now) row.entry) }
 {
@@ -77,7 +77,7 @@ pub fn row_defined(row: Option<&PropRow>, x: ObjNo) -> bool
     }
 }
 
-/// The next object that is paired with x.
+/// The least object past `after` that is paired with x, or `None` if there is none.
 fn next_tied(pairs: &BTreeMap<(ObjNo, ObjNo), ()>, x: ObjNo, after: ObjNo) -> Option<ObjNo>
     ensures { IsFirst object_cmp (λ q. has_key tie_cmp pairs.now (x, q)) after result }
 {
@@ -85,14 +85,14 @@ fn next_tied(pairs: &BTreeMap<(ObjNo, ObjNo), ()>, x: ObjNo, after: ObjNo) -> Op
     if of == x { Some(key) } else { None }
 }
 
-/// The next object of a map.
+/// The least object past `after` that is a key of the map, or `None` if there is none.
 fn next_of<V>(objects: &BTreeMap<ObjNo, V>, after: ObjNo) -> Option<ObjNo>
     ensures { IsFirst object_cmp (λ q. has_key object_cmp objects.now q) after result }
 {
     ordered::next(objects, Some(after))
 }
 
-/// The next property that is paired with x.
+/// The least property past `after` that is paired with x, as its definer, or `None` if there is none.
 pub fn next_defined(
     pairs: &BTreeMap<(ObjNo, PropId), ()>,
     x: ObjNo,
@@ -104,7 +104,7 @@ pub fn next_defined(
     if of == x { Some(key) } else { None }
 }
 
-/// Who defines the property of a row, if there is one.
+/// The object that defines the property of a row; `None` if there is no row.
 pub fn definer_of(row: Option<&PropRow>) -> Option<ObjNo>
     ensures { result ≡ option_map (λ r. r.definer) (option_map (λ row. row.now) row.entry) }
 {
@@ -114,14 +114,15 @@ pub fn definer_of(row: Option<&PropRow>) -> Option<ObjNo>
     }
 }
 
-/// Whether it is this object.
+/// Whether there is a first object, and it is the other one.
 fn is_that(one: Option<ObjNo>, other: ObjNo) -> bool
     ensures { IsTrue result ↔ (one ≡ Some other) }
 {
     one == Some(other)
 }
 
-/// Forgets that a property is defined by who defined it, if anyone did, unless that stays. Takes no memory.
+/// Keeps a property no longer for the object that defined it, `was`, unless `stays`, its definer after the change, is that object.
+/// `None` stands for no definer. Takes no memory.
 pub fn forget_defined(
     pairs: &mut BTreeMap<(ObjNo, PropId), ()>,
     was: Option<ObjNo>,
@@ -151,7 +152,7 @@ fn have_link(ties: Option<Ties>, link: Link) -> bool
 }
 
 impl Links {
-    /// No object is kept for a link.
+    /// Links for which no object is kept.
     pub fn new(alloc: Global) -> Links
         ensures { (link : Link) (key : ObjNo) → is_kept result link key ≡ false }
     {
@@ -162,7 +163,7 @@ impl Links {
         }
     }
 
-    /// The same. An `Err` is a lack of memory.
+    /// Equal links. An `Err` is a lack of memory.
     pub fn copy(&self) -> Result<Links, AllocError>
         ensures { IfOk result (λ copy. copy ≡ self.now) }
     {
@@ -173,7 +174,7 @@ impl Links {
         })
     }
 
-    /// The next object that is kept for the link. Takes no memory.
+    /// The least object past `after` that is kept for the link, or `None` if there is none. Takes no memory.
     fn next_kept(&self, link: Link, after: ObjNo) -> Option<ObjNo>
         ensures { IsFirst object_cmp (is_kept self.now link) after result }
     {
@@ -184,8 +185,8 @@ impl Links {
         }
     }
 
-    /// The next object that is to be looked at for the link: of all that are held if it is to `#-1`, else of those that are kept
-    /// for it. Takes no memory.
+    /// The least object past `after` that is to be looked at for the link, or `None` if there is none: of all that are held if the link is to
+    /// `#-1`, else of those that are kept for it. Takes no memory.
     pub fn next<V>(&self, held: &BTreeMap<ObjNo, V>, link: Link, after: ObjNo) -> Option<ObjNo>
         ensures { IsFirst object_cmp (is_candidate self.now (contents object_cmp held.now) link) after result }
     {
@@ -198,6 +199,7 @@ impl Links {
 
     /// The pairs that tell who is kept for a link to an object, and that object; `None` for one to `#-1`, and for that of players.
     pub fn pairs_of(&self, link: Link) -> Option<(&BTreeMap<(ObjNo, ObjNo), ()>, ObjNo)>
+        // An object is paired with the one that is answered exactly if it is kept for the link.
         ensures { IfSome result (λ p. (is_to_nothing link ≡ false)
             × ((key : ObjNo) → has_key tie_cmp p.0.now (p.1, key) ≡ is_kept self.now link key)) }
     {
@@ -211,10 +213,13 @@ impl Links {
         }
     }
 
-    /// From now on the object may have the link.
+    /// Keeps an object for a link; for one to `#-1` nothing is kept. An `Err` is a lack of memory.
     fn add_one(&mut self, link: Link, key: ObjNo) -> Result<(), AllocError>
+        // Each object that might have a link still may.
         ensures others { (l : Link) (q : ObjNo) → may_have self.new l q ≡ false → may_have self.old l q ≡ false }
+        // The object may have the link.
         ensures there { OnOk result (may_have self.new link key ≡ true) }
+        // No object is kept for a link that wasn't, but for this object and this link.
         ensures only { (l : Link) (q : ObjNo) → is_kept self.new l q ≡ true →
             (is_kept self.old l q ≡ true) ⊎ ((q ≡ key) × ((l ≡ link) × (is_to_nothing l ≡ false))) }
     {
@@ -228,10 +233,13 @@ impl Links {
         }
     }
 
-    /// From now on the object may have the links that go with these ties.
+    /// Keeps an object for the links that go with these ties. An `Err` is a lack of memory, after which it may be kept for some of them.
     pub fn add(&mut self, key: ObjNo, ties: Ties) -> Result<(), AllocError>
+        // Each object that might have a link still may.
         ensures others { (l : Link) (q : ObjNo) → may_have self.new l q ≡ false → may_have self.old l q ≡ false }
+        // The object may have each link that goes with the ties.
         ensures there { OnOk result ((l : Link) → has_link l ties ≡ true → may_have self.new l key ≡ true) }
+        // No object is kept for a link that wasn't, but for this object and the links that go with the ties.
         ensures only { AddsOnly key ties self.old self.new }
     {
         self.add_one(Link::ChildOf(ties.parent), key)?;
@@ -242,9 +250,11 @@ impl Links {
         Ok(())
     }
 
-    /// Forgets that the object may have the link, unless it has it by these ties. Takes no memory.
+    /// Keeps an object for a link no longer, unless the link goes with the ties that stay. Takes no memory.
     fn forget_one(&mut self, link: Link, key: ObjNo, stays: Option<Ties>)
+        // Nothing else is lost: each object that might have a link still may.
         ensures only { ForgetsOnly key stays self.old self.new }
+        // No object is kept for a link that wasn't; and this object is kept for this link only if that goes with the ties that stay.
         ensures gone { (l : Link) (q : ObjNo) → is_kept self.new l q ≡ true →
             (is_kept self.old l q ≡ true) × (q ≡ key → l ≡ link → is_to_nothing l ≡ false → ties_have l stays ≡ true) }
     {
@@ -261,7 +271,8 @@ impl Links {
         }
     }
 
-    /// Forgets the links that went with old ties, if there were any, but for those that the object has by these. Takes no memory.
+    /// Keeps an object no longer for the links that went with its old ties, but for those that go with the ties that stay. `None` stands for
+    /// no ties. Takes no memory.
     pub fn forget(&mut self, key: ObjNo, old: Option<Ties>, stays: Option<Ties>)
         ensures only { ForgetsOnly key stays self.old self.new }
         ensures gone { Forgets key old stays self.old self.new }

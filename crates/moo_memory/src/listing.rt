@@ -11,14 +11,15 @@ use std::alloc::AllocError;
 use std::collections::BTreeMap;
 use std::ops::Bound;
 
-/// Lists the objects past `after` that are paired with x, ascending, after those that are listed. One cursor goes over the pairs. If
-/// an object is paired with x exactly if it has a link, those that have the link are listed.
+/// Appends to a list the objects past `after` that are paired with x, ascending. One cursor goes over the pairs. An `Err` is a lack of
+/// memory, after which some may be listed.
 pub(crate) fn list_tied(
     pairs: &BTreeMap<(ObjNo, ObjNo), ()>,
     x: ObjNo,
     after: ObjNo,
     list: &mut Vec<ObjNo>,
 ) -> Result<(), AllocError>
+    // If the objects that are paired with x are those that have a link, the objects past `after` that have it are listed.
     ensures { (maps : Maps) (link : Link) → ((q : ObjNo) → has_key tie_cmp pairs.now (x, q) ≡ is_linked maps link q) →
         OnOk result (list.new.items ≡ list.old.items ++ map_list (λ e. e.0) (linked_left link after maps)) }
 {

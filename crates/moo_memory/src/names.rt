@@ -14,14 +14,14 @@ use moo_value::ObjNo;
 use std::alloc::AllocError;
 use std::collections::BTreeMap;
 
-/// Whether two names are the same, ASCII case aside.
+/// Whether two names are equal but for ASCII case.
 fn is_alike(first: &[u8], second: &[u8]) -> bool
     ensures { result ≡ is_alike first.now second.now }
 {
     first.eq_ignore_ascii_case(second)
 }
 
-/// Whether there is a row, and x defines it under the name.
+/// Whether there is a row of a property, and x defines the property under the name, ASCII case aside.
 pub fn row_named(row: Option<&PropRow>, x: ObjNo, name: &[u8]) -> bool
     ensures { result ≡ row_named x name.now (option_map (λ row. row.now) row.entry) }
 {
@@ -31,14 +31,14 @@ pub fn row_named(row: Option<&PropRow>, x: ObjNo, name: &[u8]) -> bool
     }
 }
 
-/// The tag of a row.
+/// The tag of a property: its definer and the hash of its name.
 pub fn tag_of(row: &PropRow) -> (ObjNo, u64)
     ensures { result ≡ tag_of row.now }
 {
     (row.definer, name_hash(row.name.bytes()))
 }
 
-/// The tag of a row, if there is one.
+/// The tag of the property of a row; `None` if there is no row.
 pub fn tag_if(row: Option<&PropRow>) -> Option<(ObjNo, u64)>
     ensures { result ≡ option_map tag_of (option_map (λ row. row.now) row.entry) }
 {
@@ -48,14 +48,14 @@ pub fn tag_if(row: Option<&PropRow>) -> Option<(ObjNo, u64)>
     }
 }
 
-/// Whether two tags are one.
+/// Whether two tags have one definer and one hash.
 fn same_tag(one: (ObjNo, u64), other: (ObjNo, u64)) -> bool
     ensures { IsTrue result ↔ (one ≡ other) }
 {
     one == other
 }
 
-/// The next property that is kept for a tag. Takes no memory.
+/// The least property past `after` that is kept for a tag, or `None` if there is none. Takes no memory.
 pub fn next_tagged(
     names: &BTreeMap<((ObjNo, u64), PropId), ()>,
     tag: (ObjNo, u64),
@@ -67,7 +67,7 @@ pub fn next_tagged(
     if same_tag(of, tag) { Some(key) } else { None }
 }
 
-/// Whether this tag stays.
+/// Whether there is a tag that stays, and it is this one.
 fn is_tag(stays: Option<(ObjNo, u64)>, tag: (ObjNo, u64)) -> bool
     ensures { IsTrue result ↔ (stays ≡ Some tag) }
 {
@@ -77,7 +77,8 @@ fn is_tag(stays: Option<(ObjNo, u64)>, tag: (ObjNo, u64)) -> bool
     }
 }
 
-/// Forgets that a property has the tag that it had, if it had one, unless it stays. Takes no memory.
+/// Keeps a property no longer for the tag that it had, `was`, unless `stays`, its tag after the change, equals it. A tag is a definer
+/// with the hash of a name; `None` stands for no tag. Takes no memory.
 pub fn forget_tagged(
     names: &mut BTreeMap<((ObjNo, u64), PropId), ()>,
     was: Option<(ObjNo, u64)>,
@@ -96,15 +97,19 @@ pub fn forget_tagged(
     ordered::remove(names, (was, key));
 }
 
-/// Keeps a property for its definer and for its tag, which has the definer too. If there is no memory for both, it may be kept for one.
+/// Keeps a property for its definer and for its tag, which has the definer too. An `Err` is a lack of memory, after which it may be kept
+/// for one of them.
 pub fn keep_property(
     definers: &mut BTreeMap<(ObjNo, PropId), ()>,
     names: &mut BTreeMap<((ObjNo, u64), PropId), ()>,
     tag: (ObjNo, u64),
     key: PropId,
 ) -> Result<(), AllocError>
+    // Among the definers nothing is lost, and at most this property is new.
     ensures definers { AddsAtMost (tag.0, key) (contents slot_cmp definers.old) (contents slot_cmp definers.new) }
+    // Among the names nothing is lost, and at most this property is new.
     ensures names { AddsAtMost (tag, key) (contents named_cmp names.old) (contents named_cmp names.new) }
+    // The property is kept for both.
     ensures both { OnOk result ((has_key slot_cmp definers.new (tag.0, key) ≡ true) × (has_key named_cmp names.new (tag, key) ≡ true)) }
 {
     ordered::put(definers, (tag.0, key), ())?;

@@ -14,7 +14,7 @@ const ROOT: ObjNo = ObjNo(1);
 
 const WIZARD: ObjNo = ObjNo(3);
 
-/// The row of the root class.
+/// The row of the root class, #1, which is fertile. An `Err` is a lack of memory.
 fn root_class(alloc: Global) -> Result<ObjRow, AllocError>
     ensures { IfOk result (λ row. row ≡ root_class) }
 {
@@ -23,7 +23,7 @@ fn root_class(alloc: Global) -> Result<ObjRow, AllocError>
     Ok(row)
 }
 
-/// The row of the first room.
+/// The row of the first room, #2, which takes in each descendant of #1. An `Err` is a lack of memory.
 fn first_room(alloc: Global) -> Result<ObjRow, AllocError>
     ensures { IfOk result (λ row. row ≡ first_room) }
 {
@@ -32,7 +32,7 @@ fn first_room(alloc: Global) -> Result<ObjRow, AllocError>
     Ok(row)
 }
 
-/// The row of the wizard.
+/// The row of the wizard, #3, who is in #2. An `Err` is a lack of memory.
 fn wizard(alloc: Global) -> Result<ObjRow, AllocError>
     ensures { IfOk result (λ row. row ≡ wizard) }
 {
@@ -44,12 +44,13 @@ fn wizard(alloc: Global) -> Result<ObjRow, AllocError>
     Ok(row)
 }
 
-/// Puts a row, if there was memory for it.
+/// Puts the row of an object, if there was memory to make it. An `Err` is a lack of memory, for the row or for putting it.
 fn put_row<R: Rows>(
     rows: &mut R,
     key: ObjNo,
     row: Result<ObjRow, AllocError>,
 ) -> Result<(), AllocError>
+    // The row that was made is put.
     ensures { OnOk result ((wanted : ObjRow) → IfOk row (λ row. row ≡ wanted) →
         R.held rows.new ≡ with_object (R.held rows.old) key wanted) }
 {
@@ -59,7 +60,9 @@ fn put_row<R: Rows>(
 /// Puts the rows that a new world begins with if there are none: the system object, the root class, the first room and the
 /// wizard. An `Err` is a lack of memory, and some of them may be there then.
 pub fn put_opening<R: Rows>(rows: &mut R, alloc: Global) -> Result<(), AllocError>
+    // If there were no rows, the rows are those that a new world begins with.
     ensures maps { OnOk result ((R.held rows.old).maps ≡ no_maps → (R.held rows.new).maps ≡ opening_maps) }
+    // What the rows are over stays.
     ensures base { OnOk result ((R.held rows.new).base ≡ (R.held rows.old).base) }
 {
     let mut head = rows.head();

@@ -11,7 +11,7 @@ use moo_rows::{KeyedRow, Rows, ordered};
 use std::alloc::AllocError;
 use std::collections::BTreeMap;
 
-/// The row of a key.
+/// The row of a key: if it is changed its new row, and else that of the base. `None` if there is none. Takes no memory.
 pub fn get<'a, R: Rows, V: KeyedRow>(
     base: &'a R,
     changes: &'a BTreeMap<V::Key, Option<V>>,
@@ -27,7 +27,7 @@ pub fn get<'a, R: Rows, V: KeyedRow>(
     }
 }
 
-/// The next key that is in the base or changed.
+/// The least key past `from` that is in the base or changed, though it may be removed; `None` if there is none. Takes no memory.
 fn next_of_either<R: Rows, V: KeyedRow>(
     base: &R,
     changes: &BTreeMap<V::Key, Option<V>>,
@@ -38,7 +38,7 @@ fn next_of_either<R: Rows, V: KeyedRow>(
     ordered::least(V::next(base, from), ordered::next(changes, from))
 }
 
-/// The next held key.
+/// The least key past `from` that has a row, or the least of all if no `from` is given; `None` if there is none. Takes no memory.
 pub fn next<R: Rows, V: KeyedRow>(
     base: &R,
     changes: &BTreeMap<V::Key, Option<V>>,
@@ -69,8 +69,8 @@ fn is_removed<K: OrderedKey, V>(changes: &BTreeMap<K, Option<V>>, key: K) -> boo
     }
 }
 
-/// The new row of a key, if it is changed and not removed.
-pub fn own<K: OrderedKey, V>(changes: &BTreeMap<K, Option<V>>, key: K) -> Option<&V> {
+/// The new row of a key; `None` if the key isn't changed, or is removed. Takes no memory.
+pub fn new_row<K: OrderedKey, V>(changes: &BTreeMap<K, Option<V>>, key: K) -> Option<&V> {
     match ordered::get(changes, key) {
         Some(Some(row)) => Some(row),
         _ => None,
@@ -86,8 +86,11 @@ pub fn put<K: OrderedKey, V: Drop>(
     key: K,
     row: Option<V>,
 ) -> Result<(), AllocError>
+    // The change is set, and counted as one write.
     ensures ok { OnOk result ((contents K.cmp changes.new ≡ map.insert (contents K.cmp changes.old) key row) × (writes.new ≡ writes.old + 1)) }
+    // Neither the changes nor the count differ from before.
     ensures err { OnErr result ((contents K.cmp changes.new ≡ contents K.cmp changes.old) × (writes.new ≡ writes.old)) }
+    // Writes that were within the ticks stay within them.
     ensures most { writes.old ≤ ticks.now.most → writes.new ≤ ticks.now.most }
 {
     if !ticks.may_put(*writes) {

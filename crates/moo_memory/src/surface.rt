@@ -8,9 +8,11 @@ use moo_rows::Rows;
 use std::alloc::Global;
 
 impl<'a, R: Rows> Draft<'a, R> {
-    /// A draft without changes.
+    /// A draft without changes, whose rows may be looked up, put and removed without a bound.
     pub fn new(alloc: Global, base: &'a R) -> Draft<'a, R>
+        // Its rows are those of the base.
         ensures maps { result.maps ≡ (R.held base.now).maps }
+        // It is over these rows.
         ensures base { result.base.maps ≡ (R.held base.now).maps }
         ensures writes { result.writes ≡ 0 }
     {

@@ -16,7 +16,7 @@ pub struct Ticks {
 }
 
 impl Ticks {
-    /// None is spent.
+    /// So many ticks, of which none is spent.
     pub(crate) fn new(most: u64) -> Ticks
         ensures { result.most ≡ most }
     {
@@ -26,25 +26,25 @@ impl Ticks {
         }
     }
 
-    /// Spends so many.
+    /// Spends so many ticks. Past the greatest number of 64 bits the count stays there.
     pub(crate) fn spend(&self, ticks: u64) {
         self.spent.set(self.spent.get().saturating_add(ticks));
     }
 
-    /// Whether no more were spent than there were.
-    pub(crate) fn are_kept(&self) -> bool {
+    /// Whether no more ticks were spent than there were.
+    pub(crate) fn are_enough(&self) -> bool {
         self.spent.get() <= self.most
     }
 
-    /// Spends one on a row that is to be put or removed after so many; whether it may be.
+    /// Spends a tick on a put or a removal, after so many of them, and tells whether it may be made.
     pub(crate) fn may_put(&self, writes: u64) -> bool
         ensures { IsTrue result → writes < self.now.most }
     {
         self.spend(1);
-        self.are_kept() && writes < self.most
+        self.are_enough() && writes < self.most
     }
 
-    /// How many are left after so many rows were put or removed.
+    /// How many ticks are left after so many puts and removals, and after all that was spent on look-ups too.
     pub(crate) fn left_after(&self, writes: u64) -> u64
         ensures { writes ≤ self.now.most → result + writes ≤ self.now.most }
     {

@@ -10,19 +10,19 @@ pub struct DiskChanges {
 }
 
 impl DiskChanges {
-    /// Before the first change.
+    /// No change was made yet.
     pub fn new() -> DiskChanges {
         DiskChanges {
             count: Cell::new(0),
         }
     }
 
-    /// One more change.
+    /// Counts one change more.
     pub(crate) fn note(&self) {
         self.count.set(self.count.get().wrapping_add(1));
     }
 
-    /// How many there were.
+    /// How many changes were made. The number begins anew after 2^64.
     pub(crate) fn count(&self) -> u64 {
         self.count.get()
     }

@@ -25,7 +25,7 @@ impl Display for Subject {
     }
 }
 
-/// A line that tells of reading: how many bytes were read, and how many the file has, if that is known.
+/// A line on standard error that tells of reading: which file, how many bytes were read, and how many the file has, if that is known.
 #[derive(Clone, Copy, Drop)]
 pub(crate) struct Line {
     pub(crate) subject: Subject,
@@ -33,9 +33,11 @@ pub(crate) struct Line {
     pub(crate) length: Option<u64>,
 }
 
-/// So many bytes in megabytes, rounded up.
+/// Bytes as megabytes of 1,000,000 bytes, rounded up.
 fn megabytes(bytes: u64) -> u64
+    // So many megabytes are no less than the bytes.
     ensures enough { bytes ≤ result * 1_000_000 }
+    // One megabyte less would be too few.
     ensures least { result * 1_000_000 < bytes + 1_000_000 }
 {
     bytes.div_ceil(MEGABYTE)

@@ -5,10 +5,10 @@ ghost use Rattle.moo_progress.specs.Reading.{GoesOn, IsDue, IsBegun};
 
 use std::time::{Duration, Instant};
 
-/// For how many seconds nothing is told of reading. Two lines of it are as far apart at least.
+/// For how many seconds of a run nothing is told of reading. Two lines of it are at least as far apart.
 const PATIENCE: u64 = 5;
 
-/// After a pause of more seconds reading begins anew.
+/// After how many seconds without a look at the clock reading begins anew.
 const PAUSE: u64 = 60;
 
 /// A run of reads, between which nothing was changed.
@@ -23,8 +23,8 @@ pub(crate) struct Run {
 }
 
 impl Run {
-    /// Begins now.
-    fn begun(now: Instant, changes: u64) -> Run
+    /// A run of reads that begins now, when the files have been changed so often.
+    fn new(now: Instant, changes: u64) -> Run
         ensures { IsBegun result now changes }
     {
         Run {
@@ -34,14 +34,14 @@ impl Run {
         }
     }
 
-    /// Whether a read now belongs to it: nothing was changed, and the clock was read a minute ago at most.
+    /// Whether a read now belongs to the run: nothing was changed since it began, and the clock was read a minute ago at most.
     fn goes_on(self, now: Instant, changes: u64) -> bool
         ensures { IsTrue result ↔ GoesOn self now changes }
     {
         changes == self.changes && now.duration_since(self.looked) <= Duration::from_secs(PAUSE)
     }
 
-    /// Whether it began, or was last told of, five seconds ago or more.
+    /// Whether the run began, or was last told of, five seconds ago or more.
     fn is_due(self, now: Instant) -> bool
         ensures { IsTrue result ↔ IsDue self now }
     {
@@ -49,7 +49,7 @@ impl Run {
     }
 }
 
-/// What is read of a file: the run of reads that the clock was last read in, and the bytes that were read in it.
+/// The reading of one file: the run of reads in which the clock was last read, and the bytes that were read in that run.
 #[derive(Clone, Copy, Drop)]
 pub(crate) struct Reading {
     pub(crate) run: Option<Run>,
@@ -67,28 +67,33 @@ impl Reading {
         }
     }
 
-    /// Adds so many bytes.
+    /// Adds bytes that were read to those of the run. Their number ends at 2^64 - 1.
     pub(crate) fn add(&mut self, bytes: usize)
+        // The run stays.
         ensures run { self.new.run ≡ self.old.run }
+        // The bytes are added, as long as the sum fits in 64 bits.
         ensures bytes { self.old.bytes + bytes < 2 ^ 64 → self.new.bytes ≡ self.old.bytes + bytes }
     {
         self.bytes = self.bytes.saturating_add(bytes as u64);
     }
 
-    /// The clock reads `now`, and the files were changed so often: the bytes that were read in this run, if it is time to tell of them.
-    pub(crate) fn step(&mut self, now: Instant, changes: u64) -> Option<u64>
-        // A read that belongs to no run begins one.
+    /// Takes note of a look at the clock, which reads `now`, when the files have been changed so often. Answers the bytes that were read
+    /// in this run, if it is time to tell of them; else None.
+    pub(crate) fn bytes_to_tell(&mut self, now: Instant, changes: u64) -> Option<u64>
+        // A read that belongs to no run begins one, and nothing is told.
         ensures begins { ((run : Run) → self.old.run ≡ Some run → ¬ GoesOn run now changes)
             → (result ≡ None) × (self.new.bytes ≡ 0) × ((run : Run) × (self.new.run ≡ Some run) × IsBegun run now changes) }
+        // In a run that isn't due nothing is told, and only the look at the clock is noted.
         ensures waits { (run : Run) → self.old.run ≡ Some run → GoesOn run now changes → ¬ IsDue run now
             → (result ≡ None) × (self.new ≡ record self.old { run = Some (record run { looked = now }) }) }
+        // In a run that is due its bytes are told, and it is due again after five seconds.
         ensures tells { (run : Run) → self.old.run ≡ Some run → GoesOn run now changes → IsDue run now
             → (result ≡ Some self.old.bytes) × (self.new ≡ record self.old { run = Some (record run { looked = now; told = now }) }) }
     {
         let run = match self.run {
             Some(run) if run.goes_on(now, changes) => run,
             _ => {
-                self.run = Some(Run::begun(now, changes));
+                self.run = Some(Run::new(now, changes));
                 self.bytes = 0;
                 return None;
             }

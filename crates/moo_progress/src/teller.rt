@@ -23,6 +23,7 @@ pub(crate) struct Teller<'a, C> {
 }
 
 impl<'a, C: Clock + Eprint> Teller<'a, C> {
+    /// Tells of one file on this console. Nothing is read of it yet.
     pub(crate) fn new(console: &'a C, changes: &'a DiskChanges, subject: Subject) -> Teller<'a, C> {
         Teller {
             console,
@@ -39,28 +40,29 @@ impl<'a, C: Clock + Eprint> Teller<'a, C> {
         self.length = Some(bytes as u64);
     }
 
-    /// Notes that the file is changed.
+    /// Notes that the file is changed, which ends the run of reads of each file of the world. Its length is unknown then.
     pub(crate) fn note_change(&mut self) {
         self.changes.note();
         self.length = None;
     }
 
-    /// Notes that so many bytes are read, and tells of it if it is time.
+    /// Notes that so many bytes are read. At the first of each 64 reads it looks at the clock before that, and tells of the reading if it
+    /// is time.
     pub(crate) fn note_read(&mut self, bytes: usize) {
         if self.reads_left == 0 {
-            self.look();
+            self.look_at_clock();
             self.reads_left = STEP;
         }
         self.reads_left -= 1;
         self.reading.add(bytes);
     }
 
-    /// Looks at the clock, and tells of what was read until now if it is time.
-    fn look(&mut self) {
+    /// Looks at the clock, and tells of what was read before, if it is time. Errors of the clock and of standard error are ignored.
+    fn look_at_clock(&mut self) {
         let Ok(now) = Instant::now(self.console) else {
             return;
         };
-        if let Some(read) = self.reading.step(now, self.changes.count()) {
+        if let Some(read) = self.reading.bytes_to_tell(now, self.changes.count()) {
             let line = Line {
                 subject: self.subject,
                 read,

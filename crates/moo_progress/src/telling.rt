@@ -21,13 +21,15 @@ pub struct Telling<'a, D: Disk, C: Clock + Eprint> {
     teller: Teller<'a, C>,
 }
 
-/// The two files of a world, which tell on this console of long reading from now on.
+/// The two files of a world, as disks that tell of long reading on this console.
 pub fn telling_files<'a, D: Disk, C: Clock + Eprint>(
     files: Files<D>,
     console: &'a C,
     changes: &'a DiskChanges,
 ) -> Files<Telling<'a, D, C>>
+    // The log is passed on as it is.
     ensures log { inner_of result.log ≡ files.log }
+    // So is the database file.
     ensures db { inner_of result.db ≡ files.db }
 {
     Files {

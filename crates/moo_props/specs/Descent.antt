@@ -29,6 +29,7 @@ after_branch maps top object (parent ∷ ancestors) =
     if same_object top object then []
     else branches (world_of maps) (children_past maps parent object) ++ after_branch maps top parent ancestors
 
+-- what comes after an object and all that is below it, in the subtree of the top
 abbrev pub after_below : Maps → ObjNo → ObjNo → List ObjNo
 after_below maps top object = after_branch maps top object (drop 1 (chain (world_of maps) object))
 

@@ -31,12 +31,15 @@ dropped_keys maps object = map (λ pair. pair.0) (filter (λ pair. goes_with map
 
 -- ---- the rows that are left
 
+-- the slot of a key, unless it goes with the object
 abbrev pub slot_left : Maps → ObjNo → ObjNo × PropId → Option SlotRow
 slot_left maps object key = if goes_with maps object key then None else get maps.slots key
 
+-- the row of a property, unless the object defines it
 abbrev pub prop_left : Maps → ObjNo → PropId → Option PropRow
 prop_left maps object id = if defines maps object id then None else get maps.props id
 
+-- the verb of a key, unless it is on the object
 abbrev pub verb_left : Maps → ObjNo → ObjNo × VerbId → Option VerbRow
 verb_left maps object key = if same_object object key.0 then None else get maps.verbs key
 

@@ -36,7 +36,7 @@ verbs_among object pairs = map (λ pair. pair.0) (filter (λ pair. int_eq pair.0
 abbrev pub ids_among : List ((ObjNo × PropId) × SlotRow) → List PropId
 ids_among pairs = map (λ pair. pair.0.1) pairs
 
--- a row that has the object as parent or place no more
+-- the row with the other parent in place of the object, and at no place in place of it
 abbrev pub released_row : ObjNo → ObjNo → ObjRow → ObjRow
 released_row object parent row = record row {
   parent = if same_object object row.parent then parent else row.parent;
@@ -45,9 +45,11 @@ released_row object parent row = record row {
 
 -- ---- what is held after each step
 
+-- without the rows of these properties
 abbrev pub props_removed : List PropId → Held → Held
 props_removed ids held = after_each (λ id before. without_prop before id) ids held
 
+-- without the rows of these verbs
 abbrev pub verbs_removed : List (ObjNo × VerbId) → Held → Held
 verbs_removed keys held = after_each (λ key before. without_verb before key) keys held
 
@@ -57,8 +59,10 @@ with_released object parent other held None = held
 with_released object parent other held (Some row) =
     wrote held (record (held.maps) { objects = insert held.maps.objects other (released_row object parent row) })
 
+-- with the other's row released from the object, its parent or place
 abbrev pub row_released : ObjNo → ObjNo → ObjNo → Held → Held
 row_released object parent other held = with_released object parent other held (get held.maps.objects other)
 
+-- with the row of each of the others released
 abbrev pub rows_released : ObjNo → ObjNo → List ObjNo → Held → Held
 rows_released object parent others held = after_each (row_released object parent) others held

@@ -9,7 +9,7 @@ use Rattle.std.specs.declared.cmp.Ordering.TheVariants.{Less}
 abbrev pub ArePresent : {K X : Type 0} {cmp : K → K → Ordering} → FinMap cmp X → List K → Type 0
 ArePresent rows keys = AllByRecursion (λ key. is_some (get rows key) ≡ true) keys
 
--- none of them has one
+-- none of these keys has a row
 abbrev pub AreAbsent : {K X : Type 0} {cmp : K → K → Ordering} → FinMap cmp X → List K → Type 0
 AreAbsent rows keys = AllByRecursion (λ key. get rows key ≡ None) keys
 

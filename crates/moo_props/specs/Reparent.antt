@@ -22,7 +22,7 @@ is_only_of these others definer = is_among definer these && not (is_among define
 abbrev pub defined_only : (ObjNo → Bool) → (ObjNo → Bool) → List (PropId × PropRow) → List PropId
 defined_only these others pairs = map (λ pair. pair.0) (filter (λ pair. these pair.1.definer && not (others pair.1.definer)) pairs)
 
--- the same of those whose definer is of the first list and not of the second
+-- the properties of these entries whose definer is of the first list and not of the second
 abbrev pub props_only_of : List ObjNo → List ObjNo → List (PropId × PropRow) → List PropId
 props_only_of these others pairs = defined_only (λ object. is_among object these) (λ object. is_among object others) pairs
 
@@ -44,5 +44,6 @@ relinked object row new_parent held =
     then held
     else wrote held (record (held.maps) { objects = insert held.maps.objects object (record row { parent = new_parent }) })
 
+-- the object alone if the new parent isn't its parent, and else none
 abbrev pub relinked_list : ObjNo → ObjRow → ObjNo → List ObjNo
 relinked_list object row new_parent = if same_object row.parent new_parent then [] else object ∷ []

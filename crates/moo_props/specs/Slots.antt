@@ -23,20 +23,21 @@ row_of_slot slot = record { owner = slot.owner; bits = slot.bits; state = slot.s
 abbrev pub fresh_row : ObjNo → SlotRow → SlotRow
 fresh_row owner row = row_of_slot (fresh owner (slot_seen nothing row))
 
--- the same of what fresh slots are made from
+-- the fresh slot that is made from an origin, on an object of this owner
 abbrev pub fresh_of : ObjNo → Origin → SlotRow
 fresh_of owner origin = fresh_row owner (record { owner = origin.owner; bits = origin.bits; state = Clear })
 
 -- ---- what they are made from
 
+-- the origin that a slot of a property is: its owner and its bits count
 abbrev pub origin_of : PropId → SlotRow → Origin
 origin_of id row = record { id = id; owner = row.owner; bits = row.bits }
 
--- what these slots are the origins of
+-- the origins that these slots are
 abbrev pub origins_among : List ((ObjNo × PropId) × SlotRow) → List Origin
 origins_among pairs = map (λ pair. origin_of pair.0.1 pair.1) pairs
 
--- those of these properties that the parent has, each with its slot there
+-- the origins that the parent's slots of these properties are
 abbrev pub origins : FinMap slot_cmp SlotRow → ObjNo → List PropId → List Origin
 origins slots parent ids = filter_map (λ id. option_map (origin_of id) (get slots (parent, id))) ids
 
@@ -46,9 +47,11 @@ origins slots parent ids = filter_map (λ id. option_map (origin_of id) (get slo
 abbrev pub after_each : {A : Type 0} → (A → Held → Held) → List A → Held → Held
 after_each step items held = fold (λ done item. step item done) held items
 
+-- without the slot of a property on an object
 abbrev pub slot_removed : ObjNo → PropId → Held → Held
 slot_removed object id held = wrote held (record (held.maps) { slots = remove held.maps.slots (object, id) })
 
+-- with this slot of a property on an object
 abbrev pub slot_put : ObjNo → PropId → SlotRow → Held → Held
 slot_put object id row held = wrote held (record (held.maps) { slots = insert held.maps.slots (object, id) row })
 
@@ -67,14 +70,15 @@ slots_moved lost gained pairs held =
 
 -- ---- keys
 
+-- the keys of the slots of these properties on an object
 abbrev pub keys_on : ObjNo → List PropId → List (ObjNo × PropId)
 keys_on object ids = map (λ id. (object, id)) ids
 
--- on each of these objects its properties
+-- the keys of slots on each of these objects, of the properties that `ids` has for it
 abbrev pub keys_by : (ObjNo → List PropId) → List (ObjNo × ObjNo) → List (ObjNo × PropId)
 keys_by ids pairs = flat_map (λ pair. keys_on pair.0 (ids pair.0)) pairs
 
--- each of these properties on each of these objects
+-- the keys of the slots of these properties on each of these objects
 abbrev pub keys_over : List PropId → List (ObjNo × ObjNo) → List (ObjNo × PropId)
 keys_over ids pairs = keys_by (λ object. ids) pairs
 

@@ -14,7 +14,8 @@ use moo_rows::{ObjRow, Rows};
 use moo_value::ObjNo;
 use std::alloc::{AllocError, Global};
 
-/// Puts the row of a new object, whose number is the greatest from now on.
+/// Puts the row of a new object, which has no name, no place and no rights, and makes its number the greatest that was given. An `Err` is
+/// a lack of memory.
 fn put_new<R: Rows>(
     alloc: Global,
     rows: &mut R,
@@ -44,10 +45,15 @@ pub fn make<R: Rows>(
     owner: ObjNo,
 ) -> Result<(), AllocError>
     requires good { IsGood (R.held rows.old).maps }
+    // x has the number that a new object gets.
     requires next { next_object (world_of (R.held rows.old).maps) ≡ Some x }
+    // The parent is an object or `#-1`.
     requires parent { (is_object (world_of (R.held rows.old).maps) parent || same_object nothing parent) ≡ true }
+    // The world has the object more, with the slots that it inherits.
     ensures world { OnOk result (world_of (R.held rows.new).maps ≡ created (world_of (R.held rows.old).maps) x parent owner) }
+    // The rows are good, what stays keeps its number, and the petitions and the count of batches are as they were.
     ensures kept { OnOk result (Keeps (R.held rows.old) (R.held rows.new)) }
+    // What each object reads that was there stays.
     ensures reads { OnOk result ((o : ObjNo) (n : Name) → is_object (world_of (R.held rows.old).maps) o ≡ true →
         read_of (world_of (R.held rows.new).maps) o n ≡ read_of (world_of (R.held rows.old).maps) o n) }
 {

@@ -16,13 +16,13 @@ ghost use Rattle.moo_props.specs.Hashed.{HoldsNames, hashed_cmp};
 
 use crate::descent::{next_under, subtree_top};
 use crate::finding::{own_named, slot_of};
-use crate::hashed::{has_name, names_of};
+use crate::name_hashes::{has_name, names_of};
 use moo_rows::{PropId, Rows, each_defined, go_on, name_hash};
 use moo_value::{MooStr, ObjNo};
 use std::alloc::{AllocError, Global};
 use std::collections::BTreeMap;
 
-/// Whether y itself defines a property of the name. The hash is that of the name.
+/// Whether y itself defines a property of the name, whose hash is given. Names compare without ASCII case.
 fn defines_named<R: Rows>(rows: &R, y: ObjNo, name: &MooStr, hash: u64) -> bool
     requires sound { IsSound (R.held rows.now).maps }
     requires hash { hash ≡ name_hash name.now }
@@ -31,8 +31,8 @@ fn defines_named<R: Rows>(rows: &R, y: ObjNo, name: &MooStr, hash: u64) -> bool
     own_named(rows, y, name.bytes(), hash).is_some()
 }
 
-/// The first among x and its descendants that defines a property of the name.
-fn is_defined_under<R: Rows>(rows: &R, x: ObjNo, name: &MooStr) -> Option<ObjNo>
+/// The first of x and its descendants, each before its children, that itself defines a property of the name; `None` if none does.
+fn first_to_define_under<R: Rows>(rows: &R, x: ObjNo, name: &MooStr) -> Option<ObjNo>
     requires { IsGood (R.held rows.now).maps }
     ensures { let w = world_of (R.held rows.now).maps in result ≡ find (λ y. defines_name w y name.now) (walk_down w x) }
 {
@@ -60,11 +60,12 @@ pub fn clashes<R: Rows>(rows: &R, x: ObjNo, name: &MooStr) -> Option<ObjNo>
 {
     match slot_of(rows, x, name) {
         Some(found) => Some(found.definer),
-        None => is_defined_under(rows, x, name),
+        None => first_to_define_under(rows, x, name),
     }
 }
 
-/// Whether y itself defines a property of a name that new or an ancestor of new defines. The names are those of new.
+/// Whether y itself defines a property of a name that new or an ancestor of new defines. `names` holds the properties that new has, by the
+/// hashes of their names. An `Err` is a lack of memory.
 fn meets_on<R: Rows>(
     rows: &R,
     new: ObjNo,
@@ -72,6 +73,7 @@ fn meets_on<R: Rows>(
     y: ObjNo,
 ) -> Result<bool, AllocError>
     requires good { IsGood (R.held rows.now).maps }
+    // `names` holds each property of which new has a slot, by the hash of its name.
     requires names { HoldsNames (R.held rows.now).maps new (contents hashed_cmp names.now) }
     ensures { IfOk result (λ meets. meets ≡ meets_on (world_of (R.held rows.now).maps) new y) }
 {
@@ -84,12 +86,15 @@ fn meets_on<R: Rows>(
     Ok(false)
 }
 
-/// The first among x and its descendants that defines a property.
+/// The first of x and its descendants, each before its children, that itself defines a property, whatever its name; `None` if none does.
+/// The objects before it define nothing, and so share no name with a new parent. An `Err` is a lack of memory.
 fn first_definer<R: Rows>(rows: &R, x: ObjNo) -> Result<Option<ObjNo>, AllocError>
     requires { IsGood (R.held rows.now).maps }
+    // Whichever the new parent is: the walk from that object on finds what the whole walk down from x finds.
     ensures rest { IfOk result (λ first. (new : ObjNo) → let maps = (R.held rows.now).maps in
         find (meets_on (world_of maps) new) (from_here maps x first)
         ≡ find (meets_on (world_of maps) new) (walk_down (world_of maps) x)) }
+    // It is x or under x.
     ensures under { IfOk result (λ first. IfSome first (λ y. is_among x (chain (world_of (R.held rows.now).maps) y) ≡ true)) }
 {
     let mut at = subtree_top(rows, x);

@@ -9,16 +9,20 @@ ghost use Rattle.moo_world.specs.World.{is_object, is_property_name};
 ghost use Rattle.moo_props.specs.Defining.{with_definition};
 ghost use Rattle.moo_world.specs.Keeps.{Keeps};
 
-use crate::slots::{Origin, move_slots};
+use crate::slots::{Origin, exchange_slots};
 use moo_rows::{Bits, PropId, PropRow, Rows, SlotRow, SlotState};
 use moo_tree::owners_under;
 use moo_value::{MooStr, ObjNo, Value};
 use std::alloc::{AllocError, Global};
 
-/// Puts the row of a new property under the next number, which it gives.
+/// Puts the row of a new property that x defines, raises the number of the next property by one, and answers the number of this one. An
+/// `Err` is a lack of memory.
 fn put_definition<R: Rows>(rows: &mut R, x: ObjNo, name: MooStr) -> Result<PropId, AllocError>
+    // A number is left for it.
     requires { (R.held rows.old).maps.head.next_prop < 4294967295 }
+    // The row is put, and the counter is one higher.
     ensures rows { OnOk result (R.held rows.new ≡ with_definition x name (R.held rows.old)) }
+    // The answer is the number that was to be the next.
     ensures id { IfOk result (λ id. id.0 ≡ (R.held rows.old).maps.head.next_prop) }
 {
     let mut head = rows.head();
@@ -47,20 +51,28 @@ pub fn define<R: Rows>(
 ) -> Result<PropId, AllocError>
     requires good { IsGood (R.held rows.old).maps }
     requires object { is_object (world_of (R.held rows.old).maps) x ≡ true }
+    // The name is one that a property may have.
     requires name { is_property_name name ≡ true }
+    // Neither x nor an ancestor or a descendant of it defines a property of the name.
     requires free { clashes (world_of (R.held rows.old).maps) x name ≡ false }
+    // A number is left for it.
     requires left { (R.held rows.old).maps.head.next_prop < 4294967295 }
+    // Lists nest at most 32 deep in the value.
     requires fit { fits value ≡ true }
+    // The world has the property more: set on x, clear on each descendant.
     ensures world { OnOk result (world_of (R.held rows.new).maps ≡ property_added (world_of (R.held rows.old).maps) x name
         (record { definer = x; owner = owner; bits = bits; state = SlotState.Set value })) }
+    // The rows are good, what stays keeps its number, and the petitions and the count of batches are as they were.
     ensures kept { OnOk result (Keeps (R.held rows.old) (R.held rows.new)) }
+    // The answer is the number that was to be the next.
     ensures id { IfOk result (λ id. id.0 ≡ (R.held rows.old).maps.head.next_prop) }
+    // Of the rows of properties only its own is new.
     ensures props { OnOk result (let old = (R.held rows.old).maps in
         (R.held rows.new).maps.props ≡ insert old.props (prop_id old.head.next_prop) (record { definer = x; name = name })) }
 {
     let under = owners_under(alloc, rows, x)?;
     let id = put_definition(rows, x, name)?;
-    move_slots(
+    exchange_slots(
         rows,
         under.as_slice(),
         x,

@@ -18,7 +18,7 @@ ghost use Rattle.moo_props.specs.Slots.{ids_for, keys_by, slots_moved};
 ghost use Rattle.moo_world.specs.Keeps.{Keeps};
 ghost use Rattle.moo_props.specs.Touched.{props_of};
 
-use crate::slots::{SlotKeys, keys_by, move_slots};
+use crate::slots::{SlotKeys, exchange_slots, keys_by};
 use moo_rows::ordered::least;
 use moo_rows::{
     Link, ObjList, PropId, Row, Rows, VerbId, each_defined, each_slot_of, each_verb_of, go_on,
@@ -77,7 +77,7 @@ impl VerbKeys {
     }
 }
 
-/// What went with an object: slots, properties and verbs; and the objects that have another parent or place.
+/// What went with an object: the keys of slots, properties and verbs; and the objects whose parent or place it was.
 #[derive(Drop)]
 pub struct Dropped {
     pub removed: SlotKeys,
@@ -86,8 +86,9 @@ pub struct Dropped {
     pub relinked: ObjList,
 }
 
-/// The properties that x has.
+/// The properties of which x has a slot, ascending. An `Err` is a lack of memory.
 fn ids_on<R: Rows>(alloc: Global, rows: &R, x: ObjNo) -> Result<Vec<PropId>, AllocError>
+    // They are those of all its slots, since no property has the number 0.
     ensures { IfOk result (λ v. v.items ≡ ids_among (slots_of_left x (record { 0 = 0 }) (R.held rows.now).maps)) }
 {
     let mut found = Vec::new(alloc);
@@ -98,7 +99,7 @@ fn ids_on<R: Rows>(alloc: Global, rows: &R, x: ObjNo) -> Result<Vec<PropId>, All
     Ok(found)
 }
 
-/// The properties that x defines.
+/// The properties that x itself defines, ascending. An `Err` is a lack of memory.
 fn props_on<R: Rows>(alloc: Global, rows: &R, x: ObjNo) -> Result<Vec<PropId>, AllocError>
     requires { IsGood (R.held rows.now).maps }
     ensures { IfOk result (λ v. v.items ≡ props_of (x ∷ []) (R.held rows.now).maps.props) }
@@ -111,7 +112,7 @@ fn props_on<R: Rows>(alloc: Global, rows: &R, x: ObjNo) -> Result<Vec<PropId>, A
     Ok(found)
 }
 
-/// The verbs of x.
+/// The keys of the verbs of x, ascending. An `Err` is a lack of memory.
 fn verbs_on<R: Rows>(alloc: Global, rows: &R, x: ObjNo) -> Result<Vec<(ObjNo, VerbId)>, AllocError>
     requires { IsGood (R.held rows.now).maps }
     ensures { IfOk result (λ v. v.items ≡ verbs_among x (entries (R.held rows.now).maps.verbs)) }
@@ -124,7 +125,7 @@ fn verbs_on<R: Rows>(alloc: Global, rows: &R, x: ObjNo) -> Result<Vec<(ObjNo, Ve
     Ok(found)
 }
 
-/// The least object past `last` whose parent or place is x, or none if there is no such object.
+/// The least object past `last` whose parent or place is x, or `None` if there is none. Takes no memory.
 fn next_linked_to<R: Rows>(rows: &R, x: ObjNo, last: ObjNo) -> Option<ObjNo>
     ensures { IsFirst object_cmp (λ y. row_linked x (get (R.held rows.now).maps.objects y)) last result }
 {
@@ -134,7 +135,7 @@ fn next_linked_to<R: Rows>(rows: &R, x: ObjNo, last: ObjNo) -> Option<ObjNo>
     )
 }
 
-/// The objects whose parent or place is x.
+/// The objects whose parent or place is x, ascending. An `Err` is a lack of memory.
 fn linked_to<R: Rows>(alloc: Global, rows: &R, x: ObjNo) -> Result<Vec<ObjNo>, AllocError>
     requires { IsGood (R.held rows.now).maps }
     ensures { IfOk result (λ v. v.items ≡ linked_among x (entries (R.held rows.now).maps.objects)) }
@@ -149,7 +150,8 @@ fn linked_to<R: Rows>(alloc: Global, rows: &R, x: ObjNo) -> Result<Vec<ObjNo>, A
     Ok(found)
 }
 
-/// Removes the slots of x, and those of its own properties on all under it, and lists them.
+/// Removes all slots of x, and from each object under it the slots of `own`, the properties that x defines. Answers the keys of the slots
+/// that went. An `Err` is a lack of memory.
 fn drop_under<R: Rows>(
     alloc: Global,
     rows: &mut R,
@@ -157,19 +159,21 @@ fn drop_under<R: Rows>(
     own: &[PropId],
 ) -> Result<SlotKeys, AllocError>
     requires { IsGood (R.held rows.old).maps }
+    // From x all its slots are gone, and from each object under it those of the properties that x defines.
     ensures rows { OnOk result (let old = (R.held rows.old).maps in R.held rows.new
         ≡ slots_moved (ids_for x (ids_among (slots_of_left x (record { 0 = 0 }) old)) own.now) [] (owners_under old x) (R.held rows.old)) }
+    // The answer is the keys of these slots, object by object.
     ensures list { IfOk result (λ keys. let old = (R.held rows.old).maps in keys
         ≡ keys_by (ids_for x (ids_among (slots_of_left x (record { 0 = 0 }) old)) own.now) (owners_under old x)) }
 {
     let under = owners_under(alloc, rows, x)?;
     let all = ids_on(alloc, rows, x)?;
-    move_slots(rows, under.as_slice(), x, all.as_slice(), own, &[])?;
+    exchange_slots(rows, under.as_slice(), x, all.as_slice(), own, &[])?;
     let removed = keys_by(alloc, under.as_slice(), x, all.as_slice(), own)?;
     Ok(removed)
 }
 
-/// Removes the rows of these properties.
+/// Removes the rows of these properties, one after another. An `Err` is a lack of memory.
 fn remove_props<R: Rows>(rows: &mut R, ids: &[PropId]) -> Result<(), AllocError>
     ensures { OnOk result (R.held rows.new ≡ props_removed ids.now (R.held rows.old)) }
 {
@@ -180,7 +184,7 @@ fn remove_props<R: Rows>(rows: &mut R, ids: &[PropId]) -> Result<(), AllocError>
     Ok(())
 }
 
-/// Removes the rows of these verbs.
+/// Removes the rows of these verbs, one after another. An `Err` is a lack of memory.
 fn remove_verbs<R: Rows>(rows: &mut R, keys: &[(ObjNo, VerbId)]) -> Result<(), AllocError>
     ensures { OnOk result (R.held rows.new ≡ verbs_removed keys.now (R.held rows.old)) }
 {
@@ -191,7 +195,7 @@ fn remove_verbs<R: Rows>(rows: &mut R, keys: &[(ObjNo, VerbId)]) -> Result<(), A
     Ok(())
 }
 
-/// A link, or another one if it leads to x.
+/// The object that a parent or a place is after x has gone: `to` if `link` was x, and else `link` as before.
 #[tactic(auto, unfolding(moo_world::specs::Objects::same_object))]
 fn redirect(x: ObjNo, link: ObjNo, to: ObjNo) -> ObjNo
     ensures { result ≡ (if same_object x link then to else link) }
@@ -199,7 +203,8 @@ fn redirect(x: ObjNo, link: ObjNo, to: ObjNo) -> ObjNo
     if x == link { to } else { link }
 }
 
-/// Gives y, if its parent was x, another parent, and takes it out of x.
+/// Puts the row of y without x in it: if its parent was x, it gets the other parent, and if its place was x, it is nowhere. Nothing happens
+/// if y isn't an object. An `Err` is a lack of memory.
 fn release<R: Rows>(
     alloc: Global,
     rows: &mut R,
@@ -207,6 +212,7 @@ fn release<R: Rows>(
     parent: ObjNo,
     y: ObjNo,
 ) -> Result<(), AllocError>
+    // The row of y, if it has one, is put without x as its parent or place.
     ensures { OnOk result (R.held rows.new ≡ row_released x parent y (R.held rows.old)) }
 {
     let mut row = match rows.object(y) {
@@ -219,7 +225,7 @@ fn release<R: Rows>(
     Ok(())
 }
 
-/// Does so with each of these objects.
+/// Releases each of these objects from x, its parent or place, as `release` does. An `Err` is a lack of memory.
 fn release_all<R: Rows>(
     alloc: Global,
     rows: &mut R,
@@ -227,6 +233,7 @@ fn release_all<R: Rows>(
     parent: ObjNo,
     objects: &[ObjNo],
 ) -> Result<(), AllocError>
+    // The row of each of the objects is put without x as its parent or place.
     ensures { OnOk result (R.held rows.new ≡ rows_released x parent objects.now (R.held rows.old)) }
 {
     for y in objects {
@@ -236,7 +243,8 @@ fn release_all<R: Rows>(
     Ok(())
 }
 
-/// Removes the rows of these properties and verbs, and that of x, once it has released these objects.
+/// Removes the rows of the properties and the verbs of x, releases the objects whose parent or place it is, and removes its own row. An
+/// `Err` is a lack of memory.
 fn drop_rows<R: Rows>(
     alloc: Global,
     rows: &mut R,
@@ -246,6 +254,7 @@ fn drop_rows<R: Rows>(
     verbs: &[(ObjNo, VerbId)],
     relinked: &[ObjNo],
 ) -> Result<(), AllocError>
+    // First the properties go, then the verbs, then the objects are released, and last x goes.
     ensures { OnOk result (R.held rows.new
         ≡ without_object (rows_released x parent relinked.now (verbs_removed verbs.now (props_removed own.now (R.held rows.old)))) x) }
 {
@@ -263,10 +272,15 @@ fn drop_rows<R: Rows>(
 pub fn drop_object<R: Rows>(alloc: Global, rows: &mut R, x: ObjNo) -> Result<Dropped, AllocError>
     requires good { IsGood (R.held rows.old).maps }
     requires object { is_object (world_of (R.held rows.old).maps) x ≡ true }
+    // The answer lists what goes with the object, and the objects whose parent or place it was.
     ensures lists { IfOk result (ListsDropped (R.held rows.old).maps x) }
+    // What is listed as gone is gone, and each row that stays is as the end of the object leaves it.
     ensures leaves { OnOk result (LeavesDropped (R.held rows.old).maps x (R.held rows.new).maps) }
+    // The world is that in which the object is recycled.
     ensures world { OnOk result (world_of (R.held rows.new).maps ≡ recycled (world_of (R.held rows.old).maps) x) }
+    // The rows are good, what stays keeps its number, and the petitions and the count of batches are as they were.
     ensures kept { OnOk result (Keeps (R.held rows.old) (R.held rows.new)) }
+    // At most one row is written for each item that is listed, and one for the object.
     ensures writes { IfOk result (λ dropped. (R.held rows.new).writes ≤ (R.held rows.old).writes + (rows_dropped dropped + 1)) }
 {
     let parent = match rows.object(x) {

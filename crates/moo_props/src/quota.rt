@@ -17,11 +17,14 @@ use moo_rows::{PropId, Rows, SlotState};
 use moo_value::{ObjNo, Value};
 use std::alloc::AllocError;
 
-/// The integer that o reads as its quota, with its property.
+/// The integer that o reads as its quota, with the number of the property; `None` if o has no quota, as `quota_of` says.
 fn quota_here<R: Rows>(rows: &R, o: ObjNo) -> Option<(PropId, i64)>
     requires { IsGood (R.held rows.now).maps }
+    // The integer is the quota of the world.
     ensures quota { option_map (λ p. p.1) result ≡ quota_of (world_of (R.held rows.now).maps) o }
+    // o has a slot of the property.
     ensures has { IfSome result (λ p. is_some (get (R.held rows.now).maps.slots (o, p.0)) ≡ true) }
+    // The name of the property is `ownership_quota`, ASCII case aside.
     ensures named { IfSome result (λ p. name_of (R.held rows.now).maps p.0 ≡ quota_name) }
 {
     let id = match find_named(rows, o, b"ownership_quota") {
@@ -46,7 +49,7 @@ pub fn quota_of<R: Rows>(rows: &R, o: ObjNo) -> Option<i64>
     }
 }
 
-/// A slot set to a quota and so many more.
+/// The state of a slot whose value is the sum of a quota and `by`, an integer of 64 bits.
 fn set_to(quota: i64, by: i64) -> SlotState
     requires { HasRoom (Some quota) by }
     ensures { result ≡ SlotState.Set (Value.Int (quota +ℤ by)) }
@@ -54,13 +57,17 @@ fn set_to(quota: i64, by: i64) -> SlotState
     SlotState::Set(Value::Int(quota + by))
 }
 
-/// Adds to the quota of o, if it has one. What is stored is set on o itself; owner and bits of its slot stay. The only error
-/// is out of memory.
-pub fn move_quota<R: Rows>(rows: &mut R, o: ObjNo, by: i64) -> Result<(), AllocError>
+/// Adds `by` to the quota of o; nothing happens if o has none. The sum is set on o itself, and the owner and the bits of its slot stay. The
+/// only error is out of memory.
+pub fn change_quota<R: Rows>(rows: &mut R, o: ObjNo, by: i64) -> Result<(), AllocError>
     requires good { IsGood (R.held rows.old).maps }
+    // The sum is an integer of 64 bits.
     requires room { HasRoom (quota_of (world_of (R.held rows.old).maps) o) by }
+    // The world has `by` added to the quota of o.
     ensures world { OnOk result (world_of (R.held rows.new).maps ≡ quota_changed (world_of (R.held rows.old).maps) o by) }
+    // The rows are good, what stays keeps its number, and the petitions and the count of batches are as they were.
     ensures kept { OnOk result (Keeps (R.held rows.old) (R.held rows.new)) }
+    // Only slots change.
     ensures rest { OnOk result (IsSameButSlots (R.held rows.old).maps (R.held rows.new).maps) }
 {
     let (id, quota) = match quota_here(rows, o) {
@@ -74,24 +81,31 @@ pub fn move_quota<R: Rows>(rows: &mut R, o: ObjNo, by: i64) -> Result<(), AllocE
 /// Takes one from the quota of o, if it has one. The only error is out of memory.
 pub fn take_quota<R: Rows>(rows: &mut R, o: ObjNo) -> Result<(), AllocError>
     requires good { IsGood (R.held rows.old).maps }
+    // o has no quota, or one above 0.
     requires left { has_quota_left (world_of (R.held rows.old).maps) o ≡ true }
+    // The world has one taken from the quota of o.
     ensures world { OnOk result (world_of (R.held rows.new).maps ≡ quota_changed (world_of (R.held rows.old).maps) o (negsuc 0)) }
+    // The rows are good, what stays keeps its number, and the petitions and the count of batches are as they were.
     ensures kept { OnOk result (Keeps (R.held rows.old) (R.held rows.new)) }
+    // Only slots change.
     ensures rest { OnOk result (IsSameButSlots (R.held rows.old).maps (R.held rows.new).maps) }
 {
-    move_quota(rows, o, -1)
+    change_quota(rows, o, -1)
 }
 
 /// Gives one back to the quota of o, if it has one. A quota at the greatest integer, 9,223,372,036,854,775,807, stays. The
 /// only error is out of memory.
 pub fn return_quota<R: Rows>(rows: &mut R, o: ObjNo) -> Result<(), AllocError>
     requires { IsGood (R.held rows.old).maps }
+    // The world has one given back to the quota of o.
     ensures world { OnOk result (world_of (R.held rows.new).maps ≡ quota_returned (world_of (R.held rows.old).maps) o) }
+    // The rows are good, what stays keeps its number, and the petitions and the count of batches are as they were.
     ensures kept { OnOk result (Keeps (R.held rows.old) (R.held rows.new)) }
+    // Only slots change.
     ensures rest { OnOk result (IsSameButSlots (R.held rows.old).maps (R.held rows.new).maps) }
 {
     match quota_of(rows, o) {
-        Some(quota) if quota < i64::MAX => move_quota(rows, o, 1),
+        Some(quota) if quota < i64::MAX => change_quota(rows, o, 1),
         _ => Ok(()),
     }
 }

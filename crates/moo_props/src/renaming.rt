@@ -21,13 +21,20 @@ use std::alloc::AllocError;
 /// LambdaMOO Programmer's Manual, 'Operations on Properties': `set_property_info`.
 pub fn rename<R: Rows>(rows: &mut R, x: ObjNo, id: PropId, name: MooStr) -> Result<(), AllocError>
     requires good { IsGood (R.held rows.old).maps }
+    // x defines the property.
     requires own { defines (R.held rows.old).maps x id ≡ true }
+    // The new name is one that a property may have.
     requires name { is_property_name name ≡ true }
+    // Neither x nor an ancestor or a descendant of it defines a property of the new name.
     requires free { clashes (world_of (R.held rows.old).maps) x name ≡ false }
+    // Of the rows only that of the property changes.
     ensures rows { OnOk result (R.held rows.new ≡ with_name x id name (R.held rows.old)) }
+    // The world has the property under the new name, on x and on each descendant.
     ensures world { OnOk result (world_of (R.held rows.new).maps
         ≡ property_renamed (world_of (R.held rows.old).maps) x (spelling_of (R.held rows.old).maps id) name) }
+    // The rows are good, what stays keeps its number, and the petitions and the count of batches are as they were.
     ensures kept { OnOk result (Keeps (R.held rows.old) (R.held rows.new)) }
+    // After an error nothing has changed.
     ensures err { OnErr result (R.held rows.new ≡ R.held rows.old) }
 {
     rows.put_prop(id, PropRow { definer: x, name })?;

@@ -12,7 +12,7 @@ ghost use Rattle.moo_props.specs.Reparent.{defined_only, is_defined_only, is_key
 ghost use Rattle.moo_props.specs.Slots.{keys_over, origins, slots_moved};
 ghost use Rattle.moo_props.specs.Touched.{ListsTouched, LeavesTouched, rows_touched};
 
-use crate::slots::{SlotKeys, keys_by, move_slots, origins};
+use crate::slots::{SlotKeys, exchange_slots, keys_by, origins};
 use moo_rows::{ObjList, ObjRow, PropId, Row, Rows, each_slot_of, go_on, ordered};
 use moo_tree::{chain_keys, owners_under};
 use moo_value::ObjNo;
@@ -27,14 +27,14 @@ pub struct Touched {
     pub relinked: ObjList,
 }
 
-/// Whether an object is a key of a map.
+/// Whether an object is a key of a map. Takes no memory.
 fn is_key(keys: &BTreeMap<ObjNo, ()>, x: ObjNo) -> bool
     ensures { result ≡ is_key keys.now x }
 {
     ordered::get(keys, x).is_some()
 }
 
-/// Whether an object that is a key of one map, and not of another, defines the property.
+/// Whether the property is defined by an object that is a key of `these` and not of `others`. Takes no memory.
 fn is_defined_only<R: Rows>(
     rows: &R,
     these: &BTreeMap<ObjNo, ()>,
@@ -49,8 +49,8 @@ fn is_defined_only<R: Rows>(
     }
 }
 
-/// The properties that objects among these define and not those among others, ascending. These are of y's chain, so that y has a slot of
-/// each: only its slots are gone over, and each definer is looked up.
+/// The properties, ascending, that are defined by a key of `these` that isn't a key of `others`. The keys of `these` are y or ancestors of
+/// y, so that y has a slot of each such property: only its slots are gone over, and each definer is looked up. An `Err` is a lack of memory.
 fn props_among<R: Rows>(
     alloc: Global,
     rows: &R,
@@ -59,6 +59,7 @@ fn props_among<R: Rows>(
     others: &BTreeMap<ObjNo, ()>,
 ) -> Result<Vec<PropId>, AllocError>
     requires good { IsGood (R.held rows.now).maps }
+    // Each key of `these` is y or an ancestor of y.
     requires within { (d : ObjNo) → is_key these.now d ≡ true → is_among d (chain (world_of (R.held rows.now).maps) y) ≡ true }
     ensures { IfOk result (λ v. v.items ≡ defined_only (is_key these.now) (is_key others.now) (entries (R.held rows.now).maps.props)) }
 {
@@ -72,8 +73,9 @@ fn props_among<R: Rows>(
     Ok(found)
 }
 
-/// The properties that x loses when it goes from one parent to another, and those that it gains.
-fn turnover<R: Rows>(
+/// The properties that x loses when it goes from one parent to another, and those that it gains, each list ascending. An `Err` is a lack
+/// of memory.
+fn lost_and_gained<R: Rows>(
     alloc: Global,
     rows: &R,
     x: ObjNo,
@@ -81,10 +83,13 @@ fn turnover<R: Rows>(
     new: ObjNo,
 ) -> Result<(Vec<PropId>, Vec<PropId>), AllocError>
     requires good { IsGood (R.held rows.now).maps }
+    // The parent and its ancestors are ancestors of x.
     requires above { (d : ObjNo) → is_among d (chain (world_of (R.held rows.now).maps) parent) ≡ true →
         is_among d (chain (world_of (R.held rows.now).maps) x) ≡ true }
+    // Lost are those that the old parent or an ancestor of it defines, and neither the new one nor an ancestor of that.
     ensures lost { IfOk result (λ both. let w = world_of (R.held rows.now).maps in
         both.0.items ≡ props_only_of (chain w parent) (chain w new) (entries (R.held rows.now).maps.props)) }
+    // Gained are those of the new parent and its ancestors, and neither of the old one nor of its ancestors.
     ensures gained { IfOk result (λ both. let w = world_of (R.held rows.now).maps in
         both.1.items ≡ props_only_of (chain w new) (chain w parent) (entries (R.held rows.now).maps.props)) }
 {
@@ -95,8 +100,9 @@ fn turnover<R: Rows>(
     Ok((lost, gained))
 }
 
-/// Moves the slots of x and of all under it, fresh ones from those of the new parent, and lists those that went and those that came.
-fn move_under<R: Rows>(
+/// Removes from x and from each object under it the slots of the lost properties, and puts fresh slots of those that are gained, made from
+/// the slots of the new parent. Answers the keys of the slots that went and of those that came. An `Err` is a lack of memory.
+fn exchange_under<R: Rows>(
     alloc: Global,
     rows: &mut R,
     x: ObjNo,
@@ -105,20 +111,24 @@ fn move_under<R: Rows>(
     gained: &[PropId],
 ) -> Result<(SlotKeys, SlotKeys), AllocError>
     requires { IsGood (R.held rows.old).maps }
+    // On x and on each object under it the lost slots have gone, and fresh ones have come.
     ensures rows { OnOk result (let old = (R.held rows.old).maps in
         R.held rows.new ≡ slots_moved (λ y. lost.now) (origins old.slots new gained.now) (owners_under old x) (R.held rows.old)) }
+    // First the keys of those that went.
     ensures removed { IfOk result (λ both. both.0 ≡ keys_over lost.now (owners_under (R.held rows.old).maps x)) }
+    // Second the keys of those that came.
     ensures added { IfOk result (λ both. both.1 ≡ keys_over gained.now (owners_under (R.held rows.old).maps x)) }
 {
     let under = owners_under(alloc, rows, x)?;
     let fresh = origins(alloc, rows, new, gained)?;
-    move_slots(rows, under.as_slice(), x, lost, lost, fresh.as_slice())?;
+    exchange_slots(rows, under.as_slice(), x, lost, lost, fresh.as_slice())?;
     let removed = keys_by(alloc, under.as_slice(), x, lost, lost)?;
     let added = keys_by(alloc, under.as_slice(), x, gained, gained)?;
     Ok((removed, added))
 }
 
-/// Puts x under another parent, and lists it, unless that is its parent already.
+/// Puts the row of x, which is given, with the new parent, and answers a list of x alone; nothing is put and the list is empty if that is
+/// its parent already. An `Err` is a lack of memory.
 #[tactic(auto, unfolding(moo_world::specs::Objects::same_object))]
 fn relink<R: Rows>(
     alloc: Global,
@@ -154,19 +164,25 @@ pub fn reparent<R: Rows>(
     new: ObjNo,
 ) -> Result<Touched, AllocError>
     requires good { IsGood (R.held rows.old).maps }
+    // x is an object, the new parent is `#-1` or an object that is neither x nor under x, and no property name is on both sides.
     requires may { MayReparent (world_of (R.held rows.old).maps) x new }
+    // The answer lists the slots that went, those that came, and x if it has another parent.
     ensures lists { IfOk result (ListsTouched (R.held rows.old).maps x new) }
+    // What is listed as gone is gone, what is listed as new is there, and each row is as the change of parent leaves it.
     ensures leaves { OnOk result (LeavesTouched (R.held rows.old).maps x new (R.held rows.new).maps) }
+    // The world is that of the manual's change of parent.
     ensures world { OnOk result (world_of (R.held rows.new).maps ≡ reparented (world_of (R.held rows.old).maps) x new) }
+    // The rows are good, what stays keeps its number, and the petitions and the count of batches are as they were.
     ensures kept { OnOk result (Keeps (R.held rows.old) (R.held rows.new)) }
+    // At most one row is written for each item that is listed.
     ensures writes { IfOk result (λ touched. (R.held rows.new).writes ≤ (R.held rows.old).writes + rows_touched touched) }
 {
     let row = match rows.object(x) {
         None => unreachable!(),
         Some(row) => row.copy(alloc)?,
     };
-    let (lost, gained) = turnover(alloc, rows, x, row.parent, new)?;
-    let (removed, added) = move_under(alloc, rows, x, new, lost.as_slice(), gained.as_slice())?;
+    let (lost, gained) = lost_and_gained(alloc, rows, x, row.parent, new)?;
+    let (removed, added) = exchange_under(alloc, rows, x, new, lost.as_slice(), gained.as_slice())?;
     let relinked = relink(alloc, rows, x, row, new)?;
     Ok(Touched {
         removed,

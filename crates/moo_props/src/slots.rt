@@ -43,7 +43,8 @@ pub struct Origin {
 }
 
 impl Origin {
-    /// The slot that is made from it on an object of this owner.
+    /// The clear slot that is made from it on an object of this owner. Its owner is that of the object if the bit c is set, else that of
+    /// the origin.
     pub(crate) fn fresh(&self, owner: ObjNo) -> SlotRow
         ensures { result ≡ fresh_of owner self.now }
     {
@@ -55,12 +56,13 @@ impl Origin {
     }
 }
 
-/// The properties that q has, with the owners and the bits of its slots.
+/// An origin for each property that q has, with the owner and the bits of its slot there, ascending. An `Err` is a lack of memory.
 pub(crate) fn origins_on<R: Rows>(
     alloc: Global,
     rows: &R,
     q: ObjNo,
 ) -> Result<Vec<Origin>, AllocError>
+    // They are those of all its slots, since no property has the number 0.
     ensures { IfOk result (λ v. v.items ≡ origins_among (slots_of_left q (record { 0 = 0 }) (R.held rows.now).maps)) }
 {
     let mut found = Vec::new(alloc);
@@ -75,7 +77,7 @@ pub(crate) fn origins_on<R: Rows>(
     Ok(found)
 }
 
-/// Those of these properties that q has, each with the slot of it on q.
+/// An origin for each of these properties that q has, with the owner and the bits of its slot there. An `Err` is a lack of memory.
 pub(crate) fn origins<R: Rows>(
     alloc: Global,
     rows: &R,
@@ -98,7 +100,7 @@ pub(crate) fn origins<R: Rows>(
     Ok(found)
 }
 
-/// Removes the slots of these properties on y.
+/// Removes the slots of these properties from y, one after another. An `Err` is a lack of memory.
 fn remove_on<R: Rows>(rows: &mut R, y: ObjNo, ids: &[PropId]) -> Result<(), AllocError>
     ensures { OnOk result (R.held rows.new ≡ without_on y ids.now (R.held rows.old)) }
 {
@@ -109,7 +111,7 @@ fn remove_on<R: Rows>(rows: &mut R, y: ObjNo, ids: &[PropId]) -> Result<(), Allo
     Ok(())
 }
 
-/// Puts fresh slots on y, which has this owner.
+/// Puts on y, which has this owner, a fresh slot for each origin. An `Err` is a lack of memory.
 pub(crate) fn put_fresh<R: Rows>(
     rows: &mut R,
     y: ObjNo,
@@ -125,7 +127,7 @@ pub(crate) fn put_fresh<R: Rows>(
     Ok(())
 }
 
-/// Lists the keys of these properties on y.
+/// Appends the keys of the slots of these properties on y to a list. An `Err` is a lack of memory.
 fn list_on(y: ObjNo, ids: &[PropId], keys: &mut Vec<(ObjNo, PropId)>) -> Result<(), AllocError>
     ensures { OnOk result (keys.new.items ≡ keys.old.items ++ keys_on y ids.now) }
 {
@@ -135,7 +137,7 @@ fn list_on(y: ObjNo, ids: &[PropId], keys: &mut Vec<(ObjNo, PropId)>) -> Result<
     Ok(())
 }
 
-/// All properties for x itself, and its own for another object.
+/// The properties whose slots y loses: `all` if y is x itself, and `own`, those that x defines, if it is another object.
 #[tactic(auto, unfolding(moo_world::specs::Objects::same_object))]
 fn ids_for<'a>(x: ObjNo, all: &'a [PropId], own: &'a [PropId], y: ObjNo) -> &'a [PropId]
     ensures { result.now ≡ ids_for x all.now own.now y }
@@ -143,9 +145,9 @@ fn ids_for<'a>(x: ObjNo, all: &'a [PropId], own: &'a [PropId], y: ObjNo) -> &'a 
     if x == y { all } else { own }
 }
 
-/// On each of these objects, with its owner, removes slots and puts fresh ones. From x it removes those of all the properties, and from
-/// another object those of x's own.
-pub(crate) fn move_slots<R: Rows>(
+/// Exchanges slots on each of these objects, which come with their owners: slots go, and then a fresh one comes for each origin. From x go
+/// those of the properties `all`, and from another object those of `own`. An `Err` is a lack of memory.
+pub(crate) fn exchange_slots<R: Rows>(
     rows: &mut R,
     under: &[(ObjNo, ObjNo)],
     x: ObjNo,
@@ -153,6 +155,7 @@ pub(crate) fn move_slots<R: Rows>(
     own: &[PropId],
     gained: &[Origin],
 ) -> Result<(), AllocError>
+    // On each object the slots of its properties have gone, and then the fresh ones have come.
     ensures { OnOk result (R.held rows.new ≡ slots_moved (ids_for x all.now own.now) gained.now under.now (R.held rows.old)) }
 {
     for (y, owner) in under {
@@ -162,7 +165,8 @@ pub(crate) fn move_slots<R: Rows>(
     Ok(())
 }
 
-/// The keys of the slots of all the properties on x, and of its own on another one of these objects.
+/// The keys of slots on each of these objects, in order: on x of the properties `all`, and on another object of `own`. An `Err` is a lack
+/// of memory.
 pub(crate) fn keys_by(
     alloc: Global,
     under: &[(ObjNo, ObjNo)],

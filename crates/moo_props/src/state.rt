@@ -14,7 +14,7 @@ use moo_rows::{Bits, PropId, Row, Rows, SlotRow, SlotState};
 use moo_value::{ObjNo, Value};
 use std::alloc::{AllocError, Global};
 
-/// Puts another state on x's slot of a property.
+/// Sets the state of the slot that x has of a property: clear, or a value. The owner and the bits stay. An `Err` is a lack of memory.
 pub(crate) fn put_state<R: Rows>(
     rows: &mut R,
     x: ObjNo,
@@ -22,12 +22,18 @@ pub(crate) fn put_state<R: Rows>(
     state: SlotState,
 ) -> Result<(), AllocError>
     requires good { IsGood (R.held rows.old).maps }
+    // x has a slot of the property.
     requires has { is_some (get (R.held rows.old).maps.slots (x, id)) ≡ true }
+    // A slot on the object that defines the property isn't cleared.
     requires set { state ≡ SlotState.Clear → defines (R.held rows.old).maps x id ≡ false }
+    // Lists nest at most 32 deep in a value.
     requires fit { state_fits state ≡ true }
+    // The world has the slot with this state.
     ensures world { OnOk result (world_of (R.held rows.new).maps
         ≡ with_slot_of (world_of (R.held rows.old).maps) x (spelling_of (R.held rows.old).maps id) (λ s. record s { state = state })) }
+    // The rows are good, what stays keeps its number, and the petitions and the count of batches are as they were.
     ensures kept { OnOk result (Keeps (R.held rows.old) (R.held rows.new)) }
+    // Only slots change.
     ensures rest { OnOk result (IsSameButSlots (R.held rows.old).maps (R.held rows.new).maps) }
 {
     let (owner, bits) = match rows.slot((x, id)) {
@@ -38,7 +44,9 @@ pub(crate) fn put_state<R: Rows>(
     Ok(())
 }
 
-/// Sets the value of a property that x has, in which lists nest at most 32 deep. The owner and the bits stay.
+/// Sets the value of a property that x has, in which lists nest at most 32 deep. The owner and the bits stay. An `Err` is a lack of memory.
+///
+/// LambdaMOO Programmer's Manual, 'Getting and Setting the Values of Properties'.
 pub fn set_value<R: Rows>(
     rows: &mut R,
     x: ObjNo,
@@ -46,28 +54,41 @@ pub fn set_value<R: Rows>(
     value: Value,
 ) -> Result<(), AllocError>
     requires good { IsGood (R.held rows.old).maps }
+    // Lists nest at most 32 deep in the value.
     requires fit { fits value ≡ true }
+    // x has a slot of the property.
     requires has { is_some (get (R.held rows.old).maps.slots (x, id)) ≡ true }
+    // The world has the slot set to the value.
     ensures world { OnOk result (world_of (R.held rows.new).maps
         ≡ value_set (world_of (R.held rows.old).maps) x (spelling_of (R.held rows.old).maps id) value) }
+    // The rows are good, what stays keeps its number, and the petitions and the count of batches are as they were.
     ensures kept { OnOk result (Keeps (R.held rows.old) (R.held rows.new)) }
 {
     put_state(rows, x, id, SlotState::Set(value))
 }
 
-/// Clears a property that x has and doesn't define, so that x reads what its parent reads.
+/// Clears a property that x has and doesn't define, so that x reads what its parent reads. An `Err` is a lack of memory.
+///
+/// LambdaMOO Programmer's Manual, 'Operations on Properties': `clear_property`.
 pub fn clear<R: Rows>(rows: &mut R, x: ObjNo, id: PropId) -> Result<(), AllocError>
     requires good { IsGood (R.held rows.old).maps }
+    // x has a slot of the property.
     requires has { is_some (get (R.held rows.old).maps.slots (x, id)) ≡ true }
+    // x doesn't define the property.
     requires inherited { defines (R.held rows.old).maps x id ≡ false }
+    // The world has the slot cleared.
     ensures world { OnOk result (world_of (R.held rows.new).maps
         ≡ cleared (world_of (R.held rows.old).maps) x (spelling_of (R.held rows.old).maps id)) }
+    // The rows are good, what stays keeps its number, and the petitions and the count of batches are as they were.
     ensures kept { OnOk result (Keeps (R.held rows.old) (R.held rows.new)) }
 {
     put_state(rows, x, id, SlotState::Clear)
 }
 
-/// Sets the owner and the bits of a property on x alone. What x and its descendants read stays, and so does its definition.
+/// Sets the owner and the bits of a property on x alone. What x and its descendants read stays, and so does its definition. An `Err` is a
+/// lack of memory.
+///
+/// LambdaMOO Programmer's Manual, 'Operations on Properties': `set_property_info`.
 pub fn set_info<R: Rows>(
     alloc: Global,
     rows: &mut R,
@@ -77,10 +98,14 @@ pub fn set_info<R: Rows>(
     bits: Bits,
 ) -> Result<(), AllocError>
     requires good { IsGood (R.held rows.old).maps }
+    // x has a slot of the property.
     requires has { is_some (get (R.held rows.old).maps.slots (x, id)) ≡ true }
+    // The world has the slot with this owner and these bits.
     ensures world { OnOk result (world_of (R.held rows.new).maps
         ≡ info_set (world_of (R.held rows.old).maps) x (spelling_of (R.held rows.old).maps id) owner bits) }
+    // The rows are good, what stays keeps its number, and the petitions and the count of batches are as they were.
     ensures kept { OnOk result (Keeps (R.held rows.old) (R.held rows.new)) }
+    // Only slots change.
     ensures rest { OnOk result (IsSameButSlots (R.held rows.old).maps (R.held rows.new).maps) }
 {
     let mut row = match rows.slot((x, id)) {

@@ -7,13 +7,13 @@ ghost use Rattle.moo_world.specs.Rows.{world_of, IsGood};
 ghost use Rattle.moo_world.specs.Keeps.{Keeps};
 ghost use Rattle.moo_props.specs.Names.{defines, spelling_of};
 
-use crate::slots::move_slots;
+use crate::slots::exchange_slots;
 use moo_rows::{PropId, Rows};
 use moo_tree::owners_under;
 use moo_value::ObjNo;
 use std::alloc::{AllocError, Global};
 
-/// Removes a property that x defines, from x and all its descendants. Each other one keeps its number.
+/// Removes a property that x defines, from x and all its descendants. Each other property keeps its number.
 ///
 /// The only error is out of memory, after which the rows may be half changed.
 ///
@@ -25,14 +25,18 @@ pub fn undefine<R: Rows>(
     id: PropId,
 ) -> Result<(), AllocError>
     requires good { IsGood (R.held rows.old).maps }
+    // x defines the property.
     requires own { defines (R.held rows.old).maps x id ≡ true }
+    // The world has the property no more, on x and on each descendant.
     ensures world { OnOk result (world_of (R.held rows.new).maps
         ≡ property_removed (world_of (R.held rows.old).maps) x (spelling_of (R.held rows.old).maps id)) }
+    // The rows are good, what stays keeps its number, and the petitions and the count of batches are as they were.
     ensures kept { OnOk result (Keeps (R.held rows.old) (R.held rows.new)) }
+    // Of the rows of properties only its own is gone.
     ensures props { OnOk result ((R.held rows.new).maps.props ≡ remove (R.held rows.old).maps.props id) }
 {
     let under = owners_under(alloc, rows, x)?;
-    move_slots(rows, under.as_slice(), x, &[id], &[id], &[])?;
+    exchange_slots(rows, under.as_slice(), x, &[id], &[id], &[])?;
     rows.remove_prop(id)?;
     Ok(())
 }

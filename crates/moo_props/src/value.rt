@@ -9,10 +9,12 @@ ghost use Rattle.moo_props.specs.Names.{name_of};
 use moo_rows::{PropId, Rows, SlotState};
 use moo_value::{ObjNo, Value};
 
-/// The value that x reads for a property that it has: its own, or its parent's if that is clear.
+/// The value that x reads for a property that it has: its own, or if that is clear what its parent reads. Takes no memory.
 pub fn value_of<R: Rows>(rows: &R, x: ObjNo, id: PropId) -> &Value
     requires good { IsGood (R.held rows.now).maps }
+    // x has a slot of the property.
     requires has { is_some (get (R.held rows.now).maps.slots (x, id)) ≡ true }
+    // It is the value that the world says x reads for the name of the property.
     ensures { read_of (world_of (R.held rows.now).maps) x (name_of (R.held rows.now).maps id) ≡ Some result.now }
 {
     let mut at = x;

@@ -5,6 +5,6 @@ use Rattle.std.specs.Prelude.{◌≤◌, ℕ, length, String, string_bytes}
 abbrev pub longest : ℕ
 longest = 1000
 
--- the line has at most so many
+-- the line has at most 1,000 bytes
 abbrev pub IsShort : {A : Type 0} → String A → Type 0
 IsShort line = length (string_bytes line) ≤ longest

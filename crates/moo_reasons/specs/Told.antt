@@ -18,7 +18,7 @@ TellsReply whys (Full call) line rest = rest ≡ whys
 TellsReply whys (Stale seq) line rest = rest ≡ whys
 TellsReply whys NoMemory line rest = rest ≡ whys
 
--- the same of a place in which there may be no reply
+-- a reply that refuses is told with the first line; another reply takes none, and so does a place without a reply
 abbrev pub TellsPlace : List Why → Option Reply → Option (String Global) → List Why → Type 0
 TellsPlace whys (Some reply) line rest = TellsReply whys reply line rest
 TellsPlace whys None line rest = rest ≡ whys

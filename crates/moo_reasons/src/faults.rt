@@ -1,16 +1,17 @@
-//! Why a line isn't a header or a call.
+//! Saying why a line isn't a header or a call.
 
 use crate::built_ins::is_built_in;
 use crate::names::nearest_name;
-use crate::shown::{LONG_LINE, Said};
+use crate::said::{LONG_LINE, Said};
 use crate::values::{put_missing, put_value_reason};
 use moo_text::{LineFault, call_in, call_on_line, is_end_line, read_header};
 use moo_value::{skip_blanks, split_word};
 use std::alloc::AllocError;
 
+/// How the header of a batch is written.
 const FORM: &[u8] = b"a batch begins with a line `batch as #N`, in small letters";
 
-/// What made the line, if its bytes aren't those of plain text.
+/// What is wrong with a line whose bytes aren't plain text: a byte order mark, UTF-16 or carriage returns. `None` for other lines.
 fn foreign_reason(line: &[u8]) -> Option<&'static [u8]> {
     if line.starts_with(&[0xef, 0xbb, 0xbf]) {
         return Some(b"the text begins with a byte order mark: save it as plain ASCII, without one");
@@ -26,7 +27,7 @@ fn foreign_reason(line: &[u8]) -> Option<&'static [u8]> {
     None
 }
 
-/// What is wrong with a line that doesn't begin with `batch`.
+/// Says what is wrong with a header that doesn't begin with `batch`. The only error is out of memory.
 fn put_no_batch(said: &mut Said, line: &[u8]) -> Result<(), AllocError> {
     if is_end_line(line) {
         return said.put(b"`end` outside a batch");
@@ -37,7 +38,8 @@ fn put_no_batch(said: &mut Said, line: &[u8]) -> Result<(), AllocError> {
     said.put(FORM)
 }
 
-/// That a word names no call, and which name it may have meant. Names of LambdaMOO's own functions are explained on a page.
+/// Says that a word names no call, and which name it may have meant. Names of LambdaMOO's own functions are explained on a page. The only
+/// error is out of memory.
 fn put_name_reason(said: &mut Said, word: &[u8]) -> Result<(), AllocError> {
     said.put_of(word, b" names no call")?;
     if is_built_in(word) {
@@ -51,7 +53,7 @@ fn put_name_reason(said: &mut Said, word: &[u8]) -> Result<(), AllocError> {
     Ok(())
 }
 
-/// What is wrong where the name of a call is wanted.
+/// Says what is wrong where the name of a call is wanted. The only error is out of memory.
 fn put_no_name(said: &mut Said, rest: &[u8]) -> Result<(), AllocError> {
     let (word, _) = split_word(rest);
     if word.is_empty() {
@@ -72,7 +74,7 @@ fn put_no_name(said: &mut Said, rest: &[u8]) -> Result<(), AllocError> {
     put_name_reason(said, word)
 }
 
-/// Says what is wrong with a line, as the check says that refuses it.
+/// Says what is wrong with a line, by the fault with which reading it stopped. The only error is out of memory.
 fn put_fault(said: &mut Said, line: &[u8], fault: LineFault<'_>) -> Result<(), AllocError> {
     match fault {
         LineFault::Long => said.put(LONG_LINE),
@@ -120,7 +122,7 @@ pub(crate) fn put_header_reason(said: &mut Said, line: &[u8]) -> Result<(), Allo
     }
 }
 
-/// Says why a line isn't a call of a batch, or one too many. AllocError: memory ran out.
+/// Says why a line isn't a call of a batch, or that it is a call too many. AllocError: memory ran out.
 pub(crate) fn put_call_reason(said: &mut Said, line: &[u8]) -> Result<(), AllocError> {
     match call_on_line(said.alloc, line) {
         Ok(_) => said.put(b"a batch has at most 1000 calls"),

@@ -2,7 +2,7 @@
 
 use moo_world::CallName;
 
-/// How the call of a name is written.
+/// How a call is written, with words in capitals for its arguments.
 pub(crate) fn form_of(name: CallName) -> &'static str {
     match name {
         CallName::Valid => "valid(O)",

@@ -1,9 +1,9 @@
-//! What a call is given.
+//! Looking up values that a call is given.
 
 use moo_value::{MooStr, ObjNo, Value, ValueList};
 use moo_world::{BuiltIn, Call, CallName};
 
-/// Where a value is among those that a call is given. All are counted from 0.
+/// Where a value is among the values that a call is given. Places are counted from 0.
 #[derive(Clone, Copy)]
 pub(crate) enum Position {
     /// A value of the call.
@@ -12,10 +12,13 @@ pub(crate) enum Position {
     Item(usize, usize),
 }
 
+/// The first value of a call.
 pub(crate) const FIRST: Position = Position::Value(0);
 
+/// The second value of a call.
 pub(crate) const SECOND: Position = Position::Value(1);
 
+/// The third value of a call.
 pub(crate) const THIRD: Position = Position::Value(2);
 
 /// The new name that `set_property_info` may be given.
@@ -29,7 +32,7 @@ pub(crate) struct Given<'a> {
     pub(crate) values: &'a [Value],
 }
 
-/// A call of the programmer's.
+/// A call of a batch, as given by its programmer.
 pub(crate) fn given_by<'a>(programmer: ObjNo, call: &'a Call) -> Given<'a> {
     Given {
         programmer,
@@ -38,7 +41,7 @@ pub(crate) fn given_by<'a>(programmer: ObjNo, call: &'a Call) -> Given<'a> {
     }
 }
 
-/// The value there, if there is one.
+/// The value of a call at a position; `None` if it has none there.
 pub(crate) fn value_at<'a>(given: Given<'a>, position: Position) -> Option<&'a Value> {
     match position {
         Position::Value(place) => given.values.get(place),
@@ -49,7 +52,7 @@ pub(crate) fn value_at<'a>(given: Given<'a>, position: Position) -> Option<&'a V
     }
 }
 
-/// The object there, if there is one.
+/// The object of a call at a position; `None` if it has no object there.
 pub(crate) fn object_at(given: Given<'_>, position: Position) -> Option<ObjNo> {
     match value_at(given, position) {
         Some(Value::Obj(object)) => Some(*object),
@@ -57,12 +60,12 @@ pub(crate) fn object_at(given: Given<'_>, position: Position) -> Option<ObjNo> {
     }
 }
 
-/// Whether it is the object that the call begins with.
+/// Whether an object is the first value of a call.
 pub(crate) fn is_first(given: Given<'_>, object: ObjNo) -> bool {
     object_at(given, FIRST) == Some(object)
 }
 
-/// The text there, if there is one.
+/// The text of a call at a position; `None` if it has no text there.
 pub(crate) fn text_at<'a>(given: Given<'a>, position: Position) -> Option<&'a MooStr> {
     match value_at(given, position) {
         Some(Value::Str(text)) => Some(text),
@@ -70,12 +73,12 @@ pub(crate) fn text_at<'a>(given: Given<'a>, position: Position) -> Option<&'a Mo
     }
 }
 
-/// The built-in property that the second value names, if it is the name of one.
+/// The built-in property that the second value of a call names; `None` if it names none.
 pub(crate) fn built_in_at(given: Given<'_>) -> Option<BuiltIn> {
     BuiltIn::of_name(text_at(given, SECOND)?)
 }
 
-/// The list there, if there is one.
+/// The list of a call at a position; `None` if it has no list there.
 pub(crate) fn list_at<'a>(given: Given<'a>, position: Position) -> Option<&'a ValueList> {
     match value_at(given, position) {
         Some(Value::List(list)) => Some(list),

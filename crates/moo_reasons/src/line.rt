@@ -3,7 +3,7 @@
 ghost use Rattle.std.specs.Prelude.{◌≡◌, IfOk};
 ghost use Rattle.moo_reasons.specs.Lines.{IsShort};
 
-use crate::shown::Said;
+use crate::said::Said;
 use moo_batch::Refusal;
 use std::alloc::AllocError;
 
@@ -13,7 +13,7 @@ const LONGEST: usize = 1000;
 /// The bytes in front of `..` in a line that would be too long.
 const FRONT: usize = 998;
 
-/// The text, or the front of a long one and two dots. AllocError: memory ran out.
+/// The text of what is said; of a text over 1,000 bytes the first 998 and two dots. AllocError: memory ran out.
 pub(crate) fn line_of(mut said: Said) -> Result<String, AllocError>
     ensures { IfOk result IsShort }
 {
@@ -21,7 +21,7 @@ pub(crate) fn line_of(mut said: Said) -> Result<String, AllocError>
     Ok(said.text())
 }
 
-/// Why a batch is refused, and what is said of that.
+/// The refusal of a batch, and the line that says why.
 #[derive(Drop)]
 pub struct Why {
     refusal: Refusal,
@@ -30,7 +30,7 @@ pub struct Why {
 }
 
 impl Why {
-    /// What is said of a refusal.
+    /// The line of what is said of a refusal. AllocError: memory ran out.
     pub(crate) fn new(refusal: Refusal, said: Said) -> Result<Why, AllocError>
         ensures { IfOk result (λ why. why.refusal ≡ refusal) }
     {
@@ -38,7 +38,7 @@ impl Why {
         Ok(Why { refusal, text })
     }
 
-    /// The line.
+    /// The line that says why the batch is refused.
     pub(crate) fn into_text(self) -> String
         ensures text { result ≡ self.text }
         ensures short { IsShort result }

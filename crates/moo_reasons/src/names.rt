@@ -1,8 +1,8 @@
-//! The name of a call that a word may have meant.
+//! Guessing the name of a call that a word may have meant.
 
 use moo_world::CallName;
 
-/// So many bytes may differ between a word and the name that it meant.
+/// The most bytes that may differ between a word and the name that it meant.
 const MOST_CHANGED: usize = 2;
 
 /// How many bytes in front two words have in common, in any case of letters.
@@ -22,7 +22,7 @@ fn common_back(left: &[u8], right: &[u8]) -> usize {
         .count()
 }
 
-/// How many bytes are between what two words have in common in front and at the end.
+/// How many bytes of the longer of two words aren't common to both, in front or at the end.
 fn distance(word: &[u8], name: &[u8]) -> usize {
     let longer = word.len().max(name.len());
     let shorter = word.len().min(name.len());
@@ -31,8 +31,8 @@ fn distance(word: &[u8], name: &[u8]) -> usize {
     longer.saturating_sub(front.saturating_add(back))
 }
 
-/// How far a word is from a name that it may have meant: at most two bytes differ, and fewer than half of the word's. None if it is
-/// further.
+/// How many bytes differ between a word and a name that it may have meant: at most two, and fewer than half of the word's. `None` if more
+/// differ.
 pub(crate) fn near(word: &[u8], name: &[u8]) -> Option<usize> {
     let changed = distance(word, name);
     if changed <= MOST_CHANGED && changed.saturating_mul(2) < word.len() {
@@ -42,7 +42,7 @@ pub(crate) fn near(word: &[u8], name: &[u8]) -> Option<usize> {
     }
 }
 
-/// The name that is nearest to a word, if one is near.
+/// The name of a call that differs from a word in the fewest bytes; `None` if each differs in more than two.
 pub(crate) fn nearest_name(word: &[u8]) -> Option<CallName> {
     let mut nearest = None;
     let mut least = MOST_CHANGED.saturating_add(1);

@@ -1,14 +1,14 @@
-//! The property that a call may have meant.
+//! Saying which property a call may have meant.
 
 use crate::given::{Given, SECOND, text_at};
 use crate::names::near;
-use crate::shown::Said;
+use crate::said::Said;
 use moo_disclosure::Disclosure;
 use moo_value::MooStr;
 use moo_world::BuiltIn;
 use std::alloc::AllocError;
 
-/// The name among these that is nearest to a word, the first of them. None if none is near.
+/// The first of the names that differ from a word in the fewest bytes; `None` if none is near.
 fn nearest<'a>(word: &MooStr, names: &'a [MooStr]) -> Option<&'a MooStr> {
     let mut found = None;
     let mut least = word.bytes().len();
@@ -22,7 +22,8 @@ fn nearest<'a>(word: &MooStr, names: &'a [MooStr]) -> Option<&'a MooStr> {
     found
 }
 
-/// Says which property a call may have meant, if it fails since there is none of the name that it gives: one whose name is disclosed.
+/// Says which property a call may have meant, if it fails since there is none of the name that it gives: one whose name is disclosed. The
+/// only error is out of memory.
 pub(crate) fn tell_nearest(
     said: &mut Said,
     given: Given<'_>,

@@ -1,8 +1,8 @@
-//! What is told of the replies of a text.
+//! Telling of the replies of a text on standard error.
 
 use crate::faults::{put_call_reason, put_header_reason};
+use crate::said::Said;
 use crate::sentence::refusal_text;
-use crate::shown::Said;
 use crate::why::room_reason;
 use moo_batch::{Facts, Refusal, Witness};
 use moo_text::{Answer, Marks, Notes, Reply};
@@ -10,7 +10,7 @@ use moo_world::Batch;
 use std::alloc::{AllocError, Global};
 use std::io::Eprint;
 
-/// So many replies are told of.
+/// The most replies of a text that are told of.
 const MOST_TOLD: u32 = 100;
 
 /// Tells on standard error of each reply that isn't `accepted`, a line each, but of at most 100 of a text. `finish` says how many
@@ -20,13 +20,15 @@ pub struct StandardNotes<'a, C> {
     rt: &'a C,
     alloc: Global,
     path: Option<&'a str>,
+    /// How many replies were told of.
     told: u32,
+    /// How many replies more weren't told of.
     untold: u64,
     /// Why the batch in hand is refused, if that was seen.
     refusal: Option<String>,
 }
 
-/// Says where a line is: its number, and its file if the text isn't standard input.
+/// Says where a line is: its number, and its file if the text isn't standard input. The only error is out of memory.
 fn put_line_place(
     said: &mut Said,
     path: Option<&str>,
@@ -46,6 +48,7 @@ fn put_line_place(
 }
 
 /// Says why the first bad line of a batch is malformed, whether it is the header or not, and that it keeps a batch after it from being run.
+/// The only error is out of memory.
 fn put_bad_line(said: &mut Said, is_header: bool, marks: &Marks) -> Result<(), AllocError> {
     if is_header {
         put_header_reason(said, marks.bad())?;
@@ -58,7 +61,7 @@ fn put_bad_line(said: &mut Said, is_header: bool, marks: &Marks) -> Result<(), A
     Ok(())
 }
 
-/// Says that the text ends inside a batch, and why a line of it is malformed, if one is.
+/// Says that the text ends inside a batch, and why a line of it is malformed, if one is. The only error is out of memory.
 fn put_truncated(said: &mut Said, marks: &Marks) -> Result<(), AllocError> {
     said.put(b"truncated: the text ends inside the batch that begins here")?;
     let Some(line) = marks.bad_line() else {
@@ -70,7 +73,7 @@ fn put_truncated(said: &mut Said, marks: &Marks) -> Result<(), AllocError> {
     put_bad_line(said, marks.header() == Some(line), marks)
 }
 
-/// The line of the text that an answer is about.
+/// The number of the line of the text that an answer is about: the first bad line, the call, or the header. `None` if it isn't known.
 fn line_of(marks: &Marks, answer: &Answer) -> Option<u64> {
     match answer {
         Answer::Malformed(number) => {
@@ -83,7 +86,7 @@ fn line_of(marks: &Marks, answer: &Answer) -> Option<u64> {
     }
 }
 
-/// Says an answer, in words; if a batch is refused, what is told of that.
+/// Says an answer in words; if a batch is refused, the words `told`, or the error without them.
 fn put_answer(
     said: &mut Said,
     marks: &Marks,
@@ -118,7 +121,7 @@ fn put_answer(
     }
 }
 
-/// The line that tells of an answer.
+/// The line that tells of an answer. AllocError: memory ran out.
 fn line_text(
     alloc: Global,
     path: Option<&str>,
@@ -134,7 +137,7 @@ fn line_text(
 }
 
 impl<'a, C: Eprint> StandardNotes<'a, C> {
-    /// Nothing is told yet. The path is that of the text, if it isn't standard input.
+    /// Notes on a text, of which nothing is told yet. The path is that of the text; `None` if it is standard input.
     pub fn new(rt: &'a C, alloc: Global, path: Option<&'a str>) -> StandardNotes<'a, C> {
         StandardNotes {
             rt,

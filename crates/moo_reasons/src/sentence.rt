@@ -1,15 +1,15 @@
-//! What is said of a refusal. It is made of the batch, the refusal and its facts, and of no rows.
+//! Saying why a batch is refused, from the batch, the refusal and its facts, without the rows.
 
 use crate::given::given_by;
-use crate::granted::{held_value, tell_held};
 use crate::nearest::tell_nearest;
-use crate::shown::Said;
+use crate::petitions::{held_value, tell_held};
+use crate::said::Said;
 use crate::telling::tell;
 use moo_batch::{Facts, Refusal};
 use moo_world::{Batch, Call};
 use std::alloc::{AllocError, Global};
 
-/// Says with which error the batch is refused.
+/// Says the error with which the batch is refused.
 fn put_error(said: &mut Said, refusal: Refusal) -> Result<(), AllocError> {
     said.put(refusal.reason.code().name().as_bytes())
 }

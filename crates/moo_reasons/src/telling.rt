@@ -1,11 +1,11 @@
-//! What is said of a check that fails.
+//! Saying which check of a call failed.
 
 use crate::forms::form_of;
 use crate::given::{
     FIRST, Given, NEW_NAME, Position, SECOND, THIRD, built_in_at, is_first, list_at, value_at,
 };
-use crate::plain::{first_unasked, first_unfit};
-use crate::shown::Said;
+use crate::lists::{first_unasked, first_unfit};
+use crate::said::Said;
 use moo_disclosure::Disclosure;
 use moo_value::{ObjNo, Value};
 use moo_world::{BuiltIn, CallName, Reason};
@@ -15,12 +15,12 @@ use std::alloc::AllocError;
 /// for what was checked: this object, if there is one, else a value that the call is given.
 type Sentence = (Option<ObjNo>, &'static str);
 
-/// What is said of an object.
-fn of(object: ObjNo, words: &'static str) -> Option<Sentence> {
+/// A sentence in which `$` stands for an object.
+fn about_object(object: ObjNo, words: &'static str) -> Option<Sentence> {
     Some((Some(object), words))
 }
 
-/// What is said of no object, or of a value.
+/// A sentence in which `$` stands for a value of the call, or that has no `$`.
 fn plain(words: &'static str) -> Option<Sentence> {
     Some((None, words))
 }
@@ -35,28 +35,42 @@ fn wizard_words(given: Given<'_>) -> &'static str {
     }
 }
 
+/// What is said of a reason about objects, quotas or rights on objects; `None` for another reason.
 fn of_objects(given: Given<'_>, reason: Reason) -> Option<Sentence> {
     match reason {
         Reason::NoProgrammer => plain("the programmer @ isn't an object"),
         Reason::NoWizard => plain(wizard_words(given)),
-        Reason::NoObject(x) | Reason::NoTarget(x) => of(x, "$ isn't an object"),
-        Reason::NoPlace(x) | Reason::NoParent(x) => of(x, "$ is neither an object nor #-1"),
-        Reason::NotControlled(x) => of(x, "@ neither owns $ nor is a wizard"),
-        Reason::NotFertile(x) => of(x, "$ isn't fertile, and @ neither owns it nor is a wizard"),
-        Reason::NoOwner(x) => of(x, "only a wizard may make $ the owner"),
-        Reason::NoObjectR(x) => of(x, "r of $ is 0, and @ neither owns it nor is a wizard"),
-        Reason::NoObjectW(x) => of(x, "w of $ is 0, and @ neither owns it nor is a wizard"),
+        Reason::NoObject(x) | Reason::NoTarget(x) => about_object(x, "$ isn't an object"),
+        Reason::NoPlace(x) | Reason::NoParent(x) => about_object(
+            x,
+            "$ is neither an object nor #-1",
+        ),
+        Reason::NotControlled(x) => about_object(x, "@ neither owns $ nor is a wizard"),
+        Reason::NotFertile(x) => about_object(
+            x,
+            "$ isn't fertile, and @ neither owns it nor is a wizard",
+        ),
+        Reason::NoOwner(x) => about_object(x, "only a wizard may make $ the owner"),
+        Reason::NoObjectR(x) => about_object(
+            x,
+            "r of $ is 0, and @ neither owns it nor is a wizard",
+        ),
+        Reason::NoObjectW(x) => about_object(
+            x,
+            "w of $ is 0, and @ neither owns it nor is a wizard",
+        ),
         Reason::ParentBelow(x) if is_first(given, x) => plain("% can't be its own parent"),
-        Reason::ParentBelow(x) => of(x, "$ is under %"),
-        Reason::NotAccepted(x) => of(x, "$ doesn't accept %"),
+        Reason::ParentBelow(x) => about_object(x, "$ is under %"),
+        Reason::NotAccepted(x) => about_object(x, "$ doesn't accept %"),
         Reason::PlaceInside(x) if is_first(given, x) => plain("% can't be inside itself"),
-        Reason::PlaceInside(x) => of(x, "$ is inside %"),
-        Reason::NamesPlayer(x) => of(x, "only a wizard may name a player, as $"),
-        Reason::NoQuota(x) => of(x, "the ownership_quota of $ is used up"),
+        Reason::PlaceInside(x) => about_object(x, "$ is inside %"),
+        Reason::NamesPlayer(x) => about_object(x, "only a wizard may name a player, as $"),
+        Reason::NoQuota(x) => about_object(x, "the ownership_quota of $ is used up"),
         _ => None,
     }
 }
 
+/// What is said of a reason about properties; `None` for another reason.
 fn of_properties(given: Given<'_>, reason: Reason) -> Option<Sentence> {
     match reason {
         Reason::NeverSet => plain("nobody may set &: `move` changes it"),
@@ -64,38 +78,42 @@ fn of_properties(given: Given<'_>, reason: Reason) -> Option<Sentence> {
         Reason::NoProperty(_) | Reason::NotDefined(_) if built_in_at(given).is_some() => {
             plain("& is built in: `get` and `set` alone take it")
         }
-        Reason::NoProperty(x) => of(x, "$ has no property &"),
-        Reason::NotDefined(x) | Reason::NotRenamed(x) => of(x, "$ itself doesn't define &"),
-        Reason::NotInherited(x) => of(x, "$ itself defines &"),
+        Reason::NoProperty(x) => about_object(x, "$ has no property &"),
+        Reason::NotDefined(x) | Reason::NotRenamed(x) => about_object(
+            x,
+            "$ itself doesn't define &",
+        ),
+        Reason::NotInherited(x) => about_object(x, "$ itself defines &"),
         Reason::NoPropertyName => {
             plain("$ can't name a property: it is built in, or hasn't 1 to 255 bytes")
         }
         Reason::NoPropertyR(x) => {
-            of(
+            about_object(
                 x,
                 "& has no r on $, and @ neither owns it there nor is a wizard",
             )
         }
         Reason::NoPropertyW(x) => {
-            of(
+            about_object(
                 x,
                 "& has no w on $, and @ neither owns it there nor is a wizard",
             )
         }
-        Reason::NotGiven(x) => of(x, "only a wizard may give & on % to $"),
+        Reason::NotGiven(x) => about_object(x, "only a wizard may give & on % to $"),
         Reason::PropertyPerms => plain("$ has other letters than r, w and c"),
         _ => None,
     }
 }
 
+/// What is said of a reason about verbs, accept lists or petitions; `None` for another reason.
 fn of_verbs_and_lists(given: Given<'_>, reason: Reason) -> Option<Sentence> {
     match reason {
-        Reason::NoVerb(x) => of(x, "$ has no verb &"),
-        Reason::NoVerbR(x) => of(
+        Reason::NoVerb(x) => about_object(x, "$ has no verb &"),
+        Reason::NoVerbR(x) => about_object(
             x,
             "verb & of $ has no r, and @ neither owns it nor is a wizard",
         ),
-        Reason::NoVerbW(x) => of(
+        Reason::NoVerbW(x) => about_object(
             x,
             "verb & of $ has no w, and @ neither owns it nor is a wizard",
         ),
@@ -115,19 +133,21 @@ fn of_verbs_and_lists(given: Given<'_>, reason: Reason) -> Option<Sentence> {
     }
 }
 
-/// What is said of a reason, if it isn't that the call is written otherwise, or that a name is in use.
+/// What is said of a reason. `None` if the call is written in another way, or if a name is in use.
 fn sentence(given: Given<'_>, reason: Reason) -> Option<Sentence> {
     of_objects(given, reason)
         .or(of_properties(given, reason))
         .or(of_verbs_and_lists(given, reason))
 }
 
-/// The place of the first argument that no verb may have.
+/// The place, from 0, in the third value of the call, of the first argument that no verb may have. `None` if that
+/// isn't a list of texts.
 fn unfit_place(given: Given<'_>) -> Option<usize> {
     first_unfit(list_at(given, THIRD)?.items())
 }
 
-/// The list in which `add_property`, `set_property_info`, `add_verb` or `set_verb_info` is given an owner, rights and names.
+/// The place, from 0, of the list in which `add_property`, `set_property_info`, `add_verb` or `set_verb_info` is given an owner, rights and
+/// names.
 fn info_place(name: CallName) -> usize {
     match name {
         CallName::AddProperty => 3,
@@ -136,7 +156,7 @@ fn info_place(name: CallName) -> usize {
     }
 }
 
-/// The name that a property would get.
+/// Where the name is that a property would get from a call.
 fn name_position(name: CallName) -> Position {
     match name {
         CallName::SetPropertyInfo => NEW_NAME,
@@ -144,7 +164,7 @@ fn name_position(name: CallName) -> Position {
     }
 }
 
-/// The value that was checked, if it isn't an object that the reason has.
+/// The value of a call that was checked, for a reason that names no object; `None` for another reason.
 fn checked_value<'a>(given: Given<'a>, reason: Reason) -> Option<&'a Value> {
     match reason {
         Reason::NotTaken => value_at(given, THIRD),
@@ -159,7 +179,7 @@ fn checked_value<'a>(given: Given<'a>, reason: Reason) -> Option<&'a Value> {
     }
 }
 
-/// Says the value, if there is one.
+/// Says a value; nothing if there is none. The only error is out of memory.
 pub(crate) fn put_some(said: &mut Said, value: Option<&Value>) -> Result<(), AllocError> {
     match value {
         Some(value) => said.put_value(value),
@@ -167,7 +187,7 @@ pub(crate) fn put_some(said: &mut Said, value: Option<&Value>) -> Result<(), All
     }
 }
 
-/// Says the words of a sentence, each letter or what it stands for.
+/// Says the words of a sentence: each letter, or what it stands for. The only error is out of memory.
 fn put_sentence(
     said: &mut Said,
     given: Given<'_>,
@@ -187,7 +207,7 @@ fn put_sentence(
     Ok(())
 }
 
-/// Says that an object defines a property of the name already.
+/// Says that an object defines a property of the name already. The only error is out of memory.
 fn put_taken(said: &mut Said, definer: ObjNo, name: Option<&Value>) -> Result<(), AllocError> {
     said.put_object(definer)?;
     said.put(b" defines ")?;
@@ -198,7 +218,8 @@ fn put_taken(said: &mut Said, definer: ObjNo, name: Option<&Value>) -> Result<()
     said.put(b" already")
 }
 
-/// Says that an object defines a property of the name that is disclosed, and that a place of the call has one too.
+/// Says that an object defines a property of the name that is disclosed, and that the new parent has one too. The only error is out of
+/// memory.
 fn put_shared(
     said: &mut Said,
     definer: ObjNo,
@@ -216,7 +237,7 @@ fn put_shared(
     said.put(b" has too")
 }
 
-/// Says after the lead which check of a call failed, or how the call is written.
+/// Says after the lead which check of a call failed, or how the call is written. The only error is out of memory.
 pub(crate) fn tell(
     said: &mut Said,
     lead: &[u8],

@@ -1,11 +1,12 @@
-//! Why bytes aren't a value.
+//! Saying why bytes aren't a value.
 
-use crate::shown::{LINE_ENDS, Said};
+use crate::said::{LINE_ENDS, Said};
 use moo_text::{LineFault, next_word, values_before};
 use moo_value::{LiteralFault, MAX_NESTING, after_mark, skip_blanks};
 use std::alloc::AllocError;
 
-/// That the bytes leave a text open at their end, or the list that they begin. What is between quotes doesn't count for the list.
+/// What is said of bytes that leave a text open at their end, or the list that they begin; `None` for others. What is between quotes
+/// doesn't count for the list.
 fn unclosed_reason(bytes: &[u8]) -> Option<&'static [u8]> {
     let mut depth: usize = 0;
     let mut is_list = bytes.starts_with(b"{");
@@ -32,7 +33,7 @@ fn unclosed_reason(bytes: &[u8]) -> Option<&'static [u8]> {
     }
 }
 
-/// Says that a comma or the closing mark is missing before these bytes.
+/// Says that a comma or the closing mark is missing before some bytes. The only error is out of memory.
 pub(crate) fn put_missing(said: &mut Said, mark: u8, rest: &[u8]) -> Result<(), AllocError> {
     said.put(b"a comma or `")?;
     said.put(&[mark])?;
@@ -40,7 +41,7 @@ pub(crate) fn put_missing(said: &mut Said, mark: u8, rest: &[u8]) -> Result<(), 
     said.put_of(skip_blanks(rest), b"")
 }
 
-/// Says what is wrong where a value is wanted: in the innermost list that begins there.
+/// Says what is wrong where a value is wanted: in the innermost list that begins there. The only error is out of memory.
 fn put_no_value(said: &mut Said, bytes: &[u8]) -> Result<(), AllocError> {
     if let Some(reason) = unclosed_reason(bytes) {
         return said.put(reason);
@@ -66,7 +67,7 @@ fn put_no_value(said: &mut Said, bytes: &[u8]) -> Result<(), AllocError> {
     }
 }
 
-/// Says which is the first byte that no text may hold.
+/// Says which is the first byte that no text may hold. The only error is out of memory.
 fn put_bad_byte(said: &mut Said, bytes: &[u8]) -> Result<(), AllocError> {
     let bad = bytes.iter().find(|byte| !matches!(**byte, 9 | 32..=126));
     let Some(byte) = bad else {
@@ -77,7 +78,7 @@ fn put_bad_byte(said: &mut Said, bytes: &[u8]) -> Result<(), AllocError> {
     said.put(b" in a text: only tabs, spaces and printing ASCII")
 }
 
-/// Says why the bytes begin with no value.
+/// Says why the bytes begin with no value. The only error is out of memory.
 pub(crate) fn put_value_reason(
     said: &mut Said,
     bytes: &[u8],

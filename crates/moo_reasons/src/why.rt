@@ -1,4 +1,4 @@
-//! Why a batch isn't accepted, in one line of at most 1,000 bytes: tabs and printing ASCII.
+//! Saying why a batch isn't accepted, in one line of at most 1,000 bytes: tabs and printing ASCII.
 
 ghost use Rattle.std.specs.Prelude.{◌≡◌, [], false, IfOk};
 ghost use Rattle.moo_reasons.specs.Lines.{IsShort};
@@ -7,15 +7,15 @@ ghost use Rattle.moo_reasons.specs.Told.{IsFirstLine, TellsReply};
 
 use crate::faults::put_call_reason;
 use crate::line::{Why, line_of};
+use crate::said::Said;
 use crate::sentence::refusal_text;
-use crate::shown::Said;
 use moo_batch::{Facts, Refusal, Witness};
 use moo_text::Reply;
 use moo_world::Batch;
 use std::alloc::{AllocError, Global};
 use std::collections::VecDeque;
 
-/// What there is no room for, by the number of the call that makes it; 0 is the batch itself.
+/// For what no number is left: what the call of this number makes, or for 0 the batch itself.
 pub(crate) fn room_reason(call: u32) -> &'static str {
     if call == 0 {
         "no number is left for what the batch makes"
@@ -33,11 +33,13 @@ pub fn call_why(alloc: Global, text: &str) -> Result<String, AllocError>
     line_of(said)
 }
 
-/// Why batches are refused, in the order in which they are, if that is wanted; and the ticks of a request, which its batches share.
+/// Why the batches of a request are refused, in their order, if that is wanted; and the ticks of the request, which its batches share.
 #[derive(Drop)]
 pub struct Whys {
     alloc: Global,
+    /// Whether lines are wanted.
     is_wanted: bool,
+    /// The lines that weren't taken yet.
     seen: VecDeque<Why>,
     /// Memory ran out for one of them.
     is_lost: bool,
@@ -51,8 +53,9 @@ pub struct Whys {
 }
 
 impl Whys {
-    /// None is refused yet, and none of so many ticks is spent.
+    /// A request with so many ticks, of which no batch is judged yet.
     pub fn new(alloc: Global, is_wanted: bool, ticks: u32) -> Whys
+        // No batch is refused yet, and memory didn't run out.
         ensures wanted { result.is_wanted ≡ is_wanted }
         ensures none { result.seen.items ≡ [] }
         ensures kept { result.is_lost ≡ false }
@@ -85,7 +88,7 @@ impl Whys {
         Ok(Some(format!(in self.alloc; "call {call}: over {ticks} ticks (moo serve --ticks)")?))
     }
 
-    /// The first line that wasn't taken yet.
+    /// Takes the first line that wasn't taken yet; `None` if there is none.
     fn next_line(&mut self) -> Option<String>
         ensures { IsFirstLine self.old.seen.items result self.new.seen.items }
     {
@@ -96,7 +99,7 @@ impl Whys {
     }
 
     /// Why the next batch got this reply: the call that failed, its error and the check, what there is no room for, or which call spent the
-    /// ticks. None if it is nothing of these. AllocError: memory ran out.
+    /// ticks. `None` for any other reply. AllocError: memory ran out.
     pub fn next(&mut self, reply: &Reply) -> Result<Option<String>, AllocError>
         ensures { IfOk result (λ line. TellsReply self.old.seen.items reply.now line self.new.seen.items) }
     {

@@ -16,7 +16,7 @@ use Rattle.moo_rows.specs.Maps.{Maps, object_cmp, prop_cmp}
 abbrev pub in_lower_case : List ℕ → List ℕ
 in_lower_case name = map to_ascii_lowercase name
 
--- the same name, ASCII case aside
+-- two names are equal but for ASCII case
 abbrev pub is_alike : List ℕ → List ℕ → Bool
 is_alike first second = pointwise nat_eq (in_lower_case first) (in_lower_case second)
 
@@ -32,18 +32,19 @@ is_named_by maps x name id = row_named x name (get maps.props id)
 unfoldable pub name_hash : List ℕ → ℕ
 name_hash name = sip.finish (fold (λ state byte. sip.write state (byte ∷ [])) sip.initial (in_lower_case name))
 
--- a definer and the hash of a name
+-- a tag, by which properties are looked up: a definer and the hash of a name
 abbrev pub Tag : Type 0
 Tag = ObjNo × ℕ
 
+-- the tag of a property: its definer and the hash of its name
 abbrev pub tag_of : PropRow → Tag
 tag_of row = (row.definer, name_hash row.name)
 
--- by definer, and then by hash
+-- tags by definer, and then by hash
 abbrev pub tag_cmp : Tag → Tag → Ordering
 tag_cmp a b = ordering_then (object_cmp a.0 b.0) (nat_cmp a.1 b.1)
 
--- by definer and hash, and then by property
+-- properties by tag, and then by number
 abbrev pub named_cmp : Tag × PropId → Tag × PropId → Ordering
 named_cmp a b = ordering_then (tag_cmp a.0 b.0) (prop_cmp a.1 b.1)
 

@@ -24,7 +24,7 @@ pub trait Row: PartialEq + Clone + Drop {
         self == other
     }
 
-    /// An equal row. An `Err` is a lack of memory.
+    /// A row that equals this one. An `Err` is a lack of memory.
     final fn copy(&self, _alloc: Global) -> Result<Self, AllocError>
         ensures { IfOk result (λ copy. copy ≡ self.now) }
     {
@@ -59,12 +59,14 @@ pub trait KeyedRow: Row {
 
     /// Sets the row of a key, in place of the one that it has, if any. An `Err` is a lack of memory.
     fn put<R: Rows>(rows: &mut R, key: Self::Key, row: Self) -> Result<(), AllocError>
+        // In the map of this kind the key has the row, and one write more is counted.
         ensures ok { OnOk result (R.held rows.new ≡ wrote (R.held rows.old)
             (with_map (R.held rows.old).maps (map.insert (map_of (R.held rows.old).maps) key row))) }
         ensures err { OnErr result (R.held rows.new ≡ R.held rows.old) };
 
     /// Takes the row of a key away; it need not have one. An `Err` is a lack of memory.
     fn remove<R: Rows>(rows: &mut R, key: Self::Key) -> Result<(), AllocError>
+        // In the map of this kind the key has no row, and one write more is counted.
         ensures ok { OnOk result (R.held rows.new ≡ wrote (R.held rows.old)
             (with_map (R.held rows.old).maps (map.remove (map_of (R.held rows.old).maps) key))) }
         ensures err { OnErr result (R.held rows.new ≡ R.held rows.old) };
@@ -72,6 +74,7 @@ pub trait KeyedRow: Row {
     /// The row of the least key past `from`, with the key, or of the least of all if no `from` is given; `None` if there is no such row.
     /// Takes no memory.
     final fn next_row<R: Rows>(rows: &R, from: Option<Self::Key>) -> Option<(Self::Key, &Self)>
+        // The rows past `from` begin with this one, and the others are those past its key.
         ensures some { IfSome result (λ r. rows_left from (map_of (R.held rows.now).maps)
             ≡ (r.0, r.1.now) ∷ rows_left (Some r.0) (map_of (R.held rows.now).maps)) }
         ensures none { IfNone result (rows_left from (map_of (R.held rows.now).maps) ≡ []) }
@@ -83,12 +86,12 @@ pub trait KeyedRow: Row {
     /// The order is that of the keys.
     ghost ordered: { order ≡ Self.Key.cmp };
 
-    /// The maps with the map that they have are these maps.
+    /// To set the map of this kind that the maps have changes nothing.
     ghost own_map: { (maps : Maps) → with_map maps (map_of maps) ≡ maps };
 
-    /// The maps with another map have that one.
+    /// The maps with another map of this kind have that map.
     ghost other_map: { (maps : Maps) (rows : FinMap order Self) → map_of (with_map maps rows) ≡ rows };
 
-    /// Of two maps that are set one after another the last one counts.
+    /// Of two maps of this kind that are set one after another the last counts.
     ghost last_map: { (maps : Maps) (one two : FinMap order Self) → with_map (with_map maps one) two ≡ with_map maps two };
 }

@@ -112,6 +112,7 @@ impl ObjRow {
         owner: ObjNo,
         parent: ObjNo,
     ) -> Result<ObjRow, AllocError>
+        // The name fits in a string.
         requires { IsText name.now }
         ensures { IfOk result (λ row. row ≡ plain_row name.now owner parent) }
     {
@@ -140,7 +141,7 @@ pub enum Link {
 }
 
 impl Link {
-    /// Whether it is to `#-1`: the link of an object that has no parent, or is nowhere.
+    /// Whether the link is to `#-1`: that of an object that has no parent, or is nowhere.
     pub fn is_to_nothing(self) -> bool
         ensures { result ≡ is_to_nothing self }
     {
@@ -152,7 +153,7 @@ impl Link {
     }
 }
 
-/// What ties an object to others.
+/// What ties an object to others: its parent, its location, and whether it is a player.
 #[derive(Clone, Copy, PartialEq, Eq)]
 pub struct Ties {
     pub parent: ObjNo,
@@ -161,7 +162,7 @@ pub struct Ties {
 }
 
 impl ObjRow {
-    /// What ties the object to others.
+    /// The ties of the object: its parent, its location, and whether it is a player.
     pub fn ties(&self) -> Ties
         ensures { result ≡ ties_of self.now }
     {

@@ -25,21 +25,25 @@ pub trait Rows {
     /// The head and what the maps hold, how many rows were put or removed so far, and what the rows are over.
     ghost held: { Self → Held };
 
-    /// Whether more rows may be looked up and changed. No contract says when not.
+    /// Whether more rows may be looked up and changed: in a draft not once more ticks are spent than it has. No contract says
+    /// when not.
     fn may_go_on(&self) -> bool {
         true
     }
 
-    /// Counts so many look-ups more. No contract sees it.
+    /// Counts so many look-ups more, in a draft as ticks that are spent. No contract sees it.
     fn spend(&self, _ticks: u64) {}
 
     /// Whether one more call may be made on the rows. Once it is said that none may, that is never taken back.
     fn may_call(&mut self) -> bool
+        // If the answer is yes, nothing changes.
         ensures yes { result ≡ true → held self.new ≡ held self.old }
+        // After a yes it was never said that no more calls are to be made.
         ensures leave { result ≡ true → (held self.new).base.is_spent ≡ false }
+        // If the answer is no, no row changes: it is only kept that no more calls are to be made.
         ensures no { result ≡ false → held self.new ≡ spent (held self.old) };
 
-    /// The head.
+    /// The head: the greatest object number and the other counters.
     fn head(&self) -> Head
         ensures { result ≡ (held self.now).maps.head };
 
@@ -60,7 +64,8 @@ pub trait Rows {
     fn next_linked(&self, link: Link, after: ObjNo) -> Option<ObjNo>
         ensures { IsFirst object_cmp (is_linked (held self.now).maps link) after result };
 
-    /// Lists the objects past `after` that have the link, ascending, after those that are listed. An `Err` is a lack of memory.
+    /// Appends to a list the objects past `after` that have the link, ascending. An `Err` is a lack of memory, after which some may be
+    /// listed.
     fn list_linked(&self, link: Link, after: ObjNo, list: &mut Vec<ObjNo>) -> Result<(), AllocError>
         ensures { OnOk result (list.new.items ≡ list.old.items ++ map_list (λ e. e.0) (linked_left link after (held self.now).maps)) }
     {
@@ -97,6 +102,7 @@ pub trait Rows {
     /// The least property past `after` that x defines under a name, whose hash is given, or `None` if it defines no such property past it.
     /// Names compare without ASCII case.
     fn next_named(&self, x: ObjNo, name: &[u8], hash: u64, after: PropId) -> Option<PropId>
+        // Only the property whose row has the name counts: other names may have the same hash.
         requires { hash ≡ name_hash name.now }
         ensures { IsFirst prop_cmp (is_named_by (held self.now).maps x name.now) after result };
 

@@ -11,6 +11,7 @@ use crate::walk::{Walk, each_row};
 
 /// The slots with their rows, in the order of their keys. Takes no memory.
 pub fn each_slot<R: Rows>(rows: &R) -> Walk<'_, R, SlotRow>
+    // What the walk is still to give is all slots.
     ensures { slots_left result.last (R.held result.rows.now).maps ≡ map.entries (R.held rows.now).maps.slots }
 {
     each_row(rows)
@@ -18,6 +19,7 @@ pub fn each_slot<R: Rows>(rows: &R) -> Walk<'_, R, SlotRow>
 
 /// The verbs with their rows, in the order of their keys. Takes no memory.
 pub fn each_verb<R: Rows>(rows: &R) -> Walk<'_, R, VerbRow>
+    // What the walk is still to give is all verbs.
     ensures { verbs_left result.last (R.held result.rows.now).maps ≡ map.entries (R.held rows.now).maps.verbs }
 {
     each_row(rows)

@@ -34,6 +34,7 @@ impl<'a, R: Rows, V: KeyedRow + 'a> Iterator for Walk<'a, R, V> {
 
 /// The rows of one kind with their keys, in the order of the keys. Takes no memory.
 pub fn each_row<R: Rows, V: KeyedRow>(rows: &R) -> Walk<'_, R, V>
+    // What the walk is still to give is all rows of the kind.
     ensures { rows_left result.last (V.map_of (R.held result.rows.now).maps) ≡ map.entries (V.map_of (R.held rows.now).maps) }
 {
     Walk { rows, last: None }
@@ -41,6 +42,7 @@ pub fn each_row<R: Rows, V: KeyedRow>(rows: &R) -> Walk<'_, R, V>
 
 /// The objects with their rows, in the order of their keys. Takes no memory.
 pub fn each_object<R: Rows>(rows: &R) -> Walk<'_, R, ObjRow>
+    // What the walk is still to give is all objects.
     ensures { objects_left result.last (R.held result.rows.now).maps ≡ map.entries (R.held rows.now).maps.objects }
 {
     each_row(rows)
@@ -61,6 +63,7 @@ pub fn object_count<R: Rows>(rows: &R) -> u64
 
 /// The properties with their rows, in the order of their keys. Takes no memory.
 pub fn each_prop<R: Rows>(rows: &R) -> Walk<'_, R, PropRow>
+    // What the walk is still to give is all properties.
     ensures { props_left result.last (R.held result.rows.now).maps ≡ map.entries (R.held rows.now).maps.props }
 {
     each_row(rows)
@@ -68,6 +71,7 @@ pub fn each_prop<R: Rows>(rows: &R) -> Walk<'_, R, PropRow>
 
 /// The petitions with their rows, in the order of their keys. Takes no memory.
 pub fn each_petition<R: Rows>(rows: &R) -> Walk<'_, R, PetitionRow>
+    // What the walk is still to give is all petitions.
     ensures { petitions_left result.last (R.held result.rows.now).maps ≡ map.entries (R.held rows.now).maps.petitions }
 {
     each_row(rows)
@@ -101,6 +105,7 @@ impl<'a, R: Rows> Iterator for WalkOf<'a, R, PropId> {
 /// The slots of an object whose property has a greater number than `last`, with their rows, in order: from 0 on all of them. Takes no
 /// memory.
 pub fn each_slot_of<R: Rows>(rows: &R, object: ObjNo, last: PropId) -> WalkOf<'_, R, PropId>
+    // What the walk is still to give is the slots of the object past `last`.
     ensures { slots_of_left result.object result.last (R.held result.rows.now).maps ≡ slots_of_left object last (R.held rows.now).maps }
 {
     WalkOf { rows, object, last }
@@ -125,6 +130,7 @@ impl<'a, R: Rows> Iterator for WalkOf<'a, R, VerbId> {
 
 /// The verbs of an object that have a greater number than `last`, with their rows, in order: from 0 on all of them. Takes no memory.
 pub fn each_verb_of<R: Rows>(rows: &R, object: ObjNo, last: VerbId) -> WalkOf<'_, R, VerbId>
+    // What the walk is still to give is the verbs of the object past `last`.
     ensures { verbs_of_left result.object result.last (R.held result.rows.now).maps ≡ verbs_of_left object last (R.held rows.now).maps }
 {
     WalkOf { rows, object, last }
@@ -154,6 +160,7 @@ impl<'a, R: Rows> Iterator for WalkDefined<'a, R> {
 
 /// The properties past a number that x defines, with their rows, in order: from 0 on all of them. Takes no memory.
 pub fn each_defined<R: Rows>(rows: &R, x: ObjNo, last: PropId) -> WalkDefined<'_, R>
+    // What the walk is still to give is the properties past `last` that x defines.
     ensures { defined_left result.definer result.last (R.held result.rows.now).maps ≡ defined_left x last (R.held rows.now).maps }
 {
     WalkDefined {

@@ -127,15 +127,15 @@ module _ {T D : Type 0} {g : Ghosts D} where
   RefusedOnto (Database trees) image rest run = RefusedOn trees image rest run
   RefusedOnto Unfit image rest run = FailsAtOnce run
 
-  -- no world was opened or made of the file that held this image, and this is what is left of it
+  -- no world was opened or made of the file that held this image, and this is what is left of the file
   pub record RefusedOver (task : Task) (image : Image) (rest : Remains T D g) (run : Run) : Type 0 where
     -- a new world can't be made, and if the files held nothing or a database, that has a cause
     pub anew : begins_anew task ≡ true → FailsToBegin task run
     pub unfit : begins_anew task ≡ true → IsOpenable image → IsCleanRemains rest → FailsToMake task image rest run
     -- or what the file holds isn't taken up
     pub over : begins_anew task ≡ false → (held : Contents) → Hold image held → IsCleanRemains rest → RefusedOnto held image rest run
-    -- It holds its moment still, or, of version 1, some moment of the same rows, and so does what a crash leaves of it; and if it held
-    -- anything, sound or not, it is spared.
+    -- The file holds its moment still, or, of version 1, some moment of the same rows, and so does what a crash leaves of it; and if it
+    -- held anything, sound or not, it is spared.
     pub left : (m : Moment) → HoldsMoment image m → IsCleanRemains rest →
         KeepsSuch (λ trees. (end : Moment) × IsSparedMoment m end × AreTreesOf end trees) image rest
     pub spares : ¬ IsNothing image → (begins_anew task ≡ true → ¬ IsBlank image) → IsCleanRemains rest → Spares image rest

@@ -108,7 +108,7 @@ BeginsWith (Load dump) text rows =
     IfSome (text dump.now) (λ bytes. dump_of (state_of rows) ≡ bytes) × IsHeld (state_of rows) × AreRowsOf (state_of rows) rows
 BeginsWith action text rows = rows ≡ opening_maps
 
--- so it begins, and the rows are good
+-- a task begins with a new world of these rows, and they are good
 pub record BeginsFrom (action : Action) (text : List ℕ → Option (List ℕ)) (rows : Maps) : Type 0 where
   pub good : IsGood rows
   pub world : BeginsWith action text rows
@@ -128,11 +128,11 @@ AnswersText step stop m end text old new status =
     ((batches lost : ℕ) × CompletesUntil step stop (Works m) end text old new batches lost × (status ≡ (if lost == 0 then 0 else 1)))
     ⊎ ((stop ≡ true) × (batches lost : ℕ) × EndsEarly step (Works m) end text old new batches lost × (status ≡ 1))
 
--- if the failure is that a file of batches or a dump can't be opened, it is this one
+-- if the failure is that a file of batches or a dump can't be opened, it is the file of this path that can't
 abbrev pub TellsLack : (List ℕ → Type 0) → List ℕ → Failure → Type 0
 TellsLack lacks path failure = failure ≡ NoBatches → lacks path
 
--- a fault stops it; or its file can't be opened, and nothing is done
+-- The answering of a text stops at a fault; or its file can't be opened, and nothing is done.
 abbrev pub StopsText : (Place → Batch → Answer → Place → Type 0) → Bool → Moment → Place → Failure → Option (List ℕ) → Option (List ℕ)
     → Option (List ℕ) → Type 0
 StopsText step stop m end failure text old new =
@@ -161,7 +161,8 @@ ComesOf (manner.Rehearse options) m end text old new r =
     LeavesJust m end × ((last : Place) × AnswersBy RehearsesAt options.stop (Works (rows_alone m.rows)) last text old new r)
 ComesOf manner.Ask m end text old new r = LeavesJust m end × AnswersBy AsksAt false (Works m) (Works m) text old new r
 
--- The answering of a text stops, or its file can't be opened.
+-- The answering of a text in a manner stops with this failure, or its file can't be opened. Only a text that is run leads to another
+-- moment.
 abbrev pub StopsAs : Manner → Moment → Place → Failure → Option (List ℕ) → Option (List ℕ) → Option (List ℕ) → Type 0
 StopsAs (manner.Apply options) m end failure text old new = StopsText RunsAt options.stop m end failure text old new
 StopsAs (manner.Rehearse options) m end failure text old new =
@@ -208,7 +209,7 @@ StopsChecking m end failure Clean old new = LeavesJust m end
     × (((fault : StoreFault) × (failure ≡ store_failure fault) × (IsSome m.cells → Clean → IsOfStore fault) × (new ≡ old))
     ⊎ StopsIn (line_of checked_line (state_of_moment m)) failure old new)
 
--- It stops with this failure, and so much is written.
+-- The task stops with this failure, and so much is written. All but `apply` and `serve` leave what was there.
 abbrev pub StopsTask : Action → Moment → Place → Failure → Type 0 → Run → Type 0
 StopsTask Init m end failure Clean run = LeavesJust m end × StopsIn (codes "created\n") failure run.before run.after
 StopsTask (Apply batches) m end failure Clean run =
@@ -230,8 +231,8 @@ StopsTask (Serve service) m end failure Clean run =
 abbrev pub LeavesNothingNew : Database → Database → Type 0
 LeavesNothingNew old new = HasCleanDisk new → (trees : Trees) → new.may_leave trees → old.may_leave trees
 
--- What was done to a World at a moment leaves it at a place, to which accepted batches lead. If the disk returns what was written, it did so
--- before.
+-- What was done to a World at a moment leaves it at a place, to which accepted batches lead. If the disk returns what was written, it did
+-- so before.
 pub record EndsTask {S : Type 0} (g : Ghosts S) (was world : World S) (m : Moment) (End : Place → Type 0) : Type 0 where
   pub end : Place
   pub leads : LeadsTo m end
@@ -279,11 +280,11 @@ pub record RunsFrom (task : Task) (m : Moment) (run : Run) (Clean : Type 0) : Ty
       ⊎ ((failure : Failure) × (between : Option (List ℕ)) × StopsTask task.action m end failure Clean (record run { after = between })
       × Reports failure between run.after run.status)
 
--- the same, and a crash of this store leaves what the end tells, on a disk that returns what was written
+-- A task runs from a moment to an end, and if the disk returns what was written, a crash of this store leaves what the end tells.
 abbrev pub RunsIn : Database → Task → Moment → Run → Type 0
 RunsIn store task m run = (ran : RunsFrom task m run (HasCleanDisk store)) × (HasCleanDisk store → CrashLeavesAt store ran.end)
 
--- if nothing is known of the store
+-- a task runs from a moment to an end, and nothing is known of the store
 abbrev pub RunsUnseen : Task → Moment → Run → Type 0
 RunsUnseen task m run = RunsFrom task m run ⊥
 
@@ -293,13 +294,14 @@ IsOpening (Store error) = ⊤
 IsOpening OutOfMemory = ⊤
 IsOpening failure = ⊥
 
--- why a file isn't opened, whatever it holds: it is missing, damaged or of a later version, or one of these two
+-- why a file isn't opened, whatever it holds: it is missing, damaged or of a later version; or the store failed, or memory ran out
 abbrev pub MayRefuse : Failure → Type 0
 MayRefuse NoFile = ⊤
 MayRefuse (Damaged kind key) = ⊤
 MayRefuse NewerVersion = ⊤
 MayRefuse failure = IsOpening failure
 
+-- a file isn't opened, and that alone is reported
 abbrev pub RefusesFile : Run → Type 0
 RefusesFile run = (failure : Failure) × MayRefuse failure × Reports failure run.before run.after run.status
 
@@ -341,6 +343,7 @@ abbrev pub MayNotBegin : Task → Given → Failure → Type 0
 MayNotBegin task given failure =
     IsOpening failure ⊎ (IsTrue (is_load task.action) × RefusesTask given task.action failure)
 
+-- the new world that a task begins with can't be made, and that alone is reported
 abbrev pub FailsToBegin : Task → Run → Type 0
 FailsToBegin task run = (failure : Failure) × MayNotBegin task run.given failure × Reports failure run.before run.after run.status
 
@@ -392,7 +395,8 @@ pub record RunsTask (task : Task) (run : Run) : Type 0 where
   pub anew : begins_anew task ≡ true → RunsNew task run
   pub opened : begins_anew task ≡ false → RunsOpened task run
 
--- the same of the task that the words name; or they have a mistake, and nothing is asked of the ports
+-- The outcome of the words, whatever their file holds: that of the task that they name; or they have a mistake, and nothing is asked of the
+-- ports.
 abbrev pub RunsWords : List (List ℕ) → Run → Type 0
 RunsWords words run =
     ((task : Task) × NamesTask words task × NamesAlone words task × RunsTask task run)

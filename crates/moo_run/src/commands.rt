@@ -22,10 +22,12 @@ use sqlite::Alter;
 use std::alloc::Global;
 use std::io::Write;
 
-/// Writes what the world holds.
-fn show<W: Write, B: Alter + Drop>(world: &World<B>, output: &mut W) -> Result<u8, Failure>
+/// Writes the dump of a World, and answers the status 0. A failure if the World had failed, the writer fails, or memory runs out.
+fn write_dump<W: Write, B: Alter + Drop>(world: &World<B>, output: &mut W) -> Result<u8, Failure>
+    // All of the dump is written.
     ensures done { world.now.failed ≡ false →
         IfOk result (λ status. Appends (W.contents output.old) (W.contents output.new) (dump (state_of_world world.now)) × (status ≡ 0)) }
+    // At a failure a front of it is written.
     ensures stops { world.now.failed ≡ false →
         IfErr result (λ failure. StopsIn (dump (state_of_world world.now)) failure (W.contents output.old) (W.contents output.new)) }
 {
@@ -33,7 +35,7 @@ fn show<W: Write, B: Alter + Drop>(world: &World<B>, output: &mut W) -> Result<u
     Ok(0)
 }
 
-/// Writes a line, whole.
+/// Writes a line, and answers the status 0. Write if the writer fails: a front of the line is written then.
 fn put_text<W: Write>(line: &str, output: &mut W) -> Result<u8, Failure>
     ensures done { IfOk result (λ status. Appends (W.contents output.old) (W.contents output.new) line.now × (status ≡ 0)) }
     ensures stops { IfErr result (λ failure. StopsIn line.now failure (W.contents output.old) (W.contents output.new)) }
@@ -44,17 +46,20 @@ fn put_text<W: Write>(line: &str, output: &mut W) -> Result<u8, Failure>
     }
 }
 
-/// Tests the tables, and writes what they hold.
+/// Tests the tables of a World, and writes its number and how many objects it has. A failure if they show other rows or no world, if the
+/// store or the writer fails, or if memory runs out.
 #[tactic(auto, using(moo_store::proofs::Causes::cause_of_store))]
 fn check<W: Write, B: Alter + Drop>(
     alloc: Global,
     world: &mut World<B>,
     output: &mut W,
 ) -> Result<u8, Failure>
+    // From the moment at which the World works, the tables are tested and the line is written; or that stops.
     ensures checks { (m : Moment) → Stands B.Store world.old (Works m) →
         EndsCheck B.Store world.old world.new m (W.contents output.old) (W.contents output.new) result }
     // It is done only if the tables show the rows of the World.
     ensures shown { OnOk result (ShowsTables B.Store world.old (store_of B.Store world.new)) }
+    // A crash leaves nothing that it couldn't leave before.
     ensures still { LeavesNothingNew (store_of B.Store world.old) (store_of B.Store world.new) }
 {
     let seq = world.seq()?;
@@ -65,7 +70,8 @@ fn check<W: Write, B: Alter + Drop>(
     }
 }
 
-/// Writes how much was loaded.
+/// Writes the line of a load, with the number of the world and how many objects it has, and answers the status 0. A failure if the writer
+/// fails, or memory runs out.
 fn put_loaded<W: Write>(
     alloc: Global,
     seq: u64,
@@ -83,7 +89,8 @@ fn put_loaded<W: Write>(
     }
 }
 
-/// Says how much was loaded.
+/// Writes the line of a load of this World, and answers the status 0. A failure if the World had failed, the writer fails, or memory runs
+/// out.
 fn show_loaded<W: Write, B: Alter + Drop>(
     alloc: Global,
     world: &World<B>,
@@ -101,12 +108,14 @@ fn show_loaded<W: Write, B: Alter + Drop>(
     put_loaded(alloc, seq, objects, output)
 }
 
-/// Serves so many connections on a port.
+/// Serves so many connections on a port, and answers the status 0. A failure if the port can't be listened on, the output fails, or memory
+/// runs out.
 fn serve<'s, S: Streams, B: Alter + Drop>(
     session: &mut Session<'s, S>,
     world: &mut World<B>,
     service: Service,
 ) -> Result<u8, Failure>
+    // From the moment at which the World works, the connections are served, and their turns lead to where it is; or that stops.
     ensures serves { (m : Moment) → Stands B.Store world.old (Works m) →
         let run = ⟦<Session<'s, S> as HasRun>⟧.run session.old session.new in
         RunsAction B.Store world.old world.new (Action.Serve service) m run result }
@@ -124,13 +133,15 @@ fn serve<'s, S: Streams, B: Alter + Drop>(
     }
 }
 
-/// Does what a task says over its world.
+/// Does over a World what a task says, and answers the status, or why it stopped.
 pub(crate) fn do_task<'s, S: Streams, B: Alter + Drop>(
     session: &mut Session<'s, S>,
     world: &mut World<B>,
     task: Task<'_>,
 ) -> Result<u8, Failure>
+    // The file of batches or the dump that the task names may be read.
     requires read { (path : List ℕ) → ReadsFile task path → S.Host.may_read session.old.host path }
+    // From the moment at which the World works, the task is done, or stops.
     ensures ends { (m : Moment) → Stands B.Store world.old (Works m) →
         let run = ⟦<Session<'s, S> as HasRun>⟧.run session.old session.new in
         RunsAction B.Store world.old world.new task.entry.action m run result }
@@ -152,7 +163,7 @@ pub(crate) fn do_task<'s, S: Streams, B: Alter + Drop>(
             answer_batches(session, world, Manner::Rehearse(options), path)
         }
         Action::Ask { batches } => answer_batches(session, world, Manner::Ask, batches),
-        Action::Dump => show(world, &mut session.output),
+        Action::Dump => write_dump(world, &mut session.output),
         Action::Load { .. } => show_loaded(session.alloc, world, &mut session.output),
         Action::Check => check(session.alloc, world, &mut session.output),
         Action::Serve(service) => serve(session, world, service),

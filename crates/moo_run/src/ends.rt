@@ -22,6 +22,7 @@ impl<T: Drop, D: Disk + Drop> Ends<T, D> {
     ///
     /// If it can't be closed, a part of what was committed is in its log alone, which the next open reads.
     pub fn close(self) -> Remains<T, D>
+        // What the file then holds, and what a crash leaves of it, is what a crash might have left before.
         ensures { IsClosedEnd self result }
     {
         match self {

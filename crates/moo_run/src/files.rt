@@ -39,26 +39,33 @@ fn run_in_files<'s, S: Streams, D: Disk + Drop>(
     world: World<FileStore<D>>,
     task: Task<'_>,
 ) -> Connection<FileStore<D>>
+    // The file of batches or the dump that the task names may be read.
     requires read { (path : List ℕ) → ReadsFile task path → S.Host.may_read session.old.host path }
+    // The task runs from the moment at which the World works.
     ensures runs { (m : Moment) → Stands over_files world (Works m) →
         RunsIn (file_state result) task.entry m (⟦<Session<'s, S> as HasRun>⟧.run session.old session.new) }
+    // If the disk returns what was written, it did so before.
     ensures clean { (m : Moment) → Stands over_files world (Works m) →
         HasCleanDisk (file_state result) → HasCleanDisk (store_of over_files world) }
+    // A task that only reads commits nothing.
     ensures still { only_reads task.entry.action ≡ true → LeavesNothingNew (store_of over_files world) (file_state result) }
+    // Only a task whose text is `-` reads the input.
     ensures input { reads_input task.entry ≡ false → session.new.input ≡ session.old.input }
 {
     run_in(session, world, task)
 }
 
-/// Each fault of opening refuses the file.
+/// The failure of a run whose world couldn't be made or opened, by that fault.
 fn refusal(fault: StoreFault) -> Failure
     ensures { result ≡ store_failure fault }
 {
     Failure::from(fault)
 }
 
-/// Why a file isn't opened. A missing file is told apart, for what is said of it on standard error.
+/// The failure of a run whose file couldn't be opened, by that fault. A missing file is told apart, for what is said of it on standard
+/// error.
 fn refusal_of<T: Start, H: WorldFiles<T>>(host: &H, file: &str, fault: StoreFault) -> Failure
+    // The file may be looked at.
     requires may { H.may_open host.now file.now }
     ensures { Tells fault result }
 {
@@ -79,9 +86,11 @@ fn run_made<'s, S: Streams>(
     start: S::File,
     task: Task<'_>,
 ) -> Ends<S::File, <S::Host as WorldFiles<S::File>>::Disk>
+    // The file of the task may be looked at and opened, and the dump that it names may be read.
     requires may { S.Host.may_open session.old.host task.file.now }
     requires read { (path : List ℕ) → ReadsFile task path → S.Host.may_read session.old.host path }
     requires anew { begins_anew task ≡ true }
+    // By what the file held: the task ran from the world that was made in it, or none was made.
     ensures runs { RunsFile task.entry (image_at S.File.Start) result (⟦<Session<'s, S> as HasRun>⟧.run session.old session.new) }
     ensures input { reads_input task.entry ≡ false → session.new.input ≡ session.old.input }
 {
@@ -101,7 +110,7 @@ fn run_made<'s, S: Streams>(
     }
 }
 
-/// Says of a file that is checked or served if its pages make it slower than it could be.
+/// Has the host say on standard error, of a file that is checked or served, if its pages make it slower than it could be.
 fn note_pages<H: Advice>(host: &H, task: Task<'_>) {
     if matches!(task.action, Action::Check | Action::Serve(_)) {
         host.notes_pages(task.file);
@@ -114,9 +123,11 @@ fn run_found<'s, S: Streams>(
     start: S::File,
     task: Task<'_>,
 ) -> Ends<S::File, <S::Host as WorldFiles<S::File>>::Disk>
+    // The file of the task may be looked at and opened, and the file of batches that it names may be read.
     requires may { S.Host.may_open session.old.host task.file.now }
     requires read { (path : List ℕ) → ReadsFile task path → S.Host.may_read session.old.host path }
     requires other { begins_anew task ≡ false }
+    // By what the file held: the task ran over its world, or the file was refused.
     ensures runs { RunsFile task.entry (image_at S.File.Start) result (⟦<Session<'s, S> as HasRun>⟧.run session.old session.new) }
     ensures input { reads_input task.entry ≡ false → session.new.input ≡ session.old.input }
 {
@@ -145,9 +156,12 @@ pub fn run_from<'s, S: Streams>(
     start: S::File,
     task: Task<'_>,
 ) -> Ends<S::File, <S::Host as WorldFiles<S::File>>::Disk>
+    // The file of the task may be looked at and opened, and the file of batches or the dump that it names may be read.
     requires may { S.Host.may_open session.old.host task.file.now }
     requires read { (path : List ℕ) → ReadsFile task path → S.Host.may_read session.old.host path }
+    // By what the file held: the task ran over its world or a new one, or no world was opened or made.
     ensures runs { RunsFile task.entry (image_at S.File.Start) result (⟦<Session<'s, S> as HasRun>⟧.run session.old session.new) }
+    // Only a task whose text is `-` reads the input.
     ensures input { reads_input task.entry ≡ false → session.new.input ≡ session.old.input }
 {
     if begins_anew(task) {
@@ -157,10 +171,12 @@ pub fn run_from<'s, S: Streams>(
     }
 }
 
-/// Does what a task says over a new world in memory.
+/// Does what a task says over a new world in memory, and writes the line of a failure.
 fn run_in_memory<'s, S: Streams>(session: &mut Session<'s, S>, task: Task<'_>)
+    // The file of batches or the dump that the task names may be read.
     requires read { (path : List ℕ) → ReadsFile task path → S.Host.may_read session.old.host path }
     requires anew { begins_anew task ≡ true }
+    // The task runs from the new world that it begins with, or that can't be made and a line tells why.
     ensures runs { RunsTask task.entry (⟦<Session<'s, S> as HasRun>⟧.run session.old session.new) }
     ensures input { reads_input task.entry ≡ false → session.new.input ≡ session.old.input }
 {
@@ -177,10 +193,15 @@ pub(crate) fn run_task<'s, S: Streams>(
     task: Task<'_>,
     start: S::File,
 ) -> Ends<S::File, <S::Host as WorldFiles<S::File>>::Disk>
+    // The file of the task may be looked at and opened, and the file of batches or the dump that it names may be read.
     requires may { S.Host.may_open session.old.host task.file.now }
     requires read { (path : List ℕ) → ReadsFile task path → S.Host.may_read session.old.host path }
+    // Whatever the file holds, the task runs from the world that it begins with or that was found, or none is made or found and a line
+    // tells why.
     ensures runs { RunsTask task.entry (⟦<Session<'s, S> as HasRun>⟧.run session.old session.new) }
+    // By what the file held: a task on a file runs over it, and one on `:memory:` over none.
     ensures ends { EndsWith task.entry (image_at S.File.Start) result (⟦<Session<'s, S> as HasRun>⟧.run session.old session.new) }
+    // Only a task whose text is `-` reads the input.
     ensures input { reads_input task.entry ≡ false → session.new.input ≡ session.old.input }
 {
     let file = task.file;

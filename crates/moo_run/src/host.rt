@@ -22,6 +22,7 @@ pub trait BatchFiles {
     /// Opens the file of a path. An error if it is missing, or can't be opened.
     fn open(&self, path: &str) -> Result<Self::Text>
         requires { may_read self.now path.now }
+        // An error says that the file can't be opened.
         ensures lacks { IsErr result → lacks self.now path.now }
         ensures text { IfOk result (λ file. Self.Text.remaining file ≡ text self.now path.now) };
 }

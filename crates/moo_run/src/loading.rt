@@ -60,17 +60,21 @@ fn explain_dump<C: Eprint>(
     }
 }
 
-/// What `read_dump` says of a text. If it gives no world, standard error says why.
-fn read_told<C: Eprint>(
+/// Reads the world of a text that is a dump. If the text gives none, standard error says why. NotADump if a line isn't one of a dump,
+/// Damaged if the lines show no world, OutOfMemory if memory runs out.
+fn read_or_explain<C: Eprint>(
     alloc: Global,
     console: &C,
     path: Option<&str>,
     text: &[u8],
 ) -> Result<Flat, LoadFault>
+    // The dump of the rows is the text, byte for byte.
     ensures loaded { IfOk result (λ rows. dump_of (state_of rows.maps) ≡ text.now) }
     ensures good { IfOk result (λ rows. IsGood rows.maps) }
     ensures limit { IfOk result (λ rows. rows.maps.head.seq < 2 ^ 63) }
+    // Properties and verbs are numbered from 1, in the order of the dump.
     ensures numbered { IfOk result (λ rows. AreRowsOf (state_of rows.maps) rows.maps) }
+    // Unless memory ran out, a text that is refused isn't the dump of any well formed state.
     ensures complete { IfErr result (λ fault. fault ≢ OutOfMemory → length text.now < 4294967295 →
         (s : State) → IsHeld s → dump_of s ≢ text.now) }
 {
@@ -81,7 +85,8 @@ fn read_told<C: Eprint>(
     read
 }
 
-/// The rows of the world that a text is the dump of. If it isn't one, standard error says why.
+/// The rows of the world that a text is the dump of. If it isn't one, standard error says why. A failure too if the text can't be read, is
+/// over 1,073,741,824 bytes, or memory runs out.
 fn rows_of<C: Eprint, R: Read + Drop>(
     alloc: Global,
     console: &C,
@@ -90,16 +95,20 @@ fn rows_of<C: Eprint, R: Read + Drop>(
 ) -> Result<Flat, Failure>
     ensures good { IfOk result (λ rows. IsGood rows.maps) }
     ensures limit { IfOk result (λ rows. rows.maps.head.seq < 2 ^ 63) }
+    // Properties and verbs are numbered from 1, in the order of the dump.
     ensures numbered { IfOk result (λ rows. AreRowsOf (state_of rows.maps) rows.maps) }
+    // The dump of the rows is the text, byte for byte, if the text is known.
     ensures dumped { IfOk result (λ rows. IfSome (R.remaining text) (λ bytes. dump_of (state_of rows.maps) ≡ bytes)) }
+    // The failure is one of a dump: the dump of a well formed state is refused only if it can't be read, or memory ran out.
     ensures failure { IfErr result (λ failure. RefusesDump (R.remaining text) failure × (failure ≢ Failure.NoBatches)) }
 {
     let bytes = read_text(alloc, &mut text)?;
-    let rows = read_told(alloc, console, path, &bytes)?;
+    let rows = read_or_explain(alloc, console, path, &bytes)?;
     Ok(rows)
 }
 
-/// The rows of the world that a file is the dump of, or the input for `-`. If it isn't a dump, standard error says why.
+/// The rows of the world that a file is the dump of, or the input for `-`. If it isn't a dump, standard error says why. NoBatches if the
+/// file can't be opened; else the failures of `rows_of`.
 pub(crate) fn read_world<C: Eprint, H: BatchFiles, R: Read + Drop>(
     alloc: Global,
     console: &C,
@@ -107,14 +116,19 @@ pub(crate) fn read_world<C: Eprint, H: BatchFiles, R: Read + Drop>(
     host: &H,
     input: &mut R,
 ) -> Result<Flat, Failure>
+    // The file of this path may be read, if it isn't the input.
     requires read { bytes_eq dump.now (codes "-") ≡ false → H.may_read host.now dump.now }
     ensures good { IfOk result (λ rows. IsGood rows.maps) }
     ensures limit { IfOk result (λ rows. rows.maps.head.seq < 2 ^ 63) }
+    // Properties and verbs are numbered from 1, in the order of the dump.
     ensures numbered { IfOk result (λ rows. AreRowsOf (state_of rows.maps) rows.maps) }
+    // The dump of the rows is the text, byte for byte, if the text is known.
     ensures dumped { IfOk result (λ rows.
         IfSome (texts_by (R.remaining input.old) (H.text host.now) dump.now) (λ bytes. dump_of (state_of rows.maps) ≡ bytes)) }
+    // The failure is one of a dump: that of a well formed state is refused only if its file can't be opened or read, or memory ran out.
     ensures failure { IfErr result (λ failure. RefusesDump (texts_by (R.remaining input.old) (H.text host.now) dump.now) failure
         × TellsLack (H.lacks host.now) dump.now failure) }
+    // Only the dump `-` is read from the input.
     ensures input { bytes_eq dump.now (codes "-") ≡ false → input.new ≡ input.old }
 {
     if dump == "-" {
@@ -132,10 +146,13 @@ pub(crate) fn find_rows<'s, S: Streams>(
     session: &mut Session<'s, S>,
     task: Task<'_>,
 ) -> Result<Option<Flat>, Failure>
+    // The dump that the task names may be read.
     requires read { (path : List ℕ) → ReadsFile task path → S.Host.may_read session.old.host path }
+    // The rows are those of a world that the task may begin with; or a dump was to be read, and gives none.
     ensures finds { FindsRows task.entry.action (⟦<Session<'s, S> as HasRun>⟧.run session.old session.new).given result }
     ensures limit { IfOk result (λ rows. IfSome rows (λ r. r.maps.head.seq < 2 ^ 63)) }
     ensures good { IfOk result (λ rows. IfSome rows (λ r. IsGood r.maps)) }
+    // Nothing is asked of the ports, and nothing is written.
     ensures rests { session.new.host ≡ session.old.host }
     ensures unwritten { session.new.output ≡ session.old.output }
     // Only a dump that is `-` is read from the input.

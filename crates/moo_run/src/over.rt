@@ -31,16 +31,19 @@ pub fn run_in<'s, S: Streams, B: Alter + Drop>(
     mut world: World<B>,
     task: Task<'_>,
 ) -> Connection<B>
+    // The file of batches or the dump that the task names may be read.
     requires read { (path : List ℕ) → ReadsFile task path → S.Host.may_read session.old.host path }
     // The task runs from the moment at which the World works.
     ensures runs { (m : Moment) → Stands B.Store world (Works m) →
         RunsIn (state B.Store result) task.entry m (⟦<Session<'s, S> as HasRun>⟧.run session.old session.new) }
+    // If the disk returns what was written, it did so before.
     ensures clean { (m : Moment) → Stands B.Store world (Works m) →
         HasCleanDisk (state B.Store result) → HasCleanDisk (store_of B.Store world) }
     // A check that is done found that the tables show the World's rows.
     ensures shown { task.entry.action ≡ Action.Check → session.new.status ≡ 0 → ShowsTables B.Store world (state B.Store result) }
     // A task that only reads commits nothing.
     ensures still { only_reads task.entry.action ≡ true → LeavesNothingNew (store_of B.Store world) (state B.Store result) }
+    // Only a task whose text is `-` reads the input.
     ensures input { reads_input task.entry ≡ false → session.new.input ≡ session.old.input }
 {
     let done = do_task(session, &mut world, task);
@@ -55,6 +58,7 @@ fn run_new<'s, S: Streams, B: Alter + Drop>(
     rows: Option<Flat>,
     task: Task<'_>,
 ) -> Connection<B>
+    // The file of batches or the dump that the task names may be read.
     requires read { (path : List ℕ) → ReadsFile task path → S.Host.may_read session.old.host path }
     requires outside { conn.in_transaction ≡ false }
     requires good { IfSome rows (λ r. IsGood r.maps) }
@@ -82,9 +86,12 @@ pub fn run_over<'s, S: Streams, B: Alter + Drop>(
     conn: Connection<B>,
     task: Task<'_>,
 ) -> Connection<B>
+    // The file of batches or the dump that the task names may be read.
     requires read { (path : List ℕ) → ReadsFile task path → S.Host.may_read session.old.host path }
     requires outside { conn.in_transaction ≡ false }
+    // The new world can't be made, and nothing is asked of the ports; or the task runs from it, and leaves what the store then holds.
     ensures runs { RunsAnew task.entry (⟦<Session<'s, S> as HasRun>⟧.run session.old session.new) (state B.Store result) }
+    // Only a task whose text is `-` reads the input.
     ensures input { reads_input task.entry ≡ false → session.new.input ≡ session.old.input }
 {
     match find_rows(session, task) {

@@ -26,8 +26,10 @@ fn mistake_status(kind: ErrorKind) -> u8
     }
 }
 
-/// Writes what the reader of the words says, and takes its status.
+/// Writes what the reader of the words says of their mistake, and takes its status: 0 for help and the version, 2 for a mistake, 4 if
+/// memory ran out.
 fn put_mistake<'s, S: Streams>(session: &mut Session<'s, S>, error: &clap::Error)
+    // If the words have this mistake, a text of its reader is written with the status of the mistake, or a line says that memory ran out.
     ensures usage { (words : List (List ℕ)) → HasKind (mistakes words) error.now →
         EndsUsage words (S.Output.contents session.old.output) (S.Output.contents session.new.output) session.new.status }
     ensures host { session.new.host ≡ session.old.host }
@@ -43,8 +45,9 @@ fn put_mistake<'s, S: Streams>(session: &mut Session<'s, S>, error: &clap::Error
     session.status = put_line(text.as_str(), mistake_status(kind), &mut session.output);
 }
 
-/// Says why the words name no task.
+/// Writes why the words name no task, and takes the status of that.
 fn report_usage<'s, S: Streams>(session: &mut Session<'s, S>, usage: &Usage)
+    // If the words are refused so, what is written and the status are those of words that have a mistake, or name no task.
     ensures usage { (words : List (List ℕ)) → IsRefusal words usage.now →
         EndsUsage words (S.Output.contents session.old.output) (S.Output.contents session.new.output) session.new.status }
     ensures host { session.new.host ≡ session.old.host }
@@ -75,13 +78,16 @@ pub fn run_words<'s, S: Streams>(
     words: &[&str],
     start: S::File,
 ) -> Ends<S::File, <S::Host as WorldFiles<S::File>>::Disk>
+    // The file of a world that the words name may be looked at and opened.
     requires may { (task : Task) → NamesTask (map (λ word. word.now) words.now) task →
         S.Host.may_open session.old.host task.file.now }
+    // The file of batches or the dump that they name may be read.
     requires read { (task : Task) (path : List ℕ) → NamesTask (map (λ word. word.now) words.now) task → ReadsFile task path →
         S.Host.may_read session.old.host path }
-    // What is written, whatever the file holds.
+    // Whatever the file holds: the task that the words name runs, from a new world or from the one that was found; or no world is made or
+    // found, and a line tells why; or the words have a mistake, which is told.
     ensures words { RunsWords (map (λ word. word.now) words.now) (⟦<Session<'s, S> as HasRun>⟧.run session.old session.new) }
-    // And by what it holds: the run is one over the world that it shows.
+    // By what the file holds: the run is one over the world that its tables show, or over a new one; or the file is refused, and spared.
     ensures over { RunsOver (map (λ word. word.now) words.now) (image_at S.File.Start) result
         (⟦<Session<'s, S> as HasRun>⟧.run session.old session.new) }
     // Only words of a task that reads the input change it.
@@ -105,10 +111,14 @@ pub fn run_to_end<'s, S: Streams>(
     words: &[&str],
     start: S::File,
 ) -> Remains<S::File, <S::Host as WorldFiles<S::File>>::Disk>
+    // The file of a world that the words name may be looked at and opened.
     requires may { (task : Task) → NamesTask (map (λ word. word.now) words.now) task →
         S.Host.may_open session.old.host task.file.now }
+    // The file of batches or the dump that they name may be read.
     requires read { (task : Task) (path : List ℕ) → NamesTask (map (λ word. word.now) words.now) task → ReadsFile task path →
         S.Host.may_read session.old.host path }
+    // Whatever the file holds: the task that the words name runs, from a new world or from the one that was found; or no world is made or
+    // found, and a line tells why; or the words have a mistake, which is told.
     ensures words { RunsWords (map (λ word. word.now) words.now) (⟦<Session<'s, S> as HasRun>⟧.run session.old session.new) }
     // The file is closed after a run over what it held.
     ensures closed { RunsClosed (map (λ word. word.now) words.now) (image_at S.File.Start) result

@@ -41,8 +41,8 @@ pub struct Session<'s, S: Streams> {
     pub status: u8,
 }
 
-/// Whether the host may know more of a failure of opening than the store does.
-fn is_unread(failure: Failure) -> bool {
+/// Whether the host may be able to explain a failure of opening: the file can't be opened, or read as a database.
+fn may_be_explained(failure: Failure) -> bool {
     matches!(
         failure,
         Failure::Store(Error::SqliteFailure(ErrorCode::CannotOpen | ErrorCode::DatabaseCorrupt))
@@ -59,13 +59,14 @@ impl<'s, S: Streams> Session<'s, S> {
         self.status = report(self.alloc, self.console, failure, &mut self.output);
     }
 
-    /// The same of a file that can't be opened. If the host knows why, it says so in place of the store.
+    /// Writes the line of a file that can't be opened, and takes its status. If the host knows why it can't, the host says so on standard
+    /// error in place of the store.
     pub(crate) fn fail_to_open(&mut self, file: &str, failure: Failure)
         ensures reports { Reports failure (S.Output.contents self.old.output) (S.Output.contents self.new.output) self.new.status }
         ensures host { self.new.host ≡ self.old.host }
         ensures input { self.new.input ≡ self.old.input }
     {
-        if is_unread(failure) && self.host.explains(file) {
+        if may_be_explained(failure) && self.host.explains(file) {
             self.status = put_failure(self.alloc, failure, &mut self.output);
         } else {
             self.fail(failure);
@@ -74,6 +75,7 @@ impl<'s, S: Streams> Session<'s, S> {
 
     /// Takes the status of a task that is done; or writes the line of its failure, and takes the status of that.
     pub(crate) fn finish(&mut self, done: Result<u8, Failure>)
+        // A task that is done writes no line here.
         ensures reports { MatchResult done
             (λ status. (self.new.status ≡ status) × (S.Output.contents self.new.output ≡ S.Output.contents self.old.output))
             (λ failure. Reports failure (S.Output.contents self.old.output) (S.Output.contents self.new.output) self.new.status) }

@@ -29,14 +29,14 @@ pub(crate) enum Manner {
     Ask,
 }
 
-/// The status of a text with this tally.
+/// The status of a text that was answered, by how many of its answers are `fault` or `closed`: 1 if any is, else 0.
 fn status_after(tally: Tally) -> u8
     ensures { result ≡ (if tally.lost == 0 then 0 else 1) }
 {
     if tally.lost == 0 { 0 } else { 1 }
 }
 
-/// The status of a text with this course.
+/// The status of a text that was answered so far: 1 if it was stopped, or if an answer is `fault` or `closed`, else 0.
 fn course_status(course: Course) -> u8
     ensures { result ≡ course_status course }
 {
@@ -47,7 +47,8 @@ fn course_status(course: Course) -> u8
     }
 }
 
-/// Answers the batches of a text in a manner. The notes say on standard error why a batch isn't accepted.
+/// Runs, rehearses or asks the batches of a text, and writes their replies. The notes say on standard error why a batch isn't accepted. The
+/// fault is that of the reader, of the writer, of memory, or that the text is too long.
 fn answer_by<C: Eprint, R: Read + Drop, W: Write, B: Alter + Drop>(
     world: &mut World<B>,
     text: R,
@@ -55,8 +56,10 @@ fn answer_by<C: Eprint, R: Read + Drop, W: Write, B: Alter + Drop>(
     output: &mut W,
     notes: &mut StandardNotes<'_, C>,
 ) -> Result<Course, TextFault>
+    // From the moment at which the World works, the text is answered in this manner, to its end or until it stops.
     ensures answers { (m : Moment) → Stands B.Store world.old (Works m) → EndsTask B.Store world.old world.new m (λ end.
         ComesOf manner m end (R.remaining text) (W.contents output.old) (W.contents output.new) result) }
+    // If the batches aren't run, a crash leaves nothing that it couldn't leave before.
     ensures still { changes_world manner ≡ false → LeavesNothingNew (store_of B.Store world.old) (store_of B.Store world.new) }
 {
     match manner {
@@ -72,8 +75,8 @@ fn answer_by<C: Eprint, R: Read + Drop, W: Write, B: Alter + Drop>(
     }
 }
 
-/// Does with the batches of a text what the manner says. The notes say on standard error why a batch isn't accepted, and the console what to
-/// do if the store failed in one that was run.
+/// Runs, rehearses or asks the batches of a text, writes their replies, and answers the status. The notes say on standard error why a batch
+/// isn't accepted, and the console what to do if the store failed in one that was run.
 fn answer_text<C: Eprint, R: Read + Drop, W: Write, B: Alter + Drop>(
     world: &mut World<B>,
     text: R,
@@ -82,8 +85,10 @@ fn answer_text<C: Eprint, R: Read + Drop, W: Write, B: Alter + Drop>(
     console: &C,
     mut notes: StandardNotes<'_, C>,
 ) -> Result<u8, Failure>
+    // From the moment at which the World works, the text is answered in this manner, to its end or until it stops.
     ensures answers { (m : Moment) → Stands B.Store world.old (Works m) → EndsText B.Store world.old world.new
         ⊥ manner m (R.remaining text) (W.contents output.old) (W.contents output.new) result }
+    // If the batches aren't run, a crash leaves nothing that it couldn't leave before.
     ensures still { changes_world manner ≡ false → LeavesNothingNew (store_of B.Store world.old) (store_of B.Store world.new) }
 {
     let done = answer_by(world, text, manner, output, &mut notes);
@@ -99,20 +104,27 @@ fn answer_text<C: Eprint, R: Read + Drop, W: Write, B: Alter + Drop>(
     }
 }
 
-/// Does with the batches of the file of this path, or of the input for `-`, what the manner says. Standard error says why a batch isn't
-/// accepted, and what to do if the store failed in one that was run.
+/// Runs, rehearses or asks the batches of the file of this path, or of the input for `-`, and answers the status: 1 if an answer is `fault`
+/// or `closed`, or if the text was stopped, else 0. Standard error says why a batch isn't accepted, and what to do if the store failed in
+/// one that was run. NoBatches if the file can't be opened; Read, Write, TooLong or OutOfMemory if the text stops at that fault.
 pub(crate) fn answer_batches<'s, S: Streams, B: Alter + Drop>(
     session: &mut Session<'s, S>,
     world: &mut World<B>,
     manner: Manner,
     path: &str,
 ) -> Result<u8, Failure>
+    // The file of this path may be read, if it isn't the input.
     requires read { bytes_eq path.now (codes "-") ≡ false → S.Host.may_read session.old.host path.now }
+    // From the moment at which the World works, the text is answered in this manner, to its end or until it stops; or its file can't be
+    // opened, and nothing is done.
     ensures answers { (m : Moment) → Stands B.Store world.old (Works m) →
         let run = ⟦<Session<'s, S> as HasRun>⟧.run session.old session.new in
         EndsText B.Store world.old world.new (run.given.lacks path.now) manner m (run.given.text path.now) run.before run.after result }
+    // If the batches aren't run, a crash leaves nothing that it couldn't leave before.
     ensures still { changes_world manner ≡ false → LeavesNothingNew (store_of B.Store world.old) (store_of B.Store world.new) }
+    // Nothing is asked of the ports.
     ensures rests { session.new.host ≡ session.old.host }
+    // Only the text `-` is read from the input.
     ensures input { bytes_eq path.now (codes "-") ≡ false → session.new.input ≡ session.old.input }
 {
     let (console, alloc) = (session.console, session.alloc);

@@ -58,7 +58,7 @@ module _ {T D : Type 0} {g : Ghosts D} where
   IsLeftAfter image (remains.Connection conn) next = IsLeftBy (file_state conn) next
   IsLeftAfter image unopened next = next ≡ image
 
-  -- what may be found of them, whenever the process stops: any bytes that the disk leaves, or what a crash leaves
+  -- what may be found of the files, whenever the process stops: any bytes that the disk leaves, or what a crash leaves
   abbrev pub IsFoundOf : Image → Remains T D g → Image → Type 0
   IsFoundOf image rest next = BytesLeave image rest next ⊎ IsLeftAfter image rest next
 

@@ -73,13 +73,14 @@ module _ {R W : Type 0} (from : R → ℤ) (reads : R → Gave → R → Type 0)
       Exchanged (Ok tt) before after (traffic_of gathered outgoing opened closed) →
       Exchanged (Ok tt) before after (peer_of gathered came closed last) × IsAsker came last
 
-  -- Of another its peer has a front.
+  -- Of an answer that wasn't all sent, its peer has a front.
   abbrev pub DeskFronts : Type 0
   DeskFronts = (before after : Place) (came slot : PeerSlot) (opened closed : Connection (Gathered R) (Outgoing W)) →
       (back last : Leaving R W) → PassesDesk came slot opened closed back last →
       Exchanged (Ok tt) before after (traffic_of gathered outgoing opened closed) →
       Exchanged (Err Write) before after (peer_of gathered came closed last) × IsAsker came last
 
+  -- If the service met a fault, the peer sees what belongs to that fault.
   abbrev pub DeskFaults : Type 0
   DeskFaults = (fault : ServeFault) (before after : Place) (came slot : PeerSlot) →
       (opened closed : Connection (Gathered R) (Outgoing W)) (back last : Leaving R W) → PassesDesk came slot opened closed back last →

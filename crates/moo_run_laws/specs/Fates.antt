@@ -27,12 +27,12 @@ module _ {R W : Type 0} where
   handed_in (calls_accept (Some it)) = 1
   handed_in other = 0
 
-  -- none is, as at a fault
+  -- no connection is handed out, as at a fault
   abbrev pub missed_in : Call R W → ℕ
   missed_in (calls_accept None) = 1
   missed_in other = 0
 
-  -- one is given back
+  -- a connection is given back
   abbrev pub given_in : Call R W → ℕ
   given_in (calls_close given closing route) = 1
   given_in other = 0
@@ -42,7 +42,7 @@ module _ {R W : Type 0} where
   told_in (calls_settle is_last (Some loss)) = 1
   told_in other = 0
 
-  -- in how many of these calls
+  -- in how many of these calls that happens which `count` counts
   abbrev pub in_all : (Call R W → ℕ) → List (Call R W) → ℕ
   in_all count [] = 0
   in_all count (call ∷ earlier) = in_all count earlier + count call
@@ -60,18 +60,18 @@ pub data Fate (R W : Type 0) : Type 0 where
   still : Leaving R W → Fate R W
   ended : Leaving R W → Fate R W
 
--- all of its answer was sent, or it was lost
+-- a connection is over: all of its answer was sent, or its answer was lost
 abbrev pub HasEnded : {R W : Type 0} → Leaving R W → Type 0
 HasEnded it = ((it.stage ≡ Done) × (it.writer.sent ≡ length it.writer.text.items)) ⊎ ((cause : Cause) × (it.stage ≡ Lost cause))
 
--- each of these is the same connection later, and is over unless it is still held
+-- each fate is that of the connection at its place, later; one that isn't held any more is over
 abbrev pub Becomes : {R W : Type 0} → Writing.Ghosts W → (W → ℤ) → List (Leaving R W) → List (Fate R W) → Type 0
 Becomes writer to [] [] = ⊤
 Becomes writer to (it ∷ began) (still now ∷ fates) = IsLater writer to it now × Becomes writer to began fates
 Becomes writer to (it ∷ began) (ended now ∷ fates) = IsLater writer to it now × HasEnded now × Becomes writer to began fates
 Becomes writer to began fates = ⊥
 
--- those that are still held
+-- the connections that are still held
 abbrev pub still_held : {R W : Type 0} → List (Fate R W) → List (Leaving R W)
 still_held [] = []
 still_held (still now ∷ fates) = now ∷ still_held fates

@@ -64,17 +64,17 @@ module _ {S T D : Type 0} {g : HasRun.Ghosts S T D} {disk : Ghosts D} where
   abbrev pub IsFoundOnCleanDisk : FileRun g disk → Image → Type 0
   IsFoundOnCleanDisk r next = IsLeftByCrash r next ⊎ (IsClosedEnd r.ends r.closed × IsCleanRemains r.closed × IsFoundAfter r next)
 
-  -- It leads its file to a moment of which this is true. If a task ran over the file (the first function): from the moment where it started
-  -- to one that its end may leave. If none did (the second), for *each* moment that the file held: to that, or, of version 1, to some
-  -- moment of the same rows.
+  -- The run leads its file to a moment of which this is true. If a task ran over the file (the first function): from the moment where it
+  -- started to one that its end may leave. If none did (the second), for *each* moment that the file held: to that, or, of version 1, to
+  -- some moment of the same rows.
   abbrev pub GoesTo : FileRun g disk → (Moment → Type 0) → Type 0
   GoesTo r Then = IfRan r.ends
       (λ conn. (task : Task) × NamesTask r.words task × StartsFrom task r.image (run_of r).given (λ m.
       (ran : RunsIn (file_state conn) task m (run_of r)) × (left : Moment) × MayBeLeft ran.0.end left × Then left))
       (λ rest. (m : Moment) → HoldsMoment r.image m → (left : Moment) × IsSparedMoment m left × Then left)
 
-  -- It goes on from this moment: its files hold it; and a task that takes up its file, on a clean disk, runs from it, or fails for a cause,
-  -- and no damage is told.
+  -- The run goes on from this moment: its files hold it; and a task that takes up its file, on a clean disk, runs from it, or fails for a
+  -- cause, and no damage is told.
   abbrev pub GoesOnFrom : FileRun g disk → Moment → Type 0
   GoesOnFrom r m = HoldsMoment r.image m × TakesUp r.words r.image m r.ends (run_of r)
 

@@ -30,7 +30,8 @@ module _ {T D : Type 0} {g : Ghosts D} where
       ((¬ IsShutByClosing conn now) × DiskLeaves now next) ⊎ HoldsSuch (recovers now) next
   ClosedLeaves image conn closed next = BytesLeave image closed next
 
-  -- the same at the end of a run: if a task ran over the files (the first function), or if none did (the second)
+  -- The bytes that the disk may leave of the two files at the end of a run, once they are closed: if a task ran over them (the first
+  -- function), or if none did (the second).
   abbrev pub EndLeaves : Image → Ends T D g → Remains T D g → Image → Type 0
   EndLeaves image ends closed next = IfRan ends (λ conn. ClosedLeaves image conn closed next) (λ rest. BytesLeave image closed next)
 

@@ -30,7 +30,7 @@ module _ {S T D : Type 0} {g : HasRun.Ghosts S T D} {disk : Ghosts D} where
       × (ran : RunsIn (file_state conn) task now (run_of run)) × MayBeLeft ran.0.end next × LeadsByEach now batches next)
       (λ rest. (batches ≡ []) × IsSparedMoment m next)
 
-  -- so the runs do, one after another
+  -- The runs lead from a moment to the last by these batches, one run after another.
   abbrev pub LeadInTurn : Moment → List (FileRun g disk) → List Batch → Moment → Type 0
   LeadInTurn m [] batches end = (batches ≡ []) × (end ≡ m)
   LeadInTurn m (run ∷ runs) batches end =

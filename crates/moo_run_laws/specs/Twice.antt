@@ -27,22 +27,23 @@ module _ {T D : Type 0} {disk : Ghosts D} where
       ⊎ EndsUsage words run.before run.after run.status
 
 module _ {S T D : Type 0} {g : HasRun.Ghosts S T D} {disk : Ghosts D} where
-  -- the run ended so, and then its file was closed
+  -- A run told how it ended, and then its file was closed.
   abbrev pub EndsClosed : FileRun g disk → Type 0
   EndsClosed r = TellsEnd r.words r.ends (run_of r) × IsClosedEnd r.ends r.closed
 
 module _ {S T D N U E : Type 0} (g : HasRun.Ghosts S T D) {disk : Ghosts D} (h : HasRun.Ghosts N U E) {other : Ghosts E} where
-  -- Each of the two runs ended so, and then its file was closed. If the disk of the first returned what was written until then, and the
-  -- files of the second held what may be found after it, it hands them over.
+  -- Two runs, each of which told how it ended, and then its file was closed. If the disk of the first returned what was written until then,
+  -- and the files of the second held what may be found after the first, the first leads its file to a moment from which the second goes on.
   abbrev pub RunsTwice : (Ends T D disk → FileRun g disk) → (Ends U E other → FileRun h other) → Type 0
   RunsTwice run_by next_by = (ends : Ends T D disk) × (next_ends : Ends U E other)
       × (let first = run_by ends in let next = next_by next_ends in
       EndsClosed first × EndsClosed next
       × (IsCleanRemains first.closed → IsFoundAfter first next.image → HandsOver first next))
 
-  -- The same of the second if the process stopped before the first file was closed. Its disk returned what was written until then, and the
-  -- files of the second held what a crash left; or there is some outcome of closing, `closed`, until which the disk was clean, and the
-  -- bytes may be found after that.
+  -- Two runs, of which the first stopped before its file was closed, and the second told how it ended and closed its file. The first leads
+  -- its file to a moment from which the second goes on, if its disk returned what was written until the stop, and the files of the second
+  -- held what a crash left; or if there is some outcome of closing, `closed`, until which the disk was clean, and the bytes may be found
+  -- after that.
   abbrev pub StopsAndRuns : (Remains T D disk → FileRun g disk) → (Ends U E other → FileRun h other) → Type 0
   StopsAndRuns run_by next_by = (next_ends : Ends U E other)
       × (let next = next_by next_ends in

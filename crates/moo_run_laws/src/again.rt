@@ -11,7 +11,7 @@ use crate::law::runs_lead_on;
 use moo_files::{Remains, WorldFiles};
 use moo_run::{Ends, HasRun, Session, Streams, run_to_end, run_words};
 
-/// Runs words as the program does, by `run_to_end`, and then other words.
+/// Runs words over a file as the program does, by `run_to_end`, and then other words over what is found of the file.
 ///
 /// The program runs over a file, and stops at the end of its words, before the file is closed or after that. It runs again over what is
 /// then found: it goes on from a moment that the first run may leave. Any words, with any input, over any host. Both disks return what was
@@ -28,18 +28,21 @@ pub fn run_and_run_again<'s, 'n, S: Streams, N: Streams>(
     Remains<S::File, <S::Host as WorldFiles<S::File>>::Disk>,
     Remains<N::File, <N::Host as WorldFiles<N::File>>::Disk>,
 )
+    // The files that the first words name may be looked at and read.
     requires may { (task : Task) → NamesTask (map (λ word. word.now) words.now) task →
         S.Host.may_open session.old.host task.file.now }
     requires read { (task : Task) (path : List ℕ) → NamesTask (map (λ word. word.now) words.now) task → ReadsFile task path →
         S.Host.may_read session.old.host path }
+    // So may those that the second words name.
     requires next_may { (task : Task) → NamesTask (map (λ word. word.now) next_words.now) task →
         N.Host.may_open next.old.host task.file.now }
     requires next_read { (task : Task) (path : List ℕ) → NamesTask (map (λ word. word.now) next_words.now) task →
         ReadsFile task path → N.Host.may_read next.old.host path }
-    // The next run starts from the moment after the accepted batches whose answers were written, or with one more. The first run started
-    // from the moment that its file held, or from a new world. If it ran no task over the file: from what the file held, or, of version 1,
-    // from some moment of the same rows. What stays keeps its number and its cells, and no number is given again. After a service
-    // everything counts that its connections asked, also if the answer couldn't be sent.
+    // The second run goes on where the first left off: from the moment after the accepted batches whose answers were written, or with one
+    // more. The first run started from the moment that its file held, or from a new world. If it ran no task over the file, the second goes
+    // on from what the file held, or, of version 1, from some moment of the same rows. What stays keeps its number and its cells, and no
+    // number is given again. After a service everything counts that its connections asked, also if the answer couldn't be sent. `FileRuns`
+    // has the words for this: `HandsOver` says it of two runs, by `GoesTo` of the first and `GoesOnFrom` of the second.
     ensures again { RunsTwice ⟦<Session<'s, S> as HasRun>⟧ ⟦<Session<'n, N> as HasRun>⟧
         (λ ends. record {
           words = map (λ word. word.now) words.now;
@@ -78,15 +81,17 @@ pub fn stop_and_run_again<'s, 'n, S: Streams, N: Streams>(
     Ends<S::File, <S::Host as WorldFiles<S::File>>::Disk>,
     Remains<N::File, <N::Host as WorldFiles<N::File>>::Disk>,
 )
+    // The files that the first words name may be looked at and read.
     requires may { (task : Task) → NamesTask (map (λ word. word.now) words.now) task →
         S.Host.may_open session.old.host task.file.now }
     requires read { (task : Task) (path : List ℕ) → NamesTask (map (λ word. word.now) words.now) task → ReadsFile task path →
         S.Host.may_read session.old.host path }
+    // So may those that the second words name.
     requires next_may { (task : Task) → NamesTask (map (λ word. word.now) next_words.now) task →
         N.Host.may_open next.old.host task.file.now }
     requires next_read { (task : Task) (path : List ℕ) → NamesTask (map (λ word. word.now) next_words.now) task →
         ReadsFile task path → N.Host.may_read next.old.host path }
-    // Whatever bytes the disk leaves of the two files, or a crash leaves of the database.
+    // The second run goes on where the first left off, whatever bytes the disk leaves of the two files, or a crash leaves of the database.
     ensures again { StopsAndRuns ⟦<Session<'s, S> as HasRun>⟧ ⟦<Session<'n, N> as HasRun>⟧
         (λ closed. record {
           words = map (λ word. word.now) words.now;

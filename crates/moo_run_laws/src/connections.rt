@@ -14,7 +14,7 @@ pub struct HaltingConnections<A> {
 }
 
 impl<A> HaltingConnections<A> {
-    /// No connection is handed out yet.
+    /// A source that hands out this many of the connections of another, and none yet.
     pub(crate) fn new(inner: A, connections: u32) -> HaltingConnections<A>
         ensures { result ≡ record { inner = inner; connections_left = connections } }
     {
@@ -24,7 +24,7 @@ impl<A> HaltingConnections<A> {
         }
     }
 
-    /// The source that it is made of.
+    /// The source whose connections it hands out.
     pub(crate) fn into_inner(self) -> A
         ensures { result ≡ self.inner }
     {

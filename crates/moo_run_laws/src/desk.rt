@@ -11,9 +11,13 @@ use std::io::{Read, Write};
 /// sees what the service exchanged with it: all of the answer to what it asked once that was sent whole, else a front of it. A request
 /// can't be read only if the reader of its peer failed, or if the desk gave it up.
 pub fn exchanges_pass_the_desk<R: Inward, W: Outward>()
+    // If all of the answer was sent, its peer sees what the service exchanged.
     ensures sent { DeskAnswers R.peer R.reads R.fails R.Read ⟦<Gathered<R> as Read>⟧ W.peer W.Write ⟦<Outgoing<W> as Write>⟧ }
+    // If a part of it is lost or is still to be sent, its peer sees a front of the answer.
     ensures lost { DeskFronts R.peer R.reads R.fails R.Read ⟦<Gathered<R> as Read>⟧ W.peer W.Write ⟦<Outgoing<W> as Write>⟧ }
+    // If the desk's reader failed, that of the peer failed in it, or the desk gave the request up.
     ensures cause { DeskCauses R.fails ⟦<Gathered<R> as Incoming>⟧.fails }
+    // If the service met a fault, its peer sees what belongs to that fault.
     ensures failed { DeskFaults R.peer R.reads R.fails R.Read ⟦<Gathered<R> as Read>⟧ W.peer W.Write ⟦<Outgoing<W> as Write>⟧ }
 {
     exchanges_pass_through();

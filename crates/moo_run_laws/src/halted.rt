@@ -32,14 +32,17 @@ pub fn run_halted<'s, 'n, S: Streams, N: Streams>(
     Remains<S::File, Fuse<<S::Host as WorldFiles<S::File>>::Disk>>,
     Remains<N::File, <N::Host as WorldFiles<N::File>>::Disk>,
 )
+    // The files that the first words name may be looked at and read.
     requires may { (task : Task) → NamesTask (map (λ word. word.now) words.now) task → S.Host.may_open session.host task.file.now }
     requires read { (task : Task) (path : List ℕ) → NamesTask (map (λ word. word.now) words.now) task → ReadsFile task path →
         S.Host.may_read session.host path }
+    // So may those that the second words name.
     requires next_may { (task : Task) → NamesTask (map (λ word. word.now) next_words.now) task →
         N.Host.may_open next.old.host task.file.now }
     requires next_read { (task : Task) (path : List ℕ) → NamesTask (map (λ word. word.now) next_words.now) task →
         ReadsFile task path → N.Host.may_read next.old.host path }
-    // From bytes of `EndLeaves` the next run starts after the acknowledged batches (of a service, all that ran), or one more.
+    // The second run goes on where the first left off: from any bytes that the disk may leave (`EndLeaves`) it starts after the
+    // acknowledged batches (of a service, all that ran), or one more.
     ensures halted { HaltsBefore ⟦<Session<'s, HaltingStreams<S>> as HasRun>⟧ ⟦<Session<'n, N> as HasRun>⟧
         (λ began. (began.host ≡ record { inner = session.entry.host; halt = halt }) × (began.input ≡ session.entry.input)
         × (began.output ≡ record { inner = session.entry.output; bytes_left = halt.bytes }))

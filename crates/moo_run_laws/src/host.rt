@@ -13,15 +13,16 @@ use sqlite_std_file::OpenError;
 use std::fs::Metadata;
 use std::io::Result as IoResult;
 
-/// All that a run is granted.
+/// What a run is granted before it comes to a stop.
 #[derive(Clone, Copy, Drop)]
 pub struct Halt {
-    /// So many calls of its log, and so many of its database file.
+    /// How many calls its log takes.
     pub log_calls: u64,
+    /// How many calls its database file takes.
     pub db_calls: u64,
-    /// So many bytes of its output.
+    /// How many bytes its output takes.
     pub bytes: usize,
-    /// So many connections.
+    /// How many connections each of its ports hands out.
     pub connections: u32,
 }
 
@@ -44,7 +45,7 @@ pub struct HaltingHost<H> {
 }
 
 impl<H> HaltingHost<H> {
-    /// The same host, which comes to a stop then.
+    /// A host that comes to a stop once what is granted is used up.
     pub fn new(inner: H, halt: Halt) -> HaltingHost<H>
         ensures { result ≡ record { inner = inner; halt = halt } }
     {

@@ -17,9 +17,11 @@ use moo_run::HasRun;
 /// The program runs over a file again and again, each time over what is found after the run before: any words, with any input, over any
 /// host. Each run may be stopped, or close its file, as in `runs_lead_on`, which is the law of two of them.
 pub fn runs_in_turn<S: HasRun>()
-    // They have one history: batches lead from the moment that the file held to that which it holds in the end, run by run, each cell of it.
+    // They have one history: batches lead from the moment that the file held to that which it holds in the end, run by run, each cell of
+    // it.
     ensures history { (image found : Image) (runs : List (FileRun S.HasRun S.Disk.Disk)) (m : Moment) → RunInTurn image runs found →
         HoldsMoment image m → (end : Moment) × HoldsMoment found end × (batches : List Batch) × LeadInTurn m runs batches end }
+    // The state in the end is the one that the batches make of the first state, one after another.
     ensures state { (runs : List (FileRun S.HasRun S.Disk.Disk)) (m end : Moment) (batches : List Batch) →
         LeadInTurn m runs batches end → state_of_moment end ≡ after (state_of_moment m) batches }
     // Each of these batches is counted.

@@ -25,12 +25,13 @@ use moo_run::HasRun;
 /// program makes, says it too, and closes the file after that. `run_and_run_again` makes two such calls, and says it of them;
 /// `stop_and_run_again` says it of a first run whose file isn't closed.
 pub fn runs_lead_on<S: HasRun, N: HasRun>()
+    // If the second run is over what is found after the first, the first leads its file to a moment from which the second goes on.
     ensures follows { (first : FileRun S.HasRun S.Disk.Disk) (next : FileRun N.HasRun N.Disk.Disk) → Follows first next →
         HandsOver first next }
 {}
 
-/// What the disk leaves of the files of a run that is stopped, once these are closed, may be found after it: `run_to_end` says that they are
-/// closed so, and `runs_lead_on` from what any run over these bytes then goes on.
+/// What the disk leaves of the files of a run that is stopped, once these are closed, may be found after it: `run_to_end` says that they
+/// are closed so, and `runs_lead_on` from what any run over these bytes then goes on.
 pub fn ends_are_found<S: HasRun>()
     ensures found { (run : FileRun S.HasRun S.Disk.Disk) (next : Image) → IsClosedEnd run.ends run.closed → IsCleanRemains run.closed →
         EndLeaves run.image run.ends run.closed next → IsFoundAfter run next }

@@ -24,7 +24,7 @@ impl<S: Streams> Streams for HaltingStreams<S> {
     type Output = HaltingOutput<S::Output>;
 }
 
-/// The same session, with a host and an output that come to a stop then.
+/// A session with a host and an output that come to a stop once what is granted is used up; else it is the session that was given.
 pub fn halting<'s, S: Streams>(
     session: Session<'s, S>,
     halt: Halt,

@@ -38,27 +38,23 @@ word_of TooLong = codes "moo: input too long\n"
 word_of Port = codes "moo: cannot listen\n"
 word_of OutOfMemory = codes "moo: no memory\n"
 
+-- the exit status of a failure
 abbrev pub status_of : Failure → ℕ
 status_of Usage = 2
-status_of NoFile = 1
-status_of (Store error) = 1
 status_of (Damaged kind key) = 3
 status_of NewerVersion = 3
 status_of (NotADump line) = 3
-status_of NoBatches = 1
-status_of Read = 1
-status_of Write = 1
-status_of TooLong = 1
-status_of Port = 1
 status_of OutOfMemory = 4
+status_of failure = 1
 
--- what stops a text, the making or the opening of a world, a dump, or the service, as a failure
+-- the failure of a run whose text of batches stopped at this fault
 abbrev pub text_failure : TextFault → Failure
 text_failure text_fault.Read = Read
 text_failure text_fault.Write = Write
 text_failure text_fault.OutOfMemory = OutOfMemory
 text_failure text_fault.Long = TooLong
 
+-- the failure of a run whose world couldn't be made or opened, or whose store failed
 abbrev pub store_failure : StoreFault → Failure
 store_failure (store_fault.Store error) = Store error
 store_failure (store_fault.Damaged kind key) = Damaged kind key
@@ -66,26 +62,30 @@ store_failure store_fault.NewerVersion = NewerVersion
 store_failure store_fault.OutOfMemory = OutOfMemory
 store_failure store_fault.Closed = Store (SqliteFailure code.Closed)
 
--- The failure tells of this fault of opening. A missing file is told apart, for what is said on standard error.
+-- The failure tells of this fault of making or opening a world. A missing file is told apart, for what is said on standard error.
 abbrev pub Tells : StoreFault → Failure → Type 0
 Tells fault failure =
     (failure ≡ store_failure fault) ⊎ ((store_failure fault ≡ Store (SqliteFailure code.CannotOpen)) × (failure ≡ NoFile))
 
+-- the failure of a run whose dump stopped at this fault
 abbrev pub dump_failure : DumpFault → Failure
 dump_failure dump_fault.Write = Write
 dump_failure dump_fault.OutOfMemory = OutOfMemory
 dump_failure dump_fault.Closed = Store (SqliteFailure code.Closed)
 
+-- the failure of a run whose service stopped at this fault
 abbrev pub service_failure : ServiceFault → Failure
 service_failure service_fault.Port = Port
 service_failure service_fault.Write = Write
 service_failure service_fault.OutOfMemory = OutOfMemory
 
+-- the failure of a run that couldn't read the text of a dump
 abbrev pub read_failure : InputFault → Failure
 read_failure read_fault.Read = Read
 read_failure read_fault.TooLong = TooLong
 read_failure read_fault.OutOfMemory = OutOfMemory
 
+-- the failure of a run that couldn't make the world of a dump
 abbrev pub load_failure : LoadFault → Failure
 load_failure (load_fault.NotADump line why) = NotADump line
 load_failure (load_fault.Damaged kind key) = Damaged kind key
@@ -110,8 +110,10 @@ Reports failure old new status = WritesLine (word_of failure) (status_of failure
 
 -- ---- what is done
 
+-- the line that `moo load` writes of the world that it made: its number, and how many objects it has
 abbrev pub loaded_line : ℕ → ℕ → List ℕ
 loaded_line seq objects = codes "loaded seq " ++ (decimal seq ++ (codes " objects " ++ (decimal objects ++ codes "\n")))
 
+-- the line that `moo check` writes of a whole world: its number, and how many objects it has
 abbrev pub checked_line : ℕ → ℕ → List ℕ
 checked_line seq objects = codes "ok seq " ++ (decimal seq ++ (codes " objects " ++ (decimal objects ++ codes "\n")))

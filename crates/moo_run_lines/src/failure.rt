@@ -20,7 +20,7 @@ pub enum Failure {
     NoFile,
     /// The store failed, or has other tables than ours.
     Store(Error),
-    /// The tables show no world.
+    /// The tables, or the lines of a dump, show no world: the kind and the place of the first damage.
     Damaged(Kind, Key),
     /// The tables are those of a later version.
     NewerVersion,

@@ -14,14 +14,14 @@ use sqlite::{Error, ErrorCode};
 use std::alloc::{AllocError, Global};
 use std::io::{Eprint, Write};
 
-/// The line of a check. An `Err` means that memory ran out.
+/// The line that `moo check` writes of a whole world: its number, and how many objects it has. An `Err` means that memory ran out.
 pub fn checked_text(alloc: Global, seq: u64, objects: u64) -> Result<String, AllocError>
     ensures { IfOk result (λ text. text.bytes.items ≡ checked_line seq objects) }
 {
     format!(in alloc; "ok seq {seq} objects {objects}\n")
 }
 
-/// The line of a damage.
+/// The line of a damage, with its kind and its place. An `Err` means that memory ran out.
 fn damaged_text(alloc: Global, kind: Kind, key: Key) -> Result<String, AllocError>
     ensures { IfOk result (λ text. text.bytes.items ≡
         codes "moo: damaged " ++ (kind_text kind ++ (codes " " ++ (key_text key ++ codes "\n")))) }
@@ -29,21 +29,21 @@ fn damaged_text(alloc: Global, kind: Kind, key: Key) -> Result<String, AllocErro
     format!(in alloc; "moo: damaged {kind} {key}\n")
 }
 
-/// The line of a load. An `Err` means that memory ran out.
+/// The line that `moo load` writes of the world that it made: its number, and how many objects it has. An `Err` means that memory ran out.
 pub fn loaded_text(alloc: Global, seq: u64, objects: u64) -> Result<String, AllocError>
     ensures { IfOk result (λ text. text.bytes.items ≡ loaded_line seq objects) }
 {
     format!(in alloc; "loaded seq {seq} objects {objects}\n")
 }
 
-/// The line of a text that isn't a dump.
+/// The line of a text that isn't a dump, with the number of the line, from 1, that no dump has there. An `Err` means that memory ran out.
 fn not_a_dump_text(alloc: Global, line: u64) -> Result<String, AllocError>
     ensures { IfOk result (λ text. text.bytes.items ≡ codes "moo: not a dump, line " ++ (decimal line ++ codes "\n")) }
 {
     format!(in alloc; "moo: not a dump, line {line}\n")
 }
 
-/// Writes a line, and answers the status; or that of a writer that fails.
+/// Writes a line, and answers this status; or 1, the status of a writer that fails, if it does.
 pub fn put_line<W: Write>(line: &str, status: u8, output: &mut W) -> u8
     ensures { WritesLine line.now status (W.contents output.old) (W.contents output.new) result }
 {
@@ -53,7 +53,7 @@ pub fn put_line<W: Write>(line: &str, status: u8, output: &mut W) -> u8
     }
 }
 
-/// Why the store failed, of the causes that have words of ours.
+/// The sentence that says why the store failed. None if the cause has no sentence here, but the words of its error.
 fn store_cause(error: Error) -> Option<&'static str> {
     match error {
         Error::SqliteFailure(ErrorCode::DatabaseBusy) => {
@@ -89,6 +89,7 @@ fn explain<C: Eprint>(console: &C, failure: Failure) {
     }
 }
 
+/// What is said if the store failed in a batch.
 const LOST: &str =
     "moo: store fault: the store failed in the batch that is answered `fault` (is the disk full?)
 moo: the last `accepted S` is kept, and perhaps the batch after it: `moo check FILE` says the number\n";
@@ -100,7 +101,8 @@ pub fn explain_lost<C: Eprint>(console: &C, tally: Tally) {
     }
 }
 
-/// Writes a line that was made, or that there was no memory to make it.
+/// Writes a line that was made, and answers this status; or, if there was no memory to make it, writes that and answers its status, 4. If
+/// the writer fails the status is 1.
 fn put_made_line<W: Write>(line: Result<String, AllocError>, status: u8, output: &mut W) -> u8
     ensures { MatchResult line
         (λ text. WritesLine text.bytes.items status (W.contents output.old) (W.contents output.new) result)
@@ -117,7 +119,7 @@ fn put_made_line<W: Write>(line: Result<String, AllocError>, status: u8, output:
     }
 }
 
-/// Writes the line of a damage, and answers its status.
+/// Writes the line of a damage, and answers its status, 3; or, if memory runs out, the line and the status of that.
 fn put_damage<W: Write>(alloc: Global, kind: Kind, key: Key, output: &mut W) -> u8
     ensures { Reports (Failure.Damaged kind key) (W.contents output.old) (W.contents output.new) result }
 {
@@ -128,7 +130,7 @@ fn put_damage<W: Write>(alloc: Global, kind: Kind, key: Key, output: &mut W) -> 
     )
 }
 
-/// Writes the line of a text that isn't a dump, and answers its status.
+/// Writes the line of a text that isn't a dump, and answers its status, 3; or, if memory runs out, the line and the status of that.
 fn put_not_a_dump<W: Write>(alloc: Global, line: u64, output: &mut W) -> u8
     ensures { Reports (Failure.NotADump line) (W.contents output.old) (W.contents output.new) result }
 {
@@ -139,7 +141,7 @@ fn put_not_a_dump<W: Write>(alloc: Global, line: u64, output: &mut W) -> u8
     )
 }
 
-/// Writes the line of a failure, and answers its status.
+/// Writes the line of a failure, and answers its status, or 1 if the writer fails.
 pub fn put_failure<W: Write>(alloc: Global, failure: Failure, output: &mut W) -> u8
     ensures { Reports failure (W.contents output.old) (W.contents output.new) result }
 {
@@ -150,8 +152,8 @@ pub fn put_failure<W: Write>(alloc: Global, failure: Failure, output: &mut W) ->
     }
 }
 
-/// Writes the line of a failure, and answers its status. If the store, the batches, the dump or the port failed, the cause goes to
-/// standard error.
+/// Writes the line of a failure, and answers its status, or 1 if the writer fails. If the store, the batches, the dump or the port failed,
+/// the cause goes to standard error.
 pub fn report<C: Eprint, W: Write>(
     alloc: Global,
     console: &C,

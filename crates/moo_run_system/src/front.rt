@@ -16,6 +16,8 @@ pub(crate) struct FileFront {
 }
 
 impl FileFront {
+    /// What the first 56 bytes of a database file say: the size of a page in bytes 16 and 17, where 1 is 65,536, and the greatest root page
+    /// in bytes 52 to 55, which is 0 without auto_vacuum.
     fn new(bytes: &[u8; 56]) -> FileFront {
         let size = u32::from(bytes[16]) * 256 + u32::from(bytes[17]);
         FileFront {
@@ -25,7 +27,8 @@ impl FileFront {
     }
 }
 
-/// The front of the file of a path; None if it isn't that of a database. Nothing is read of what isn't a file, as a pipe.
+/// Reads what the first bytes of the file of a path say. None if it can't be read, or isn't a database. Nothing is read of what isn't a
+/// file, as a pipe.
 pub(crate) fn read_front(rt: &HostRuntime, path: &str) -> Option<FileFront> {
     if !fs::metadata(rt, path).is_ok_and(|data| data.is_file()) {
         return None;
@@ -40,7 +43,7 @@ pub(crate) fn read_front(rt: &HostRuntime, path: &str) -> Option<FileFront> {
     }
 }
 
-/// Whether there is a rollback journal beside the file of a path.
+/// Whether there is a rollback journal with any bytes beside the file of a path.
 pub(crate) fn has_journal(rt: &HostRuntime, path: &str) -> bool {
     match format!(in rt.alloc(); "{path}-journal") {
         Ok(journal) => fs::metadata(rt, journal.as_str()).is_ok_and(|data| data.len() > 0),

@@ -27,6 +27,7 @@ pub struct System<'a> {
 }
 
 impl<'a> System<'a> {
+    /// The system that this runtime is on. The changes that its files take are counted in `changes`.
     pub fn new(rt: &'a HostRuntime, changes: &'a DiskChanges) -> System<'a> {
         System { rt, changes }
     }

@@ -21,7 +21,7 @@ use std::io;
 use std::io::{Eprint, ErrorKind, Stdin, Stdout, Write};
 use std::marker::PhantomData;
 
-/// The words of a command line, with `moo` in place of the program's path.
+/// The words of a command line, with `moo` in place of the program's path, or alone if there are none. An error if memory runs out.
 fn named_words(alloc: Global, mut words: Vec<String>) -> io::Result<Vec<String>>
     ensures { IfOk result (λ named. map string_bytes named.items ≡ codes "moo" ∷ map string_bytes (drop 1 words.items)) }
 {
@@ -34,7 +34,7 @@ fn named_words(alloc: Global, mut words: Vec<String>) -> io::Result<Vec<String>>
     Ok(words)
 }
 
-/// The same words, borrowed.
+/// A list of the words as they are read. AllocError if memory runs out.
 fn borrow_words<'a>(alloc: Global, words: &'a [String]) -> Result<Vec<&'a str>, AllocError>
     ensures { IfOk result (λ found. map (λ word. word.now) found.items ≡ map string_bytes words.now) }
 {
@@ -45,7 +45,7 @@ fn borrow_words<'a>(alloc: Global, words: &'a [String]) -> Result<Vec<&'a str>, 
     Ok(found)
 }
 
-/// Why the words can't be read: memory ran out, or one of them isn't UTF-8.
+/// The failure of a run whose words can't be read: OutOfMemory if memory ran out, else Usage, as one of them isn't UTF-8.
 fn words_failure(error: &io::Error) -> Failure
     ensures memory { error_kind error.now ≡ ErrorKind.OutOfMemory → result ≡ Failure.OutOfMemory }
     ensures other { error_kind error.now ≢ ErrorKind.OutOfMemory → result ≡ Failure.Usage }
@@ -63,14 +63,17 @@ pub fn run_given<'s, S: Streams>(
     words: io::Result<Vec<String>>,
     start: S::File,
 ) -> Remains<S::File, <S::Host as WorldFiles<S::File>>::Disk>
+    // The file of a world that the words name may be looked at and opened.
     requires may { IfOk words (λ words. (task : Task) → NamesTask (map string_bytes words.items) task →
         S.Host.may_open session.old.host task.file.now) }
+    // The file of batches or the dump that they name may be read.
     requires read { IfOk words (λ words. (task : Task) (path : List ℕ) → NamesTask (map string_bytes words.items) task →
         ReadsFile task path → S.Host.may_read session.old.host path) }
     // The outcome of the words is that of `run_to_end`; or memory runs out before that, and their file isn't opened.
     ensures read { IfOk words (λ words. let run = ⟦<Session<'s, S> as HasRun>⟧.run session.old session.new in
         (Reports Failure.OutOfMemory run.before run.after run.status × IsUntouched result × run.given.ports.rests)
         ⊎ RunsClosed (map string_bytes words.items) (image_at S.File.Start) result run) }
+    // Only words of a task that reads the input change it.
     ensures input { IfOk words (λ words. KeepsInput (map string_bytes words.items) session.old.input session.new.input) }
     // If they can't be read, the line says whether memory ran out, no file is opened, and nothing is asked of the ports or read.
     ensures memory { IfErr words (λ error. error_kind error ≡ ErrorKind.OutOfMemory →
@@ -104,7 +107,7 @@ pub fn run_given<'s, S: Streams>(
     run_to_end(session, &words, start)
 }
 
-/// The words of the command line.
+/// The words of the command line, with `moo` first. An error if one isn't UTF-8, or memory runs out.
 fn command_words(rt: &HostRuntime) -> io::Result<Vec<String>> {
     named_words(rt.alloc(), args(rt)?.collect(rt.alloc())?)
 }
@@ -127,7 +130,7 @@ impl<'a> Streams for Standard<'a> {
 }
 
 /// The whole program: `run_given` over the words of the command line, the files and ports of the system and the standard streams. It has no
-/// type parameter, so that the check of `main` needn't know what streams are.
+/// type parameter, so that the check of `main` needn't know what streams are. It answers the exit status.
 pub fn run_command(rt: &HostRuntime) -> u8 {
     let changes = DiskChanges::new();
     let mut session: Session<'_, Standard<'_>> = Session {

@@ -33,20 +33,21 @@ pub record KeepsTables (old new : Database) : Type 0 where
   pub unread : HasCleanDisk new → IsTrue new.is_open → (tables : Tables) → Rests old tables → KeepsUnread old.now new.now
   pub crash : Survives old new (λ _. ⊥)
 
--- The tables were seen to show these rows, which have so many objects.
+-- The tables were seen to show these rows, which have this number of objects.
 pub record IsChecked (own : Maps) (old new : Database) (objects : ℕ) : Type 0 where
   pub shown : HasCleanDisk new → (tables : Tables) → Rests old tables → ShowsRows tables own
   pub count : objects ≡ length (objects_of (world_of own))
   pub rests : HasCleanDisk new → (tables : Tables) → Rests old tables → Rests new tables
 
--- They weren't. What the fault says of the tables is so, or it has a cause, unless nothing was looked at, since a World had failed. If they
--- show these rows, no damage is told. After a lack of memory the tables are as they were.
+-- The tables weren't seen to show these rows. What the fault says of the tables is so, or it has a cause, unless nothing was looked at,
+-- since a World had failed. If they show these rows, no damage is told. After a lack of memory the tables are as they were.
 pub record IsUnchecked (own : Maps) (old new : Database) (told : StoreFault) : Type 0 where
   pub fault : told ≢ Closed → HasCleanDisk new → (tables : Tables) → Rests old tables →
       SaysInCheck (StopsCheck tables old new told) own tables told
   pub whole : told ≢ Closed → HasCleanDisk new → (tables : Tables) → Rests old tables → ShowsRows tables own → IsOfStore told
   pub rests : HasCleanDisk new → told ≡ OutOfMemory → (tables : Tables) → Rests old tables → Rests new tables
 
+-- what a check of tables against a World's own rows answers: the number of objects, or a fault
 abbrev pub Checks : Maps → Database → Database → Result ℕ StoreFault → Type 0
 Checks own old new (Ok count) = IsChecked own old new count
 Checks own old new (Err fault) = IsUnchecked own old new fault

@@ -22,12 +22,14 @@ pub record BecomesCurrent (old new : Tables) : Type 0 where
 abbrev pub unread_of : Trees → List Row
 unread_of trees = trees (slot_tree First)
 
--- which of these rows of it are left once tables of this version were brought to the present one: a migration empties the table
+-- which of the rows of the table `slot` are left once tables of this version were brought to the present one: a migration empties the
+-- table
 abbrev pub unread_kept : Version → List Row → List Row
 unread_kept First rows = []
 unread_kept Second rows = rows
 
--- The connection is open and in no transaction, and has what these tables of these trees became, which shows these rows.
+-- The connection is open and in no transaction. Its tables are those of the present version that these tables, of these trees, became,
+-- and they show these rows.
 pub record RestsCurrent (store : Database) (trees : Trees) (old : Tables) (rows : Maps) : Type 0 where
   pub tables : Tables
   pub rests : Rests store tables

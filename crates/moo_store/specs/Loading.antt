@@ -37,7 +37,7 @@ module _ {S : Type 0} (g : Ghosts S) where
     pub seen : HasCleanDisk (store_of g world) → (m : Moment) × IsMadeOf rows m × Stands g world (Works m)
     pub crash : SurvivesAsMade rows (state g conn) (store_of g world)
 
-  -- They weren't made. A database that has tables is refused, and comes back as it is; so it does if memory runs out. Otherwise the
+  -- No tables were made. A database that has tables is refused, and comes back as it is; so it does if memory runs out. Otherwise the
   -- store failed, for a cause of any change: its tables are those before, and a crash may leave those of the rows.
   pub record IsUnloaded (rows : Maps) (conn : Held S) (fault : StoreFault) (last : Held S) : Type 0 where
     pub taken : (state g conn).now.schema ≢ no_schema → (fault ≡ name_taken) × (last ≡ conn)
@@ -48,6 +48,7 @@ module _ {S : Type 0} (g : Ghosts S) where
         ⊎ (HasCleanDisk (state g last) → IsTrue (state g last).is_open → RestsAt (state g last) (state g conn).committed)
     pub crash : (last ≡ conn) ⊎ SurvivesAsMade rows (state g conn) (state g last)
 
+  -- what making the tables of these rows in a database answers: a World, or a fault and the connection
   abbrev pub Loads : Maps → Held S → Adoption S → Type 0
   Loads rows conn (Ok world) = IsLoaded rows conn world
   Loads rows conn (Err e) = IsUnloaded rows conn e.0 e.1

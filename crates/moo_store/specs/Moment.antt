@@ -26,11 +26,11 @@ pub record Moment : Type 0 where
   pub rows : Maps
   pub cells : Option AllCells
 
--- its state
+-- the state of the world at a moment: that of its rows
 abbrev pub state_of_moment : Moment → State
 state_of_moment m = state_of m.rows
 
--- these rows, and no cells
+-- the moment of these rows, if their cells aren't known
 abbrev pub rows_alone : Maps → Moment
 rows_alone rows = record { rows = rows; cells = None }
 
@@ -40,8 +40,9 @@ pub record KeepsStaying (rows next : Maps) (old new : AllCells) : Type 0 where
   pub cells : KeepsCells rows next old.tables new.tables
   pub unread : new.unread ≡ old.unread
 
--- So it is from one moment to another, if the cells of the first are of the present version and show its rows. It is so of each moment at
--- which a World works on a clean disk (`HasAtRest`), and of one brought to the present version (`BecomesPresent`).
+-- From one moment to another all that stays keeps its cells, if the cells of the first are of the present version and show its rows. They
+-- are and do at each moment at which a World works on a clean disk (`HasAtRest`), and at one brought to the present version
+-- (`BecomesPresent`).
 abbrev pub KeepsCellsAt : Maps → Maps → Option AllCells → Option AllCells → Type 0
 KeepsCellsAt rows next (Some old) (Some new) = IsCurrent old.tables → ShowsRows old.tables rows → KeepsStaying rows next old new
 KeepsCellsAt rows next None None = ⊤
@@ -55,7 +56,7 @@ pub record LeadsBy (m : Moment) (batch : Batch) (next : Moment) : Type 0 where
   pub state : state_of_moment next ≡ left_by (state_of_moment m) (judge (state_of_moment m) batch)
   pub kept : KeepsCellsAt m.rows next.rows m.cells next.cells
 
--- so each of these batches does, one after another
+-- batches that are accepted one after another lead from a moment to the last one
 abbrev pub LeadsByEach : Moment → List Batch → Moment → Type 0
 LeadsByEach m [] end = end ≡ m
 LeadsByEach m (batch ∷ batches) end = (next : Moment) × LeadsBy m batch next × LeadsByEach next batches end

@@ -47,7 +47,7 @@ abbrev pub VerdictLeads : Moment → Batch → model.Verdict → Place → Type 
 VerdictLeads m batch (model.Accepted answers end) to = (next : Moment) × LeadsBy m batch next × ((to ≡ Works next) ⊎ (to ≡ Failed next))
 VerdictLeads m batch verdict to = to ≡ Works m
 
--- only a batch that is accepted reaches the store
+-- If the store fails in an accepted batch, the World is between the moment and the next one. No other batch reaches the store.
 abbrev pub StopsStore : Moment → Batch → model.Verdict → Place → Type 0
 StopsStore m batch (model.Accepted answers end) to = (next : Moment) × LeadsBy m batch next × (to ≡ Between m next)
 StopsStore m batch verdict to = ⊥

@@ -35,10 +35,8 @@ SaysOr Cause tables Closed = ⊥
 -- a fault that says nothing of the tables
 abbrev pub IsOfStore : StoreFault → Type 0
 IsOfStore (Store error) = ⊤
-IsOfStore (Damaged kind key) = ⊥
-IsOfStore NewerVersion = ⊥
 IsOfStore OutOfMemory = ⊤
-IsOfStore Closed = ⊥
+IsOfStore fault = ⊥
 
 -- memory ran out, or the store failed with an error of which this is true
 abbrev pub StopsBy : (Error → Type 0) → StoreFault → Type 0
@@ -48,7 +46,7 @@ StopsBy Cause NewerVersion = ⊥
 StopsBy Cause OutOfMemory = ⊤
 StopsBy Cause Closed = ⊥
 
--- they are of an earlier version and show good rows: such tables are migrated
+-- tables that are migrated: of an earlier version, and they show good rows
 abbrev pub AreMigrated : Tables → Type 0
 AreMigrated tables = IsEarlier tables.version × ((rows : Maps) × IsGood rows × ShowsRows tables rows)
 
@@ -61,7 +59,7 @@ StopsOpening tables conn last =
 abbrev pub not_ours : StoreFault
 not_ours = Store (SqliteFailure NotADatabase)
 
--- in place of tables that show these rows, the trees have others that show them
+-- if the tables that rest in the store show these rows, the trees that a crash left have other tables that show them
 abbrev pub TakesOver : Maps → Database → Trees → Type 0
 TakesOver rows store trees = (tables : Tables) → Rests store tables → ShowsRows tables rows → LeavesRows trees rows
 
@@ -78,8 +76,8 @@ abbrev pub HasOthers : Database → Type 0
 HasOthers conn = (version : Version) → conn.now.schema ≢ schema_of version
 
 module _ {S : Type 0} (g : Ghosts S) where
-  -- None was opened, and the connection comes back outside a transaction. A damage that is told is the first of the tables, any other fault
-  -- of them has a cause, and they are never called others. Other tables are a fault of the store. The database is as it was.
+  -- No World was opened, and the connection comes back outside a transaction. A damage that is told is the first of the tables, any other
+  -- fault of them has a cause, and they are never called others. Other tables are a fault of the store. The database is as it was.
   pub record IsUnadopted (conn : Held S) (fault : StoreFault) (last : Held S) : Type 0 where
     pub outside : (state g last).in_transaction ≡ false
     pub other : HasOthers (state g conn) → IsOfStore fault × (last ≡ conn)
@@ -101,6 +99,7 @@ module _ {S : Type 0} (g : Ghosts S) where
         RestsCurrent (state g last) (state g conn).now.trees tables rows
     pub crash : Survives (state g conn) (state g last) (Adopts (state g conn))
 
+  -- what opening the tables of a connection answers: the rows, or a fault
   abbrev pub Brings : Held S → Held S → Result Rows StoreFault → Type 0
   Brings conn last (Ok rows) = IsBrought conn last rows.maps
   Brings conn last (Err fault) = IsUnadopted conn fault last

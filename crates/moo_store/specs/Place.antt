@@ -4,9 +4,9 @@ use Rattle.sqlite.specs.State.{State as Database, HasCleanDisk}
 use Rattle.sqlite.specs.Tree.{Trees}
 use Rattle.moo_store.specs.Moment.{Moment, HasAtRest, HasCellsOf}
 
--- It works at a moment. Or it failed there, since memory ran out after the commit. Or its store failed between two moments, in the commit
--- of a batch: that is answered `fault`; it may count or not, and all later ones are answered `closed`. (If a check found a fault, both
--- moments are the one where it worked.)
+-- How far a World got. It works at a moment. Or it failed there, since memory ran out after the commit. Or its store failed between two
+-- moments, in the commit of a batch: that is answered `fault`; it may count or not, and all later ones are answered `closed`. (If a check
+-- found a fault, both moments are the one where it worked.)
 pub data Place : Type 0 where
   Works : Moment → Place
   Failed : Moment → Place
@@ -33,6 +33,7 @@ abbrev pub CrashLeavesAt : Database → Place → Type 0
 CrashLeavesAt store place =
     IsSome (moment_of place).cells → (trees : Trees) → store.may_leave trees → (m : Moment) × MayBeLeft place m × HasCellsOf m trees
 
+-- a World at this place has failed
 abbrev pub has_failed : Place → Bool
 has_failed (Works m) = false
 has_failed (Failed m) = true

@@ -32,12 +32,12 @@ abbrev pub accept_text : Option (List ObjNo) → List ℕ
 accept_text None = []
 accept_text (Some objects) = print (object_list objects)
 
--- that of a slot: empty if it is clear, else the printed value
+-- the printed cell of a slot: empty if it is clear, else the printed value
 abbrev pub state_text : SlotState → List ℕ
 state_text Clear = []
 state_text (Set value) = print value
 
--- that of the calls of a petition
+-- the printed cell of the calls of a petition
 abbrev pub calls_text : Values → List ℕ
 calls_text calls = print (a_list calls)
 
@@ -47,20 +47,23 @@ abbrev pub PrintsOver : {V : Type 0} → (List ℕ → V → Type 0) → (V → 
 PrintsOver shows text_of old new (Some text) = shows text.items new × (text.items ≡ text_of new) × (old ≢ Some new)
 PrintsOver shows text_of old new None = old ≡ Some new
 
--- the cells of a row, to be written over those of the row that is there, if one is
+-- the cells of an object, to be written over those of the row before, if there is one
 pub record PrintsObject (old : Option ObjRow) (cells : ObjectCells) (row : ObjRow) : Type 0 where
   pub row_is : cells.row ≡ row
   pub accept : PrintsOver ShowsAccept accept_text (option_map (λ r. r.accept) old) row.accept cells.accept
 
+-- the cells of a property, which are all printed, whatever the row before was
 pub record PrintsProp (old : Option PropRow) (cells : PropCells) (row : PropRow) : Type 0 where
   pub definer : cells.definer ≡ row.definer
   pub name : cells.name.items ≡ row.name
 
+-- the cells of a slot, to be written over those of the row before, if there is one
 pub record PrintsSlot (old : Option SlotRow) (cells : SlotCells) (row : SlotRow) : Type 0 where
   pub owner : cells.owner ≡ row.owner
   pub bits : cells.bits ≡ bits_number row.bits
   pub value : PrintsOver ShowsSlotState state_text (option_map (λ r. r.state) old) row.state cells.value
 
+-- the cells of a verb, to be written over those of the row before, if there is one
 pub record PrintsVerb (old : Option VerbRow) (cells : VerbCells) (row : VerbRow) : Type 0 where
   pub names : cells.names.items ≡ row.names
   pub owner : cells.owner ≡ row.owner
@@ -69,6 +72,7 @@ pub record PrintsVerb (old : Option VerbRow) (cells : VerbCells) (row : VerbRow)
   pub prep : cells.prep.items ≡ prep_text row.args.prep
   pub iobj : cells.iobj.items ≡ object_spec_text row.args.iobj
 
+-- the cells of a petition, to be written over those of the row before, if there is one
 pub record PrintsPetition (old : Option PetitionRow) (cells : PetitionCells) (row : PetitionRow) : Type 0 where
   pub who : cells.who ≡ row.who
   pub calls : PrintsOver (λ text calls. Spells (a_list calls) text) calls_text (option_map (λ r. r.calls) old) row.calls cells.calls
@@ -80,14 +84,15 @@ PrintEach prints (f ∷ fs) (e ∷ es) = (f.0 ≡ e.0) × ShowsOrNone (prints e.
 PrintEach prints (f ∷ fs) [] = ⊥
 PrintEach prints [] (e ∷ es) = ⊥
 
--- each row of a map, as a change from none
+-- the entries of a map, each as a change from none
 abbrev pub as_changes : {K X : Type 0} → List (K × X) → List (K × Option X)
 as_changes es = map (λ e. (e.0, Some e.1)) es
 
+-- all rows of one kind, each as a change from none
 abbrev pub all_of : {K X : Type 0} {cmp : K → K → Ordering} → FinMap cmp X → List (K × Option X)
 all_of m = as_changes (entries m)
 
--- each row, as a change from no rows
+-- the changes that lead from no rows to these
 abbrev pub all_changes : Maps → Changes
 all_changes m = record {
   head = m.head;
@@ -113,6 +118,6 @@ pub record Prints (last : Option ℕ) (base : Maps) (cells : CellChanges) (chang
   pub verbs : PrintEach (λ key. PrintsVerb (get base.verbs key)) cells.verbs.items changes.verbs
   pub petitions : PrintEach (λ id. PrintsPetition (get base.petitions id)) cells.petitions.items changes.petitions
 
--- these are the cells of all these rows, each as a row that wasn't there
+-- the cells of all these rows, each as a row that wasn't there before
 abbrev pub PrintsAll : CellChanges → Maps → Type 0
 PrintsAll cells rows = Prints None no_maps cells (all_changes rows)

@@ -20,7 +20,7 @@ pub record AreFound (Known : Tables → Type 0) (rows : Maps) : Type 0 where
   pub shown : (tables : Tables) → Known tables → ShowsRows tables rows
   pub one : (tables : Tables) (m : Maps) → Known tables → ShowsRows tables m → IsGood m → rows ≡ m
 
--- None were found in tables of which this is known: the fault says what is wrong with them, or memory ran out, or a query stopped.
+-- No rows were found in tables of which this is known: the fault says what is wrong with them, or memory ran out, or a query stopped.
 abbrev pub NoneFound : (Tables → Type 0) → Database → Database → StoreFault → Type 0
 NoneFound Known old new fault = (tables : Tables) → Known tables → SaysOr (StopsBy (StopsQuery old new) fault) tables fault
 
@@ -28,7 +28,7 @@ NoneFound Known old new fault = (tables : Tables) → Known tables → SaysOr (S
 abbrev pub Rested : Database → Database → Tables → Type 0
 Rested old new tables = HasCleanDisk new × Rests old tables
 
--- and they are of this version
+-- tables of this version rested in the store that was read, and its disk returns what was written
 abbrev pub RestedAs : Version → Database → Database → Tables → Type 0
 RestedAs version old new tables = Rested old new tables × (tables.version ≡ version)
 
@@ -37,12 +37,14 @@ pub record IsReadAs (version : Version) (old new : Database) (rows : Maps) : Typ
   pub read : ReadsTables (schema_of version) old new
   pub found : AreFound (RestedAs version old new) rows
 
--- They weren't read.
+-- The rows of tables of this version weren't read. Nothing changed, or the transaction was rolled back; the fault has a cause, or says
+-- what is wrong with the tables.
 pub record IsUnreadAs (version : Version) (old new : Database) (fault : StoreFault) : Type 0 where
   pub failed : FailsToRead (schema_of version) old new
   pub own : fault ≢ not_ours
   pub none : NoneFound (RestedAs version old new) old new fault
 
+-- what reading the rows of tables of this version answers: the rows, or a fault
 abbrev pub ReadsRowsAs : Version → Database → Database → Result Rows StoreFault → Type 0
 ReadsRowsAs version old new (Ok rows) = IsReadAs version old new rows.maps
 ReadsRowsAs version old new (Err fault) = IsUnreadAs version old new fault
@@ -54,7 +56,8 @@ module _ {S : Type 0} (g : Ghosts S) where
     pub read : ReadsTables (schema_of version) (state g conn) (state g last)
     pub found : AreFound (Rested (state g conn) (state g last)) rows
 
-  -- They weren't read: nothing was asked, or the reading failed. Other tables are a fault of the store, and ours are never called others.
+  -- The rows of a connection weren't read: nothing was asked, or the reading failed. Other tables are a fault of the store, and ours are
+  -- never called others.
   pub record HasNotRead (conn last : Held S) (fault : StoreFault) : Type 0 where
     pub failed : (last ≡ conn) ⊎ ((version : Version) × HasTables (schema_of version) (state g conn)
         × FailsToRead (schema_of version) (state g conn) (state g last))
@@ -62,6 +65,7 @@ module _ {S : Type 0} (g : Ghosts S) where
     pub own : (version : Version) → HasTables (schema_of version) (state g conn) → fault ≢ not_ours
     pub none : NoneFound (Rested (state g conn) (state g last)) (state g conn) (state g last) fault
 
+  -- what reading the rows of a connection answers: the version of its tables and the rows, or a fault
   abbrev pub ReadsRows : Held S → Held S → Result (Version × Rows) StoreFault → Type 0
   ReadsRows conn last (Ok read) = HasRead conn last read.0 read.1.maps
   ReadsRows conn last (Err fault) = HasNotRead conn last fault

@@ -14,11 +14,12 @@ pub record Rehearsal : Type 0 where
   pub rows : Held
   pub failed : Bool
 
+-- the coding of a rehearsal that `Model` asks for, by its two parts
 abbrev pub rehearsal_code : Coded Rehearsal
 rehearsal_code =
     code_by (Held × Bool) (coded× coded_held coded_bool) (λ r. (r.rows, r.failed)) (λ p. record { rows = p.0; failed = p.1 }) (λ _. refl)
 
--- It works, at a moment of its rows alone. Or it failed, since memory ran out; no store can fail.
+-- At which place a rehearsal is: it works, at a moment of its rows alone; or it failed, since memory ran out. No store can fail.
 abbrev pub IsRehearsedAt : Rehearsal → Place → Type 0
 IsRehearsedAt it (Works m) = (it.failed ≡ false) × (m ≡ rows_alone it.rows.maps)
 IsRehearsedAt it (Failed m) = it.failed ≡ true

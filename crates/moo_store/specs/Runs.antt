@@ -33,7 +33,7 @@ LeavesChecked (Works m) (Err OutOfMemory) to = to ≡ Works m
 LeavesChecked (Works m) (Err fault) to = (fault ≢ Closed) × (to ≡ Between m m)
 LeavesChecked from r to = (r ≡ Err Closed) × (to ≡ from)
 
--- whether a World has failed by a check that answered this
+-- a World has failed by a check that answered this
 abbrev pub fails_by : Result ℕ StoreFault → Bool
 fails_by (Ok count) = false
 fails_by (Err (Store error)) = true

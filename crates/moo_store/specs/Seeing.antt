@@ -17,14 +17,15 @@ HasSeenReply sees maps batch (Full call) kept next = next ≡ kept
 HasSeenReply sees maps batch (Stale seq) kept next = next ≡ kept
 HasSeenReply sees maps batch NoMemory kept next = next ≡ kept
 
--- the same of a place in which there may be no batch, and then no reply
+-- what a witness has seen at a place in a list: of a batch as `HasSeenReply` says; if there is no batch, there is no reply, and it has
+-- seen nothing
 abbrev pub HasSeenPlace : {Kept : Type 0} → (Kept → Batch → Refusal → Option Facts → Kept → Type 0) → Maps → Option Batch → Option Reply
     → Kept → Kept → Type 0
 HasSeenPlace sees maps (Some batch) (Some reply) kept next = HasSeenReply sees maps batch reply kept next
 HasSeenPlace sees maps None None kept next = next ≡ kept
 HasSeenPlace sees maps batch reply kept next = ⊥
 
--- the same of places in turn, one after another
+-- what a witness has seen of all places of a list, one after another
 abbrev pub HasSeenEach : {Kept : Type 0} → (Kept → Batch → Refusal → Option Facts → Kept → Type 0) → Maps → List (Option Batch)
     → List (Option Reply) → Kept → Kept → Type 0
 HasSeenEach sees maps [] [] kept next = next ≡ kept

@@ -22,7 +22,7 @@ pub record LeavesRows (trees : Trees) (rows : Maps) : Type 0 where
   pub leaves : Leaves trees tables
   pub shows : ShowsRows tables rows
 
--- so do tables of any version
+-- the connection is open and in no transaction, and its tables, of any version, show good rows of this state
 pub record ShowsState (store : Database) (s : State) : Type 0 where
   pub tables : Tables
   pub rests : Rests store tables

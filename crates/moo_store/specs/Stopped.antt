@@ -10,7 +10,7 @@ pub record KeepsFaults (old new : Database) : Type 0 where
   pub faults : old.faults ≤ new.faults
   pub steps : new.step_limit ≡ old.step_limit
 
--- if the store failed, this is why
+-- a fault of the store has one of the causes that stop any change
 abbrev pub IsStopped : Database → Database → StoreFault → Type 0
 IsStopped old new (Store error) = StopsChange old new error
 IsStopped old new fault = ⊤

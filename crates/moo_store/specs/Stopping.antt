@@ -8,28 +8,22 @@ use Rattle.moo_text.specs.declared.lines.TheConstants.{LONGEST_TEXT}
 use Rattle.moo_text.specs.declared.next.Next.{Next}
 use Rattle.moo_text.specs.declared.reply.Answer.{Answer}
 use Rattle.moo_text.specs.declared.reply.Answer.TheVariants as answer
-use Rattle.moo_text.specs.declared.reply.Reply.TheVariants.{Accepted, Refused, Full, Stale, NoMemory}
+use Rattle.moo_text.specs.declared.reply.Reply.TheVariants.{Accepted}
 use Rattle.moo_store.specs.declared.course.Course.{Course}
 use Rattle.moo_store.specs.declared.tally.Tally.{Tally}
 use Rattle.moo_text.specs.declared.fault.TextFault.{TextFault}
 use Rattle.moo_store.specs.Turns.{Turns, Completes, Halts, answers_text, is_batch, is_lost_answer, GivesFrontOrAll}
 
+-- an answer is `accepted`
 abbrev pub says_accepted : Answer → Bool
 says_accepted (answer.Replied (Accepted seq answers)) = true
-says_accepted (answer.Replied (Refused call code)) = false
-says_accepted (answer.Replied (Full call)) = false
-says_accepted (answer.Replied (Stale seq)) = false
-says_accepted (answer.Replied NoMemory) = false
-says_accepted (answer.Malformed number) = false
-says_accepted answer.Truncated = false
-says_accepted answer.Fault = false
-says_accepted answer.Closed = false
+says_accepted a = false
 
--- all of these are `accepted`
+-- all of these answers are `accepted`
 abbrev pub AreAccepted : List Answer → Type 0
 AreAccepted answers = AllByRecursion (λ a. says_accepted a ≡ true) answers
 
--- the last of these is the first that isn't `accepted`
+-- the last of these answers is the first that isn't `accepted`
 pub record EndAtFirst (answers : List Answer) : Type 0 where
   pub before : List Answer
   pub last : Answer
@@ -46,13 +40,13 @@ up_to_first (a ∷ answers) = a ∷ (if says_accepted a then up_to_first answers
 abbrev pub stops_after : Bool → Answer → Bool
 stops_after stop a = stop && not (says_accepted a)
 
--- the text is at its end; if it was to stop, each answer is `accepted`
+-- the text was answered to its end; if it was to stop, each answer is `accepted`
 abbrev pub CompletesUntil : {A : Type 0} → (A → Batch → Answer → A → Type 0) → Bool → A → A
     → (text before behind : Option (List ℕ)) → ℕ → ℕ → Type 0
 CompletesUntil step stop old new text before behind batches lost =
     (run : Completes step old new text before behind batches lost) × (stop ≡ true → AreAccepted run.answers)
 
--- a fault came; if it was to stop, each answer before the one in hand is `accepted`
+-- a fault ended the answering of a text; if it was to stop, each answer before the one in hand is `accepted`
 abbrev pub HaltsUntil : {A : Type 0} → (A → Batch → Answer → A → Type 0) → Bool → A → A
     → (text before behind : Option (List ℕ)) → TextFault → Type 0
 HaltsUntil step stop old new text before behind fault =
@@ -76,7 +70,7 @@ pub record EndsEarly {A : Type 0} (step : A → Batch → Answer → A → Type 
   pub batches_are : batches ≡ count_by is_batch answers
   pub lost_are : lost ≡ count_by is_lost_answer answers
 
--- It is answered to its end. Or, if it stopped, up to and with the first answer that isn't `accepted`, where it was to stop.
+-- A text was answered to its end; or, if it was to stop, up to and with the first answer that isn't `accepted`.
 abbrev pub EndsAs : {A : Type 0} → (A → Batch → Answer → A → Type 0) → Bool → A → A → (text before behind : Option (List ℕ))
     → (stopped : Bool) → (batches lost : ℕ) → Type 0
 EndsAs step stop old new text before behind true batches lost = (stop ≡ true) × EndsEarly step old new text before behind batches lost

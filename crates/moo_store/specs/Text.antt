@@ -31,6 +31,7 @@ accepted items answers = []
 
 -- ---- if memory doesn't run out and no fault comes
 
+-- an answer that isn't a fault, `closed` or a lack of memory
 abbrev pub is_plain : Answer → Bool
 is_plain (answer.Replied (Accepted seq answers)) = true
 is_plain (answer.Replied (Refused call code)) = true
@@ -42,7 +43,7 @@ is_plain answer.Truncated = true
 is_plain answer.Fault = false
 is_plain answer.Closed = false
 
--- each batch is judged after the accepted ones before it
+-- the answers to a text that is run from a state: each batch is judged after the accepted ones before it
 abbrev pub replies : State → List Next → List Answer
 replies s [] = []
 replies s (Whole batch ∷ items) = answer.Replied (reply_of (judge s batch)) ∷ replies (state_behind s batch) items
@@ -50,7 +51,7 @@ replies s (Malformed number ∷ items) = answer.Malformed number ∷ replies s i
 replies s (Truncated ∷ items) = answer.Truncated ∷ replies s items
 replies s (End ∷ items) = replies s items
 
--- each batch of questions is judged on the one state, and changes nothing
+-- the answers to a text of questions at a state: each batch is judged on this state, and changes nothing
 abbrev pub answers_asked : State → List Next → List Answer
 answers_asked s [] = []
 answers_asked s (Whole batch ∷ items) = answer.Replied (answer_of s (judge s batch)) ∷ answers_asked s items
@@ -58,6 +59,7 @@ answers_asked s (Malformed number ∷ items) = answer.Malformed number ∷ answe
 answers_asked s (Truncated ∷ items) = answer.Truncated ∷ answers_asked s items
 answers_asked s (End ∷ items) = answers_asked s items
 
+-- the batches among the items of a text
 abbrev pub batches_of : List Next → List Batch
 batches_of [] = []
 batches_of (Whole batch ∷ items) = batch ∷ batches_of items

@@ -16,7 +16,7 @@ store_of g world = state g world.connection
 abbrev pub state_of_world : {S : Type 0} → World S → State
 state_of_world world = state_of world.rows.maps
 
--- P, or Q if the store failed
+-- one thing is so, or another if the store failed
 abbrev pub MatchStore : {T : Type 0} → Result T StoreFault → Type 0 → Type 0 → Type 0
 MatchStore (Ok x) P Q = P
 MatchStore (Err (Store error)) P Q = Q

@@ -23,6 +23,7 @@ pub fn adopt<S: Alter + Drop>(
     alloc: Global,
     mut conn: Connection<S>,
 ) -> Result<World<S>, (StoreFault, Connection<S>)>
+    // The connection is in no transaction.
     requires outside { (state S.Store conn).in_transaction ≡ false }
     // Tables of any version that show a world and a number give a World that works at these, unless the store fails or memory runs out.
     // Nothing else is opened, and a damage that is answered is that of the tables. A refusal leaves the database as it was.

@@ -23,7 +23,7 @@ pub(crate) trait Answering {
     // What an answer to a batch says of the one that gives it, before and after.
     ghost answered: { Self → Batch → Answer → Self → Type 0 };
 
-    /// What its text and its answers are kept by.
+    /// Who gives the memory for its text and its answers.
     fn allocator(&self) -> Global;
 
     /// Answers one batch. If it is refused, the witness sees why.
@@ -31,8 +31,9 @@ pub(crate) trait Answering {
         ensures { answered self.old batch.now result self.new };
 }
 
-/// The answer to a batch that a World ran or was asked.
-pub(crate) fn answered_by(reply: Result<Reply, StoreFault>) -> Answer
+/// The answer that is written to a batch that a World ran or was asked: the reply, `no memory`, `closed` if the World had failed, or else
+/// `fault`.
+pub(crate) fn answer_to(reply: Result<Reply, StoreFault>) -> Answer
     ensures { result ≡ answer_to reply }
 {
     match reply {
@@ -43,13 +44,15 @@ pub(crate) fn answered_by(reply: Result<Reply, StoreFault>) -> Answer
     }
 }
 
-/// Answers one item of a text; its end has no answer.
+/// Answers one item of a text: a batch by what answers it, a malformed or cut-off one by itself. None at the end of the text.
 fn answer_item<A: Answering, N: Witness>(
     answering: &mut A,
     item: &Next,
     witness: &mut N,
 ) -> Option<Answer>
+    // An answer is that of the item's turn.
     ensures some { IfSome result (λ answer. Turn A.answered answering.old item.now answer answering.new) }
+    // There isn't one only at the end of the text, and nothing changed.
     ensures none { IfNone result ((item.now ≡ Next.End) × (answering.new ≡ answering.old)) }
 {
     match item {
@@ -60,7 +63,8 @@ fn answer_item<A: Answering, N: Witness>(
     }
 }
 
-/// Answers one item of a text, writes the answer, and tells the notes of it. The end of a text has no answer.
+/// Answers one item of a text, writes the answer, and tells the notes of it. None at the end of the text. Errors: `Write` if the writer
+/// fails, and `OutOfMemory`; the batch may have been committed by then.
 fn answer_and_note<W: Write, A: Answering, N: Notes + Witness>(
     item: &Next,
     marks: &Marks,
@@ -68,10 +72,13 @@ fn answer_and_note<W: Write, A: Answering, N: Notes + Witness>(
     answering: &mut A,
     notes: &mut N,
 ) -> Result<Option<Answer>, TextFault>
+    // The item had its turn, and its whole answer was written, and nothing else.
     ensures answers { IfOk result (λ o. IfSome o (λ answer. Turn A.answered answering.old item.now answer answering.new
         × Appends (W.contents writer.old) (W.contents writer.new) (answer_text answer))) }
+    // At the end of the text nothing changed and nothing was written.
     ensures ends { IfOk result (λ o. IfNone o
         ((item.now ≡ Next.End) × (answering.new ≡ answering.old) × (writer.new ≡ writer.old))) }
+    // At an error the item had its turn too, and the beginning of its answer was written: nothing of it, unless the writer failed.
     ensures halts { IfErr result (λ fault. (answer : Answer) × (count : ℕ)
         × Turn A.answered answering.old item.now answer answering.new
         × Appends (W.contents writer.old) (W.contents writer.new) (take count (answer_text answer))
@@ -90,7 +97,7 @@ fn answer_and_note<W: Write, A: Answering, N: Notes + Witness>(
 }
 
 /// Answers each item of a text, and writes its answer before the next item is read. Then the notes are told of it. If it is to stop, it
-/// ends after the first answer that isn't `accepted`.
+/// ends after the first answer that isn't `accepted`. The errors are those of `apply_until`.
 pub(crate) fn answer_until<R: Read + Drop, W: Write, A: Answering, N: Notes + Witness>(
     reader: R,
     writer: &mut W,
@@ -98,6 +105,7 @@ pub(crate) fn answer_until<R: Read + Drop, W: Write, A: Answering, N: Notes + Wi
     stop: bool,
     notes: &mut N,
 ) -> Result<Course, TextFault>
+    // Each item up to the end of the text, or to the stop, had its turn, and its answer was written, and nothing else; or an error came.
     ensures { AnswersBy A.answered stop answering.old answering.new (R.remaining reader) (W.contents writer.old)
         (W.contents writer.new) result }
 {

@@ -3,7 +3,7 @@
 ghost use Rattle.moo_store.specs.Moves.{MovesBy, RunsAt};
 ghost use Rattle.moo_store.specs.Stopping.{AnswersBy};
 
-use crate::answering::{Answering, answer_until, answered_by};
+use crate::answering::{Answering, answer_to, answer_until};
 use crate::course::Course;
 use crate::world::World;
 use moo_batch::Witness;
@@ -21,7 +21,7 @@ impl<S: Alter + Drop> Answering for World<S> {
     }
 
     fn answer<N: Witness>(&mut self, batch: &Batch, witness: &mut N) -> Answer {
-        answered_by(self.run_one(batch, witness))
+        answer_to(self.run_one(batch, witness))
     }
 }
 

@@ -5,7 +5,7 @@ ghost use Rattle.moo_store.specs.Place.{Place};
 ghost use Rattle.moo_store.specs.Moves.{Stands, AsksAt};
 ghost use Rattle.moo_store.specs.Stopping.{AnswersBy, to_the_end};
 
-use crate::answering::{Answering, answer_until, answered_by};
+use crate::answering::{Answering, answer_to, answer_until};
 use crate::tally::Tally;
 use crate::world::World;
 use moo_batch::Witness;
@@ -31,12 +31,12 @@ impl<'a, S: Alter + Drop> Answering for Questions<'a, S> {
 
     #[tactic(auto, using(crate::proofs::Texts::asked_at))]
     fn answer<N: Witness>(&mut self, batch: &Batch, witness: &mut N) -> Answer {
-        answered_by(self.world.ask(batch, witness))
+        answer_to(self.world.ask(batch, witness))
     }
 }
 
-/// Answers each batch of a text by what it would come to at present, with the present number, and changes nothing: no batch
-/// sees another. What is written before the next batch is read, and the faults, are those of `apply_until`.
+/// Answers each batch of a text as it would be answered at present, with the present number, and changes nothing: no batch sees another.
+/// Each answer is written before the next batch is read. The faults are those of `apply_until`.
 pub fn ask_text<R: Read + Drop, W: Write, S: Alter + Drop, N: Notes + Witness>(
     reader: R,
     writer: &mut W,

@@ -8,7 +8,7 @@ ghost use Rattle.moo_value.specs.Literal.{Spells, print};
 ghost use Rattle.moo_value.specs.Values.{coded_values};
 ghost use Rattle.moo_value.specs.declared.value.Value.TheVariants.{List as a_list};
 ghost use Rattle.moo_rows.specs.Bits.{verb_bits_of, verb_letters_of};
-ghost use Rattle.moo_rows.specs.declared.row.VerbBits.{VerbBits as Bits};
+ghost use Rattle.moo_rows.specs.declared.row.VerbBits.{VerbBits};
 ghost use Rattle.moo_rows.specs.Equal.{list_eq-exact};
 ghost use Rattle.moo_rows.specs.SameRows.{and, is, option-exact, state-exact};
 ghost use Rattle.moo_cells.specs.Shows.{ShowsAccept, ShowsSlotState};
@@ -32,19 +32,22 @@ pub(crate) trait Column: PartialEq {
     /// The one text that is printed of a value.
     ghost text: { Self → List ℕ };
 
+    /// The value of a row in this column.
     fn of(row: &Self::Row) -> &Self
         ensures { result.now ≡ part row.now };
 
     /// The printed text of the value. The only error is out of memory.
     fn cell(&self, alloc: Global) -> Result<Vec<u8>, AllocError>
+        // The text spells the value, and is the one that is always printed of it.
         ensures { IfOk result (λ cell. spells cell.items self.now × (cell.items ≡ text self.now)) };
 
     /// Values that are called equal are equal.
     ghost exact: { IsExact Self.PartialEq.eq };
 }
 
-/// The printed literal of a value, as a cell.
+/// The printed literal of a value, as a cell. The only error is out of memory.
 fn literal_cell(alloc: Global, value: &Value) -> Result<Vec<u8>, AllocError>
+    // It spells the value, and is the one text that is printed of it.
     ensures { IfOk result (λ cell. Spells value.now cell.items × (cell.items ≡ print value.now)) }
 {
     let mut cell = Vec::new(alloc);
@@ -121,7 +124,7 @@ impl Column for VerbBits {
     ghost exact = { λ x y. is _ (and _ _ (booleans_Decides x.r y.r)
         (and _ _ (booleans_Decides x.w y.w) (and _ _ (booleans_Decides x.x y.x) (booleans_Decides x.d y.d))))
         (λ h i. record { r = h.0 i; w = h.1.0 i; x = h.1.1.0 i; d = h.1.1.1 i })
-        (λ e. (ap (λ (b : Bits). b.r) e, (ap (λ (b : Bits). b.w) e, (ap (λ (b : Bits). b.x) e, ap (λ (b : Bits). b.d) e)))) };
+        (λ e. (ap (λ (b : VerbBits). b.r) e, (ap (λ (b : VerbBits). b.w) e, (ap (λ (b : VerbBits). b.x) e, ap (λ (b : VerbBits). b.d) e)))) };
 }
 
 impl Column for ValueList {
@@ -145,9 +148,9 @@ impl Column for ValueList {
     ghost exact = { same_by-exact coded_values };
 }
 
-/// Whether a row is there, with this value.
+/// Whether there was a row before, and it has this value in the column.
 #[tactic(auto, using(crate::proofs::Written::has_part))]
-fn stays<V: Column>(old: Option<&V::Row>, value: &V) -> bool
+fn has_value<V: Column>(old: Option<&V::Row>, value: &V) -> bool
     ensures { IsTrue result ↔ option_map V.part (option_map (λ row. row.now) old.entry) ≡ Some value.now }
 {
     match old {
@@ -156,7 +159,8 @@ fn stays<V: Column>(old: Option<&V::Row>, value: &V) -> bool
     }
 }
 
-/// The printed text of the value of a row, or None if it is that of the old one. The only error is out of memory.
+/// The printed text of the value of a row in this column; None if the row before has the same value, so that its cell stays. The only
+/// error is out of memory.
 pub(crate) fn text_over<V: Column>(
     alloc: Global,
     old: Option<&V::Row>,
@@ -166,7 +170,7 @@ pub(crate) fn text_over<V: Column>(
         PrintsOver V.spells V.text (option_map V.part (option_map (λ row. row.now) old.entry)) (V.part row.now) cell) }
 {
     let value = V::of(row);
-    if stays::<V>(old, value) {
+    if has_value::<V>(old, value) {
         return Ok(None);
     }
     Ok(Some(value.cell(alloc)?))

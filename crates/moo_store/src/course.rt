@@ -14,7 +14,7 @@ pub struct Course {
 }
 
 /// Whether a reply is `accepted`.
-fn says_so(reply: &Reply) -> bool
+fn reply_says_accepted(reply: &Reply) -> bool
     ensures { result ≡ says_accepted (Answer.Replied reply.now) }
 {
     match reply {
@@ -28,12 +28,12 @@ fn says_accepted(answer: &Answer) -> bool
     ensures { result ≡ says_accepted answer.now }
 {
     match answer {
-        Answer::Replied(reply) => says_so(reply),
+        Answer::Replied(reply) => reply_says_accepted(reply),
         Answer::Malformed(_) | Answer::Truncated | Answer::Fault | Answer::Closed => false,
     }
 }
 
-/// Whether a text stops after this answer: it is to stop at the first that isn't `accepted`, and this is one.
+/// Whether a text is answered no further after this answer: it is to stop at the first that isn't `accepted`, and this is one.
 pub(crate) fn stops_after(stop: bool, answer: &Answer) -> bool
     ensures { result ≡ stops_after stop answer.now }
 {

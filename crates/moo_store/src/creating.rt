@@ -23,6 +23,7 @@ pub fn create_in<S: Alter + Drop>(
     alloc: Global,
     conn: Connection<S>,
 ) -> Result<World<S>, (StoreFault, Connection<S>)>
+    // The connection is in no transaction.
     requires outside { (state S.Store conn).in_transaction ≡ false }
     // The World of the opening rows, with their numbers, each in its printed cells, and no other row in any table. A database that has
     // tables is refused, and comes back as it is; so it does if memory runs out. If the store fails its tables are those before, and a

@@ -27,10 +27,13 @@ impl<S: Alter + Drop> World<S> {
     /// Write if the writer fails or takes no bytes, and OutOfMemory: only the beginning of the text is written then. Closed if the
     /// World had failed: nothing is written.
     pub fn dump<W: Write>(&self, output: &mut W) -> Result<(), DumpFault>
+        // If it succeeds, the dump of the World was written after what the writer had, and nothing else.
         ensures ok { self.now.failed ≡ false →
             OnOk result (Appends (W.contents output.old) (W.contents output.new) (dump (state_of_world self.now))) }
+        // If it fails, the beginning of the dump was written.
         ensures err { self.now.failed ≡ false → IfErr result (λ fault. (fault ≢ DumpFault.Closed)
             × ((count : ℕ) × Appends (W.contents output.old) (W.contents output.new) (take count (dump (state_of_world self.now))))) }
+        // If the World had failed, nothing was written.
         ensures closed { IsTrue self.now.failed → IsErrOf result DumpFault.Closed × (output.new ≡ output.old) }
     {
         if self.failed {

@@ -39,9 +39,11 @@ pub fn plain_questions_are_judged()
 /// doesn't run out and no fault comes. If none is other than `accepted`, it is answered whole.
 #[tactic(auto, using(crate::proofs::Standing::early_front, crate::proofs::Standing::whole_front))]
 pub fn stops_are_fronts()
+    // It stopped: the answers are those to the whole text, up to and with the first that isn't `accepted`.
     ensures early { (old new : Place) (done left : List Next) (answers : List Answer) → Turns RunsAt old done answers new →
         AllByRecursion (λ answer. is_plain answer ≡ true) answers → EndAtFirst answers →
         answers ≡ up_to_first (replies (state_at old) (done ++ left)) }
+    // All are `accepted`: the answers are those to the whole text.
     ensures whole { (old new : Place) (items : List Next) (answers : List Answer) → Turns RunsAt old items answers new →
         AreAccepted answers → answers ≡ up_to_first (replies (state_at old) items) }
 {}
@@ -80,7 +82,9 @@ pub fn leads_decide()
 /// was given before.
 #[tactic(auto, using(crate::proofs::Leading::leads_stay, crate::proofs::Leading::leads_keep_petitions))]
 pub fn leads_keep_numbers()
+    // Properties and verbs.
     ensures numbers { (m end : Moment) (batches : List Batch) → LeadsByEach m batches end → NumbersStay m.rows end.rows }
+    // Petitions.
     ensures petitions { (m end : Moment) (batches : List Batch) → LeadsByEach m batches end →
         PetitionsStay (state_of m.rows) (state_of end.rows) }
 {}

@@ -16,7 +16,7 @@ mod creating;
 mod dumping;
 mod each;
 mod fault;
-mod judged;
+mod judging;
 pub mod laws;
 mod loading;
 mod migrating;

@@ -36,8 +36,11 @@ pub fn load_in<S: Alter + Drop>(
     conn: Connection<S>,
     rows: Flat,
 ) -> Result<World<S>, (StoreFault, Connection<S>)>
+    // The connection is in no transaction.
     requires outside { (state S.Store conn).in_transaction ≡ false }
+    // The rows are those of a world.
     requires good { IsGood rows.maps }
+    // A cell holds the number of the last batch as a signed number of 64 bits.
     requires limit { rows.maps.head.seq < 2 ^ 63 }
     // The World of these very rows, with their numbers, each in its printed cells, and no other row in any table. A database that has
     // tables is refused, and comes back as it is; so it does if memory runs out. If the store fails its tables are those before, and a

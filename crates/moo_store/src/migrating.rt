@@ -15,7 +15,7 @@ ghost use Rattle.moo_store.specs.OpeningRows.{IsOfStore, StopsBy, TakesOver, not
 ghost use Rattle.moo_store.specs.Printed.{PrintEach, PrintsSlot, all_of};
 
 use crate::fault::StoreFault;
-use crate::printing::print_left;
+use crate::printing::print_all_of;
 use crate::reading::failure_of;
 use moo_memory::Flat;
 use moo_rows::{PropId, Rows, SlotRow};
@@ -24,14 +24,14 @@ use moo_value::ObjNo;
 use sqlite::{Alter, Connection};
 use std::alloc::{AllocError, Global};
 
-/// The cells of all slots, in the order of their keys. The only error is out of memory.
+/// The cells of all slots, in the order of their keys, as those of new rows. The only error is out of memory.
 fn print_slots(
     alloc: Global,
     rows: &Flat,
 ) -> Result<Vec<((ObjNo, PropId), Option<SlotCells>)>, AllocError>
     ensures { IfOk result (λ cells. PrintEach (λ key. PrintsSlot None) cells.items (all_of rows.now.maps.slots)) }
 {
-    print_left::<(ObjNo, PropId), SlotCells, SlotRow>(alloc, rows)
+    print_all_of::<(ObjNo, PropId), SlotCells, SlotRow>(alloc, rows)
 }
 
 /// Migrates tables of an earlier version, which show these rows, to the present one in one transaction.
@@ -43,23 +43,32 @@ fn migrate_rows<S: Alter>(
     conn: &mut Connection<S>,
     rows: &Flat,
 ) -> Result<(), StoreFault>
+    // A cell holds the number of the last batch as a signed number of 64 bits.
     requires limit { rows.now.maps.head.seq < 2 ^ 63 }
+    // The connection is in no transaction, and in none after the call.
     requires outside { (state S.Store conn.old).in_transaction ≡ false }
     ensures outside { (state S.Store conn.new).in_transaction ≡ false }
+    // A fault never tells of damage: memory ran out, or the store failed.
     ensures fault { IfErr result IsOfStore }
+    // A fault never says that the tables aren't ours.
     ensures own { IfErr result (λ fault. fault ≢ not_ours) }
+    // If the tables are of an earlier version, a fault has one of the causes of any change.
     ensures cause { HasCleanDisk (state S.Store conn.new) →
         IfErr result (λ fault. (tables : Tables) → Rests (state S.Store conn.old) tables → IsEarlier tables.version →
         StopsBy (StopsChange (state S.Store conn.old) (state S.Store conn.new)) fault) }
+    // If it succeeds, such tables have become tables of the present version that show the same rows.
     ensures keeps { HasCleanDisk (state S.Store conn.new) →
         OnOk result ((tables : Tables) → Rests (state S.Store conn.old) tables → IsEarlier tables.version →
         ShowsRows tables rows.now.maps → KeepsRows (state S.Store conn.new) rows.now.maps) }
+    // The new tables are those that a migration makes: the cells of objects, properties and verbs stay, and `slot` is empty.
     ensures rests { HasCleanDisk (state S.Store conn.new) →
         OnOk result ((tables : Tables) → Rests (state S.Store conn.old) tables → IsEarlier tables.version →
         ShowsRows tables rows.now.maps → RestsCurrent (state S.Store conn.new) (state S.Store conn.old).now.trees tables rows.now.maps) }
+    // After a fault the connection is untouched, or, if it is still open, its database is as it was committed.
     ensures undone { OnErr result ((conn.new ≡ conn.old)
         ⊎ (HasCleanDisk (state S.Store conn.new) → IsTrue (state S.Store conn.new).is_open →
         RestsAt (state S.Store conn.new) (state S.Store conn.old).committed)) }
+    // A crash leaves what it could leave before, or tables that show the same rows.
     ensures crash { (version : Version) → IsEarlier version →
         (HasCleanDisk (state S.Store conn.old) → HasTables (schema_of version) (state S.Store conn.old)) →
         Survives (state S.Store conn.old) (state S.Store conn.new) (TakesOver rows.now.maps (state S.Store conn.old)) }
@@ -73,7 +82,10 @@ fn migrate_rows<S: Alter>(
     }
 }
 
-/// Brings tables of this version, which show these rows, to the present version. Those of the present version stay.
+/// Brings tables of this version, which show these rows, to the present version: those of an earlier one are migrated, and those of the
+/// present one stay. ('Current' in a contract is 'present' of `Version`.)
+///
+/// OutOfMemory: nothing was done. Store: the store failed; if the connection is still open, the tables are those before.
 #[tactic(auto, using(crate::proofs::OpenLemmas::rests_already))]
 pub(crate) fn make_current<S: Alter>(
     alloc: Global,
@@ -81,24 +93,34 @@ pub(crate) fn make_current<S: Alter>(
     version: Version,
     rows: &Flat,
 ) -> Result<(), StoreFault>
+    // A cell holds the number of the last batch as a signed number of 64 bits.
     requires limit { rows.now.maps.head.seq < 2 ^ 63 }
+    // The connection is in no transaction, and in none after the call.
     requires outside { (state S.Store conn.old).in_transaction ≡ false }
     ensures outside { (state S.Store conn.new).in_transaction ≡ false }
+    // A fault never tells of damage: memory ran out, or the store failed.
     ensures fault { IfErr result IsOfStore }
+    // A fault never says that the tables aren't ours.
     ensures own { IfErr result (λ fault. fault ≢ not_ours) }
+    // Tables of the present version give no fault: nothing is asked of the store.
     ensures earlier { OnErr result (IsEarlier version) }
+    // If the tables are of this version, a fault has one of the causes of any change.
     ensures cause { HasCleanDisk (state S.Store conn.new) →
         IfErr result (λ fault. (tables : Tables) → Rests (state S.Store conn.old) tables → tables.version ≡ version →
         StopsBy (StopsChange (state S.Store conn.old) (state S.Store conn.new)) fault) }
+    // If it succeeds, such tables have become tables of the present version that show the same rows.
     ensures keeps { HasCleanDisk (state S.Store conn.new) →
         OnOk result ((tables : Tables) → Rests (state S.Store conn.old) tables → tables.version ≡ version →
         ShowsRows tables rows.now.maps → KeepsRows (state S.Store conn.new) rows.now.maps) }
+    // The new tables are the very ones if those were of the present version, else the ones that a migration makes.
     ensures rests { HasCleanDisk (state S.Store conn.new) →
         OnOk result ((tables : Tables) → Rests (state S.Store conn.old) tables → tables.version ≡ version →
         ShowsRows tables rows.now.maps → RestsCurrent (state S.Store conn.new) (state S.Store conn.old).now.trees tables rows.now.maps) }
+    // After a fault the connection is untouched, or, if it is still open, its database is as it was committed.
     ensures undone { OnErr result ((conn.new ≡ conn.old)
         ⊎ (HasCleanDisk (state S.Store conn.new) → IsTrue (state S.Store conn.new).is_open →
         RestsAt (state S.Store conn.new) (state S.Store conn.old).committed)) }
+    // A crash leaves what it could leave before, or, of an earlier version, tables that show the same rows.
     ensures crash { (HasCleanDisk (state S.Store conn.old) → HasTables (schema_of version) (state S.Store conn.old)) →
         Survives (state S.Store conn.old) (state S.Store conn.new)
         (λ trees. IsEarlier version × TakesOver rows.now.maps (state S.Store conn.old) trees) }

@@ -11,14 +11,17 @@ use moo_memory::Flat;
 use sqlite::{Alter, Connection};
 use std::alloc::Global;
 
-/// The rows that the tables of a connection show. Tables of an earlier version are migrated to the present one, once they are found
-/// whole.
+/// The rows that the tables of a connection show. Tables of an earlier version are migrated to the present one, once the rows are found
+/// to be those of a world. The faults are those of `adopt`.
 pub(crate) fn open_rows<S: Alter>(
     alloc: Global,
     conn: &mut Connection<S>,
 ) -> Result<Flat, StoreFault>
+    // The connection is in no transaction, and in none after the call.
     requires outside { (state S.Store conn.old).in_transaction ≡ false }
     ensures outside { (state S.Store conn.new).in_transaction ≡ false }
+    // The rows are good and those that the tables show, which were brought to the present version. A fault tells of a damage only if it
+    // is met, and leaves the database as it was.
     ensures brings { Brings S.Store conn.old conn.new result }
 {
     let (version, rows) = match read_rows(alloc, conn) {

@@ -23,7 +23,8 @@ trait Print<K, C>: KeyedRow<Key = K> {
     /// The cells of a row, to be written over those of the row that is there, if there is one.
     ghost prints: { Option Self → C → Self → Type 0 };
 
-    /// A column with several spellings of one value is printed only if its value changes. The only error is out of memory.
+    /// The cells of a row, to be written over those of the row before, if there is one. A column with several spellings of one value is
+    /// printed only if its value changes. The only error is out of memory.
     fn cells(&self, alloc: Global, old: Option<&Self>) -> Result<C, AllocError>
         ensures { IfOk result (λ cells. prints (option_map (λ row. row.now) old.entry) cells self.now) };
 }
@@ -95,6 +96,7 @@ impl Print<PetitionId, PetitionCells> for PetitionRow {
     }
 }
 
+/// The cells of the new row of a key, over the row before; None if the row is removed. The only error is out of memory.
 fn print_row<K, C, V: Print<K, C>>(
     alloc: Global,
     old: Option<&V>,
@@ -108,11 +110,13 @@ fn print_row<K, C, V: Print<K, C>>(
     }
 }
 
+/// The cells of each change of rows of one kind, with its key, over the rows before. The only error is out of memory.
 fn print_each<K: Copy + Drop, C: Drop, V: Print<K, C>>(
     alloc: Global,
     rows: &Flat,
     changes: &ChangeList<K, V>,
 ) -> Result<Vec<(K, Option<C>)>, AllocError>
+    // The keys are those of the changes, in their order, and at each the cells show the new row, or neither is there.
     ensures { IfOk result (λ cells. PrintEach (λ key. V.prints (get (V.map_of rows.now.maps) key)) cells.items changes.now) }
 {
     let mut cells = Vec::new(alloc);
@@ -123,7 +127,7 @@ fn print_each<K: Copy + Drop, C: Drop, V: Print<K, C>>(
     Ok(cells)
 }
 
-/// Whether the row of the first change is there.
+/// Whether the row of the first change is there: the hint to the writer of rows. False if nothing changes.
 fn has_first<V: KeyedRow>(rows: &Flat, changes: &ChangeList<V::Key, V>) -> bool {
     match changes.items().first() {
         Some(change) => V::find(rows, change.0).is_some(),
@@ -131,7 +135,7 @@ fn has_first<V: KeyedRow>(rows: &Flat, changes: &ChangeList<V::Key, V>) -> bool 
     }
 }
 
-/// The cells of a new row. The only error is out of memory.
+/// The cells of a row that wasn't there before. The only error is out of memory.
 fn new_cells<'a, K, C, V: Print<K, C>>(alloc: Global, row: &'a V) -> Result<C, AllocError>
     ensures { IfOk result (λ cells. V.prints None cells row.now) }
 {
@@ -139,9 +143,9 @@ fn new_cells<'a, K, C, V: Print<K, C>>(alloc: Global, row: &'a V) -> Result<C, A
     row.cells(alloc, none)
 }
 
-/// The cells of all rows of one kind, each with its key. The only error is out of memory.
+/// The cells of all rows of one kind, each with its key, in the order of the keys, as those of new rows. The only error is out of memory.
 #[tactic(auto, using(crate::proofs::AllRows::none_printed))]
-pub(crate) fn print_left<K: Copy + Drop, C: Drop, V: Print<K, C>>(
+pub(crate) fn print_all_of<K: Copy + Drop, C: Drop, V: Print<K, C>>(
     alloc: Global,
     rows: &Flat,
 ) -> Result<Vec<(K, Option<C>)>, AllocError>
@@ -162,11 +166,11 @@ pub(crate) fn print_all(alloc: Global, rows: &Flat) -> Result<CellChanges, Alloc
     ensures { IfOk result (λ cells. PrintsAll cells rows.now.maps) }
 {
     let head = rows.head();
-    let objects = print_left::<ObjNo, ObjectCells, ObjRow>(alloc, rows)?;
-    let props = print_left::<PropId, PropCells, PropRow>(alloc, rows)?;
-    let slots = print_left::<(ObjNo, PropId), SlotCells, SlotRow>(alloc, rows)?;
-    let verbs = print_left::<(ObjNo, VerbId), VerbCells, VerbRow>(alloc, rows)?;
-    let petitions = print_left::<PetitionId, PetitionCells, PetitionRow>(alloc, rows)?;
+    let objects = print_all_of::<ObjNo, ObjectCells, ObjRow>(alloc, rows)?;
+    let props = print_all_of::<PropId, PropCells, PropRow>(alloc, rows)?;
+    let slots = print_all_of::<(ObjNo, PropId), SlotCells, SlotRow>(alloc, rows)?;
+    let verbs = print_all_of::<(ObjNo, VerbId), VerbCells, VerbRow>(alloc, rows)?;
+    let petitions = print_all_of::<PetitionId, PetitionCells, PetitionRow>(alloc, rows)?;
     Ok(CellChanges {
         head,
         next_petition: Some(head.next_petition),
@@ -185,15 +189,15 @@ pub(crate) fn print_all(alloc: Global, rows: &Flat) -> Result<CellChanges, Alloc
     })
 }
 
-/// The number of the next petition, if it isn't the last one that was written.
+/// The number of the next petition, if the changes have another one than the rows; None if it stays.
 fn new_number(last: u32, next: u32) -> Option<u32>
     ensures { result ≡ new_number (Some last) next }
 {
     if last == next { None } else { Some(next) }
 }
 
-/// The cells of the changes of these rows. The number of the next petition isn't among them while it stays. The only error is out of
-/// memory.
+/// The cells of the changes of these rows, in each table. The number of the next petition is among them only if it changes. The only
+/// error is out of memory.
 pub(crate) fn print_changes(
     alloc: Global,
     rows: &Flat,

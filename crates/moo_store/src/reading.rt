@@ -21,13 +21,21 @@ use moo_tables::{CellLists, Version, are_listed, read_tables, version_of};
 use sqlite::{Alter, Connection, Error, ErrorCode};
 use std::alloc::Global;
 
-/// The rows that the cells of the tables show.
+/// The rows that the cells of the tables show, if they are those of a world. `Damaged`, `NewerVersion` and `OutOfMemory` as of
+/// `read_cells`; `Store` with `DatabaseCorrupt` if the rows of a table aren't in the order of their keys, as only a failing disk gives
+/// them.
 fn rows_of(alloc: Global, lists: CellLists) -> Result<Flat, StoreFault>
+    // The tables show the rows that are read.
     ensures rows { IfOk result (λ rows. ShowsRows (tables_of lists) rows.maps) }
+    // They are those of a world.
     ensures good { IfOk result (λ rows. IsGood rows.maps) }
+    // The number of the last batch is that of a cell, and so is below 2^63.
     ensures limit { IfOk result (λ rows. rows.maps.head.seq < 2 ^ 63) }
+    // Good rows that the tables show are the ones that are read.
     ensures one { (m : Maps) → ShowsRows (tables_of lists) m → IsGood m → IfOk result (λ rows. rows.maps ≡ m) }
+    // A damage is told only if it is met; any other fault over listed rows is out of memory.
     ensures fault { IfErr result (λ fault. SaysOr (AreListed lists → fault ≡ StoreFault.OutOfMemory) (tables_of lists) fault) }
+    // A fault never says that the tables aren't ours.
     ensures own { IfErr result (λ fault. fault ≢ not_ours) }
 {
     if !are_listed(&lists) {
@@ -41,10 +49,14 @@ fn rows_of(alloc: Global, lists: CellLists) -> Result<Flat, StoreFault>
     }
 }
 
-/// What is told if the store fails over tables of ours: `NotADatabase` is kept for tables that aren't.
+/// The fault that is told if the store fails over tables of ours. `NotADatabase` is kept for tables that aren't ours, and becomes
+/// `DatabaseCorrupt`.
 pub(crate) fn failure_of(error: Error) -> StoreFault
+    // It is a fault of the store.
     ensures store { (told : _) × (result ≡ StoreFault.Store told) }
+    // It doesn't say that the tables aren't ours.
     ensures own { result ≢ not_ours }
+    // Any other error is told as it is.
     ensures same { error ≢ Error.SqliteFailure ErrorCode.NotADatabase → result ≡ StoreFault.Store error }
 {
     match error {
@@ -55,26 +67,34 @@ pub(crate) fn failure_of(error: Error) -> StoreFault
     }
 }
 
-/// The cells of our tables, which are of this version.
+/// Reads the cells of our tables, which are of this version. Nothing is written. The only fault is Store.
 #[tactic(auto, using(moo_tables::proofs::ListedLemmas::lists_are, crate::proofs::Causes::rows_rise, crate::proofs::Causes::readings))]
 pub(crate) fn read_lists<S: Alter>(
     alloc: Global,
     conn: &mut Connection<S>,
     version: Version,
 ) -> Result<CellLists, StoreFault>
+    // The connection is in no transaction, and in none after the call.
     requires outside { (state S.Store conn.old).in_transaction ≡ false }
     ensures outside { (state S.Store conn.new).in_transaction ≡ false }
+    // If it succeeds, nothing changed.
     ensures read { OnOk result (ReadsTables (schema_of version) (state S.Store conn.old) (state S.Store conn.new)) }
+    // The lists are the rows of the tables.
     ensures listed { HasCleanDisk (state S.Store conn.new) →
         IfOk result (λ lists. (tables : Tables) → tables.version ≡ version → Rests (state S.Store conn.old) tables →
         tables_of lists ≡ tables) }
+    // In each list the keys are whole numbers, and each is above the one before.
     ensures rise { HasCleanDisk (state S.Store conn.new) →
         IfOk result (λ lists. (tables : Tables) → tables.version ≡ version → Rests (state S.Store conn.old) tables →
         AreListed lists) }
+    // If it fails, nothing changed, or the transaction was rolled back.
     ensures failed { OnErr result (FailsToRead (schema_of version) (state S.Store conn.old) (state S.Store conn.new)) }
+    // It fails only if a query of the tables stops.
     ensures cause { HasCleanDisk (state S.Store conn.new) → HasTables (schema_of version) (state S.Store conn.old) →
         IfErr result (StopsBy (StopsQuery (state S.Store conn.old) (state S.Store conn.new))) }
+    // A fault is one of the store.
     ensures fault { IfErr result (λ fault. (error : _) × (fault ≡ StoreFault.Store error)) }
+    // A fault never says that the tables aren't ours.
     ensures own { IfErr result (λ fault. fault ≢ not_ours) }
 {
     match read_tables(alloc, conn, version) {
@@ -83,15 +103,20 @@ pub(crate) fn read_lists<S: Alter>(
     }
 }
 
-/// The version of the tables of a connection; a fault if they aren't ours, or if memory runs out.
+/// The version of the tables of a connection. Store with `NotADatabase` if they aren't ours; `OutOfMemory`. Nothing is read but the list
+/// of tables.
 pub(crate) fn test_tables<S: Alter>(
     alloc: Global,
     conn: &Connection<S>,
 ) -> Result<Version, StoreFault>
+    // The database has just the tables of the version.
     ensures ours { IfOk result (λ version. HasTables (schema_of version) (state S.Store conn.now)) }
+    // A fault is one of the store or of memory.
     ensures fault { IfErr result IsOfStore }
+    // Over tables of ours the only fault is that memory ran out.
     ensures own { IfErr result (λ fault. (version : Version) → HasTables (schema_of version) (state S.Store conn.now) →
         fault ≡ StoreFault.OutOfMemory) }
+    // Outside a transaction an open connection shows what is committed.
     ensures settled { IsTrue (state S.Store conn.now).is_open → (state S.Store conn.now).in_transaction ≡ false →
         (state S.Store conn.now).now ≡ (state S.Store conn.now).committed }
 {
@@ -103,10 +128,14 @@ pub(crate) fn test_tables<S: Alter>(
     }
 }
 
-/// Tests that the tables are ours, and of the present version; a fault if they aren't, or if memory runs out.
+/// Tests that the tables are ours, and of the present version ('current' in a contract). Store with `NotADatabase` if they aren't;
+/// `OutOfMemory`.
 pub(crate) fn test_current<S: Alter>(alloc: Global, conn: &Connection<S>) -> Result<(), StoreFault>
+    // The database has just the tables of the present version.
     ensures ours { OnOk result (HasTables present_schema (state S.Store conn.now)) }
+    // A fault is one of the store or of memory.
     ensures fault { IfErr result IsOfStore }
+    // Over tables of ours the only faults are that memory ran out, or that they are of an earlier version.
     ensures own { IfErr result (λ fault. (tables : Tables) → Rests (state S.Store conn.now) tables →
         (fault ≡ StoreFault.OutOfMemory) ⊎ ((¬ IsCurrent tables) × (fault ≡ not_ours))) }
 {
@@ -117,15 +146,18 @@ pub(crate) fn test_current<S: Alter>(alloc: Global, conn: &Connection<S>) -> Res
     }
 }
 
-/// The rows that the tables show, which are of this version. All are read at once, and so what is wrong with them can be told.
+/// Reads the rows that the tables of this version show, all tables at once, so that it can tell what is wrong with them. The faults are
+/// those of `rows_of` and `read_lists`.
 #[tactic(auto, using(crate::proofs::Causes::readings))]
 fn read_whole<S: Alter>(
     alloc: Global,
     conn: &mut Connection<S>,
     version: Version,
 ) -> Result<Flat, StoreFault>
+    // The connection is in no transaction, and in none after the call.
     requires outside { (state S.Store conn.old).in_transaction ≡ false }
     ensures outside { (state S.Store conn.new).in_transaction ≡ false }
+    // The rows are good and those that the tables show. A fault tells of a damage only if it is met. Nothing is written.
     ensures reads { ReadsRowsAs version (state S.Store conn.old) (state S.Store conn.new) result }
 {
     let lists = match read_lists(alloc, conn, version) {
@@ -138,15 +170,18 @@ fn read_whole<S: Alter>(
     }
 }
 
-/// The same, one table after another. Only if they show no world, or if memory ran out, all are read again at once.
+/// Reads the rows that the tables of this version show, one table after another. Only if they show no world, or if memory ran out, all
+/// are read again at once. The faults are those of `read_whole`.
 #[tactic(auto, using(crate::proofs::Causes::readings))]
 fn read_each<S: Alter>(
     alloc: Global,
     conn: &mut Connection<S>,
     version: Version,
 ) -> Result<Flat, StoreFault>
+    // The connection is in no transaction, and in none after the call.
     requires outside { (state S.Store conn.old).in_transaction ≡ false }
     ensures outside { (state S.Store conn.new).in_transaction ≡ false }
+    // The rows are good and those that the tables show. A fault tells of a damage only if it is met. Nothing is written.
     ensures reads { ReadsRowsAs version (state S.Store conn.old) (state S.Store conn.new) result }
 {
     match read_in_turn(alloc, conn, version) {
@@ -159,15 +194,19 @@ fn read_each<S: Alter>(
     }
 }
 
-/// The version of the tables of a connection, and the rows that they show. Nothing is written.
+/// Reads the version of the tables of a connection, and the rows that they show. Nothing is written. The faults are those of `adopt`.
 #[tactic(auto, using(crate::proofs::Moments::version_is))]
 pub(crate) fn read_rows<S: Alter>(
     alloc: Global,
     conn: &mut Connection<S>,
 ) -> Result<(Version, Flat), StoreFault>
+    // The connection is in no transaction, and in none after the call.
     requires outside { (state S.Store conn.old).in_transaction ≡ false }
     ensures outside { (state S.Store conn.new).in_transaction ≡ false }
+    // Outside a transaction an open connection shows what is committed.
     ensures settled { IsTrue (state S.Store conn.old).is_open → (state S.Store conn.old).now ≡ (state S.Store conn.old).committed }
+    // The tables are of the version, and the rows are good and those that they show. A fault tells of a damage only if it is met. Nothing
+    // is written.
     ensures reads { ReadsRows S.Store conn.old conn.new result }
 {
     let version = match test_tables(alloc, conn) {

@@ -9,7 +9,7 @@ ghost use Rattle.moo_store.specs.Rehearsed.{IsRehearsedAt, RehearsesAt};
 
 use crate::answering::{Answering, answer_until};
 use crate::course::Course;
-use crate::judged::reply_or_changes;
+use crate::judging::reply_or_changes;
 use crate::world::World;
 use moo_batch::Witness;
 use moo_memory::{Changes, Flat, apply_changes};
@@ -51,9 +51,11 @@ impl Rehearsal {
     ghost use Rattle.moo_store.specs.Place.{Place};
     ghost use Rattle.moo_store.specs.Rehearsed.{IsRehearsedAt, RehearsesAt};
 
-    /// Takes the rows out of a World, which has failed then. Nothing is asked of its store.
+    /// Takes the rows out of a World, which has failed from then on. Nothing is asked of its store.
     fn of<S: Alter + Drop>(world: &mut World<S>) -> Rehearsal
+        // The rehearsal has the World's rows, and has failed if the World had.
         ensures rows { (result.rows ≡ world.old.rows) × (result.failed ≡ world.old.failed) }
+        // The World has failed, and its connection is as it was.
         ensures still { (world.new.connection ≡ world.old.connection) × (world.new.failed ≡ true) }
     {
         let failed = world.failed;
@@ -65,11 +67,15 @@ impl Rehearsal {
         }
     }
 
-    /// Makes the changes of an accepted batch in the rows.
+    /// Makes the changes of an accepted batch in the rows, and gives the answer to it. If memory runs out, the rehearsal has failed.
     fn accept(&mut self, answers: Answers, changes: Changes) -> Answer
+        // It hasn't failed.
         requires works { self.old.failed ≡ false }
+        // The changes lead to rows of a world.
         requires changes { (next : Maps) × AreChanges self.old.rows.maps next changes × IsGood next }
+        // The batch is accepted, with its number and its answers.
         ensures answer { result ≡ Answer.Replied (Reply.Accepted changes.head.seq answers) }
+        // The rows have the changes, unless memory ran out meanwhile.
         ensures rows { (next : Maps) → AreChanges self.old.rows.maps next changes → self.new.failed ≡ false →
             self.new.rows.maps ≡ next }
     {
@@ -80,8 +86,9 @@ impl Rehearsal {
         Answer::Replied(Reply::Accepted { seq, answers })
     }
 
-    /// Answers a batch as if it was run.
+    /// Answers a batch as if it was run: its reply, or `closed` if the rehearsal has failed.
     fn rehearse<N: Witness>(&mut self, batch: &Batch, witness: &mut N) -> Answer
+        // The answer is one that running the batch here may give, and leads to the same place.
         ensures { (from : Place) → IsRehearsedAt self.old from → (to : Place) × IsRehearsedAt self.new to
             × RehearsesAt from batch.now result to }
     {
@@ -108,9 +115,9 @@ impl Answering for Rehearsal {
     }
 }
 
-/// Answers each batch of a text as running it would, each judged on what the batches before it would have left, and commits nothing. If it
-/// is to stop, it ends after the first answer that isn't `accepted`. What is written before the next batch is read, and the faults, are
-/// those of `apply_until`.
+/// Answers each batch of a text as running it would, each judged on what the batches before it would have left, and commits nothing. If
+/// it is to stop, it ends after the first answer that isn't `accepted`. Each answer is written before the next batch is read. The faults
+/// are those of `apply_until`.
 ///
 /// The World has failed then: its rows were used up. What is in its store is as it was.
 pub fn rehearse_text<R: Read + Drop, W: Write, S: Alter + Drop, N: Notes + Witness>(

@@ -35,12 +35,15 @@ impl<S: Alter + Drop> World<S> {
         // turn too, without a reply.
         ensures moves { MovesBy S.Store self.old self.new
             (λ from to. RunsEach from batches.now (added replies.old.items replies.new.items) result to) }
+        // The replies that were there stay.
         ensures stood { take (length replies.old.items) replies.new.items ≡ replies.old.items }
-        // batches of which none is acknowledged change nothing, unless the store fails
+        // Batches of which none is acknowledged change nothing, unless the store fails.
         ensures still { acknowledged batches.now (added replies.old.items replies.new.items) ≡ [] →
             MatchStore result (self.new ≡ self.old) ⊤ }
+        // A fault is that there was no room for the replies, and none was added; or one of a run of a batch.
         ensures fault { IfErr result (λ fault. ((fault ≡ StoreFault.OutOfMemory) × (replies.new.items ≡ replies.old.items))
             ⊎ FailsRun S.Store self.old self.new fault) }
+        // No failure of the disk is forgotten.
         ensures kept { KeepsFaults (store_of S.Store self.old) (store_of S.Store self.new) }
     {
         if self.failed {
@@ -62,8 +65,10 @@ impl<S: Alter + Drop> World<S> {
     ///
     /// OutOfMemory if memory runs out. Closed if the World had failed.
     pub fn object(&self, x: ObjNo) -> Result<Option<Look>, StoreFault>
+        // While the World works, it is what the object shows, or memory ran out.
         ensures look { self.now.failed ≡ false → MatchResult result
             (λ look. look ≡ look_of (state_of_world self.now).world x) (λ fault. fault ≡ StoreFault.OutOfMemory) }
+        // If the World had failed, the fault is Closed.
         ensures closed { IsTrue self.now.failed → IsErrOf result StoreFault.Closed }
     {
         if self.failed {
@@ -76,7 +81,8 @@ impl<S: Alter + Drop> World<S> {
     }
 }
 
-/// Runs the batches of a text as `apply_until` does if it isn't to stop.
+/// Runs the batches of a text to its end, as `apply_until` does if it isn't to stop, and answers how many batches the text had and how
+/// many met a fault. The faults are those of `apply_until`.
 pub fn apply_text<R: Read + Drop, W: Write, S: Alter + Drop, N: Notes + Witness>(
     reader: R,
     writer: &mut W,

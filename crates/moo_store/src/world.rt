@@ -2,7 +2,7 @@
 
 use crate::committing::commit_cells;
 use crate::fault::StoreFault;
-use crate::judged::reply_or_changes;
+use crate::judging::reply_or_changes;
 use crate::printing::print_changes;
 use moo_batch::Witness;
 use moo_memory::{Changes, Flat, apply_changes};
@@ -65,9 +65,12 @@ impl<S: Alter + Drop> World<S> {
     /// The World of good rows, over a connection in no transaction. It works at a moment of these rows that the connection has at rest.
     /// `check` tests that: nothing is read or written here. `create_in`, `load_in` and `adopt` make Worlds whose tables do.
     pub fn over(alloc: Global, connection: Connection<S>, rows: Flat) -> World<S>
+        // The connection is in no transaction.
         requires outside { connection.in_transaction ≡ false }
+        // The rows are those of a world.
         requires good { IsGood rows.maps }
         ensures is { result ≡ record { connection = connection; rows = rows; failed = false } }
+        // It works at any moment of these rows, if the connection has that at rest.
         ensures stands { (m : Moment) → m.rows ≡ rows.maps →
             (HasCleanDisk (state S.Store connection) → HasAtRest (state S.Store connection) m) → Stands S.Store result (place.Works m) }
     {
@@ -79,24 +82,32 @@ impl<S: Alter + Drop> World<S> {
         }
     }
 
-    /// Commits the changes of an accepted batch, and then changes the rows.
+    /// Commits the changes of an accepted batch, and then changes the rows. Answers `accepted` with the number and the answers. Store:
+    /// the store failed, and the World with it. If memory runs out after the commit, the World has failed, and the batch is accepted.
     fn commit(
         &mut self,
         answers: Answers,
         changes: Changes,
         cells: &CellChanges,
     ) -> Result<Reply, StoreFault>
+        // The World works.
         requires works { self.old.failed ≡ false }
+        // The cells are those of the changes.
         requires printed { Prints (Some self.old.rows.maps.head.next_petition) self.old.rows.maps cells.now changes }
+        // A cell holds the number of the last batch as a signed number of 64 bits.
         requires limit { cells.now.head.seq < 2 ^ 63 }
+        // The changes lead to rows of a world.
         requires changes { (next : Maps) × AreChanges self.old.rows.maps next changes × IsGood next }
         // The World goes on to the next moment, of these rows; or its store failed between the two.
         ensures moves { (rows : Maps) → AreChanges self.old.rows.maps rows changes → IsGood rows →
             MovesBy S.Store self.old self.new (λ from to. CommitsTo answers changes rows from result to) }
         // Of the store: these cells are committed if there is a reply.
         ensures commits { CommitsInto cells.now (store_of S.Store self.old) (store_of S.Store self.new) result }
+        // A fault has a cause in the store.
         ensures fault { IfErr result (FailsRun S.Store self.old self.new) }
+        // No failure of the disk is forgotten.
         ensures kept { KeepsFaults (store_of S.Store self.old) (store_of S.Store self.new) }
+        // A reply says that the batch is accepted.
         ensures accepted { IfOk result (λ reply. reply ≡ Reply.Accepted changes.head.seq answers) }
     {
         if let Err(error) = commit_cells(&mut self.connection, cells) {
@@ -121,11 +132,16 @@ impl<S: Alter + Drop> World<S> {
         // A reply is that of the moment where the World was, and only an accepted batch leads on from it. If the store failed, the World is
         // between two moments.
         ensures moves { MovesBy S.Store self.old self.new (λ from to. RunsAt from batch.now (answer_to result) to) }
+        // A reply that isn't `accepted` leaves the World as it was.
         ensures still { IfOk result (λ reply. says_accepted (answer.Replied reply) ≡ false → self.new ≡ self.old) }
+        // A fault is that the World had failed, or has a cause in the store.
         ensures fault { IfErr result (FailsRun S.Store self.old self.new) }
+        // No failure of the disk is forgotten.
         ensures kept { KeepsFaults (store_of S.Store self.old) (store_of S.Store self.new) }
+        // Of a refused batch the witness has seen the refusal, and of any other nothing.
         ensures seen { IfOk result (λ reply.
             HasSeenReply N.sees self.old.rows.maps batch.now reply (N.kept witness.old) (N.kept witness.new)) }
+        // At a fault it has seen nothing.
         ensures unseen { IfErr result (λ _. N.kept witness.new ≡ N.kept witness.old) }
     {
         if self.failed {
@@ -140,13 +156,17 @@ impl<S: Alter + Drop> World<S> {
         }
     }
 
-    /// What a batch would come to at present, with the present number. Nothing changes. If it would be refused, the witness sees why, once.
-    /// The only fault is Closed.
+    /// What a batch would be answered at present, with the present number. Nothing changes. If it would be refused, the witness sees why,
+    /// once. The only fault is Closed.
     #[tactic(auto, using(moo_batch::proofs::Ticking::as_before))]
     pub fn ask<N: Witness>(&self, batch: &Batch, witness: &mut N) -> Result<Reply, StoreFault>
+        // While the World works, the reply is that to the verdict on the batch, with the present number; or memory ran out in its calls.
         ensures asks { self.now.failed ≡ false → IsOkAnd result (MayReplyAsked (state_of_world self.now) batch.now) }
+        // The witness has no more ticks left than before.
         ensures ticks { NoneComeBack (N.left witness.old) (N.left witness.new) }
+        // If the World had failed, the fault is Closed.
         ensures closed { IsTrue self.now.failed → IsErrOf result StoreFault.Closed }
+        // Of a refused batch the witness has seen the refusal, and of any other nothing.
         ensures seen { IfOk result (λ reply.
             HasSeenReply N.sees self.now.rows.maps batch.now reply (N.kept witness.old) (N.kept witness.new)) }
     {
@@ -162,7 +182,7 @@ impl<S: Alter + Drop> World<S> {
         }
     }
 
-    /// The rows, unless the World has failed.
+    /// The rows; None if the World has failed.
     pub fn good_rows(&self) -> Option<&Flat>
         ensures rows { IfSome result (λ rows. (rows.now ≡ self.now.rows) × IsGood rows.now.maps × (self.now.failed ≡ false)) }
         ensures failed { IfNone result (IsTrue self.now.failed) }

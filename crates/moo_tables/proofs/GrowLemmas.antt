@@ -1,5 +1,5 @@
 -- What the statements do that make the tables of the present version of those of an earlier one.
-use Rattle.moo_tables.{proofs.Words.{◌≡◌, ℕ, List, [], ◌∷◌, ◌++◌, map, false, Table, lacks_sequence, IsMaking, Ok, Err, Result, OnOk, refl, sym, ap, subst, ◌∙◌, Schema, Database, Error, State, HasCleanDisk, First, Tables, schema_of, first_schema, slot2_schema, petition_schema, second_schema, slot2_table, petition_table, petition_head_table, numbered_in, paired_in, head_places, object_places, prop_places, slot_places, verb_places, petition_places, petition_head_places, with_counter, AreKeyed, HasNoSlot, Holds, Sees, StaysInside, Changes, RanStatement, IsGrown, GrowsTables, grown, no_tables, KeepsUnread, create_text, IsEarlier, IsUnderWay, no_rows, present_schema, create_petition_head_is, of_version, clean_before, only_first, same_tables}, proofs.CreateLemmas.{emptied, runs_making}}
+use Rattle.moo_tables.{proofs.Words.{◌≡◌, ℕ, List, [], ◌∷◌, ◌++◌, map, false, Table, lacks_sequence, IsMaking, Ok, Err, Result, OnOk, refl, sym, ap, subst, ◌∙◌, Schema, Database, Error, State, HasCleanDisk, First, Tables, schema_of, first_schema, slot2_schema, petition_schema, second_schema, slot2_table, petition_table, petition_head_table, numbered_in, paired_in, head_table, object_table, prop_table, verb_table, with_counter, AreKeyed, HasNoSlot, Holds, Sees, StaysInside, Changes, RanStatement, IsGrown, GrowsTables, grown, no_tables, KeepsUnread, create_text, IsEarlier, IsUnderWay, no_rows, present_schema, create_petition_head_is, of_version, clean_before, only_first, same_tables}, proofs.CreateLemmas.{emptied, runs_making}}
 use Rattle.sqlite_catalog.specs.Change.{KeepsRows}
 use Rattle.sqlite.specs.Change.{next_tree}
 
@@ -41,8 +41,8 @@ sees_grown base new tables is way holds first =
         holds = record {
           sound = way.sound;
           schema = is.schema_is;
-          rows = same_tables refl (ap (numbered_in head_places) head ∙ ap (λ (t : Tables). t.head) held.rows) (ap (numbered_in object_places) object ∙ ap (λ (t : Tables). t.object) held.rows) (ap (numbered_in prop_places) prop ∙ ap (λ (t : Tables). t.prop) held.rows)
-              (ap (paired_in slot_places) slot) (ap (paired_in verb_places) verb ∙ ap (λ (t : Tables). t.verb) held.rows) (ap (numbered_in petition_places) petition) (ap (numbered_in petition_head_places) counter);
+          rows = same_tables refl (ap (numbered_in head_table) head ∙ ap (λ (t : Tables). t.head) held.rows) (ap (numbered_in object_table) object ∙ ap (λ (t : Tables). t.object) held.rows) (ap (numbered_in prop_table) prop ∙ ap (λ (t : Tables). t.prop) held.rows)
+              (ap (paired_in slot2_table) slot) (ap (paired_in verb_table) verb ∙ ap (λ (t : Tables). t.verb) held.rows) (ap (numbered_in petition_table) petition) (ap (numbered_in petition_head_table) counter);
           heads = subst AreKeyed (sym head) held.heads;
           objects = subst AreKeyed (sym object) held.objects;
           props = subst AreKeyed (sym prop) held.props;

@@ -1,5 +1,5 @@
 -- What the queries of the tables answer.
-use Rattle.moo_tables.{proofs.Words.{inl, ArePairs, slot_pairs, verb_pairs, ◌≡◌, ℕ, ℤ, List, [], ◌∷◌, map, drop, option_map, true, false, Result, Ok, Err, OnOk, IsTrue, refl, sym, ap, subst, ◌∙◌, is_eq, ordering_then, IsPermutation, Contains-permutation, IsPermutation-sym, Null, Error, Row, column, value_cmp, col, eval_all, Query, Output, output, output_cmp, overlay, Schema, Table, Database, understood, State, HasCleanDisk, Shown, Survives, CommitsShowing, IsUnchanged, IsPlain, reads_as, never_commits, survives_weaker, survives_then, IsAscending, is_int, then-Equal, output_cmp_total, IsSound, Has, all_from, has_contained, contains_had, ascending-map, ascending_from_map, ascending_weaker, all_map, Version, First, Second, Tables, schema_of, first_schema, second_schema, slot_tree, head_table, object_table, prop_table, slot_table, slot2_table, petition_table, petition_head_table, verb_table, has_pair, cells_at, names, number_places, pair_places, found_in, numbered_in, paired_in, slot_places, verb_places, petition_places, petition_head_places, select_text, AreKeyed, Holds, Rests, HasTables, ReadsTables, FailsToRead, ListsNumbers, ListsPairs, IsRowBelow, has_key_pair, has_petitions, petition_rows, if◌then◌else◌, find-map, find_alike, plain_query, in_order, number_order, pair_order, clean_before, chosen, Selects, selects, shows_in_order, shown_rows}, proofs.SelectLemmas.{IsSelect, AsksFor, asks_for, number_columns, pair_columns}, proofs.QueryCauseLemmas.{list_stops}, proofs.ReadCauseLemmas.{stops_after}, proofs.StreamLemmas.{unchanged_then, failed_then}, proofs.SortLemmas.{rises-sort_by}, proofs.ListingLemmas.{lists_numbers, no_ties}, specs.Listing.{HasTable, ListsTable, table_in}, specs.ReadCause.{StopsQuery, HasCauseIfNotShown}, specs.Reading.{OnlyReads, KeepsIfNotShown}, specs.declared.cell_table.CellTable.{CellTable}, specs.declared.cell_table.CellTable.TheVariants.{Head, Object, Prop, Slot, Verb, Petition, PetitionHead}}
+use Rattle.moo_tables.{proofs.Words.{inl, ArePairs, slot_pairs, verb_pairs, ◌≡◌, ℕ, ℤ, List, [], ◌∷◌, map, drop, option_map, true, false, Result, Ok, Err, OnOk, IsTrue, refl, sym, ap, subst, ◌∙◌, is_eq, ordering_then, IsPermutation, Contains-permutation, IsPermutation-sym, Null, Error, Row, column, value_cmp, col, eval_all, Query, Output, output, output_cmp, overlay, Schema, Table, Database, understood, State, HasCleanDisk, Shown, Survives, CommitsShowing, IsUnchanged, IsPlain, reads_as, never_commits, survives_weaker, survives_then, IsAscending, is_int, then-Equal, output_cmp_total, IsSound, Has, all_from, has_contained, contains_had, ascending-map, ascending_from_map, ascending_weaker, all_map, Version, First, Second, Tables, schema_of, first_schema, second_schema, slot_tree, head_table, object_table, prop_table, slot_table, slot2_table, petition_table, petition_head_table, verb_table, has_pair, cells_at, names, number_places, pair_places, found_in, numbered_in, paired_in, select_text, AreKeyed, Holds, Rests, HasTables, ReadsTables, FailsToRead, ListsNumbers, ListsPairs, IsRowBelow, has_key_pair, has_petitions, petition_rows, if◌then◌else◌, find-map, find_alike, plain_query, in_order, number_order, pair_order, clean_before, chosen, Selects, selects, shows_in_order, shown_rows}, proofs.SelectLemmas.{IsSelect, AsksFor, asks_for, number_columns, pair_columns}, proofs.QueryCauseLemmas.{list_stops}, proofs.ReadCauseLemmas.{stops_after}, proofs.StreamLemmas.{unchanged_then, failed_then}, proofs.SortLemmas.{rises-sort_by}, proofs.ListingLemmas.{lists_numbers, no_ties}, specs.Listing.{HasTable, ListsTable, table_in}, specs.ReadCause.{StopsQuery, HasCauseIfNotShown}, specs.Reading.{OnlyReads, KeepsIfNotShown}, specs.declared.cell_table.CellTable.{CellTable}, specs.declared.cell_table.CellTable.TheVariants.{Head, Object, Prop, Slot, Verb, Petition, PetitionHead}}
 use Rattle.std.specs.Result.{IsErrAnd}
 use Rattle.sqlite.specs.State.{store_error}
 use Rattle.sqlite_trees.specs.declared.error.StoreError.TheVariants.{OutOfMemory}
@@ -132,15 +132,15 @@ module _ (schema : Schema) (t : Table) (old new : State) (rows : List Row) (has 
   abbrev the_rows : List Row
   the_rows = old.now.trees t.tree
 
-  numbers_listed : IsSelect schema (select_text t) (in_order t.tree (number_columns t) number_order) (names t) → ListsNumbers rows (numbered_in (number_places t) the_rows)
+  numbers_listed : IsSelect schema (select_text t) (in_order t.tree (number_columns t) number_order) (names t) → ListsNumbers rows (numbered_in t the_rows)
   numbers_listed known =
       let q = plain_query t.tree [] (number_columns t) number_order in
       let read = reads_as (select_text t) [] old new schema has _ known.command known.plain known.unlisted rows h in
       let it = subst (λ found. Selects q [] found rows) (ap (chosen [] []) stored ∙ all_chosen [] the_rows) (selects t.tree [] (number_columns t) number_order (overlay old.now.trees []) [] rows (read.answer Null)) in
       let shown = shows_in_order q [] _ (λ a b below. ap (λ o. ordering_then o Equal) below) the_rows rows keyed.0 it ∙ each_shown (number_places t) the_rows in
-      subst (λ cells. ListsNumbers cells (numbered_in (number_places t) the_rows)) (sym shown) (lists_numbers (drop 1 (number_places t)) the_rows keyed)
+      subst (λ cells. ListsNumbers cells (numbered_in t the_rows)) (sym shown) (lists_numbers (drop 1 (number_places t)) the_rows keyed)
 
-  pairs_listed : IsSelect schema (select_text t) (in_order t.tree (pair_columns t) pair_order) (names t) → (places : List ℕ) → pair_places t ≡ 1 ∷ 2 ∷ places → ArePairs the_rows → ListsPairs rows (paired_in (1 ∷ 2 ∷ places) the_rows)
+  pairs_listed : IsSelect schema (select_text t) (in_order t.tree (pair_columns t) pair_order) (names t) → (places : List ℕ) → pair_places t ≡ 1 ∷ 2 ∷ places → ArePairs the_rows → ListsPairs rows (found_in has_pair (cells_at (1 ∷ 2 ∷ places)) the_rows)
   pairs_listed known places are pairs =
       let read = reads_as (select_text t) [] old new schema has _ known.command known.plain known.unlisted rows h in
       let it = subst (λ found. Selects (plain_query t.tree [] (pair_columns t) pair_order) [] found rows) (ap (chosen [] []) stored ∙ all_chosen [] the_rows) (selects t.tree [] (pair_columns t) pair_order (overlay old.now.trees []) [] rows (read.answer Null)) in
@@ -148,9 +148,9 @@ module _ (schema : Schema) (t : Table) (old new : State) (rows : List Row) (has 
 
 module _ (old new : State) (rows : List Row) where
   slots_listed : (version : Version) → HasTables (schema_of version) old → AreKeyed (old.now.trees (slot_tree version)) → IsSound (schema_of version) old.now.trees → Shown (select_text (table_in version Slot)) [] old new rows
-      → ListsPairs rows (paired_in slot_places (old.now.trees (slot_tree version)))
-  slots_listed First has keyed sound h = pairs_listed first_schema slot_table old new rows has keyed refl h (asks_for First Slot tt) (drop 2 slot_places) refl (slot_pairs First old.now.trees sound keyed)
-  slots_listed Second has keyed sound h = pairs_listed second_schema slot2_table old new rows has keyed refl h (asks_for Second Slot tt) (drop 2 slot_places) refl (slot_pairs Second old.now.trees sound keyed)
+      → ListsPairs rows (paired_in slot2_table (old.now.trees (slot_tree version)))
+  slots_listed First has keyed sound h = pairs_listed first_schema slot_table old new rows has keyed refl h (asks_for First Slot tt) (drop 2 (pair_places slot2_table)) refl (slot_pairs First old.now.trees sound keyed)
+  slots_listed Second has keyed sound h = pairs_listed second_schema slot2_table old new rows has keyed refl h (asks_for Second Slot tt) (drop 2 (pair_places slot2_table)) refl (slot_pairs Second old.now.trees sound keyed)
 
   -- what each query lists
   module _ (tables : Tables) (holds : Holds old.now tables) where
@@ -162,7 +162,7 @@ module _ (old new : State) (rows : List Row) where
     whole has stored = ap (λ b. if b then stored else []) has
 
     numbers : (t : Table) → AreKeyed (old.now.trees t.tree) → overlay old.now.trees [] t.tree ≡ old.now.trees t.tree → Shown (select_text t) [] old new rows
-        → IsSelect (schema_of tables.version) (select_text t) (in_order t.tree (number_columns t) number_order) (names t) → ListsNumbers rows (numbered_in (number_places t) (old.now.trees t.tree))
+        → IsSelect (schema_of tables.version) (select_text t) (in_order t.tree (number_columns t) number_order) (names t) → ListsNumbers rows (numbered_in t (old.now.trees t.tree))
     numbers t = numbers_listed (schema_of tables.version) t old new rows holds.schema
 
     table_listed : (which : CellTable) → HasTable tables.version which → Shown (select_text (table_in tables.version which)) [] old new rows → ListsTable which rows tables
@@ -172,20 +172,20 @@ module _ (old new : State) (rows : List Row) where
     table_listed Slot has h = subst (ListsPairs rows) (ap (λ (t : Tables). t.slot) holds.rows) (slots_listed tables.version holds.schema holds.slots sound h)
     table_listed Verb has h =
         subst (ListsPairs rows) (ap (λ (t : Tables). t.verb) holds.rows)
-        (pairs_listed (schema_of tables.version) verb_table old new rows holds.schema holds.verbs refl h (asks_for tables.version Verb tt) (drop 2 verb_places) refl (verb_pairs tables.version old.now.trees sound holds.verbs))
+        (pairs_listed (schema_of tables.version) verb_table old new rows holds.schema holds.verbs refl h (asks_for tables.version Verb tt) (drop 2 (pair_places verb_table)) refl (verb_pairs tables.version old.now.trees sound holds.verbs))
     table_listed Petition has h =
         let all = whole has (old.now.trees 9) in
-        subst (ListsNumbers rows) (ap (numbered_in petition_places) (sym all) ∙ ap (λ (t : Tables). t.petition) holds.rows) (numbers petition_table (subst AreKeyed all holds.petitions) refl h (asks_for tables.version Petition has))
+        subst (ListsNumbers rows) (ap (numbered_in petition_table) (sym all) ∙ ap (λ (t : Tables). t.petition) holds.rows) (numbers petition_table (subst AreKeyed all holds.petitions) refl h (asks_for tables.version Petition has))
     table_listed PetitionHead has h =
         let all = whole has (old.now.trees 10) in
-        subst (ListsNumbers rows) (ap (numbered_in petition_head_places) (sym all) ∙ ap (λ (t : Tables). t.petition_head) holds.rows) (numbers petition_head_table (subst AreKeyed all holds.petition_heads) refl h (asks_for tables.version PetitionHead has))
+        subst (ListsNumbers rows) (ap (numbered_in petition_head_table) (sym all) ∙ ap (λ (t : Tables). t.petition_head) holds.rows) (numbers petition_head_table (subst AreKeyed all holds.petition_heads) refl h (asks_for tables.version PetitionHead has))
 
 -- a version without petitions has no number for the next either
 pub none_listed : (db : Database) (tables : Tables) → Holds db tables → has_petitions tables.version ≡ false → ListsNumbers [] tables.petition × ListsNumbers [] tables.petition_head
 none_listed db tables holds without =
     let none = λ (rows : List Row). ap (λ b. if b then rows else []) without in (
-      record { keyed = (tt, tt); found = λ n i. (ap (numbered_in petition_places) (sym (none (db.trees 9))) ∙ ap (λ (t : Tables). t.petition) holds.rows) i n },
-      record { keyed = (tt, tt); found = λ n i. (ap (numbered_in petition_head_places) (sym (none (db.trees 10))) ∙ ap (λ (t : Tables). t.petition_head) holds.rows) i n },
+      record { keyed = (tt, tt); found = λ n i. (ap (numbered_in petition_table) (sym (none (db.trees 9))) ∙ ap (λ (t : Tables). t.petition) holds.rows) i n },
+      record { keyed = (tt, tt); found = λ n i. (ap (numbered_in petition_head_table) (sym (none (db.trees 10))) ∙ ap (λ (t : Tables). t.petition_head) holds.rows) i n },
     )
 
 -- ---- a query whose text asks for a table of this version

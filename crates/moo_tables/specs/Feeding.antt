@@ -2,10 +2,10 @@
 use Rattle.std.specs.Prelude.{◌≡◌, List, ◌++◌}
 use Rattle.sqlite.specs.Order.{Row}
 
--- some rows were taken, and these are what P says
+-- from the first state of a taker to the last some rows were taken, and this is true of them
 abbrev pub AreTaken : {T : Type 0} → (T → List Row → T → Type 0) → T → T → (List Row → Type 0) → Type 0
 AreTaken took old new P = (rows : List Row) × took old rows new × P rows
 
--- rows were read: the first of them were taken, and these are left to be handed on
+-- Rows were read: the first of them were taken, and the others are left to be handed on.
 abbrev pub AreFed : {T : Type 0} → (T → List Row → T → Type 0) → T → T → (left read : List Row) → Type 0
 AreFed took old new left read = AreTaken took old new (λ rows. rows ++ left ≡ read)

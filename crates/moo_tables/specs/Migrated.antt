@@ -17,7 +17,7 @@ use Rattle.moo_tables_rows.specs.Tables.{Tables, Holds, KeepsUnread, numbered_wi
 use Rattle.moo_tables_rows.specs.Inside.{Sees}
 use Rattle.moo_tables_rows.specs.Cells.{head_cells, petition_head_cells, slots_with}
 
--- On the way to the present version: the trees of the tables of the base are those that it had, and these have been made since, empty.
+-- On the way to the present version: the tables of the base have the rows that they had, and these trees have been made since, empty.
 pub record IsGrown (base : Database) (schema : Schema) (made : List ℕ) (db : Database) : Type 0 where
   pub schema_is : db.schema ≡ schema
   pub same : AllByRecursion (λ tree. db.trees tree ≡ base.trees tree) (0 ∷ 1 ∷ 2 ∷ 3 ∷ 5 ∷ [])
@@ -29,7 +29,7 @@ pub record IsUnderWay (s : State) : Type 0 where
   pub inside : IsTrue s.in_transaction
   pub sound : IsDatabase s.now
 
--- the same tables in the present version, in which there is no slot yet, no petition and no number for the next
+-- the tables of the first version on the way to the present one: there is no slot yet, no petition and no number for the next
 abbrev pub grown : Tables → Tables
 grown tables = record tables { version = present; slot = λ _. None; petition = λ _. None; petition_head = λ _. None }
 

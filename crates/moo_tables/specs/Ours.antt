@@ -5,7 +5,7 @@ use Rattle.sqlite_value.specs.Keys.{plain}
 use Rattle.moo_tables_rows.specs.declared.our_table.OurTable.{OurTable}
 use Rattle.moo_tables_rows.specs.Columns.{numbered, paired, required}
 
--- no constraint but the key, and no column that is computed
+-- a table has no constraint but its key, and no column that is computed
 pub record HasNoRules (t : Table) : Type 0 where
   pub checks : t.checks ≡ []
   pub references : t.references ≡ []
@@ -15,7 +15,7 @@ pub record HasNoRules (t : Table) : Type 0 where
   pub formats : t.stamps.formats ≡ []
   pub uncounted : t.is_counted ≡ false
 
--- the first column is the row's number
+-- the table has this name and tree, and its first column is the row's number and the key
 pub record IsNumbered (name : List ℕ) (tree : ℕ) (t : Table) : Type 0 where
   pub name_is : t.name ≡ name
   pub tree_is : t.tree ≡ tree
@@ -24,7 +24,7 @@ pub record IsNumbered (name : List ℕ) (tree : ℕ) (t : Table) : Type 0 where
   pub uniques : t.uniques ≡ []
   pub orders : t.orders ≡ []
 
--- the first two columns are the key
+-- the table has this name and tree, and its first two columns are the key
 pub record IsPaired (name : List ℕ) (tree : ℕ) (t : Table) : Type 0 where
   pub name_is : t.name ≡ name
   pub tree_is : t.tree ≡ tree
@@ -33,7 +33,7 @@ pub record IsPaired (name : List ℕ) (tree : ℕ) (t : Table) : Type 0 where
   pub uniques : t.uniques ≡ (1 ∷ 2 ∷ []) ∷ []
   pub orders : t.orders ≡ plain ∷ []
 
--- the table as the schema has it
+-- a table of ours, as the schema of a database has it
 abbrev pub our_table : OurTable → Table
 our_table t =
     let columns = map (λ c. required c.1 c.0.now) t.columns.now in

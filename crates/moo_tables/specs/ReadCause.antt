@@ -27,7 +27,7 @@ HasCauseOfReading schema old new r = HasCleanDisk new → HasTables schema old �
 abbrev pub FailsToList : List ℕ → State → State → Error → Type 0
 FailsToList sql old new e = FailsToQuery sql [] old new e ⊎ (e ≡ SqliteFailure code.OutOfMemory)
 
--- if its rows aren't listed, that is why
+-- a query whose rows aren't listed failed by itself, or no memory was left for the rows
 abbrev pub HasCauseIfNotShown : {A : Type 0} → List ℕ → State → State → Result A Error → Type 0
 HasCauseIfNotShown sql old new r =
     HasCleanDisk new → IsPlain (understood old.now.schema sql) → IfErr r (FailsToList sql old new)

@@ -9,12 +9,12 @@ use Rattle.moo_tables_rows.specs.Inside.{Rests, ReadsTables, FailsToRead}
 use Rattle.moo_tables_rows.specs.Tables.{Tables, schema_of}
 use Rattle.moo_tables.specs.ReadCause.{HasCauseOfReading}
 
--- if it fails nothing changed, or the transaction was rolled back
+-- a query that fails changed nothing, or the transaction was rolled back
 abbrev pub KeepsIfNotShown : {A : Type 0} → List ℕ → State → State → Result A Error → Type 0
 KeepsIfNotShown sql old new r =
     HasCleanDisk new → IsPlain (understood old.now.schema sql) → OnErr r (IsUnchanged old new ⊎ IsRolledBack old new)
 
--- what was read lists the tables of this version so
+-- what a call read lists the tables of this version in this way
 abbrev pub Lists : {A : Type 0} → Version → State → State → Result A Error → (A → Tables → Type 0) → Type 0
 Lists version old new r Listed =
     HasCleanDisk new → IfOk r (λ rows. (tables : Tables) → Rests old tables → tables.version ≡ version → Listed rows tables)

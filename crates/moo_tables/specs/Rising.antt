@@ -7,9 +7,11 @@ use Rattle.sqlite.specs.declared.types.Value.TheVariants.{Int}
 use Rattle.sqlite.specs.Order.{Row, column, value_cmp}
 use Rattle.sqlite_trees.specs.View.{is_int}
 
+-- a key of two numbers, as the cells of a row have it
 abbrev pub pair_of_ints : ℤ × ℤ → Value × Value
 pair_of_ints key = (Int key.0, Int key.1)
 
+-- the order of pairs of cells: by the first, and by the second if the first are the same
 abbrev pub pair_cmp : Value × Value → Value × Value → Ordering
 pair_cmp a b = ordering_then (value_cmp a.0 b.0) (value_cmp a.1 b.1)
 
@@ -18,5 +20,6 @@ abbrev pub is_above : {K : Type 0} → (K → K → Ordering) → Option K → K
 is_above cmp None key = true
 is_above cmp (Some last) key = is_lt (cmp last key)
 
+-- the first two columns of a row are whole numbers
 abbrev pub has_two_numbers : Row → Bool
 has_two_numbers row = is_int (column row 0) && is_int (column row 1)

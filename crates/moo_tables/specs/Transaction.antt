@@ -62,8 +62,8 @@ pub record HasMade (changes : CellChanges) (old new : State) : Type 0 where
 abbrev pub HasCauseOfMaking : {A : Type 0} → State → State → Result A Error → Type 0
 HasCauseOfMaking old new r = HasCleanDisk new → IsTrue old.in_transaction → HasNoTables old.now → IfErr r (StopsChange old new)
 
--- They weren't, for this error: what stops the making is what stops any change. The database is as it was, unless the connection is shut. A
--- crash leaves the same as if they had been made.
+-- The tables weren't made, for this error: what stops the making is what stops any change. The database is as it was, unless the
+-- connection is shut. A crash leaves what it could leave before, or the tables with the rows of these changes.
 pub record HasNotMade (changes : CellChanges) (error : Error) (old new : State) : Type 0 where
   pub outside : new.in_transaction ≡ false
   pub cause : HasCleanDisk new → HasNoTables old.now → StopsChange old new error

@@ -7,7 +7,7 @@ use sqlite_schema::schema::{Column, Kind};
 use sqlite_value::keys::Collation;
 use sqlite_value::value::Value;
 
-/// Whether it is a column of a STRICT table with this name and type that is never empty, and has no default.
+/// Whether a column is one of a STRICT table, has this name and type, is never empty, and has no default.
 fn is_required(column: &Column, name: &[u8], kind: Kind) -> bool
     ensures { IsTrue result ↔ column.now ≡ required kind name.now }
 {
@@ -19,7 +19,7 @@ fn is_required(column: &Column, name: &[u8], kind: Kind) -> bool
         && column.collation == Collation::Binary
 }
 
-/// Whether they are these columns, in this order: each a name and a type.
+/// Whether the columns of a table are the listed ones, in their order: each a name and a type, never empty, and without a default.
 pub(crate) fn are_required(columns: &[Column], listed: &[(&str, Kind)]) -> bool
     ensures { IsTrue result ↔ columns.now ≡ map (λ c. required c.1 c.0.now) listed.now }
 {

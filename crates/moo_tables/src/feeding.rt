@@ -19,27 +19,29 @@ use sqlite::{Alter, Connection, Error, Row};
 use std::alloc::{AllocError, Global};
 use std::mem;
 
-/// At most so many rows are held before they are handed on.
+/// How many rows are held at most before they are handed on.
 pub const BLOCK: usize = 1024;
 
 /// What takes the rows of a table, a block after another.
 pub trait TakeRows {
-    /// Its state after it took these rows, from its state before.
+    /// From its first state to the last it took these rows, in this order.
     ghost took: { Self → List Cells → Self → Type 0 };
 
-    /// Takes the rows that come next, at most `BLOCK`. False if it can't: then no more are handed to it.
+    /// Takes the rows that come next, at most `BLOCK`. False if it can't, as if memory ran out: then no more are handed to it.
     fn take(&mut self, block: Vec<Row>) -> bool
+        // If it had taken some rows before, it has taken these after them.
         ensures { (first : Self) (rows : List Cells) → took first rows self.old → result ≡ true →
             took first (rows ++ block.items) self.new };
 }
 
-/// Adds a row to the block, and hands the block on if it is full. False if it can't be taken.
+/// Adds a row to the block, and hands the block on if it is full. Answers false if the taker can't take the block.
 fn add_row<T: TakeRows>(
     alloc: Global,
     taker: &mut T,
     block: &mut Vec<Row>,
     row: Row,
 ) -> Result<bool, AllocError>
+    // Of the rows that were read so far, this one included, the first were taken, and the others are in the block.
     ensures { (first : T) (read : List Cells) → AreFed T.took first taker.old block.old.items read →
         IfOk result (λ taken. taken ≡ true → AreFed T.took first taker.new block.new.items (read ++ row ∷ [])) }
 {
@@ -51,7 +53,8 @@ fn add_row<T: TakeRows>(
     Ok(taker.take(full))
 }
 
-/// Hands on all rows that a query without parameters answers, in its order. False if they can't be taken.
+/// Hands all rows that a query without parameters answers on to a taker, in their order, a block after another. Answers false if the
+/// taker can't take them.
 ///
 /// The store hands them out some at a time. `query_all` of a connection would hold all values at once, and keep the room for them.
 fn feed_rows<S: Alter, T: TakeRows>(
@@ -60,14 +63,21 @@ fn feed_rows<S: Alter, T: TakeRows>(
     sql: &str,
     taker: &mut T,
 ) -> Result<bool, Error>
+    // A connection in no transaction is in none after it.
     ensures outside { (state S.Store conn.old).in_transaction ≡ false → (state S.Store conn.new).in_transaction ≡ false }
+    // The taker counts from here: as it is, it has taken no rows. If the answer is true, it has then taken just the rows that the query
+    // answers.
     ensures taken { T.took taker.old [] taker.old → IfOk result (λ whole. whole ≡ true → AreTaken T.took taker.old taker.new (λ rows.
         HasCleanDisk (state S.Store conn.new) → IsPlain (understood (state S.Store conn.old).now.schema sql.now) →
         Shown sql.now [] (state S.Store conn.old) (state S.Store conn.new) rows)) }
+    // A query that succeeds changes nothing.
     ensures same { HasCleanDisk (state S.Store conn.new) → IsPlain (understood (state S.Store conn.old).now.schema sql.now) →
         OnOk result (IsUnchanged (state S.Store conn.old) (state S.Store conn.new)) }
+    // One that fails changes nothing either, or the transaction was rolled back.
     ensures kept { KeepsIfNotShown sql.now (state S.Store conn.old) (state S.Store conn.new) result }
+    // It fails only if the query does, or if no memory is left for its rows.
     ensures cause { HasCauseIfNotShown sql.now (state S.Store conn.old) (state S.Store conn.new) result }
+    // A crash leaves what it could leave before, or what a query that is its own transaction commits.
     ensures survives { Survives (state S.Store conn.old) (state S.Store conn.new) (CommitsShowing sql.now [] (state S.Store conn.old)) }
 {
     let mut block = Vec::new(alloc);
@@ -85,7 +95,8 @@ fn feed_rows<S: Alter, T: TakeRows>(
     Ok(false)
 }
 
-/// Hands on the rows of a table, in the order of their keys. False if they can't be taken.
+/// Reads a table, and hands its rows on to a taker, in the order of their keys, a block after another. Answers false if the taker can't
+/// take them.
 ///
 /// Nothing is written, and after a fault the tables are as they were, unless the fault shut the connection. If the tables are of the
 /// version, it fails only if the store does, or if it takes more steps than the connection allows.
@@ -96,8 +107,12 @@ pub fn feed_table<S: Alter, T: TakeRows>(
     table: CellTable,
     taker: &mut T,
 ) -> Result<bool, Error>
+    // The version has this table: one without petitions has no table of them.
     requires { HasTable version table }
+    // Nothing is written, and it fails only if the store does, or at the limit on steps.
     ensures reads { OnlyReads version (state S.Store conn.old) (state S.Store conn.new) result }
+    // The taker counts from here: as it is, it has taken no rows. If the answer is true, it has then taken just the rows of the table, in
+    // the order of their keys.
     ensures taken { T.took taker.old [] taker.old → IfOk result (λ whole. whole ≡ true → AreTaken T.took taker.old taker.new (λ rows.
         HasCleanDisk (state S.Store conn.new) → (tables : Tables) → Rests (state S.Store conn.old) tables →
         tables.version ≡ version → ListsTable table rows tables)) }

@@ -14,11 +14,16 @@ use moo_tables_rows::{
 use moo_value::ObjNo;
 use sqlite::{Alter, Connection, Error};
 
-/// Makes the tables that the first version lacks, empty, and leaves the others as they are.
+/// Makes the tables that the second version added to the first, `slot2`, `petition` and `petition_head`, empty. The other tables stay as
+/// they are.
 pub(crate) fn create_added_tables<T: Run>(tx: &mut T) -> Result<usize, Error>
+    // The transaction is on the connection that it was on.
     ensures same_reference { T.lender tx.new ≡ T.lender tx.old }
+    // Nothing is committed: a crash leaves what it could leave before.
     ensures inside { StaysInside (T.state tx.old) (T.state tx.new) }
+    // Tables of the first version become those of the present one, without slots and petitions.
     ensures made { OnOk result (GrowsTables (T.state tx.old) (T.state tx.new)) }
+    // If the tables are of an earlier version, it fails only by what stops any change.
     ensures cause { HasCauseOfMigrating (T.state tx.old) (T.state tx.new) result }
 {
     tx.run(SLOT2.create, &[])?;
@@ -34,11 +39,17 @@ fn write_migrated<T: Run>(
     head: &Head,
     slots: &[((ObjNo, PropId), Option<SlotCells>)],
 ) -> Result<usize, Error>
+    // A cell holds the number of the last batch as a signed number of 64 bits.
     requires { head.now.seq < 2 ^ 63 }
+    // The transaction is on the connection that it was on.
     ensures same_reference { T.lender tx.new ≡ T.lender tx.old }
+    // Nothing is committed: a crash leaves what it could leave before.
     ensures inside { StaysInside (T.state tx.old) (T.state tx.new) }
+    // If it succeeds, the transaction is open still.
     ensures goes_on { HasCleanDisk (T.state tx.new) → OnOk result (IsTrue (T.state tx.new).in_transaction) }
+    // Tables of an earlier version become those of the present one, with this head and these slots, and `slot` is empty.
     ensures migrated { OnOk result (MigratesInside head.now slots.now (T.state tx.old) (T.state tx.new)) }
+    // If the tables are of an earlier version, it fails only by what stops any change.
     ensures cause { HasCauseOfMigrating (T.state tx.old) (T.state tx.new) result }
 {
     create_added_tables(tx)?;
@@ -61,9 +72,13 @@ pub fn migrate<S: Alter>(
     head: &Head,
     slots: &[((ObjNo, PropId), Option<SlotCells>)],
 ) -> Result<(), Error>
+    // A cell holds the number of the last batch as a signed number of 64 bits.
     requires limit { head.now.seq < 2 ^ 63 }
+    // The connection is in no transaction, and in none after the call.
     requires outside { (state S.Store conn.old).in_transaction ≡ false }
     ensures outside { (state S.Store conn.new).in_transaction ≡ false }
+    // Tables of an earlier version became those of the present one, committed; or nothing changed, and there is a cause. So it is after a
+    // crash.
     ensures migrates { MigratesTables head.now slots.now (state S.Store conn.old) (state S.Store conn.new) result }
 {
     let mut tx = conn.transaction();

@@ -19,7 +19,7 @@ use std::alloc::{AllocError, Global};
 /// The tables of the first version, in the order in which they are made.
 const FIRST: &[OurTable] = &[HEAD, OBJECT, PROP, SLOT, VERB];
 
-/// Those of the second.
+/// The tables of the second version, in the order in which they are made.
 const SECOND: &[OurTable] = &[
     HEAD,
     OBJECT,
@@ -31,19 +31,20 @@ const SECOND: &[OurTable] = &[
     PETITION_HEAD,
 ];
 
-fn are_none(alloc: Global, terms: &Terms) -> Result<bool, AllocError>
+/// Whether a list of terms is empty, as that of the checks of a table. An `Err` means that memory ran out.
+fn has_no_terms(alloc: Global, terms: &Terms) -> Result<bool, AllocError>
     ensures { IfOk result (λ none. IsTrue none ↔ terms.now ≡ []) }
 {
     let lent = terms.lend(alloc)?;
     Ok(lent.roots.is_empty())
 }
 
-/// Whether it has no constraint but its key, and computes no column.
+/// Whether a table has no constraint but its key, and computes no column. An `Err` means that memory ran out.
 fn has_no_rules(alloc: Global, table: &Table) -> Result<bool, AllocError>
     ensures { IfOk result (λ none. IsTrue none ↔ HasNoRules table.now) }
 {
-    let unchecked = are_none(alloc, &table.checks)?;
-    let unstamped = are_none(alloc, &table.stamps.terms)?;
+    let unchecked = has_no_terms(alloc, &table.checks)?;
+    let unstamped = has_no_terms(alloc, &table.stamps.terms)?;
     Ok(
         unchecked
             && unstamped
@@ -55,6 +56,7 @@ fn has_no_rules(alloc: Global, table: &Table) -> Result<bool, AllocError>
     )
 }
 
+/// Whether none of these tables has a constraint but its key, or computes a column. An `Err` means that memory ran out.
 fn have_no_rules(alloc: Global, tables: &[Table]) -> Result<bool, AllocError>
     ensures { IfOk result (λ none. IsTrue none ↔ AllByRecursion HasNoRules tables.now) }
 {
@@ -67,6 +69,7 @@ fn have_no_rules(alloc: Global, tables: &[Table]) -> Result<bool, AllocError>
     Ok(true)
 }
 
+/// Whether a table has this name and tree, and its first column is the row's number and the whole key.
 fn is_numbered(table: &Table, name: &[u8], tree: u32) -> bool
     ensures { IsTrue result ↔ IsNumbered name.now tree table.now }
 {
@@ -78,12 +81,14 @@ fn is_numbered(table: &Table, name: &[u8], tree: u32) -> bool
         && table.orders.is_empty()
 }
 
+/// Whether a key is the first two columns: in a row of the tree they come after the row's number.
 fn is_pair(places: &[usize]) -> bool
     ensures { IsTrue result ↔ places.now ≡ 1 ∷ 2 ∷ [] }
 {
     matches!(places, [1, 2])
 }
 
+/// Whether a table has one unique key, and that is its first two columns.
 fn is_one_pair(keys: &[Items<usize>]) -> bool
     ensures { IsTrue result ↔ keys.now ≡ (1 ∷ 2 ∷ []) ∷ [] }
 {
@@ -93,6 +98,7 @@ fn is_one_pair(keys: &[Items<usize>]) -> bool
     }
 }
 
+/// Whether a table has one index, and each of its columns is in plain order.
 fn is_one_plain(orders: &[Order]) -> bool
     ensures { IsTrue result ↔ orders.now ≡ plain ∷ [] }
 {
@@ -102,6 +108,7 @@ fn is_one_plain(orders: &[Order]) -> bool
     }
 }
 
+/// Whether a table has this name and tree, and its first two columns are the whole key.
 fn is_paired(table: &Table, name: &[u8], tree: u32) -> bool
     ensures { IsTrue result ↔ IsPaired name.now tree table.now }
 {
@@ -113,7 +120,9 @@ fn is_paired(table: &Table, name: &[u8], tree: u32) -> bool
         && is_one_plain(table.orders.as_slice())
 }
 
+/// Whether a table without other rules is this one of ours, with its name, its tree, its key and its columns.
 fn is_table(table: &Table, ours: &OurTable) -> bool
+    // The table has no rule but its key.
     requires { HasNoRules table.now }
     ensures { IsTrue result ↔ table.now ≡ our_table ours.now }
 {
@@ -126,7 +135,9 @@ fn is_table(table: &Table, ours: &OurTable) -> bool
     is_keyed && are_required(table.columns.as_slice(), ours.columns)
 }
 
+/// Whether tables without other rules are these of ours, in this order.
 fn are_tables(tables: &[Table], ours: &[OurTable]) -> bool
+    // No table has a rule but its key.
     requires { AllByRecursion HasNoRules tables.now }
     ensures { IsTrue result ↔ tables.now ≡ map our_table ours.now }
 {
@@ -139,6 +150,7 @@ fn are_tables(tables: &[Table], ours: &[OurTable]) -> bool
     }
 }
 
+/// Whether an index is that of the key of a table whose key is its first two columns: with this name and tree, on this table.
 fn is_key(index: &Index, name: &[u8], tree: u32, table: u32) -> bool
     ensures { IsTrue result ↔ index.now ≡ key_index name.now tree table }
 {
@@ -150,20 +162,25 @@ fn is_key(index: &Index, name: &[u8], tree: u32, table: u32) -> bool
         && index.is_unique
 }
 
+/// Whether tables without other rules are those of the first version, in their order.
 fn are_first_tables(tables: &[Table]) -> bool
+    // No table has a rule but its key.
     requires { AllByRecursion HasNoRules tables.now }
     ensures { IsTrue result ↔ tables.now ≡ first_schema.tables }
 {
     are_tables(tables, FIRST)
 }
 
+/// Whether tables without other rules are those of the second version, in their order.
 fn are_second_tables(tables: &[Table]) -> bool
+    // No table has a rule but its key.
     requires { AllByRecursion HasNoRules tables.now }
     ensures { IsTrue result ↔ tables.now ≡ second_schema.tables }
 {
     are_tables(tables, SECOND)
 }
 
+/// Whether the indexes of a database are those of the first version: of the keys of `slot` and `verb`.
 fn are_first_keys(indexes: &[Index]) -> bool
     ensures { IsTrue result ↔ indexes.now ≡ first_schema.indexes }
 {
@@ -176,6 +193,7 @@ fn are_first_keys(indexes: &[Index]) -> bool
     }
 }
 
+/// Whether the indexes of a database are those of the second version: of the keys of `slot`, `verb` and `slot2`.
 fn are_second_keys(indexes: &[Index]) -> bool
     ensures { IsTrue result ↔ indexes.now ≡ second_schema.indexes }
 {
@@ -189,7 +207,9 @@ fn are_second_keys(indexes: &[Index]) -> bool
     }
 }
 
+/// Whether a database whose tables have no other rules has the tables and indexes of the first version, and no view.
 fn is_first(schema: &Schema) -> bool
+    // No table has a rule but its key.
     requires { AllByRecursion HasNoRules schema.now.tables }
     ensures { IsTrue result ↔ schema.now ≡ first_schema }
 {
@@ -198,7 +218,9 @@ fn is_first(schema: &Schema) -> bool
         && schema.views.is_empty()
 }
 
+/// Whether a database whose tables have no other rules has the tables and indexes of the second version, and no view.
 fn is_second(schema: &Schema) -> bool
+    // No table has a rule but its key.
     requires { AllByRecursion HasNoRules schema.now.tables }
     ensures { IsTrue result ↔ schema.now ≡ second_schema }
 {
@@ -209,8 +231,8 @@ fn is_second(schema: &Schema) -> bool
 
 /// Which version of the tables a database has.
 ///
-/// It has a version if it has exactly its tables, made in their order, the indexes of their keys, no other index and
-/// no view. Answers none of any other database and of no other, and `AllocError` if memory is refused.
+/// It has a version if it has exactly its tables, made in their order, the indexes of their keys, no other index and no view. Answers
+/// None for any other database. `AllocError`: memory ran out.
 pub fn version_of(alloc: Global, schema: &Schema) -> Result<Option<Version>, AllocError>
     ensures ours { IfOk result (λ found. IfSome found (λ version. schema.now ≡ schema_of version)) }
     ensures none { IfOk result (λ found. IfNone found ((version : Version) → schema.now ≢ schema_of version)) }

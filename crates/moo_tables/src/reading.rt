@@ -14,20 +14,20 @@ use std::alloc::Global;
 /// The rows of each table, each key once, in the order of the keys.
 #[derive(Drop)]
 pub struct CellLists {
-    /// Which tables these are the rows of.
+    /// The version of the tables that have these rows.
     pub version: Version,
     pub head: Vec<Row>,
     pub object: Vec<Row>,
     pub prop: Vec<Row>,
     pub slot: Vec<Row>,
     pub verb: Vec<Row>,
-    /// None if the version has no petitions.
+    /// No row if the version has no petitions.
     pub petition: Vec<Row>,
-    /// The row with the number of the next petition, none if the version has no petitions.
+    /// The row with the number of the next petition; no row if the version has no petitions.
     pub petition_head: Vec<Row>,
 }
 
-/// Rows that are handed on, in one list.
+/// A taker that keeps all rows that are handed on to it, in one list.
 #[derive(Drop)]
 struct Listed {
     rows: Vec<Row>,
@@ -41,18 +41,21 @@ impl TakeRows for Listed {
     }
 }
 
-/// The rows of a table, in the order of their keys.
+/// Reads a table: its rows, in the order of their keys.
 ///
-/// As of all that reads tables, nothing is written, and after a fault the tables are as they were, unless the fault shut the connection.
-/// If the tables are of the version, it fails only if the store does, or if it takes more steps than the connection allows.
+/// Nothing is written. After a fault of the store the tables are as they were, unless the fault shut the connection. If the tables are of
+/// the version, it fails only if the store does, if memory runs out, or if it takes more steps than the connection allows.
 pub fn cells_of<S: Alter>(
     alloc: Global,
     conn: &mut Connection<S>,
     version: Version,
     table: CellTable,
 ) -> Result<Vec<Row>, Error>
+    // The version has this table: one without petitions has no table of them.
     requires { HasTable version table }
+    // Nothing is written, and it fails only if the store does, or at the limit on steps.
     ensures reads { OnlyReads version (state S.Store conn.old) (state S.Store conn.new) result }
+    // The rows are those of the table, in the order of their keys.
     ensures listed { Lists version (state S.Store conn.old) (state S.Store conn.new) result
         (λ rows tables. ListsTable table rows.items tables) }
 {
@@ -66,13 +69,16 @@ pub fn cells_of<S: Alter>(
     Ok(listed.rows)
 }
 
-/// The rows of `head`, of `petition` and of `petition_head`. If the version has no petitions the last two have none, and aren't asked for.
+/// Reads the three small tables: the rows of `head`, of `petition` and of `petition_head`. If the version has no petitions, the last two
+/// lists are empty, and the store isn't asked for them. It fails as `cells_of` does.
 pub fn small_cells_of<S: Alter>(
     alloc: Global,
     conn: &mut Connection<S>,
     version: Version,
 ) -> Result<(Vec<Row>, Vec<Row>, Vec<Row>), Error>
+    // Nothing is written, and it fails only if the store does, or at the limit on steps.
     ensures reads { OnlyReads version (state S.Store conn.old) (state S.Store conn.new) result }
+    // The three lists are the rows of the three tables, in the order of their keys.
     ensures listed { Lists version (state S.Store conn.old) (state S.Store conn.new) result
         (λ lists tables. ListsNumbers lists.0.items tables.head × ListsNumbers lists.1.items tables.petition
         × ListsNumbers lists.2.items tables.petition_head) }
@@ -96,8 +102,11 @@ pub fn read_tables<S: Alter>(
     conn: &mut Connection<S>,
     version: Version,
 ) -> Result<CellLists, Error>
+    // Nothing is written, and it fails only if the store does, or at the limit on steps.
     ensures reads { OnlyReads version (state S.Store conn.old) (state S.Store conn.new) result }
+    // The lists are those of the version.
     ensures version { IfOk result (λ lists. lists.version ≡ version) }
+    // Each list is the rows of its table, in the order of the keys.
     ensures listed { Lists version (state S.Store conn.old) (state S.Store conn.new) result ListsTables }
 {
     let (head, petition, petition_head) = small_cells_of(alloc, conn, version)?;

@@ -9,13 +9,13 @@ use sqlite::{Alter, Connection};
 use sqlite_trees::store::{Reopen, Store};
 use std::alloc::Global;
 
-/// Takes the store from the connection, crashes it and opens it again: on what the crash left.
-///
-/// Answers none if the store fails at that.
+/// Takes the store from the connection, crashes it, and opens a connection on what the crash left. None if the store can't be opened
+/// again.
 pub fn crash_and_open<S: Alter + Reopen + Drop>(
     alloc: Global,
     conn: Connection<S>,
 ) -> Option<Connection<S>>
+    // The new connection has one of the contents that a crash of the old one may leave.
     ensures opened { IfSome result (λ again. HasCleanDisk (state S.Store again) → MayOpenAs (state S.Store conn) (state S.Store again)) }
     ensures outside { IfSome result (λ again. (state S.Store again).in_transaction ≡ false) }
 {

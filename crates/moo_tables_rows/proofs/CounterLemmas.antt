@@ -1,5 +1,5 @@
 -- What the statement on petition_head does.
-use Rattle.moo_tables_rows.{proofs.Words.{take, Some, ◌≡◌, ℕ, ℤ, pos, [], ◌∷◌, ◌++◌, codes, Option, Bool, true, false, ◌&&◌, Result, OnOk, IsTrue, refl, ap, ◌∙◌, list_all, and_parts, Int, Error, Row, column, Trees, rowid, has_rowid, holds, shown, IsSound, has_computed, differ, Datatype, NotNull, Has, all_has, is_int, State, petition_head_cells, with_counter, Tables, present_schema, petition_head_table, cells_at, petition_head_places, numbered_with, put_counter_text, Sees, Changes, RanStatement, HasCauseIn}, proofs.TextLemmas.{put_counter, counter_filter}, proofs.RefusalLemmas.{each}, proofs.StoppedLemmas.{Ran}, proofs.KindLemmas.{stored}, proofs.NumberLemmas.{number_kind}, proofs.WrittenLemmas.{HasRows, IsSeen}, proofs.StopLemmas.{PassesRows}, proofs.RowLemmas.{picks_given}, proofs.FindLemmas.{int_in, not_apart, exactly}, proofs.SeenLemmas.{sound_seen, counter_seen, rows_seen, sees_counter}}
+use Rattle.moo_tables_rows.{proofs.Words.{take, Some, ◌≡◌, ℕ, ℤ, pos, [], ◌∷◌, ◌++◌, codes, Option, Bool, true, false, ◌&&◌, Result, OnOk, IsTrue, refl, ap, ◌∙◌, list_all, and_parts, Int, Error, Row, column, Trees, rowid, has_rowid, holds, shown, IsSound, has_computed, differ, Datatype, NotNull, Has, all_has, is_int, State, petition_head_cells, with_counter, Tables, present_schema, petition_head_table, cells_at, number_places, numbered_with, put_counter_text, Sees, Changes, RanStatement, HasCauseIn}, proofs.TextLemmas.{put_counter, counter_filter}, proofs.RefusalLemmas.{each}, proofs.StoppedLemmas.{Ran}, proofs.KindLemmas.{stored}, proofs.NumberLemmas.{number_kind}, proofs.WrittenLemmas.{HasRows, IsSeen}, proofs.StopLemmas.{PassesRows}, proofs.RowLemmas.{picks_given}, proofs.FindLemmas.{int_in, not_apart, exactly}, proofs.SeenLemmas.{sound_seen, counter_seen, rows_seen, sees_counter}}
 use Rattle.moo_tables_rows.proofs.WrittenLemmas as written
 use Rattle.moo_tables_rows.proofs.StopLemmas as stop
 
@@ -44,7 +44,7 @@ has_number db sound r in_it =
     (all_has _ (db 10) r (sound.obeys.rules NotNull).1.1.1.1.1.1.1.0 in_it)
 
 -- else it has this number already
-already : (next : ℕ) (s : State) (tables : Tables) → Sees s tables → (r : Row) → Has (s.now.trees 10) r → has_rowid (pos 1) r ≡ true → differs next r ≡ false → cells_at petition_head_places r ≡ petition_head_cells next
+already : (next : ℕ) (s : State) (tables : Tables) → Sees s tables → (r : Row) → Has (s.now.trees 10) r → has_rowid (pos 1) r ≡ true → differs next r ≡ false → cells_at (number_places petition_head_table) r ≡ petition_head_cells next
 already next s tables seen r in_it here left =
     ap (λ v. v ∷ column r 2 ∷ []) (exactly (rowid r) (pos 1) (all_has (λ r. IsTrue (is_int (rowid r))) (s.now.trees 10) r (counter_seen seen).1 in_it) here)
     ∙ ap (λ v. Int (pos 1) ∷ v ∷ []) (not_apart (column r 2) (pos next) (has_number s.now.trees (sound_seen seen) r in_it) left)

@@ -1,5 +1,5 @@
 -- What a transaction sees of the tables once one of them was written.
-use Rattle.moo_tables_rows.proofs.Words.{◌≡◌, ◌≢◌, ◌==◌, ℕ, ℤ, List, Option, Bool, true, false, true≢false, IsTrue, refl, sym, ap, subst, ◌∙◌, Row, IsDatabase, State, IsSound, IsNoIndex, Version, present, Tables, tables_in, schema_of, slot_tree, present_schema, head_places, object_places, prop_places, slot_places, verb_places, petition_places, petition_head_places, petition_rows, numbered_in, paired_in, numbered_with, paired_with, AreKeyed, IsCurrent, Sees, KeepsUnread}
+use Rattle.moo_tables_rows.proofs.Words.{◌≡◌, ◌≢◌, ◌==◌, ℕ, ℤ, List, Option, Bool, true, false, true≢false, IsTrue, refl, sym, ap, subst, ◌∙◌, Row, IsDatabase, State, IsSound, IsNoIndex, Version, present, Tables, tables_in, schema_of, slot_tree, present_schema, head_table, object_table, prop_table, slot2_table, verb_table, petition_table, petition_head_table, petition_rows, numbered_in, paired_in, numbered_with, paired_with, AreKeyed, IsCurrent, Sees, KeepsUnread}
 use Rattle.std.proofs.lemmas.Bool.Decides.{Decides-eqb}
 
 -- one tree has these rows, and the trees of the other tables are as they were
@@ -52,34 +52,34 @@ module _ {old new : State} {tree : ℕ} {rows : List Row} (it : SetsTree old new
   unwritten shown table t apart no_index was keyed = let same = it.others t apart no_index in record { cells = ap shown same ∙ was; keyed = subst AreKeyed (sym same) keyed }
 
   module _ (tables : Tables) (seen : Sees old tables) where
-    pub kept_head : 0 ≢ tree → ShowsTable new 0 (numbered_in head_places) tables.head
-    kept_head apart = unwritten (numbered_in head_places) tables.head 0 apart ((λ e. cc), ((λ e. cc), ((λ e. cc), tt))) (ap (λ (t : Tables). t.head) (rows_seen seen)) seen.holds.heads
+    pub kept_head : 0 ≢ tree → ShowsTable new 0 (numbered_in head_table) tables.head
+    kept_head apart = unwritten (numbered_in head_table) tables.head 0 apart ((λ e. cc), ((λ e. cc), ((λ e. cc), tt))) (ap (λ (t : Tables). t.head) (rows_seen seen)) seen.holds.heads
 
-    pub kept_object : 1 ≢ tree → ShowsTable new 1 (numbered_in object_places) tables.object
-    kept_object apart = unwritten (numbered_in object_places) tables.object 1 apart ((λ e. cc), ((λ e. cc), ((λ e. cc), tt))) (ap (λ (t : Tables). t.object) (rows_seen seen)) seen.holds.objects
+    pub kept_object : 1 ≢ tree → ShowsTable new 1 (numbered_in object_table) tables.object
+    kept_object apart = unwritten (numbered_in object_table) tables.object 1 apart ((λ e. cc), ((λ e. cc), ((λ e. cc), tt))) (ap (λ (t : Tables). t.object) (rows_seen seen)) seen.holds.objects
 
-    pub kept_prop : 2 ≢ tree → ShowsTable new 2 (numbered_in prop_places) tables.prop
-    kept_prop apart = unwritten (numbered_in prop_places) tables.prop 2 apart ((λ e. cc), ((λ e. cc), ((λ e. cc), tt))) (ap (λ (t : Tables). t.prop) (rows_seen seen)) seen.holds.props
+    pub kept_prop : 2 ≢ tree → ShowsTable new 2 (numbered_in prop_table) tables.prop
+    kept_prop apart = unwritten (numbered_in prop_table) tables.prop 2 apart ((λ e. cc), ((λ e. cc), ((λ e. cc), tt))) (ap (λ (t : Tables). t.prop) (rows_seen seen)) seen.holds.props
 
-    pub kept_slot : 7 ≢ tree → ShowsTable new 7 (paired_in slot_places) tables.slot
-    kept_slot apart = unwritten (paired_in slot_places) tables.slot 7 apart ((λ e. cc), ((λ e. cc), ((λ e. cc), tt))) (ap (λ (t : Tables). t.slot) (rows_seen seen)) (slots_seen seen)
+    pub kept_slot : 7 ≢ tree → ShowsTable new 7 (paired_in slot2_table) tables.slot
+    kept_slot apart = unwritten (paired_in slot2_table) tables.slot 7 apart ((λ e. cc), ((λ e. cc), ((λ e. cc), tt))) (ap (λ (t : Tables). t.slot) (rows_seen seen)) (slots_seen seen)
 
-    pub kept_verb : 5 ≢ tree → ShowsTable new 5 (paired_in verb_places) tables.verb
-    kept_verb apart = unwritten (paired_in verb_places) tables.verb 5 apart ((λ e. cc), ((λ e. cc), ((λ e. cc), tt))) (ap (λ (t : Tables). t.verb) (rows_seen seen)) seen.holds.verbs
+    pub kept_verb : 5 ≢ tree → ShowsTable new 5 (paired_in verb_table) tables.verb
+    kept_verb apart = unwritten (paired_in verb_table) tables.verb 5 apart ((λ e. cc), ((λ e. cc), ((λ e. cc), tt))) (ap (λ (t : Tables). t.verb) (rows_seen seen)) seen.holds.verbs
 
-    pub kept_petition : 9 ≢ tree → ShowsTable new 9 (numbered_in petition_places) tables.petition
-    kept_petition apart = unwritten (numbered_in petition_places) tables.petition 9 apart ((λ e. cc), ((λ e. cc), ((λ e. cc), tt))) (ap (λ (t : Tables). t.petition) (rows_seen seen)) (petitions_seen seen)
+    pub kept_petition : 9 ≢ tree → ShowsTable new 9 (numbered_in petition_table) tables.petition
+    kept_petition apart = unwritten (numbered_in petition_table) tables.petition 9 apart ((λ e. cc), ((λ e. cc), ((λ e. cc), tt))) (ap (λ (t : Tables). t.petition) (rows_seen seen)) (petitions_seen seen)
 
-    pub kept_counter : 10 ≢ tree → ShowsTable new 10 (numbered_in petition_head_places) tables.petition_head
-    kept_counter apart = unwritten (numbered_in petition_head_places) tables.petition_head 10 apart ((λ e. cc), ((λ e. cc), ((λ e. cc), tt))) (ap (λ (t : Tables). t.petition_head) (rows_seen seen)) (counter_seen seen)
+    pub kept_counter : 10 ≢ tree → ShowsTable new 10 (numbered_in petition_head_table) tables.petition_head
+    kept_counter apart = unwritten (numbered_in petition_head_table) tables.petition_head 10 apart ((λ e. cc), ((λ e. cc), ((λ e. cc), tt))) (ap (λ (t : Tables). t.petition_head) (rows_seen seen)) (counter_seen seen)
 
   -- the table that isn't read
   pub kept_unread : 3 ≢ tree → KeepsUnread old.now new.now
   kept_unread apart = it.others 3 apart ((λ e. cc), ((λ e. cc), ((λ e. cc), tt)))
 
-  pub sees_all : (next : Tables) → IsCurrent next → ShowsTable new 0 (numbered_in head_places) next.head → ShowsTable new 1 (numbered_in object_places) next.object → ShowsTable new 2 (numbered_in prop_places) next.prop
-      → ShowsTable new 7 (paired_in slot_places) next.slot → ShowsTable new 5 (paired_in verb_places) next.verb
-      → ShowsTable new 9 (numbered_in petition_places) next.petition → ShowsTable new 10 (numbered_in petition_head_places) next.petition_head → Sees new next
+  pub sees_all : (next : Tables) → IsCurrent next → ShowsTable new 0 (numbered_in head_table) next.head → ShowsTable new 1 (numbered_in object_table) next.object → ShowsTable new 2 (numbered_in prop_table) next.prop
+      → ShowsTable new 7 (paired_in slot2_table) next.slot → ShowsTable new 5 (paired_in verb_table) next.verb
+      → ShowsTable new 9 (numbered_in petition_table) next.petition → ShowsTable new 10 (numbered_in petition_head_table) next.petition_head → Sees new next
   sees_all next current h o p s v q c = record {
     is_open = it.is_open;
     inside = it.inside;
@@ -126,23 +126,23 @@ abbrev pub SeesWritten : {K : Type 0} → ℕ → (List Row → K → Option Row
 SeesWritten {K} tree shown at_key change = (old new : State) (tables : Tables) (key : K) (cells : Option Row) (rows : List Row) → Sees old tables → SetsTree old new tree rows → AreKeyed rows
     → ((k : K) → shown rows k ≡ at_key key cells (shown (old.now.trees tree)) k) → Sees new (change key cells tables) × KeepsUnread old.now new.now
 
-pub sees_head : SeesWritten 0 (numbered_in head_places) numbered_with (λ key cells tables. record tables { head = numbered_with key cells tables.head })
-sees_head old new tables key cells rows seen it keyed at_keys = (sees_all it (record tables { head = numbered_with key cells tables.head }) seen.current (written it (numbered_in head_places) (numbered_with key cells) tables.head (ap (λ (t : Tables). t.head) (rows_seen seen)) keyed at_keys) (kept_object it tables seen (λ e. cc)) (kept_prop it tables seen (λ e. cc)) (kept_slot it tables seen (λ e. cc)) (kept_verb it tables seen (λ e. cc)) (kept_petition it tables seen (λ e. cc)) (kept_counter it tables seen (λ e. cc)), kept_unread it (λ e. cc))
+pub sees_head : SeesWritten 0 (numbered_in head_table) numbered_with (λ key cells tables. record tables { head = numbered_with key cells tables.head })
+sees_head old new tables key cells rows seen it keyed at_keys = (sees_all it (record tables { head = numbered_with key cells tables.head }) seen.current (written it (numbered_in head_table) (numbered_with key cells) tables.head (ap (λ (t : Tables). t.head) (rows_seen seen)) keyed at_keys) (kept_object it tables seen (λ e. cc)) (kept_prop it tables seen (λ e. cc)) (kept_slot it tables seen (λ e. cc)) (kept_verb it tables seen (λ e. cc)) (kept_petition it tables seen (λ e. cc)) (kept_counter it tables seen (λ e. cc)), kept_unread it (λ e. cc))
 
-pub sees_object : SeesWritten 1 (numbered_in object_places) numbered_with (λ key cells tables. record tables { object = numbered_with key cells tables.object })
-sees_object old new tables key cells rows seen it keyed at_keys = (sees_all it (record tables { object = numbered_with key cells tables.object }) seen.current (kept_head it tables seen (λ e. cc)) (written it (numbered_in object_places) (numbered_with key cells) tables.object (ap (λ (t : Tables). t.object) (rows_seen seen)) keyed at_keys) (kept_prop it tables seen (λ e. cc)) (kept_slot it tables seen (λ e. cc)) (kept_verb it tables seen (λ e. cc)) (kept_petition it tables seen (λ e. cc)) (kept_counter it tables seen (λ e. cc)), kept_unread it (λ e. cc))
+pub sees_object : SeesWritten 1 (numbered_in object_table) numbered_with (λ key cells tables. record tables { object = numbered_with key cells tables.object })
+sees_object old new tables key cells rows seen it keyed at_keys = (sees_all it (record tables { object = numbered_with key cells tables.object }) seen.current (kept_head it tables seen (λ e. cc)) (written it (numbered_in object_table) (numbered_with key cells) tables.object (ap (λ (t : Tables). t.object) (rows_seen seen)) keyed at_keys) (kept_prop it tables seen (λ e. cc)) (kept_slot it tables seen (λ e. cc)) (kept_verb it tables seen (λ e. cc)) (kept_petition it tables seen (λ e. cc)) (kept_counter it tables seen (λ e. cc)), kept_unread it (λ e. cc))
 
-pub sees_prop : SeesWritten 2 (numbered_in prop_places) numbered_with (λ key cells tables. record tables { prop = numbered_with key cells tables.prop })
-sees_prop old new tables key cells rows seen it keyed at_keys = (sees_all it (record tables { prop = numbered_with key cells tables.prop }) seen.current (kept_head it tables seen (λ e. cc)) (kept_object it tables seen (λ e. cc)) (written it (numbered_in prop_places) (numbered_with key cells) tables.prop (ap (λ (t : Tables). t.prop) (rows_seen seen)) keyed at_keys) (kept_slot it tables seen (λ e. cc)) (kept_verb it tables seen (λ e. cc)) (kept_petition it tables seen (λ e. cc)) (kept_counter it tables seen (λ e. cc)), kept_unread it (λ e. cc))
+pub sees_prop : SeesWritten 2 (numbered_in prop_table) numbered_with (λ key cells tables. record tables { prop = numbered_with key cells tables.prop })
+sees_prop old new tables key cells rows seen it keyed at_keys = (sees_all it (record tables { prop = numbered_with key cells tables.prop }) seen.current (kept_head it tables seen (λ e. cc)) (kept_object it tables seen (λ e. cc)) (written it (numbered_in prop_table) (numbered_with key cells) tables.prop (ap (λ (t : Tables). t.prop) (rows_seen seen)) keyed at_keys) (kept_slot it tables seen (λ e. cc)) (kept_verb it tables seen (λ e. cc)) (kept_petition it tables seen (λ e. cc)) (kept_counter it tables seen (λ e. cc)), kept_unread it (λ e. cc))
 
-pub sees_slot : SeesWritten 7 (paired_in slot_places) paired_with (λ key cells tables. record tables { slot = paired_with key cells tables.slot })
-sees_slot old new tables key cells rows seen it keyed at_keys = (sees_all it (record tables { slot = paired_with key cells tables.slot }) seen.current (kept_head it tables seen (λ e. cc)) (kept_object it tables seen (λ e. cc)) (kept_prop it tables seen (λ e. cc)) (written it (paired_in slot_places) (paired_with key cells) tables.slot (ap (λ (t : Tables). t.slot) (rows_seen seen)) keyed at_keys) (kept_verb it tables seen (λ e. cc)) (kept_petition it tables seen (λ e. cc)) (kept_counter it tables seen (λ e. cc)), kept_unread it (λ e. cc))
+pub sees_slot : SeesWritten 7 (paired_in slot2_table) paired_with (λ key cells tables. record tables { slot = paired_with key cells tables.slot })
+sees_slot old new tables key cells rows seen it keyed at_keys = (sees_all it (record tables { slot = paired_with key cells tables.slot }) seen.current (kept_head it tables seen (λ e. cc)) (kept_object it tables seen (λ e. cc)) (kept_prop it tables seen (λ e. cc)) (written it (paired_in slot2_table) (paired_with key cells) tables.slot (ap (λ (t : Tables). t.slot) (rows_seen seen)) keyed at_keys) (kept_verb it tables seen (λ e. cc)) (kept_petition it tables seen (λ e. cc)) (kept_counter it tables seen (λ e. cc)), kept_unread it (λ e. cc))
 
-pub sees_verb : SeesWritten 5 (paired_in verb_places) paired_with (λ key cells tables. record tables { verb = paired_with key cells tables.verb })
-sees_verb old new tables key cells rows seen it keyed at_keys = (sees_all it (record tables { verb = paired_with key cells tables.verb }) seen.current (kept_head it tables seen (λ e. cc)) (kept_object it tables seen (λ e. cc)) (kept_prop it tables seen (λ e. cc)) (kept_slot it tables seen (λ e. cc)) (written it (paired_in verb_places) (paired_with key cells) tables.verb (ap (λ (t : Tables). t.verb) (rows_seen seen)) keyed at_keys) (kept_petition it tables seen (λ e. cc)) (kept_counter it tables seen (λ e. cc)), kept_unread it (λ e. cc))
+pub sees_verb : SeesWritten 5 (paired_in verb_table) paired_with (λ key cells tables. record tables { verb = paired_with key cells tables.verb })
+sees_verb old new tables key cells rows seen it keyed at_keys = (sees_all it (record tables { verb = paired_with key cells tables.verb }) seen.current (kept_head it tables seen (λ e. cc)) (kept_object it tables seen (λ e. cc)) (kept_prop it tables seen (λ e. cc)) (kept_slot it tables seen (λ e. cc)) (written it (paired_in verb_table) (paired_with key cells) tables.verb (ap (λ (t : Tables). t.verb) (rows_seen seen)) keyed at_keys) (kept_petition it tables seen (λ e. cc)) (kept_counter it tables seen (λ e. cc)), kept_unread it (λ e. cc))
 
-pub sees_petition : SeesWritten 9 (numbered_in petition_places) numbered_with (λ key cells tables. record tables { petition = numbered_with key cells tables.petition })
-sees_petition old new tables key cells rows seen it keyed at_keys = (sees_all it (record tables { petition = numbered_with key cells tables.petition }) seen.current (kept_head it tables seen (λ e. cc)) (kept_object it tables seen (λ e. cc)) (kept_prop it tables seen (λ e. cc)) (kept_slot it tables seen (λ e. cc)) (kept_verb it tables seen (λ e. cc)) (written it (numbered_in petition_places) (numbered_with key cells) tables.petition (ap (λ (t : Tables). t.petition) (rows_seen seen)) keyed at_keys) (kept_counter it tables seen (λ e. cc)), kept_unread it (λ e. cc))
+pub sees_petition : SeesWritten 9 (numbered_in petition_table) numbered_with (λ key cells tables. record tables { petition = numbered_with key cells tables.petition })
+sees_petition old new tables key cells rows seen it keyed at_keys = (sees_all it (record tables { petition = numbered_with key cells tables.petition }) seen.current (kept_head it tables seen (λ e. cc)) (kept_object it tables seen (λ e. cc)) (kept_prop it tables seen (λ e. cc)) (kept_slot it tables seen (λ e. cc)) (kept_verb it tables seen (λ e. cc)) (written it (numbered_in petition_table) (numbered_with key cells) tables.petition (ap (λ (t : Tables). t.petition) (rows_seen seen)) keyed at_keys) (kept_counter it tables seen (λ e. cc)), kept_unread it (λ e. cc))
 
-pub sees_counter : SeesWritten 10 (numbered_in petition_head_places) numbered_with (λ key cells tables. record tables { petition_head = numbered_with key cells tables.petition_head })
-sees_counter old new tables key cells rows seen it keyed at_keys = (sees_all it (record tables { petition_head = numbered_with key cells tables.petition_head }) seen.current (kept_head it tables seen (λ e. cc)) (kept_object it tables seen (λ e. cc)) (kept_prop it tables seen (λ e. cc)) (kept_slot it tables seen (λ e. cc)) (kept_verb it tables seen (λ e. cc)) (kept_petition it tables seen (λ e. cc)) (written it (numbered_in petition_head_places) (numbered_with key cells) tables.petition_head (ap (λ (t : Tables). t.petition_head) (rows_seen seen)) keyed at_keys), kept_unread it (λ e. cc))
+pub sees_counter : SeesWritten 10 (numbered_in petition_head_table) numbered_with (λ key cells tables. record tables { petition_head = numbered_with key cells tables.petition_head })
+sees_counter old new tables key cells rows seen it keyed at_keys = (sees_all it (record tables { petition_head = numbered_with key cells tables.petition_head }) seen.current (kept_head it tables seen (λ e. cc)) (kept_object it tables seen (λ e. cc)) (kept_prop it tables seen (λ e. cc)) (kept_slot it tables seen (λ e. cc)) (kept_verb it tables seen (λ e. cc)) (kept_petition it tables seen (λ e. cc)) (written it (numbered_in petition_head_table) (numbered_with key cells) tables.petition_head (ap (λ (t : Tables). t.petition_head) (rows_seen seen)) keyed at_keys), kept_unread it (λ e. cc))

@@ -22,7 +22,7 @@ pub use Rattle.moo_tables_rows.specs.Object.{object_row}
 pub use Rattle.moo_tables_rows.specs.Over.{WritesOver, WritesRow}
 pub use Rattle.moo_tables_rows.specs.Petition.{petition_row}
 pub use Rattle.moo_tables_rows.specs.Slot.{slot_row}
-pub use Rattle.moo_tables_rows.specs.Tables.{Tables, cells_at, first_schema, found_in, has_pair, head_places, head_schema, head_table, no_schema, number_places, numbered, numbered_in, numbered_over, numbered_with, object_places, object_schema, object_table, pair_places, paired, paired_in, paired_over, paired_with, petition_head_places, petition_head_table, petition_places, petition_rows, petition_schema, petition_table, present_schema, prop_places, prop_schema, prop_table, required, same_number, same_numbers, schema_of, second_schema, slot2_schema, slot2_table, slot_places, slot_schema, slot_table, slot_tree, table_of, tables_in, verb_places, verb_table, with_cells}
+pub use Rattle.moo_tables_rows.specs.Tables.{Tables, cells_at, first_schema, found_in, has_pair, head_schema, head_table, no_schema, number_places, numbered, numbered_in, numbered_over, numbered_with, object_schema, object_table, pair_places, paired, paired_in, paired_over, paired_with, petition_head_table, petition_rows, petition_schema, petition_table, present_schema, prop_schema, prop_table, required, same_number, same_numbers, schema_of, second_schema, slot2_schema, slot2_table, slot_schema, slot_table, slot_tree, table_of, tables_in, verb_table, with_cells}
 pub use Rattle.moo_tables_rows.specs.Texts.{create_text, insert_text, keep_text, names, put_text, remove_text, select_text, update_text}
 pub use Rattle.moo_tables_rows.specs.Verb.{verb_row}
 pub use Rattle.moo_tables_rows.specs.Version.{IsEarlier, has_lettered_bits, has_petitions, present}

@@ -20,7 +20,7 @@ IsCutShort old e = (e ≡ SqliteFailure code.OperationInterrupted) × IsSome old
 abbrev pub HasNoNumber : Error → Type 0
 HasNoNumber e = e ≡ SqliteFailure code.NoRowid
 
--- why a change stops: SQL refuses none for its text or for its values
+-- why a change stops: SQL refuses no statement of it for its text or for its values
 abbrev pub StopsChange : State → State → Error → Type 0
 StopsChange old new e = StoreStops old new e ⊎ (IsCutShort old e ⊎ HasNoNumber e)
 
@@ -28,12 +28,12 @@ StopsChange old new e = StoreStops old new e ⊎ (IsCutShort old e ⊎ HasNoNumb
 abbrev pub HasCauseIn : {A : Type 0} → State → State → Result A Error → Type 0
 HasCauseIn old new r = HasCleanDisk new → (tables : Tables) → Sees old tables → IfErr r (StopsChange old new)
 
--- a rule of the table refused a row: one has its key
+-- a rule of the table refused a row, since another row has its key
 abbrev pub is_conflict : Error → Bool
 is_conflict (SqliteFailure (code.ConstraintViolation rule)) = true
 is_conflict _ = false
 
--- A call that puts a new row fails: one has its key, and nothing changed; or the call has one of the causes of any change.
+-- A call that puts a new row fails, since another row has its key, and nothing changed; or the call has one of the causes of any change.
 abbrev pub MeetsRowIn : {A : Type 0} → State → State → Result A Error → Type 0
 MeetsRowIn old new r =
     HasCleanDisk new → (tables : Tables) → Sees old tables →

@@ -25,76 +25,96 @@ pub use Rattle.moo_tables_rows.specs.Verb.{verb_cells}
 
 -- ---- a change of one key, with its new cells or none
 
+-- the tables with this row of `head`, in the present version
 abbrev pub with_head_cells : Head → Tables → Tables
 with_head_cells head t = record t { head = numbered_with (pos 1) (Some (head_cells present head)) t.head }
 
--- what a key has after a change of its row, from what it had: none if the row goes
+-- what a key has after a change of its row, from what it had: nothing if the row is removed
 abbrev pub cells_after : {C : Type 0} → (C → Option Row → Option Row) → Option C → Option Row → Option Row
 cells_after over None old = None
 cells_after over (Some cells) old = over cells old
 
+-- the tables with these cells for an object, or without its row
 abbrev pub with_object_cells : ObjNo → Option ObjectCells → Tables → Tables
 with_object_cells n cells t = record t { object = numbered_over n.0 (cells_after (object_cells n) cells) t.object }
 
+-- the tables with these cells for a property, or without its row
 abbrev pub with_prop_cells : PropId → Option PropCells → Tables → Tables
 with_prop_cells id cells t = record t { prop = numbered_over (pos id.0) (cells_after (prop_cells id) cells) t.prop }
 
+-- the tables with these cells for a slot, or without its row
 abbrev pub with_slot_cells : ObjNo × PropId → Option SlotCells → Tables → Tables
 with_slot_cells key cells t = record t { slot = paired_over (key.0.0, pos key.1.0) (cells_after (slot_cells key) cells) t.slot }
 
+-- the tables with these cells for a verb, or without its row
 abbrev pub with_verb_cells : ObjNo × VerbId → Option VerbCells → Tables → Tables
 with_verb_cells key cells t = record t { verb = paired_over (key.0.0, pos key.1.0) (cells_after (verb_cells key) cells) t.verb }
 
+-- the tables with these cells for a petition, or without its row
 abbrev pub with_petition_cells : PetitionId → Option PetitionCells → Tables → Tables
 with_petition_cells id cells t = record t { petition = numbered_over (pos id.0) (cells_after (petition_cells id) cells) t.petition }
 
+-- the tables with this number of the next petition
 abbrev pub with_counter : ℕ → Tables → Tables
 with_counter next t = record t { petition_head = numbered_with (pos 1) (Some (petition_head_cells next)) t.petition_head }
 
--- the number of the next petition, if one is given; if none is, the table stays as it is
+-- the table `petition_head` with the number of the next petition, if one is given; if none is, it stays as it is
 abbrev pub counter_with : Option ℕ → (ℤ → Option Row) → ℤ → Option Row
 counter_with None table = table
 counter_with (Some next) table = numbered_with (pos 1) (Some (petition_head_cells next)) table
 
+-- the tables with the number of the next petition, if one is given
 abbrev pub with_next_petition : Option ℕ → Tables → Tables
 with_next_petition next t = record t { petition_head = counter_with next t.petition_head }
 
 -- ---- changes of many keys, one after another
 
+-- the tables with each of these changes, one after another: at a key its new row, or none
 abbrev pub with_each : {K R : Type 0} → (K → Option R → Tables → Tables) → List (K × Option R) → Tables → Tables
 with_each with_row changes t = fold (λ t c. with_row c.0 c.1 t) t changes
 
+-- the table `object` with these changes, one after another
 abbrev pub objects_with : List (ObjNo × Option ObjectCells) → (ℤ → Option Row) → ℤ → Option Row
 objects_with changes table = fold (λ t c. numbered_over c.0.0 (cells_after (object_cells c.0) c.1) t) table changes
 
+-- the table `prop` with these changes, one after another
 abbrev pub props_with : List (PropId × Option PropCells) → (ℤ → Option Row) → ℤ → Option Row
 props_with changes table = fold (λ t c. numbered_over (pos c.0.0) (cells_after (prop_cells c.0) c.1) t) table changes
 
+-- the table of the slots with these changes, one after another
 abbrev pub slots_with : List ((ObjNo × PropId) × Option SlotCells) → (ℤ × ℤ → Option Row) → ℤ × ℤ → Option Row
 slots_with changes table = fold (λ t c. paired_over (c.0.0.0, pos c.0.1.0) (cells_after (slot_cells c.0) c.1) t) table changes
 
+-- the table `verb` with these changes, one after another
 abbrev pub verbs_with : List ((ObjNo × VerbId) × Option VerbCells) → (ℤ × ℤ → Option Row) → ℤ × ℤ → Option Row
 verbs_with changes table = fold (λ t c. paired_over (c.0.0.0, pos c.0.1.0) (cells_after (verb_cells c.0) c.1) t) table changes
 
+-- the table `petition` with these changes, one after another
 abbrev pub petitions_with : List (PetitionId × Option PetitionCells) → (ℤ → Option Row) → ℤ → Option Row
 petitions_with changes table = fold (λ t c. numbered_over (pos c.0.0) (cells_after (petition_cells c.0) c.1) t) table changes
 
+-- the tables with these changes of the table `object`
 abbrev pub with_object_changes : List (ObjNo × Option ObjectCells) → Tables → Tables
 with_object_changes changes t = record t { object = objects_with changes t.object }
 
+-- the tables with these changes of the table `prop`
 abbrev pub with_prop_changes : List (PropId × Option PropCells) → Tables → Tables
 with_prop_changes changes t = record t { prop = props_with changes t.prop }
 
+-- the tables with these changes of the slots
 abbrev pub with_slot_changes : List ((ObjNo × PropId) × Option SlotCells) → Tables → Tables
 with_slot_changes changes t = record t { slot = slots_with changes t.slot }
 
+-- the tables with these changes of the table `verb`
 abbrev pub with_verb_changes : List ((ObjNo × VerbId) × Option VerbCells) → Tables → Tables
 with_verb_changes changes t = record t { verb = verbs_with changes t.verb }
 
+-- the tables with these changes of the table `petition`
 abbrev pub with_petition_changes : List (PetitionId × Option PetitionCells) → Tables → Tables
 with_petition_changes changes t = record t { petition = petitions_with changes t.petition }
 
--- the tables with these changes
+-- The tables with all these changes: the row of `head`, the number of the next petition if one is given, and at each key that changes its
+-- new row or none.
 abbrev pub tables_with : CellChanges → Tables → Tables
 tables_with changes t = record {
   version = t.version;

@@ -18,9 +18,11 @@ use Rattle.std.specs.declared.alloc.Global.{Global}
 abbrev pub required : Kind → List ℕ → Column
 required kind name = record { name = name; kind = kind; is_strict = true; not_null = true; default = Null; collation = Binary }
 
+-- a column of whole numbers that is never empty
 abbrev pub number : List ℕ → Column
 number = required Integer
 
+-- a column of texts that is never empty
 abbrev pub text : List ℕ → Column
 text = required Text
 
@@ -41,11 +43,11 @@ table_of name tree columns key primary uniques orders = record {
   is_counted = false;
 }
 
--- the first column is the row's number
+-- a table whose first column is the row's number
 abbrev pub numbered : List ℕ → ℕ → List Column → Table
 numbered name tree columns = table_of name tree columns (Some 0) (0 ∷ []) [] []
 
--- the first two columns are the key, of which the next tree is the index
+-- a table whose first two columns are the key, of which the next tree is the index
 abbrev pub paired : List ℕ → ℕ → List Column → Table
 paired name tree columns = table_of name tree columns None (1 ∷ 2 ∷ []) ((1 ∷ 2 ∷ []) ∷ []) (plain ∷ [])
 
@@ -53,10 +55,11 @@ paired name tree columns = table_of name tree columns None (1 ∷ 2 ∷ []) ((1 
 abbrev pub cells_at : List ℕ → Row → Row
 cells_at places row = map (column row) places
 
--- the places of a row's cells in its tree
+-- the places of the cells of a row in its tree, in a table whose first column is the row's number
 abbrev pub number_places : Table → List ℕ
 number_places t = 0 ∷ range_with_len 2 (length t.columns - 1)
 
+-- the places of the cells of a row in its tree, in a table whose first two columns are the key
 abbrev pub pair_places : Table → List ℕ
 pair_places t = range_with_len 1 (length t.columns)
 

@@ -9,11 +9,13 @@ use Rattle.moo_tables_rows.specs.Version.{version_number}
 use Rattle.moo_tables_rows.specs.Columns.{numbered, number, KeepsCell}
 use Rattle.moo_tables_rows.specs.Texts.{put_text}
 
+-- the table `head`, which has one row
 abbrev pub head_table : Table
 head_table = numbered (codes "head") 0
     (number (codes "id") ∷ number (codes "version") ∷ number (codes "seq") ∷ number (codes "top")
     ∷ number (codes "next_prop") ∷ number (codes "next_verb") ∷ [])
 
+-- the cells of the row of `head`: id 1, the version of the tables, the number of the last batch, and the counters
 abbrev pub head_cells : Version → Head → Row
 head_cells version head =
     Int (pos 1) ∷ Int (version_number version) ∷ Int (pos head.seq) ∷ Int head.top
@@ -28,13 +30,14 @@ pub record HeadColumns (a b : Head) (old new : Row) : Type 0 where
   pub next_prop : KeepsCell a.next_prop b.next_prop 4 old new
   pub next_verb : KeepsCell a.next_verb b.next_verb 5 old new
 
+-- the table `petition_head`, which has one row
 abbrev pub petition_head_table : Table
 petition_head_table = numbered (codes "petition_head") 10 (number (codes "id") ∷ number (codes "next_petition") ∷ [])
 
--- with the number of the next petition
+-- the cells of the row of `petition_head`: id 1, and the number of the next petition
 abbrev pub petition_head_cells : ℕ → Row
 petition_head_cells next = Int (pos 1) ∷ Int (pos next) ∷ []
 
--- if the number is the same already, nothing is written
+-- The statement that puts the number of the next petition. If the number is the same already, nothing is written.
 abbrev pub put_counter_text : List ℕ
 put_counter_text = put_text petition_head_table ++ codes " WHERE next_petition <> ?2"

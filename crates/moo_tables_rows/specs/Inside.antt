@@ -13,7 +13,7 @@ use Rattle.moo_tables_rows.specs.Version.{present}
 use Rattle.moo_tables_rows.specs.Tables.{Tables, no_schema, schema_of, slot_tree}
 pub use Rattle.moo_tables_rows.specs.Tables.{AreKeyed, Holds, KeepsUnread}
 
--- the tables are of the version that is written
+-- the tables are of the present version, the one that is written
 abbrev pub IsCurrent : Tables → Type 0
 IsCurrent tables = tables.version ≡ present
 
@@ -41,7 +41,7 @@ pub record StaysInside (old new : State) : Type 0 where
   pub kept : HasCleanDisk new → KeepsCommit old new
   pub survives : Survives old new (λ _. ⊥)
 
--- the transaction goes on, with its tables changed so, and the table that isn't read stays
+-- A transaction on tables of ours goes on, the tables are changed so, and the table that isn't read stays.
 abbrev pub Changes : (Tables → Tables) → State → State → Type 0
 Changes change old new =
     HasCleanDisk new → (tables : Tables) → Sees old tables → Sees new (change tables) × KeepsUnread old.now new.now
@@ -50,7 +50,7 @@ Changes change old new =
 abbrev pub RanStatement : List ℕ → Row → State → State → Result ℕ Error → Type 0
 RanStatement text params old new r = HasCleanDisk new → IfOk r (λ _. IsTrue new.in_transaction × Executes text params old new r)
 
--- a statement means the tables of this schema
+-- the database has just the tables of this schema, so that a statement means these
 abbrev pub HasTables : Schema → State → Type 0
 HasTables schema s = s.now.schema ≡ schema
 
@@ -66,7 +66,7 @@ pub record FailsToRead (schema : Schema) (old new : State) : Type 0 where
   pub kept : HasCleanDisk new → HasTables schema old → IsUnchanged old new ⊎ IsRolledBack old new
   pub crash : (HasCleanDisk old → HasTables schema old) → Survives old new (λ _. ⊥)
 
--- trees of exactly these tables, with these rows
+-- the trees that a crash left are exactly these tables, with these rows
 abbrev pub Leaves : Trees → Tables → Type 0
 Leaves trees tables = Holds (record { schema = schema_of tables.version; trees = trees }) tables
 
@@ -83,7 +83,7 @@ no_rows version = record {
   petition_head = λ _. None;
 }
 
--- those that are written, without rows
+-- the tables of the present version, without rows
 abbrev pub no_tables : Tables
 no_tables = no_rows present
 

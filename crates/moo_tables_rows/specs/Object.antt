@@ -9,24 +9,25 @@ use Rattle.moo_rows.specs.declared.row.ObjRow.{ObjRow}
 use Rattle.moo_tables_rows.specs.declared.object.ObjectCells.{ObjectCells}
 use Rattle.moo_tables_rows.specs.Columns.{numbered, number, text, flag_cell, cells_over, KeepsCell}
 
+-- the table `object`, whose key is the object's number
 abbrev pub object_table : Table
 object_table = numbered (codes "object") 1
     (number (codes "n") ∷ text (codes "name") ∷ number (codes "owner") ∷ number (codes "parent") ∷ number (codes "location")
     ∷ number (codes "player") ∷ number (codes "programmer") ∷ number (codes "wizard")
     ∷ number (codes "r") ∷ number (codes "w") ∷ number (codes "f") ∷ text (codes "accept") ∷ [])
 
--- a row, with this cell for its accept list
+-- the cells of an object, with this cell for its accept list
 abbrev pub object_row : ObjNo → ObjRow → Value → Row
 object_row n row accept =
     Int n.0 ∷ Text row.name ∷ Int row.owner.0 ∷ Int row.parent.0 ∷ Int row.location.0
     ∷ flag_cell row.player ∷ flag_cell row.programmer ∷ flag_cell row.wizard
     ∷ flag_cell row.r ∷ flag_cell row.w ∷ flag_cell row.f ∷ accept ∷ []
 
--- a row, with its accept list printed
+-- the cells of an object, with this text for its accept list
 abbrev pub object_row_cells : ObjNo → ObjRow → List ℕ → Row
 object_row_cells n row accept = object_row n row (Text accept)
 
--- a row over the one that is there, if one is
+-- what the key of an object has after its row was written: if no accept list is given, that of the row before stays
 abbrev pub object_cells : ObjNo → ObjectCells → Option Row → Option Row
 object_cells n cells old = cells_over (object_row n cells.row) 11 cells.accept old
 

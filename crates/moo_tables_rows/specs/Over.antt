@@ -8,7 +8,7 @@ use Rattle.moo_tables_rows.specs.Tables.{Tables}
 use Rattle.moo_tables_rows.specs.Inside.{Changes}
 use Rattle.moo_tables_rows.specs.Texts.{insert_text, put_text, update_text}
 
--- The tables are changed so if it wrote over a row, and stay if it wrote over none.
+-- The tables are changed so if a statement wrote over a row, and stay if it wrote over none.
 pub record WritesOver (change : Tables → Tables) (count : ℕ) (old new : State) : Type 0 where
   pub found : count ≢ 0 → Changes change old new
   pub missed : count ≡ 0 → Changes (λ tables. tables) old new

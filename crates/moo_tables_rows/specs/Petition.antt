@@ -9,13 +9,15 @@ use Rattle.moo_rows.specs.declared.row.PetitionRow.{PetitionRow}
 use Rattle.moo_tables_rows.specs.declared.petition.PetitionCells.{PetitionCells}
 use Rattle.moo_tables_rows.specs.Columns.{numbered, number, text, cells_over, KeepsCell}
 
+-- the table `petition`, whose key is the petition's number
 abbrev pub petition_table : Table
 petition_table = numbered (codes "petition") 9 (number (codes "id") ∷ number (codes "who") ∷ text (codes "calls") ∷ [])
 
+-- the cells of a petition, with this cell for its calls
 abbrev pub petition_row : PetitionId → PetitionCells → Value → Row
 petition_row id row calls = Int (pos id.0) ∷ Int row.who.0 ∷ calls ∷ []
 
--- a row over the one that is there, if one is
+-- what the key of a petition has after its row was written: if no calls are given, those of the row before stay
 abbrev pub petition_cells : PetitionId → PetitionCells → Option Row → Option Row
 petition_cells id row old = cells_over (petition_row id row) 2 row.calls old
 

@@ -10,18 +10,21 @@ use Rattle.moo_rows.specs.declared.row.SlotRow.{SlotRow}
 use Rattle.moo_tables_rows.specs.declared.slot.SlotCells.{SlotCells}
 use Rattle.moo_tables_rows.specs.Columns.{paired, number, text, cells_over, KeepsCell}
 
+-- the table `slot` of the first version, whose key is an object and a property; the bits are letters
 abbrev pub slot_table : Table
 slot_table = paired (codes "slot") 3
     (number (codes "object") ∷ number (codes "prop") ∷ number (codes "owner") ∷ text (codes "bits") ∷ text (codes "value") ∷ [])
 
+-- the table `slot2` of the second version, whose key is an object and a property; the bits are a number
 abbrev pub slot2_table : Table
 slot2_table = paired (codes "slot2") 7
     (number (codes "object") ∷ number (codes "prop") ∷ number (codes "owner") ∷ number (codes "bits") ∷ text (codes "value") ∷ [])
 
+-- the cells of a slot, with this cell for its value
 abbrev pub slot_row : ObjNo × PropId → SlotCells → Value → Row
 slot_row key row value = Int key.0.0 ∷ Int (pos key.1.0) ∷ Int row.owner.0 ∷ Int row.bits ∷ value ∷ []
 
--- a row over the one that is there, if one is
+-- what the key of a slot has after its row was written: if no value is given, that of the row before stays
 abbrev pub slot_cells : ObjNo × PropId → SlotCells → Option Row → Option Row
 slot_cells key row old = cells_over (slot_row key row) 4 row.value old
 

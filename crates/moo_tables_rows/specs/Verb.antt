@@ -10,17 +10,19 @@ use Rattle.moo_rows.specs.declared.row.VerbRow.{VerbRow}
 use Rattle.moo_tables_rows.specs.declared.verb.VerbCells.{VerbCells}
 use Rattle.moo_tables_rows.specs.Columns.{paired, number, text, cells_over, KeepsCell}
 
+-- the table `verb`, whose key is an object and the verb's number
 abbrev pub verb_table : Table
 verb_table = paired (codes "verb") 5
     (number (codes "object") ∷ number (codes "id") ∷ text (codes "names") ∷ number (codes "owner") ∷ text (codes "bits")
     ∷ text (codes "dobj") ∷ text (codes "prep") ∷ text (codes "iobj") ∷ [])
 
+-- the cells of a verb, with this cell for its bits
 abbrev pub verb_row : ObjNo × VerbId → VerbCells → Value → Row
 verb_row key row bits =
     Int key.0.0 ∷ Int (pos key.1.0) ∷ Text row.names.items ∷ Int row.owner.0 ∷ bits
     ∷ Text row.dobj.items ∷ Text row.prep.items ∷ Text row.iobj.items ∷ []
 
--- a row over the one that is there, if one is
+-- what the key of a verb has after its row was written: if no bits are given, those of the row before stay
 abbrev pub verb_cells : ObjNo × VerbId → VerbCells → Option Row → Option Row
 verb_cells key row old = cells_over (verb_row key row) 4 row.bits old
 

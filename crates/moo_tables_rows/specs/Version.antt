@@ -3,11 +3,12 @@ use Rattle.std.specs.Prelude.{◌≢◌, Bool, true, false, ℤ, pos}
 use Rattle.moo_tables_rows.specs.declared.version.Version.{Version}
 use Rattle.moo_tables_rows.specs.declared.version.Version.TheVariants.{First, Second}
 
+-- the number of a version, as the column `version` of `head` has it
 abbrev pub version_number : Version → ℤ
 version_number First = pos 1
 version_number Second = pos 2
 
--- the last version, which alone is written
+-- the present version: the last one, which alone is written
 abbrev pub present : Version
 present = Second
 

@@ -23,17 +23,23 @@ pub const PETITION_HEAD: OurTable = OurTable {
     read: "SELECT id, next_petition FROM petition_head ORDER BY id",
 };
 
+/// The values of the row with the number of the next petition: its id, which is 1, and the number.
 fn counter_values(next: u32) -> [ValueRef<'static>; 2]
     ensures { bound result ≡ petition_head_cells next }
 {
     [ValueRef::Int(1), counter_value(next)]
 }
 
-/// Puts the number of the next petition, in place of the one that is there. If that is the same, nothing is written.
+/// Puts the number of the next petition, in place of the one that is there. If that is the same, nothing is written. Answers how many
+/// rows were written.
 pub fn put_counter<T: Run>(tx: &mut T, next: u32) -> Result<usize, Error>
+    // The transaction is on the connection that it was on.
     ensures same_reference { T.lender tx.new ≡ T.lender tx.old }
+    // Nothing is committed: a crash leaves what it could leave before.
     ensures inside { StaysInside (T.state tx.old) (T.state tx.new) }
+    // If it succeeds, the table has this number, and the other tables are as they were.
     ensures put { OnOk result (Changes (with_counter next) (T.state tx.old) (T.state tx.new)) }
+    // It fails only if the store does, if it takes more steps than the connection allows, or if a table has no number left for a row.
     ensures cause { HasCauseIn (T.state tx.old) (T.state tx.new) result }
 {
     tx.run(
@@ -42,11 +48,16 @@ pub fn put_counter<T: Run>(tx: &mut T, next: u32) -> Result<usize, Error>
     )
 }
 
-/// Puts the number of the next petition, if one is given. Else nothing runs, and the row stays.
+/// Puts the number of the next petition, if one is given. Otherwise no statement runs, and the row stays. Answers how many rows were
+/// written.
 pub fn put_next_petition<T: Run>(tx: &mut T, next: Option<u32>) -> Result<usize, Error>
+    // The transaction is on the connection that it was on.
     ensures same_reference { T.lender tx.new ≡ T.lender tx.old }
+    // Nothing is committed: a crash leaves what it could leave before.
     ensures inside { StaysInside (T.state tx.old) (T.state tx.new) }
+    // If it succeeds, the table has the number that is given, or the one that it had.
     ensures put { OnOk result (Changes (with_next_petition next) (T.state tx.old) (T.state tx.new)) }
+    // It fails only if the store does, if it takes more steps than the connection allows, or if a table has no number left for a row.
     ensures cause { HasCauseIn (T.state tx.old) (T.state tx.new) result }
 {
     match next {

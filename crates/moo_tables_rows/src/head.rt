@@ -33,7 +33,9 @@ pub const HEAD: OurTable = OurTable {
     read: "SELECT id, version, seq, top, next_prop, next_verb FROM head ORDER BY id",
 };
 
+/// The values of the row of `head`: its id, which is 1, the present version, and the counters.
 fn head_values(row: &Head) -> [ValueRef<'static>; 6]
+    // A cell holds the number of the last batch as a signed number of 64 bits.
     requires { row.now.seq < 2 ^ 63 }
     ensures { bound result ≡ head_cells present row.now }
 {
@@ -47,12 +49,17 @@ fn head_values(row: &Head) -> [ValueRef<'static>; 6]
     ]
 }
 
-/// Puts the row of the head, in place of the one that is there. Only a new table has none.
+/// Puts the row of `head`, in place of the one that is there. A new table has no row yet, and then it is inserted.
 pub fn put_head<T: Run>(tx: &mut T, row: &Head) -> Result<(), Error>
+    // A cell holds the number of the last batch as a signed number of 64 bits.
     requires { row.now.seq < 2 ^ 63 }
+    // The transaction is on the connection that it was on.
     ensures same_reference { T.lender tx.new ≡ T.lender tx.old }
+    // Nothing is committed: a crash leaves what it could leave before.
     ensures inside { StaysInside (T.state tx.old) (T.state tx.new) }
+    // If it succeeds, `head` has this row, of the present version, and the other tables are as they were.
     ensures put { OnOk result (Changes (with_head_cells row.now) (T.state tx.old) (T.state tx.new)) }
+    // It fails only if the store does, if it takes more steps than the connection allows, or if a table has no number left for a row.
     ensures cause { HasCauseIn (T.state tx.old) (T.state tx.new) result }
 {
     let values = head_values(row);

@@ -47,6 +47,7 @@ pub struct ObjectCells {
     pub accept: Option<Vec<u8>>,
 }
 
+/// The values of a row with this accept list, in the order of the columns.
 fn object_values<'a>(n: ObjNo, row: &'a ObjectCells, accept: &'a [u8]) -> [ValueRef<'a>; 12]
     ensures { bound result ≡ object_row n row.now.row (Text accept.now) }
 {
@@ -66,7 +67,7 @@ fn object_values<'a>(n: ObjNo, row: &'a ObjectCells, accept: &'a [u8]) -> [Value
     ]
 }
 
-/// The values of a row but for its accept list.
+/// The values of a row but for its accept list, in the order of the columns. They are written if that cell stays.
 fn kept_object_values(n: ObjNo, row: &ObjectCells) -> [ValueRef<'_>; 11]
     ensures { bound result ≡ all_but 11 (object_row n row.now.row Null) }
 {
@@ -85,7 +86,7 @@ fn kept_object_values(n: ObjNo, row: &ObjectCells) -> [ValueRef<'_>; 11]
     ]
 }
 
-/// Writes over a row, but for its accept list.
+/// The statement that writes over a row, and leaves its accept list as it is.
 const KEEP_OBJECT: &str =
     "UPDATE object SET name = ?2, owner = ?3, parent = ?4, location = ?5, player = ?6, programmer = ?7, wizard = ?8, r = ?9, w = ?10, f = ?11 WHERE n = ?1";
 

@@ -6,6 +6,7 @@ use sqlite_schema::schema::Kind;
 #[derive(Clone, Copy)]
 pub struct OurTable {
     pub name: &'static str,
+    /// Which tree of the database has its rows. The tree after it is the index of a key of two columns.
     pub tree: u32,
     /// Whether its key is the first two columns. Else it is the first.
     pub is_paired: bool,

@@ -38,6 +38,7 @@ pub struct PetitionCells {
     pub calls: Option<Vec<u8>>,
 }
 
+/// The values of a row with these calls, in the order of the columns.
 fn petition_values<'a>(id: PetitionId, row: &'a PetitionCells, calls: &'a [u8]) -> [ValueRef<'a>; 3]
     ensures { bound result ≡ petition_row id row.now (Text calls.now) }
 {
@@ -48,14 +49,14 @@ fn petition_values<'a>(id: PetitionId, row: &'a PetitionCells, calls: &'a [u8]) 
     ]
 }
 
-/// The values of a row but for its calls.
+/// The values of a row but for its calls, in the order of the columns. They are written if that cell stays.
 fn kept_petition_values(id: PetitionId, row: &PetitionCells) -> [ValueRef<'_>; 2]
     ensures { bound result ≡ all_but 2 (petition_row id row.now Null) }
 {
     [counter_value(id.0), object_value(row.who)]
 }
 
-/// Writes over a row, but for its calls.
+/// The statement that writes over a row, and leaves its calls as they are.
 const KEEP_PETITION: &str = "UPDATE petition SET who = ?2 WHERE id = ?1";
 
 impl TableRow for PetitionCells {

@@ -35,6 +35,7 @@ pub struct PropCells {
     pub name: Vec<u8>,
 }
 
+/// The values of a row, in the order of the columns.
 fn prop_values(id: PropId, row: &PropCells) -> [ValueRef<'_>; 3]
     ensures { bound result ≡ prop_row id row.now }
 {

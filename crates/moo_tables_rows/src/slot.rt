@@ -59,6 +59,7 @@ pub struct SlotCells {
     pub value: Option<Vec<u8>>,
 }
 
+/// The values of a row with this value of the slot, in the order of the columns.
 fn slot_values<'a>(key: (ObjNo, PropId), row: &'a SlotCells, value: &'a [u8]) -> [ValueRef<'a>; 5]
     ensures { bound result ≡ slot_row key row.now (Text value.now) }
 {
@@ -71,7 +72,7 @@ fn slot_values<'a>(key: (ObjNo, PropId), row: &'a SlotCells, value: &'a [u8]) ->
     ]
 }
 
-/// The values of a row but for its value.
+/// The values of a row but for the value of the slot, in the order of the columns. They are written if that cell stays.
 fn kept_slot_values(key: (ObjNo, PropId), row: &SlotCells) -> [ValueRef<'_>; 4]
     ensures { bound result ≡ all_but 4 (slot_row key row.now Null) }
 {
@@ -83,13 +84,14 @@ fn kept_slot_values(key: (ObjNo, PropId), row: &SlotCells) -> [ValueRef<'_>; 4]
     ]
 }
 
+/// The two values of the key of a row, which name it in a statement: the object and the property.
 fn slot_key(key: (ObjNo, PropId)) -> [ValueRef<'static>; 2]
     ensures { bound result ≡ Int key.0.0 ∷ Int (pos key.1.0) ∷ [] }
 {
     [object_value(key.0), counter_value(key.1.0)]
 }
 
-/// Writes over a row, but for its value.
+/// The statement that writes over a row, and leaves the value of the slot as it is.
 const KEEP_SLOT: &str = "UPDATE slot2 SET owner = ?3, bits = ?4 WHERE object = ?1 AND prop = ?2";
 
 impl TableRow for SlotCells {

@@ -23,13 +23,18 @@ pub trait Run {
     /// Which connection it is on: after a statement still the same.
     ghost lender: { Self → GName };
 
-    /// Runs one statement of the transaction, and answers how many rows it changed.
+    /// Runs one statement of the transaction with these parameters, and answers how many rows it changed. The errors are those of
+    /// `execute` of `sqlite`.
     fn run(&mut self, sql: &str, params: &[ValueRef<'_>]) -> Result<usize, Error>
+        // The transaction is on the connection that it was on.
         ensures same_reference { lender self.new ≡ lender self.old }
+        // Nothing is committed.
         ensures inside { StaysInside (state self.old) (state self.new) }
+        // A statement that succeeds was executed, and the transaction is open still.
         ensures ran { HasCleanDisk (state self.new) → IfOk result (λ count.
             IsTrue (state self.new).in_transaction
             × Executes sql.now (bound params.now) (state self.old) (state self.new) result) }
+        // In an open transaction the statement does what `sqlite` says of one that can't end it.
         ensures executes { HasCleanDisk (state self.new) → IsTrue (state self.old).in_transaction →
             ExecutesInside 0 sql.now (bound params.now) (state self.old) (state self.new) result };
 }
@@ -44,7 +49,7 @@ impl<S: Alter> Run for Transaction<'_, S> {
     }
 }
 
-/// Whether a rule of the table refused a row: one has its key.
+/// Whether an error says that a rule of the table refused a row: another row has its key.
 pub fn is_conflict(error: &Error) -> bool
     ensures { result ≡ is_conflict error.now }
 {
@@ -54,28 +59,28 @@ pub fn is_conflict(error: &Error) -> bool
     )
 }
 
-/// An object's number, -1 among them, as a whole number.
+/// The number of an object, -1 to 2,147,483,647, as a cell.
 pub fn object_value(n: ObjNo) -> ValueRef<'static>
     ensures { owned result ≡ Int n.0 }
 {
     ValueRef::Int(i64::from(n.0))
 }
 
-/// The number of a property, a verb or a petition, or the next one to be given, as a whole number.
+/// The number of a property, a verb or a petition, or the next one to be given, as a cell.
 pub fn counter_value(n: u32) -> ValueRef<'static>
     ensures { owned result ≡ Int (pos n) }
 {
     ValueRef::Int(i64::from(n))
 }
 
-/// These bytes, as a text.
+/// Bytes, as the cell of a text.
 pub fn text_value(bytes: &[u8]) -> ValueRef<'_>
     ensures { owned result ≡ Text bytes.now }
 {
     ValueRef::Text(bytes)
 }
 
-/// A flag, as 0 or 1.
+/// A flag, as the cell 0 or 1.
 pub fn flag_value(b: bool) -> ValueRef<'static>
     ensures { owned result ≡ flag_cell b }
 {

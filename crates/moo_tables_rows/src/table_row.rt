@@ -15,6 +15,7 @@ use sqlite::Error;
 pub trait TableRow {
     type Key: Copy;
 
+    /// The tables with this row at the key, or without a row there.
     ghost with_row: { Self.Key → Option Self → Tables → Tables };
 
     /// The table that it is a row of.
@@ -24,32 +25,44 @@ pub trait TableRow {
     fn text_of_update() -> &'static str
         ensures { result.now ≡ update_text table };
 
-    /// That of the statement that puts a new row.
+    /// The text of the statement that puts a new row.
     fn text_of_insert() -> &'static str
         ensures { result.now ≡ insert_text table };
 
-    /// That of the statement that puts a row, in place of the one with its key if there is one.
+    /// The text of the statement that puts a row, in place of the one with its key if there is one.
     fn text_of_put() -> &'static str
         ensures { result.now ≡ put_text table };
 
-    /// Runs the statement with one of these texts. If a cell of the row stays, it runs one instead that writes over the other cells.
+    /// Runs the statement with one of these texts, and answers how many rows it wrote. If a cell of the row stays, it runs one instead
+    /// that writes over the other cells.
     fn write<T: Run>(&self, tx: &mut T, key: Self::Key, text: &str) -> Result<usize, Error>
+        // The transaction is on the connection that it was on.
         ensures same_reference { T.lender tx.new ≡ T.lender tx.old }
+        // Nothing is committed: a crash leaves what it could leave before.
         ensures inside { StaysInside (T.state tx.old) (T.state tx.new) }
+        // Whichever of the three texts it is, the tables change as that statement changes them.
         ensures wrote { WritesRow table (with_row key (Some self.now)) text.now (T.state tx.old) (T.state tx.new) result };
 
-    /// Deletes the row with a key, if there is one.
+    /// Deletes the row with a key, if there is one. Answers how many rows it deleted: one or none.
     fn remove<T: Run>(tx: &mut T, key: Self::Key) -> Result<usize, Error>
+        // The transaction is on the connection that it was on.
         ensures same_reference { T.lender tx.new ≡ T.lender tx.old }
+        // Nothing is committed: a crash leaves what it could leave before.
         ensures inside { StaysInside (T.state tx.old) (T.state tx.new) }
+        // If it succeeds, no row has the key, and every other row stays.
         ensures gone { OnOk result (Changes (with_row key None) (T.state tx.old) (T.state tx.new)) }
+        // It fails only if the store does, if it takes more steps than the connection allows, or if a table has no number left for a row.
         ensures cause { HasCauseIn (T.state tx.old) (T.state tx.new) result };
 
     /// Writes over the row with a key, if there is one. Answers how many rows it wrote over: one or none.
     final fn update<T: Run>(&self, tx: &mut T, key: Self::Key) -> Result<usize, Error>
+        // The transaction is on the connection that it was on.
         ensures same_reference { T.lender tx.new ≡ T.lender tx.old }
+        // Nothing is committed: a crash leaves what it could leave before.
         ensures inside { StaysInside (T.state tx.old) (T.state tx.new) }
+        // If it wrote over a row, the tables have the new one in its place; if over none, they stay as they are.
         ensures over { IfOk result (λ count. WritesOver (with_row key (Some self.now)) count (T.state tx.old) (T.state tx.new)) }
+        // It fails only if the store does, if it takes more steps than the connection allows, or if a table has no number left for a row.
         ensures cause { HasCauseIn (T.state tx.old) (T.state tx.new) result }
     {
         self.write(tx, key, Self::text_of_update())
@@ -58,9 +71,14 @@ pub trait TableRow {
     /// Puts a new row. If a row has its key, a rule of the table refuses the new one, and nothing changes. A row of which a
     /// cell stays is written over, if it is there.
     final fn insert<T: Run>(&self, tx: &mut T, key: Self::Key) -> Result<usize, Error>
+        // The transaction is on the connection that it was on.
         ensures same_reference { T.lender tx.new ≡ T.lender tx.old }
+        // Nothing is committed: a crash leaves what it could leave before.
         ensures inside { StaysInside (T.state tx.old) (T.state tx.new) }
+        // If it succeeds, the tables have this row at its key, and change nowhere else.
+        // A row that leaves a cell as it is needs one to be there.
         ensures put { OnOk result (Changes (with_row key (Some self.now)) (T.state tx.old) (T.state tx.new)) }
+        // If it fails, another row has the key and nothing changed, or there is a cause of any change.
         ensures met { MeetsRowIn (T.state tx.old) (T.state tx.new) result }
     {
         self.write(tx, key, Self::text_of_insert())
@@ -68,9 +86,14 @@ pub trait TableRow {
 
     /// Puts a row, in place of the one with its key if there is one.
     final fn put<T: Run>(&self, tx: &mut T, key: Self::Key) -> Result<usize, Error>
+        // The transaction is on the connection that it was on.
         ensures same_reference { T.lender tx.new ≡ T.lender tx.old }
+        // Nothing is committed: a crash leaves what it could leave before.
         ensures inside { StaysInside (T.state tx.old) (T.state tx.new) }
+        // If it succeeds, the tables have this row at its key, and change nowhere else.
+        // A row that leaves a cell as it is needs one to be there.
         ensures put { OnOk result (Changes (with_row key (Some self.now)) (T.state tx.old) (T.state tx.new)) }
+        // It fails only if the store does, if it takes more steps than the connection allows, or if a table has no number left for a row.
         ensures cause { HasCauseIn (T.state tx.old) (T.state tx.new) result }
     {
         self.write(tx, key, Self::text_of_put())

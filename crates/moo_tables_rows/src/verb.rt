@@ -47,6 +47,7 @@ pub struct VerbCells {
     pub iobj: Vec<u8>,
 }
 
+/// The values of a row with these bits, in the order of the columns.
 fn verb_values<'a>(key: (ObjNo, VerbId), row: &'a VerbCells, bits: &'a [u8]) -> [ValueRef<'a>; 8]
     ensures { bound result ≡ verb_row key row.now (Text bits.now) }
 {
@@ -62,7 +63,7 @@ fn verb_values<'a>(key: (ObjNo, VerbId), row: &'a VerbCells, bits: &'a [u8]) -> 
     ]
 }
 
-/// The values of a row but for its bits.
+/// The values of a row but for its bits, in the order of the columns. They are written if that cell stays.
 fn kept_verb_values(key: (ObjNo, VerbId), row: &VerbCells) -> [ValueRef<'_>; 7]
     ensures { bound result ≡ all_but 4 (verb_row key row.now Null) }
 {
@@ -77,13 +78,14 @@ fn kept_verb_values(key: (ObjNo, VerbId), row: &VerbCells) -> [ValueRef<'_>; 7]
     ]
 }
 
+/// The two values of the key of a row, which name it in a statement: the object and the number of the verb.
 fn verb_key(key: (ObjNo, VerbId)) -> [ValueRef<'static>; 2]
     ensures { bound result ≡ Int key.0.0 ∷ Int (pos key.1.0) ∷ [] }
 {
     [object_value(key.0), counter_value(key.1.0)]
 }
 
-/// Writes over a row, but for its bits.
+/// The statement that writes over a row, and leaves its bits as they are.
 const KEEP_VERB: &str =
     "UPDATE verb SET names = ?3, owner = ?4, dobj = ?5, prep = ?6, iobj = ?7 WHERE object = ?1 AND id = ?2";
 

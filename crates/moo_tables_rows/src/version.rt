@@ -27,14 +27,15 @@ impl Version {
         }
     }
 
-    /// Whether it is the version that is written. Tables of any other are migrated when they are opened.
+    /// Whether it is the present version, the one that is written (`IsCurrent` of tables in contracts). Tables of an earlier one are
+    /// migrated when they are opened.
     pub fn is_present(self) -> bool
         ensures { IsTrue result ↔ self ≡ present }
     {
         self == Version::PRESENT
     }
 
-    /// Whether there are petitions, and their two tables.
+    /// Whether the version has petitions, and the tables `petition` and `petition_head`.
     pub fn has_petitions(self) -> bool
         ensures { result ≡ has_petitions self }
     {

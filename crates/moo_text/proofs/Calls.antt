@@ -1,7 +1,7 @@
 -- A call is read as it is spelled.
-use Rattle.moo_text.{proofs.Shared.{◌≡◌, ℕ, zero, suc, ◌≤◌, true, false, inl, inr, List, [], ◌∷◌, ◌++◌, length, Option, Some, None, refl, sym, ap, subst, ◌∙◌, append_assoc, arith, IsTrue, AllByRecursion, option_map, option_map_or, option_and_then, append-nil, Value, is_blank, is_digit, is_word, AreBlanks, Spaced, Item, SpellsToken, Fits, BeginsNo, Ends, after_blanks, word, after_word, opened_at, items_at, value_at, literal_at, chosen, folded, Call, is_within_line, is_all_blank, ClosesCall, SpellsArguments, SpellsCall, found, front_of, behind_mark, after_mark, closed, behind_value, values_at, arguments_of, call_name, call_behind, call_of}, proofs.Reading.{front_read, front_again_of, front_shorter, mark_shorter, name_found}, proofs.Headers.{then_some, map_some, le_taken, le_again, nothing_left}}
+use Rattle.moo_text.{proofs.Shared.{◌≡◌, ℕ, zero, suc, ◌≤◌, true, false, inl, inr, List, [], ◌∷◌, ◌++◌, length, Option, Some, None, refl, sym, ap, subst, ◌∙◌, append_assoc, arith, IsTrue, AllByRecursion, option_map, option_map_or, option_and_then, append-nil, Value, is_blank, is_digit, is_word, AreBlanks, Spaced, Item, SpellsToken, Fits, BeginsNo, Ends, after_blanks, word, after_word, opened_at, items_at, value_at, literal_at, chosen, folded, Call, is_within_line, is_all_blank, ClosesCall, SpellsArguments, SpellsCall, found, front_of, behind_mark, after_mark, closed, behind_value, values_at, arguments_of, call_behind, call_of}, proofs.Reading.{front_read, front_again_of, front_shorter, mark_shorter, name_found}, proofs.Headers.{then_some, map_some, le_taken, le_again, nothing_left}}
 use Rattle.moo_value.{proofs.Items.{mark_taken}, proofs.Tokens.{word_parts, word_again}, proofs.Literals.{blanks_taken, blanks_skipped}}
-use Rattle.moo_world.specs.Names.{spelled_is}
+use Rattle.moo_world.specs.Names.{call_name_of, spelled_is}
 use Rattle.moo_text.specs.declared.line.TheConstants.{LONGEST_LINE}
 
 -- ---- marks
@@ -75,7 +75,7 @@ pub call_taken : (line : List ℕ) (call : Call) → call_of line ≡ Some call 
 call_taken line call e = elim (chosen (is_within_line line) (call_behind (after_blanks line)) None (Some call) e) [
   | inl here ↦
       let b = after_blanks line in
-      let t = then_some (λ name. option_and_then (λ rest. option_map (λ args. record { name = name; args = args }) (arguments_of rest)) (after_mark 40 (after_word b))) (call_name (word b)) call here.1 in
+      let t = then_some (λ name. option_and_then (λ rest. option_map (λ args. record { name = name; args = args }) (arguments_of rest)) (after_mark 40 (after_word b))) (call_name_of (word b)) call here.1 in
       let u = then_some (λ rest. option_map (λ args. record { name = t.0; args = args }) (arguments_of rest)) (after_mark 40 (after_word b)) call t.2 in
       let m = map_some (λ args. record { name = t.0; args = args }) (arguments_of u.0) call u.2 in
       let before = blanks_taken line in
@@ -184,6 +184,6 @@ call_again line call s =
     let short : is_within_line line ≡ true = le_again (length line) LONGEST_LINE s.short in
     let front : after_blanks line ≡ after_blanks (s.name ++ (s.between ++ 40 ∷ s.behind)) = ap after_blanks s.whole ∙ blanks_skipped s.before (s.name ++ (s.between ++ 40 ∷ s.behind)) s.blank_before in
     let b = subst (λ (t : List ℕ). Begins t s.name s.behind) (sym front) (begins s.name s.between s.behind s.is_name.letters s.blank_between) in
-    let name : call_name (word (after_blanks line)) ≡ Some call.name = ap call_name b.front ∙ name_found s.name call.name s.is_name.names in
+    let name : call_name_of (word (after_blanks line)) ≡ Some call.name = ap call_name_of b.front ∙ name_found s.name call.name s.is_name.names in
     let args = arguments_again s.behind call.args s.arguments in
     rw (short, name, b.mark, args) refl

@@ -1,8 +1,8 @@
 -- Reading a header and a call from left to right.
-use Rattle.moo_text.proofs.Shared.{◌≡◌, ℕ, zero, suc, ◌-◌, ◌<◌, ◌≤◌, true, List, [], ◌∷◌, ◌++◌, length, drop, Option, Some, None, Ok, Err, refl, sym, ap, ◌∙◌, append_assoc, arith, ◌↔◌, option_map, option_and_then, list_all, length-append, Value, Spells, Fits, Ends, Front, literal_at, value_at, after_blanks, fits, folded, is_all_blank, found, front_of, behind_value, values_at, after_mark, call_name}
+use Rattle.moo_text.proofs.Shared.{◌≡◌, ℕ, zero, suc, ◌-◌, ◌<◌, ◌≤◌, true, List, [], ◌∷◌, ◌++◌, length, drop, Option, Some, None, Ok, Err, refl, sym, ap, ◌∙◌, append_assoc, arith, ◌↔◌, option_map, option_and_then, list_all, length-append, Value, Spells, Fits, Ends, Front, literal_at, value_at, after_blanks, fits, folded, is_all_blank, found, front_of, behind_value, values_at, after_mark}
 use Rattle.std.proofs.lemmas.List.Folds.{list_all-append}
 use Rattle.moo_value.{specs.Reading.{Read}, proofs.Literals.{front_taken, front_again, literal_again, value_taken, takes, blanks_taken}, proofs.Items.{mark_taken}}
-use Rattle.moo_world.{specs.Names.{spelling}, specs.declared.name.CallName.{CallName}, specs.Names.{spelled_is}}
+use Rattle.moo_world.{specs.Names.{call_name_of, spelling}, specs.declared.name.CallName.{CallName}, specs.Names.{spelled_is}}
 use Rattle.moo_value.specs.declared.value.TheConstants.{MAX_NESTING}
 
 -- an option that is never some
@@ -85,13 +85,13 @@ closed_read {mark = mark} {values = values} {v = v} {after = after} r close blan
 pub mark_shorter : (mark : ℕ) (b rest : List ℕ) → after_mark mark b ≡ Some rest → length rest < length b
 mark_shorter mark b rest e = let w = blanks_taken b in omega (arith, ap length w.2 ∙ length-append w.0 (after_blanks b), ap length (mark_taken mark b rest e))
 
-pub name_found : (w : List ℕ) (name : CallName) → folded w ≡ spelling name → call_name w ≡ Some name
+pub name_found : (w : List ℕ) (name : CallName) → folded w ≡ spelling name → call_name_of w ≡ Some name
 name_found w name e = (spelled_is (folded w) name).1 e
 
-pub name_none : (w : List ℕ) → ((name : CallName) → folded w ≡ spelling name → ⊥) → call_name w ≡ None
-name_none w never = none_if (call_name w) (λ name e. never name ((spelled_is (folded w) name).0 e))
+pub name_none : (w : List ℕ) → ((name : CallName) → folded w ≡ spelling name → ⊥) → call_name_of w ≡ None
+name_none w never = none_if (call_name_of w) (λ name e. never name ((spelled_is (folded w) name).0 e))
 
-pub name_is : (w : List ℕ) (read : Option CallName) → ((name : CallName) → (read ≡ Some name) ↔ (folded w ≡ spelling name)) → read ≡ call_name w
+pub name_is : (w : List ℕ) (read : Option CallName) → ((name : CallName) → (read ≡ Some name) ↔ (folded w ≡ spelling name)) → read ≡ call_name_of w
 name_is w None reads = sym (name_none w (λ name e. let h : None ≡ Some name = (reads name).1 e in cc))
 name_is w (Some name) reads = sym (name_found w name ((reads name).0 refl))
 

@@ -11,7 +11,7 @@ pub use Rattle.moo_text.specs.Given.{BreaksOff, Explains, GivesAll, ReaderGives,
 pub use Rattle.moo_text.specs.Grammar.{ClosesCall, SpellsArguments, SpellsAt, SpellsCall, SpellsHeader, SpellsPlace}
 pub use Rattle.moo_text.specs.Items.{between, items, skipping, within}
 pub use Rattle.moo_text.specs.Line.{from_blank, is_all_blank, is_blank_line, is_end_line, is_end_word, is_within_line, until_blank, words_of_line}
-pub use Rattle.moo_text.specs.LineReading.{arguments_of, at_of, begins_with_byte, behind_value, behind_word, call_behind, call_name, call_of, closed, found, header_behind, header_of, is_place, last_place, object_of, object_value, place_number, values_at}
+pub use Rattle.moo_text.specs.LineReading.{arguments_of, at_of, begins_with_byte, behind_value, behind_word, call_behind, call_of, closed, found, header_behind, header_of, is_place, last_place, object_of, object_value, place_number, values_at}
 unfoldable pub use Rattle.moo_text.specs.LineReading.{front_of}
 pub use Rattle.moo_text.specs.Side.{IsOver, Side, lines_room, lines_side, untouched}
 pub use Rattle.moo_text.specs.declared.fault.TextFault.{TextFault}

@@ -10,9 +10,11 @@ use Rattle.moo_text.specs.declared.next.Next.{Next}
 use Rattle.moo_text.specs.declared.next.Next.TheVariants.{Batch as Whole, Malformed, Truncated, End}
 use Rattle.moo_world.specs.declared.call.TheConstants.{MOST_CALLS}
 
+-- each line is blank
 abbrev pub AreBlankLines : List (List ℕ) → Type 0
 AreBlankLines lines = AllByRecursion (λ line. is_blank_line line ≡ true) lines
 
+-- no line is `end`
 abbrev pub HaveNoEnd : List (List ℕ) → Type 0
 HaveNoEnd lines = AllByRecursion (λ line. is_end_line line ≡ false) lines
 
@@ -21,9 +23,11 @@ pub record IsContentLine (line : List ℕ) : Type 0 where
   pub not_blank : is_blank_line line ≡ false
   pub not_end : is_end_line line ≡ false
 
+-- the line spells no header
 abbrev pub IsNoHeader : List ℕ → Type 0
 IsNoHeader line = (header : Header) → ¬ (SpellsHeader header line)
 
+-- the line spells no call
 abbrev pub IsNoCall : List ℕ → Type 0
 IsNoCall line = (call : Call) → ¬ (SpellsCall call line)
 

@@ -39,15 +39,15 @@ pub record BreaksOff (old new : Side) (fault : TextFault) : Type 0 where
   pub gives : ReaderGives old new given
   pub count : Explains old.room (length given) fault
 
--- a line is read, and none at the end
+-- the first line of the text is read; no line if the text is at its end
 abbrev pub ReadsLine : Side → Side → Option (List ℕ) → Type 0
 ReadsLine old new line = ReadsOn old new (λ before behind. TakesLine before behind line)
 
--- what f says of the lines before is what g says of those after
+-- the items that f finds in the lines of the text before are those that g finds in the lines of the text after
 abbrev pub ReadsAlong : (List (List ℕ) → List Next) → (List (List ℕ) → List Next) → Side → Side → Type 0
 ReadsAlong f g old new = ReadsOn old new (λ before behind. Carries f g before behind)
 
--- f's first item is read
+-- the first item that f finds in the text is read
 abbrev pub ReadsFirst : (List (List ℕ) → List Next) → Side → Side → Next → Type 0
 ReadsFirst f old new item = ReadsOn old new (λ before behind. TakesFirst f before behind item)
 
@@ -55,7 +55,7 @@ ReadsFirst f old new item = ReadsOn old new (λ before behind. TakesFirst f befo
 abbrev pub ReadsNext : Side → Side → Next → Type 0
 ReadsNext old new item = ReadsOn old new (λ before behind. TakesNext before behind item)
 
--- these items are read
+-- these items are read, one after another
 abbrev pub ReadsItems : Side → Side → List Next → Type 0
 ReadsItems old new done = ReadsOn old new (λ before behind. items before ≡ done ++ items behind)
 
@@ -70,21 +70,25 @@ pub record StopsBehind (left : Option (List ℕ)) (room : ℕ) (new : Side) (don
   pub count : Explains room (length given) fault
   pub front : (rest : List ℕ) → (new.ended ≡ true → rest ≡ []) → (more : List Next) × (items (given ++ rest) ≡ done ++ more)
 
--- if the reader tells its bytes, these are all of them, or they are in front
+-- if the reader tells its bytes, these are all of them
 abbrev pub GivesAll : Option (List ℕ) → List ℕ → Type 0
 GivesAll left given = IfSome left (λ text. given ≡ text)
 
+-- if the reader tells its bytes, these come first
 abbrev pub GivesFront : Option (List ℕ) → List ℕ → Type 0
 GivesFront left given = IfSome left (λ text. (rest : List ℕ) × (text ≡ given ++ rest))
 
--- ---- the same of what reads lines, before and after
+-- ---- of what reads the lines of a text, before and after
 
+-- the first line of the text is read; no line if the text is at its end
 abbrev pub GivesLine : {R : Type 0} → (R → Option (List ℕ)) → (old new : LineReader R) → Option (Vec ℕ) → Type 0
 GivesLine remaining old new line = ReadsLine (lines_side remaining old) (lines_side remaining new) (option_map (λ l. l.items) line)
 
+-- the first item that f finds in the text is read
 abbrev pub GivesFirst : {R : Type 0} → (List (List ℕ) → List Next) → (R → Option (List ℕ)) → (old new : LineReader R) → Next → Type 0
 GivesFirst f remaining old new item = ReadsFirst f (lines_side remaining old) (lines_side remaining new) item
 
+-- the reader gave some bytes, and there reading stopped with a fault: Long only if there was no room for the last byte, and never Write
 abbrev pub LinesBreakOff : {R : Type 0} → (R → Option (List ℕ)) → (old new : LineReader R) → TextFault → Type 0
 LinesBreakOff remaining old new fault = BreaksOff (lines_side remaining old) (lines_side remaining new) fault
 

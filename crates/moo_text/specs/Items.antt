@@ -11,7 +11,7 @@ use Rattle.moo_text.specs.declared.next.Next.TheVariants.{Batch as Whole, Malfor
 use Rattle.moo_world.specs.declared.call.TheConstants.{MOST_CALLS}
 
 abbrev mutual
-  -- between two batches
+  -- the items of lines between two batches
   pub between : List (List ℕ) → List Next
   between [] = []
   between (line ∷ rest) =
@@ -19,7 +19,7 @@ abbrev mutual
       else (if is_end_line line then Malformed 1 ∷ between rest
       else option_map_or (λ header. within header [] 1 rest) (header_of line) (skipping 1 rest))
 
-  -- inside a batch with this header and these calls, n lines of which are read
+  -- the items of lines inside a batch with this header and these calls, of which n lines are read
   pub within : Header → List Call → ℕ → List (List ℕ) → List Next
   within header calls n [] = Truncated ∷ []
   within header calls n (line ∷ rest) =
@@ -27,7 +27,7 @@ abbrev mutual
       else (if is_end_line line then Whole (record { programmer = header.programmer; at = header.at; calls = calls }) ∷ between rest
       else option_map_or (λ call. if nat_lt (length calls) MOST_CALLS then within header (calls ++ call ∷ []) (n + 1) rest else skipping (n + 1) rest) (call_of line) (skipping (n + 1) rest))
 
-  -- after line n, the first bad one of its batch
+  -- the items of lines after line n of a batch, its first bad line
   pub skipping : ℕ → List (List ℕ) → List Next
   skipping n [] = Truncated ∷ []
   skipping n (line ∷ rest) = if is_end_line line then Malformed n ∷ between rest else skipping n rest

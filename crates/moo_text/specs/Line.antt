@@ -14,25 +14,29 @@ is_within_line line = nat_le (length line) LONGEST_LINE
 abbrev pub is_all_blank : List ℕ → Bool
 is_all_blank bytes = length (after_blanks bytes) == 0
 
+-- a line of at most 262,144 bytes, all of them spaces and tabs
 abbrev pub is_blank_line : List ℕ → Bool
 is_blank_line line = is_within_line line && is_all_blank line
 
+-- `end`, with nothing but spaces and tabs after it
 abbrev pub is_end_word : List ℕ → Bool
 is_end_word (a ∷ b ∷ c ∷ rest) = (a == code "e") && (b == code "n") && (c == code "d") && is_all_blank rest
 is_end_word _ = false
 
+-- a line of at most 262,144 bytes that is `end`, with spaces and tabs before and after
 abbrev pub is_end_line : List ℕ → Bool
 is_end_line line = is_within_line line && is_end_word (after_blanks line)
 
--- what is between blanks, in order
+-- the words of a line: what is between spaces and tabs, in order
 abbrev pub words_of_line : List ℕ → List (List ℕ)
 words_of_line line = filter (λ word. not (length word == 0)) (slice_split is_blank line)
 
--- what is in front of the first blank, and what follows
+-- the bytes in front of the first space or tab
 abbrev pub until_blank : List ℕ → List ℕ
 until_blank [] = []
 until_blank (c ∷ cs) = if is_blank c then [] else c ∷ until_blank cs
 
+-- the bytes from the first space or tab on
 abbrev pub from_blank : List ℕ → List ℕ
 from_blank [] = []
 from_blank (c ∷ cs) = if is_blank c then c ∷ cs else from_blank cs

@@ -14,9 +14,11 @@ use Rattle.moo_text.specs.declared.reply.Answer.TheVariants.{Replied, Malformed,
 abbrev pub answer_line : Value → List ℕ
 answer_line v = print v ++ 10 ∷ []
 
+-- `accepted N`, a line for each answer, and `end`
 abbrev pub accepted_text : ℕ → List Value → List ℕ
 accepted_text seq answers = codes "accepted " ++ (decimal seq ++ 10 ∷ (flat_map answer_line answers ++ codes "end\n"))
 
+-- `refused N E_CODE`: the call, from 1, and its error
 abbrev pub refused_text : ℕ → Code → List ℕ
 refused_text call code = codes "refused " ++ (decimal call ++ 32 ∷ (name code ++ 10 ∷ []))
 

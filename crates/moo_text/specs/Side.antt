@@ -17,16 +17,19 @@ pub record Side : Type 0 where
 abbrev pub untouched : Option (List ℕ) → ℕ → Side
 untouched left room = record { left = left; room = room; ended = false; ahead = [] }
 
+-- the reader's side of what reads the lines of a text
 abbrev pub lines_side : {R : Type 0} → (R → Option (List ℕ)) → LineReader R → Side
 lines_side remaining lines = record { left = remaining lines.reader; room = lines.room; ended = lines.ended; ahead = lines.ahead }
 
+-- the reader's side of what reads the batches of a text
 abbrev pub feed_side : {R : Type 0} → (R → Option (List ℕ)) → Feed R → Side
 feed_side remaining feed = lines_side remaining feed.lines
 
--- so many bytes may still be taken, those that are read ahead among them
+-- how many bytes may still be taken, those that are read ahead among them
 abbrev pub lines_room : {R : Type 0} → LineReader R → ℕ
 lines_room lines = length lines.ahead + lines.room
 
+-- how many bytes may still be taken of the batches of a text
 abbrev pub feed_room : {R : Type 0} → Feed R → ℕ
 feed_room feed = lines_room feed.lines
 

@@ -1,9 +1,10 @@
-//! Reading a call.
+//! Reading a call from a line.
 
 ghost use Rattle.std.specs.Prelude.{◌≡◌, ◌≢◌, length, IfOk, IfErr, None, Some};
 ghost use Rattle.moo_text.specs.LineFaults.{Says};
 ghost use Rattle.moo_text.specs.declared.line_fault.LineFault.TheVariants.{OutOfMemory};
-ghost use Rattle.moo_text.specs.LineReading.{arguments_of as arguments_in, values_at, call_name, call_of};
+ghost use Rattle.moo_text.specs.LineReading.{arguments_of, values_at, call_of};
+ghost use Rattle.moo_world.specs.Names.{call_name_of};
 
 use crate::line::{is_all_blank, is_within_line};
 use crate::line_fault::LineFault;
@@ -12,10 +13,13 @@ use moo_value::{after_mark, skip_blanks, split_word};
 use moo_world::{Args, Call, CallName};
 use std::alloc::{AllocError, Global};
 
-/// One value at least, and commas between them, to the mark that ends the line.
+/// The values before a closing mark, which ends the line: one at least, with commas between them. The error is the first fault from left to
+/// right, or OutOfMemory.
 pub fn values_before(alloc: Global, mark: u8, bytes: &[u8]) -> Result<Args, LineFault<'_>>
     ensures ok { IfOk result (λ args. values_at mark (length bytes.now) bytes.now ≡ Some args) }
+    // There is a fault, but for out of memory, only if there are no such values.
     ensures err { IfErr result (λ fault. fault ≢ OutOfMemory → values_at mark (length bytes.now) bytes.now ≡ None) }
+    // It is true of the bytes that it points at.
     ensures says { IfErr result Says }
 {
     let mut values = Vec::new(alloc);
@@ -33,10 +37,13 @@ pub fn values_before(alloc: Global, mark: u8, bytes: &[u8]) -> Result<Args, Line
     }
 }
 
-/// The arguments after the bracket, to the end of the line.
+/// The arguments of a call, from past its `(` to the `)` that ends the line. The error is the first fault from left to right, or
+/// OutOfMemory.
 fn arguments_of(alloc: Global, bytes: &[u8]) -> Result<Args, LineFault<'_>>
-    ensures ok { IfOk result (λ args. arguments_in bytes.now ≡ Some args) }
-    ensures err { IfErr result (λ fault. fault ≢ OutOfMemory → arguments_in bytes.now ≡ None) }
+    ensures ok { IfOk result (λ args. arguments_of bytes.now ≡ Some args) }
+    // There is a fault, but for out of memory, only if the bytes aren't arguments.
+    ensures err { IfErr result (λ fault. fault ≢ OutOfMemory → arguments_of bytes.now ≡ None) }
+    // It is true of the bytes that it points at.
     ensures says { IfErr result Says }
 {
     match after_mark(b')', bytes) {
@@ -46,17 +53,20 @@ fn arguments_of(alloc: Global, bytes: &[u8]) -> Result<Args, LineFault<'_>>
     }
 }
 
-/// The call that a word names.
+/// The call that a word names, in any case; `None` if it names none.
 fn call_named(word: &[u8]) -> Option<CallName>
-    ensures { result ≡ call_name word.now }
+    ensures { result ≡ call_name_of word.now }
 {
     CallName::read(word)
 }
 
-/// The call that a line of at most 262,144 bytes spells, or why it spells none.
+/// The call that a line of at most 262,144 bytes spells, `name(value, ...)`. The error is why it spells none: the first fault from left to
+/// right; or OutOfMemory.
 pub fn call_on_line(alloc: Global, line: &[u8]) -> Result<Call, LineFault<'_>>
     ensures ok { IfOk result (λ call. call_of line.now ≡ Some call) }
+    // There is a fault, but for out of memory, only if the line spells no call.
     ensures err { IfErr result (λ fault. fault ≢ OutOfMemory → call_of line.now ≡ None) }
+    // It is true of the bytes that it points at.
     ensures says { IfErr result Says }
 {
     if !is_within_line(line) {
@@ -70,7 +80,7 @@ pub fn call_on_line(alloc: Global, line: &[u8]) -> Result<Call, LineFault<'_>>
     Ok(Call { name, args })
 }
 
-/// The call that a line of at most 262,144 bytes spells; none for any other line. AllocError if memory runs out.
+/// The call that a line of at most 262,144 bytes spells; `None` for any other line. AllocError if memory runs out.
 pub fn call_in(alloc: Global, line: &[u8]) -> Result<Option<Call>, AllocError>
     ensures { IfOk result (λ call. call ≡ call_of line.now) }
 {

@@ -17,15 +17,20 @@ use moo_world::{Batch, Calls, MOST_CALLS};
 use std::alloc::Global;
 use std::io::Read;
 
-/// Reads on after the first bad line of a batch, to its end.
+/// Reads on after the first bad line of a batch, which is its line `number`, to the next line `end`. Answers Malformed with that number, or
+/// Truncated if the text ends first. The errors are those of `next_batch`.
 fn skip_batch<R: Read>(
     number: u32,
     bad: Vec<u8>,
     lines: &mut LineReader<R>,
 ) -> Result<Next, TextFault>
+    // The item is the first that the text after the bad line has.
     ensures item { IfOk result (GivesFirst (skipping number) R.remaining lines.old lines.new) }
+    // No more may still be read than before.
     ensures falls { OnOk result (lines_room lines.new ≤ lines_room lines.old) }
+    // If the text ends inside the batch, nothing is left.
     ensures ends { IfOk result (λ item. EndsAt item (lines_side R.remaining lines.new)) }
+    // A fault is Long only if one byte more was given than there was room for, and never Write.
     ensures cause { IfErr result (LinesBreakOff R.remaining lines.old lines.new) }
 {
     lines.marks.spoil(bad);
@@ -41,15 +46,19 @@ fn skip_batch<R: Read>(
     }
 }
 
-/// Reads the calls of a batch, whose header is its first line.
+/// Reads the lines of a batch after its header: calls, 1,000 at most, to the line `end`. The errors are those of `next_batch`.
 fn rest_of_batch<R: Read>(
     alloc: Global,
     header: Header,
     lines: &mut LineReader<R>,
 ) -> Result<Next, TextFault>
+    // The item is the first that the text after the header has.
     ensures item { IfOk result (GivesFirst (within header [] 1) R.remaining lines.old lines.new) }
+    // No more may still be read than before.
     ensures falls { OnOk result (lines_room lines.new ≤ lines_room lines.old) }
+    // If the text ends inside the batch, nothing is left.
     ensures ends { IfOk result (λ item. EndsAt item (lines_side R.remaining lines.new)) }
+    // A fault is Long only if one byte more was given than there was room for, and never Write.
     ensures cause { IfErr result (LinesBreakOff R.remaining lines.old lines.new) }
 {
     let mut calls = Vec::new(alloc);
@@ -79,11 +88,14 @@ fn rest_of_batch<R: Read>(
     }
 }
 
-/// The next item of the text.
+/// Reads the next item of a text: a batch, its first bad line, its want of an end, or the end of the text. The errors are those of
+/// `next_batch`.
 fn next_item<R: Read>(alloc: Global, lines: &mut LineReader<R>) -> Result<Next, TextFault>
     ensures item { IfOk result (λ item. ReadsNext (lines_side R.remaining lines.old) (lines_side R.remaining lines.new) item) }
+    // Each item but the end takes some of the room, and after the end nothing is left.
     ensures falls { IfOk result (λ item. item ≢ Next.End → lines_room lines.new < lines_room lines.old) }
     ensures ends { IfOk result (λ item. EndsAt item (lines_side R.remaining lines.new)) }
+    // A fault is Long only if one byte more was given than there was room for, and never Write.
     ensures cause { IfErr result (LinesBreakOff R.remaining lines.old lines.new) }
 {
     loop {
@@ -118,19 +130,23 @@ impl<R: Read> Feed<R> {
     ghost use Rattle.moo_text.specs.Side.{untouched, feed_side, feed_room, EndsAt};
     ghost use Rattle.moo_text.specs.Given.{ReadsNext, BreaksOff};
 
-    /// Reads nothing yet, and no more than 1,073,741,824 bytes later.
+    /// The batches of a text that a reader will give, of at most 1,073,741,824 bytes. Nothing is read yet.
     pub fn new(alloc: Global, reader: R) -> Self
+        // Nothing is read yet, and so many bytes may be.
         ensures side { feed_side R.remaining result ≡ untouched (R.remaining reader) LONGEST_TEXT }
         ensures room { feed_room result ≡ LONGEST_TEXT }
+        // There was no fault.
         ensures fresh { result.fault ≡ None }
     {
         Feed::with_room(alloc, reader, LONGEST_TEXT)
     }
 
-    /// Reads nothing yet, and no more than so many bytes later, nor than [`LONGEST_TEXT`].
+    /// The batches of a text that a reader will give, of at most `room` bytes, and at most [`LONGEST_TEXT`]. Nothing is read yet.
     pub(crate) fn with_room(alloc: Global, reader: R, room: usize) -> Self
+        // Nothing is read yet, and so many bytes may be.
         ensures side { feed_side R.remaining result ≡ untouched (R.remaining reader) (min room LONGEST_TEXT) }
         ensures room { feed_room result ≡ min room LONGEST_TEXT }
+        // There was no fault.
         ensures fresh { result.fault ≡ None }
     {
         Feed {
@@ -147,8 +163,10 @@ impl<R: Read> Feed<R> {
     pub fn next_batch(&mut self) -> Result<Next, TextFault>
         // As many bytes were given as were taken of the room, and these lead from the text before to its next item and the text after.
         ensures next { IfOk result (λ item. ReadsNext (feed_side R.remaining self.old) (feed_side R.remaining self.new) item) }
+        // A fault is kept, and without one there was none before.
         ensures fault { IfErr result (λ fault. self.new.fault ≡ Some fault) }
         ensures works { OnOk result (self.new.fault ≡ None) }
+        // After a fault it is that fault again, and nothing changes.
         ensures repeats { IfSome self.old.fault (λ fault. result ≡ Err fault) }
         ensures rests { IfSome self.old.fault (λ _. self.new ≡ self.old) }
         // Each item but the end takes some of the room, and after the end nothing is left.
@@ -166,7 +184,7 @@ impl<R: Read> Feed<R> {
         result
     }
 
-    /// Where the lines of the last item are in the text.
+    /// On which lines of the text the last item is, for messages.
     pub fn marks(&self) -> &Marks {
         &self.lines.marks
     }

@@ -15,10 +15,10 @@ use std::io::Read;
 /// The most bytes of a text.
 pub const LONGEST_TEXT: usize = 1073741824;
 
-/// So much of a line is kept: its limit, a carriage return that may be dropped, and a byte by which it is seen to be too long.
+/// The most bytes of a line that are kept: its limit, a carriage return that may be dropped, and a byte by which it is seen to be too long.
 const MOST_KEPT: usize = LONGEST_LINE + 2;
 
-/// The place of the first line end.
+/// The place of the first line end, from 0; `None` if there is none.
 fn newline_at(text: &[u8]) -> Option<usize>
     ensures first { result ≡ position_from (λ byte. byte == 10) 0 text.now }
     ensures within { IfSome result (λ at. at < length text.now) }
@@ -26,7 +26,7 @@ fn newline_at(text: &[u8]) -> Option<usize>
     text.iter().position(|byte| *byte == b'\n')
 }
 
-/// The bytes go on the line, as far as they are kept.
+/// Appends bytes to a line, as far as it is kept: 262,146 bytes. The only error is out of memory.
 fn put_kept(line: &mut Vec<u8>, bytes: &[u8]) -> Result<(), AllocError>
     requires { length line.old.items ≤ MOST_KEPT }
     ensures { OnOk result (line.new.items ≡ take MOST_KEPT (line.old.items ++ bytes.now)) }
@@ -45,7 +45,8 @@ fn drop_return(line: &mut Vec<u8>)
     }
 }
 
-/// What reads the lines of a text from a reader, in pieces. Once the reader has given no bytes it isn't read again.
+/// A reader of the lines of a text, which reads in pieces of 4,096 bytes at most. Once the reader below has given no bytes, it isn't read
+/// again.
 #[derive(Drop)]
 pub struct LineReader<R> {
     alloc: Global,
@@ -62,7 +63,7 @@ impl<R: Read> LineReader<R> {
     ghost use Rattle.moo_text.specs.Side.{untouched, lines_side, IsOver};
     ghost use Rattle.moo_text.specs.Given.{ReaderGives, GivesLine, TakesRoom, LinesBreakOff};
 
-    /// Reads nothing yet. Of the reader at most so many bytes are read, and never more than [`LONGEST_TEXT`].
+    /// The lines that a reader will give, of at most `room` bytes, and at most [`LONGEST_TEXT`]. Nothing is read yet.
     pub fn new(alloc: Global, reader: R, room: usize) -> Self
         ensures { lines_side R.remaining result ≡ untouched (R.remaining reader) (min room LONGEST_TEXT) }
     {
@@ -76,13 +77,19 @@ impl<R: Read> LineReader<R> {
         }
     }
 
-    /// Reads one more piece if none is left. False at the end of the text.
+    /// Reads one more piece, when no bytes are left. False at the end of the text. Read if the reader fails, Long if it gives a byte for
+    /// which there is no room, OutOfMemory if memory runs out.
     fn read_piece(&mut self) -> Result<bool, TextFault>
+        // No bytes are left.
         requires { self.old.ahead ≡ [] }
+        // The reader gave the bytes that there are then, and they took so much of the room.
         ensures gives { OnOk result (ReaderGives (lines_side R.remaining self.old) (lines_side R.remaining self.new) self.new.ahead) }
         ensures room { OnOk result (self.old.room ≡ length self.new.ahead + self.new.room) }
+        // A piece takes some of the room.
         ensures falls { IfOk result (λ more. more ≡ true → self.new.room < self.old.room) }
+        // At the end of the text nothing is left.
         ensures end { IfOk result (λ more. more ≡ false → IsOver (lines_side R.remaining self.new)) }
+        // A fault is Long only if one byte more was given than there was room for, and never Write.
         ensures cause { IfErr result (LinesBreakOff R.remaining self.old self.new) }
     {
         if self.ended {
@@ -106,11 +113,15 @@ impl<R: Read> LineReader<R> {
         }
     }
 
-    /// The next line, and none at the end of the text. Of a line over the limit so much is given that it is seen to be over it.
+    /// Reads the next line, without its end; `None` at the end of the text. A line over 262,144 bytes is cut after that many and at least
+    /// one more. The errors are those of `read_piece`.
     fn read_line(&mut self) -> Result<Option<Vec<u8>>, TextFault>
+        // The text loses its first line: that line, or the beginning of it by which it is seen to be too long.
         ensures line { IfOk result (GivesLine R.remaining self.old self.new) }
+        // A line takes some of the room, and at the end of the text nothing is left.
         ensures falls { IfOk result (TakesRoom self.old self.new) }
         ensures ends { IfOk result (λ line. IfNone line (IsOver (lines_side R.remaining self.new))) }
+        // A fault is Long only if one byte more was given than there was room for, and never Write.
         ensures cause { IfErr result (LinesBreakOff R.remaining self.old self.new) }
     {
         let mut line = Vec::new(self.alloc);
@@ -136,11 +147,16 @@ impl<R: Read> LineReader<R> {
         }
     }
 
-    /// The next line, and none at the end of the text. Of a line over the limit so much is given that it is seen to be over it.
+    /// Reads the next line, without its end, and counts it in the marks; `None` at the end of the text. A line over 262,144 bytes is cut
+    /// after that many and at least one more. Read if the reader fails, Long if the text is longer than its room, OutOfMemory if memory
+    /// runs out.
     pub fn next_line(&mut self) -> Result<Option<Vec<u8>>, TextFault>
+        // The text loses its first line: that line, or the beginning of it by which it is seen to be too long.
         ensures line { IfOk result (GivesLine R.remaining self.old self.new) }
+        // A line takes some of the room, and at the end of the text nothing is left.
         ensures falls { IfOk result (TakesRoom self.old self.new) }
         ensures ends { IfOk result (λ line. IfNone line (IsOver (lines_side R.remaining self.new))) }
+        // A fault is Long only if one byte more was given than there was room for, and never Write.
         ensures cause { IfErr result (LinesBreakOff R.remaining self.old self.new) }
     {
         let read = self.read_line();

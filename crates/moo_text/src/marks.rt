@@ -8,7 +8,7 @@ use std::alloc::Global;
 /// Without memory for a number the later lines of the batch have none.
 #[derive(Drop)]
 pub struct Marks {
-    /// So many lines were read.
+    /// How many lines were read.
     count: u64,
     /// The numbers of the lines of the batch that aren't blank.
     numbers: Vec<u64>,
@@ -28,6 +28,7 @@ fn begins_batch(line: &[u8]) -> bool {
 }
 
 impl Marks {
+    /// No line was read.
     pub(crate) fn new(alloc: Global) -> Marks {
         Marks {
             count: 0,
@@ -39,7 +40,7 @@ impl Marks {
         }
     }
 
-    /// One more line was read.
+    /// Counts one more line that was read, and notes where it is: in the batch, or the first line of the next batch.
     pub(crate) fn add(&mut self, line: &[u8]) {
         self.count = self.count.saturating_add(1);
         if self.is_over {
@@ -59,38 +60,39 @@ impl Marks {
         self.is_over = is_end_line(line);
     }
 
-    /// That line is the first bad one of the batch.
+    /// Notes that the line read last is the first bad line of the batch.
     pub(crate) fn spoil(&mut self, line: Vec<u8>) {
         self.bad = line;
         self.bad_line = Some(self.count);
     }
 
-    /// The line of the text that the batch begins with. The first line of a text is 1.
+    /// The number of the line of the text that the batch begins with, from 1; `None` without memory for it.
     pub fn header(&self) -> Option<u64> {
         self.numbers.first().copied()
     }
 
-    /// The line of the text that a call of the batch is on. The first call is 1.
+    /// The number of the line of the text that a call of the batch is on, from 1. The first call is 1. `None` if the batch has no such
+    /// call, or without memory for it.
     pub fn call(&self, call: u32) -> Option<u64> {
         self.numbers.get(call as usize).copied()
     }
 
-    /// The first bad line of the batch, without its end; no bytes if it has none. A line over its limit is cut after it.
+    /// The first bad line of the batch, without its end; no bytes if the batch has no bad line. A line over its limit is cut after it.
     pub fn bad(&self) -> &[u8] {
         self.bad.as_slice()
     }
 
-    /// The line of the text that this is.
+    /// The number of the first bad line of the batch in the text, from 1; `None` if the batch has no bad line.
     pub fn bad_line(&self) -> Option<u64> {
         self.bad_line
     }
 
-    /// Whether a batch begins after it, before the next line `end`: that batch is skipped too.
+    /// Whether a batch begins after the first bad line, before the next line `end`: that batch is skipped too.
     pub fn swallows(&self) -> bool {
         self.swallows
     }
 
-    /// So many lines were read.
+    /// How many lines of the text were read.
     pub fn count(&self) -> u64 {
         self.count
     }

@@ -3,8 +3,8 @@
 use crate::marks::Marks;
 use crate::reply::Answer;
 
-/// Who is told how the items of a text were answered. What it does of that, no contract says.
+/// Notes are told how the items of a text were answered, for messages. What they do then, no contract says.
 pub trait Notes {
-    /// An item was answered so.
+    /// Tells of an item of a text: on which lines it is, and its answer.
     fn note(&mut self, marks: &Marks, answer: &Answer);
 }

@@ -13,13 +13,13 @@ use std::alloc::{AllocError, Global};
 /// What a batch is answered.
 #[derive(Drop)]
 pub enum Reply {
-    /// All its calls were done; `seq` is the number after the batch.
+    /// All its calls were done; `seq` is how many batches are accepted with it.
     Accepted { seq: u64, answers: Answers },
     /// Its call number `call`, from 1 on, failed with `code`, and nothing changed.
     Refused { call: u32, code: Code },
     /// Its call number `call` found no number left, or, with 0, the batch itself found none; nothing changed.
     Full { call: u32 },
-    /// It named another number than `seq`, the present one.
+    /// It named another number of accepted batches than `seq`, the present one.
     Stale { seq: u64 },
     /// Memory ran out, and nothing changed.
     NoMemory,
@@ -40,6 +40,7 @@ pub enum Answer {
     Closed,
 }
 
+/// Appends a word, a number in decimal and an end. The only error is out of memory; some of the bytes may be there then.
 fn put_number(
     alloc: Global,
     word: &[u8],
@@ -56,6 +57,7 @@ fn put_number(
     out.extend_from_slice(end)
 }
 
+/// Appends a line of a word and a number in decimal. The only error is out of memory; some of the bytes may be there then.
 fn put_line(alloc: Global, word: &[u8], number: u64, out: &mut Vec<u8>) -> Result<(), AllocError>
     ensures ok { OnOk result (out.new.items ≡ out.old.items ++ (word.now ++ (decimal number ++ 10 ∷ []))) }
     ensures kept { StartsWith out.new.items out.old.items }
@@ -63,6 +65,7 @@ fn put_line(alloc: Global, word: &[u8], number: u64, out: &mut Vec<u8>) -> Resul
     put_number(alloc, word, number, b"\n", out)
 }
 
+/// Appends the line `refused N E_CODE`. The only error is out of memory; some of the bytes may be there then.
 fn put_refused(alloc: Global, call: u32, code: Code, out: &mut Vec<u8>) -> Result<(), AllocError>
     ensures ok { OnOk result (out.new.items ≡ out.old.items ++ refused_text call code) }
     ensures kept { StartsWith out.new.items out.old.items }
@@ -72,6 +75,7 @@ fn put_refused(alloc: Global, call: u32, code: Code, out: &mut Vec<u8>) -> Resul
     out.extend_from_slice(b"\n")
 }
 
+/// Appends a line for each answer, its literal. The only error is out of memory; some of the bytes may be there then.
 fn put_answers(alloc: Global, values: &[Value], out: &mut Vec<u8>) -> Result<(), AllocError>
     ensures ok { OnOk result (out.new.items ≡ out.old.items ++ flat_map answer_line values.now) }
     ensures kept { StartsWith out.new.items out.old.items }
@@ -83,6 +87,7 @@ fn put_answers(alloc: Global, values: &[Value], out: &mut Vec<u8>) -> Result<(),
     Ok(())
 }
 
+/// Appends the line `accepted N`, the answers, and the line `end`. The only error is out of memory; some of the bytes may be there then.
 fn put_accepted(
     alloc: Global,
     seq: u64,
@@ -97,6 +102,7 @@ fn put_accepted(
     out.extend_from_slice(b"end\n")
 }
 
+/// Appends the lines of a reply. The only error is out of memory; some of the bytes may be there then.
 pub(crate) fn put_reply(alloc: Global, reply: &Reply, out: &mut Vec<u8>) -> Result<(), AllocError>
     ensures ok { OnOk result (out.new.items ≡ out.old.items ++ reply_text reply.now) }
     ensures kept { StartsWith out.new.items out.old.items }
@@ -110,6 +116,7 @@ pub(crate) fn put_reply(alloc: Global, reply: &Reply, out: &mut Vec<u8>) -> Resu
     }
 }
 
+/// Appends the lines that answer a batch of a text. The only error is out of memory; some of the bytes may be there then.
 fn put_answer(alloc: Global, answer: &Answer, out: &mut Vec<u8>) -> Result<(), AllocError>
     ensures ok { OnOk result (out.new.items ≡ out.old.items ++ answer_text answer.now) }
     ensures kept { StartsWith out.new.items out.old.items }
@@ -123,7 +130,7 @@ fn put_answer(alloc: Global, answer: &Answer, out: &mut Vec<u8>) -> Result<(), A
     }
 }
 
-/// Appends the lines that answer a batch of a text. The only error is a lack of memory, and it leaves the bytes as they were.
+/// Appends the lines that answer a batch of a text. The only error is out of memory, and it leaves the bytes as they were.
 pub fn print_answer(alloc: Global, answer: &Answer, out: &mut Vec<u8>) -> Result<(), AllocError>
     ensures ok { OnOk result (out.new.items ≡ out.old.items ++ answer_text answer.now) }
     ensures err { OnErr result (out.new.items ≡ out.old.items) }

@@ -2,7 +2,7 @@
 //! prints a reply within an answer, by `print_answer`.
 
 ghost use Rattle.std.specs.Prelude.{◌≡◌, ◌++◌, IfOk, IfErr, OnOk, OnErr};
-ghost use Rattle.moo_world.specs.declared.call.Call.{Call as ACall};
+ghost use Rattle.moo_world.specs.declared.call.Call.{Call};
 ghost use Rattle.moo_text.specs.Grammar.{SpellsCall};
 ghost use Rattle.moo_text.specs.Replies.{reply_text};
 ghost use Rattle.moo_text.specs.declared.surface.CallFault.TheVariants.{Malformed};
@@ -27,7 +27,7 @@ pub fn read_call(alloc: Global, line: &[u8]) -> Result<Call, CallFault>
     // What is read is spelled so.
     ensures ok { IfOk result (λ call. SpellsCall call line.now) }
     // Malformed is the line that spells no call.
-    ensures err { IfErr result (λ fault. fault ≡ Malformed → (call : ACall) → ¬ (SpellsCall call line.now)) }
+    ensures err { IfErr result (λ fault. fault ≡ Malformed → (call : Call) → ¬ (SpellsCall call line.now)) }
 {
     match call_in(alloc, line) {
         Ok(Some(call)) => Ok(call),
@@ -36,7 +36,7 @@ pub fn read_call(alloc: Global, line: &[u8]) -> Result<Call, CallFault>
     }
 }
 
-/// Appends the lines of a reply. The only error is a lack of memory, and it leaves the bytes as they were.
+/// Appends the lines of a reply. The only error is out of memory, and it leaves the bytes as they were.
 pub fn print_reply(alloc: Global, reply: &Reply, out: &mut Vec<u8>) -> Result<(), AllocError>
     ensures ok { OnOk result (out.new.items ≡ out.old.items ++ reply_text reply.now) }
     ensures err { OnErr result (out.new.items ≡ out.old.items) }

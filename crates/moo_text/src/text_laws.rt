@@ -41,14 +41,20 @@ pub fn one_cut()
 /// The items that are read one after another are those of all bytes that were given meanwhile; if the reader tells its bytes, these are
 /// all of them once it has ended. After a fault the items that were read stay the first ones.
 pub fn items_are_joined()
+    // If nothing is read, no item is.
     ensures none { (a : Side) → ReadsItems a a [] }
+    // One more item that is read comes after those that were.
     ensures more { (a b c : Side) (done : List Next) (item : Next) → ReadsItems a b done → ReadsNext b c item → item ≢ End →
         ReadsItems a c (done ++ item ∷ []) }
+    // At the end the items that were read are all.
     ensures end { (a b c : Side) (done : List Next) → ReadsItems a b done → ReadsNext b c End → ReadsAll a c done }
+    // At a fault the items that were read come first in the text, whatever follows.
     ensures stop { (left : Option (List ℕ)) (room : ℕ) (b c : Side) (done : List Next) (fault : TextFault) →
         ReadsItems (untouched left room) b done → BreaksOff b c fault → StopsBehind left room c done fault }
+    // All items that are read from the start of a text are those of the bytes that the reader gave.
     ensures whole { (left : Option (List ℕ)) (room : ℕ) (c : Side) (all : List Next) (read : ReadsAll (untouched left room) c all) →
         items read.given ≡ all }
+    // If the reader tells its bytes, it has given all of them once it has ended.
     ensures all { (left : Option (List ℕ)) (room : ℕ) (c : Side) (given : List ℕ) →
         ReaderGives (untouched left room) c given → c.ended ≡ true → GivesAll left given }
 {}

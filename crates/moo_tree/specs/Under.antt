@@ -1,4 +1,4 @@
--- The objects under one, with their owners.
+-- The objects under one, itself among them, with their owners.
 use Rattle.std.specs.Prelude.{◌≡◌, List, map, Option, None, if◌then◌else◌}
 use Rattle.std.specs.Option.{option_map}
 use Rattle.std.specs.List.{filter}

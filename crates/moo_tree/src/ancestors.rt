@@ -14,7 +14,7 @@ use moo_value::ObjNo;
 use std::alloc::{AllocError, Global};
 use std::collections::BTreeMap;
 
-/// The object and its ancestors, the root last; nothing if it isn't an object. An `Err` is a lack of memory.
+/// x and its ancestors, the root last; an empty list if x isn't an object. An `Err` is a lack of memory.
 pub fn chain<R: Rows>(alloc: Global, rows: &R, x: ObjNo) -> Result<Vec<ObjNo>, AllocError>
     requires { IsTree (world_of (R.held rows.now).maps) }
     ensures { IfOk result (λ v. v.items ≡ chain (world_of (R.held rows.now).maps) x) }
@@ -29,7 +29,7 @@ pub fn chain<R: Rows>(alloc: Global, rows: &R, x: ObjNo) -> Result<Vec<ObjNo>, A
     Ok(found)
 }
 
-/// The object and its ancestors as the keys of a map, in which others are looked up; no key if it isn't an object. The chain is climbed
+/// x and its ancestors as the keys of a map, in which objects are looked up; an empty map if x isn't an object. The chain is climbed
 /// once: m log m steps for a chain of m objects. An `Err` is a lack of memory. As any single climb it goes on when the ticks are spent.
 pub fn chain_keys<R: Rows>(
     alloc: Global,
@@ -37,6 +37,7 @@ pub fn chain_keys<R: Rows>(
     x: ObjNo,
 ) -> Result<BTreeMap<ObjNo, ()>, AllocError>
     requires { IsTree (world_of (R.held rows.now).maps) }
+    // The keys are the objects of the chain of x.
     ensures { IfOk result (λ found. (y : ObjNo) →
         is_some (get (contents object_cmp found) y) ≡ is_among y (chain (world_of (R.held rows.now).maps) x)) }
 {
@@ -49,7 +50,7 @@ pub fn chain_keys<R: Rows>(
     Ok(keys)
 }
 
-/// Whether x is an object that is the other one or has it as an ancestor. It climbs from x to the root at most: if many
+/// Whether x is an object that is `ancestor` or has it as an ancestor. Takes no memory. It climbs from x to the root at most: if many
 /// are asked for of one x, take its `chain_keys`, and if of one ancestor, what is under that by `owners_under`.
 pub fn is_under<R: Rows>(rows: &R, x: ObjNo, ancestor: ObjNo) -> bool
     requires { IsTree (world_of (R.held rows.now).maps) }

@@ -12,7 +12,7 @@ use moo_rows::{Link, Rows};
 use moo_value::ObjNo;
 use std::alloc::{AllocError, Global};
 
-/// Lists the objects past `#-1` that have the link, ascending, after those that are listed. An `Err` is a lack of memory.
+/// Appends to a list the objects past `#-1` that have the link, ascending. An `Err` is a lack of memory, after which some may be listed.
 pub(crate) fn list_linked<R: Rows>(
     rows: &R,
     link: Link,

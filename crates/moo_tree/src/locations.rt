@@ -8,7 +8,7 @@ ghost use Rattle.moo_world.specs.World.{IsTree};
 use moo_rows::Rows;
 use moo_value::ObjNo;
 
-/// Whether x is an object that is y or is in y, at any depth. LambdaMOO Programmer's Manual, 'Object Movement': `move`.
+/// Whether x is an object that is y or is in y, at any depth. Takes no memory. LambdaMOO Programmer's Manual, 'Object Movement': `move`.
 pub fn inside<R: Rows>(rows: &R, x: ObjNo, y: ObjNo) -> bool
     requires { IsTree (world_of (R.held rows.now).maps) }
     ensures { result ≡ is_within (world_of (R.held rows.now).maps) x y }

@@ -8,7 +8,7 @@ ghost use Rattle.moo_world.specs.World.{is_object};
 use moo_rows::Rows;
 use moo_value::ObjNo;
 
-/// The number that stands for no object.
+/// The number that stands for no object, `#-1`.
 pub fn nothing() -> ObjNo
     ensures { result ≡ nothing }
 {
@@ -22,7 +22,7 @@ pub fn is_nothing(x: ObjNo) -> bool
     x == nothing()
 }
 
-/// Whether the number is that of an object. LambdaMOO Programmer's Manual, 'Fundamental Operations on Objects': `valid`.
+/// Whether an object has the number. Takes no memory. LambdaMOO Programmer's Manual, 'Fundamental Operations on Objects': `valid`.
 pub fn valid<R: Rows>(rows: &R, x: ObjNo) -> bool
     ensures { result ≡ is_object (world_of (R.held rows.now).maps) x }
 {

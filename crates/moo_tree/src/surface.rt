@@ -13,9 +13,11 @@ use moo_rows::Rows;
 use moo_value::ObjNo;
 use std::alloc::{AllocError, Global};
 
-/// The object as many steps above x as there are objects in the chain of other, or the end if the chain of x is shorter.
+/// The object that is as many steps above x as there are objects in the chain of other, or the number that ends the chain of x if that chain
+/// is shorter. Takes no memory.
 fn up_along<R: Rows>(rows: &R, x: ObjNo, other: ObjNo) -> ObjNo
     requires { IsTree (world_of (R.held rows.now).maps) }
+    // Its chain is that of x without as many objects as the chain of other has.
     ensures { chain (world_of (R.held rows.now).maps) result
         ≡ drop (length (chain (world_of (R.held rows.now).maps) other)) (chain (world_of (R.held rows.now).maps) x) }
 {
@@ -31,9 +33,11 @@ fn up_along<R: Rows>(rows: &R, x: ObjNo, other: ObjNo) -> ObjNo
     at
 }
 
-/// x, or if its chain is longer than that of other the ancestor of x whose chain is as long as that.
-fn no_deeper<R: Rows>(rows: &R, x: ObjNo, other: ObjNo) -> ObjNo
+/// Climbs from x to the depth of other: x itself if its chain is no longer than that of other, and else its ancestor whose chain is as long.
+/// Takes no memory.
+fn climb_to_depth_of<R: Rows>(rows: &R, x: ObjNo, other: ObjNo) -> ObjNo
     requires { IsTree (world_of (R.held rows.now).maps) }
+    // Its chain is that of x without the objects that are too many.
     ensures { chain (world_of (R.held rows.now).maps) result
         ≡ drop (length (chain (world_of (R.held rows.now).maps) x) - length (chain (world_of (R.held rows.now).maps) other))
         (chain (world_of (R.held rows.now).maps) x) }
@@ -52,8 +56,8 @@ pub fn common<R: Rows>(rows: &R, x: ObjNo, new: ObjNo) -> ObjNo
         None => return nothing(),
         Some(row) => row.parent,
     };
-    let mut one = no_deeper(rows, parent, new);
-    let mut other = no_deeper(rows, new, parent);
+    let mut one = climb_to_depth_of(rows, parent, new);
+    let mut other = climb_to_depth_of(rows, new, parent);
     while let Some(row) = rows.object(other) {
         if other == one {
             return other;
@@ -67,7 +71,7 @@ pub fn common<R: Rows>(rows: &R, x: ObjNo, new: ObjNo) -> ObjNo
     nothing()
 }
 
-/// x and its descendants, ascending; nothing if x isn't an object. An `Err` is a lack of memory.
+/// x and its descendants, ascending; an empty list if x isn't an object. An `Err` is a lack of memory.
 ///
 /// Only what is under x is looked at: m log n steps for m objects there among n of the world, however deep they stand.
 pub fn subtree<R: Rows>(alloc: Global, rows: &R, x: ObjNo) -> Result<Vec<ObjNo>, AllocError>

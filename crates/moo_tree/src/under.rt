@@ -17,7 +17,8 @@ use moo_value::ObjNo;
 use std::alloc::{AllocError, Global};
 use std::collections::BTreeMap;
 
-/// Notes an object with its owner, and its children as those to be looked at.
+/// Puts an object y with its owner among those that are found, and appends its children to those that are to be visited after it. An `Err`
+/// is a lack of memory.
 fn visit<R: Rows>(
     rows: &R,
     y: ObjNo,
@@ -26,8 +27,10 @@ fn visit<R: Rows>(
 ) -> Result<(), AllocError>
     requires tree { IsTree (world_of (R.held rows.now).maps) }
     requires object { is_object (world_of (R.held rows.now).maps) y ≡ true }
+    // Found is y too, with its owner.
     ensures found { OnOk result ((row : ObjRow) → get (R.held rows.now).maps.objects y ≡ Some row →
         contents object_cmp found.new ≡ insert (contents object_cmp found.old) y row.owner) }
+    // The children of y are still to be visited.
     ensures below { OnOk result (below.new.items ≡ below.old.items ++ children_of (world_of (R.held rows.now).maps) y) }
 {
     let row = match rows.object(y) {
@@ -38,8 +41,8 @@ fn visit<R: Rows>(
     list_linked(rows, Link::ChildOf(y), below)
 }
 
-/// x and its descendants, each with its owner; nothing if x isn't an object. It goes down level by level, so that what is
-/// done is as much as is found, and not as the world holds.
+/// x and its descendants, each with its owner; an empty map if x isn't an object. It goes down level by level, so that the work grows with
+/// what is found, and not with the world. An `Err` is a lack of memory.
 pub(crate) fn find_under<R: Rows>(
     alloc: Global,
     rows: &R,
@@ -65,8 +68,8 @@ pub(crate) fn find_under<R: Rows>(
     Ok(found)
 }
 
-/// The objects under x with their owners, ascending; nothing if x isn't an object. It costs what `subtree` does. An `Err`
-/// is a lack of memory.
+/// x and its descendants, ascending, each with its owner; an empty list if x isn't an object. It costs what `subtree` does. An `Err` is a
+/// lack of memory.
 pub fn owners_under<R: Rows>(
     alloc: Global,
     rows: &R,

@@ -12,12 +12,12 @@ use Rattle.moo_world.specs.VerbReading.{phrases, prep_of}
 abbrev pub PhrasesAreRead : Type 0
 PhrasesAreRead = (set : PrepositionSet) → map prep_of (phrases set) ≡ map (λ phrase. Some (Set set)) (phrases set)
 
--- the text before the star is there, and the rest of the word begins the text after it, or is anything if that is empty
+-- the word begins with the text before the star, and its rest begins the text after the star, or is anything if that text is empty
 abbrev pub MatchesStar : Name → Name → Name → Type 0
 MatchesStar front behind word =
     (rest : Name) × (folded word ≡ folded front ++ rest) × ((behind ≡ []) ⊎ ((tail : Name) × (folded behind ≡ rest ++ tail)))
 
--- the first star of a name counts
+-- a name with a star matches a word exactly so, and its first star is the one that counts
 abbrev pub StarsMatch : Type 0
 StarsMatch = (front behind word : Name) → list_any is_star front ≡ false →
     Decides (matches (front ++ 42 ∷ behind) word) (MatchesStar front behind word)

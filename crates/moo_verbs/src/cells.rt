@@ -11,9 +11,10 @@ use crate::prep::set_text;
 use crate::reading::ALL_SETS;
 use moo_rows::{ObjectSpec, Preposition, PrepositionSet};
 
-/// The place that the bytes spell in lower case: `this`, `any` or `none`; none for anything else. Takes no memory.
+/// The object specifier that the bytes spell in lower case: `this`, `any` or `none`; `None` for anything else. Takes no memory.
 pub fn read_place_cell(bytes: &[u8]) -> Option<ObjectSpec>
     ensures found { IfSome result (λ place. bytes.now ≡ object_spec_text place) }
+    // Each of these texts is read.
     ensures only { (place : ObjectSpec) → bytes.now ≡ object_spec_text place → result ≡ Some place }
 {
     if bytes == b"this".as_slice() {
@@ -28,9 +29,11 @@ pub fn read_place_cell(bytes: &[u8]) -> Option<ObjectSpec>
     None
 }
 
-/// The first of these sets whose phrases, with slashes between them, are the bytes.
+/// The first of these sets whose phrases, with slashes between them, are the bytes; `None` if no set is written so. Takes no memory.
 fn set_spelled(sets: &[PrepositionSet], bytes: &[u8]) -> Option<PrepositionSet>
+    // It is the first of them that has this text.
     ensures first { result ≡ find (λ set. bytes_eq (set_text set) bytes.now) sets.now }
+    // The bytes are its text.
     ensures found { IfSome result (λ set. bytes.now ≡ set_text set) }
 {
     sets.iter()
@@ -39,9 +42,10 @@ fn set_spelled(sets: &[PrepositionSet], bytes: &[u8]) -> Option<PrepositionSet>
 }
 
 /// The preposition that the bytes spell in lower case: `none`, `any`, or all phrases of a set with slashes between them;
-/// none for anything else, as a single phrase. Takes no memory.
+/// `None` for anything else, as one phrase of a set that has more. Takes no memory.
 pub fn read_prep_cell(bytes: &[u8]) -> Option<Preposition>
     ensures found { IfSome result (λ prep. bytes.now ≡ prep_text prep) }
+    // Each of these texts is read.
     ensures only { (prep : Preposition) → bytes.now ≡ prep_text prep → result ≡ Some prep }
 {
     if bytes == b"none".as_slice() {

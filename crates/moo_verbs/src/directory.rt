@@ -33,13 +33,19 @@ pub fn list<R: Rows>(alloc: Global, rows: &R, x: ObjNo) -> Result<Vec<MooStr>, A
 pub fn add<R: Rows>(rows: &mut R, x: ObjNo, verb: VerbRow) -> Result<VerbId, AllocError>
     requires good { IsGood (R.held rows.old).maps }
     requires object { is_object (world_of (R.held rows.old).maps) x ≡ true }
+    // A number is left for it.
     requires left { (R.held rows.old).maps.head.next_verb < 4294967295 }
+    // Its names aren't empty or all spaces.
     requires names { has_word verb.names ≡ true }
+    // The answer is the number that was to be the next.
     ensures id { IfOk result (λ id. id.0 ≡ (R.held rows.old).maps.head.next_verb) }
+    // Of the rows of verbs only its own is new.
     ensures verbs { OnOk result
         ((R.held rows.new).maps.verbs ≡ insert (R.held rows.old).maps.verbs (x, verb_id (R.held rows.old).maps.head.next_verb) verb) }
+    // The world has the verb more, the last of the directory of x.
     ensures world { OnOk result
         (world_of (R.held rows.new).maps ≡ verb_added (world_of (R.held rows.old).maps) x verb) }
+    // The rows are good, what stays keeps its number, and the petitions and the count of batches are as they were.
     ensures kept { OnOk result (Keeps (R.held rows.old) (R.held rows.new)) }
 {
     // The limits that the types of the names and the owner keep are known of what was read.
@@ -53,23 +59,27 @@ pub fn add<R: Rows>(rows: &mut R, x: ObjNo, verb: VerbRow) -> Result<VerbId, All
     Ok(id)
 }
 
-/// Removes a verb of x; each other one keeps its number. The only error is a lack of memory.
+/// Removes a verb of x; each other verb keeps its number. The only error is a lack of memory.
 ///
 /// LambdaMOO Programmer's Manual, 'Operations on Verbs': `delete_verb`.
 pub fn delete<R: Rows>(rows: &mut R, x: ObjNo, id: VerbId) -> Result<(), AllocError>
     requires good { IsGood (R.held rows.old).maps }
+    // x has the verb.
     requires held { has_verb (R.held rows.old).maps x id ≡ true }
+    // The world is without the verb at its place in the directory of x.
     ensures world { OnOk result
         (world_of (R.held rows.new).maps
         ≡ verb_removed (world_of (R.held rows.old).maps) x (verb_place (R.held rows.old).maps x id)) }
+    // Of the rows of verbs only its own is gone.
     ensures verbs { OnOk result ((R.held rows.new).maps.verbs ≡ remove (R.held rows.old).maps.verbs (x, id)) }
+    // The rows are good, what stays keeps its number, and the petitions and the count of batches are as they were.
     ensures kept { OnOk result (Keeps (R.held rows.old) (R.held rows.new)) }
 {
     rows.remove_verb((x, id))?;
     Ok(())
 }
 
-/// Changes the owner, the rights and the names of a verb of x. The only error is a lack of memory.
+/// Sets the owner, the rights and the names of a verb of x; its arguments and its place stay. The only error is a lack of memory.
 ///
 /// LambdaMOO Programmer's Manual, 'Operations on Verbs': `set_verb_info`.
 pub fn set_info<R: Rows>(
@@ -81,11 +91,15 @@ pub fn set_info<R: Rows>(
     names: MooStr,
 ) -> Result<(), AllocError>
     requires good { IsGood (R.held rows.old).maps }
+    // x has the verb.
     requires held { has_verb (R.held rows.old).maps x id ≡ true }
+    // The new names aren't empty or all spaces.
     requires names { has_word names ≡ true }
+    // The world has the verb at its place with the new owner, rights and names.
     ensures world { OnOk result
         (world_of (R.held rows.new).maps
         ≡ verb_info_set (world_of (R.held rows.old).maps) x (verb_place (R.held rows.old).maps x id) owner bits names) }
+    // The rows are good, what stays keeps its number, and the petitions and the count of batches are as they were.
     ensures kept { OnOk result (Keeps (R.held rows.old) (R.held rows.new)) }
 {
     // The limits that their types keep are known of what was read.
@@ -105,7 +119,7 @@ pub fn set_info<R: Rows>(
     Ok(())
 }
 
-/// Changes the arguments of a verb of x. The only error is a lack of memory.
+/// Sets the arguments of a verb of x; its owner, its rights, its names and its place stay. The only error is a lack of memory.
 ///
 /// LambdaMOO Programmer's Manual, 'Operations on Verbs': `set_verb_args`.
 pub fn set_args<R: Rows>(
@@ -116,10 +130,13 @@ pub fn set_args<R: Rows>(
     args: ArgSpec,
 ) -> Result<(), AllocError>
     requires good { IsGood (R.held rows.old).maps }
+    // x has the verb.
     requires held { has_verb (R.held rows.old).maps x id ≡ true }
+    // The world has the verb at its place with the new arguments.
     ensures world { OnOk result
         (world_of (R.held rows.new).maps
         ≡ verb_args_set (world_of (R.held rows.old).maps) x (verb_place (R.held rows.old).maps x id) args) }
+    // The rows are good, what stays keeps its number, and the petitions and the count of batches are as they were.
     ensures kept { OnOk result (Keeps (R.held rows.old) (R.held rows.new)) }
 {
     let mut row = match rows.verb((x, id)) {

@@ -1,6 +1,6 @@
 //! Why something said of a verb is refused.
 
-/// Why something said of a verb is refused.
+/// What is wrong with the names, the rights or the arguments that a call gives for a verb.
 #[derive(Clone, Copy)]
 pub enum VerbFault {
     /// The names are empty or all spaces.

@@ -14,7 +14,7 @@ use moo_rows::{Rows, VerbId, VerbRow, each_verb_of};
 use moo_value::{MooStr, ObjNo};
 use moo_world::Desc;
 
-/// The place of a number from 1 on.
+/// The place, from 0, that a number, from 1, has in a directory; `None` for a number below 1.
 fn place_numbered(number: &i64) -> Option<usize>
     ensures { result ≡ place_numbered number.now }
 {
@@ -25,8 +25,9 @@ fn place_numbered(number: &i64) -> Option<usize>
     }
 }
 
-/// The verb of x before which so many others stand.
+/// The verb of x that comes after `count` others in its directory; `None` if the directory ends before it. Takes no memory.
 fn verb_after<R: Rows>(rows: &R, x: ObjNo, count: usize) -> Option<VerbId>
+    // Of all its verbs, in order, it is the one at that place.
     ensures { result
         ≡ option_map (λ e. e.0.1) (slice_get (verbs_of_left x (record { 0 = 0 }) (R.held rows.now).maps) count) }
 {
@@ -36,15 +37,16 @@ fn verb_after<R: Rows>(rows: &R, x: ObjNo, count: usize) -> Option<VerbId>
     }
 }
 
-/// Whether one of the names of a verb matches a word.
+/// Whether one of the names of a verb matches a word, as `matches` says.
 fn is_named(row: &VerbRow, word: &[u8]) -> bool
     ensures { result ≡ one_matches row.now.names word.now }
 {
     one_matches(row.names.bytes(), word)
 }
 
-/// The first verb of x one of whose names matches a word.
+/// The first verb of x one of whose names matches a word; `None` if no verb of x has such a name. Takes no memory.
 fn verb_named<R: Rows>(rows: &R, x: ObjNo, word: &[u8]) -> Option<VerbId>
+    // Of all its verbs, in order, it is the first that matches.
     ensures { result
         ≡ option_map (λ e. e.0.1)
         (find (λ e. one_matches e.1.names word.now) (verbs_of_left x (record { 0 = 0 }) (R.held rows.now).maps)) }
@@ -61,8 +63,10 @@ fn verb_named<R: Rows>(rows: &R, x: ObjNo, word: &[u8]) -> Option<VerbId>
 /// LambdaMOO Programmer's Manual, 'Operations on Verbs'.
 pub fn find_verb<R: Rows>(rows: &R, x: ObjNo, desc: &Desc) -> Option<VerbId>
     requires { IsSound (R.held rows.now).maps }
+    // Its place in the directory is the one that the descriptor means.
     ensures place { option_map (verb_place (R.held rows.now).maps x) result
         ≡ described (world_of (R.held rows.now).maps) x desc.now }
+    // x has it.
     ensures held { IfSome result (λ id. has_verb (R.held rows.now).maps x id ≡ true) }
 {
     match desc {
@@ -74,7 +78,7 @@ pub fn find_verb<R: Rows>(rows: &R, x: ObjNo, desc: &Desc) -> Option<VerbId>
     }
 }
 
-/// The row of a verb that x has.
+/// The row of a verb that x has, by its number. Takes no memory.
 pub fn verb<R: Rows>(rows: &R, x: ObjNo, id: VerbId) -> &VerbRow
     requires sound { IsSound (R.held rows.now).maps }
     requires held { has_verb (R.held rows.now).maps x id ≡ true }
@@ -94,13 +98,15 @@ pub struct FoundVerb<'a> {
     pub row: &'a VerbRow,
 }
 
-/// The verb of x that a descriptor names, as `find_verb` finds it, with its row.
+/// The verb of x that a descriptor names, with its row; `None` where `find_verb` finds no verb.
 ///
 /// LambdaMOO Programmer's Manual, 'Operations on Verbs'.
 pub fn found_verb<'a, R: Rows>(rows: &'a R, x: ObjNo, desc: &Desc) -> Option<FoundVerb<'a>>
     requires { IsSound (R.held rows.now).maps }
+    // Its place and its row are those that the descriptor means.
     ensures verb { option_map (λ f. (verb_place (R.held rows.now).maps x f.id, f.row.now)) result
         ≡ found_verb (world_of (R.held rows.now).maps) x desc.now }
+    // x has it.
     ensures held { IfSome result (λ f. has_verb (R.held rows.now).maps x f.id ≡ true) }
 {
     match find_verb(rows, x, desc) {

@@ -7,7 +7,7 @@ pub fn phrases_hold()
     ensures { PhrasesAreRead }
 {}
 
-/// Names with a star match what the manual says, and those without one themselves alone.
+/// A name with a star matches the words that the manual says, and a name without a star the word that is the name, each in any case.
 pub fn matching_holds()
     ensures stars { StarsMatch }
     ensures names { NamesMatch }

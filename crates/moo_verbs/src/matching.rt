@@ -12,7 +12,7 @@ pub(crate) fn same_name(a: &[u8], b: &[u8]) -> bool
     a.eq_ignore_ascii_case(b)
 }
 
-/// Where a byte is first in a text.
+/// The place, from 0, at which a byte is first in a text; `None` if the text is without it.
 pub(crate) fn first(text: &[u8], byte: u8) -> Option<usize>
     ensures place { result ≡ position (λ b. b == byte) text.now }
     ensures within { IfSome result (λ i. i < length text.now) }
@@ -20,7 +20,7 @@ pub(crate) fn first(text: &[u8], byte: u8) -> Option<usize>
     text.iter().position(|other| *other == byte)
 }
 
-/// As many bytes of a text as a front has, or all.
+/// The first bytes of a text, as many as `front` has, or all if the text has fewer.
 fn front_of<'a>(text: &'a [u8], front: &[u8]) -> &'a [u8]
     ensures { result.now ≡ take (length front.now) text.now }
 {
@@ -31,7 +31,7 @@ fn front_of<'a>(text: &'a [u8], front: &[u8]) -> &'a [u8]
     }
 }
 
-/// What a text has past as many bytes as a front has.
+/// The bytes of a text after as many as `front` has; none if the text has fewer.
 fn past_front<'a>(text: &'a [u8], front: &[u8]) -> &'a [u8]
     ensures { result.now ≡ drop (length front.now) text.now }
 {
@@ -42,14 +42,15 @@ fn past_front<'a>(text: &'a [u8], front: &[u8]) -> &'a [u8]
     }
 }
 
-/// Whether a text begins with that front, in any case.
+/// Whether a text begins with `front`, in any case.
 fn begins_with(text: &[u8], front: &[u8]) -> bool
     ensures { result ≡ begins_with text.now front.now }
 {
     same_name(front_of(text, front), front)
 }
 
-/// Whether the front is in a word whose rest begins the text after the star, or that text is empty.
+/// Whether a word matches a name around its star: it begins with `front`, the text before the star, and its rest begins `behind`, the text
+/// after the star, or is anything if `behind` is empty.
 fn matches_around(front: &[u8], behind: &[u8], word: &[u8]) -> bool
     ensures { result ≡ matches_around front.now behind.now word.now }
 {
@@ -73,7 +74,7 @@ pub fn matches(name: &[u8], word: &[u8]) -> bool
     }
 }
 
-/// Whether one of the names, which are between spaces, matches a word.
+/// Whether one of the names of a verb, which are between spaces, matches a word, as `matches` says.
 pub fn one_matches(names: &[u8], word: &[u8]) -> bool
     ensures { result ≡ one_matches names.now word.now }
 {

@@ -35,7 +35,9 @@ pub(crate) fn set_text(set: PrepositionSet) -> &'static str
 /// LambdaMOO Programmer's Manual, 'Operations on Verbs': `verb_args`.
 pub fn print_prep(prep: Preposition) -> &'static str
     ensures value { result.now ≡ prep_text prep }
+    // A string may hold it.
     ensures text { IsText result.now }
+    // Read again, it is the preposition.
     ensures read_again { prep_of result.now ≡ Some prep }
 {
     match prep {
@@ -51,7 +53,9 @@ pub fn print_prep(prep: Preposition) -> &'static str
 #[tactic(auto, unfolding(moo_world::specs::Objects::same_text, moo_world::specs::Objects::folded))]
 pub fn print_object_spec(place: ObjectSpec) -> &'static str
     ensures value { result.now ≡ object_spec_text place }
+    // A string may hold it.
     ensures text { IsText result.now }
+    // Read again, it is the object specifier.
     ensures read_again { object_spec_of result.now ≡ Some place }
 {
     match place {

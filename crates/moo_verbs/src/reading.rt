@@ -13,7 +13,7 @@ use crate::prep::set_text;
 use moo_rows::{ArgSpec, ObjectSpec, Preposition, PrepositionSet, VerbBits};
 use moo_value::MooStr;
 
-/// Whether some byte of the names isn't a space.
+/// Whether the names of a verb have a word: a byte that isn't a space.
 fn has_word(names: &[u8]) -> bool
     ensures { result ≡ has_word names.now }
 {
@@ -38,7 +38,9 @@ pub fn check_names(names: &MooStr) -> Result<(), VerbFault>
 /// LambdaMOO Programmer's Manual, 'Operations on Verbs': `verb_info`.
 pub fn bits_letters(bits: VerbBits) -> &'static str
     ensures letters { result.now ≡ verb_letters_of bits }
+    // A string may hold them.
     ensures text { IsText result.now }
+    // Read again, they are the rights.
     ensures read_again { verb_bits_of result.now ≡ Some bits }
 {
     bits.letters()
@@ -73,14 +75,14 @@ fn has_phrase(set: PrepositionSet, phrase: &[u8]) -> bool
         .any(|other| same_name(other, phrase))
 }
 
-/// The first of these sets that has the phrase.
+/// The first of these sets that has the phrase, in any case; `None` if no set has it.
 fn first_with(sets: &[PrepositionSet], phrase: &[u8]) -> Option<PrepositionSet>
     ensures { result ≡ first_with sets.now phrase.now }
 {
     sets.iter().copied().find(|set| has_phrase(*set, phrase))
 }
 
-/// What is before the first slash of a text.
+/// The bytes before the first slash of a text; the whole text if it has no slash.
 fn before_slash(text: &[u8]) -> &[u8]
     ensures { result.now ≡ before_first is_slash text.now }
 {
@@ -90,7 +92,7 @@ fn before_slash(text: &[u8]) -> &[u8]
     }
 }
 
-/// The preposition that a text names.
+/// The preposition that a text names, as `read_prep` says; `None` if it names no preposition.
 fn prep_named(text: &[u8]) -> Option<Preposition>
     ensures { result ≡ prep_of text.now }
 {
@@ -103,7 +105,7 @@ fn prep_named(text: &[u8]) -> Option<Preposition>
     first_with(&ALL_SETS, before_slash(text)).map(Preposition::Set)
 }
 
-/// The place that a text names.
+/// The object specifier that a text names, in any case: `this`, `any` or `none`; `None` for anything else.
 fn object_spec_named(text: &[u8]) -> Option<ObjectSpec>
     ensures { result ≡ object_spec_of text.now }
 {
@@ -119,7 +121,7 @@ fn object_spec_named(text: &[u8]) -> Option<ObjectSpec>
     None
 }
 
-/// The arguments that three texts name.
+/// The arguments that three texts name, as `read_args` says; `None` if one of them names nothing.
 fn args_named(dobj: &[u8], prep: &[u8], iobj: &[u8]) -> Option<ArgSpec>
     ensures { result ≡ args_of dobj.now prep.now iobj.now }
 {

@@ -7,8 +7,8 @@ use crate::fault::VerbFault;
 use moo_rows::VerbBits;
 use moo_value::MooStr;
 
-/// The rights that a text of the letters `r`, `w`, `x` and `d` gives, in any order and case, with repeats.
-/// Another byte in it is BadBits.
+/// The rights that a text of the letters `r`, `w`, `x` and `d` gives, in any order and case, and more than once. `BadBits` if another byte
+/// is in it.
 ///
 /// LambdaMOO Programmer's Manual, 'Verbs on Objects' in the chapter on the database.
 pub fn read_bits(text: &MooStr) -> Result<VerbBits, VerbFault>

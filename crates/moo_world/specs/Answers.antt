@@ -14,11 +14,14 @@ zero = Int (pos 0)
 abbrev pub flag : Bool → Value
 flag is_true = Int (pos (if is_true then 1 else 0))
 
+-- the list of these values
 abbrev pub list_of : List Value → Value
 list_of values = a_list (gather values)
 
+-- the list of these objects
 abbrev pub object_list : List ObjNo → Value
 object_list objects = list_of (map Obj objects)
 
+-- the list of these strings
 abbrev pub text_list : List Name → Value
 text_list texts = list_of (map Str texts)

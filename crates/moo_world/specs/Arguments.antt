@@ -46,7 +46,7 @@ all_within_limits (string_first text rest) = is_text text && all_within_limits r
 all_within_limits (error_first code rest) = all_within_limits rest
 all_within_limits (list_first values rest) = all_within_limits values && all_within_limits rest
 
--- so are those in a value
+-- an integer in a value has 64 bits, the number of an object 32, and a string is a text
 abbrev pub is_within_limits : Value → Bool
 is_within_limits (Int number) = is_integer number
 is_within_limits (Obj object) = in_range object.0
@@ -60,30 +60,36 @@ fits value = nat_le (nesting value) MAX_NESTING && is_within_limits value
 
 -- ---- objects, names and values
 
+-- nothing: what players, max_object and petitions take
 abbrev pub no_values : List Value → Result (Unit {0}) Code
 no_values [] = Ok tt
 no_values args = Err E_ARGS
 
+-- one object
 abbrev pub one_object : List Value → Result ObjNo Code
 one_object (Obj object ∷ []) = Ok object
 one_object (a ∷ []) = Err E_TYPE
 one_object args = Err E_ARGS
 
+-- two objects: what chparent and move take
 abbrev pub two_objects : List Value → Result (ObjNo × ObjNo) Code
 two_objects (Obj first ∷ Obj second ∷ []) = Ok (first, second)
 two_objects (a ∷ b ∷ []) = Err E_TYPE
 two_objects args = Err E_ARGS
 
+-- an object and a name
 abbrev pub object_and_text : List Value → Result (ObjNo × List ℕ) Code
 object_and_text (Obj object ∷ Str name ∷ []) = Ok (object, name)
 object_and_text (a ∷ b ∷ []) = Err E_TYPE
 object_and_text args = Err E_ARGS
 
+-- an object and any value: what set_player_flag takes
 abbrev pub object_and_value : List Value → Result (ObjNo × Value) Code
 object_and_value (Obj object ∷ value ∷ []) = Ok (object, value)
 object_and_value (a ∷ b ∷ []) = Err E_TYPE
 object_and_value args = Err E_ARGS
 
+-- an object, a name and any value: what set takes
 abbrev pub object_text_and_value : List Value → Result (ObjNo × List ℕ × Value) Code
 object_text_and_value (Obj object ∷ Str name ∷ value ∷ []) = Ok (object, name, value)
 object_text_and_value (a ∷ b ∷ c ∷ []) = Err E_TYPE
@@ -140,13 +146,14 @@ new_property (Obj object ∷ Str name ∷ value ∷ a_list info ∷ []) =
 new_property (a ∷ b ∷ c ∷ d ∷ []) = Err E_TYPE
 new_property args = Err E_ARGS
 
--- what set_property_info takes
+-- the arguments of set_property_info
 pub record NewPropertyInfo : Type 0 where
   pub object : ObjNo
   pub name : Name
   pub info : Info
   pub new_name : Option Name
 
+-- what set_property_info takes
 abbrev pub new_property_info : List Value → Result NewPropertyInfo Code
 new_property_info (Obj object ∷ Str name ∷ a_list info ∷ []) =
     ok_or (option_map (λ (info, new_name). record { object = object; name = name; info = info; new_name = new_name })

@@ -14,6 +14,7 @@ use Rattle.moo_world.specs.World.{World, row_of}
 use Rattle.moo_world.specs.ObjectLists.{contents_of}
 use Rattle.moo_world.specs.Answers.{flag, object_list}
 
+-- the name of a built-in property, in lower case
 abbrev pub field_name : BuiltIn → List ℕ
 field_name NameField = codes "name"
 field_name Owner = codes "owner"
@@ -25,9 +26,11 @@ field_name R = codes "r"
 field_name W = codes "w"
 field_name F = codes "f"
 
+-- every built-in property
 abbrev pub all_fields : List BuiltIn
 all_fields = NameField ∷ Owner ∷ Location ∷ Contents ∷ Programmer ∷ Wizard ∷ R ∷ W ∷ F ∷ []
 
+-- the built-in property of a name, in any case
 abbrev pub built_in : Name → Option BuiltIn
 built_in text = find (λ field. same_text (folded text) (field_name field)) all_fields
 
@@ -43,5 +46,6 @@ field_in world object R row = flag row.r
 field_in world object W row = flag row.w
 field_in world object F row = flag row.f
 
+-- what an object reads for a built-in property, or 0 if there is no such object
 abbrev pub field_of : World → ObjNo → BuiltIn → Value
 field_of world object field = unwrap_or (option_map (field_in world object field) (row_of world object)) (Int (pos 0))

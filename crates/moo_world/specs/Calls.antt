@@ -48,7 +48,7 @@ use Rattle.moo_world.specs.declared.name.CallName.TheVariants.{Valid, Parent, Ch
 use Rattle.moo_world.specs.declared.name.CallName.TheVariants.{PropertyInfo, IsClearProperty, Verbs, VerbInfo, VerbArgs, AcceptList}
 use Rattle.moo_world.specs.declared.name.CallName.TheVariants.{Create, Chparent, Recycle, Move, SetPlayerFlag, Set, AddProperty}
 use Rattle.moo_world.specs.declared.name.CallName.TheVariants.{DeleteProperty, SetPropertyInfo, ClearProperty, AddVerb, DeleteVerb}
-use Rattle.moo_world.specs.declared.name.CallName.TheVariants.{SetVerbInfo, SetVerbArgs, SetAccept, Petition, Petitions, Grant, Decline}
+use Rattle.moo_world.specs.declared.name.CallName.TheVariants.{SetVerbInfo, SetVerbArgs, SetAccept}
 use Rattle.moo_world.specs.Arguments.{no_values, one_object, two_objects, object_and_text, object_and_value}
 use Rattle.moo_world.specs.Arguments.{object_text_and_value, parent_and_owner, object_and_accept, new_property}
 use Rattle.moo_world.specs.Arguments.{new_property_info, object_and_desc, new_verb, new_verb_info, new_verb_args}
@@ -61,27 +61,33 @@ use Rattle.moo_world.specs.declared.values.TheConstants.{MOST_ACCEPTED}
 
 -- ---- the calls that only read
 
+-- whether there is such an object
 abbrev pub valid : World → ObjNo → Outcome World
 valid world object = Done (flag (is_object world object)) world
 
+-- the parent of an object, #-1 if it has none
 abbrev pub parent : World → ObjNo → Outcome World
 parent world object = do
   require is_object world object else NoObject object
   Done (Obj (unwrap_or (parent_of world object) nothing)) world
 
+-- the children of an object, ascending
 abbrev pub children : World → ObjNo → Outcome World
 children world object = do
   require is_object world object else NoObject object
   Done (object_list (children_of world object)) world
 
+-- whether an object has the player flag
 abbrev pub is_player : World → ObjNo → Outcome World
 is_player world object = do
   require is_object world object else NoObject object
   Done (flag (row_passes (λ row. row.player) world object)) world
 
+-- the objects with the player flag, ascending
 abbrev pub players : World → Outcome World
 players world = Done (object_list (players_of world)) world
 
+-- the greatest number that was ever given to an object
 abbrev pub max_object : World → Outcome World
 max_object world = Done (Obj (record { 0 = world.top })) world
 
@@ -90,6 +96,7 @@ abbrev pub accept_value : Option (List ObjNo) → Value
 accept_value None = zero
 accept_value (Some objects) = object_list objects
 
+-- an object's own accept list, 0 if it holds none
 abbrev pub accept_list : World → ObjNo → Outcome World
 accept_list world object = do
   require is_object world object else NoObject object
@@ -101,6 +108,7 @@ accept_list world object = do
 abbrev pub unfit_parent : World → ObjNo → Reason
 unfit_parent world parent = if is_object world parent then NotFertile parent else NoParent parent
 
+-- makes an object under a parent, for an owner whose quota, if it has one, falls by one
 abbrev pub create : World → ObjNo → ObjNo → ObjNo → Outcome World
 create world programmer parent owner = do
   require may_be_parent world programmer parent else unfit_parent world parent
@@ -110,6 +118,7 @@ create world programmer parent owner = do
   object ← with_next (next_object world)
   Done (Obj object) (charged (created world object parent (owner_or_self object owner)) owner)
 
+-- puts an object under another parent
 abbrev pub chparent : World → ObjNo → ObjNo → ObjNo → Outcome World
 chparent world programmer object new_parent = do
   require is_object world object else NoObject object
@@ -127,6 +136,7 @@ recycle world programmer object = do
   require controls world programmer object else NotControlled object
   Done zero (quota_returned (recycled world object) (owner_of world object))
 
+-- moves an object to a place that accepts it, or to #-1
 abbrev pub move : World → ObjNo → ObjNo → ObjNo → Outcome World
 move world programmer object destination = do
   require is_object world object else NoObject object
@@ -136,12 +146,14 @@ move world programmer object destination = do
   require not (is_within world destination object) else PlaceInside destination
   Done zero (field_changed world object (to.Location destination))
 
+-- sets the player flag by the truth of a value
 abbrev pub set_player_flag : World → ObjNo → ObjNo → Value → Outcome World
 set_player_flag world programmer object value = do
   require is_object world object else NoObject object
   require is_wizard world programmer else NoWizard
   Done zero (field_changed world object (to.Player (is_true value)))
 
+-- gives an object an accept list, or takes its own away
 abbrev pub set_accept : World → ObjNo → ObjNo → Option (List ObjNo) → Outcome World
 set_accept world programmer object list = do
   require is_object world object else NoObject object
@@ -192,11 +204,8 @@ named_call world programmer SetVerbInfo args =
 named_call world programmer SetVerbArgs args =
     given (new_verb_args args) λ (object, (descriptor, verb_args)). set_verb_args world programmer object descriptor verb_args
 named_call world programmer SetAccept args = given (object_and_accept args) λ (object, list). set_accept world programmer object list
--- the calls of petitions need more than the world: `batch_call` says what they do, and never asks for them here
-named_call world programmer Petition args = fails Unasked
-named_call world programmer Petitions args = fails Unasked
-named_call world programmer Grant args = fails Unasked
-named_call world programmer Decline args = fails Unasked
+-- the rest, the calls of petitions, need more than the world: `batch_call` says what they do, and never asks for them here
+named_call world programmer name args = fails Unasked
 
 -- A call on the world. The programmer has to be an object. Each call that a petition holds is made in this way, by the wizard who grants
 -- it. A call of a batch is `batch_call`, in Requests, which knows the calls of petitions too.

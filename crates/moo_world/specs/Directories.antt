@@ -9,6 +9,7 @@ use Rattle.moo_rows.specs.declared.row.VerbRow.{VerbRow}
 use Rattle.moo_world.specs.Objects.{Name}
 use Rattle.moo_world.specs.World.{World, object_changed, directory_of}
 
+-- the verb at a place of the directory
 abbrev pub verb_at : World → ObjNo → ℕ → Option VerbRow
 verb_at world object place = slice_get (directory_of world object) place
 
@@ -16,10 +17,11 @@ verb_at world object place = slice_get (directory_of world object) place
 abbrev pub with_verbs : World → ObjNo → (List VerbRow → List VerbRow) → World
 with_verbs world object change = object_changed world object (λ entry. record entry { verbs = change entry.verbs })
 
--- one more, put last
+-- one verb more, the last of the directory
 abbrev pub verb_added : World → ObjNo → VerbRow → World
 verb_added world object verb = record (with_verbs world object (λ verbs. verbs ++ verb ∷ [])) { next_verb = world.next_verb + 1 }
 
+-- without the verb at a place
 abbrev pub verb_removed : World → ObjNo → ℕ → World
 verb_removed world object place = with_verbs world object (λ verbs. remove verbs place)
 
@@ -29,12 +31,15 @@ changed_at place change [] = []
 changed_at zero change (verb ∷ verbs) = change verb ∷ verbs
 changed_at (suc place) change (verb ∷ verbs) = verb ∷ changed_at place change verbs
 
+-- with the verb at a place changed
 abbrev pub verb_changed : World → ObjNo → ℕ → (VerbRow → VerbRow) → World
 verb_changed world object place change = with_verbs world object (changed_at place change)
 
+-- the verb at a place with another owner, other rights and other names
 abbrev pub verb_info_set : World → ObjNo → ℕ → ObjNo → VerbBits → Name → World
 verb_info_set world object place owner bits names =
     verb_changed world object place (λ verb. record verb { owner = owner; bits = bits; names = names })
 
+-- the verb at a place with other arguments
 abbrev pub verb_args_set : World → ObjNo → ℕ → ArgSpec → World
 verb_args_set world object place args = verb_changed world object place (λ verb. record verb { args = args })

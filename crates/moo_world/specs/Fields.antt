@@ -27,6 +27,7 @@ changed (Accept list) row = record row { accept = list }
 abbrev pub with_row : World → ObjNo → (ObjRow → ObjRow) → World
 with_row world object change = object_changed world object (λ entry. record entry { row = change entry.row })
 
+-- the world with one field of the row of an object changed
 abbrev pub field_changed : World → ObjNo → Change → World
 field_changed world object change = with_row world object (changed change)
 

@@ -24,7 +24,7 @@ abbrev pub CallsKeepForm : Type 0
 CallsKeepForm = (world next : World) (programmer : ObjNo) (call : Call) (answer : Value) → IsWellFormed world → arguments_fit call ≡ true →
     world_call world programmer call ≡ Done answer next → IsWellFormed next
 
--- and so are the world and the petitions that any call of a batch leaves, those of petitions among them
+-- if any call of a batch is answered, one of petitions too, the world and the petitions that it leaves are well formed if they were
 abbrev pub RequestsKeepForm : Type 0
 RequestsKeepForm = (state next : State) (programmer : ObjNo) (call : Call) (answer : Value) → IsFormed state → arguments_fit call ≡ true →
     batch_call state programmer call ≡ Done answer next → IsFormed next

@@ -50,6 +50,7 @@ spelling Petitions = codes "petitions"
 spelling Grant = codes "grant"
 spelling Decline = codes "decline"
 
+-- every call once
 abbrev pub all_names : List CallName
 all_names =
     Valid ∷ Parent ∷ Children ∷ IsPlayer ∷ Players ∷ MaxObject ∷ Get ∷ Properties

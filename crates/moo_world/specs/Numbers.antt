@@ -34,7 +34,7 @@ pub data KeepsVerbs (next : ℕ) (old new : FinMap verb_cmp VerbRow) : Type 0 wh
   verbs_dropped : (object : ObjNo) → ((key : ObjNo × VerbId) → get new key ≡ (if same_object object key.0 then None else get old key)) →
       KeepsVerbs next old new
 
--- and no counter falls
+-- properties and verbs keep their numbers as above, and no counter falls
 pub record KeepsNumbers (old new : Maps) : Type 0 where
   pub props : KeepsProps old.head.next_prop old.props new.props
   pub verbs : KeepsVerbs old.head.next_verb old.verbs new.verbs

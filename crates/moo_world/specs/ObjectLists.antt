@@ -14,22 +14,17 @@ objects_of world = filter (is_object world) (map object_at (numbers_below (numbe
 abbrev pub is_parent_of : World → ObjNo → ObjNo → Bool
 is_parent_of world object other = row_passes (λ row. same_object object row.parent) world other
 
+-- the children of an object
 abbrev pub children_of : World → ObjNo → List ObjNo
 children_of world object = filter (is_parent_of world object) (objects_of world)
 
--- the object is the location of the other
-abbrev pub is_location_of : World → ObjNo → ObjNo → Bool
-is_location_of world object other = row_passes (λ row. same_object object row.location) world other
-
--- what is in the object, but not what is inside these
+-- the objects whose location is the object
 abbrev pub contents_of : World → ObjNo → List ObjNo
-contents_of world object = filter (is_location_of world object) (objects_of world)
+contents_of world object = filter (row_passes (λ row. same_object object row.location) world) (objects_of world)
 
-abbrev pub has_player_bit : World → ObjNo → Bool
-has_player_bit world object = row_passes (λ row. row.player) world object
-
+-- the objects with the player flag
 abbrev pub players_of : World → List ObjNo
-players_of world = filter (has_player_bit world) (objects_of world)
+players_of world = filter (row_passes (λ row. row.player) world) (objects_of world)
 
 -- an object and its descendants
 abbrev pub subtree_of : World → ObjNo → List ObjNo
@@ -62,6 +57,6 @@ meets_on world new_parent object =
     list_any (λ name. is_some (property_named (defined_by_any world (chain world new_parent)) (folded name)))
     (property_names_of world object)
 
--- the first of the object and its descendants that does, or #-1
+-- the first of the object and its descendants that itself defines a property of a name that the new parent has, or #-1
 abbrev pub first_to_meet : World → ObjNo → ObjNo → ObjNo
 first_to_meet world object new_parent = unwrap_or (find (meets_on world new_parent) (walk_down world object)) nothing

@@ -13,11 +13,11 @@ pub record Failure : Type 0 where
   pub held : Option ℕ
   pub reason : Reason
 
--- so fails a check of the call itself
+-- the failure of a check of the call itself
 abbrev pub of_itself : Reason → Failure
 of_itself reason = record { held = None; reason = reason }
 
--- and so a call that a petition holds, at this place
+-- the failure of a call that a granted petition holds, at this place
 abbrev pub in_petition : ℕ → Failure → Failure
 in_petition place failure = record failure { held = Some place }
 
@@ -62,6 +62,7 @@ found_or (Some found) reason rest = rest found
 abbrev pub ◌>>◌ : {R : Type 0} → (R → R) → R → R
 ◌>>◌ step rest = step rest
 
+-- what follows a step gets what the step gives, if the step lets it
 abbrev pub ◌>>=◌ : {A R : Type 0} → ((A → R) → R) → (A → R) → R
 ◌>>=◌ step rest = step rest
 

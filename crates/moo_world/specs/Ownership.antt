@@ -32,16 +32,17 @@ abbrev pub name_changed : World → ObjNo → Name → Name → ObjNo → Name �
 name_changed world object old_name new_name other slot_name =
     if is_among object (chain world other) && same_text (folded old_name) slot_name then folded new_name else slot_name
 
--- the same after the property got the new name, if any
+-- the folded name that a slot of another object has after the object's property of one name was given a new one, if one was given
 abbrev pub name_given : World → ObjNo → Name → Option Name → ObjNo → Name → Name
 name_given world object old_name None other slot_name = slot_name
 name_given world object old_name (Some new_name) other slot_name = name_changed world object old_name new_name other slot_name
 
+-- the folded name that a slot has after set_property_info with these arguments
 abbrev pub name_by : World → Result NewPropertyInfo Code → ObjNo → Name → Name
 name_by world (Ok arguments) other slot_name = name_given world arguments.object arguments.name arguments.new_name other slot_name
 name_by world (Err code) other slot_name = slot_name
 
--- the same after a call: set_property_info alone gives other names
+-- the folded name that a slot has after a call: set_property_info alone gives other names
 abbrev pub name_after : World → Call → ObjNo → Name → Name
 name_after world call other slot_name =
     elim call.name [ SetPropertyInfo ↦ name_by world (new_property_info call.args) other slot_name | _ ↦ slot_name ]
@@ -56,13 +57,13 @@ pub record KeepsOwnership (world next : World) (programmer : ObjNo) (new_name_of
       × (row_passes (λ row. row.player) next object ≡ false) × (row_passes (λ row. row.programmer) next object ≡ false)
       × (row_passes (λ row. row.wizard) next object ≡ false)
 
--- a call of a programmer who isn't a wizard
+-- an answered call of a programmer who isn't a wizard keeps ownership
 abbrev pub NoWizardKeepsOwnership : Type 0
 NoWizardKeepsOwnership = (world next : World) (programmer : ObjNo) (call : Call) (answer : Value) → IsWellFormed world →
     is_wizard world programmer ≡ false → world_call world programmer call ≡ Done answer next →
     KeepsOwnership world next programmer (name_after world call)
 
--- and the calls of petitions change no world, unless a wizard grants
+-- an answered call of petitions by a programmer who isn't a wizard leaves the world as it is
 abbrev pub PetitionsLeaveTheWorld : Type 0
 PetitionsLeaveTheWorld = (state next : State) (programmer : ObjNo) (call : Call) (answer : Value) →
     is_wizard state.world programmer ≡ false → is_some (petition_call call.name) ≡ true →

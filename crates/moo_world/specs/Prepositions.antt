@@ -27,9 +27,11 @@ set_text Is = codes "is"
 set_text As = codes "as"
 set_text Off = codes "off/off of"
 
+-- every set
 abbrev pub all_sets : List PrepositionSet
 all_sets = With ∷ At ∷ InFrontOf ∷ In ∷ OnTopOf ∷ OutOf ∷ Over ∷ Through ∷ Under ∷ Behind ∷ Beside ∷ For ∷ Is ∷ As ∷ Off ∷ []
 
+-- how a preposition is written: none, any, or the phrases of its set
 abbrev pub prep_text : Preposition → List ℕ
 prep_text no_preposition = codes "none"
 prep_text any_preposition = codes "any"

@@ -49,17 +49,20 @@ get_property world programmer object name = do
   require may_read_slot world programmer slot else NoPropertyR object
   Done (unwrap_or (read_of world object (folded name)) zero) world
 
+-- the value of a property of an object, built in or not
 abbrev pub get : World → ObjNo → ObjNo → Name → Outcome World
 get world programmer object name = do
   require is_object world object else NoTarget object
   by_field (built_in name) (λ field. Done (field_of world object field) world) (get_property world programmer object name)
 
+-- the names of the properties that an object itself defines
 abbrev pub properties : World → ObjNo → ObjNo → Outcome World
 properties world programmer object = do
   require is_object world object else NoObject object
   require may_read_object world programmer object else NoObjectR object
   Done (text_list (property_names_of world object)) world
 
+-- the owner and the rights of a property on an object
 abbrev pub property_info : World → ObjNo → ObjNo → Name → Outcome World
 property_info world programmer object name = do
   require is_object world object else NoObject object
@@ -67,10 +70,12 @@ property_info world programmer object name = do
   require may_read_slot world programmer slot else NoPropertyR object
   Done (list_of (Obj slot.owner ∷ Str (letters_of slot.bits) ∷ [])) world
 
+-- the slot has no value of its own
 abbrev pub is_clear : SlotState → Bool
 is_clear Clear = true
 is_clear (Set value) = false
 
+-- whether the slot of a property on an object is clear
 abbrev pub is_clear_property : World → ObjNo → ObjNo → Name → Outcome World
 is_clear_property world programmer object name = do
   require is_object world object else NoObject object
@@ -85,14 +90,13 @@ abbrev pub change_of : BuiltIn → Value → Result Change Reason
 change_of Location value = Err NeverSet
 change_of Contents value = Err NeverSet
 change_of NameField (Str text) = Ok (to.Name text)
-change_of NameField value = Err NotTaken
 change_of Owner (Obj owner) = Ok (to.Owner owner)
-change_of Owner value = Err NotTaken
 change_of Programmer value = Ok (to.Programmer (is_true value))
 change_of Wizard value = Ok (to.Wizard (is_true value))
 change_of R value = Ok (to.Readable (is_true value))
 change_of W value = Ok (to.Writable (is_true value))
 change_of F value = Ok (to.Fertile (is_true value))
+change_of field value = Err NotTaken
 
 -- r, w and f are set by the owner or a wizard, owner and the other bits by a wizard only, and the name as `may_set_name` says
 abbrev pub may_set : World → ObjNo → ObjNo → BuiltIn → Bool
@@ -102,7 +106,7 @@ may_set world programmer object W = controls world programmer object
 may_set world programmer object F = controls world programmer object
 may_set world programmer object field = is_wizard world programmer
 
--- why the programmer may not
+-- why the programmer may not set the field
 abbrev pub unset_reason : World → ObjNo → BuiltIn → Reason
 unset_reason world object NameField = if row_passes (λ row. row.player) world object then NamesPlayer object else NotControlled object
 unset_reason world object R = NotControlled object
@@ -120,6 +124,7 @@ abbrev pub owner_given : Change → ObjNo
 owner_given (to.Owner owner) = owner
 owner_given change = nothing
 
+-- sets a built-in property of an object
 abbrev pub set_built_in : World → ObjNo → ObjNo → BuiltIn → Value → Outcome World
 set_built_in world programmer object field value = do
   change ← taken_for (change_of field value)
@@ -127,12 +132,14 @@ set_built_in world programmer object field value = do
   require owner_is_object world change else NoObject (owner_given change)
   Done zero (field_changed world object change)
 
+-- sets the value of a property that isn't built in, on one object
 abbrev pub set_property : World → ObjNo → ObjNo → Name → Value → Outcome World
 set_property world programmer object name value = do
   slot ← slot_of world object (folded name) or_else NoProperty object
   require may_write_slot world programmer slot else NoPropertyW object
   Done zero (value_set world object name value)
 
+-- sets the value of a property of an object, built in or not
 abbrev pub set : World → ObjNo → ObjNo → Name → Value → Outcome World
 set world programmer object name value = do
   require is_object world object else NoTarget object
@@ -153,10 +160,11 @@ first_to_define world object name =
 abbrev pub may_define : World → ObjNo → Name → Bool
 may_define world object name = is_property_name name && not (clashes world object name)
 
--- why it may not
+-- why the name may not be given to a new property of the object
 abbrev pub undefined_reason : World → ObjNo → Name → Reason
 undefined_reason world object name = if is_property_name name then NameTaken (first_to_define world object name) else NoPropertyName
 
+-- defines a property on an object
 abbrev pub add_property : World → ObjNo → ObjNo → Name → Value → Info → Outcome World
 add_property world programmer object name value (owner, perms) = do
   require is_object world object else NoObject object
@@ -168,6 +176,7 @@ add_property world programmer object name value (owner, perms) = do
   require_room (nat_lt world.next_prop number_limit)
   Done zero (property_added world object name (record { definer = object; owner = owner; bits = bits; state = Set value }))
 
+-- removes a property that an object itself defines
 abbrev pub delete_property : World → ObjNo → ObjNo → Name → Outcome World
 delete_property world programmer object name = do
   require is_object world object else NoObject object
@@ -180,15 +189,17 @@ abbrev pub may_rename : World → ObjNo → Name → Option Name → Bool
 may_rename world object name None = true
 may_rename world object name (Some new_name) = defines_name world object name && may_define world object new_name
 
--- why that isn't so
+-- why the property may not have the new name
 abbrev pub unrenamed_reason : World → ObjNo → Name → Option Name → Reason
 unrenamed_reason world object name new_name =
     if defines_name world object name then undefined_reason world object (unwrap_or new_name name) else NotRenamed object
 
+-- the world with the new name, if one is given
 abbrev pub renamed_to : World → ObjNo → Name → Option Name → World
 renamed_to world object name None = world
 renamed_to world object name (Some new_name) = property_renamed world object name new_name
 
+-- sets the owner and the rights of a property on an object, and its name if a new one is given
 abbrev pub set_property_info : World → ObjNo → ObjNo → Name → Info → Option Name → Outcome World
 set_property_info world programmer object name (owner, perms) new_name = do
   require is_object world object else NoObject object
@@ -200,6 +211,7 @@ set_property_info world programmer object name (owner, perms) new_name = do
   require may_rename world object name new_name else unrenamed_reason world object name new_name
   Done zero (renamed_to (info_set world object name owner bits) object name new_name)
 
+-- clears the slot of a property on an object that doesn't define it
 abbrev pub clear_property : World → ObjNo → ObjNo → Name → Outcome World
 clear_property world programmer object name = do
   require is_object world object else NoObject object

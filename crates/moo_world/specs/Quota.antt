@@ -16,14 +16,16 @@ use Rattle.moo_world.specs.World.{World, WorldObject, Slot, object_changed, read
 abbrev pub quota_name : Name
 quota_name = codes "ownership_quota"
 
--- the integer that an object reads as its quota
+-- the value as a quota: an integer, or there is none
 abbrev pub quota_in : Option Value → Option ℤ
 quota_in (Some (Int quota)) = Some quota
 quota_in other = None
 
+-- the integer that an owner reads as its quota; there is none if it reads anything else
 abbrev pub quota_of : World → ObjNo → Option ℤ
 quota_of world owner = quota_in (read_of world owner quota_name)
 
+-- the object with the state of the slot of one folded name set
 abbrev pub set_slot : Name → SlotState → WorldObject → WorldObject
 set_slot name state entry =
     record entry {
@@ -37,6 +39,7 @@ abbrev pub quota_changed : World → ObjNo → ℤ → World
 quota_changed world owner amount =
     elim (quota_of world owner) [ None ↦ world | Some had ↦ object_changed world owner (set_slot quota_name (Set (Int (had +ℤ amount)))) ]
 
+-- the owner has no quota, or one above 0
 abbrev pub has_quota_left : World → ObjNo → Bool
 has_quota_left world owner = unwrap_or (option_map (λ quota. int_lt (pos 0) quota) (quota_of world owner)) true
 
@@ -44,10 +47,11 @@ has_quota_left world owner = unwrap_or (option_map (λ quota. int_lt (pos 0) quo
 abbrev pub may_afford : World → ObjNo → Bool
 may_afford world owner = same_object nothing owner || has_quota_left world owner
 
+-- one is taken from the quota of the owner, unless that is #-1
 abbrev pub charged : World → ObjNo → World
 charged world owner = if same_object nothing owner then world else quota_changed world owner -1
 
--- a quota at the greatest integer stays
+-- one is given back to the quota of the owner; a quota at the greatest integer stays
 abbrev pub quota_returned : World → ObjNo → World
 quota_returned world owner =
     if unwrap_or (option_map (λ quota. int_lt quota (pos 9223372036854775807)) (quota_of world owner)) false

@@ -36,7 +36,7 @@ pub record State : Type 0 where
   pub next_petition : ℕ
   pub seq : ℕ
 
--- what rows show
+-- the state that rows show
 abbrev pub state_of : Maps → State
 state_of rows = record { world = world_of rows; petitions = rows.petitions; next_petition = rows.head.next_petition; seq = rows.head.seq }
 
@@ -45,7 +45,7 @@ pub record IsFormed (state : State) : Type 0 where
   pub world : IsWellFormed state.world
   pub petitions : PetitionsStand state.petitions state.next_petition
 
--- what is done in the world alone
+-- an outcome of the world as one of the whole state: the petitions and the count of batches stay
 abbrev pub in_world : State → Outcome World → Outcome State
 in_world state (Done answer next) = Done answer (record state { world = next })
 in_world state (Failed failure) = Failed failure
@@ -67,6 +67,7 @@ one_integer args = Err E_ARGS
 
 -- ---- petitions by number
 
+-- the petition of a number
 abbrev pub petition_id : ℕ → PetitionId
 petition_id number = record { 0 = number }
 
@@ -86,7 +87,7 @@ abbrev pub call_in : List Value → Option Call
 call_in (Str name ∷ args) = option_and_then (λ call_name. if is_some (petition_call call_name) then None else Some (record { name = call_name; args = args })) (call_name_of name)
 call_in values = None
 
--- the same of a value, which has to be a list
+-- the call that a value is, which has to be a list
 abbrev pub held_call : Value → Option Call
 held_call (a_list values) = call_in (spread values)
 held_call other = None

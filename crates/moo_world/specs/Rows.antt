@@ -17,6 +17,7 @@ use Rattle.moo_world.specs.Objects.{Name, same_object, same_text, folded}
 use Rattle.moo_world.specs.Petitions.{PetitionsStand}
 use Rattle.moo_world.specs.World.{World, WorldObject, Slot, IsWellFormed}
 
+-- the counters, and what a look-up of each map answers
 pub record LookUps : Type 0 where
   pub head : Head
   pub object : ObjNo → Option ObjRow
@@ -76,9 +77,11 @@ pub record AreSound (rows : LookUps) : Type 0 where
 
 -- ---- maps
 
+-- the property of a number
 abbrev pub prop_id : ℕ → PropId
 prop_id number = record { 0 = number }
 
+-- the verb of a number
 abbrev pub verb_id : ℕ → VerbId
 verb_id number = record { 0 = number }
 
@@ -96,6 +99,7 @@ look_ups rows = record {
 abbrev pub world_of : Maps → World
 world_of rows = world_shown (look_ups rows)
 
+-- the rows of these maps are sound
 abbrev pub IsSound : Maps → Type 0
 IsSound rows = AreSound (look_ups rows)
 
@@ -107,13 +111,16 @@ pub record IsGood (rows : Maps) : Type 0 where
 
 -- ---- rows with one row put or removed
 
+-- with a row put for an object
 abbrev pub with_object_row : LookUps → ObjNo → ObjRow → LookUps
 with_object_row rows object row = record rows { object = λ other. if same_object object other then Some row else rows.object other }
 
+-- with a row put for the slot of a property on an object
 abbrev pub with_slot_row : LookUps → ObjNo → ℕ → SlotRow → LookUps
 with_slot_row rows object id row =
     record rows { slot = λ other other_id. if same_object object other && (id == other_id) then Some row else rows.slot other other_id }
 
+-- with the row removed of the slot of a property on an object
 abbrev pub less_slot : LookUps → ObjNo → ℕ → LookUps
 less_slot rows object id =
     record rows { slot = λ other other_id. if same_object object other && (id == other_id) then None else rows.slot other other_id }

@@ -23,12 +23,14 @@ use Rattle.moo_world.specs.declared.reason.Reason.TheVariants.{VerbNames, VerbAr
 
 -- ---- reading
 
+-- the names of the verbs of an object, in the order of its directory
 abbrev pub verbs : World → ObjNo → ObjNo → Outcome World
 verbs world programmer object = do
   require is_object world object else NoObject object
   require may_read_object world programmer object else NoObjectR object
   Done (text_list (map (λ verb. verb.names) (directory_of world object))) world
 
+-- a verb's owner, rights and names
 abbrev pub verb_info : World → ObjNo → ObjNo → Desc → Outcome World
 verb_info world programmer object descriptor = do
   require is_object world object else NoObject object
@@ -36,6 +38,7 @@ verb_info world programmer object descriptor = do
   require may_read_verb world programmer verb else NoVerbR object
   Done (list_of (Obj verb.owner ∷ Str (verb_letters_of verb.bits) ∷ Str verb.names ∷ [])) world
 
+-- a verb's arguments: the direct object, the preposition and the indirect object
 abbrev pub verb_args : World → ObjNo → ObjNo → Desc → Outcome World
 verb_args world programmer object descriptor = do
   require is_object world object else NoObject object
@@ -45,6 +48,7 @@ verb_args world programmer object descriptor = do
 
 -- ---- changing
 
+-- adds a verb to an object, the last of its directory
 abbrev pub add_verb : World → ObjNo → ObjNo → Info → Name → Name × Name × Name → Outcome World
 add_verb world programmer object (owner, perms) names (dobj, prep, iobj) = do
   require is_object world object else NoObject object
@@ -57,6 +61,7 @@ add_verb world programmer object (owner, perms) names (dobj, prep, iobj) = do
   require_room (nat_lt world.next_verb number_limit)
   Done zero (verb_added world object (record { names = names; owner = owner; bits = bits; args = args }))
 
+-- removes a verb of an object
 abbrev pub delete_verb : World → ObjNo → ObjNo → Desc → Outcome World
 delete_verb world programmer object descriptor = do
   require is_object world object else NoObject object
@@ -64,6 +69,7 @@ delete_verb world programmer object descriptor = do
   (place, verb) ← found_verb world object descriptor or_else NoVerb object
   Done zero (verb_removed world object place)
 
+-- sets the owner, the rights and the names of a verb
 abbrev pub set_verb_info : World → ObjNo → ObjNo → Desc → Info → Name → Outcome World
 set_verb_info world programmer object descriptor (owner, perms) names = do
   require is_object world object else NoObject object
@@ -75,6 +81,7 @@ set_verb_info world programmer object descriptor (owner, perms) names = do
   require may_make_owner world programmer owner else NoOwner owner
   Done zero (verb_info_set world object place owner bits names)
 
+-- sets the arguments of a verb
 abbrev pub set_verb_args : World → ObjNo → ObjNo → Desc → Name × Name × Name → Outcome World
 set_verb_args world programmer object descriptor (dobj, prep, iobj) = do
   require is_object world object else NoObject object

@@ -15,12 +15,15 @@ use Rattle.moo_world.specs.Objects.{Name}
 use Rattle.moo_world.specs.Prepositions.{set_text, all_sets, object_spec_text}
 use Rattle.moo_world.specs.Matching.{same_name}
 
+-- the byte is a slash
 abbrev pub is_slash : ℕ → Bool
 is_slash byte = byte == code "/"
 
+-- the phrases of a set, one by one
 abbrev pub phrases : PrepositionSet → List Name
 phrases set = slice_split is_slash (set_text set)
 
+-- the phrase is one of the set, in any case
 abbrev pub has_phrase : PrepositionSet → Name → Bool
 has_phrase set phrase = list_any (λ each. same_name each phrase) (phrases set)
 
@@ -35,9 +38,11 @@ prep_of text =
     else (if same_name text (codes "any") then Some any_preposition
     else option_map Set (first_with all_sets (before_first is_slash text)))
 
+-- the object specifier that a text names, in any case
 abbrev pub object_spec_of : Name → Option ObjectSpec
 object_spec_of text = find (λ spec. same_name text (object_spec_text spec)) (This ∷ any_object ∷ no_object ∷ [])
 
+-- the arguments that three texts name
 abbrev pub args_of : Name → Name → Name → Option ArgSpec
 args_of dobj prep iobj =
     option_and_then (λ d. option_and_then (λ p. option_map (λ i. record { dobj = d; prep = p; iobj = i }) (object_spec_of iobj))

@@ -25,14 +25,14 @@ impl Model for Answers {
 }
 
 impl Answers {
-    /// The answers of a list of values.
+    /// The answers that these values are, in the order of the calls. Takes no memory.
     pub fn from_vec(items: Vec<Value>) -> Answers
         ensures { result ≡ items.items }
     {
         Answers { items }
     }
 
-    /// The values, in order.
+    /// The values, in the order of the calls.
     pub fn items(&self) -> &[Value]
         ensures { result.now ≡ self.now }
     {

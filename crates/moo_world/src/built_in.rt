@@ -9,7 +9,7 @@ use moo_value::MooStr;
 /// The most bytes in the name of a property.
 pub const MAX_NAME: usize = 255;
 
-/// The built-in properties.
+/// The built-in properties, which each object has.
 #[derive(Clone, Copy, PartialEq, Eq)]
 pub enum BuiltIn {
     Name,
@@ -54,6 +54,7 @@ impl BuiltIn {
         }
     }
 
+    /// Whether it is the built-in property of a name, in any case.
     #[tactic(auto, unfolding(crate::specs::Objects::same_text, crate::specs::Objects::folded))]
     fn is_named(self, name: &MooStr) -> bool
         ensures { result ≡ same_text (folded name.now) (field_name self) }

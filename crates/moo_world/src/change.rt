@@ -6,7 +6,7 @@ ghost use Rattle.moo_world.specs.Fields.{changed};
 use moo_rows::{ObjList, ObjRow};
 use moo_value::{MooStr, ObjNo};
 
-/// A field's new value.
+/// The new value of one field of an object's row.
 #[derive(Drop)]
 pub enum Change {
     Name(MooStr),
@@ -22,7 +22,7 @@ pub enum Change {
 }
 
 impl Change {
-    /// The row with that field changed, and no other.
+    /// The row with the new value in its field, and all other fields as before. Takes no memory.
     pub fn apply_to(self, mut row: ObjRow) -> ObjRow
         ensures { result ≡ changed self row }
     {

@@ -93,6 +93,7 @@ impl CallName {
     /// Every call once, in the order of the enum.
     pub fn all() -> &'static [CallName]
         ensures all { result.now ≡ all_names }
+        // No other call has the name of one of them.
         ensures once { (name : CallName) → filter (λ other. same_text (spelling name) (spelling other)) result.now ≡ name ∷ [] }
     {
         &ALL
@@ -152,6 +153,7 @@ impl CallName {
         }
     }
 
+    /// Whether the bytes are the name of the call, in any case.
     #[tactic(auto, unfolding(crate::specs::Objects::same_text, crate::specs::Objects::folded))]
     fn is_spelled(self, bytes: &[u8]) -> bool
         ensures { result ≡ same_text (folded bytes.now) (spelling self) }
@@ -159,6 +161,7 @@ impl CallName {
         bytes.eq_ignore_ascii_case(self.spelling())
     }
 
+    /// The first call whose name the bytes are, in any case; `None` if they are the name of no call.
     fn first_spelled(bytes: &[u8]) -> Option<CallName>
         ensures { result ≡ call_name_of bytes.now }
     {
@@ -168,6 +171,7 @@ impl CallName {
     /// The call that the bytes name, in any case; `None` if they name no call.
     pub fn read(bytes: &[u8]) -> Option<CallName>
         ensures call_name_of { result ≡ call_name_of bytes.now }
+        // It is a call exactly if the bytes in lower case are its name.
         ensures one { (name : CallName) → (result ≡ Some name) ↔ (folded bytes.now ≡ spelling name) }
     {
         CallName::first_spelled(bytes)

@@ -12,7 +12,7 @@ pub const MOST_HELD: usize = 64;
 /// How deep lists may nest in each of its calls: with the list of the calls itself that makes 30.
 pub const MOST_NESTING: u32 = MAX_NESTING - 3;
 
-/// Whether the value is a list that begins with a string.
+/// Whether the value is a list that begins with a string, which is to be the name of a call.
 fn is_named(held: &Value) -> bool
     ensures { result ≡ is_named held.now }
 {
@@ -37,7 +37,7 @@ pub fn are_few(calls: &ValueList) -> bool
     0 < count && count <= MOST_HELD
 }
 
-/// Whether lists nest at most 30 deep in a list of calls, itself the first.
+/// Whether lists nest at most 30 deep in the list of a petition's calls, which counts as the first level.
 pub fn are_shallow(calls: &ValueList) -> bool
     ensures { result ≡ are_shallow calls.now }
 {

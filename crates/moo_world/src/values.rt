@@ -14,21 +14,21 @@ pub const MOST_ACCEPTED: usize = 1000;
 /// What a changing call other than `create` answers.
 pub const ZERO: Value = Value::Int(0);
 
-/// 1 for yes, 0 for no.
+/// The value of a yes or no: the integer 1 for yes, 0 for no.
 pub fn flag(holds: bool) -> Value
     ensures { result ≡ flag holds }
 {
     Value::Int(if holds { 1 } else { 0 })
 }
 
-/// A list of values.
+/// The value that is the list of these values. Takes no memory.
 pub fn list_of(values: Vec<Value>) -> Value
     ensures { result ≡ list_of values.items }
 {
     Value::List(ValueList::from_vec(values))
 }
 
-/// A list of objects. The only error is out of memory.
+/// The value that is the list of these objects. The only error is out of memory.
 pub fn object_list(alloc: Global, objects: &[ObjNo]) -> Result<Value, AllocError>
     ensures { IfOk result (λ v. v ≡ object_list objects.now) }
 {
@@ -39,7 +39,7 @@ pub fn object_list(alloc: Global, objects: &[ObjNo]) -> Result<Value, AllocError
     Ok(list_of(values))
 }
 
-/// A list of texts. The only error is out of memory.
+/// The value that is the list of these strings. The only error is out of memory.
 pub fn text_list(alloc: Global, texts: Vec<MooStr>) -> Result<Value, AllocError>
     ensures { IfOk result (λ v. v ≡ text_list texts.items) }
 {

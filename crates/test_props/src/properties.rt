@@ -1,4 +1,4 @@
-//! Changes of the small tree, by what they touch and by what they write.
+//! Changes of the small tree, by the slots and objects that they touch and by the rows that they write.
 
 mod counting;
 mod ending;

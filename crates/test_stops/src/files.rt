@@ -9,7 +9,9 @@ use test_visits::Fused;
 /// Which of the two files stops.
 #[derive(Clone, Copy, Drop)]
 pub(crate) enum Which {
+    /// The log.
     Log,
+    /// The database file.
     Db,
 }
 
@@ -29,7 +31,7 @@ pub(crate) struct Kept {
     pub(crate) db: Vec<u8>,
 }
 
-/// The bytes of files that nothing is asked of any more.
+/// A copy of the bytes of two files, of which nothing is asked any more.
 pub(crate) fn bytes_of(alloc: Global, files: &Files<Fused>) -> Result<Kept, Fail> {
     let log = files.log.inner().bytes().to_vec(alloc)?;
     Ok(Kept {
@@ -50,7 +52,7 @@ fn new_fused(alloc: Global, bytes: &[u8], calls: u64) -> Result<Fused, Fail> {
     Ok(Fuse::new(memory, calls))
 }
 
-/// Two such files, of which neither stops.
+/// Two files of these bytes, of which neither stops.
 pub(crate) fn whole(alloc: Global, kept: &Kept) -> Result<Files<Fused>, Fail> {
     let log = new_fused(alloc, &kept.log, u64::MAX)?;
     Ok(Files {
@@ -59,8 +61,8 @@ pub(crate) fn whole(alloc: Global, kept: &Kept) -> Result<Files<Fused>, Fail> {
     })
 }
 
-/// Two such files, of which one stops after so many calls.
-pub(crate) fn stopping(
+/// Two files of these bytes, of which one stops after so many calls.
+pub(crate) fn stopping_files(
     alloc: Global,
     kept: &Kept,
     which: Which,
@@ -77,7 +79,7 @@ pub(crate) fn stopping(
     })
 }
 
-/// What the next open is given.
+/// The files that the next open is given: what a stop left of these, by what was lost.
 pub(crate) fn files_after_loss(
     alloc: Global,
     mut files: Files<Fused>,

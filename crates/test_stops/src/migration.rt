@@ -1,6 +1,6 @@
 //! A file of the first version that is opened, with a stop at each call of one file and then of the other.
 
-use crate::files::{Kept, Loss, Which, files_after_loss, stopping};
+use crate::files::{Kept, Loss, Which, files_after_loss, stopping_files};
 use crate::rounds::{do_without_stop, files_after, tables_of};
 use crate::stops::TREE;
 use std::alloc::Global;
@@ -43,7 +43,7 @@ struct Migration<'a> {
     dump: &'a [u8],
 }
 
-/// What stops left.
+/// What the stops left, and how many left it.
 #[derive(Clone, Copy, Debug, Drop)]
 struct Found {
     /// The tables of the first version, and the world.
@@ -55,7 +55,7 @@ struct Found {
 }
 
 impl Found {
-    /// Notes how many tables were there, and whether the world in them was the one.
+    /// Counts one stop, by how many tables it left and whether they held the world.
     fn note(&mut self, migration: &Migration<'_>, tables: &[u8], is_same: bool) {
         let count = if is_same && tables == migration.earlier {
             &mut self.earlier
@@ -68,7 +68,8 @@ impl Found {
     }
 }
 
-/// One round: one of the files stops after so many calls. Whether it ended without a stop.
+/// One round: the file is opened and checked while one of its two files stops after so many calls, and is then opened again and looked at.
+/// Whether the round ended without a stop.
 fn one_round(
     alloc: Global,
     migration: &Migration<'_>,
@@ -77,7 +78,7 @@ fn one_round(
     found: &mut Found,
 ) -> Result<bool, Fail> {
     let mut seen = Seen::new(alloc);
-    let files = stopping(alloc, migration.kept, which, calls)?;
+    let files = stopping_files(alloc, migration.kept, which, calls)?;
     let files = files_after_loss(
         alloc,
         visit_fused(alloc, files, Task::Check, &mut seen),

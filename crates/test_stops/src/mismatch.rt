@@ -14,6 +14,7 @@ use sqlite::{Alter, Connection};
 use std::alloc::Global;
 use std::test::Fail;
 
+/// The call of a world that runs no batch.
 const NO_BATCH: &str = "";
 
 /// Runs one batch of this call, or nothing if the call is empty.
@@ -47,7 +48,7 @@ fn tables_after<S: Alter + Drop>(
     }
 }
 
-/// The rows that tables show.
+/// The rows that the tables of a connection show.
 fn rows_of<S: Alter + Drop>(alloc: Global, mut conn: Connection<S>) -> Result<Flat, Fail>
     ensures { IfOk result (λ rows. IsGood rows.maps) }
 {
@@ -71,7 +72,7 @@ fn mix_world<S: Alter + Drop>(
     Ok(World::over(alloc, tables, rows))
 }
 
-/// What a check says.
+/// What a check of a World says: how many objects it has, or its fault.
 fn line<S: Alter + Drop>(alloc: Global, world: &mut World<S>) -> Result<String, Fail> {
     Ok(match world.check() {
         Ok(count) => format!(in alloc; "{count} objects")?,
@@ -92,7 +93,7 @@ fn check_twice<S: Alter + Drop>(
     Ok((once, line(alloc, &mut world)?))
 }
 
-/// The same, over two stores in memory.
+/// `check_twice` over two stores in memory.
 fn checked_in_memory(alloc: Global, calls: (&str, &str)) -> Result<(String, String), Fail> {
     let first = Connection::open_in_memory(alloc)?;
     check_twice(alloc, (first, Connection::open_in_memory(alloc)?), calls)
@@ -134,6 +135,7 @@ static CHECKED: [(&str, &str, &str, &str); 7] = [
     ),
 ];
 
+/// What a check says of a World that has failed.
 const CLOSED: &str = "the world has failed";
 
 #[test]

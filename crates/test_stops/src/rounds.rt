@@ -1,6 +1,6 @@
 //! A run that stops at each call of a file in turn, and what is found after each stop.
 
-use crate::files::{Kept, Loss, Which, bytes_of, files_after_loss, stopping, whole};
+use crate::files::{Kept, Loss, Which, bytes_of, files_after_loss, stopping_files, whole};
 use std::alloc::Global;
 use std::test::Fail;
 use test_visits::{Seen, Task, visit_fused};
@@ -51,7 +51,7 @@ pub(crate) fn files_after(alloc: Global, text: &[u8]) -> Result<Kept, Fail> {
     Ok(behind)
 }
 
-/// A run on the files of a world.
+/// A run of a task on the files of a world, with the worlds before and after it. An error if a run without a stop doesn't write this reply.
 pub(crate) fn run_on<'a>(
     alloc: Global,
     kept: Kept,
@@ -73,7 +73,7 @@ pub(crate) fn run_on<'a>(
     })
 }
 
-/// The making of a new world.
+/// A run that makes a new world.
 pub(crate) fn making<'a>(alloc: Global) -> Result<Run<'a>, Fail> {
     let none = Kept {
         log: Vec::new(alloc),
@@ -104,11 +104,12 @@ enum Found {
 /// What one round came to.
 #[derive(Clone, Copy, Drop)]
 struct Round {
+    /// It ended without a stop.
     is_done: bool,
     found: Found,
 }
 
-/// Which world is found.
+/// Which world a stop left, by a look at it. After a run that was acknowledged only the new one is right.
 fn world_found(run: &Run<'_>, is_acknowledged: bool, look: &Seen) -> Found {
     if look.is_done && look.written == run.new {
         Found::New
@@ -128,7 +129,8 @@ fn is_acknowledged(run: &Run<'_>, seen: &Seen) -> bool {
     }
 }
 
-/// One round: one of the files stops after so many calls.
+/// One round: the task is done while one of the files stops after so many calls, and then the world is looked at. If none is there, one has
+/// to be made.
 fn one_round(
     alloc: Global,
     run: &Run<'_>,
@@ -137,7 +139,7 @@ fn one_round(
     calls: u64,
 ) -> Result<Round, Fail> {
     let mut seen = Seen::new(alloc);
-    let files = stopping(alloc, &run.kept, which, calls)?;
+    let files = stopping_files(alloc, &run.kept, which, calls)?;
     let files = files_after_loss(alloc, visit_fused(alloc, files, run.task, &mut seen), loss)?;
     let mut look = Seen::new(alloc);
     let files = visit_fused(alloc, files, Task::Look, &mut look);
@@ -159,18 +161,23 @@ fn one_round(
 /// How many stops there are, and what they left.
 #[derive(Clone, Copy, Debug, Drop)]
 pub(crate) struct Counts {
+    /// The world before the run.
     pub(crate) old: u32,
+    /// The world after it.
     pub(crate) new: u32,
+    /// Neither, or not that of an acknowledged run.
     pub(crate) wrong: u32,
     /// How often a round without a stop came, and found the new world.
     pub(crate) ended: u32,
 }
 
+/// Adds one to a number, up to 4,294,967,295.
 fn count(number: &mut u32) {
     *number = number.saturating_add(1);
 }
 
 impl Counts {
+    /// The counts before the first round.
     pub(crate) fn new() -> Counts {
         Counts {
             old: 0,
@@ -180,6 +187,7 @@ impl Counts {
         }
     }
 
+    /// Adds the counts of other rounds.
     pub(crate) fn add(&mut self, other: &Counts) {
         self.old = self.old.saturating_add(other.old);
         self.new = self.new.saturating_add(other.new);
@@ -187,6 +195,7 @@ impl Counts {
         self.ended = self.ended.saturating_add(other.ended);
     }
 
+    /// Counts one round. One without a stop has to find the new world.
     fn note(&mut self, round: Round) {
         match round {
             Round {

@@ -20,7 +20,7 @@ add_property(#7, "c", 30, {#3, "r"})
 end
 "#;
 
-/// The tree, and forty children of `#6`, the last of them `#47`.
+/// The text of the tree, and of forty children of `#6`, the last of them `#47`.
 fn forty(alloc: Global) -> Result<Vec<u8>, Fail> {
     let mut text = Vec::new(alloc);
     text.extend_from_slice(TREE.as_bytes())?;
@@ -81,6 +81,7 @@ fn test_text<'a>(
     Ok(run)
 }
 
+/// Tests that every round left the world before or the world after, both of them at some stop.
 fn test_counts(rt: &impl Abort, counts: Counts) {
     assert!(rt; are_right(&counts), "{counts:?}");
 }

@@ -6,6 +6,7 @@ use std::alloc::{AllocError, Global};
 use std::process::Abort;
 use std::test::*;
 
+/// The fault of a text that begins with no literal, or None if it begins with one.
 fn fault_of(alloc: Global, text: &str) -> Option<LiteralFault> {
     read_literal(alloc, text.as_bytes()).err()
 }
@@ -48,17 +49,22 @@ fn literals_are_read_and_printed(rt: HostRuntime) -> Result<(), Fail> {
     Ok(())
 }
 
+/// Texts that begin with no literal, with a bar between two of them.
 const NO_LITERALS: &str = "| \t|}|{1|{1,}|{,1}|{1 2}|{1,,2}|-|--1|+1|- 1|#|# 1|\n1|E_PERMX|E_PERM1|\
     E_ PERM|E_NONEXISTENT|\"open|\"open\\\"";
 
+/// Texts with a number that doesn't fit.
 const OUT_OF_RANGE: &str = "9223372036854775808|-9223372036854775809|#2147483648|#-2147483649|\
     #9223372036854775808|00000000000099999999999999999999|{9223372036854775808, \"\n\"}|\
     {#2147483648, \"\n\"}";
 
+/// Texts with a byte that no string may have.
 const BAD_BYTES: &str = "\"a\nb\"|\"a\0b\"|\"a\x7fb\"|\"a\\\x7fb\"|{\"\n\", 9223372036854775808}";
 
+/// A list that is 33 deep.
 const TOO_DEEP: &str = "{{{{{{{{{{{{{{{{{{{{{{{{{{{{{{{{{}}}}}}}}}}}}}}}}}}}}}}}}}}}}}}}}}";
 
+/// Each fault, and texts that have it.
 static FAULTS: [(LiteralFault, &str); 4] = [
     (NotALiteral, NO_LITERALS),
     (OutOfRange, OUT_OF_RANGE),
@@ -75,12 +81,13 @@ fn the_first_fault_is_named(rt: HostRuntime) {
     }
 }
 
-/// A string of so many times a piece.
+/// The literal of a string that has a piece so many times.
 fn string_of(alloc: Global, piece: &str, count: usize) -> Result<String, AllocError> {
     let middle = piece.repeat(alloc, count)?;
     format!(in alloc; "\"{middle}\"")
 }
 
+/// Tests that a string of 65,535 times this piece is read, and one more is too long.
 fn look_at_lengths(rt: &impl Abort, alloc: Global, piece: &str) -> Result<(), AllocError> {
     let longest = string_of(alloc, piece, 65535)?;
     assert!(rt; fault_of(alloc, &longest).is_none(), "{piece}");

@@ -8,7 +8,7 @@ use std::alloc::Global;
 /// A file in memory that stops at some call.
 pub type Fused = Fuse<Memory>;
 
-/// What is done.
+/// What is done with the world of two files.
 #[derive(Clone, Copy, Drop)]
 pub enum Task<'a> {
     /// A new world is made.
@@ -25,19 +25,19 @@ pub enum Task<'a> {
     Look,
 }
 
-/// What came of it.
+/// What came of a task.
 #[derive(Drop)]
 pub struct Seen {
     /// The world was there, and all of the task was done.
     pub is_done: bool,
-    /// Then the files were closed without a fault too.
+    /// The files were closed without a fault after the task.
     pub is_closed: bool,
     /// What the task wrote: replies, or a dump.
     pub written: Vec<u8>,
 }
 
 impl Seen {
-    /// Nothing was done yet.
+    /// What came of a task that isn't begun yet.
     pub fn new(alloc: Global) -> Seen {
         Seen {
             is_done: false,
@@ -47,13 +47,13 @@ impl Seen {
     }
 }
 
-/// Writes the world, and checks it.
+/// Writes the dump of a World, and checks its tables; whether neither has a fault.
 fn look<S: Alter + Drop>(world: &mut World<S>, written: &mut Vec<u8>) -> bool {
     let is_written = world.dump(written).is_ok();
     world.check().is_ok() && is_written
 }
 
-/// Whether all of the task was done.
+/// Does a task over a World that was made or opened, and adds what it writes to `written`; whether all of it was done.
 fn do_task<S: Alter + Drop>(world: &mut World<S>, task: Task<'_>, written: &mut Vec<u8>) -> bool {
     match task {
         Task::Init | Task::Statements(_) | Task::Tables => true,
@@ -88,7 +88,7 @@ fn visit_world<S: Alter + Drop>(
     }
 }
 
-/// The number of tables of a connection, as a digit.
+/// The number of tables of a connection, as a digit: 5 in the first version, 8 in the present one, `?` for any other number.
 fn tables_of<S: Alter + Drop>(conn: &Connection<S>) -> u8 {
     match conn.schema().tables.len() {
         5 => b'5',
@@ -117,7 +117,8 @@ fn visit<S: Alter + Drop>(
     }
 }
 
-/// Opens the files, does the task and closes them, as the program does.
+/// Opens the files, does the task and closes them, as the program does, and hands them back. Files that may not be used are left as they
+/// are.
 fn visit_files<D: Disk + Drop>(
     alloc: Global,
     files: Files<D>,
@@ -133,6 +134,7 @@ fn visit_files<D: Disk + Drop>(
     }
 }
 
+/// Closes the files of a connection, notes whether that had no fault, and hands them back.
 fn close_conn<D: Disk + Drop>(conn: Connection<FileStore<D>>, seen: &mut Seen) -> Files<D> {
     match conn.close_files() {
         Ok(files) => {

@@ -20,6 +20,7 @@ pub(super) struct Counts {
     pub(super) petitions: (u32, u32),
 }
 
+/// No row was put or removed.
 pub(super) const NONE: Counts = Counts {
     objects: (0, 0),
     props: (0, 0),
@@ -36,7 +37,7 @@ pub(super) struct Counting {
 }
 
 impl Counting {
-    /// The counts so far, which begin anew.
+    /// Hands back the counts so far, and begins them anew.
     pub(super) fn take_counts(&mut self) -> Counts
         ensures { self.new.rows ≡ self.old.rows }
     {
@@ -46,6 +47,7 @@ impl Counting {
     }
 }
 
+/// Adds one to a count, up to 4,294,967,295.
 fn one_more(count: &mut u32) {
     *count = count.saturating_add(1);
 }

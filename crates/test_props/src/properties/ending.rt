@@ -12,7 +12,7 @@ use moo_value::{LiteralFault, ObjNo};
 use std::alloc::Global;
 use std::process::Abort;
 
-/// Looks at what goes with #5.
+/// Tests which slots, properties, verbs and links go with #5, as the drop of it tells them.
 fn look_at_gone(rt: &impl Abort, gone: &Dropped) {
     let removed = [
         (ObjNo(5), PropId(1)),
@@ -33,7 +33,7 @@ fn has_parent<R: Rows>(rows: &R, x: ObjNo, parent: ObjNo) -> bool {
     }
 }
 
-/// Drops #5.
+/// Drops #5, and tests what is then there of it, of its child #6 and of its property.
 fn drop_fifth<R: Rows>(rt: &impl Abort, alloc: Global, rows: &mut R) -> Result<(), LiteralFault>
     requires { IsGood (R.held rows.old).maps }
 {

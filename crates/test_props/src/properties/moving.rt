@@ -21,7 +21,7 @@ struct Touches<'a> {
     relinked: &'a [ObjNo],
 }
 
-/// Puts x under another parent, which touches these.
+/// Puts x under another parent, and tests that this touches these slots and objects alone.
 fn moved_touching<R: Rows>(
     rt: &impl Abort,
     alloc: Global,
@@ -40,7 +40,7 @@ fn moved_touching<R: Rows>(
     Ok(())
 }
 
-/// Puts #5 under #7.
+/// Puts #5 under #7: it and #6 lose the slot of a and get one of c.
 fn leave_and_gain<R: Rows>(rt: &impl Abort, alloc: Global, rows: &mut R) -> Result<(), LiteralFault>
     requires { IsGood (R.held rows.old).maps }
 {
@@ -76,7 +76,7 @@ fn a_subtree_loses_what_it_leaves_and_gains_what_it_comes_under(
     Ok(())
 }
 
-/// Puts #6 under #4.
+/// Puts #6 under #4, the parent of its parent: it loses the slot of b and keeps that of a.
 fn stay_with_grandparent<R: Rows>(
     rt: &impl Abort,
     alloc: Global,
@@ -99,7 +99,7 @@ fn what_is_shared_with_a_grandparent_stays(rt: HostRuntime) -> Result<(), Litera
     stay_with_grandparent(&rt, rt.alloc(), &mut new_tree(&rt, rt.alloc())?)
 }
 
-/// Puts #5 under #4, its parent.
+/// Puts #5 under #4, which is its parent already: nothing is touched.
 fn stay<R: Rows>(rt: &impl Abort, alloc: Global, rows: &mut R) -> Result<(), LiteralFault>
     requires { IsGood (R.held rows.old).maps }
 {
@@ -119,7 +119,7 @@ fn nothing_is_written_under_the_present_parent(rt: HostRuntime) -> Result<(), Li
     Ok(())
 }
 
-/// Sets a on #6, and puts #5 under #7 and back under #4.
+/// Sets a on #6, and puts #5 under #7 and back under #4: a on #6 is clear after that.
 fn there_and_back<R: Rows>(rt: &impl Abort, alloc: Global, rows: &mut R) -> Result<(), LiteralFault>
     requires { IsGood (R.held rows.old).maps }
 {
@@ -141,6 +141,7 @@ fn a_value_is_gone_after_the_way_there_and_back(rt: HostRuntime) -> Result<(), L
     there_and_back(&rt, rt.alloc(), &mut new_tree(&rt, rt.alloc())?)
 }
 
+/// Readable, and owned by the owner of the object on descendants.
 const CHANGEABLE: Bits = Bits {
     r: true,
     w: false,
@@ -163,7 +164,7 @@ fn under_the_eighth<R: Rows>(
     Ok(())
 }
 
-/// Puts #5 under an object whose d isn't like that of its definer.
+/// Puts #5 under #8, whose slot of d has another owner and other bits than that of its definer: #5 and #6 get the owner and the bits of #8.
 fn come_under_the_eighth<R: Rows>(
     rt: &impl Abort,
     alloc: Global,

@@ -26,7 +26,7 @@ pub(super) const READ: Bits = Bits {
     c: false,
 };
 
-/// The number of the next object, if one is left.
+/// The number that the next object gets: one above the greatest that was given. None if no number is left.
 #[tactic(auto, unfolding(moo_world::specs::Rows::world_shown))]
 fn next_number<R: Rows>(rows: &R) -> Option<ObjNo>
     ensures { result ≡ next_object (world_of (R.held rows.now).maps) }
@@ -39,7 +39,7 @@ fn next_number<R: Rows>(rows: &R) -> Option<ObjNo>
     }
 }
 
-/// Makes the object of the next number.
+/// Makes the next object under a parent, owned by the wizard, and answers its number.
 pub(super) fn make_next<R: Rows>(
     rt: &impl Abort,
     alloc: Global,
@@ -57,7 +57,7 @@ pub(super) fn make_next<R: Rows>(
     Ok(x)
 }
 
-/// Defines a property of the wizard's.
+/// Defines a property with an integer on x, owned by the wizard, and answers its number.
 pub(super) fn define_integer<R: Rows>(
     rt: &impl Abort,
     alloc: Global,
@@ -79,7 +79,7 @@ pub(super) fn define_integer<R: Rows>(
     Ok(define(alloc, rows, ObjNo(x), name, value, WIZARD, bits)?)
 }
 
-/// The property of a name that x has.
+/// The number of the property with this name that x has. It ends the test if x has none.
 fn find_property<R: Rows>(
     rt: &impl Abort,
     alloc: Global,
@@ -97,7 +97,7 @@ fn find_property<R: Rows>(
     Ok(id)
 }
 
-/// Whether x reads this integer for a name, or has no property of it.
+/// Whether x reads this integer for a name, or, for None, has no property of that name.
 fn reads<R: Rows>(rows: &R, x: ObjNo, name: &MooStr, want: Option<i64>) -> bool
     requires { IsGood (R.held rows.now).maps }
 {
@@ -113,7 +113,7 @@ fn reads<R: Rows>(rows: &R, x: ObjNo, name: &MooStr, want: Option<i64>) -> bool
 /// An object, a name, and the integer that the object reads for it, or None if it has no property of that name.
 pub(super) type Reading = (i32, &'static str, Option<i64>);
 
-/// Whether objects read these integers.
+/// Whether each object reads its integer for its name, or has no property of that name.
 pub(super) fn read<R: Rows>(alloc: Global, rows: &R, want: &[Reading]) -> Result<bool, LiteralFault>
     requires { IsGood (R.held rows.now).maps }
 {
@@ -126,7 +126,7 @@ pub(super) fn read<R: Rows>(alloc: Global, rows: &R, want: &[Reading]) -> Result
     Ok(true)
 }
 
-/// The owner and the bits of the property of a name on x, and whether it is clear there.
+/// The owner and the bits of the property of a name on x, and whether it is clear there. None if x has no property of that name.
 pub(super) fn slot<R: Rows>(
     alloc: Global,
     rows: &R,
@@ -148,7 +148,7 @@ pub(super) fn slot<R: Rows>(
     })
 }
 
-/// Sets an integer on x.
+/// Sets the property of a name on x to an integer.
 pub(super) fn set<R: Rows>(
     rt: &impl Abort,
     alloc: Global,
@@ -183,7 +183,7 @@ pub(super) fn give<R: Rows>(
     Ok(())
 }
 
-/// Puts x under another parent.
+/// Puts x under another parent, and answers what that touched.
 pub(super) fn move_under<R: Rows>(
     rt: &impl Abort,
     alloc: Global,
@@ -201,7 +201,7 @@ pub(super) fn move_under<R: Rows>(
     Ok(reparent(alloc, rows, ObjNo(x), ObjNo(new))?)
 }
 
-/// Drops x.
+/// Drops x, and answers what went with it.
 pub(super) fn drop_one<R: Rows>(
     rt: &impl Abort,
     alloc: Global,

@@ -13,7 +13,7 @@ use moo_world::laws::good_opening;
 use std::alloc::{AllocError, Global};
 use std::process::Abort;
 
-/// Plants it over any rows that hold the opening world. They are borrowed, so that nothing is let go if this ends early.
+/// Makes the small tree in rows that hold the opening world. They are borrowed, so that nothing is let go if this ends early.
 fn plant<R: Rows>(rt: &impl Abort, alloc: Global, rows: &mut R) -> Result<(), LiteralFault>
     requires { IsGood (R.held rows.old).maps }
     ensures { OnOk result (IsGood (R.held rows.new).maps) }
@@ -37,6 +37,7 @@ fn opening(alloc: Global) -> Result<Flat, AllocError>
     Ok(rows)
 }
 
+/// Rows that hold the opening world with the small tree in it, and that have counted nothing yet.
 pub(super) fn new_tree(rt: &impl Abort, alloc: Global) -> Result<Counting, LiteralFault>
     ensures { IfOk result (λ rows. IsGood rows.rows.maps) }
 {

@@ -37,7 +37,7 @@ pub loop-call-preserved : goal.loop-call-preserved
 loop-call-preserved g c =
     let pushed : c.push.new.self.items ≡ c.loop-call.answers.items ++ c.in-Ok.answer ∷ [] = search rules in
     let left = drop (c.loop-call.call-index + 1) c.args.calls.now in
-    let same : g.R.Rows.held c.may_follow.new.rows ≡ g.R.Rows.held c.step_on.new.rows = c.may_follow.ensures (search rules) in (
+    let same : g.R.Rows.held c.spend_on_answer.new.rows ≡ g.R.Rows.held c.step_on.new.rows = c.spend_on_answer.ensures (search rules) in (
       subst (λ now. HaveRunSoFar (g.R.Rows.held c.args.rows.now) c.args.programmer c.args.calls.now c.push.new.self.items now left) (sym same)
           (run-one_more c.call-item.result left c.in-Ok.answer c.push.new.self.items _ pushed (grind (arith, common_steps)) c.loop-call.invariant.0 c.in-Ok.ensures.reaches c.in-Ok.ensures.kept),
       ap length pushed ∙ grind (arith, common_steps),

@@ -14,15 +14,15 @@ returns-in_err-head-clause-fault c =
 pub read_tables-requires-clause-head : goal.read_tables-requires-clause-head
 read_tables-requires-clause-head c =
     let read = subst (λ (rows : List Row). HoldsHead c.args.lists.version rows c.in_ok-head.head) c.deref.ensures.value c.in_ok-head.ensures.ok in
-    subst (λ (h : Head). HoldsHead c.args.lists.version c.args.lists.head.items h) (sym (ap (λ (m : Maps). m.head) c.under-rows.ensures)) read
+    subst (λ (h : Head). HoldsHead c.args.lists.version c.args.lists.head.items h) (sym (ap (λ (m : Maps). m.head) c.head_alone-rows.ensures)) read
 
 pub read_tables-requires-clause-counter : goal.read_tables-requires-clause-counter
 read_tables-requires-clause-counter c =
     let next = subst (λ (rows : List Row). ReadsCounter c.args.lists.version (by_rowid rows) c.in_ok-head.head.next_petition) c.deref-2.ensures.value c.in_ok-head.ensures.counter in
-    subst (λ (h : Head). ReadsCounter c.args.lists.version (by_rowid c.args.lists.petition_head.items) h.next_petition) (sym (ap (λ (m : Maps). m.head) c.under-rows.ensures)) next
+    subst (λ (h : Head). ReadsCounter c.args.lists.version (by_rowid c.args.lists.petition_head.items) h.next_petition) (sym (ap (λ (m : Maps). m.head) c.head_alone-rows.ensures)) next
 
 pub read_tables-requires-clause-none : goal.read_tables-requires-clause-none
-read_tables-requires-clause-none c = c.under-rows.ensures ∙ ap (λ (h : Head). record no_maps { head = h }) (sym (ap (λ (m : Maps). m.head) c.under-rows.ensures))
+read_tables-requires-clause-none c = c.head_alone-rows.ensures ∙ ap (λ (h : Head). record no_maps { head = h }) (sym (ap (λ (m : Maps). m.head) c.head_alone-rows.ensures))
 
 pub returns-in-Ok-clause-limit : goal.returns-in-Ok-clause-limit
-returns-in-Ok-clause-limit c = subst (λ (h : Head). h.seq < 9223372036854775808) (sym (c.in-Ok.ensures.head ∙ ap (λ (m : Maps). m.head) c.under-rows.ensures)) c.in_ok-head.ensures.limit
+returns-in-Ok-clause-limit c = subst (λ (h : Head). h.seq < 9223372036854775808) (sym (c.in-Ok.ensures.head ∙ ap (λ (m : Maps). m.head) c.head_alone-rows.ensures)) c.in_ok-head.ensures.limit

@@ -7,4 +7,4 @@ returns-in-Some g c =
     definer_above (g.R.Rows.held c.args.rows.now).maps c.requires c.args.x c.args.name.now (slot_seen found.definer found.slot.now) c.in-Some.ensures.slot
 
 pub returns-in-None : goal.returns-in-None
-returns-in-None g c = definer_under (g.R.Rows.held c.args.rows.now).maps c.requires c.args.x c.args.name.now c.is_defined_under.result c.in-None.ensures.slot c.is_defined_under.ensures
+returns-in-None g c = definer_under (g.R.Rows.held c.args.rows.now).maps c.requires c.args.x c.args.name.now c.first_to_define_under.result c.in-None.ensures.slot c.first_to_define_under.ensures

@@ -14,7 +14,7 @@ id_is g c = ap prop_id c.in_ok-id.ensures.id
 ends : (g : _) (c : goal.After-drop-under-2 g) → g.R.Rows.held c.put_slot.new.self ≡ held2 (t g c) c.requires.good.formed.tree c.args.x c.requires.object c.args.name (row g c) (prop_id (t g c).head.next_prop) refl (g.R.Rows.held c.args.rows.now) refl
 ends g c =
     c.in_ok-put_slot.ensures.ok
-    ∙ (λ i. put (id_is g c i) ((c.in_ok-move_slots.ensures ∙ (λ k. slots_moved (ids_same c.args.x [] k) (record { id = id_is g c k; owner = c.args.owner; bits = c.args.bits } ∷ []) ((c.as_slice.ensures.value ∙ c.in_ok-under.ensures) k) (c.in_ok-id.ensures.rows k))) i))
+    ∙ (λ i. put (id_is g c i) ((c.in_ok-exchange_slots.ensures ∙ (λ k. slots_moved (ids_same c.args.x [] k) (record { id = id_is g c k; owner = c.args.owner; bits = c.args.bits } ∷ []) ((c.as_slice.ensures.value ∙ c.in_ok-under.ensures) k) (c.in_ok-id.ensures.rows k))) i))
   where
     put : PropId → Held → Held
     put id held = wrote held (record (held.maps) { slots = insert held.maps.slots (c.args.x, id) (row g c) })

@@ -53,8 +53,8 @@ pub unreachable-requires : goal.unreachable-requires
 unreachable-requires g c = false≢true (ap is_some c.in-None.ensures ∙ sym (is_object_seen (look_ups (g.R.Rows.held c.args.rows.now).maps) c.args.x) ∙ c.requires.may.object)
 
 -- what is above x is of its chain
-pub turnover-requires-clause-above : goal.turnover-requires-clause-above
-turnover-requires-clause-above g c d h =
+pub lost_and_gained-requires-clause-above : goal.lost_and_gained-requires-clause-above
+lost_and_gained-requires-clause-above g c d h =
     let t = (g.R.Rows.held c.args.rows.now).maps in
     let row = c.in_ok-row-in-Some.row in
     let here = ap Some c.in_ok-row-in-Some.ensures ∙ c.in-Some.ensures in

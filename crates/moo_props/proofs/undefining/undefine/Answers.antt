@@ -11,7 +11,7 @@ prop g c = own_row (t g c) c.args.x c.args.id c.requires.own
 ends : (g : _) (c : goal.After-drop-under-2 g) → g.R.Rows.held c.remove_prop.new.self ≡ held2 (t g c) c.requires.good c.args.x c.args.id.0 (prop g c).0 (prop g c).1 (prop g c).2 (g.R.Rows.held c.args.rows.now) refl
 ends g c =
     c.in_ok-remove_prop.ensures.ok
-    ∙ ap (λ h. without_prop h c.args.id) (c.in_ok-move_slots.ensures ∙ (λ i. slots_moved (ids_same c.args.x (c.args.id ∷ []) i) [] ((c.as_slice.ensures.value ∙ c.in_ok-under.ensures) i) (g.R.Rows.held c.args.rows.now)))
+    ∙ ap (λ h. without_prop h c.args.id) (c.in_ok-exchange_slots.ensures ∙ (λ i. slots_moved (ids_same c.args.x (c.args.id ∷ []) i) [] ((c.as_slice.ensures.value ∙ c.in_ok-under.ensures) i) (g.R.Rows.held c.args.rows.now)))
 
 shown : (g : _) (c : goal.After-drop-under-2 g) → look_ups (g.R.Rows.held c.remove_prop.new.self).maps ≡ less_property (look_ups (t g c)) c.args.id.0
 shown g c = ap (λ (h : Held). look_ups h.maps) (ends g c) ∙ look_ups-shorter (t g c) c.requires.good c.args.x c.args.id.0 (prop g c).0 (prop g c).1 (prop g c).2 (g.R.Rows.held c.args.rows.now) refl

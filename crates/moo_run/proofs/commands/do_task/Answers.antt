@@ -17,7 +17,7 @@ returns-in-Ask-clause-ends g c m stands = rw c.in-Ask.is (c.answer_batches-in-As
 
 pub returns-in-Dump-clause-ends : goal.returns-in-Dump-clause-ends
 returns-in-Dump-clause-ends g c m stands =
-    rw c.in-Dump.is (says g.B.Store c.args.world.now m dump_of (g.S.Output.Write.contents c.args.session.now.output) (g.S.Output.Write.contents c.show.new.output) c.show.result stands (c.show.ensures.done stands.failed) (c.show.ensures.stops stands.failed))
+    rw c.in-Dump.is (says g.B.Store c.args.world.now m dump_of (g.S.Output.Write.contents c.args.session.now.output) (g.S.Output.Write.contents c.write_dump.new.output) c.write_dump.result stands (c.write_dump.ensures.done stands.failed) (c.write_dump.ensures.stops stands.failed))
 
 pub returns-in-Load-clause-ends : goal.returns-in-Load-clause-ends
 returns-in-Load-clause-ends g c m stands =

@@ -13,13 +13,13 @@ loop-row-init g c =
     let w = world_of (g.R.Rows.held c.args.rows.now).maps in
     let up = chain w c.in-Some.row.now.parent in
     let new = chain w c.args.new in
-    let one = chain w c.no_deeper-one.result in
-    let other = chain w c.no_deeper-other.result in
+    let one = chain w c.climb_to_depth_of-one.result in
+    let other = chain w c.climb_to_depth_of-other.result in
     let above : up ≡ ancestors w c.args.x = sym (ap (drop 1) (chain_of_row m c.requires c.args.x c.in-Some.row.now c.in-Some.ensures)) in
     record {
-      deep = cut_alike up new one other c.no_deeper-one.ensures c.no_deeper-other.ensures;
-      within = subst (λ l. drop (length l - length one) l ≡ one) above (cut_within up one (length new) c.no_deeper-one.ensures);
-      found = found_no_deeper w c.requires c.args.x c.args.new c.no_deeper-other.result (subst (λ l. other ≡ drop (length new - length l) new) above c.no_deeper-other.ensures);
+      deep = cut_alike up new one other c.climb_to_depth_of-one.ensures c.climb_to_depth_of-other.ensures;
+      within = subst (λ l. drop (length l - length one) l ≡ one) above (cut_within up one (length new) c.climb_to_depth_of-one.ensures);
+      found = found_no_deeper w c.requires c.args.x c.args.new c.climb_to_depth_of-other.result (subst (λ l. other ≡ drop (length new - length l) new) above c.climb_to_depth_of-other.ensures);
     }
 
 pub returns-then-eq : goal.returns-then-eq

@@ -3,8 +3,8 @@ use Rattle.moo_memory.proofs.flat.FlatRows.put_object.Goals as goal
 use Rattle.moo_memory.{proofs.Keeping.{back-covered, back-other, put-other, same-other}, specs.Forgotten.{AddsOnly, Forgets, ForgetsOnly, KeepsNoOther}}
 use Rattle.std.{specs.Option.{option_map}, proofs.lemmas.Grind.{common_steps}}
 
-pub invariant_of-self-then-are_same : goal.invariant_of-self-then-are_same
-invariant_of-self-then-are_same c =
+pub invariant_of-self-then-same_ties : goal.invariant_of-self-then-same_ties
+invariant_of-self-then-same_ties c =
     let row_at = get (contents object_cmp c.self.inside.objects) in
     let was : option_map ties_of (row_at c.args.key) ≡ Some (ties_of c.args.row) = search rules in (
       covered-put row_at (get (contents object_cmp c.replace.new.rows)) c.args.key c.self.inside.links c.self.inside.links c.args.row c.self.invariant.0 (λ l q _ e. e)
@@ -52,5 +52,5 @@ invariant_of-self-2 c =
 pub returns-clause-ok : goal.returns-clause-ok
 returns-clause-ok c = grind (arith, common_steps)
 
-pub returns-then-are_same-clause-ok : goal.returns-then-are_same-clause-ok
-returns-then-are_same-clause-ok c = grind (arith, common_steps)
+pub returns-then-same_ties-clause-ok : goal.returns-then-same_ties-clause-ok
+returns-then-same_ties-clause-ok c = grind (arith, common_steps)

@@ -1,9 +1,0 @@
-use Rattle.std.specs.Prelude.{◌≡◌, length}
-use Rattle.std.specs.List.Sorted.{IsPermutation}
-use Rattle.moo_cells.proofs.filling.in_filling_order.Given as goal
-
-abbrev pub invariant-loop-at : goal.invariant-loop-at
-invariant-loop-at l = record {
-  permuted : IsPermutation l.fn.rows.items l.rows.items;
-  long : length l.rows.items ≡ l.len;
-}
