@@ -2,7 +2,7 @@
 use Rattle.std.specs.Prelude.{Option}
 use Rattle.std.specs.Option.{option_map}
 use Rattle.moo_value.specs.declared.value.ObjNo.{ObjNo}
-use Rattle.moo_dump.specs.declared.looking.Look.{Look}
+use Rattle.moo_dump.specs.declared.seen.Look.{Look}
 use Rattle.moo_world.specs.ObjectLists.{children_of, contents_of}
 use Rattle.moo_world.specs.World.{World, WorldObject}
 

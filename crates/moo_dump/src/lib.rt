@@ -9,9 +9,11 @@ mod lines;
 mod looking;
 mod objects;
 mod outline;
+mod seen;
 mod skips;
 
 pub use comparing::{CompareFault, compare};
 pub use dumping::dump;
 pub use fault::RowsDumpFault;
-pub use looking::{Look, look};
+pub use looking::look;
+pub use seen::Look;

@@ -5,34 +5,11 @@ ghost use Rattle.moo_dump.specs.Look.{look_of};
 ghost use Rattle.moo_world.specs.Rows.{world_of};
 ghost use Rattle.moo_world.specs.World.{IsTree};
 
+use crate::seen::Look;
 use moo_rows::{ObjList, Rows};
 use moo_tree::{children, contents};
-use moo_value::{MooStr, ObjNo};
+use moo_value::ObjNo;
 use std::alloc::{AllocError, Global};
-
-/// What an object looks like: its fields, its children and its contents.
-#[derive(Drop)]
-pub struct Look {
-    pub name: MooStr,
-    pub owner: ObjNo,
-    /// The parent, `#-1` for none.
-    pub parent: ObjNo,
-    /// The object that this one is in, `#-1` for none.
-    pub location: ObjNo,
-    pub player: bool,
-    pub programmer: bool,
-    pub wizard: bool,
-    /// Whether everybody may list its properties and verbs.
-    pub r: bool,
-    /// Whether everybody may add properties and verbs to it.
-    pub w: bool,
-    /// Whether everybody may make children of it.
-    pub f: bool,
-    /// The objects whose parent it is, ascending.
-    pub children: ObjList,
-    /// The objects that are in it itself, ascending.
-    pub contents: ObjList,
-}
 
 /// What an object looks like; `None` if no object has the number. The only error is out of memory.
 #[tactic(auto, unfolding(moo_world::specs::Rows::world_shown))]

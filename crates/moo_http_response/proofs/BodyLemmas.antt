@@ -5,7 +5,7 @@ use Rattle.serde_json.{specs.declared.value.Value.{Value as Json, the_lemmas}, s
 use Rattle.std.specs.Prelude.{Option, Some, None}
 use Rattle.serde_json.specs.{View.{items_of}, Data.{Data}}
 use Rattle.moo_value.specs.declared.value.ObjNo.{ObjNo}
-use Rattle.moo_dump.specs.declared.looking.Look.{Look}
+use Rattle.moo_dump.specs.declared.seen.Look.{Look}
 use Rattle.moo_http_response.specs.{PageBodies.{entry_body, next_data, page_body}, declared.entry.Entry.{Entry}, declared.page.Page.{Page}}
 
 no_float-strings : (texts : List (List ℕ)) → items_have_float (strings texts) ≡ false

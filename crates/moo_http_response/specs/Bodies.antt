@@ -6,7 +6,7 @@ use Rattle.moo_value.specs.declared.value.ObjNo.{ObjNo}
 use Rattle.moo_value.specs.declared.value.Value.{Value}
 use Rattle.moo_value.specs.declared.value.Value.TheVariants.{Obj}
 use Rattle.moo_value.specs.Literal.{print}
-use Rattle.moo_dump.specs.declared.looking.Look.{Look}
+use Rattle.moo_dump.specs.declared.seen.Look.{Look}
 
 -- an array of texts
 abbrev pub strings : List (List ℕ) → Items

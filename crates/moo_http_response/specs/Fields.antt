@@ -1,7 +1,7 @@
 -- The fields of an object, put one after another among others.
 use Rattle.std.specs.Prelude.{codes}
 use Rattle.serde_json.specs.Data.{Members, string, put}
-use Rattle.moo_dump.specs.declared.looking.Look.{Look}
+use Rattle.moo_dump.specs.declared.seen.Look.{Look}
 use Rattle.moo_http_response.specs.declared.entry.Entry.{Entry}
 use Rattle.moo_http_response.specs.Bodies.{object_text, objects, flag_data}
 
