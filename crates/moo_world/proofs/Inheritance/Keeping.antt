@@ -1,11 +1,9 @@
 -- A rebuilt world is well formed, where its links and definitions are.
-use Rattle.moo_world.{proofs.Words.{arith, ◌≡◌, ◌≢◌, Bool, true, false, cond, List, [], ◌∷◌, refl, sym, ◌∙◌, ap, subst, ◌⊎◌, inl, inr, Option, Some, None, if◌then◌else◌, pos, ◌≤ℤ◌, option_map, list_any, IsDistinct, AllByRecursion, false≢true, both_ways, or_cases, and_parts, none-some, same_Some, ObjNo, Clear, Name, Property, same_object, same_text, same_property, folded, is_among, same_object-Decides, same_text-Decides, World, WorldObject, Slot, IsTree, IsWellFormed, Climbs, Chain, NamesDiffer, is_object, location_of, owner_of, slot_of, defined_by, defined_by_any, property_named, has_property, chain, fresh, slot_for, rebuilt, with_slots, without_slots, KeepsLimits, SameButSlots, slot_fits, nothing, ◌||◌}, proofs.Ancestry.Trees.{chain_is, Chain-chain, chain_of_none, nothing_is_no_object}, proofs.Form.Limits.{owner_numbered, fresh_fits}, proofs.Inheritance.Owed.{any-append, definer_among, in_owed, named_owed, named_so}, proofs.Inheritance.Rebuilding.{parents_same, objects_same, owed_same, Chain-same, SameButSlots-rebuilt, slot_of-rebuilt}}
+use Rattle.moo_world.{proofs.Words.{arith, ◌≡◌, ◌≢◌, Bool, true, false, cond, List, [], ◌∷◌, refl, sym, ◌∙◌, ap, subst, ◌⊎◌, inl, inr, Option, Some, None, if◌then◌else◌, pos, ◌≤ℤ◌, option_map, list_any, IsDistinct, AllByRecursion, false≢true, both_ways, or_cases, and_parts, none-some, same_Some, ObjNo, Clear, Name, Property, same_text, same_property, folded, is_among, same_object-Decides, same_text-Decides, World, WorldObject, Slot, IsTree, IsWellFormed, Climbs, Chain, NamesDiffer, is_object, location_of, owner_of, slot_of, defined_by, defined_by_any, property_named, has_property, chain, fresh, slot_for, rebuilt, with_slots, without_slots, KeepsLimits, SameButSlots, slot_fits, nothing, ◌||◌}, proofs.Ancestry.Trees.{chain_is, Chain-chain, chain_of_none, nothing_is_no_object}, proofs.Form.Limits.{owner_numbered, fresh_fits}, proofs.Inheritance.Owed.{any-append, definer_among, in_owed, named_owed, named_so}, proofs.Inheritance.Rebuilding.{parents_same, objects_same, owed_same, Chain-same, SameButSlots-rebuilt, slot_of-rebuilt}}
 
 pub same_property-is : (p q : Property) → same_property p q ≡ true → p ≡ q
 unfolding same_property
-same_property-is p q h =
-    let parts = and_parts (same_object p.0 q.0) (same_text p.1 q.1) h in
-    λ i. ((same_object-Decides p.0 q.0).0 parts.0 i, (same_text-Decides p.1 q.1).0 parts.1 i)
+same_property-is p q h = grind (arith, and_parts, same_text, same_object-Decides, same_text-Decides)
 
 -- where names differ, an owed property is the one of its name
 pub named_is : (owed : List Property) (p : Property) → NamesDiffer owed → list_any (same_property p) owed ≡ true → property_named owed (folded p.1) ≡ Some p
@@ -36,11 +34,7 @@ own_owed w t y p yo mine = first (chain w y) (Chain-chain w t y yo)
 
 -- what is owed something is an object
 pub owed_is_object : (w : World) (q : ObjNo) (n : Name) (p : Property) → property_named (defined_by_any w (chain w q)) n ≡ Some p → is_object w q ≡ true
-owed_is_object w q n p e = decide (is_object w q) refl
-  where
-    decide : (b : Bool) → is_object w q ≡ b → b ≡ true
-    decide true v = refl
-    decide false v = absurd (none-some p (sym (ap (λ l. property_named (defined_by_any w l) n) (chain_of_none w q v)) ∙ e))
+owed_is_object w q n p e = grind (arith, chain_of_none)
 
 fresh_definer : (owner : ObjNo) (o : Option Slot) → option_map (λ s. s.definer) (option_map (fresh owner) o) ≡ option_map (λ s. s.definer) o
 fresh_definer owner o = grind arith
@@ -63,11 +57,7 @@ module _ (w s : World) (q : ObjNo) (wf : IsWellFormed w) (may : MayBeRebuilt w s
   same = SameButSlots-rebuilt w s q
 
   known : (x : ObjNo) (p : Property) → has_property w x p ≡ true → is_object w x ≡ true
-  known x p h = by (is_object w x) refl
-    where
-      by : (b : Bool) → is_object w x ≡ b → b ≡ true
-      by true e = refl
-      by false e = absurd (false≢true (sym (ap (λ l. list_any (same_property p) (defined_by_any w l)) (chain_of_none w x e)) ∙ h))
+  known x p h = grind (arith, chain_of_none)
 
   -- a kept slot has the definer of what is owed
   old_definer : (x : ObjNo) (n : Name) (p : Property) → has_property w x p ≡ true → folded p.1 ≡ n → option_map (λ k. k.definer) (slot_of w x n) ≡ Some p.0

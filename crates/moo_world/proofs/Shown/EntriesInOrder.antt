@@ -39,10 +39,7 @@ module _ {K X : Type 0} (cmp : K → K → Ordering) where
 -- what is read of those that pass is what passes of what is read
 pub filter_map-read : {A B : Type 0} (read : A → B) (test : B → Bool) (l : List A) → filter test (map read l) ≡ map read (filter (λ a. test (read a)) l)
 filter_map-read read test [] = refl
-filter_map-read read test (x ∷ l) = by (test (read x)) (filter_map-read read test l)
-  where
-    by : (b : Bool) → filter test (map read l) ≡ map read (filter (λ a. test (read a)) l) → cond b (read x ∷ filter test (map read l)) (filter test (map read l)) ≡ map read (cond b (x ∷ filter (λ a. test (read a)) l) (filter (λ a. test (read a)) l))
-    by b r = grind arith
+filter_map-read read test (x ∷ l) = grind (arith, filter_map-read read test l)
 
 -- tests that answer alike on a list let the same pass
 pub filter_alike : {A : Type 0} (p q : A → Bool) (l : List A) → AllByRecursion (λ a. p a ≡ q a) l → filter p l ≡ filter q l
