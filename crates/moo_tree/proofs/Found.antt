@@ -4,7 +4,7 @@ use Rattle.std.{specs.List.Sorted.{IsStrictlySortedBy}, specs.FinMap.{find}, spe
 use Rattle.moo_rows.proofs.Walking.{first_of, second_of}
 
 both_of : (a b : Bool) → T a → T b → T (a && b)
-both_of h1 b p q = grind (arith)
+both_of a b p q = grind arith
 
 module _ {K X : Type 0} (cmp : K → K → Ordering) where
   below_each : (k : K) (es : List (K × X)) → AllByRecursion (λ q. cmp k q ≡ Less) (map (λ e. e.0) es) → T (below_all cmp k es)
@@ -39,7 +39,7 @@ keys_read read [] = refl
 keys_read read (e ∷ es) = ap (λ l. e.0 ∷ l) (keys_read read es)
 
 read_if : {X Y : Type 0} (read : X → Y) (b : Bool) (o : Option X) → cond b (option_map read o) None ≡ option_map read (cond b o None)
-read_if read h1 o = grind (arith)
+read_if read b o = grind arith
 
 module _ (t : Maps) (x : ObjNo) (found : BTreeMap ObjNo ObjNo) (ordered : IsOrdered object_cmp found) (is : IsFound t x (contents object_cmp found)) where
   abbrev is_under : ObjNo → Bool

@@ -164,7 +164,7 @@ rank w [] = 0
 rank w (z ∷ l) = suc (numbers_to w.top - length (chain w z))
 
 pub rank-smaller : (w : World) (n : ℕ) (level below : List ObjNo) → AreAt w n level → AreAt w (suc n) below → length level ≢ 0 → rank w below < rank w level
-rank-smaller w n h1 below a b some = grind (arith, among-first, chain-short)
+rank-smaller w n level below a b some = grind (arith, among-first, chain-short)
 
 -- the children of what stands at a depth stand one deeper
 pub deeper : (t : Maps) → IsTree (world_of t) → (n : ℕ) (y : ObjNo) (below : List ObjNo) → length (chain (world_of t) y) ≡ n → AreAt (world_of t) (suc n) below → AreAt (world_of t) (suc n) (below ++ children_of (world_of t) y)

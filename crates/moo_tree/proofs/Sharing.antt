@@ -5,7 +5,7 @@ use Rattle.std.{proofs.lemmas.Bool.{false_from_ne_true}, proofs.lemmas.List.{len
 -- ---- lists
 
 pub drop_none : (k : ℕ) → ◌≡◌ {A = List ObjNo} (drop k []) []
-drop_none h1 = grind (arith)
+drop_none k = grind arith
 
 pub drop_tail : (k : ℕ) (l : List ObjNo) (a : ObjNo) (c : List ObjNo) → drop k l ≡ a ∷ c → drop (suc k) l ≡ c
 drop_tail zero [] a c e = cc

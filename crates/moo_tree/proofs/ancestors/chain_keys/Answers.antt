@@ -4,10 +4,10 @@ use Rattle.moo_tree.proofs.ancestors.chain_keys.Goals as goal
 
 -- a key that was put stands for its object in the chain
 put_key : {X : Type 0} (b r : Bool) (o : Option X) (v : X) → (is_some (cond b (Some v) o) || r) ≡ (is_some o || (b || r))
-put_key h1 r h2 v = grind (arith)
+put_key b r o v = grind arith
 
 or_false : (b : Bool) → b ≡ (b || false)
-or_false h1 = grind (arith)
+or_false b = grind arith
 
 turned : (x y : ObjNo) → same_object y x ≡ same_object x y
 unfolding same_object
