@@ -1,5 +1,5 @@
 -- The ascending lists of objects, and names that don't clash.
-use Rattle.moo_world.{proofs.Words.{◌≡◌, ℕ, zero, suc, ◌<◌, Bool, true, false, ◌||◌, List, [], ◌∷◌, ◌++◌, map, refl, sym, ◌∙◌, ap, ◌⊎◌, inl, inr, Option, None, arith, pos, is_some, list_any, filter, false≢true, or_parts, or_right, or_cases, cases_eq, ObjNo, Property, object_at, same_object, same_property, folded, is_among, same_object-Decides, World, IsTree, is_object, chain, defined_by, defined_by_any, property_named, numbers_below, objects_of, subtree_of, shares_property_name}, proofs.Ancestry.Trees.{assigned, chain_of_none}, proofs.Inheritance.Owed.{any-append, is_among-append}, proofs.Inheritance.Keeping.{same_property-is}, proofs.Inheritance.ManualLaw.{NoClash}}
+use Rattle.moo_world.{proofs.Words.{◌≡◌, ℕ, zero, suc, ◌<◌, Bool, true, false, ◌||◌, List, [], ◌∷◌, ◌++◌, map, refl, sym, ◌∙◌, ap, ◌⊎◌, Option, None, arith, pos, is_some, list_any, filter, false≢true, or_parts, or_right, or_cases, cases_eq, ObjNo, Property, object_at, same_object, same_property, folded, is_among, same_object-Decides, World, IsTree, is_object, chain, defined_by, defined_by_any, property_named, numbers_below, objects_of, subtree_of, shares_property_name}, proofs.Ancestry.Trees.{assigned, chain_of_none}, proofs.Inheritance.Owed.{any-append, is_among-append}, proofs.Inheritance.Keeping.{same_property-is}, proofs.Inheritance.ManualLaw.{NoClash}}
 
 pub among_filter : (t : ObjNo → Bool) (l : List ObjNo) (d : ObjNo) → is_among d l ≡ true → t d ≡ true → is_among d (filter t l) ≡ true
 among_filter t [] d h k = h
@@ -21,8 +21,7 @@ numbered (suc n) k d l e =
     self g = λ i. record { 0 = (e ∙ ap pos g) i }
 
     by : (k ≡ n) ⊎ (k ≡ n → ⊥) → (k < n → d.0 ≡ pos k → is_among d (map object_at (numbers_below n)) ≡ true) → (is_among d (map object_at (numbers_below n)) || (same_object d (object_at n) || false)) ≡ true
-    by (inl g) r = or_right _ _ (left (same_object d (object_at n)) false ((same_object-Decides d (object_at n)).1 (self g)))
-    by (inr g) r = left _ _ (r (omega arith) e)
+    by h r = grind (arith, or_right, same_object-Decides)
 
 -- every object is in the list of objects
 pub object_listed : (w : World) (t : IsTree w) (d : ObjNo) → is_object w d ≡ true → is_among d (objects_of w) ≡ true

@@ -32,7 +32,7 @@ module _ (w : World) (t : IsTree w) where
   chain-nothing = chain_is nothing [] refl
 
   pub Chain-either : (q : ObjNo) → (is_object w q ≡ true) ⊎ (q ≡ nothing) → Chain w q (chain w q)
-  Chain-either q h1 = grind (arith, Chain-chain, chain-nothing)
+  Chain-either q h = grind (arith, Chain-chain, chain-nothing)
 
   pub Chain-unique : (x : ObjNo) (l m : List ObjNo) → Chain w x l → Chain w x m → l ≡ m
   Chain-unique x l m p q = Climbs-unique (parent_of w) no_parent l m x p q

@@ -48,7 +48,7 @@ module _ (w : World) (c q : ObjNo) (between : List ObjNo) (wf : IsWellFormed w) 
     owed_below = elim (or_cases _ _ (sym (in_owed-append w p below (chain w q)) ∙ sym (ap (in_owed w p) whole) ∙ own_owed w wf.tree d p dobj own)) [ inl g ↦ g | inr g ↦ absurd (not_above g) ]
 
     no_name : (o : Option Property) → property_named (defined_by_any w below) (folded p.1) ≡ o → property_named (defined_by_any w (chain w q)) (folded p.1) ≡ None
-    no_name h1 e = grind (arith, some_named, owed_below, named_once, differ)
+    no_name o e = grind (arith, some_named, owed_below, named_once, differ)
 
   climbs_apart : NoClash w c q
   climbs_apart d p u k = grind (arith, no_name, chain_of_none)

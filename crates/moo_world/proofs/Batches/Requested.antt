@@ -13,7 +13,7 @@ on_world P s o h = grind arith
 
 -- the petition that is found is there
 pub found_there : (s : State) (n : ℤ) (e : PetitionId × PetitionRow) → petition_at s n ≡ Some e → get s.petitions e.0 ≡ Some e.1
-found_there s h1 e is = grind (arith)
+found_there s n e is = grind arith
 
 -- what is asked of the states that a call may leave
 pub record Led (P : State → Type 0) (s : State) (p : ObjNo) (call : Call) : Type 0 where

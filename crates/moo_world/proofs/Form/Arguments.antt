@@ -58,7 +58,7 @@ objects_numbered (Obj x ∷ vs) h = grind (arith, objects_numbered vs, and_parts
 objects_numbered (v ∷ vs) h = refl
 
 accept_numbered : (args : List Value) → list_all fits args ≡ true → numbered (object_and_accept args) ≡ true
-accept_numbered h1 h = grind (arith, objects_numbered, each_within, second, fits)
+accept_numbered args h = grind (arith, objects_numbered, each_within, second, fits)
 
 -- the list that `set_accept` is given
 pub accept_list_numbered : (args : List Value) (a : ObjNo × Option (List ObjNo)) → object_and_accept args ≡ Ok a → list_all fits args ≡ true → list_all is_number (unwrap_or a.1 []) ≡ true
@@ -79,10 +79,10 @@ abbrev renamed : Result (ObjNo × (Desc × (Info × Name))) Code → Bool
 renamed r = passes (λ a. is_text a.1.1.1) r
 
 added_named : (args : List Value) → list_all fits args ≡ true → added (new_verb args) ≡ true
-added_named h1 h = grind (arith, info_named, each_within, second, fits, both)
+added_named args h = grind (arith, info_named, each_within, second, fits, both)
 
 renamed_named : (args : List Value) → list_all fits args ≡ true → renamed (new_verb_info args) ≡ true
-renamed_named h1 h = grind (arith, info_named, each_within, third, fits, both)
+renamed_named args h = grind (arith, info_named, each_within, third, fits, both)
 
 -- the names that `add_verb` and `set_verb_info` are given
 pub new_verb_named : (args : List Value) (a : ObjNo × ((Info × Name) × (Name × Name × Name))) → new_verb args ≡ Ok a → list_all fits args ≡ true → is_text a.1.0.1 ≡ true

@@ -1,5 +1,5 @@
 -- What the limits of a well formed world say of numbers, of an object's row and of a fresh slot.
-use Rattle.moo_world.{proofs.Words.{◌≡◌, true, ◌||◌, sym, ◌∙◌, ap, Option, Some, None, FitsSigned, w32, arith, ◌&&◌, unwrap_or, option_map, and_parts, or_cases, ObjNo, IsText, VerbRow, is_number, is_text, nothing, same_object, same_object-Decides, World, WorldObject, Slot, IsWellFormed, KeepsLimits, is_object, owner_of, fresh, has_word, accept_fits, row_fits, verb_fits, slot_fits, state_fits, with_slots, without_slots, both_true}, proofs.Form.Ranges.{range_of, text_of}}
+use Rattle.moo_world.{proofs.Words.{◌≡◌, true, ◌||◌, sym, ◌∙◌, ap, Option, Some, None, FitsSigned, w32, arith, ◌&&◌, unwrap_or, option_map, and_parts, or_cases, ObjNo, IsText, VerbRow, is_number, nothing, same_object, same_object-Decides, World, WorldObject, Slot, IsWellFormed, KeepsLimits, is_object, owner_of, fresh, has_word, row_fits, verb_fits, slot_fits, state_fits, with_slots, without_slots, both_true}, proofs.Form.Ranges.{range_of, text_of}}
 
 -- the number of an object has 32 bits
 pub object_numbered : (w : World) → IsWellFormed w → (x : ObjNo) → is_object w x ≡ true → is_number x ≡ true

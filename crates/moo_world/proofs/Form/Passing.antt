@@ -13,31 +13,31 @@ of_done P o v next h e = subst (Holds P) e h
 
 pub on_check : {S : Type 0} (P : Value → S → Type 0) (b : Bool) (failure : Failure) (rest : Outcome S) → (b ≡ true → Holds P rest) → Holds P (check b (Failed failure) rest)
 unfolding Holds
-on_check h1 h2 failure rest h = grind (arith)
+on_check P b failure rest h = grind arith
 
 pub on_room : {S : Type 0} (P : Value → S → Type 0) (b : Bool) (rest : Outcome S) → (b ≡ true → Holds P rest) → Holds P (check b Full rest)
 unfolding Holds
-on_room h1 h2 rest h = grind (arith)
+on_room P b rest h = grind arith
 
 pub on_given : {A S : Type 0} (P : Value → S → Type 0) (r : Result A Code) (rest : A → Outcome S) → ((a : A) → r ≡ Ok a → Holds P (rest a)) → Holds P (given r rest)
 unfolding Holds
-on_given h1 h2 rest h = grind (arith)
+on_given P r rest h = grind arith
 
 pub on_taken : {A S : Type 0} (P : Value → S → Type 0) (r : Result A Reason) (rest : A → Outcome S) → ((a : A) → r ≡ Ok a → Holds P (rest a)) → Holds P (taken_for r rest)
 unfolding Holds
-on_taken h1 h2 rest h = grind (arith)
+on_taken P r rest h = grind arith
 
 pub on_found : {A S : Type 0} (P : Value → S → Type 0) (o : Option A) (reason : Reason) (rest : A → Outcome S) → ((a : A) → o ≡ Some a → Holds P (rest a)) → Holds P (found_or o reason rest)
 unfolding Holds
-on_found h1 h2 reason rest h = grind (arith)
+on_found P o reason rest h = grind arith
 
 pub on_next : {S : Type 0} (P : Value → S → Type 0) (o : Option ObjNo) (rest : ObjNo → Outcome S) → ((x : ObjNo) → o ≡ Some x → Holds P (rest x)) → Holds P (with_next o rest)
 unfolding Holds
-on_next h1 h2 rest h = grind (arith)
+on_next P o rest h = grind arith
 
 pub on_field : (P : Value → World → Type 0) (o : Option BuiltIn) (field : BuiltIn → Outcome World) (other : Outcome World) → ((f : BuiltIn) → Holds P (field f)) → Holds P other → Holds P (by_field o field other)
 unfolding Holds
-on_field h1 h2 field other h k = grind (arith)
+on_field P o field other h k = grind arith
 
 pub on_done : {S : Type 0} (P : Value → S → Type 0) (v : Value) (next : S) → P v next → Holds P (Done v next)
 unfolding Holds

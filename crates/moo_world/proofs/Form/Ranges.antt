@@ -1,5 +1,5 @@
 -- The limits that the types of values keep, and the tests of them.
-use Rattle.moo_world.proofs.Words.{◌≡◌, ◌≤◌, Bool, true, ◌↔◌, refl, ℤ, FitsSigned, w32, w64, arith, ℕ, List, length, IsTrue, nat_le, list_all, and_parts, le-leb, leb-true, Value, IsText, is_allowed, nesting, Values, int, object, string, error, list, is_integer, in_range, is_text, all_within_limits, is_within_limits, fits, TextIsTested, FitsIsTested, both_true}
+use Rattle.moo_world.proofs.Words.{◌≡◌, true, refl, ℤ, FitsSigned, w32, w64, arith, ℕ, List, length, nat_le, list_all, and_parts, le-leb, leb-true, Value, IsText, is_allowed, nesting, Values, int, object, string, error, list, is_integer, in_range, is_text, all_within_limits, is_within_limits, fits, TextIsTested, FitsIsTested, both_true}
 use Rattle.moo_value.{specs.Literal.{HoldInside, HoldIn, InRange, Fits}, specs.Values.{no_values}}
 use Rattle.moo_value.specs.declared.text.TheConstants.{MAX_LENGTH}
 use Rattle.moo_value.specs.declared.value.TheConstants.{MAX_NESTING}
@@ -28,7 +28,7 @@ inside (error e vs) h = inside vs h
 inside (list us vs) h = both_true (inside us h.0) (inside vs h.1)
 
 in_value : (v : Value) → HoldIn InRange IsText v → is_within_limits v ≡ true
-in_value h1 h = grind (arith, integer_of, range_of, text_of, inside)
+in_value v h = grind (arith, integer_of, range_of, text_of, inside)
 
 is_text_of : (s : List ℕ) → is_text s ≡ true → IsText s
 is_text_of s e = let parts = and_parts (nat_le (length s) MAX_LENGTH) (list_all is_allowed s) e in record { short = leb-true (length s) MAX_LENGTH parts.0; allowed = parts.1 }
@@ -42,7 +42,7 @@ hold_inside (error c vs) e = hold_inside vs e
 hold_inside (list us vs) e = let parts = and_parts (all_within_limits us) (all_within_limits vs) e in (hold_inside us parts.0, hold_inside vs parts.1)
 
 hold_in : (v : Value) → is_within_limits v ≡ true → HoldIn InRange IsText v
-hold_in h1 e = grind (arith, integer_fits, fits_signed, is_text_of, hold_inside)
+hold_in v e = grind (arith, integer_fits, fits_signed, is_text_of, hold_inside)
 
 -- what is within the limits passes the test
 pub fits_of : (v : Value) → Fits v → fits v ≡ true

@@ -1,5 +1,5 @@
 -- A property added to a well formed world.
-use Rattle.moo_world.proofs.Lemmas.{◌≡◌, ◌≢◌, ◌<◌, Bool, true, false, cond, ◌||◌, Option, None, Some, List, [], ◌∷◌, ◌++◌, map, refl, sym, ap, ◌∙◌, subst, ◌⊎◌, inl, inr, append_assoc, arith, is_some, if◌then◌else◌, option_map, option_and_then, list_any, list_all, IsDistinct, AllByRecursion, false≢true, both_ways, or_parts, list_all-append, none-some, ObjNo, Clear, clashes, property_added, subtree_of, objects_of, Name, Property, same_object, same_text, same_property, folded, is_among, same_object-Decides, same_text-Decides, World, WorldObject, Slot, IsTree, IsWellFormed, Climbs, Chain, NamesDiffer, is_object, parent_of, chain, property_names_of, defined_by, defined_by_any, property_named, slot_of, fresh, is_property_name, slot_fits, Climbs-once, named_owed, named_so, definer_among, some_named, among_filter, object_listed, owed_listed, chain_is, chain_of_none, no_parent, parents_alike, objects_alike, tree_alike, limits_alike, names_fit}
+use Rattle.moo_world.proofs.Lemmas.{◌≡◌, ◌≢◌, ◌<◌, Bool, true, false, cond, ◌||◌, Option, None, Some, List, [], ◌∷◌, ◌++◌, map, refl, sym, ap, ◌∙◌, subst, ◌⊎◌, inl, inr, append_assoc, arith, is_some, if◌then◌else◌, option_map, option_and_then, list_any, list_all, IsDistinct, AllByRecursion, false≢true, or_parts, list_all-append, none-some, ObjNo, Clear, clashes, property_added, subtree_of, objects_of, Name, Property, same_object, same_text, same_property, folded, is_among, same_object-Decides, same_text-Decides, World, WorldObject, Slot, IsTree, IsWellFormed, Climbs, Chain, NamesDiffer, is_object, parent_of, chain, property_names_of, defined_by, defined_by_any, property_named, slot_of, fresh, is_property_name, slot_fits, Climbs-once, named_owed, named_so, definer_among, some_named, among_filter, object_listed, owed_listed, chain_is, chain_of_none, no_parent, parents_alike, objects_alike, tree_alike, limits_alike, names_fit}
 
 -- ---- lists of pairs
 
@@ -16,15 +16,7 @@ apart p [] ys none d = (first ys none, d)
   where
     first : (ys : List Property) → property_named ys (folded p.1) ≡ None → AllByRecursion (λ y. same_text (folded p.1) (folded y.1) ≡ false) ys
     first [] e = tt
-    first (y ∷ ys) e = by (same_text (folded y.1) (folded p.1)) refl e (first ys)
-      where
-        turned : (b : Bool) → same_text (folded p.1) (folded y.1) ≡ b → same_text (folded y.1) (folded p.1) ≡ false → b ≡ false
-        turned true k h = absurd (both_ways (same_text (folded y.1) (folded p.1)) h ((same_text-Decides (folded y.1) (folded p.1)).1 (sym ((same_text-Decides (folded p.1) (folded y.1)).0 k))))
-        turned false k h = refl
-
-        by : (b : Bool) → same_text (folded y.1) (folded p.1) ≡ b → cond b (Some y) (property_named ys (folded p.1)) ≡ None → (property_named ys (folded p.1) ≡ None → AllByRecursion (λ y. same_text (folded p.1) (folded y.1) ≡ false) ys) → AllByRecursion (λ y. same_text (folded p.1) (folded y.1) ≡ false) (y ∷ ys)
-        by true h k r = absurd (none-some y (sym k))
-        by false h k r = (turned (same_text (folded p.1) (folded y.1)) refl h, r k)
+    first (y ∷ ys) e = grind (arith, first ys, same_text, same_text-Decides)
 apart p (x ∷ xs) ys none d = by (same_text (folded x.1) (folded p.1)) refl none (λ k. apart p xs ys k d.1)
   where
     also : (l : List Property) → same_text (folded x.1) (folded p.1) ≡ false → AllByRecursion (λ y. same_text (folded x.1) (folded y.1) ≡ false) (l ++ ys) → AllByRecursion (λ y. same_text (folded x.1) (folded y.1) ≡ false) (l ++ (p ∷ ys))
@@ -207,8 +199,7 @@ module _ (w : World) (wf : IsWellFormed w) (x : ObjNo) (name : Name) (s : Slot) 
     set y n k e d = elim (new_or_old y n k e) [ inl h ↦ wf.set y n k h d | inr h ↦ new h.0 (same_object x y) refl h.2 ]
       where
         new : (r : WorldObject) (b : Bool) → same_object x y ≡ b → (if b then s else fresh r.row.owner s) ≡ k → k.state ≢ Clear
-        new r true g h = λ c. set_here (ap (λ (z : Slot). z.state) h ∙ c)
-        new r false g h = absurd (both_ways (same_object x y) g ((same_object-Decides x y).1 (sym mine ∙ ap (λ (z : Slot). z.definer) h ∙ d)))
+        new r b g h = grind (arith, same_object-Decides)
 
     module _ (good_name : is_property_name name ≡ true) (left : w.next_prop < 4294967295) (fits_here : slot_fits s ≡ true) where
       fit : (y : ObjNo) (n : Name) (k : Slot) → slot_of v y n ≡ Some k → slot_fits k ≡ true

@@ -73,8 +73,7 @@ module _ (w s : World) (q : ObjNo) (wf : IsWellFormed w) (may : MayBeRebuilt w s
   definer_is x n (Some p) xo e = by (has_property w x p) refl
     where
       by : (b : Bool) → has_property w x p ≡ b → option_map (λ k. k.definer) (if b then slot_of w x n else option_map (fresh (owner_of s x)) (slot_of w q n)) ≡ Some p.0
-      by true h = old_definer x n p h (named_so (defined_by_any s (chain s x)) n p e)
-      by false h = fresh_definer (owner_of s x) (slot_of w q n) ∙ may.new x n p xo e h
+      by b h = grind (arith, old_definer, named_so, fresh_definer)
 
   slots_rebuilt : (x : ObjNo) (l : List ObjNo) (n : Name) → is_object r x ≡ true → Chain r x l → option_map (λ k. k.definer) (slot_of r x n) ≡ option_map (λ k. k.0) (property_named (defined_by_any r l) n)
   slots_rebuilt x l n xo c =
@@ -110,8 +109,7 @@ module _ (w s : World) (q : ObjNo) (wf : IsWellFormed w) (may : MayBeRebuilt w s
   fit_rebuilt x n k e = by (property_named (defined_by_any s (chain s x)) n) (sym (slot_of-rebuilt w s q x n) ∙ e)
     where
       new : (o : Option Slot) → slot_of w q n ≡ o → option_map (fresh (owner_of s x)) o ≡ Some k → slot_fits k ≡ true
-      new None f g = absurd (none-some k g)
-      new (Some j) f g = ap slot_fits (sym (same_Some (fresh (owner_of s x) j) k g)) ∙ fresh_fits (owner_of s x) j (owner_numbered s may.limits x) (wf.fit q n j f)
+      new o f g = grind (arith, fresh, fresh_fits, owner_numbered)
 
       kept : (b : Bool) → (if b then slot_of w x n else option_map (fresh (owner_of s x)) (slot_of w q n)) ≡ Some k → slot_fits k ≡ true
       kept true g = wf.fit x n k g

@@ -78,7 +78,7 @@ module _ (w : World) (x q : ObjNo) (wf : IsWellFormed w) (xo : is_object w x ≡
 
   -- what comes is no ancestor of x
   pub coming_fails : (f : Option ObjNo) (d : ObjNo) → find (λ k. is_among k above) (chain w q) ≡ f → is_among d (front_of (unwrap_or f nothing) (chain w q)) ≡ true → is_among d above ≡ false
-  coming_fails h1 d e h = grind (arith, all_fail, front_within, front_fails)
+  coming_fails f d e h = grind (arith, all_fail, front_within, front_fails)
 
   -- ---- an object under x
 

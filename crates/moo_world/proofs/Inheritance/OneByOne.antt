@@ -104,7 +104,7 @@ module _ (w : World) (x q : ObjNo) (wf : IsWellFormed w) (xp : parent_of w x ≡
     left : (f : Name → Option Slot) (o : Option WorldObject) (a b : Bool) → (b ≡ true → (option_map (λ r. r.row.parent) o ≡ Some x) ⊎ (option_map (λ r. r.row.parent) o ≡ Some q))
         → option_map (with_slots (λ n. None)) (if a then None else option_map (released x q) (option_map (with_slots f) (option_map (λ r. if b then under_q w c q r else r) o)))
         ≡ option_map (with_slots (λ n. None)) (if a then None else option_map (released x q) o)
-    left f h1 h2 b k = grind (arith, one_parent)
+    left f o a b k = grind (arith, one_parent)
 
     same_left : SameButSlots (object_removed v x) (object_removed w x)
     same_left = grind (arith, heir_moved, left, same_object-Decides)
@@ -123,7 +123,7 @@ module _ (w : World) (x : ObjNo) (wf : IsWellFormed w) (xo : is_object w x ≡ t
   heir = unwrap_or (parent_of w x) nothing
 
   untouched : (y : ObjNo) (o : Option WorldObject) → w.object y ≡ o → option_map (emptied x) o ≡ option_map (released x heir) o
-  untouched y h1 e = grind (arith, heir, false_from_ne_true, same_object-Decides)
+  untouched y o e = grind (arith, heir, false_from_ne_true, same_object-Decides)
 
   out_is : taken_out w x ≡ object_removed w x
   unfolding heir

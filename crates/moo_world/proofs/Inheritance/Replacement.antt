@@ -1,5 +1,5 @@
 -- A property of a well formed world under another name.
-use Rattle.moo_world.{proofs.Lemmas.{arith, ◌≡◌, Bool, true, false, cond, ◌||◌, Option, None, Some, List, [], ◌∷◌, ◌++◌, map, refl, sym, ap, ◌∙◌, subst, ◌⊎◌, inl, inr, append_assoc, ◌&&◌, if◌then◌else◌, option_map, option_and_then, list_any, list_all, IsDistinct, AllByRecursion, false≢true, both_ways, or_parts, or_cases, and_parts, none-some, ObjNo, Clear, clashes, property_renamed, Name, Property, nothing, same_object, same_text, same_property, folded, is_among, same_object-Decides, same_text-Decides, World, WorldObject, Slot, IsWellFormed, Climbs, Chain, NamesDiffer, is_object, parent_of, chain, property_names_of, defined_by, defined_by_any, property_named, slot_of, is_property_name, Climbs-once, none_named, chain_is, Chain-chain, no_parent, nothing_is_no_object, parents_alike, objects_alike, tree_alike, limits_alike, names_fit}, proofs.Shown.PairLists.{distinct_map, pairs_left}, proofs.Inheritance.Insertion.{Inserted, still_apart, named_after, further, none_owed, some_record}}
+use Rattle.moo_world.{proofs.Lemmas.{arith, ◌≡◌, Bool, true, false, cond, ◌||◌, Option, None, Some, List, [], ◌∷◌, ◌++◌, map, refl, sym, ap, ◌∙◌, subst, ◌⊎◌, inl, inr, append_assoc, if◌then◌else◌, option_map, option_and_then, list_any, list_all, IsDistinct, AllByRecursion, false≢true, both_ways, or_parts, or_cases, and_parts, none-some, ObjNo, Clear, clashes, property_renamed, Name, Property, nothing, same_object, same_text, same_property, folded, is_among, same_object-Decides, same_text-Decides, World, WorldObject, Slot, IsWellFormed, Climbs, Chain, NamesDiffer, is_object, parent_of, chain, property_names_of, defined_by, defined_by_any, property_named, slot_of, is_property_name, Climbs-once, none_named, chain_is, Chain-chain, no_parent, nothing_is_no_object, parents_alike, objects_alike, tree_alike, limits_alike, names_fit}, proofs.Shown.PairLists.{distinct_map, pairs_left}, proofs.Inheritance.Insertion.{Inserted, still_apart, named_after, further, none_owed, some_record}}
 
 -- ---- lists of pairs
 
@@ -267,10 +267,7 @@ module _ (w : World) (wf : IsWellFormed w) (x : ObjNo) (old new : Name) (xo : is
       where
         each : (l : List Name) → list_all is_property_name l ≡ true → list_all is_property_name (map (renames old new) l) ≡ true
         each [] h = h
-        each (n ∷ l) h = let parts = and_parts (is_property_name n) (list_all is_property_name l) h in one (same_text (folded n) (folded old)) parts.0 (each l parts.1)
-          where
-            one : (b : Bool) → is_property_name n ≡ true → list_all is_property_name (map (renames old new) l) ≡ true → (is_property_name (if b then new else n) && list_all is_property_name (map (renames old new) l)) ≡ true
-            one b k r = grind arith
+        each (n ∷ l) h = grind (arith, each l, and_parts, same_text)
 
         by : (b : Bool) → list_all is_property_name (if b then map (renames old new) (property_names_of w y) else property_names_of w y) ≡ true
         by false = names_fit w wf.limits y

@@ -1,5 +1,5 @@
 -- A property taken from a well formed world.
-use Rattle.moo_world.proofs.Lemmas.{arith, ◌≡◌, Bool, true, false, cond, Option, None, Some, List, [], ◌∷◌, ◌++◌, map, refl, sym, ap, ◌∙◌, subst, ◌&&◌, not, if◌then◌else◌, option_map, filter, list_any, list_all, IsDistinct, AllByRecursion, both_ways, and_parts, none-some, same_Some, ObjNo, property_removed, Name, Property, nothing, same_object, same_text, same_property, folded, same_object-Decides, same_text-Decides, World, WorldObject, Slot, IsWellFormed, Climbs, Chain, NamesDiffer, is_object, parent_of, chain, climb, numbers_to, property_names_of, defined_by, defined_by_any, has_property, owner_of, property_named, slot_of, slot_for, fresh, object_changed, is_property_name, MayBeRebuilt, IsWellFormed-rebuilt, named_owed, named_so, none_named, slot_of-rebuilt, Chain-chain, parents_alike, objects_alike, tree_alike, limits_alike, names_fit, own_owed}
+use Rattle.moo_world.proofs.Lemmas.{arith, ◌≡◌, Bool, true, false, cond, Option, None, Some, List, [], ◌∷◌, ◌++◌, map, refl, sym, ap, ◌∙◌, subst, ◌&&◌, not, if◌then◌else◌, option_map, filter, list_any, list_all, IsDistinct, AllByRecursion, both_ways, and_parts, ObjNo, property_removed, Name, Property, nothing, same_object, same_text, same_property, folded, same_object-Decides, same_text-Decides, World, WorldObject, Slot, IsWellFormed, Climbs, Chain, NamesDiffer, is_object, parent_of, chain, climb, numbers_to, property_names_of, defined_by, defined_by_any, has_property, property_named, slot_of, slot_for, fresh, object_changed, is_property_name, MayBeRebuilt, IsWellFormed-rebuilt, named_owed, named_so, none_named, slot_of-rebuilt, Chain-chain, parents_alike, objects_alike, tree_alike, limits_alike, names_fit, own_owed}
 
 -- ---- lists
 
@@ -79,15 +79,8 @@ module _ (w : World) (wf : IsWellFormed w) (x : ObjNo) (name : Name) where
       by : (b : Bool) → same_object x y ≡ b → (l : List Name) → map {B = Property} (λ n. (y, n)) (if b then filter (λ m. not (same_text (folded m) (folded name))) l else l) ≡ filter stays (map {B = Property} (λ n. (y, n)) l)
       by true e [] = refl
       by false e [] = refl
-      by true e (n ∷ l) =
-          one (same_text (folded n) (folded name)) (by true e l)
-          ∙ ap (λ b. cond (not (b && same_text (folded n) (folded name))) ((y, n) ∷ filter stays (map {B = Property} (λ n. (y, n)) l)) (filter stays (map {B = Property} (λ n. (y, n)) l))) (sym (sym (turned x y) ∙ e))
-        where
-          one : (c : Bool) → map {B = Property} (λ n. (y, n)) (filter (λ m. not (same_text (folded m) (folded name))) l) ≡ filter stays (map {B = Property} (λ n. (y, n)) l) → map {B = Property} (λ n. (y, n)) (cond (not c) (n ∷ filter (λ m. not (same_text (folded m) (folded name))) l) (filter (λ m. not (same_text (folded m) (folded name))) l)) ≡ cond (not c) ((y, n) ∷ filter stays (map {B = Property} (λ n. (y, n)) l)) (filter stays (map {B = Property} (λ n. (y, n)) l))
-          one c r = grind arith
-      by false e (n ∷ l) =
-          ap (λ k. (y, n) ∷ k) (by false e l)
-          ∙ ap (λ b. cond (not (b && same_text (folded n) (folded name))) ((y, n) ∷ filter stays (map {B = Property} (λ n. (y, n)) l)) (filter stays (map {B = Property} (λ n. (y, n)) l))) (sym (sym (turned x y) ∙ e))
+      by true e (n ∷ l) = grind (arith, by true e l, same_text, turned)
+      by false e (n ∷ l) = grind (arith, by false e l, same_text, turned)
 
   owed_now : (l : List ObjNo) → defined_by_any s l ≡ filter stays (defined_by_any w l)
   owed_now [] = refl
@@ -104,10 +97,7 @@ module _ (w : World) (wf : IsWellFormed w) (x : ObjNo) (name : Name) where
     where
       each : (l : List Name) → list_all is_property_name l ≡ true → list_all is_property_name (fewer l) ≡ true
       each [] h = h
-      each (n ∷ l) h = one (not (same_text (folded n) (folded name))) (and_parts (is_property_name n) (list_all is_property_name l) h) (each l)
-        where
-          one : (c : Bool) → (is_property_name n ≡ true) × (list_all is_property_name l ≡ true) → (list_all is_property_name l ≡ true → list_all is_property_name (fewer l) ≡ true) → list_all is_property_name (cond c (n ∷ fewer l) (fewer l)) ≡ true
-          one c k r = grind arith
+      each (n ∷ l) h = grind (arith, each l, same_text, and_parts)
 
       by : (b : Bool) → list_all is_property_name (if b then fewer (property_names_of w y) else property_names_of w y) ≡ true
       by true = each (property_names_of w y) (names_fit w wf.limits y)
@@ -139,23 +129,4 @@ module _ (w : World) (wf : IsWellFormed w) (x : ObjNo) (name : Name) where
       ∙ by (property_named (defined_by_any w (chain w y)) n) refl (slot_of w y n) refl (wf.slots y (chain w y) n o (Chain-chain w wf.tree y o))
     where
       by : (a : Option Property) → property_named (defined_by_any w (chain w y)) n ≡ a → (b : Option Slot) → slot_of w y n ≡ b → option_map (λ k. k.definer) (slot_of w y n) ≡ option_map (λ p. p.0) (property_named (defined_by_any w (chain w y)) n) → slot_for w s nothing y n (kept_pair stays a) ≡ kept_slot n b
-      by None e None f h = refl
-      by None e (Some z) f h = absurd (none-some z.definer (sym (sym (ap (option_map (λ (k : Slot). k.definer)) f) ∙ h ∙ ap (option_map (λ (p : Property). p.0)) e)))
-      by (Some p) e None f h = absurd (none-some p.0 (sym (ap (option_map (λ (k : Slot). k.definer)) f) ∙ h ∙ ap (option_map (λ (p : Property). p.0)) e))
-      by (Some p) e (Some z) f h = tested (same_object p.0 x && same_text (folded p.1) (folded name)) refl
-        where
-          mine : z.definer ≡ p.0
-          mine = same_Some z.definer p.0 (sym (ap (option_map (λ (k : Slot). k.definer)) f) ∙ h ∙ ap (option_map (λ (p : Property). p.0)) e)
-
-          called : folded p.1 ≡ n
-          called = named_so (defined_by_any w (chain w y)) n p e
-
-          alike : (same_object z.definer x && same_text n (folded name)) ≡ (same_object p.0 x && same_text (folded p.1) (folded name))
-          alike = λ i. same_object (mine i) x && same_text (sym called i) (folded name)
-
-          tested : (c : Bool) → (same_object p.0 x && same_text (folded p.1) (folded name)) ≡ c → slot_for w s nothing y n (if not (same_object p.0 x && same_text (folded p.1) (folded name)) then Some p else None) ≡ (if same_object z.definer x && same_text n (folded name) then None else Some z)
-          tested true g = ap (λ b. slot_for w s nothing y n (if not b then Some p else None)) g ∙ sym (ap (λ b. if b then None else Some z) (alike ∙ g))
-          tested false g =
-              ap (λ b. slot_for w s nothing y n (if not b then Some p else None)) g
-              ∙ ap (λ b. if b then slot_of w y n else option_map (fresh (owner_of s y)) (slot_of w nothing n)) (named_owed w (chain w y) n p e)
-              ∙ f ∙ sym (ap (λ b. if b then None else Some z) (alike ∙ g))
+      by a e b f h = grind (arith, same_text, named_so, fresh, named_owed)

@@ -1,5 +1,5 @@
 -- Nobody's ownership changes by a field, a quota, or a property that is added or has another name.
-use Rattle.moo_world.{proofs.Lemmas.{arith, ◌≡◌, Bool, true, false, List, [], ◌∷◌, ◌++◌, map, refl, sym, ◌∙◌, ap, Option, Some, None, ℤ, ◌&&◌, if◌then◌else◌, option_map, option_and_then, none-some, same_Some, ObjNo, Bits, Change, clashes, property_added, property_renamed, info_set, changed, field_changed, Name, Property, same_object, same_text, folded, is_among, same_text-Decides, KeepsOwnership, name_changed, quota_changed, charged, quota_returned, World, WorldObject, Slot, IsWellFormed, is_object, chain, slot_of, fresh, same_links, rank, face, faced, on_record, on_slot, unchanged, slotted, Chain-chain}, proofs.Inheritance.Insertion.{none_owed}, proofs.Ownership.Created.{chains_same}, proofs.Ownership.Kept.{after}}
+use Rattle.moo_world.{proofs.Lemmas.{arith, ◌≡◌, Bool, true, false, List, map, refl, sym, ◌∙◌, ap, Option, Some, None, ℤ, ◌&&◌, if◌then◌else◌, option_map, option_and_then, none-some, same_Some, ObjNo, Bits, Change, clashes, property_added, property_renamed, info_set, changed, field_changed, Name, Property, same_object, same_text, folded, is_among, same_text-Decides, KeepsOwnership, name_changed, quota_changed, charged, quota_returned, World, WorldObject, Slot, IsWellFormed, is_object, chain, slot_of, fresh, same_links, rank, face, faced, on_record, on_slot, unchanged, slotted, Chain-chain}, proofs.Inheritance.Insertion.{none_owed}, proofs.Ownership.Created.{chains_same}, proofs.Ownership.Kept.{after}}
 use Rattle.moo_world.specs.declared.change.Change.TheVariants as to
 
 -- no field that says who owns or may what is changed
@@ -51,20 +51,7 @@ module _ (w : World) (p : ObjNo) where
     by_defining s = after w p w (property_added w x name s) (λ y n. n) (λ y n. n) (λ y. ranks_still _ _ (w.object y)) faces (unchanged w p)
       where
         faces : (y : ObjNo) (n : Name) (a : Slot) → slot_of w y n ≡ Some a → faced (property_added w x name s) y n ≡ faced w y n
-        faces y n a e = by (w.object y) refl
-          where
-            test : (r : WorldObject) → slot_of w y n ≡ r.slot n → (under : Bool) → is_among x (chain w y) ≡ under → (b : Bool) → same_text (folded name) n ≡ b
-                → option_map face (if under then (if b then Some (if same_object x y then s else fresh r.row.owner s) else r.slot n) else r.slot n) ≡ option_map face (r.slot n)
-            test r f false u b g = refl
-            test r f true u false g = refl
-            test r f true u true g = absurd (unnamed y a u (ap (slot_of w y) ((same_text-Decides (folded name) n).0 g) ∙ e))
-
-            by : (o : Option WorldObject) → w.object y ≡ o → option_map face (option_and_then (λ (r : WorldObject). r.slot n) (option_map (λ (r : WorldObject). record r {
-              defines = if same_object x y then r.defines ++ name ∷ [] else r.defines;
-              slot = λ m. if is_among x (chain w y) then (if same_text (folded name) m then Some (if same_object x y then s else fresh r.row.owner s) else r.slot m) else r.slot m;
-            }) o)) ≡ option_map face (option_and_then (λ (r : WorldObject). r.slot n) o)
-            by None f = refl
-            by (Some r) f = test r (ap (option_and_then (λ (k : WorldObject). k.slot n)) f) (is_among x (chain w y)) refl (same_text (folded name) n) refl
+        faces y n a e = grind (arith, same_text, fresh, unnamed, same_text-Decides)
 
     -- a new name for a property of x, once its slot has been changed
     pub by_renaming : (old : Name) (owner : ObjNo) (bits : Bits) → KeepsOwnership w (info_set w x old owner bits) p (λ y n. n) → KeepsOwnership w (property_renamed (info_set w x old owner bits) x old name) p (name_changed w x old name)

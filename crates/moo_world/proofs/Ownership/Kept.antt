@@ -1,5 +1,5 @@
 -- What a change of the world has to keep for nobody's ownership to change.
-use Rattle.moo_world.proofs.Words.{arith, ◌≡◌, Bool, true, false, refl, sym, ◌∙◌, ap, Option, Some, is_some, unwrap_or, option_map, same_Some, ObjNo, ObjRow, Name, nothing, same_text, folded, same_object-Decides, same_text-Decides, with_slot_of, SameRights, KeepsOwnership, World, WorldObject, Slot, is_object, slot_of, object_changed, rebuilt}
+use Rattle.moo_world.proofs.Words.{arith, ◌≡◌, Bool, true, false, refl, sym, ◌∙◌, ap, Option, Some, unwrap_or, option_map, same_Some, ObjNo, ObjRow, Name, nothing, same_text, folded, same_object-Decides, same_text-Decides, with_slot_of, SameRights, KeepsOwnership, World, WorldObject, Slot, is_object, slot_of, object_changed, rebuilt}
 
 -- whose an object is and what its bits let it do
 abbrev pub rank : WorldObject → ObjNo × Bool × Bool × Bool

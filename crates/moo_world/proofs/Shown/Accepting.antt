@@ -58,7 +58,7 @@ module _ (w : World) where
           by false k = on_list (accept_along w (chain w x)) refl (sym (ap (λ b. b || listed_by (accept_along w (chain w x))) k) ∙ e)
 
       pub to_test : (x : ObjNo) → Accepts w x thing → accepts w x thing ≡ true
-      to_test x h1 = grind (arith, same_object-Decides, listed, along_list, tested)
+      to_test x h = grind (arith, same_object-Decides, listed, along_list, tested)
 
 pub accepted : AcceptsIsTested
 accepted w x thing t there = (from_test w t thing there x, to_test w t thing there x)
