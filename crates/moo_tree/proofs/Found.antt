@@ -1,11 +1,10 @@
 -- What is found under an object, as lists in the order of their keys.
-use Rattle.moo_tree.{proofs.Words.{◌≡◌, Bool, true, false, cond, T, ◌&&◌, Option, None, Some, List, [], ◌∷◌, map, Ordering, Less, refl, sym, ap, ◌∙◌, subst, option_map, filter, AllByRecursion, is_lt, eq_by_cmp, BTreeMap, IsOrdered, keys, get, get-entries, get-from_entries, is_sorted, entries, entries_sorted, ObjNo, object_exact, Maps, object_cmp, contents, object_total, is_among, subtree_of, world_of, IsTree, chain, IsFound, owner_if_under, owners_under}, proofs.Listing.{subtree_listed}}
+use Rattle.moo_tree.{proofs.Words.{arith, ◌≡◌, Bool, cond, T, ◌&&◌, Option, None, List, [], ◌∷◌, map, Ordering, Less, refl, sym, ap, ◌∙◌, subst, option_map, filter, AllByRecursion, is_lt, BTreeMap, IsOrdered, keys, get, get-entries, get-from_entries, is_sorted, entries, entries_sorted, ObjNo, object_exact, Maps, object_cmp, contents, object_total, is_among, subtree_of, world_of, IsTree, chain, IsFound, owner_if_under, owners_under}, proofs.Listing.{subtree_listed}}
 use Rattle.std.{specs.List.Sorted.{IsStrictlySortedBy}, specs.FinMap.{find}, specs.FinMap.Entries.{below_all, find-where_key, is_sorted-where_key, same_entries}}
 use Rattle.moo_rows.proofs.Walking.{first_of, second_of}
 
 both_of : (a b : Bool) → T a → T b → T (a && b)
-both_of true b p q = q
-both_of false b p q = p
+both_of a b p q = grind arith
 
 module _ {K X : Type 0} (cmp : K → K → Ordering) where
   below_each : (k : K) (es : List (K × X)) → AllByRecursion (λ q. cmp k q ≡ Less) (map (λ e. e.0) es) → T (below_all cmp k es)
@@ -33,19 +32,14 @@ module _ {K X Y : Type 0} (cmp : K → K → Ordering) (read : X → Y) where
 
   find_read : (q : K) (es : List (K × X)) → find cmp q (read_each es) ≡ option_map read (find cmp q es)
   find_read q [] = refl
-  find_read q (e ∷ es) = by (eq_by_cmp cmp q e.0) (find_read q es)
-    where
-      by : (b : Bool) → find cmp q (read_each es) ≡ option_map read (find cmp q es) → cond b (Some (read e.1)) (find cmp q (read_each es)) ≡ option_map read (cond b (Some e.1) (find cmp q es))
-      by true r = refl
-      by false r = r
+  find_read q (e ∷ es) = grind (arith, find_read q es)
 
 keys_read : {K X Y : Type 0} (read : X → Y) (es : List (K × X)) → map (λ (e : K × Y). e.0) (map (λ e. (e.0, read e.1)) es) ≡ map (λ e. e.0) es
 keys_read read [] = refl
 keys_read read (e ∷ es) = ap (λ l. e.0 ∷ l) (keys_read read es)
 
 read_if : {X Y : Type 0} (read : X → Y) (b : Bool) (o : Option X) → cond b (option_map read o) None ≡ option_map read (cond b o None)
-read_if read true o = refl
-read_if read false o = refl
+read_if read b o = grind arith
 
 module _ (t : Maps) (x : ObjNo) (found : BTreeMap ObjNo ObjNo) (ordered : IsOrdered object_cmp found) (is : IsFound t x (contents object_cmp found)) where
   abbrev is_under : ObjNo → Bool

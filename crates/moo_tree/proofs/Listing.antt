@@ -1,7 +1,7 @@
 -- What is read off the objects' rows, as lists of the world.
-use Rattle.moo_tree.proofs.Words.{◌≡◌, Bool, true, true≢false, List, [], ◌∷◌, map, Option, None, Some, get, object_exact, Less, refl, sym, ap, ◌∙◌, arith, pos, negsuc, ◌≤ℤ◌, is_some, int_cmp_is, entries, entries_sorted, get-entries, filter, AllByRecursion, is_lt, ObjNo, ChildOf, Within, Player, ObjRow, has_link, linked_left, ties_of, Maps, object_cmp, object_total, children_of, contents_of, objects_of, players_of, subtree_of, nothing, same_object, is_among, same_object-eq, look_ups, world_of, IsTree, is_object, row_passes, chain, is_object_seen}
+use Rattle.moo_tree.proofs.Words.{◌≡◌, Bool, true, List, [], ◌∷◌, map, Some, Less, refl, sym, ap, ◌∙◌, arith, pos, negsuc, ◌≤ℤ◌, is_some, int_cmp_is, entries, entries_sorted, get-entries, filter, AllByRecursion, is_lt, ObjNo, ChildOf, Within, Player, ObjRow, has_link, linked_left, ties_of, Maps, object_cmp, object_total, children_of, contents_of, objects_of, players_of, subtree_of, nothing, same_object, is_among, same_object-eq, look_ups, world_of, IsTree, is_object, row_passes, chain, is_object_seen}
 use Rattle.std.{specs.FinMap.{find}, proofs.lemmas.Int.{ints}}
-use Rattle.moo_rows.{proofs.Firsts.{first-end, first-step}, specs.Links.{IsFirst, is_linked, row_has}, specs.declared.row.Link.{Link}}
+use Rattle.moo_rows.{specs.declared.row.Link.{Link}}
 use Rattle.moo_world.{proofs.Shown.EntriesInOrder.{all_weaker, filter_alike, own_entries}, proofs.Shown.ObjectEntries.{objects_passing, rows_passing}}
 
 all_pass : {A : Type 0} (l : List A) → filter (λ a. true) l ≡ l
@@ -27,8 +27,7 @@ module _ (t : Maps) (tree : IsTree (world_of t)) where
 
   -- as lists of the world, where the link is a test of the row
   linked_listed : (link : Link) (test : ObjRow → Bool) → ((r : ObjRow) → has_link link (ties_of r) ≡ test r) → map (λ e. e.0) (linked_left link nothing t) ≡ filter (row_passes test (world_of t)) (objects_of (world_of t))
-  linked_listed link test same =
-      ap (map (λ e. e.0)) (left_whole link ∙ (λ i. filter (λ e. same e.1 i) (entries t.objects))) ∙ sym (rows_passing t tree test)
+  linked_listed link test same = grind (arith, left_whole, rows_passing)
 
   pub children_listed : (x : ObjNo) → map (λ e. e.0) (linked_left (ChildOf x) nothing t) ≡ children_of (world_of t) x
   children_listed x = linked_listed (ChildOf x) (λ r. same_object x r.parent) (λ r. same_object-eq x r.parent)

@@ -1,6 +1,6 @@
 -- A search for the objects under one, as far as it has come.
 use Rattle.moo_tree.{proofs.Words.{◌≡◌, ℕ, zero, suc, ◌-◌, ◌<◌, ◌≤◌, ◌≢◌, Bool, true, false, cond, ◌||◌, Option, None, Some, List, [], ◌∷◌, ◌++◌, length, drop, Ordering, Less, Equal, Greater, refl, sym, ap, ◌∙◌, subst, arith, ◌⊎◌, inl, inr, is_some, if◌then◌else◌, slice_index_or, ◌+◌, option_map, eq_by_cmp, is_eq, tied_itself, FinMap, get, insert, get-insert, true≢false, or_right, or_cases, ObjNo, ObjRow, object_exact, Maps, object_cmp, object_total, same_object, is_among, same_object-Decides, children_of, objects_of, is_parent_of, look_ups, world_of, World, IsTree, is_object, parent_of, chain, climb, numbers_to, chain_of_none, chain_of_row, chain_of_no_row, is_object_seen, passes_seen, none_passes, IsFound}, proofs.Sharing.{among_drop}}
-use Rattle.std.{proofs.Common.{add-one, drop-cons}, proofs.Math.Bool.{or-false}, proofs.lemmas.Bool.{or_left, true_from_ne_false}, proofs.lemmas.Option.{none-some}}
+use Rattle.std.{proofs.Common.{add-one, drop-cons}, proofs.Math.Bool.{or-false}, proofs.lemmas.Bool.{or_left, true_from_ne_false}}
 use Rattle.moo_world.{proofs.Inheritance.Owed.{is_among-append}, proofs.Ancestry.Subtrees.{among_filter, object_listed}, proofs.Ancestry.Upward.{filter_passes}, proofs.Shown.PairLists.{some_of}}
 
 -- an object has a row
@@ -60,26 +60,13 @@ module _ (t : Maps) (tree : IsTree (world_of t)) where
 
       -- what was pending is y, or still is
       parts : (c : ObjNo) → is_among c ((y ∷ rest) ++ below) ≡ true → (same_object c y ≡ true) ⊎ (is_among c now ≡ true)
-      parts c h = elim (or_cases (same_object c y) (is_among c (rest ++ below)) h) [
-        | inl g ↦ inl g
-        | inr g ↦ inr (is_among-append c rest (below ++ children_of w y) ∙ split (or_cases _ _ (sym (is_among-append c rest below) ∙ g)))
-      ]
-        where
-          split : (is_among c rest ≡ true) ⊎ (is_among c below ≡ true) → (is_among c rest || is_among c (below ++ children_of w y)) ≡ true
-          split (inl k) = or_left _ _ k
-          split (inr k) = or_right _ _ (is_among-append c below (children_of w y) ∙ or_left _ _ k)
+      parts c h = grind (arith, or_cases, is_among-append, or_left, or_right)
 
       child_now : (c : ObjNo) → is_among c (children_of w y) ≡ true → is_among c now ≡ true
       child_now c h = is_among-append c rest (below ++ children_of w y) ∙ or_right _ _ (is_among-append c below (children_of w y) ∙ or_right _ _ h)
 
       was : (c : ObjNo) → is_among c now ≡ true → (is_among c ((y ∷ rest) ++ below) ≡ true) ⊎ (is_among c (children_of w y) ≡ true)
-      was c h = elim (or_cases _ _ (sym (is_among-append c rest (below ++ children_of w y)) ∙ h)) [
-        | inl g ↦ inl (or_right (same_object c y) _ (is_among-append c rest below ∙ or_left _ _ g))
-        | inr g ↦ elim (or_cases _ _ (sym (is_among-append c below (children_of w y)) ∙ g)) [
-          | inl k ↦ inl (or_right (same_object c y) _ (is_among-append c rest below ∙ or_right _ _ k))
-          | inr k ↦ inr k
-        ]
-      ]
+      was c h = grind (arith, or_cases, is_among-append, or_right, or_left)
 
       got : (z : ObjNo) → get after z ≡ cond (eq_by_cmp object_cmp z y) (Some row.owner) (get m z)
       got z = get-insert object_total m y row.owner z
@@ -88,29 +75,17 @@ module _ (t : Maps) (tree : IsTree (world_of t)) where
       same-key z e = ap (λ k. is_some (get after k)) e ∙ ap is_some (got y) ∙ ap (λ o. is_some (cond (is_eq o) (Some row.owner) (get m y))) (tied_itself object_total y)
 
       kept : (z : ObjNo) → is_some (get m z) ≡ true → is_some (get after z) ≡ true
-      kept z h = ap is_some (got z) ∙ by (eq_by_cmp object_cmp z y)
-        where
-          by : (b : Bool) → is_some (cond b (Some row.owner) (get m z)) ≡ true
-          by true = refl
-          by false = h
+      kept z h = grind (arith, got)
 
       -- found or pending before, so now
       moved : (c : ObjNo) → (is_some (get m c) || is_among c ((y ∷ rest) ++ below)) ≡ true → (is_some (get after c) || is_among c now) ≡ true
-      moved c h = elim (or_cases _ _ h) [
-        | inl g ↦ or_left _ _ (kept c g)
-        | inr g ↦ elim (parts c g) [
-          | inl k ↦ or_left _ _ (same-key c ((same_object-Decides c y).0 k))
-          | inr k ↦ or_right _ _ k
-        ]
-      ]
+      moved c h = grind (arith, or_cases, or_left, kept, parts, same-key, same_object-Decides, or_right)
 
       y_under : is_among x (chain w y) ≡ true
       y_under = s.sound y (among-first y (rest ++ below))
 
       under_child : (c : ObjNo) → is_among c (children_of w y) ≡ true → is_among x (chain w c) ≡ true
-      under_child c h =
-          let k = listed_child c y h in
-          ap (is_among x) (child_chain c k.0 k.1) ∙ or_right (same_object x c) _ (ap (λ p. is_among x (chain w p)) k.2 ∙ y_under)
+      under_child c h = grind (arith, listed_child, child_chain, or_right, y_under)
 
       pub step : Search t x after now
       step = record {
@@ -134,15 +109,7 @@ module _ (t : Maps) (tree : IsTree (world_of t)) where
 
     -- at the beginning
     pub begun : (m : FinMap object_cmp ObjNo) → ((q : ObjNo) → get m q ≡ None) → is_object w x ≡ true → Search t x m (x ∷ [])
-    begun m none ok = record {
-      sound = λ z h. elim (or_cases _ _ h) [
-        | inl g ↦ ap (λ q. is_among x (chain w q)) ((same_object-Decides z x).0 g) ∙ own_among ok
-        | inr g ↦ absurd (true≢false (sym g))
-      ];
-      right = λ z o h. absurd (none-some o (sym (none z) ∙ h));
-      closed = λ z c r e p h. absurd (true≢false (sym h ∙ ap is_some (none z)));
-      start = or_right _ _ (among-first x []);
-    }
+    begun m none ok = grind (arith, or_cases, same_object-Decides, own_among, true≢false, or_right, among-first)
 
     -- what holds of x, and of each child of what it holds of, holds of all under x
     pub along : (P : ObjNo → Type 0) → (is_object w x ≡ true → P x) → ((z : ObjNo) (r : ObjRow) → get t.objects z ≡ Some r → P r.parent → P z) → (l : List ObjNo) (z : ObjNo) → chain w z ≡ l → is_among x l ≡ true → P z
@@ -175,23 +142,13 @@ module _ (t : Maps) (tree : IsTree (world_of t)) where
       all z h = along (λ q. is_some (get m q) ≡ true) (λ o. sym (or-false (is_some (get m x))) ∙ s.start) (λ q r g k. sym (or-false (is_some (get m q))) ∙ s.closed r.parent q r g refl k) (chain w z) z refl h
 
       pub ended : IsFound t x m
-      ended q = by (get m q) refl (is_among x (chain w q)) refl
-        where
-          by : (o : Option ObjNo) → get m q ≡ o → (b : Bool) → is_among x (chain w q) ≡ b → o ≡ (if b then option_map (λ r. r.owner) (get t.objects q) else None)
-          by None e false h = refl
-          by None e true h = absurd (true≢false (sym (all q h) ∙ ap is_some e))
-          by (Some o) e true h = sym (s.right q o e).1
-          by (Some o) e false h = absurd (true≢false (sym (s.right q o e).0 ∙ h))
+      ended q = grind (arith, true≢false, all)
 
 -- ---- depths
 
 climb-short : (link : ObjNo → Option ObjNo) (n : ℕ) (x : ObjNo) → length (climb n link x) ≤ n
 climb-short link zero x = omega arith
-climb-short link (suc n) x = by (λ y. climb-short link n y) (link x)
-  where
-    by : ((y : ObjNo) → length (climb n link y) ≤ n) → (o : Option ObjNo) → length (elim o as (λ _. List ObjNo) [ None ↦ [] | Some next ↦ x ∷ climb n link next ]) ≤ suc n
-    by higher None = omega arith
-    by higher (Some next) = omega (arith, higher next)
+climb-short link (suc n) x = grind (arith, climb-short link n)
 
 pub chain-short : (w : World) (x : ObjNo) → length (chain w x) ≤ numbers_to w.top
 unfolding chain
@@ -207,22 +164,11 @@ rank w [] = 0
 rank w (z ∷ l) = suc (numbers_to w.top - length (chain w z))
 
 pub rank-smaller : (w : World) (n : ℕ) (level below : List ObjNo) → AreAt w n level → AreAt w (suc n) below → length level ≢ 0 → rank w below < rank w level
-rank-smaller w n [] below a b some = absurd (some refl)
-rank-smaller w n (z ∷ l) [] a b some = omega arith
-rank-smaller w n (z ∷ l) (c ∷ k) a b some =
-    let one = a z (among-first z l) in
-    let two = b c (among-first c k) in
-    omega (arith, one, two, chain-short w c)
+rank-smaller w n level below a b some = grind (arith, among-first, chain-short)
 
 -- the children of what stands at a depth stand one deeper
 pub deeper : (t : Maps) → IsTree (world_of t) → (n : ℕ) (y : ObjNo) (below : List ObjNo) → length (chain (world_of t) y) ≡ n → AreAt (world_of t) (suc n) below → AreAt (world_of t) (suc n) (below ++ children_of (world_of t) y)
-deeper t tree n y below at rest z h = elim (or_cases _ _ (sym (is_among-append z below (children_of (world_of t) y)) ∙ h)) [
-  | inl g ↦ rest z g
-  | inr g ↦
-      let k = listed_child t tree z y g in
-      let long : length (chain (world_of t) z) ≡ suc (length (chain (world_of t) y)) = ap length (child_chain t tree z k.0 k.1) ∙ ap (λ p. suc (length (chain (world_of t) p))) k.2 in
-      long ∙ ap suc at
-]
+deeper t tree n y below at rest z h = grind (arith, or_cases, is_among-append, listed_child, child_chain)
 
 -- ---- the level, one after another
 
@@ -233,10 +179,7 @@ pub in_list : (l : List ObjNo) (i : ℕ) (y : ObjNo) (rest : List ObjNo) → dro
 in_list l i y rest e = among_drop y i l (ap (is_among y) e ∙ among-first y rest)
 
 pub alone : (w : World) (z x : ObjNo) → is_among z (x ∷ []) ≡ true → length (chain w z) ≡ length (chain w x)
-alone w z x h = elim (or_cases _ _ h) [
-  | inl g ↦ ap (λ q. length (chain w q)) ((same_object-Decides z x).0 g)
-  | inr g ↦ absurd (true≢false (sym g))
-]
+alone w z x h = grind (arith, or_cases, same_object-Decides, true≢false)
 
 pub no_items : (l : List ObjNo) → length l ≡ 0 → l ≡ []
 no_items [] e = refl

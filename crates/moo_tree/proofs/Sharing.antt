@@ -5,8 +5,7 @@ use Rattle.std.{proofs.lemmas.Bool.{false_from_ne_true}, proofs.lemmas.List.{len
 -- ---- lists
 
 pub drop_none : (k : ℕ) → ◌≡◌ {A = List ObjNo} (drop k []) []
-drop_none zero = refl
-drop_none (suc k) = refl
+drop_none k = grind arith
 
 pub drop_tail : (k : ℕ) (l : List ObjNo) (a : ObjNo) (c : List ObjNo) → drop k l ≡ a ∷ c → drop (suc k) l ≡ c
 drop_tail zero [] a c e = cc
@@ -31,24 +30,13 @@ find_later t x l m e h = sym (ap (find t) e ∙ ap (λ b. cond b (Some x) (find 
 
 -- ends of two lists that are cut to one length
 pub cut_alike : (p q one other : List ObjNo) → one ≡ drop (length p - length q) p → other ≡ drop (length q - length p) q → length one ≡ length other
-cut_alike p q one other e h =
-    let a : length one ≡ length p - (length p - length q) = ap length e ∙ length-drop (length p - length q) p in
-    let b : length other ≡ length q - (length q - length p) = ap length h ∙ length-drop (length q - length p) q in
-    omega arith
+cut_alike p q one other e h = grind (arith, length-drop)
 
 pub cut_within : (p one : List ObjNo) (n : ℕ) → one ≡ drop (length p - n) p → drop (length p - length one) p ≡ one
-cut_within p one n e =
-    let a : length one ≡ length p - (length p - n) = ap length e ∙ length-drop (length p - n) p in
-    let same : length p - length one ≡ length p - n = omega arith in
-    ap (λ k. drop k p) same ∙ sym e
+cut_within p one n e = grind (arith, length-drop)
 
 pub tail_within : (p l c : List ObjNo) (x : ObjNo) → drop (length p - length l) p ≡ l → l ≡ x ∷ c → drop (length p - length c) p ≡ c
-tail_within p l c x e s =
-    let k = length p - length l in
-    let a : length (drop k p) ≡ suc (length c) = ap length (e ∙ s) in
-    let b : length l ≡ suc (length c) = ap length s in
-    let next : length p - length c ≡ suc k = omega (arith, length-drop k p) in
-    ap (λ n. drop n p) next ∙ drop_tail k p x c (e ∙ s)
+tail_within p l c x e s = grind (arith, length-drop, drop_tail)
 
 -- ---- chains
 

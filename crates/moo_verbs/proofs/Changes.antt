@@ -1,11 +1,10 @@
 -- The rows after a verb was put or removed: the world that they show, and that they stay good.
-use Rattle.moo_verbs.{proofs.Words.{◌≡◌, ◌+◌, ◌<◌, ◌≤◌, true, Option, None, Some, ◌++◌, ◌∷◌, [], refl, sym, ◌∙◌, subst, arith, is_some, remove, false≢true, ObjNo, VerbId, VerbRow, Maps, IsGood, look_ups, world_of, world_shown, IsWellFormed, is_object, verb_fits, verb_added, verb_removed, verb_changed, changed_at, has_verb, verb_place}, proofs.Directories.{put_last, put_changed, removed}, proofs.Soundness.{put_sound, rest_sound}}
+use Rattle.moo_verbs.{proofs.Words.{◌≡◌, ◌+◌, ◌<◌, ◌≤◌, true, Option, Some, ◌++◌, ◌∷◌, [], refl, sym, ◌∙◌, subst, arith, is_some, remove, ObjNo, VerbId, VerbRow, Maps, IsGood, look_ups, world_of, world_shown, IsWellFormed, is_object, verb_fits, verb_added, verb_removed, verb_changed, changed_at, has_verb, verb_place}, proofs.Directories.{put_last, put_changed, removed}, proofs.Soundness.{put_sound, rest_sound}}
 use Rattle.std.specs.FinMap.{get, insert, remove as less}
 use Rattle.moo_world.{proofs.Shown.Seen.{is_object_seen}, proofs.Form.Directories.{stays_formed, added_fit, removed_fit, changed_fit}}
 
 some_of : {A : Type 0} (o : Option A) → is_some o ≡ true → (v : A) × (o ≡ Some v)
-some_of None e = absurd (false≢true e)
-some_of (Some v) e = (v, refl)
+some_of o e = grind arith
 
 verb_room : (m : Maps) → IsGood m → (0 < m.head.next_verb) × (m.head.next_verb ≤ 4294967295)
 unfolding world_shown

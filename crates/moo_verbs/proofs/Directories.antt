@@ -1,7 +1,7 @@
 -- What a verb put or removed in the rows does to the world that they show.
-use Rattle.moo_verbs.{proofs.Words.{◌≡◌, ◌≢◌, ℕ, ◌<◌, ◌+◌, Bool, true, false, cond, Option, None, Some, List, [], ◌∷◌, ◌++◌, eqb, refl, sym, ap, ◌∙◌, add-one, arith, is_some, slice_get, if◌then◌else◌, option_map, remove, eq-eqb, ne_eqb, eqb-true, ObjNo, VerbId, VerbRow, Maps, verb_cmp, same_object, same_object-Decides, WorldObject, LookUps, IsSound, look_ups, world_of, world_shown, object_shown, verb_id, verb_added, verb_removed, verb_changed, verb_at, changed_at, verb_place}, proofs.Numbering.{below, one_more, none_more, get_at, removed_at, changed_below}, proofs.Entries.{row_at, verbs_shown, past}}
+use Rattle.moo_verbs.{proofs.Words.{◌≡◌, ◌≢◌, ℕ, ◌<◌, ◌+◌, Bool, true, false, cond, Option, None, Some, List, [], ◌∷◌, ◌++◌, eqb, refl, sym, ap, ◌∙◌, add-one, arith, remove, eq-eqb, ne_eqb, eqb-true, ObjNo, VerbId, VerbRow, Maps, verb_cmp, same_object, same_object-Decides, LookUps, IsSound, look_ups, world_of, world_shown, verb_id, verb_added, verb_removed, verb_changed, verb_at, changed_at, verb_place}, proofs.Numbering.{below, one_more, none_more, get_at, removed_at, changed_below}, proofs.Entries.{row_at, verbs_shown, past}}
 use Rattle.std.{specs.Ordering.{eq_by_cmp}, specs.FinMap.{get, insert, remove as less, get-insert, get-remove}}
-use Rattle.moo_rows.{specs.declared.row.ObjRow.{ObjRow}, specs.Exact.{verb_exact}, proofs.Orders.{verb_total}}
+use Rattle.moo_rows.{specs.Exact.{verb_exact}, proofs.Orders.{verb_total}}
 use Rattle.moo_world.{proofs.Form.Directories.{with_directory}, proofs.Shown.MapLaws.{decided_alike, key-Decides}}
 
 -- rows that differ in verbs of x alone, and in the number for the next verb
@@ -11,15 +11,7 @@ module _ (m : LookUps) (x : ObjNo) (verb : ObjNo → ℕ → Option VerbRow) (ne
 
   pub directory_shown : ((y : ObjNo) → same_object x y ≡ false → below (verb y) next ≡ below (m.verb y) m.head.next_verb) → below (verb x) next ≡ change (below (m.verb x) m.head.next_verb) → world_shown with_verb_rows ≡ with_directory (world_shown m) x change next
   unfolding world_shown
-  directory_shown others own = λ i. record (world_shown m) { object = λ y. at y (same_object x y) refl (m.object y) i; next_verb = next }
-    where
-      at : (y : ObjNo) (b : Bool) → same_object x y ≡ b → (o : Option ObjRow) → option_map (object_shown with_verb_rows y) o ≡ option_map (λ (r : WorldObject). if b then record r { verbs = change r.verbs } else r) (option_map (object_shown m y) o)
-      at y b e None = refl
-      at y true e (Some row) =
-          let same : x ≡ y = (same_object-Decides x y).0 e in
-          let verbs : below (verb y) next ≡ change (below (m.verb y) m.head.next_verb) = ap (λ z. below (verb z) next) (sym same) ∙ own ∙ ap (λ z. change (below (m.verb z) m.head.next_verb)) same in
-          λ i. Some (record (object_shown m y row) { verbs = verbs i })
-      at y false e (Some row) = λ i. Some (record (object_shown m y row) { verbs = others y e i })
+  directory_shown others own = grind (arith, same_object-Decides, below)
 
 -- ---- what the look-ups answer
 
@@ -96,6 +88,4 @@ module _ (m : Maps) (x : ObjNo) (id : VerbId) where
 
 -- a verb's row stands at its place in the directory
 pub shown_at : (m : Maps) (sound : IsSound m) (x : ObjNo) (id : VerbId) (v : VerbRow) → get m.verbs (x, id) ≡ Some v → verb_at (world_of m) x (verb_place m x id) ≡ Some v
-shown_at m sound x id v held =
-    ap (λ verbs. slice_get verbs (verb_place m x id)) (verbs_shown m x sound)
-    ∙ get_at (row_at m x) id.0 m.head.next_verb (sound.verbs x id.0 (ap is_some held)).2 v held
+shown_at m sound x id v held = grind (arith, verbs_shown, get_at)

@@ -10,8 +10,7 @@ Entry = (ObjNo × VerbId) × VerbRow
 -- ---- a key put last keeps the order
 
 both : (a b : Bool) → T a → T b → T (a && b)
-both true b p q = q
-both false b p q = absurd p
+both a b p q = grind arith
 
 below_last : (k : ObjNo × VerbId) (l : List Entry) (e : Entry) → T (below_all verb_cmp k l) → T (is_lt (verb_cmp k e.0)) → T (below_all verb_cmp k (l ++ e ∷ []))
 below_last k [] e h p = both _ _ p tt
@@ -44,11 +43,7 @@ module _ (m : Maps) (x : ObjNo) where
 
   all_lower : (n k : ℕ) → n ≤ k → T (list_all (λ e. is_lt (verb_cmp e.0 (x, verb_id k))) (by_number n))
   all_lower zero k l = tt
-  all_lower (suc n) k l = subst (λ es. T (list_all (λ e. is_lt (verb_cmp e.0 (x, verb_id k))) es)) (sym (next n)) (by (row_at n) (all_lower n k (omega arith)))
-    where
-      by : (o : Option VerbRow) → T (list_all (λ e. is_lt (verb_cmp e.0 (x, verb_id k))) (by_number n)) → T (list_all (λ e. is_lt (verb_cmp e.0 (x, verb_id k))) (by_number n ++ cons_option (option_map (made n) o) []))
-      by None h = subst (λ es. T (list_all (λ e. is_lt (verb_cmp e.0 (x, verb_id k))) es)) (sym (append-nil (by_number n))) h
-      by (Some v) h = all_last (λ e. is_lt (verb_cmp e.0 (x, verb_id k))) (by_number n) (made n v) h (subst (λ o. T (is_lt o)) (sym (lower n k (omega arith))) tt)
+  all_lower (suc n) k l = grind (arith, all_lower n k, next, append-nil, all_last, lower)
 
   sorted : (n : ℕ) → T (is_sorted verb_cmp (by_number n))
   sorted zero = tt

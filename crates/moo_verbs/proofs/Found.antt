@@ -1,11 +1,10 @@
 -- What the walk over the verbs of an object finds, by places in the directory.
-use Rattle.moo_verbs.{proofs.Words.{◌≡◌, ℕ, ◌+◌, Bool, true, not, cond, Option, None, Some, List, [], ◌∷◌, map, length, refl, sym, ap, ◌∙◌, subst, is_some, slice_get, nat_lt, IfSome, if◌then◌else◌, option_map, position_or_len, ObjNo, VerbId, VerbRow, Maps, verbs_of_left, IsSound, world_of, directory_of, has_verb, verb_place}, proofs.Entries.{Entry, row_at, made, by_number, walked, verbs_shown}, proofs.Numbering.{placed, made_at, map-made}}
+use Rattle.moo_verbs.{proofs.Words.{arith, ◌≡◌, ℕ, ◌+◌, Bool, true, not, cond, Option, None, Some, List, [], ◌∷◌, map, refl, sym, ap, ◌∙◌, subst, is_some, slice_get, IfSome, option_map, position_or_len, ObjNo, VerbId, VerbRow, Maps, verbs_of_left, IsSound, world_of, directory_of, has_verb, verb_place}, proofs.Entries.{Entry, row_at, made, by_number, walked, verbs_shown}, proofs.Numbering.{placed, made_at, map-made}}
 use Rattle.std.{specs.List.{find}, proofs.lemmas.List.Folds.{find_at}}
 use Rattle.moo_world.specs.Descriptors.{place_within}
 
 map_twice : {A B C : Type 0} (f : B → C) (h : A → B) (o : Option A) → option_map f (option_map h o) ≡ option_map (λ a. f (h a)) o
-map_twice f h None = refl
-map_twice f h (Some a) = refl
+map_twice f h o = grind arith
 
 position_of_map : {A B : Type 0} (f : A → B) (test : B → Bool) (l : List A) → position_or_len test (map f l) ≡ position_or_len (λ a. test (f a)) l
 position_of_map f test [] = refl
@@ -24,16 +23,11 @@ id_of e = e.0.1
 module _ (m : Maps) (sound : IsSound m) (x : ObjNo) where
   -- what is read of the rows that the walk gives is read of the directory
   pub walked_rows : {B : Type 0} (u : VerbRow → B) → map (λ (e : Entry). u e.1) (walk m x) ≡ map u (directory_of (world_of m) x)
-  walked_rows u =
-      ap (map (λ (e : Entry). u e.1)) (walked m x sound) ∙ map-made (made m x) (row_at m x) (λ (e : Entry). u e.1) u (λ j v. refl) m.head.next_verb
-      ∙ ap (map u) (sym (verbs_shown m x sound))
+  walked_rows u = grind (arith, walked, map-made, made, verbs_shown)
 
   -- so many entries on stands the verb of that place
   pub found_place : (k : ℕ) → option_map (verb_place m x) (option_map id_of (slice_get (walk m x) k)) ≡ place_within (world_of m) x k
-  found_place k =
-      map_twice (verb_place m x) id_of (slice_get (walk m x) k) ∙ ap (λ l. option_map (λ e. verb_place m x (id_of e)) (slice_get l k)) (walked m x sound)
-      ∙ placed (made m x) (row_at m x) (λ e. verb_place m x (id_of e)) (λ j v. refl) m.head.next_verb k
-      ∙ ap (λ (l : List VerbRow). if nat_lt k (length l) then Some k else None) (sym (verbs_shown m x sound))
+  found_place k = grind (arith, map_twice, walked, placed, made, verbs_shown)
 
   pub found_held : (k : ℕ) → IfSome (option_map id_of (slice_get (walk m x) k)) (λ id. has_verb m x id ≡ true)
   found_held k = subst (λ (l : List Entry). IfSome (option_map id_of (slice_get l k)) (λ id. has_verb m x id ≡ true)) (sym (walked m x sound)) (by (slice_get (by_number m x m.head.next_verb) k) refl)

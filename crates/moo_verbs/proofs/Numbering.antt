@@ -1,12 +1,11 @@
 -- Lists of what numbers below a bound have, in ascending number, and the place of a number in such a list.
-use Rattle.moo_verbs.proofs.Words.{◌≡◌, ◌≢◌, ℕ, zero, suc, ◌<◌, ◌≤◌, ◌+◌, Option, None, Some, List, [], ◌∷◌, ◌++◌, length, refl, sym, ap, ◌∙◌, ◌⊎◌, inl, inr, append-nil, append_assoc, length-append, map, arith, slice_get, if◌then◌else◌, nat_lt, option_map, filter_map, cons_option, remove, cases_eq, lt-ltb, le-ltb, VerbRow, numbers_below, changed_at}
-use Rattle.std.{proofs.lemmas.List.Elements.{filter_map-append}, proofs.lemmas.List.{map-append}, proofs.lemmas.Option.{none-some, same_Some, slice_get_within}}
+use Rattle.moo_verbs.proofs.Words.{◌≡◌, ◌≢◌, ℕ, zero, suc, ◌<◌, ◌≤◌, Option, None, Some, List, [], ◌∷◌, ◌++◌, length, refl, sym, ap, ◌∙◌, ◌⊎◌, inl, inr, append-nil, append_assoc, length-append, map, arith, slice_get, if◌then◌else◌, nat_lt, option_map, filter_map, cons_option, remove, cases_eq, lt-ltb, le-ltb, VerbRow, numbers_below, changed_at}
+use Rattle.std.{proofs.lemmas.List.Elements.{filter_map-append}, proofs.lemmas.List.{map-append}, proofs.lemmas.Option.{none-some, slice_get_within}}
 
 -- ---- lists with one element between a front and a back
 
 cons_option-append : {X : Type 0} (o : Option X) (l m : List X) → cons_option o l ++ m ≡ cons_option o (l ++ m)
-cons_option-append None l m = refl
-cons_option-append (Some x) l m = refl
+cons_option-append o l m = grind arith
 
 pub get_between : {X : Type 0} (front back : List X) (v : X) → slice_get (front ++ v ∷ back) (length front) ≡ Some v
 get_between [] back v = refl
@@ -30,8 +29,7 @@ step h n = filter_map-append h (numbers_below n) (n ∷ [])
 
 alike_below : {X : Type 0} (h g : ℕ → Option X) (n : ℕ) → ((j : ℕ) → j < n → g j ≡ h j) → below g n ≡ below h n
 alike_below h g zero same = refl
-alike_below h g (suc n) same =
-    step g n ∙ (λ i. alike_below h g n (λ j l. same j (omega arith)) i ++ cons_option (same n (omega arith) i) []) ∙ sym (step h n)
+alike_below h g (suc n) same = grind (arith, alike_below h g n, step)
 
 -- one number more, which has this
 pub one_more : {X : Type 0} (h g : ℕ → Option X) (n : ℕ) (v : X) → ((j : ℕ) → j < n → g j ≡ h j) → g n ≡ Some v → below g (suc n) ≡ below h n ++ v ∷ []
@@ -75,9 +73,7 @@ module _ {X : Type 0} (h : ℕ → Option X) (id : ℕ) where
 
     module _ (g : ℕ → Option X) (same : (j : ℕ) → j ≢ id → g j ≡ h j) where
       pub removed_at : g id ≡ None → below g n ≡ remove (below h n) (length front)
-      removed_at none =
-          (around n low).1 g same ∙ ap (λ o. front ++ cons_option o (around n low).0) none
-          ∙ sym (remove_between front (around n low).0 v) ∙ ap (λ l. remove l (length front)) (sym whole)
+      removed_at none = grind (arith, around, remove_between, whole)
 
       with_at : (u : X) → g id ≡ Some u → below g n ≡ front ++ u ∷ (around n low).0
       with_at u e = (around n low).1 g same ∙ ap (λ o. front ++ cons_option o (around n low).0) e
@@ -107,24 +103,12 @@ module _ {X E : Type 0} (made : ℕ → X → E) (h : ℕ → Option X) where
 
   pub length-made : (n : ℕ) → length (made_below n) ≡ length (below h n)
   length-made zero = refl
-  length-made (suc n) =
-      ap length (step (λ j. option_map (made j) (h j)) n) ∙ length-append (made_below n) (cons_option (option_map (made n) (h n)) [])
-      ∙ (λ i. length-made n i + one (h n) i) ∙ sym (length-append (below h n) (cons_option (h n) [])) ∙ ap length (sym (step h n))
-    where
-      one : (o : Option X) → length (cons_option (option_map (made n) o) []) ≡ length (cons_option o [])
-      one None = refl
-      one (Some v) = refl
+  length-made (suc n) = grind (arith, length-made n, step, length-append)
 
   -- what is read of each entry is what is read of what it was made of
   pub map-made : {B : Type 0} (f : E → B) (u : X → B) → ((j : ℕ) (v : X) → f (made j v) ≡ u v) → (n : ℕ) → map f (made_below n) ≡ map u (below h n)
   map-made f u same zero = refl
-  map-made f u same (suc n) =
-      ap (map f) (step (λ j. option_map (made j) (h j)) n) ∙ map-append f (made_below n) (cons_option (option_map (made n) (h n)) [])
-      ∙ (λ i. map-made f u same n i ++ one (h n) i) ∙ sym (map-append u (below h n) (cons_option (h n) [])) ∙ ap (map u) (sym (step h n))
-    where
-      one : (o : Option X) → map f (cons_option (option_map (made n) o) []) ≡ map u (cons_option o [])
-      one None = refl
-      one (Some v) = ap (λ b. b ∷ []) (same n v)
+  map-made f u same (suc n) = grind (arith, map-made f u same n, step, map-append)
 
   pub record IsMadeAt (n k : ℕ) (e : E) : Type 0 where
     pub number : ℕ
@@ -136,15 +120,7 @@ module _ {X E : Type 0} (made : ℕ → X → E) (h : ℕ → Option X) where
 
   pub made_at : (n k : ℕ) (e : E) → slice_get (made_below n) k ≡ Some e → IsMadeAt n k e
   made_at zero k e g = absurd (none-some e g)
-  made_at (suc n) k e g = by (get_last (made_below n) (option_map (made n) (h n)) k e (ap (λ l. slice_get l k) (sym (step (λ j. option_map (made j) (h j)) n)) ∙ g)) (made_at n k e)
-    where
-      last : (o : Option X) → h n ≡ o → k ≡ length (made_below n) → option_map (made n) o ≡ Some e → IsMadeAt (suc n) k e
-      last None u p q = absurd (none-some e q)
-      last (Some v) u p q = record { number = n; row = v; is = sym (same_Some (made n v) e q); low = omega arith; held = u; place = sym (length-made n) ∙ sym p }
-
-      by : (slice_get (made_below n) k ≡ Some e) ⊎ ((k ≡ length (made_below n)) × (option_map (made n) (h n) ≡ Some e)) → (slice_get (made_below n) k ≡ Some e → IsMadeAt n k e) → IsMadeAt (suc n) k e
-      by (inl q) r = let x = r q in record { number = x.number; row = x.row; is = x.is; low = omega (arith, x.low); held = x.held; place = x.place }
-      by (inr p) r = last (h n) refl p.0 p.1
+  made_at (suc n) k e g = grind (arith, made_at n k e, get_last, step, length-made)
 
   -- the entry at a place is that of the number at that place
   pub placed : (place : E → ℕ) → ((j : ℕ) (v : X) → place (made j v) ≡ length (below h j)) → (n k : ℕ) → option_map place (slice_get (made_below n) k) ≡ (if nat_lt k (length (below h n)) then Some k else None)

@@ -1,5 +1,5 @@
 -- Names match what the manual says.
-use Rattle.moo_verbs.{proofs.Words.{◌≡◌, ℕ, zero, suc, ◌+◌, Bool, true, false, not, cond, ◌&&◌, ◌||◌, None, Some, [], ◌∷◌, ◌++◌, length, take, drop, refl, sym, ap, ◌∙◌, inl, inr, append-nil, arith, nat_lt, list_any, position, position_or_len, and_parts, or_cases, or_right, false≢true, lt-ltb, le-ltb, eqb-true, Name, folded, same_text-Decides, is_star, is_empty, same_name, begins_with, matches_around, matches, matches_at}, specs.Laws.{MatchesStar, StarsMatch, NamesMatch}}
+use Rattle.moo_verbs.{proofs.Words.{◌≡◌, ℕ, zero, suc, ◌+◌, Bool, true, false, cond, ◌&&◌, ◌||◌, None, Some, [], ◌∷◌, ◌++◌, length, take, drop, refl, sym, ap, ◌∙◌, inl, inr, append-nil, arith, nat_lt, list_any, position, position_or_len, and_parts, or_cases, or_right, false≢true, lt-ltb, le-ltb, eqb-true, Name, folded, same_text-Decides, is_star, is_empty, same_name, begins_with, matches_around, matches, matches_at}, specs.Laws.{MatchesStar, StarsMatch, NamesMatch}}
 use Rattle.std.{specs.Bool.{Decides}, specs.Char.{to_ascii_lowercase}, proofs.lemmas.List.{length-append, length-map, map-append, take-append-drop}, proofs.Math.Seq.{take-append_seam, drop-append_seam, drop-append-add}}
 
 -- ---- what a text begins with
@@ -75,17 +75,10 @@ around-Decides front behind word = (there, back)
 
 before_star : (front l : Name) → list_any is_star front ≡ false → position_or_len is_star (front ++ l) ≡ length front + position_or_len is_star l
 before_star [] l e = omega arith
-before_star (b ∷ front) l e = by (is_star b) refl e (before_star front l)
-  where
-    by : (s : Bool) → is_star b ≡ s → (s || list_any is_star front) ≡ false → (list_any is_star front ≡ false → position_or_len is_star (front ++ l) ≡ length front + position_or_len is_star l) → cond (not (is_star b)) (1 + position_or_len is_star (front ++ l)) 0 ≡ suc (length front) + position_or_len is_star l
-    by true g f r = absurd (false≢true (sym f))
-    by false g f r = let k = r f in ap (λ s. cond (not s) (1 + position_or_len is_star (front ++ l)) 0) g ∙ omega arith
+before_star (b ∷ front) l e = grind (arith, before_star front l)
 
 star_at : (front behind : Name) → list_any is_star front ≡ false → position is_star (front ++ 42 ∷ behind) ≡ Some (length front)
-star_at front behind e =
-    let place : position_or_len is_star (front ++ 42 ∷ behind) ≡ length front = before_star front (42 ∷ behind) e ∙ omega arith in
-    ap (λ n. cond (nat_lt n (length (front ++ 42 ∷ behind))) (Some n) None) place
-    ∙ ap (λ b. cond b (Some (length front)) None) (lt-ltb (length front) (length (front ++ 42 ∷ behind)) (omega (arith, length-append front (42 ∷ behind))))
+star_at front behind e = grind (arith, before_star, lt-ltb, length-append)
 
 no_star : (name : Name) → list_any is_star name ≡ false → position is_star name ≡ None
 no_star name e =
@@ -101,7 +94,4 @@ stars_match front behind word e =
     (λ h. d.0 (sym around ∙ h), λ h. around ∙ d.1 h)
 
 pub names_match : NamesMatch
-names_match name word e =
-    let plain : matches name word ≡ same_name name word = ap (λ o. matches_at o name word) (no_star name e) in
-    let d = same_text-Decides (folded name) (folded word) in
-    (λ h. d.0 (sym plain ∙ h), λ h. plain ∙ d.1 h)
+names_match name word e = grind (arith, same_name, no_star, same_text-Decides)

@@ -1,5 +1,5 @@
 -- What holds of the whole table of prepositions, by computing it.
-use Rattle.moo_verbs.{proofs.Words.{◌≡◌, Some, refl, ap, ◌∙◌, Name, same_text, folded, prep_text}, specs.Laws.{PhrasesAreRead}}
+use Rattle.moo_verbs.{proofs.Words.{arith, ◌≡◌, Some, refl, ap, ◌∙◌, Name, same_text, folded, prep_text}, specs.Laws.{PhrasesAreRead}}
 use Rattle.moo_rows.{specs.declared.row.Preposition.{Preposition}, specs.declared.row.Preposition.TheVariants.{None as no_preposition, Any as any_preposition, Set}, specs.declared.row.PrepositionSet.TheVariants.{With}}
 use Rattle.moo_world.specs.VerbReading.{prep_of}
 
@@ -16,5 +16,4 @@ prep_reads text prep e = ap prep_of e ∙ prep_read_again prep
 
 pub phrases_are_read : PhrasesAreRead
 unfolding same_text folded
-phrases_are_read With = refl
-phrases_are_read _ = refl
+phrases_are_read h = grind arith

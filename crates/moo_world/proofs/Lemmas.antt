@@ -7,7 +7,7 @@ pub use Rattle.moo_world.proofs.Ancestry.Subtrees.{NoClash-from_meets, among_fil
 pub use Rattle.moo_world.proofs.Ancestry.Trees.{Chain-chain, Chain-either, Chain-unique, among_from_under, assigned, chain-nothing, chain-step, chain_is, chain_of_none, linked, no_link, no_parent, nothing_is_no_object, under_from_among}
 pub use Rattle.moo_world.proofs.Batches.Requested.{Leaves, Led, request_leaves}
 pub use Rattle.moo_world.proofs.Batches.TreeT.{no}
-pub use Rattle.moo_world.proofs.Form.Limits.{fresh_fits, known_numbered, object_numbered, row_fitting, row_owner, slot_owner}
+pub use Rattle.moo_world.proofs.Form.Limits.{fresh_fits, known_numbered, object_numbered, row_fitting, slot_owner}
 pub use Rattle.moo_world.proofs.Form.Passing.{of_done, on_check, on_done, on_failed, on_field, on_found, on_given, on_next, on_room}
 unfoldable pub use Rattle.moo_world.proofs.Form.Passing.{Holds}
 pub use Rattle.moo_world.proofs.Form.Ranges.{fits_tested, integer_fits, integer_of, range_of, text_tested}

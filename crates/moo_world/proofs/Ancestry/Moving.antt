@@ -1,5 +1,5 @@
 -- What a change of one parent does to chains.
-use Rattle.moo_world.{proofs.Words.{arith, ◌≡◌, Bool, true, false, cond, ◌||◌, List, [], ◌∷◌, ◌++◌, map, refl, sym, ◌∙◌, ap, subst, ◌⊎◌, Option, Some, is_some, unwrap_or, if◌then◌else◌, option_map, flat_map, false≢true, or_parts, ObjNo, Name, nothing, same_object, is_among, same_object-Decides, World, WorldObject, IsTree, Climbs, Chain, is_object, parent_of, location_of, property_names_of, owner_of, defined_by_any, chain, with_parent}, proofs.Ancestry.Chains.{front_of}, proofs.Ancestry.Trees.{chain_is, Chain-chain, Chain-either}}
+use Rattle.moo_world.{proofs.Words.{arith, ◌≡◌, Bool, true, false, List, [], ◌∷◌, ◌++◌, map, refl, ap, ◌⊎◌, Option, Some, is_some, unwrap_or, if◌then◌else◌, option_map, flat_map, false≢true, or_parts, ObjNo, Name, nothing, same_object, is_among, same_object-Decides, World, WorldObject, IsTree, Chain, is_object, parent_of, location_of, property_names_of, owner_of, defined_by_any, chain, with_parent}, proofs.Ancestry.Chains.{front_of}, proofs.Ancestry.Trees.{chain_is, Chain-chain, Chain-either}}
 
 module _ (w : World) (x q : ObjNo) where
   abbrev pub moved : World
@@ -41,9 +41,7 @@ module _ (w : World) (x q : ObjNo) where
   -- a chain that x isn't in stays
   pub Climbs-unmoved : (l : List ObjNo) (z : ObjNo) → Chain w z l → is_among x l ≡ false → Chain moved z l
   Climbs-unmoved [] z p h = p
-  Climbs-unmoved (y ∷ l) z p h =
-      let parts = or_parts (same_object x y) (is_among x l) h in
-      (p.0, p.1, subst (λ k. parent_of moved k ≡ parent_of w k) (sym p.0) (other_parent y parts.0) ∙ p.2, Climbs-unmoved l p.1 p.3 parts.1)
+  Climbs-unmoved (y ∷ l) z p h = grind (arith, Climbs-unmoved l p.1 p.3, or_parts, other_parent)
 
   module _ (t : IsTree w) (xo : is_object w x ≡ true) (qo : (is_object w q ≡ true) ⊎ (q ≡ nothing)) (outside : is_among x (chain w q) ≡ false) where
     pub Chain-new : Chain w q (chain w q)
@@ -55,26 +53,11 @@ module _ (w : World) (x q : ObjNo) where
     -- one that x is in goes on from x to q's
     pub Climbs-moved : (l : List ObjNo) (z : ObjNo) → Chain w z l → is_among x l ≡ true → Chain moved z (front_of x l ++ x ∷ chain w q)
     Climbs-moved [] z p h = absurd (false≢true h)
-    Climbs-moved (y ∷ l) z p h = by (same_object x y) refl (Climbs-moved l p.1 p.3)
-      where
-        by : (b : Bool) → same_object x y ≡ b → (is_among x l ≡ true → Chain moved p.1 (front_of x l ++ x ∷ chain w q)) → Chain moved z (cond b [] (y ∷ front_of x l) ++ x ∷ chain w q)
-        by true e r = subst (λ k. Chain moved k (x ∷ chain w q)) ((same_object-Decides x y).0 e ∙ sym p.0) Climbs-x
-        by false e r = (p.0, p.1, subst (λ k. parent_of moved k ≡ parent_of w k) (sym p.0) (other_parent y e) ∙ p.2, r (sym (ap (λ b. b || is_among x l) e) ∙ h))
+    Climbs-moved (y ∷ l) z p h = grind (arith, Climbs-moved l p.1 p.3, front_of, same_object-Decides, Climbs-x, other_parent)
 
     -- the moved tree is a tree
     pub IsTree-moved : IsTree moved
-    IsTree-moved = record {
-      numbers = λ y o. t.numbers y (sym (object_moved y) ∙ o);
-      chains = λ y o. chained y (sym (object_moved y) ∙ o);
-      locations = λ y o. let c = t.locations y (sym (object_moved y) ∙ o) in (c.0, subst (λ link. Climbs link y c.0) (sym location_moved) c.1);
-    }
-      where
-        chained : (y : ObjNo) → is_object w y ≡ true → (l : List ObjNo) × Chain moved y l
-        chained y o = by (is_among x (chain w y)) refl
-          where
-            by : (b : Bool) → is_among x (chain w y) ≡ b → (l : List ObjNo) × Chain moved y l
-            by true e = (front_of x (chain w y) ++ x ∷ chain w q, Climbs-moved (chain w y) y (Chain-chain w t y o) e)
-            by false e = (chain w y, Climbs-unmoved (chain w y) y (Chain-chain w t y o) e)
+    IsTree-moved = grind (arith, object_moved, location_moved, front_of, Climbs-moved, Chain-chain, Climbs-unmoved)
 
     pub chain_unmoved : (y : ObjNo) → is_object w y ≡ true → is_among x (chain w y) ≡ false → chain moved y ≡ chain w y
     chain_unmoved y o e = chain_is moved IsTree-moved y (chain w y) (Climbs-unmoved (chain w y) y (Chain-chain w t y o) e)

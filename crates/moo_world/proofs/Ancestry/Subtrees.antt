@@ -1,17 +1,9 @@
 -- The ascending lists of objects, and names that don't clash.
-use Rattle.moo_world.{proofs.Words.{◌≡◌, ℕ, zero, suc, ◌<◌, Bool, true, false, cond, ◌||◌, List, [], ◌∷◌, ◌++◌, map, refl, sym, ◌∙◌, ap, subst, ◌⊎◌, inl, inr, Option, None, arith, pos, is_some, list_any, filter, false≢true, or_parts, or_right, or_cases, cases_eq, ObjNo, Property, object_at, same_object, same_property, folded, is_among, same_object-Decides, World, IsTree, is_object, chain, defined_by, defined_by_any, property_named, numbers_to, numbers_below, objects_of, subtree_of, shares_property_name}, proofs.Ancestry.Trees.{assigned, chain_of_none}, proofs.Inheritance.Owed.{any-append, is_among-append}, proofs.Inheritance.Keeping.{same_property-is}, proofs.Inheritance.ManualLaw.{NoClash}}
+use Rattle.moo_world.{proofs.Words.{◌≡◌, ℕ, zero, suc, ◌<◌, Bool, true, false, ◌||◌, List, [], ◌∷◌, ◌++◌, map, refl, sym, ◌∙◌, ap, ◌⊎◌, Option, None, arith, pos, is_some, list_any, filter, false≢true, or_parts, or_right, or_cases, cases_eq, ObjNo, Property, object_at, same_object, same_property, folded, is_among, same_object-Decides, World, IsTree, is_object, chain, defined_by, defined_by_any, property_named, numbers_below, objects_of, subtree_of, shares_property_name}, proofs.Ancestry.Trees.{assigned, chain_of_none}, proofs.Inheritance.Owed.{any-append, is_among-append}, proofs.Inheritance.Keeping.{same_property-is}, proofs.Inheritance.ManualLaw.{NoClash}}
 
 pub among_filter : (t : ObjNo → Bool) (l : List ObjNo) (d : ObjNo) → is_among d l ≡ true → t d ≡ true → is_among d (filter t l) ≡ true
 among_filter t [] d h k = h
-among_filter t (y ∷ l) d h k = by (same_object d y) refl h (among_filter t l d)
-  where
-    skip : (b : Bool) → is_among d (filter t l) ≡ true → is_among d (cond b (y ∷ filter t l) (filter t l)) ≡ true
-    skip b g = grind arith
-
-    by : (b : Bool) → same_object d y ≡ b → (b || is_among d l) ≡ true → (is_among d l ≡ true → t d ≡ true → is_among d (filter t l) ≡ true) → is_among d (cond (t y) (y ∷ filter t l) (filter t l)) ≡ true
-    by true e g r =
-        subst (λ b. is_among d (cond b (y ∷ filter t l) (filter t l)) ≡ true) (sym (ap t (sym ((same_object-Decides d y).0 e)) ∙ k)) (ap (λ b. b || is_among d (filter t l)) e)
-    by false e g r = skip (t y) (r g k)
+among_filter t (y ∷ l) d h k = grind (arith, among_filter t l d, same_object-Decides)
 
 pub numbered : (n k : ℕ) (d : ObjNo) → k < n → d.0 ≡ pos k → is_among d (map object_at (numbers_below n)) ≡ true
 numbered zero k d l e = absurd (omega arith)
@@ -29,32 +21,19 @@ numbered (suc n) k d l e =
     self g = λ i. record { 0 = (e ∙ ap pos g) i }
 
     by : (k ≡ n) ⊎ (k ≡ n → ⊥) → (k < n → d.0 ≡ pos k → is_among d (map object_at (numbers_below n)) ≡ true) → (is_among d (map object_at (numbers_below n)) || (same_object d (object_at n) || false)) ≡ true
-    by (inl g) r = or_right _ _ (left (same_object d (object_at n)) false ((same_object-Decides d (object_at n)).1 (self g)))
-    by (inr g) r = left _ _ (r (omega arith) e)
+    by h r = grind (arith, or_right, same_object-Decides)
 
 -- every object is in the list of objects
 pub object_listed : (w : World) (t : IsTree w) (d : ObjNo) → is_object w d ≡ true → is_among d (objects_of w) ≡ true
-object_listed w t d o =
-    let range = t.numbers d o in
-    let n = assigned d.0 w.top range.0 range.1 in
-    among_filter (is_object w) _ d (numbered (numbers_to w.top) n.0 d n.2 n.1) o
+object_listed w t d o = grind (arith, assigned, among_filter, numbered)
 
 pub owed_listed : (w : World) (l : List ObjNo) (d : ObjNo) (p : Property) → is_among d l ≡ true → list_any (same_property p) (defined_by w d) ≡ true → list_any (same_property p) (defined_by_any w l) ≡ true
 owed_listed w [] d p h k = absurd (false≢true h)
-owed_listed w (y ∷ l) d p h k = any-append (same_property p) (defined_by w y) (defined_by_any w l) ∙ by (or_cases _ _ h) (owed_listed w l d p)
-  where
-    left : (a b : Bool) → a ≡ true → (a || b) ≡ true
-    left a b e = grind arith
-
-    by : (same_object d y ≡ true) ⊎ (is_among d l ≡ true) → (is_among d l ≡ true → list_any (same_property p) (defined_by w d) ≡ true → list_any (same_property p) (defined_by_any w l) ≡ true) → (list_any (same_property p) (defined_by w y) || list_any (same_property p) (defined_by_any w l)) ≡ true
-    by (inl g) r = left _ _ (subst (λ z. list_any (same_property p) (defined_by w z) ≡ true) ((same_object-Decides d y).0 g) k)
-    by (inr g) r = or_right _ _ (r g k)
+owed_listed w (y ∷ l) d p h k = grind (arith, owed_listed w l d p, any-append, or_cases, same_object-Decides, or_right)
 
 none_passes : (t : Property → Bool) (l : List Property) (p : Property) → list_any t l ≡ false → list_any (same_property p) l ≡ true → t p ≡ false
 none_passes t [] p h k = absurd (false≢true k)
-none_passes t (y ∷ l) p h k =
-    let parts = or_parts (t y) (list_any t l) h in
-    elim (or_cases _ _ k) [ inl g ↦ ap t (same_property-is p y g) ∙ parts.0 | inr g ↦ none_passes t l p parts.1 g ]
+none_passes t (y ∷ l) p h k = grind (arith, none_passes t l p, or_parts, or_cases, same_property-is)
 
 is_none : (o : Option Property) → is_some o ≡ false → o ≡ None
 is_none o e = grind arith

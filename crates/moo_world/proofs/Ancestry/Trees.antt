@@ -1,5 +1,5 @@
 -- The laws of chains in a world.
-use Rattle.moo_world.{proofs.Words.{◌≡◌, ℕ, ◌<◌, true, false, List, [], ◌∷◌, refl, sym, ◌∙◌, ap, subst, Option, Some, None, arith, ℤ, pos, ◌≤ℤ◌, is_some, option_map, none-some, same_Some, ObjNo, nothing, is_among, World, WorldObject, IsTree, Chain, IsUnder, is_object, parent_of, chain, numbers_to, ◌⊎◌, inl, inr}, proofs.Ancestry.Chains.{Climbs-unique, Climbs-bound, climb_is, NumbersBelow}}
+use Rattle.moo_world.{proofs.Words.{◌≡◌, ℕ, ◌<◌, true, false, List, [], ◌∷◌, refl, sym, ◌∙◌, ap, subst, Option, Some, None, arith, ℤ, pos, ◌≤ℤ◌, is_some, option_map, none-some, same_Some, ObjNo, nothing, is_among, World, WorldObject, IsTree, Chain, IsUnder, is_object, parent_of, chain, numbers_to, ◌⊎◌}, proofs.Ancestry.Chains.{Climbs-unique, Climbs-bound, climb_is, NumbersBelow}}
 
 pub assigned : (z top : ℤ) → pos 0 ≤ℤ z → z ≤ℤ top → (n : ℕ) × (z ≡ pos n) × (n < numbers_to top)
 assigned z top low high = grind arith
@@ -32,8 +32,7 @@ module _ (w : World) (t : IsTree w) where
   chain-nothing = chain_is nothing [] refl
 
   pub Chain-either : (q : ObjNo) → (is_object w q ≡ true) ⊎ (q ≡ nothing) → Chain w q (chain w q)
-  Chain-either q (inl h) = Chain-chain q h
-  Chain-either q (inr h) = subst (λ k. Chain w k (chain w k)) (sym h) (subst (Chain w nothing) (sym chain-nothing) refl)
+  Chain-either q h = grind (arith, Chain-chain, chain-nothing)
 
   pub Chain-unique : (x : ObjNo) (l m : List ObjNo) → Chain w x l → Chain w x m → l ≡ m
   Chain-unique x l m p q = Climbs-unique (parent_of w) no_parent l m x p q

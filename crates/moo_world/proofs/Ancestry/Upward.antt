@@ -1,25 +1,17 @@
 -- A move of an object up its own chain: the checks let it through, and what lay between goes.
-use Rattle.moo_world.proofs.Lemmas.{◌≡◌, Bool, true, false, cond, ◌||◌, List, [], ◌∷◌, ◌++◌, drop, refl, sym, ◌∙◌, ap, subst, ◌⊎◌, inl, inr, Option, Some, None, append_assoc, unwrap_or, is_some, if◌then◌else◌, option_map, list_any, find, filter, false≢true, both_ways, or_parts, or_right, or_cases, ObjNo, Name, Property, nothing, same_object, same_property, folded, is_among, same_object-Decides, same_property-self, World, IsWellFormed, Chain, NamesDiffer, is_object, parent_of, property_names_of, owner_of, slot_of, defined_by, defined_by_any, property_named, chain, fresh, MayReparent, common, except, lost, gained, unless_defined_by, manual_slot, objects_of, subtree_of, shares_property_name, front_of, Climbs-split, Climbs-once, Chain-chain, chain_of_none, no_parent, is_among-append, is_among-right, defined_by_any-append, own_pair, in_owed, in_owed-append, definer_among, named_once, some_named, same_object-self, apart_in_chain, except_end, NoClash, own_owed, Chain-either}
+use Rattle.moo_world.proofs.Lemmas.{arith, ◌≡◌, Bool, true, false, cond, ◌||◌, List, [], ◌∷◌, ◌++◌, drop, refl, sym, ◌∙◌, ap, subst, ◌⊎◌, inl, inr, Option, Some, None, append_assoc, unwrap_or, if◌then◌else◌, list_any, find, filter, false≢true, both_ways, or_parts, or_right, or_cases, ObjNo, Name, Property, nothing, same_property, folded, is_among, same_object-Decides, same_property-self, World, IsWellFormed, Chain, NamesDiffer, is_object, parent_of, property_names_of, slot_of, defined_by, defined_by_any, property_named, chain, fresh, MayReparent, common, except, lost, gained, unless_defined_by, manual_slot, shares_property_name, front_of, Climbs-split, Climbs-once, Chain-chain, chain_of_none, no_parent, is_among-append, is_among-right, defined_by_any-append, own_pair, in_owed, in_owed-append, definer_among, named_once, some_named, same_object-self, apart_in_chain, except_end, NoClash, own_owed, Chain-either}
 
 pub filter_passes : (t : ObjNo → Bool) (l : List ObjNo) (d : ObjNo) → is_among d (filter t l) ≡ true → t d ≡ true
 filter_passes t [] d h = absurd (false≢true h)
-filter_passes t (y ∷ l) d h = by (t y) refl h (filter_passes t l d)
-  where
-    by : (b : Bool) → t y ≡ b → is_among d (cond b (y ∷ filter t l) (filter t l)) ≡ true → (is_among d (filter t l) ≡ true → t d ≡ true) → t d ≡ true
-    by true e k r = elim (or_cases _ _ k) [ inl g ↦ ap t ((same_object-Decides d y).0 g) ∙ e | inr g ↦ r g ]
-    by false e k r = r k
+filter_passes t (y ∷ l) d h = grind (arith, filter_passes t l d, or_cases, same_object-Decides)
 
 none_any : (t : Property → Bool) (l : List Property) → ((p : Property) → list_any (same_property p) l ≡ true → t p ≡ false) → list_any t l ≡ false
 none_any t [] h = refl
-none_any t (p ∷ l) h =
-    ap (λ b. b || list_any t l) (h p (ap (λ b. b || list_any (same_property p) l) (same_property-self p)))
-    ∙ none_any t l (λ k g. h k (or_right (same_property k p) (list_any (same_property k) l) g))
+none_any t (p ∷ l) h = grind (arith, none_any t l, same_property-self, or_right)
 
 -- where no name clashes the test of the call passes
 pub shares_property_name-from_NoClash : (w : World) (x q : ObjNo) → NoClash w x q → shares_property_name w x q ≡ false
-shares_property_name-from_NoClash w x q apart = none_any (λ (p : Property). is_some (property_named (defined_by_any w (chain w q)) (folded p.1))) (defined_by_any w (subtree_of w x)) (λ p h.
-    let d = definer_among w p (subtree_of w x) h in
-    ap is_some (apart p.0 p (filter_passes (λ y. is_among x (chain w y)) (objects_of w) p.0 d.0) d.1))
+shares_property_name-from_NoClash w x q apart = grind (arith, none_any, definer_among, filter_passes)
 
 module _ (w : World) (c q : ObjNo) (between : List ObjNo) (wf : IsWellFormed w) (co : is_object w c ≡ true) (qo : (is_object w q ≡ true) ⊎ (q ≡ nothing)) (split : chain w c ≡ c ∷ between ++ chain w q) where
   Chain-q : Chain w q (chain w q)
@@ -56,21 +48,13 @@ module _ (w : World) (c q : ObjNo) (between : List ObjNo) (wf : IsWellFormed w) 
     owed_below = elim (or_cases _ _ (sym (in_owed-append w p below (chain w q)) ∙ sym (ap (in_owed w p) whole) ∙ own_owed w wf.tree d p dobj own)) [ inl g ↦ g | inr g ↦ absurd (not_above g) ]
 
     no_name : (o : Option Property) → property_named (defined_by_any w below) (folded p.1) ≡ o → property_named (defined_by_any w (chain w q)) (folded p.1) ≡ None
-    no_name None e = absurd (some_named (defined_by_any w below) p owed_below e)
-    no_name (Some k) e = named_once (defined_by_any w below) (defined_by_any w (chain w q)) (folded p.1) k differ e
+    no_name o e = grind (arith, some_named, owed_below, named_once, differ)
 
   climbs_apart : NoClash w c q
-  climbs_apart d p u k = by (is_object w d) refl
-    where
-      by : (b : Bool) → is_object w d ≡ b → property_named (defined_by_any w (chain w q)) (folded p.1) ≡ None
-      by true o = no_name d p o u k _ refl
-      by false o = absurd (false≢true (sym (ap (is_among c) (chain_of_none w d o)) ∙ u))
+  climbs_apart d p u k = grind (arith, no_name, chain_of_none)
 
   pub may_climb : MayReparent w c q
-  may_climb = record { well_formed = wf; object = co; new = new; outside = climbs_outside; apart = shares_property_name-from_NoClash w c q climbs_apart }
-    where
-      new : (is_object w q || same_object nothing q) ≡ true
-      new = elim qo [ inl h ↦ ap (λ b. b || same_object nothing q) h | inr h ↦ or_right (is_object w q) (same_object nothing q) ((same_object-Decides nothing q).1 (sym h)) ]
+  may_climb = grind (arith, climbs_outside, shares_property_name-from_NoClash, climbs_apart, or_right, same_object-Decides)
 
   -- ---- what goes
 
@@ -85,19 +69,11 @@ module _ (w : World) (c q : ObjNo) (between : List ObjNo) (wf : IsWellFormed w) 
   common_is = ap (λ l. unwrap_or (find (λ d. is_among d (drop 1 l)) (chain w q)) nothing) split ∙ first (chain w q) q Chain-q
 
   lost_is : lost w c q ≡ between
-  lost_is =
-      (λ i. except (drop 1 (split i)) (chain w (common_is i)))
-      ∙ except_end between (chain w q) (λ d h. apart_in_chain (parent_of w) (no_parent w wf.tree) between (chain w q) Chain-c.1 d Chain-c.3 h)
+  lost_is = grind (arith, common_is, except_end, apart_in_chain, no_parent, Chain-c)
 
   gained_is : gained w c q ≡ []
   gained_is = ap (λ k. except (chain w q) (chain w k)) common_is ∙ except_end [] (chain w q) (λ d h. absurd (false≢true h))
 
   -- the objects under c lose what is defined in between, and nothing comes
   pub climbed_slot : (y : ObjNo) (n : Name) → manual_slot w c q y n ≡ (if is_among c (chain w y) then unless_defined_by between (slot_of w y n) else slot_of w y n)
-  climbed_slot y n = λ i.
-      if is_among c (chain w y)
-      then elim (property_named (defined_by_any w (gained_is i)) n) [
-        | Some p ↦ option_map (fresh (owner_of w y)) (slot_of w q n)
-        | None ↦ unless_defined_by (lost_is i) (slot_of w y n)
-      ]
-      else slot_of w y n
+  climbed_slot y n = grind (arith, gained_is, fresh, lost_is)

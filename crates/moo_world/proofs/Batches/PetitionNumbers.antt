@@ -1,14 +1,11 @@
 -- No call gives the number of a petition again.
-use Rattle.moo_world.proofs.Lemmas.{◌≡◌, arith, ObjNo, Value, Values, PetitionId, petition_exact, petition_total, Call, Done, State, PetitionsStay, petition_id, without, asked, batch_call, World, Led, of_done, request_leaves, put_or_old, none_or_old}
+use Rattle.moo_world.proofs.Lemmas.{◌≡◌, arith, ObjNo, Value, Values, PetitionId, petition_exact, petition_total, Call, Done, State, PetitionsStay, without, asked, batch_call, World, Led, of_done, request_leaves, put_or_old, none_or_old}
 
 pub petitions_same : (s : State) (w : World) → PetitionsStay s (record s { world = w })
 petitions_same s w = record { same = λ id row less h. h; next = omega arith }
 
 more_asked : (s : State) (p : ObjNo) (calls : Values) → PetitionsStay s (asked s p calls)
-more_asked s p calls = record {
-  same = λ id row less h. grind (arith, put_or_old petition_total petition_exact s.petitions (petition_id s.next_petition) id (record { who = p; calls = calls }));
-  next = omega arith;
-}
+more_asked s p calls = grind (arith, put_or_old, petition_total)
 
 one_gone : (s : State) (gone : PetitionId) (w : World) → PetitionsStay s (record (without gone s) { world = w })
 one_gone s gone w = record { same = λ id row less h. grind (arith, none_or_old petition_total petition_exact s.petitions gone id); next = omega arith }

@@ -1,5 +1,5 @@
 -- What any call of a batch leaves, along its checks.
-use Rattle.moo_world.{proofs.Words.{arith, ◌≡◌, ℤ, pos, negsuc, Bool, true, false, List, [], ◌∷◌, refl, ap, ◌∙◌, Option, Some, None, Result, Ok, Err, nat_lt, option_map, list_all, get, none-some, Code, ObjNo, Value, spread, Values, PetitionId, PetitionRow, Call, PetitionCall, petition_call, Outcome, Done, check, fails, is_named, are_few, are_shallow, State, in_world, one_list, one_integer, petition_id, petition_at, without, held_steps, number_limit, asked, petition_call_by, batch_call, is_wizard, world_call, named_call, World, is_object}, specs.declared.name.PetitionCall.TheVariants.{Petition as to_petition, Petitions as to_list, Grant as to_grant, Decline as to_decline}, proofs.Form.Passing.{Holds, on_check, on_found, on_given, each_check}}
+use Rattle.moo_world.{proofs.Words.{arith, ◌≡◌, ℤ, Bool, true, false, List, [], ◌∷◌, ap, ◌∙◌, Option, Some, None, Result, Ok, Err, nat_lt, list_all, get, Code, ObjNo, Value, spread, Values, PetitionId, PetitionRow, Call, PetitionCall, petition_call, Outcome, Done, check, fails, is_named, are_few, are_shallow, State, in_world, one_list, one_integer, petition_at, without, held_steps, number_limit, asked, petition_call_by, batch_call, is_wizard, world_call, named_call, World, is_object}, specs.declared.name.PetitionCall.TheVariants.{Petition as to_petition, Petitions as to_list, Grant as to_grant, Decline as to_decline}, proofs.Form.Passing.{Holds, on_check, on_found, on_given, each_check}}
 use Rattle.moo_world.specs.declared.reason.Reason.TheVariants.{NoProgrammer}
 use Rattle.moo_value.{specs.declared.value.Value.TheVariants.{List as a_list}, specs.Values.{no_values as no_more}}
 
@@ -13,11 +13,7 @@ on_world P s o h = grind arith
 
 -- the petition that is found is there
 pub found_there : (s : State) (n : ℤ) (e : PetitionId × PetitionRow) → petition_at s n ≡ Some e → get s.petitions e.0 ≡ Some e.1
-found_there s (negsuc n) e is = absurd (none-some e is)
-found_there s (pos n) e is = by (get s.petitions (petition_id n)) refl is
-  where
-    by : (o : Option PetitionRow) → get s.petitions (petition_id n) ≡ o → option_map (λ row. (petition_id n, row)) o ≡ Some e → get s.petitions e.0 ≡ Some e.1
-    by o h is = grind arith
+found_there s n e is = grind arith
 
 -- what is asked of the states that a call may leave
 pub record Led (P : State → Type 0) (s : State) (p : ObjNo) (call : Call) : Type 0 where
@@ -47,12 +43,7 @@ named_step s p call po = ap (λ b. check b (fails NoProgrammer) (named_call s.wo
 -- any call on the world is a step of it
 pub request_steps : (s : State) (p : ObjNo) (call : Call) → petition_call call.name ≡ None → batch_call s p call ≡ in_world s (world_call s.world p call)
 unfolding batch_call world_call
-request_steps s p call on_world =
-    ap (λ o. check (is_object s.world p) (fails NoProgrammer) (elim o [ None ↦ in_world s (named_call s.world p call.name call.args) | Some c ↦ petition_call_by s p c call.args ])) on_world
-    ∙ by (is_object s.world p) (named_call s.world p call.name call.args)
-  where
-    by : (b : Bool) (o : Outcome World) → check b (fails NoProgrammer) (in_world s o) ≡ in_world s (check b (fails NoProgrammer) o)
-    by b o = grind arith
+request_steps s p call on_world = grind (arith, fails)
 
 pub request_leaves : (P : State → Type 0) (s : State) (p : ObjNo) (call : Call) → Led P s p call → Leaves P (batch_call s p call)
 unfolding batch_call

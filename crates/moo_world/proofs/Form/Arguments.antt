@@ -1,6 +1,6 @@
 -- What a call is given fits where all its arguments do, and a value changes no field but as it may.
-use Rattle.moo_world.proofs.Words.{arith, ◌≡◌, Bool, true, List, [], ◌∷◌, refl, sym, ◌∙◌, ap, Option, Some, None, Result, Ok, Err, pos, ◌&&◌, nat_le, unwrap_or, if◌then◌else◌, option_map, list_all, int_eq, and_parts, Code, ObjNo, Value, Int, Obj, nesting, spread, Values, int, object, string, error, list, BuiltIn, Change, Info, is_integer, in_range, is_number, is_text, all_within_limits, is_within_limits, fits, beside_object, object_text_and_value, new_property, objects_among, object_and_accept, both, desc_of, verb_info_in, texts_in, new_verb, new_verb_info, Desc, is_allowed_change, Name, change_of, World}
-use Rattle.moo_value.{specs.declared.code.Code.TheVariants.{«Type» as wrong_type}, specs.declared.value.Value.TheVariants.{List as a_list}, specs.Values.{no_values as no_more}}
+use Rattle.moo_world.proofs.Words.{arith, ◌≡◌, Bool, true, List, [], ◌∷◌, refl, sym, ◌∙◌, ap, Option, Result, Ok, ◌&&◌, nat_le, unwrap_or, option_map, list_all, and_parts, Code, ObjNo, Value, Obj, nesting, spread, Values, int, object, string, error, list, BuiltIn, Change, Info, is_integer, in_range, is_number, is_text, all_within_limits, is_within_limits, fits, object_text_and_value, new_property, objects_among, object_and_accept, both, verb_info_in, new_verb, new_verb_info, Desc, is_allowed_change, Name, change_of, World}
+use Rattle.moo_value.{specs.declared.value.Value.TheVariants.{List as a_list}, specs.Values.{no_values as no_more}}
 use Rattle.moo_value.specs.declared.value.TheConstants.{MAX_NESTING}
 
 -- what was read passes a test, where something was
@@ -54,28 +54,11 @@ numbered r = passes (λ a. list_all is_number (unwrap_or a.1 [])) r
 
 objects_numbered : (vs : List Value) → list_all is_within_limits vs ≡ true → unwrap_or (option_map (list_all is_number) (objects_among vs)) true ≡ true
 objects_numbered [] h = refl
-objects_numbered (Obj x ∷ vs) h = let parts = and_parts (in_range x.0) (list_all is_within_limits vs) h in by parts.0 (objects_among vs) (objects_numbered vs parts.1)
-  where
-    by : is_number x ≡ true → (o : Option (List ObjNo)) → unwrap_or (option_map (list_all is_number) o) true ≡ true → unwrap_or (option_map (list_all is_number) (option_map (λ l. x ∷ l) o)) true ≡ true
-    by n o e = grind arith
+objects_numbered (Obj x ∷ vs) h = grind (arith, objects_numbered vs, and_parts)
 objects_numbered (v ∷ vs) h = refl
 
 accept_numbered : (args : List Value) → list_all fits args ≡ true → numbered (object_and_accept args) ≡ true
-accept_numbered (Obj x ∷ a_list l ∷ []) h = by (objects_among (spread l)) (objects_numbered (spread l) (each_within l (second (fits (Obj x)) (fits (a_list l)) true h)))
-  where
-    by : (o : Option (List ObjNo)) → unwrap_or (option_map (list_all is_number) o) true ≡ true → numbered (beside_object x (option_map Some o)) ≡ true
-    by o e = grind arith
-accept_numbered (Obj x ∷ Int n ∷ []) h = by (int_eq n (pos 0))
-  where
-    by : (b : Bool) → numbered (if b then Ok (x, None) else Err wrong_type) ≡ true
-    by b = grind arith
-accept_numbered [] h = refl
-accept_numbered (Obj x ∷ []) h = refl
-accept_numbered (a ∷ []) h = refl
-accept_numbered (a ∷ b ∷ []) h = refl
-accept_numbered (Obj x ∷ a_list l ∷ c ∷ args) h = refl
-accept_numbered (Obj x ∷ Int n ∷ c ∷ args) h = refl
-accept_numbered (a ∷ b ∷ c ∷ args) h = refl
+accept_numbered args h = grind (arith, objects_numbered, each_within, second, fits)
 
 -- the list that `set_accept` is given
 pub accept_list_numbered : (args : List Value) (a : ObjNo × Option (List ObjNo)) → object_and_accept args ≡ Ok a → list_all fits args ≡ true → list_all is_number (unwrap_or a.1 []) ≡ true
@@ -96,32 +79,10 @@ abbrev renamed : Result (ObjNo × (Desc × (Info × Name))) Code → Bool
 renamed r = passes (λ a. is_text a.1.1.1) r
 
 added_named : (args : List Value) → list_all fits args ≡ true → added (new_verb args) ≡ true
-added_named (Obj x ∷ a_list info ∷ a_list texts ∷ []) h = by (verb_info_in (spread info)) (texts_in (spread texts)) (info_named (spread info) (each_within info (second (fits (Obj x)) (fits (a_list info)) (fits (a_list texts) && true) h)))
-  where
-    by : (i : Option (Info × Name)) (t : Option (Name × Name × Name)) → names_texts i ≡ true → added (beside_object x (both i t)) ≡ true
-    by i t e = grind arith
-added_named [] h = refl
-added_named (Obj x ∷ []) h = refl
-added_named (a ∷ []) h = refl
-added_named (Obj x ∷ a_list info ∷ []) h = refl
-added_named (a ∷ b ∷ []) h = refl
-added_named (a ∷ b ∷ c ∷ []) h = refl
-added_named (Obj x ∷ a_list info ∷ a_list texts ∷ d ∷ args) h = refl
-added_named (a ∷ b ∷ c ∷ d ∷ args) h = refl
+added_named args h = grind (arith, info_named, each_within, second, fits, both)
 
 renamed_named : (args : List Value) → list_all fits args ≡ true → renamed (new_verb_info args) ≡ true
-renamed_named (Obj x ∷ d ∷ a_list info ∷ []) h = by (desc_of d) (verb_info_in (spread info)) (info_named (spread info) (each_within info (third (fits (Obj x)) (fits d) (fits (a_list info)) true h)))
-  where
-    by : (o : Option Desc) (i : Option (Info × Name)) → names_texts i ≡ true → renamed (beside_object x (both o i)) ≡ true
-    by o i e = grind arith
-renamed_named [] h = refl
-renamed_named (Obj x ∷ []) h = refl
-renamed_named (a ∷ []) h = refl
-renamed_named (Obj x ∷ d ∷ []) h = refl
-renamed_named (a ∷ b ∷ []) h = refl
-renamed_named (a ∷ b ∷ c ∷ []) h = refl
-renamed_named (Obj x ∷ d ∷ a_list info ∷ e ∷ args) h = refl
-renamed_named (a ∷ b ∷ c ∷ d ∷ args) h = refl
+renamed_named args h = grind (arith, info_named, each_within, third, fits, both)
 
 -- the names that `add_verb` and `set_verb_info` are given
 pub new_verb_named : (args : List Value) (a : ObjNo × ((Info × Name) × (Name × Name × Name))) → new_verb args ≡ Ok a → list_all fits args ≡ true → is_text a.1.0.1 ≡ true

@@ -1,5 +1,5 @@
 -- What the limits of a well formed world say of numbers, of an object's row and of a fresh slot.
-use Rattle.moo_world.{proofs.Words.{◌≡◌, true, ◌||◌, refl, sym, ◌∙◌, ap, subst, inl, inr, Option, Some, None, FitsSigned, w32, arith, ◌&&◌, unwrap_or, option_map, and_parts, or_cases, ObjNo, IsText, VerbRow, is_number, is_text, nothing, same_object, same_object-Decides, World, WorldObject, Slot, IsWellFormed, KeepsLimits, is_object, owner_of, fresh, has_word, accept_fits, row_fits, verb_fits, slot_fits, state_fits, with_slots, without_slots, both_true}, proofs.Form.Ranges.{range_of, text_of}}
+use Rattle.moo_world.{proofs.Words.{◌≡◌, true, ◌||◌, sym, ◌∙◌, ap, Option, Some, None, FitsSigned, w32, arith, ◌&&◌, unwrap_or, option_map, and_parts, or_cases, ObjNo, IsText, VerbRow, is_number, nothing, same_object, same_object-Decides, World, WorldObject, Slot, IsWellFormed, KeepsLimits, is_object, owner_of, fresh, has_word, row_fits, verb_fits, slot_fits, state_fits, with_slots, without_slots, both_true}, proofs.Form.Ranges.{range_of, text_of}}
 
 -- the number of an object has 32 bits
 pub object_numbered : (w : World) → IsWellFormed w → (x : ObjNo) → is_object w x ≡ true → is_number x ≡ true
@@ -7,17 +7,11 @@ object_numbered w wf x o = grind arith
 
 -- and so has what is an object or nothing
 pub known_numbered : (w : World) → IsWellFormed w → (x : ObjNo) → (is_object w x || same_object nothing x) ≡ true → is_number x ≡ true
-known_numbered w wf x known = elim (or_cases (is_object w x) (same_object nothing x) known) [
-  | inl o ↦ object_numbered w wf x o
-  | inr e ↦ subst (λ k. is_number k ≡ true) ((same_object-Decides nothing x).0 e) refl
-]
+known_numbered w wf x known = grind (arith, or_cases, object_numbered, same_object-Decides)
 
 -- the row of an object fits
 pub row_fitting : (w : World) → KeepsLimits (without_slots w) → (x : ObjNo) (r : WorldObject) → w.object x ≡ Some r → row_fits r.row ≡ true
 row_fitting w limits x r e = sym (ap (λ (o : Option WorldObject). unwrap_or (option_map row_fits (option_map (λ k. k.row) (option_map (with_slots (λ n. None)) o))) true) e) ∙ limits.rows x
-
-pub row_owner : (r : WorldObject) → row_fits r.row ≡ true → is_number r.row.owner ≡ true
-row_owner r e = (and_parts (is_number r.row.owner) (accept_fits r.row.accept) (and_parts (is_text r.row.name) (is_number r.row.owner && accept_fits r.row.accept) e).1).0
 
 -- the owner of an object has a number of 32 bits
 pub owner_numbered : (w : World) → KeepsLimits (without_slots w) → (x : ObjNo) → is_number (owner_of w x) ≡ true

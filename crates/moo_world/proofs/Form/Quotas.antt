@@ -1,5 +1,5 @@
 -- Quotas are moved within 64 bits, so that the world stays well formed.
-use Rattle.moo_world.{proofs.Lemmas.{◌≡◌, Bool, true, false, ◌||◌, List, [], ◌∷◌, refl, sym, ◌∙◌, ap, subst, inl, inr, Option, Some, None, ℤ, pos, negsuc, arith, ◌+ℤ◌, int_lt, nat_le, unwrap_or, if◌then◌else◌, option_map, both_ways, or_cases, and_parts, none-some, same_Some, ObjNo, Value, Int, Obj, Str, Error, nesting, SlotState, Clear, Set, fits, is_integer, is_number, next_object, owner_or_self, created, Name, nothing, same_object, folded, quota_name, quota_in, quota_of, quota_changed, may_afford, has_quota_left, charged, quota_returned, set_slot, World, Slot, IsWellFormed, is_object, slot_of, chain, read_in, read_along, read_of, object_changed, state_fits, known_numbered}, proofs.Form.Values.{set_formed}, proofs.Ownership.Created.{formed, new_numbered, read_old}}
+use Rattle.moo_world.{proofs.Lemmas.{◌≡◌, Bool, true, false, ◌||◌, List, [], ◌∷◌, refl, sym, ◌∙◌, ap, subst, Option, Some, None, ℤ, pos, negsuc, arith, ◌+ℤ◌, int_lt, nat_le, unwrap_or, if◌then◌else◌, option_map, or_cases, and_parts, none-some, same_Some, ObjNo, Value, Int, Obj, Str, Error, nesting, SlotState, Clear, Set, fits, is_integer, is_number, next_object, owner_or_self, created, Name, nothing, same_object, folded, quota_name, quota_in, quota_of, quota_changed, may_afford, charged, quota_returned, set_slot, World, Slot, IsWellFormed, is_object, slot_of, chain, read_in, read_along, read_of, object_changed, state_fits, known_numbered}, proofs.Form.Values.{set_formed}, proofs.Ownership.Created.{formed, new_numbered, read_old}}
 use Rattle.moo_value.specs.declared.value.Value.TheVariants.{List as a_list}
 use Rattle.moo_value.specs.declared.value.TheConstants.{MAX_NESTING}
 
@@ -64,11 +64,7 @@ charged_formed w wf x q owner is_next parent known can = by (same_object nothing
     made = formed w x q (owner_or_self x owner) wf is_next parent owner_numbered
 
     room : same_object nothing owner ≡ false → (had : ℤ) → quota_of (created w x q (owner_or_self x owner)) owner ≡ Some had → is_integer (had +ℤ negsuc 0) ≡ true
-    room e had h =
-        let there : is_object w owner ≡ true = elim (or_cases _ _ known) [ inl f ↦ f | inr f ↦ absurd (both_ways (same_object nothing owner) e f) ] in
-        let before : quota_of w owner ≡ Some had = sym (ap quota_in (read_old w x q (owner_or_self x owner) wf is_next parent owner quota_name there)) ∙ h in
-        let left : has_quota_left w owner ≡ true = elim (or_cases _ _ can) [ inl f ↦ absurd (both_ways (same_object nothing owner) e f) | inr f ↦ f ] in
-        less_fits had (quota_fits w wf owner had before) (sym (ap (λ k. unwrap_or (option_map (λ n. int_lt (pos 0) n) k) true) before) ∙ left)
+    room e had h = grind (arith, or_cases, read_old, less_fits, quota_fits)
 
     by : (b : Bool) → same_object nothing owner ≡ b → IsWellFormed (if b then created w x q (owner_or_self x owner) else quota_changed (created w x q (owner_or_self x owner)) owner (negsuc 0))
     by true e = made

@@ -1,6 +1,6 @@
 -- The limits that the types of values keep, and the tests of them.
-use Rattle.moo_world.proofs.Words.{◌≡◌, ◌≤◌, Bool, true, false, ◌&&◌, ◌↔◌, refl, sym, ℤ, FitsSigned, w32, w64, arith, ℕ, List, length, IsTrue, nat_le, list_all, and_parts, le-leb, leb-true, Value, Int, Obj, Str, Error, IsText, is_allowed, nesting, Values, int, object, string, error, list, is_integer, in_range, is_text, all_within_limits, is_within_limits, fits, TextIsTested, FitsIsTested, both_true}
-use Rattle.moo_value.{specs.declared.value.Value.TheVariants.{List as a_list}, specs.Literal.{HoldInside, HoldIn, InRange, Fits}, specs.Values.{no_values}}
+use Rattle.moo_world.proofs.Words.{◌≡◌, true, refl, ℤ, FitsSigned, w32, w64, arith, ℕ, List, length, nat_le, list_all, and_parts, le-leb, leb-true, Value, IsText, is_allowed, nesting, Values, int, object, string, error, list, is_integer, in_range, is_text, all_within_limits, is_within_limits, fits, TextIsTested, FitsIsTested, both_true}
+use Rattle.moo_value.{specs.Literal.{HoldInside, HoldIn, InRange, Fits}, specs.Values.{no_values}}
 use Rattle.moo_value.specs.declared.text.TheConstants.{MAX_LENGTH}
 use Rattle.moo_value.specs.declared.value.TheConstants.{MAX_NESTING}
 
@@ -28,11 +28,7 @@ inside (error e vs) h = inside vs h
 inside (list us vs) h = both_true (inside us h.0) (inside vs h.1)
 
 in_value : (v : Value) → HoldIn InRange IsText v → is_within_limits v ≡ true
-in_value (Int n) h = integer_of n h
-in_value (Obj o) h = range_of o.0 h
-in_value (Str s) h = text_of s h
-in_value (Error e) h = refl
-in_value (a_list vs) h = inside vs h
+in_value v h = grind (arith, integer_of, range_of, text_of, inside)
 
 is_text_of : (s : List ℕ) → is_text s ≡ true → IsText s
 is_text_of s e = let parts = and_parts (nat_le (length s) MAX_LENGTH) (list_all is_allowed s) e in record { short = leb-true (length s) MAX_LENGTH parts.0; allowed = parts.1 }
@@ -46,23 +42,11 @@ hold_inside (error c vs) e = hold_inside vs e
 hold_inside (list us vs) e = let parts = and_parts (all_within_limits us) (all_within_limits vs) e in (hold_inside us parts.0, hold_inside vs parts.1)
 
 hold_in : (v : Value) → is_within_limits v ≡ true → HoldIn InRange IsText v
-hold_in (Int n) e = integer_fits n e
-hold_in (Obj o) e = fits_signed o.0 e
-hold_in (Str s) e = is_text_of s e
-hold_in (Error c) e = tt
-hold_in (a_list vs) e = hold_inside vs e
+hold_in v e = grind (arith, integer_fits, fits_signed, is_text_of, hold_inside)
 
 -- what is within the limits passes the test
 pub fits_of : (v : Value) → Fits v → fits v ≡ true
 fits_of v h = both_true (le-leb (nesting v) MAX_NESTING h.1) (in_value v h.0)
-
--- so the nesting alone decides, where the types keep the other limits
-pub fits_is : (v : Value) (b : Bool) → (IsTrue b ↔ (nesting v ≤ MAX_NESTING)) → (IsTrue b → Fits v) → b ≡ fits v
-fits_is v true depth limits = sym (fits_of v (limits refl))
-fits_is v false depth limits = by (nat_le (nesting v) MAX_NESTING) refl
-  where
-    by : (c : Bool) → nat_le (nesting v) MAX_NESTING ≡ c → false ≡ (c && is_within_limits v)
-    by c e = grind arith
 
 pub text_tested : TextIsTested
 text_tested s = (is_text_of s, text_of s)

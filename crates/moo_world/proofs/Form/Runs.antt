@@ -1,5 +1,5 @@
 -- A run of batches leaves a well formed world and petitions of such ones.
-use Rattle.moo_world.{proofs.Words.{arith, ◌≡◌, Bool, true, false, List, [], ◌∷◌, refl, nat_lt, if◌then◌else◌, list_all, and_parts, ObjNo, Value, Batch, Call, Ran, Through, FailedAt, FullAt, NoRoom, Stale, after_one, run_calls, is_due, last_seq, verdict_of, judge, left_by, arguments_fit, RunsKeepForm, Outcome, Done, Failed, Full, State, IsFormed, batch_call}, proofs.Form.Petitions.{requests_keep_form}}
+use Rattle.moo_world.{proofs.Words.{arith, ◌≡◌, true, List, [], ◌∷◌, refl, list_all, and_parts, ObjNo, Value, Batch, Call, Ran, Through, FailedAt, FullAt, after_one, run_calls, verdict_of, judge, left_by, arguments_fit, RunsKeepForm, Outcome, Done, Failed, Full, State, IsFormed, batch_call}, proofs.Form.Petitions.{requests_keep_form}}
 
 -- calls that were all done leave them so
 abbrev LeavesForm : Ran → Type 0
@@ -28,12 +28,7 @@ verdict_leaves s r formed h = grind arith
 
 judged_leaves : (s : State) (b : Batch) → IsFormed s → list_all arguments_fit b.calls ≡ true → IsFormed (left_by s (judge s b))
 unfolding judge
-judged_leaves s b formed fit = by (is_due b.at s.seq) (nat_lt s.seq last_seq)
-  where
-    by : (due room : Bool) → IsFormed (left_by s (if due then (if room then verdict_of s.seq (run_calls s b.programmer b.calls) else NoRoom 0) else Stale s.seq))
-    by true true = verdict_leaves s (run_calls s b.programmer b.calls) formed (calls_leave s b.programmer b.calls formed fit)
-    by true false = formed
-    by false room = formed
+judged_leaves s b formed fit = grind (arith, left_by, verdict_leaves, calls_leave)
 
 pub runs_keep_form : RunsKeepForm
 runs_keep_form s [] formed fit = formed

@@ -39,11 +39,7 @@ module _ (w v : World) (f : ObjNo → WorldObject → WorldObject) (is : (y : Ob
   objects_alike y = grind (arith, is y)
 
   pub tree_alike : v.top ≡ w.top → IsTree w → IsTree v
-  tree_alike top tree = record {
-    numbers = λ y o. subst (λ n. (pos 0 ≤ℤ y.0) × (y.0 ≤ℤ n)) (sym top) (tree.numbers y (sym (objects_alike y) ∙ o));
-    chains = λ y o. let c = tree.chains y (sym (objects_alike y) ∙ o) in (c.0, subst (λ link. Climbs link y c.0) (sym parents_alike) c.1);
-    locations = λ y o. let c = tree.locations y (sym (objects_alike y) ∙ o) in (c.0, subst (λ link. Climbs link y c.0) (sym locations_alike) c.1);
-  }
+  tree_alike top tree = grind (arith, objects_alike, parents_alike, locations_alike)
 
   pub limits_alike : v.top ≡ w.top → (0 < v.next_prop) × (v.next_prop ≤ 4294967295) → v.next_verb ≡ w.next_verb → ((y : ObjNo) (r : WorldObject) → (f y r).verbs ≡ r.verbs)
       → ((y : ObjNo) → list_all is_property_name (property_names_of v y) ≡ true) → KeepsLimits (without_slots w) → KeepsLimits (without_slots v)

@@ -1,6 +1,5 @@
 -- A value that is set and a new name keep the world well formed, and worlds with other slots have names clash alike.
-use Rattle.moo_world.{proofs.Lemmas.{arith, ◌≡◌, true, false, ◌||◌, List, [], ◌∷◌, map, refl, ◌∙◌, ap, subst, ◌⊎◌, inl, inr, is_some, filter, flat_map, list_any, false≢true, or_cases, ObjNo, Value, Set, fits, clashes, property_renamed, with_slot_of, Name, object_at, same_text, same_property, folded, is_among, same_text-Decides, same_property-self, defines_name, numbers_below, World, IsWellFormed, SameButSlots, is_object, is_property_name, property_names_of, numbers_to, property_named, IsWellFormed-with_slot_of, slot_owner, names_same, objects_same, both_true}, proofs.Ownership.Created.{chains_same}, proofs.Inheritance.Replacement.{IsWellFormed-property_renamed}}
-use Rattle.std.proofs.Math.Bool.{or-true}
+use Rattle.moo_world.{proofs.Lemmas.{arith, ◌≡◌, true, false, ◌||◌, List, [], ◌∷◌, map, refl, subst, is_some, filter, flat_map, list_any, false≢true, or_cases, ObjNo, Value, Set, fits, clashes, property_renamed, with_slot_of, Name, object_at, same_text, same_property, folded, is_among, same_text-Decides, same_property-self, defines_name, numbers_below, World, IsWellFormed, SameButSlots, is_object, is_property_name, property_names_of, numbers_to, property_named, IsWellFormed-with_slot_of, slot_owner, names_same, objects_same, both_true}, proofs.Ownership.Created.{chains_same}, proofs.Inheritance.Replacement.{IsWellFormed-property_renamed}}
 
 -- a slot that is set to a value
 pub set_formed : (w : World) (x : ObjNo) (n : Name) (v : Value) → fits v ≡ true → IsWellFormed w → IsWellFormed (with_slot_of w x n (λ s. record s { state = Set v }))
@@ -11,13 +10,7 @@ set_formed w x n v f wf = IsWellFormed-with_slot_of w x n (λ s. record s { stat
 -- a defined name, as it is spelled
 spelled : (x : ObjNo) (n : Name) (l : List Name) → list_any (λ m. same_text (folded m) (folded n)) l ≡ true → (m : Name) × (folded m ≡ folded n) × (list_any (same_property (x, m)) (map (λ k. (x, k)) l) ≡ true)
 spelled x n [] e = absurd (false≢true e)
-spelled x n (m ∷ l) e = by (or_cases _ _ e) (spelled x n l)
-  where
-    by : (same_text (folded m) (folded n) ≡ true) ⊎ (list_any (λ k. same_text (folded k) (folded n)) l ≡ true)
-        → (list_any (λ k. same_text (folded k) (folded n)) l ≡ true → (k : Name) × (folded k ≡ folded n) × (list_any (same_property (x, k)) (map (λ z. (x, z)) l) ≡ true))
-        → (k : Name) × (folded k ≡ folded n) × (list_any (same_property (x, k)) (map (λ z. (x, z)) (m ∷ l)) ≡ true)
-    by (inl h) rest = (m, (same_text-Decides (folded m) (folded n)).0 h, ap (λ b. b || list_any (same_property (x, m)) (map (λ z. (x, z)) l)) (same_property-self (x, m)))
-    by (inr h) rest = let r = rest h in (r.0, r.1, ap (λ b. same_property (x, r.0) (x, m) || b) r.2 ∙ or-true (same_property (x, r.0) (x, m)))
+spelled x n (m ∷ l) e = grind (arith, spelled x n l, or_cases, same_text, same_text-Decides, same_property-self)
 
 -- a property is renamed alike however its name is spelled
 renamed_alike : (w : World) (x : ObjNo) (m n new : Name) → folded m ≡ folded n → property_renamed w x m new ≡ property_renamed w x n new

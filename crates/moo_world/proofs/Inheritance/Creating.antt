@@ -1,16 +1,12 @@
 -- A new object keeps the world well formed.
-use Rattle.moo_world.proofs.Lemmas.{◌≡◌, arith, Bool, true, false, List, [], ◌∷◌, ◌++◌, map, refl, sym, ◌∙◌, ap, subst, ◌⊎◌, inl, inr, Option, Some, None, ℤ, pos, ◌&&◌, is_some, unwrap_or, ◌≤ℤ◌, ◌<ℤ◌, ◌+ℤ◌, if◌then◌else◌, option_map, list_any, list_all, flat_map, IsDistinct, false≢true, both_ways, ints, ObjNo, Name, Property, nothing, same_object, same_property, same_object-Decides, is_number, World, WorldObject, IsTree, IsWellFormed, Climbs, Chain, LocationChain, NamesDiffer, is_object, chain, property_names_of, slot_of, defined_by, defined_by_any, property_named, has_property, with_slots, is_property_name, verb_fits, row_fits, plain_object, object_added, created, chain_is, Chain-chain, linked, named_owed, MayBeRebuilt, IsWellFormed-rebuilt, own_owed, owed_is_object, Chain-either}
+use Rattle.moo_world.proofs.Lemmas.{◌≡◌, arith, true, false, List, [], ◌∷◌, ◌++◌, map, refl, sym, ◌∙◌, ap, subst, ◌⊎◌, inl, inr, Option, Some, None, ℤ, pos, unwrap_or, ◌≤ℤ◌, ◌<ℤ◌, ◌+ℤ◌, if◌then◌else◌, option_map, list_any, flat_map, IsDistinct, both_ways, ints, ObjNo, Name, Property, nothing, same_property, same_object-Decides, is_number, World, WorldObject, IsTree, IsWellFormed, Climbs, Chain, LocationChain, NamesDiffer, is_object, chain, property_names_of, slot_of, defined_by, defined_by_any, property_named, has_property, plain_object, object_added, created, chain_is, Chain-chain, linked, named_owed, MayBeRebuilt, IsWellFormed-rebuilt, own_owed, owed_is_object, Chain-either}
 
 module _ (w : World) (x q owner : ObjNo) (wf : IsWellFormed w) (free : is_object w x ≡ false) (next : x.0 ≡ w.top +ℤ pos 1) (room : w.top <ℤ pos 2147483647) (qo : (is_object w q ≡ true) ⊎ (q ≡ nothing)) where
   abbrev pub s : World
   s = object_added w x (plain_object q owner)
 
   same_link : (f : WorldObject → ObjNo) (y k : ObjNo) → option_map f (w.object y) ≡ Some k → option_map f (s.object y) ≡ Some k
-  same_link f y k e = by (same_object x y) refl
-    where
-      by : (b : Bool) → same_object x y ≡ b → option_map f (if b then Some (plain_object q owner) else w.object y) ≡ Some k
-      by true h = absurd (both_ways (is_object w y) (ap (is_object w) (sym ((same_object-Decides x y).0 h)) ∙ free) (linked (w.object y) f k e))
-      by false h = e
+  same_link f y k e = grind (arith, same_object-Decides, linked)
 
   Climbs-still : (f : WorldObject → ObjNo) (l : List ObjNo) (z : ObjNo) → Climbs (λ y. option_map f (w.object y)) z l → Climbs (λ y. option_map f (s.object y)) z l
   Climbs-still f [] z p = p
@@ -27,11 +23,7 @@ module _ (w : World) (x q owner : ObjNo) (wf : IsWellFormed w) (free : is_object
 
   -- an object of s is x or one of w
   which : (y : ObjNo) → is_object s y ≡ true → (y ≡ x) ⊎ (is_object w y ≡ true)
-  which y h = by (same_object x y) refl h
-    where
-      by : (b : Bool) → same_object x y ≡ b → is_some (if b then Some (plain_object q owner) else w.object y) ≡ true → (y ≡ x) ⊎ (is_object w y ≡ true)
-      by true e k = inl (sym ((same_object-Decides x y).0 e))
-      by false e k = inr k
+  which y h = grind (arith, same_object-Decides)
 
   x_number : (pos 0 ≤ℤ x.0) × (x.0 ≤ℤ x.0)
   x_number = let low = wf.limits.top.0 in (omega (arith, ints), omega (arith, ints))
@@ -54,14 +46,7 @@ module _ (w : World) (x q owner : ObjNo) (wf : IsWellFormed w) (free : is_object
 
   -- what is read of a record where none is and of a new one
   unread : {A : Type 0} (g : Option WorldObject → A) → g (Some (plain_object q owner)) ≡ g None → (y : ObjNo) → g (s.object y) ≡ g (w.object y)
-  unread g e y = by (same_object x y) refl
-    where
-      gone : (o : Option WorldObject) → is_some o ≡ false → g None ≡ g o
-      gone o h = grind arith
-
-      by : (b : Bool) → same_object x y ≡ b → g (if b then Some (plain_object q owner) else w.object y) ≡ g (w.object y)
-      by true h = e ∙ gone (w.object y) (ap (is_object w) (sym ((same_object-Decides x y).0 h)) ∙ free)
-      by false h = refl
+  unread g e y = grind (arith, same_object-Decides)
 
   names_still : property_names_of s ≡ property_names_of w
   names_still = λ i y. unread (λ o. unwrap_or (option_map (λ r. r.defines) o) []) refl y i
@@ -108,30 +93,10 @@ module _ (w : World) (x q owner : ObjNo) (wf : IsWellFormed w) (free : is_object
       by (inr k) = absurd (both_ways (has_property w y p) h (named_owed w (chain w y) n p (sym (ap (λ l. property_named (defined_by_any w l) n) (chain_other y k)) ∙ here)))
 
   own_slot : (y : ObjNo) (p : Property) → is_object s y ≡ true → list_any (same_property p) (defined_by s y) ≡ true → has_property w y p ≡ true
-  own_slot y p o h = by (which y o)
-    where
-      mine : list_any (same_property p) (defined_by w y) ≡ true
-      mine = subst (λ (names : ObjNo → List Name). list_any (same_property p) (map (λ n. (y, n)) (names y)) ≡ true) names_still h
-
-      by : (y ≡ x) ⊎ (is_object w y ≡ true) → has_property w y p ≡ true
-      by (inl k) = absurd (false≢true (sym (ap (λ names. list_any (same_property p) (map (λ n. (y, n)) names)) (ap (property_names_of w) k ∙ no_names)) ∙ mine))
-      by (inr k) = own_owed w wf.tree y p k mine
+  own_slot y p o h = grind (arith, which, names_still, no_names, own_owed)
 
   MayBeRebuilt-with : is_number owner ≡ true → MayBeRebuilt w s q
-  MayBeRebuilt-with numbered = record {
-    tree = IsTree-with;
-    names = differ;
-    new = new_slot;
-    own = own_slot;
-    limits = record {
-      top = let low = wf.limits.top.0 in (omega (arith, ints), omega (arith, ints));
-      props = wf.limits.props;
-      verbs = wf.limits.verbs;
-      names = λ y. unread (λ o. list_all is_property_name (unwrap_or (option_map (λ r. r.defines) (option_map (with_slots (λ n. None)) o)) [])) refl y ∙ wf.limits.names y;
-      directories = λ y. unread (λ o. list_all verb_fits (unwrap_or (option_map (λ r. r.verbs) (option_map (with_slots (λ n. None)) o)) [])) refl y ∙ wf.limits.directories y;
-      rows = λ y. unread (λ o. unwrap_or (option_map row_fits (option_map (λ r. r.row) (option_map (with_slots (λ n. None)) o))) true) (ap (λ b. b && true) numbered) y ∙ wf.limits.rows y;
-    };
-  }
+  MayBeRebuilt-with numbered = grind (arith, IsTree-with, differ, new_slot, own_slot, unread)
 
   pub IsWellFormed-created : is_number owner ≡ true → IsWellFormed (created w x q owner)
   IsWellFormed-created numbered = IsWellFormed-rebuilt w s q wf (MayBeRebuilt-with numbered)

@@ -1,5 +1,5 @@
 -- A property added to a well formed world.
-use Rattle.moo_world.proofs.Lemmas.{◌≡◌, ◌≢◌, ◌<◌, Bool, true, false, cond, ◌||◌, Option, None, Some, List, [], ◌∷◌, ◌++◌, map, refl, sym, ap, ◌∙◌, subst, ◌⊎◌, inl, inr, append_assoc, arith, ◌&&◌, is_some, unwrap_or, if◌then◌else◌, option_map, option_and_then, list_any, list_all, IsDistinct, AllByRecursion, false≢true, both_ways, or_parts, list_all-append, none-some, ObjNo, Clear, clashes, property_added, subtree_of, objects_of, Name, Property, same_object, same_text, same_property, folded, is_among, same_object-Decides, same_text-Decides, World, WorldObject, Slot, IsTree, IsWellFormed, Climbs, Chain, NamesDiffer, is_object, parent_of, chain, property_names_of, defined_by, defined_by_any, property_named, slot_of, fresh, is_property_name, slot_fits, Climbs-once, named_owed, named_so, definer_among, some_named, among_filter, object_listed, owed_listed, chain_is, chain_of_none, no_parent, parents_alike, objects_alike, tree_alike, limits_alike, names_fit}
+use Rattle.moo_world.proofs.Lemmas.{◌≡◌, ◌≢◌, ◌<◌, Bool, true, false, cond, ◌||◌, Option, None, Some, List, [], ◌∷◌, ◌++◌, map, refl, sym, ap, ◌∙◌, subst, ◌⊎◌, inl, inr, append_assoc, arith, is_some, if◌then◌else◌, option_map, option_and_then, list_any, list_all, IsDistinct, AllByRecursion, false≢true, or_parts, list_all-append, none-some, ObjNo, Clear, clashes, property_added, subtree_of, objects_of, Name, Property, same_object, same_text, same_property, folded, is_among, same_object-Decides, same_text-Decides, World, WorldObject, Slot, IsTree, IsWellFormed, Climbs, Chain, NamesDiffer, is_object, parent_of, chain, property_names_of, defined_by, defined_by_any, property_named, slot_of, fresh, is_property_name, slot_fits, Climbs-once, named_owed, named_so, definer_among, some_named, among_filter, object_listed, owed_listed, chain_is, chain_of_none, no_parent, parents_alike, objects_alike, tree_alike, limits_alike, names_fit}
 
 -- ---- lists of pairs
 
@@ -16,15 +16,7 @@ apart p [] ys none d = (first ys none, d)
   where
     first : (ys : List Property) → property_named ys (folded p.1) ≡ None → AllByRecursion (λ y. same_text (folded p.1) (folded y.1) ≡ false) ys
     first [] e = tt
-    first (y ∷ ys) e = by (same_text (folded y.1) (folded p.1)) refl e (first ys)
-      where
-        turned : (b : Bool) → same_text (folded p.1) (folded y.1) ≡ b → same_text (folded y.1) (folded p.1) ≡ false → b ≡ false
-        turned true k h = absurd (both_ways (same_text (folded y.1) (folded p.1)) h ((same_text-Decides (folded y.1) (folded p.1)).1 (sym ((same_text-Decides (folded p.1) (folded y.1)).0 k))))
-        turned false k h = refl
-
-        by : (b : Bool) → same_text (folded y.1) (folded p.1) ≡ b → cond b (Some y) (property_named ys (folded p.1)) ≡ None → (property_named ys (folded p.1) ≡ None → AllByRecursion (λ y. same_text (folded p.1) (folded y.1) ≡ false) ys) → AllByRecursion (λ y. same_text (folded p.1) (folded y.1) ≡ false) (y ∷ ys)
-        by true h k r = absurd (none-some y (sym k))
-        by false h k r = (turned (same_text (folded p.1) (folded y.1)) refl h, r k)
+    first (y ∷ ys) e = grind (arith, first ys, same_text, same_text-Decides)
 apart p (x ∷ xs) ys none d = by (same_text (folded x.1) (folded p.1)) refl none (λ k. apart p xs ys k d.1)
   where
     also : (l : List Property) → same_text (folded x.1) (folded p.1) ≡ false → AllByRecursion (λ y. same_text (folded x.1) (folded y.1) ≡ false) (l ++ ys) → AllByRecursion (λ y. same_text (folded x.1) (folded y.1) ≡ false) (l ++ (p ∷ ys))
@@ -36,30 +28,14 @@ apart p (x ∷ xs) ys none d = by (same_text (folded x.1) (folded p.1)) refl non
     by false e k r = (also xs e d.0, r k)
 
 named : (p : Property) (n : Name) (xs ys : List Property) → property_named (xs ++ ys) (folded p.1) ≡ None → property_named (xs ++ (p ∷ ys)) n ≡ (if same_text (folded p.1) n then Some p else property_named (xs ++ ys) n)
-named p n [] ys none = by (same_text (folded p.1) n)
-  where
-    by : (b : Bool) → cond b (Some p) (property_named ys n) ≡ (if b then Some p else property_named ys n)
-    by b = grind arith
-named p n (x ∷ xs) ys none = by (same_text (folded x.1) n) refl (same_text (folded x.1) (folded p.1)) refl none (named p n xs ys)
-  where
-    by : (b : Bool) → same_text (folded x.1) n ≡ b → (c : Bool) → same_text (folded x.1) (folded p.1) ≡ c → cond c (Some x) (property_named (xs ++ ys) (folded p.1)) ≡ None
-        → (property_named (xs ++ ys) (folded p.1) ≡ None → property_named (xs ++ (p ∷ ys)) n ≡ (if same_text (folded p.1) n then Some p else property_named (xs ++ ys) n))
-        → cond b (Some x) (property_named (xs ++ (p ∷ ys)) n) ≡ (if same_text (folded p.1) n then Some p else cond b (Some x) (property_named (xs ++ ys) n))
-    by b e true f k r = absurd (none-some x (sym k))
-    by false e false f k r = r k
-    by true e false f k r = other (same_text (folded p.1) n) refl
-      where
-        other : (d : Bool) → same_text (folded p.1) n ≡ d → Some x ≡ (if d then Some p else Some x)
-        other false g = refl
-        other true g = absurd (both_ways (same_text (folded x.1) (folded p.1)) f ((same_text-Decides (folded x.1) (folded p.1)).1 ((same_text-Decides (folded x.1) n).0 e ∙ sym ((same_text-Decides (folded p.1) n).0 g))))
+named p n [] ys none = grind (arith, same_text)
+named p n (x ∷ xs) ys none = grind (arith, named p n xs ys, same_text, same_text-Decides)
 
 pub still_apart : (p : Property) (a b : List Property) → Inserted p a b → property_named a (folded p.1) ≡ None → NamesDiffer a → NamesDiffer b
 still_apart p a b i none d = subst NamesDiffer (sym i.more) (apart p i.before i.after (sym (ap (λ l. property_named l (folded p.1)) i.less) ∙ none) (subst NamesDiffer i.less d))
 
 pub named_after : (p : Property) (n : Name) (a b : List Property) → Inserted p a b → property_named a (folded p.1) ≡ None → property_named b n ≡ (if same_text (folded p.1) n then Some p else property_named a n)
-named_after p n a b i none =
-    ap (λ l. property_named l n) i.more ∙ named p n i.before i.after (sym (ap (λ l. property_named l (folded p.1)) i.less) ∙ none)
-    ∙ ap (λ l. if same_text (folded p.1) n then Some p else property_named l n) (sym i.less)
+named_after p n a b i none = grind (arith, named, same_text)
 
 pub further : (p : Property) (l a b : List Property) → Inserted p a b → Inserted p (l ++ a) (l ++ b)
 further p l a b i = record {
@@ -152,15 +128,7 @@ module _ (w : World) (wf : IsWellFormed w) (x : ObjNo) (name : Name) (s : Slot) 
   -- ---- what is owed
 
   names_now : (y : ObjNo) → property_names_of v y ≡ (if same_object x y then property_names_of w y ++ name ∷ [] else property_names_of w y)
-  names_now y = by (w.object y) refl
-    where
-      alone : (b : Bool) → same_object x y ≡ b → is_object w y ≡ false → [] ≡ (if b then [] ++ name ∷ [] else [])
-      alone false e f = refl
-      alone true e f = absurd (both_ways (is_object w x) (ap (is_object w) ((same_object-Decides x y).0 e) ∙ f) xo)
-
-      by : (o : Option WorldObject) → w.object y ≡ o → unwrap_or (option_map (λ r. r.defines) (option_map (new_record y) o)) [] ≡ (if same_object x y then unwrap_or (option_map (λ r. r.defines) o) [] ++ name ∷ [] else unwrap_or (option_map (λ r. r.defines) o) [])
-      by None e = alone (same_object x y) refl (ap is_some e)
-      by (Some r) e = refl
+  names_now y = grind (arith, same_object-Decides)
 
   defined_other : (y : ObjNo) → same_object x y ≡ false → defined_by v y ≡ defined_by w y
   defined_other y e = ap (map {B = Property} (λ n. (y, n))) (names_now y ∙ ap (λ b. if b then property_names_of w y ++ name ∷ [] else property_names_of w y) e)
@@ -174,9 +142,7 @@ module _ (w : World) (wf : IsWellFormed w) (x : ObjNo) (name : Name) (s : Slot) 
 
   owed_beside : (l : List ObjNo) → is_among x l ≡ false → defined_by_any v l ≡ defined_by_any w l
   owed_beside [] h = refl
-  owed_beside (z ∷ l) h =
-      let parts = or_parts (same_object x z) (is_among x l) h in
-      λ i. defined_other z parts.0 i ++ owed_beside l parts.1 i
+  owed_beside (z ∷ l) h = grind (arith, owed_beside l, or_parts, defined_other)
 
   inserted : (y : ObjNo) (l : List ObjNo) → Chain w y l → is_among x l ≡ true → Inserted (x, name) (defined_by_any w l) (defined_by_any v l)
   inserted y [] c h = absurd (false≢true h)
@@ -192,11 +158,7 @@ module _ (w : World) (wf : IsWellFormed w) (x : ObjNo) (name : Name) (s : Slot) 
           (subst (λ d. Inserted (x, name) (defined_by w x ++ defined_by_any w l) ((defined_by w x ++ (x, name) ∷ []) ++ d)) (sym (owed_beside l once)) (at_end (x, name) (defined_by w x) (defined_by_any w l))))
 
   names : (y : ObjNo) (l : List ObjNo) → Chain v y l → NamesDiffer (defined_by_any v l)
-  names y l c = by (is_among x l) refl
-    where
-      by : (b : Bool) → is_among x l ≡ b → NamesDiffer (defined_by_any v l)
-      by false e = subst NamesDiffer (sym (owed_beside l e)) (wf.names y l (back y l c))
-      by true e = still_apart (x, name) (defined_by_any w l) (defined_by_any v l) (inserted y l (back y l c) e) (none_owed y l (back y l c) e) (wf.names y l (back y l c))
+  names y l c = grind (arith, owed_beside, back, still_apart, inserted, none_owed)
 
   -- ---- the slots
 
@@ -237,8 +199,7 @@ module _ (w : World) (wf : IsWellFormed w) (x : ObjNo) (name : Name) (s : Slot) 
     set y n k e d = elim (new_or_old y n k e) [ inl h ↦ wf.set y n k h d | inr h ↦ new h.0 (same_object x y) refl h.2 ]
       where
         new : (r : WorldObject) (b : Bool) → same_object x y ≡ b → (if b then s else fresh r.row.owner s) ≡ k → k.state ≢ Clear
-        new r true g h = λ c. set_here (ap (λ (z : Slot). z.state) h ∙ c)
-        new r false g h = absurd (both_ways (same_object x y) g ((same_object-Decides x y).1 (sym mine ∙ ap (λ (z : Slot). z.definer) h ∙ d)))
+        new r b g h = grind (arith, same_object-Decides)
 
     module _ (good_name : is_property_name name ≡ true) (left : w.next_prop < 4294967295) (fits_here : slot_fits s ≡ true) where
       fit : (y : ObjNo) (n : Name) (k : Slot) → slot_of v y n ≡ Some k → slot_fits k ≡ true
@@ -248,11 +209,7 @@ module _ (w : World) (wf : IsWellFormed w) (x : ObjNo) (name : Name) (s : Slot) 
           new r g b h = grind arith
 
       all_names : (y : ObjNo) → list_all is_property_name (property_names_of v y) ≡ true
-      all_names y = ap (list_all is_property_name) (names_now y) ∙ by (same_object x y)
-        where
-          by : (b : Bool) → list_all is_property_name (if b then property_names_of w y ++ name ∷ [] else property_names_of w y) ≡ true
-          by false = names_fit w wf.limits y
-          by true = list_all-append is_property_name (property_names_of w y) (name ∷ []) ∙ (λ i. names_fit w wf.limits y i && (good_name i && true))
+      all_names y = grind (arith, names_now, names_fit, list_all-append)
 
       pub IsWellFormed-property_added : IsWellFormed v
       IsWellFormed-property_added = record {

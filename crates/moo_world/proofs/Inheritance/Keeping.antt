@@ -1,11 +1,9 @@
 -- A rebuilt world is well formed, where its links and definitions are.
-use Rattle.moo_world.{proofs.Words.{arith, ◌≡◌, ◌≢◌, Bool, true, false, cond, List, [], ◌∷◌, refl, sym, ◌∙◌, ap, subst, ◌⊎◌, inl, inr, Option, Some, None, if◌then◌else◌, pos, ◌≤ℤ◌, option_map, list_any, IsDistinct, AllByRecursion, false≢true, both_ways, or_cases, and_parts, none-some, same_Some, ObjNo, Clear, Name, Property, same_object, same_text, same_property, folded, is_among, same_object-Decides, same_text-Decides, World, WorldObject, Slot, IsTree, IsWellFormed, Climbs, Chain, NamesDiffer, is_object, location_of, owner_of, slot_of, defined_by, defined_by_any, property_named, has_property, chain, fresh, slot_for, rebuilt, with_slots, without_slots, KeepsLimits, SameButSlots, slot_fits, nothing, ◌||◌}, proofs.Ancestry.Trees.{chain_is, Chain-chain, chain_of_none, nothing_is_no_object}, proofs.Form.Limits.{owner_numbered, fresh_fits}, proofs.Inheritance.Owed.{any-append, definer_among, in_owed, named_owed, named_so}, proofs.Inheritance.Rebuilding.{parents_same, objects_same, owed_same, Chain-same, SameButSlots-rebuilt, slot_of-rebuilt}}
+use Rattle.moo_world.{proofs.Words.{arith, ◌≡◌, ◌≢◌, Bool, true, false, cond, List, [], ◌∷◌, refl, sym, ◌∙◌, ap, subst, ◌⊎◌, inl, inr, Option, Some, None, if◌then◌else◌, pos, ◌≤ℤ◌, option_map, list_any, IsDistinct, AllByRecursion, false≢true, both_ways, or_cases, and_parts, none-some, same_Some, ObjNo, Clear, Name, Property, same_text, same_property, folded, is_among, same_object-Decides, same_text-Decides, World, WorldObject, Slot, IsTree, IsWellFormed, Climbs, Chain, NamesDiffer, is_object, location_of, owner_of, slot_of, defined_by, defined_by_any, property_named, has_property, chain, fresh, slot_for, rebuilt, with_slots, without_slots, KeepsLimits, SameButSlots, slot_fits, nothing, ◌||◌}, proofs.Ancestry.Trees.{chain_is, Chain-chain, chain_of_none, nothing_is_no_object}, proofs.Form.Limits.{owner_numbered, fresh_fits}, proofs.Inheritance.Owed.{any-append, definer_among, in_owed, named_owed, named_so}, proofs.Inheritance.Rebuilding.{parents_same, objects_same, owed_same, Chain-same, SameButSlots-rebuilt, slot_of-rebuilt}}
 
 pub same_property-is : (p q : Property) → same_property p q ≡ true → p ≡ q
 unfolding same_property
-same_property-is p q h =
-    let parts = and_parts (same_object p.0 q.0) (same_text p.1 q.1) h in
-    λ i. ((same_object-Decides p.0 q.0).0 parts.0 i, (same_text-Decides p.1 q.1).0 parts.1 i)
+same_property-is p q h = grind (arith, and_parts, same_text, same_object-Decides, same_text-Decides)
 
 -- where names differ, an owed property is the one of its name
 pub named_is : (owed : List Property) (p : Property) → NamesDiffer owed → list_any (same_property p) owed ≡ true → property_named owed (folded p.1) ≡ Some p
@@ -36,11 +34,7 @@ own_owed w t y p yo mine = first (chain w y) (Chain-chain w t y yo)
 
 -- what is owed something is an object
 pub owed_is_object : (w : World) (q : ObjNo) (n : Name) (p : Property) → property_named (defined_by_any w (chain w q)) n ≡ Some p → is_object w q ≡ true
-owed_is_object w q n p e = decide (is_object w q) refl
-  where
-    decide : (b : Bool) → is_object w q ≡ b → b ≡ true
-    decide true v = refl
-    decide false v = absurd (none-some p (sym (ap (λ l. property_named (defined_by_any w l) n) (chain_of_none w q v)) ∙ e))
+owed_is_object w q n p e = grind (arith, chain_of_none)
 
 fresh_definer : (owner : ObjNo) (o : Option Slot) → option_map (λ s. s.definer) (option_map (fresh owner) o) ≡ option_map (λ s. s.definer) o
 fresh_definer owner o = grind arith
@@ -63,11 +57,7 @@ module _ (w s : World) (q : ObjNo) (wf : IsWellFormed w) (may : MayBeRebuilt w s
   same = SameButSlots-rebuilt w s q
 
   known : (x : ObjNo) (p : Property) → has_property w x p ≡ true → is_object w x ≡ true
-  known x p h = by (is_object w x) refl
-    where
-      by : (b : Bool) → is_object w x ≡ b → b ≡ true
-      by true e = refl
-      by false e = absurd (false≢true (sym (ap (λ l. list_any (same_property p) (defined_by_any w l)) (chain_of_none w x e)) ∙ h))
+  known x p h = grind (arith, chain_of_none)
 
   -- a kept slot has the definer of what is owed
   old_definer : (x : ObjNo) (n : Name) (p : Property) → has_property w x p ≡ true → folded p.1 ≡ n → option_map (λ k. k.definer) (slot_of w x n) ≡ Some p.0
@@ -83,8 +73,7 @@ module _ (w s : World) (q : ObjNo) (wf : IsWellFormed w) (may : MayBeRebuilt w s
   definer_is x n (Some p) xo e = by (has_property w x p) refl
     where
       by : (b : Bool) → has_property w x p ≡ b → option_map (λ k. k.definer) (if b then slot_of w x n else option_map (fresh (owner_of s x)) (slot_of w q n)) ≡ Some p.0
-      by true h = old_definer x n p h (named_so (defined_by_any s (chain s x)) n p e)
-      by false h = fresh_definer (owner_of s x) (slot_of w q n) ∙ may.new x n p xo e h
+      by b h = grind (arith, old_definer, named_so, fresh_definer)
 
   slots_rebuilt : (x : ObjNo) (l : List ObjNo) (n : Name) → is_object r x ≡ true → Chain r x l → option_map (λ k. k.definer) (slot_of r x n) ≡ option_map (λ k. k.0) (property_named (defined_by_any r l) n)
   slots_rebuilt x l n xo c =
@@ -120,8 +109,7 @@ module _ (w s : World) (q : ObjNo) (wf : IsWellFormed w) (may : MayBeRebuilt w s
   fit_rebuilt x n k e = by (property_named (defined_by_any s (chain s x)) n) (sym (slot_of-rebuilt w s q x n) ∙ e)
     where
       new : (o : Option Slot) → slot_of w q n ≡ o → option_map (fresh (owner_of s x)) o ≡ Some k → slot_fits k ≡ true
-      new None f g = absurd (none-some k g)
-      new (Some j) f g = ap slot_fits (sym (same_Some (fresh (owner_of s x) j) k g)) ∙ fresh_fits (owner_of s x) j (owner_numbered s may.limits x) (wf.fit q n j f)
+      new o f g = grind (arith, fresh, fresh_fits, owner_numbered)
 
       kept : (b : Bool) → (if b then slot_of w x n else option_map (fresh (owner_of s x)) (slot_of w q n)) ≡ Some k → slot_fits k ≡ true
       kept true g = wf.fit x n k g

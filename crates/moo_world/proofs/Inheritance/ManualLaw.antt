@@ -1,5 +1,5 @@
 -- The manual's wording of a change of parent gives the rebuilt world.
-use Rattle.moo_world.{proofs.Words.{arith, ◌≡◌, Bool, true, false, cond, ◌||◌, List, [], ◌∷◌, ◌++◌, drop, refl, sym, ◌∙◌, ap, subst, ◌⊎◌, inl, inr, Option, Some, None, append_assoc, unwrap_or, if◌then◌else◌, option_map, option_or, list_any, find, false≢true, both_ways, or_parts, or_right, or_cases, false_from_ne_true, none-some, ObjNo, Name, Property, nothing, same_object, same_property, folded, is_among, same_object-Decides, World, Slot, IsWellFormed, Chain, NamesDiffer, is_object, parent_of, owner_of, slot_of, defined_by, defined_by_any, property_named, has_property, chain, fresh, slot_for, reparented, with_parent, ancestors, common, except, lost, gained, unless_defined_by, manual_slot}, proofs.Ancestry.Chains.{front_of, Climbs-split, Climbs-among}, proofs.Ancestry.Trees.{chain_is, Chain-chain, chain-nothing, no_parent}, proofs.Inheritance.Owed.{is_among-append, defined_by_any-append, named-append, find_passes, found_among, in_owed, in_owed-append, definer_among, named_owed, named_so, named_once}, proofs.Ancestry.Ancestors.{same_object-self, apart_in_chain, except_end, front_fails, all_fail, front_within}, proofs.Ancestry.Moving.{moved, owner_moved, owed_moved, Chain-new, chain_unmoved, chain_moved}, proofs.Inheritance.Rebuilding.{slot_of-rebuilt}}
+use Rattle.moo_world.{proofs.Words.{arith, ◌≡◌, Bool, true, false, cond, ◌||◌, List, [], ◌∷◌, ◌++◌, drop, refl, sym, ◌∙◌, ap, subst, ◌⊎◌, inl, inr, Option, Some, None, append_assoc, unwrap_or, if◌then◌else◌, option_map, option_or, list_any, find, false≢true, both_ways, or_parts, or_right, or_cases, false_from_ne_true, none-some, ObjNo, Name, Property, nothing, same_object, same_property, folded, is_among, same_object-Decides, World, Slot, IsWellFormed, Chain, is_object, parent_of, owner_of, slot_of, defined_by, defined_by_any, property_named, has_property, chain, fresh, slot_for, reparented, with_parent, ancestors, common, except, lost, gained, unless_defined_by, manual_slot}, proofs.Ancestry.Chains.{front_of, Climbs-split, Climbs-among}, proofs.Ancestry.Trees.{chain_is, Chain-chain, chain-nothing, no_parent}, proofs.Inheritance.Owed.{is_among-append, defined_by_any-append, named-append, find_passes, found_among, in_owed, in_owed-append, definer_among, named_owed, named_so, named_once}, proofs.Ancestry.Ancestors.{same_object-self, apart_in_chain, except_end, front_fails, all_fail, front_within}, proofs.Ancestry.Moving.{moved, owner_moved, owed_moved, Chain-new, chain_unmoved, chain_moved}, proofs.Inheritance.Rebuilding.{slot_of-rebuilt}}
 
 -- ---- a slot and the ones that are lost
 
@@ -78,8 +78,7 @@ module _ (w : World) (x q : ObjNo) (wf : IsWellFormed w) (xo : is_object w x ≡
 
   -- what comes is no ancestor of x
   pub coming_fails : (f : Option ObjNo) (d : ObjNo) → find (λ k. is_among k above) (chain w q) ≡ f → is_among d (front_of (unwrap_or f nothing) (chain w q)) ≡ true → is_among d above ≡ false
-  coming_fails None d e h = all_fail (λ k. is_among k above) (chain w q) d e (front_within (chain w q) nothing d h)
-  coming_fails (Some k) d e h = front_fails (λ m. is_among m above) (chain w q) k d e h
+  coming_fails f d e h = grind (arith, all_fail, front_within, front_fails)
 
   -- ---- an object under x
 
@@ -129,9 +128,7 @@ module _ (w : World) (x q : ObjNo) (wf : IsWellFormed w) (xo : is_object w x ≡
     owes_below p e = ap (in_owed w p) chain_y ∙ in_owed-append w p below above ∙ ap (λ b. b || in_owed w p above) (named_owed w below n p e)
 
     owes_shared : (p : Property) → named shared ≡ Some p → has_property w y p ≡ true
-    owes_shared p e =
-        ap (in_owed w p) (chain_y ∙ ap (λ l. below ++ l) above_split) ∙ in_owed-append w p below (going ++ shared)
-        ∙ or_right (in_owed w p below) _ (in_owed-append w p going shared ∙ or_right (in_owed w p going) _ (named_owed w shared n p e))
+    owes_shared p e = grind (arith, chain_y, above_split, in_owed-append, or_right, named_owed)
 
     -- a name that an object below x or x defines is no name of q's chain
     pub no_new : (p : Property) → in_owed w p below ≡ true → folded p.1 ≡ n → named (chain w q) ≡ None
@@ -155,9 +152,7 @@ module _ (w : World) (x q : ObjNo) (wf : IsWellFormed w) (xo : is_object w x ≡
     shared_stays p e = false_from_ne_true (is_among p.0 going) (λ h. both_ways (is_among p.0 shared) (apart_above p.0 h) (definer_among w p shared (named_owed w shared n p e)).0)
 
     one_of : (k p : Property) → named going ≡ Some k → named shared ≡ Some p → ⊥
-    one_of k p e f =
-        let differ : NamesDiffer (defined_by_any w going ++ defined_by_any w shared) = subst NamesDiffer (ap (defined_by_any w) above_split ∙ defined_by_any-append w going shared) (wf.names Chain-x.1 above Chain-x.3) in
-        none-some p (sym (named_once (defined_by_any w going) (defined_by_any w shared) n k differ e) ∙ f)
+    one_of k p e f = grind (arith, above_split, defined_by_any-append, Chain-x, named_once)
 
     abbrev s : World
     s = with_parent w x q
@@ -187,10 +182,7 @@ module _ (w : World) (x q : ObjNo) (wf : IsWellFormed w) (xo : is_object w x ≡
     under_slot = slot_of-rebuilt w s q y n ∙ ap (slot_for w s q y n) named_y_moved ∙ by_case _ _ _ _ refl refl refl refl
 
     pub under_law : slot_of (reparented w x q) y n ≡ manual_slot w x q y n
-    under_law =
-        under_slot
-        ∙ (λ i. elim (property_named (defined_by_any w (sym gained_is i)) n) [ Some p ↦ option_map (fresh (owner_of w y)) (slot_of w q n) | None ↦ unless_defined_by (sym lost_is i) (slot_of w y n) ])
-        ∙ sym (ap (λ b. if b then elim (property_named (defined_by_any w (gained w x q)) n) [ Some p ↦ option_map (fresh (owner_of w y)) (slot_of w q n) | None ↦ unless_defined_by (lost w x q) (slot_of w y n) ] else slot_of w y n) under)
+    under_law = grind (arith, under_slot, gained_is, fresh, lost_is)
 
   -- ---- another object
 
@@ -208,8 +200,4 @@ module _ (w : World) (x q : ObjNo) (wf : IsWellFormed w) (xo : is_object w x ≡
 
   -- the manual's wording gives the slots of the rebuilt world
   pub manual_law : (y : ObjNo) (n : Name) → is_object w y ≡ true → slot_of (reparented w x q) y n ≡ manual_slot w x q y n
-  manual_law y n yo = by (is_among x (chain w y)) refl
-    where
-      by : (b : Bool) → is_among x (chain w y) ≡ b → slot_of (reparented w x q) y n ≡ manual_slot w x q y n
-      by true e = under_law y n yo e
-      by false e = beside_law y n yo e
+  manual_law y n yo = grind (arith, under_law, beside_law)

@@ -1,13 +1,9 @@
 -- The children of a recycled object, moved one by one in the manual's words, leave the world that recycling leaves.
-use Rattle.moo_world.{proofs.Lemmas.{arith, ◌≡◌, Bool, true, false, ◌||◌, List, [], ◌∷◌, ◌++◌, refl, sym, ◌∙◌, ap, subst, ◌⊎◌, inl, inr, Option, Some, None, unwrap_or, if◌then◌else◌, option_map, false≢true, both_ways, false_from_ne_true, none-some, same_Some, ObjNo, Name, Property, nothing, same_object, same_object-Decides, is_among, World, WorldObject, Slot, IsTree, IsWellFormed, Chain, is_object, parent_of, slot_of, defined_by_any, property_named, chain, with_slots, without_slots, with_parent, reparented, SameButSlots, MayReparent, unless_defined_by, manual_slot, is_parent_of, children_of, objects_of, manually_moved, moved_one_by_one, MayMoveOneByOne, emptied, taken_out, ChildrenMoveOneByOne, ChildrenMoveAscending, released, object_removed, recycled, Climbs-once, Chain-chain, chain-step, linked, no_parent, definer_among, named_owed, same_object-self, manual_law, slot_kept, slot_absent, no_slot, objects_same, same_world, SameButSlots-rebuilt, NoClash-from_meets, among_filter, object_listed}, proofs.Inheritance.Recycling.{stays, recycle_law}, proofs.Inheritance.Reparenting.{IsWellFormed-reparented}, proofs.Ancestry.Upward.{filter_passes, may_climb, climbed_slot}}
+use Rattle.moo_world.{proofs.Lemmas.{arith, ◌≡◌, Bool, true, false, ◌||◌, List, [], ◌∷◌, ◌++◌, refl, sym, ◌∙◌, ap, subst, ◌⊎◌, inl, inr, Option, Some, None, unwrap_or, if◌then◌else◌, option_map, false≢true, both_ways, false_from_ne_true, none-some, same_Some, ObjNo, Name, Property, nothing, same_object, same_object-Decides, is_among, World, WorldObject, Slot, IsTree, IsWellFormed, Chain, is_object, parent_of, slot_of, defined_by_any, property_named, chain, with_slots, with_parent, reparented, SameButSlots, MayReparent, unless_defined_by, manual_slot, is_parent_of, children_of, manually_moved, moved_one_by_one, MayMoveOneByOne, emptied, taken_out, ChildrenMoveOneByOne, ChildrenMoveAscending, released, object_removed, recycled, Climbs-once, Chain-chain, chain-step, linked, no_parent, definer_among, named_owed, same_object-self, manual_law, slot_kept, slot_absent, no_slot, objects_same, same_world, SameButSlots-rebuilt, NoClash-from_meets, among_filter, object_listed}, proofs.Inheritance.Recycling.{stays, recycle_law}, proofs.Inheritance.Reparenting.{IsWellFormed-reparented}, proofs.Ancestry.Upward.{filter_passes, may_climb, climbed_slot}}
 
 -- worlds that are the same but for slots, and whose objects have the same slots, are one
 one_world : (a b : World) → SameButSlots a b → ((y : ObjNo) (n : Name) → is_object a y ≡ true → slot_of a y n ≡ slot_of b y n) → a ≡ b
-one_world a b same slots = same_world a b same (λ y n. by y n (is_object a y) refl)
-  where
-    by : (y : ObjNo) (n : Name) (v : Bool) → is_object a y ≡ v → slot_of a y n ≡ slot_of b y n
-    by y n true e = slots y n e
-    by y n false e = no_slot (a.object y) n e ∙ sym (no_slot (b.object y) n (sym (objects_same a b same y) ∙ e))
+one_world a b same slots = grind (arith, same_world, no_slot, objects_same)
 
 -- ---- one move
 
@@ -30,17 +26,11 @@ module _ (w : World) (c q : ObjNo) where
 
   module _ (m : MayReparent w c q) where
     new : (is_object w q ≡ true) ⊎ (q ≡ nothing)
-    new = by (is_object w q) refl m.new
-      where
-        by : (b : Bool) → is_object w q ≡ b → (b || same_object nothing q) ≡ true → (is_object w q ≡ true) ⊎ (q ≡ nothing)
-        by true e h = inl e
-        by false e h = inr (sym ((same_object-Decides nothing q).0 h))
+    new = grind (arith, same_object-Decides)
 
     -- the manual's move is the model's
     pub manually_moved-is : manually_moved w c q ≡ reparented w c q
-    manually_moved-is = one_world (manually_moved w c q) (reparented w c q) (SameButSlots-moved ∙ sym (SameButSlots-rebuilt w (with_parent w c q) q)) (λ y n o.
-        let yo : is_object w y ≡ true = sym (object_stays y) ∙ o in
-        slot_moved y n yo ∙ sym (manual_law w c q m.well_formed m.object new m.outside (NoClash-from_meets w m.well_formed.tree c q m.apart) y n yo))
+    manually_moved-is = grind (arith, one_world, SameButSlots-moved, SameButSlots-rebuilt, object_stays, slot_moved, manual_law, new, NoClash-from_meets)
 
     pub IsWellFormed-moved : IsWellFormed (manually_moved w c q)
     IsWellFormed-moved = subst IsWellFormed (sym manually_moved-is) (IsWellFormed-reparented w c q m.well_formed m.object new m.outside (NoClash-from_meets w m.well_formed.tree c q m.apart))
@@ -52,11 +42,7 @@ module _ (w : World) (x q : ObjNo) (wf : IsWellFormed w) (xp : parent_of w x ≡
   xo = linked (w.object x) (λ r. r.row.parent) q xp
 
   step_up : (z p : ObjNo) → parent_of w z ≡ Some p → chain w z ≡ z ∷ chain w p
-  step_up z p e = of (w.object z) refl e
-    where
-      of : (o : Option WorldObject) → w.object z ≡ o → option_map (λ r. r.row.parent) o ≡ Some p → chain w z ≡ z ∷ chain w p
-      of None h g = absurd (none-some p g)
-      of (Some r) h g = chain-step w wf.tree z r h ∙ ap (λ k. z ∷ chain w k) (same_Some r.row.parent p g)
+  step_up z p e = grind (arith, chain-step)
 
   Chain-x : Chain w x (x ∷ chain w q)
   Chain-x = subst (Chain w x) (step_up x q xp) (Chain-chain w wf.tree x xo)
@@ -113,28 +99,15 @@ module _ (w : World) (x q : ObjNo) (wf : IsWellFormed w) (xp : parent_of w x ≡
     linked_to r p = record { row = record r.row { parent = p; location = if same_object x r.row.location then nothing else r.row.location }; defines = r.defines; slot = λ n. None; verbs = r.verbs }
 
     one_parent : (p : ObjNo) → (Some p ≡ Some x) ⊎ (Some p ≡ Some q) → (if same_object x q then q else q) ≡ (if same_object x p then q else p)
-    one_parent p k = either (same_object x q) ∙ sym (elim k [
-      | inl h ↦ ap (λ b. if b then q else p) ((same_object-Decides x p).1 (sym (same_Some p x h)))
-      | inr h ↦ ap (λ z. if same_object x z then q else z) (same_Some p q h) ∙ either (same_object x q)
-    ])
-      where
-        either : (b : Bool) → (if b then q else q) ≡ q
-        either b = grind arith
+    one_parent p k = grind (arith, same_object-Decides)
 
     left : (f : Name → Option Slot) (o : Option WorldObject) (a b : Bool) → (b ≡ true → (option_map (λ r. r.row.parent) o ≡ Some x) ⊎ (option_map (λ r. r.row.parent) o ≡ Some q))
         → option_map (with_slots (λ n. None)) (if a then None else option_map (released x q) (option_map (with_slots f) (option_map (λ r. if b then under_q w c q r else r) o)))
         ≡ option_map (with_slots (λ n. None)) (if a then None else option_map (released x q) o)
-    left f None true b k = refl
-    left f None false b k = refl
-    left f (Some r) true b k = refl
-    left f (Some r) false true k = ap (λ p. Some (linked_to r p)) (one_parent r.row.parent (k refl))
-    left f (Some r) false false k = refl
+    left f o a b k = grind (arith, one_parent)
 
     same_left : SameButSlots (object_removed v x) (object_removed w x)
-    same_left =
-        (λ i. record w { object = λ y. option_map (with_slots (λ n. None)) (if same_object x y then None else option_map (released x (unwrap_or (heir_moved i) nothing)) (v.object y)) })
-        ∙ (λ i. record w { object = λ y. left (manual_slot w c q y) (w.object y) (same_object x y) (same_object c y) (λ h. subst (λ z. (parent_of w z ≡ Some x) ⊎ (parent_of w z ≡ Some q)) ((same_object-Decides c y).0 h) cp) i })
-        ∙ (λ i. record w { object = λ y. option_map (with_slots (λ n. None)) (if same_object x y then None else option_map (released x (unwrap_or (sym xp i) nothing)) (w.object y)) })
+    same_left = grind (arith, heir_moved, left, same_object-Decides)
 
     -- to recycle x after c was moved is to recycle x
     pub recycled_moved : recycled v x ≡ recycled w x
@@ -150,11 +123,7 @@ module _ (w : World) (x : ObjNo) (wf : IsWellFormed w) (xo : is_object w x ≡ t
   heir = unwrap_or (parent_of w x) nothing
 
   untouched : (y : ObjNo) (o : Option WorldObject) → w.object y ≡ o → option_map (emptied x) o ≡ option_map (released x heir) o
-  untouched y None e = refl
-  untouched y (Some r) e = ap (λ b. Some (record r { row = record r.row { parent = if b then heir else r.row.parent; location = if same_object x r.row.location then nothing else r.row.location } })) (sym other)
-    where
-      other : same_object x r.row.parent ≡ false
-      other = false_from_ne_true (same_object x r.row.parent) (λ h. none y (ap (option_map (λ k. k.row.parent)) e ∙ ap Some (sym ((same_object-Decides x r.row.parent).0 h))))
+  untouched y o e = grind (arith, heir, false_from_ne_true, same_object-Decides)
 
   out_is : taken_out w x ≡ object_removed w x
   unfolding heir
@@ -162,9 +131,7 @@ module _ (w : World) (x : ObjNo) (wf : IsWellFormed w) (xo : is_object w x ≡ t
 
   beside : (l : List ObjNo) (z : ObjNo) → Chain w z l → same_object x z ≡ false → is_among x l ≡ false
   beside [] z p e = refl
-  beside (y ∷ l) z p e =
-      ap (λ b. b || is_among x l) (ap (same_object x) (sym p.0) ∙ e)
-      ∙ beside l p.1 p.3 (false_from_ne_true (same_object x p.1) (λ h. none z (p.2 ∙ ap Some (sym ((same_object-Decides x p.1).0 h)))))
+  beside (y ∷ l) z p e = grind (arith, beside l p.1 p.3, false_from_ne_true, same_object-Decides)
 
   -- no other object has a slot of a property that x defines
   all_kept : (y : ObjNo) (n : Name) → is_object w y ≡ true → same_object x y ≡ false → unless_defined_by (x ∷ []) (slot_of w y n) ≡ slot_of w y n
@@ -186,10 +153,7 @@ module _ (w : World) (x : ObjNo) (wf : IsWellFormed w) (xo : is_object w x ≡ t
 
   -- where x has no child, taking it out is recycling it
   pub taken_out_is : taken_out w x ≡ recycled w x
-  taken_out_is = one_world (taken_out w x) (recycled w x) (ap without_slots out_is ∙ sym (SameButSlots-rebuilt w (object_removed w x) nothing)) (λ y n o.
-      let so : is_object (object_removed w x) y ≡ true = ap (λ v. is_object v y) (sym out_is) ∙ o in
-      let k = stays w x wf.tree xo y so in
-      slot_left y n k.0 ∙ sym (all_kept y n k.1 k.0) ∙ sym (recycle_law w x wf xo y n so))
+  taken_out_is = grind (arith, one_world, taken_out, out_is, SameButSlots-rebuilt, stays, xo, slot_left, all_kept, recycle_law)
 
 -- ---- all children
 
@@ -229,26 +193,14 @@ moved_all (c ∷ l) w x q wf xp each all =
 -- ---- the tests of the definitions
 
 parent_from : (w : World) (x y : ObjNo) → is_parent_of w x y ≡ true → parent_of w y ≡ Some x
-parent_from w x y h = of (w.object y) h
-  where
-    of : (o : Option WorldObject) → unwrap_or (option_map (λ r. same_object x r.parent) (option_map (λ r. r.row) o)) false ≡ true → option_map (λ r. r.row.parent) o ≡ Some x
-    of None k = absurd (false≢true k)
-    of (Some r) k = ap Some (sym ((same_object-Decides x r.row.parent).0 k))
+parent_from w x y h = grind (arith, same_object-Decides)
 
 parent_to : (w : World) (x y : ObjNo) → parent_of w y ≡ Some x → is_parent_of w x y ≡ true
-parent_to w x y e = of (w.object y) e
-  where
-    of : (o : Option WorldObject) → option_map (λ r. r.row.parent) o ≡ Some x → unwrap_or (option_map (λ r. same_object x r.parent) (option_map (λ r. r.row) o)) false ≡ true
-    of None k = absurd (none-some x k)
-    of (Some r) k = (same_object-Decides x r.row.parent).1 (sym (same_Some r.row.parent x k))
+parent_to w x y e = grind (arith, same_object-Decides)
 
 -- the ascending list has exactly the children
 pub children_listed : (w : World) (t : IsTree w) (x y : ObjNo) → is_among y (children_of w x) ≡ is_parent_of w x y
-children_listed w t x y = by (is_parent_of w x y) refl
-  where
-    by : (b : Bool) → is_parent_of w x y ≡ b → is_among y (children_of w x) ≡ b
-    by true e = among_filter (is_parent_of w x) (objects_of w) y (object_listed w t y (linked (w.object y) (λ r. r.row.parent) x (parent_from w x y e))) e
-    by false e = false_from_ne_true (is_among y (children_of w x)) (λ h. both_ways (is_parent_of w x y) e (filter_passes (is_parent_of w x) (objects_of w) y h))
+children_listed w t x y = grind (arith, among_filter, object_listed, linked, parent_from, false_from_ne_true, filter_passes)
 
 pub children_move : ChildrenMoveOneByOne
 children_move w x q children wf xp exact = moved_all children w x q wf xp (λ y h. inl (parent_from w x y (sym (exact y) ∙ h))) (λ y e. exact y ∙ parent_to w x y e)

@@ -1,15 +1,9 @@
 -- A rebuilt world exists, and there is one only.
-use Rattle.moo_world.{proofs.Words.{arith, ◌≡◌, true, false, List, [], refl, sym, ◌∙◌, ap, subst, map, Option, Some, None, is_some, unwrap_or, if◌then◌else◌, option_map, option_and_then, Decides, list_any, flat_map, false≢true, both_ways, false_from_ne_true, none-some, same_Some, ObjNo, Name, Property, nothing, same_property, World, WorldObject, IsTree, Climbs, Chain, HasProperty, Rebuilt, is_object, parent_of, property_names_of, owner_of, slot_of, defined_by_any, property_named, has_property, chain, fresh, slot_for, rebuilt_slot, rebuilt, with_slots, SameButSlots}, proofs.Ancestry.Trees.{chain_is, Chain-chain, chain_of_none}}
+use Rattle.moo_world.{proofs.Words.{arith, ◌≡◌, true, false, List, [], refl, sym, ◌∙◌, ap, subst, map, Option, Some, None, is_some, unwrap_or, if◌then◌else◌, option_map, option_and_then, Decides, flat_map, both_ways, false_from_ne_true, none-some, same_Some, ObjNo, Name, Property, nothing, World, WorldObject, IsTree, Climbs, Chain, HasProperty, Rebuilt, is_object, parent_of, property_names_of, owner_of, slot_of, defined_by_any, property_named, has_property, chain, fresh, slot_for, rebuilt_slot, rebuilt, with_slots, SameButSlots}, proofs.Ancestry.Trees.{chain_is, Chain-chain, chain_of_none}}
 
 -- what is owed, as a test
 pub HasProperty-Decides : (w : World) → IsTree w → (x : ObjNo) (p : Property) → Decides (has_property w x p) (HasProperty w x p)
-HasProperty-Decides w t x p = (
-  λ e. elim (is_object w x) as (λ b. is_object w x ≡ b → HasProperty w x p) [
-    | true ↦ λ o. (chain w x, Chain-chain w t x o, e)
-    | false ↦ λ o. let none : list_any (same_property p) (defined_by_any w []) ≡ true = subst (λ l. list_any (same_property p) (defined_by_any w l) ≡ true) (chain_of_none w x o) e in absurd (false≢true none)
-  ] refl,
-  λ o. subst (λ l. list_any (same_property p) (defined_by_any w l) ≡ true) (sym (chain_is w t x o.0 o.1)) o.2,
-)
+HasProperty-Decides w t x p = grind (arith, Chain-chain, chain_of_none, chain_is)
 
 pub no_slot : (o : Option WorldObject) (n : Name) → is_some o ≡ false → option_and_then (λ r. r.slot n) o ≡ None
 no_slot o n e = grind arith
@@ -60,16 +54,10 @@ module _ (w s : World) (q : ObjNo) where
 
   no_slot_rebuilt : (x : ObjNo) (n : Name) → is_object s x ≡ false → slot_of (rebuilt w s q) x n ≡ rebuilt_slot w s q x n
   unfolding rebuilt
-  no_slot_rebuilt x n e =
-      no_slot ((rebuilt w s q).object x) n (objects_same (rebuilt w s q) s SameButSlots-rebuilt x ∙ e)
-      ∙ sym (ap (λ l. slot_for w s q x n (property_named (defined_by_any s l) n)) (chain_of_none s x e))
+  no_slot_rebuilt x n e = grind (arith, no_slot, objects_same, SameButSlots-rebuilt, chain_of_none)
 
   pub slot_of-rebuilt : (x : ObjNo) (n : Name) → slot_of (rebuilt w s q) x n ≡ rebuilt_slot w s q x n
-  slot_of-rebuilt x n =
-      elim (is_object s x) as (λ b. is_object s x ≡ b → slot_of (rebuilt w s q) x n ≡ rebuilt_slot w s q x n) [
-        | true ↦ λ e. slot_rebuilt x n e
-        | false ↦ λ e. no_slot_rebuilt x n e
-      ] refl
+  slot_of-rebuilt x n = grind (arith, slot_rebuilt, no_slot_rebuilt)
 
   module _ (tw : IsTree w) (ts : IsTree s) where
     by_pair : (x : ObjNo) (l : List ObjNo) (n : Name) (o : Option Property) → Chain (rebuilt w s q) x l → property_named (defined_by_any (rebuilt w s q) l) n ≡ o → slot_of (rebuilt w s q) x n ≡ slot_for w s q x n o
@@ -128,8 +116,4 @@ module _ (w a b : World) (q : ObjNo) (tw : IsTree w) (ta : IsTree a) (same : Sam
 
   -- from w, links and definitions, there is one rebuilt world
   pub Rebuilt-unique : a ≡ b
-  Rebuilt-unique = same_world a b same (λ x n.
-      elim (is_object a x) as (λ v. is_object a x ≡ v → slot_of a x n ≡ slot_of b x n) [
-        | true ↦ λ e. one_slot x n (property_named (defined_by_any a (chain a x)) n) (Chain-chain a ta x e) refl
-        | false ↦ λ e. no_slot (a.object x) n e ∙ sym (no_slot (b.object x) n (sym (objects_same a b same x) ∙ e))
-      ] refl)
+  Rebuilt-unique = grind (arith, same_world, one_slot, Chain-chain, no_slot, objects_same)

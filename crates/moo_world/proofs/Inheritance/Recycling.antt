@@ -1,5 +1,5 @@
 -- What the loss of one object does to chains.
-use Rattle.moo_world.{proofs.Lemmas.{arith, ◌≡◌, Bool, true, false, cond, ◌||◌, List, [], ◌∷◌, ◌++◌, map, refl, sym, ◌∙◌, ap, subst, ◌⊎◌, inl, inr, Option, Some, None, unwrap_or, if◌then◌else◌, option_map, list_any, list_all, IsDistinct, AllByRecursion, false≢true, both_ways, or_parts, or_right, or_cases, false_from_ne_true, ObjNo, Name, Property, nothing, same_object, same_text, same_property, folded, is_among, same_object-Decides, World, WorldObject, IsTree, IsWellFormed, Chain, LocationChain, NamesDiffer, is_object, parent_of, chain, property_names_of, owner_of, slot_of, defined_by, defined_by_any, property_named, has_property, fresh, slot_for, with_slots, is_property_name, verb_fits, row_fits, unless_defined_by, released, object_removed, recycled, front_of, Climbs-once, any-append, all_right, own_pair, in_owed, definer_among, named_owed, named_so, some_named, slot_of-rebuilt, slot_kept, slot_lost, slot_absent, MayBeRebuilt, IsWellFormed-rebuilt, named_is, chain_is, Chain-chain, linked, no_parent, nothing_is_no_object, own_owed}, proofs.Inheritance.Reparenting.{all_join, all_left}}
+use Rattle.moo_world.{proofs.Lemmas.{arith, ◌≡◌, Bool, true, false, cond, ◌||◌, List, [], ◌∷◌, ◌++◌, map, refl, sym, ◌∙◌, ap, subst, Option, Some, None, unwrap_or, if◌then◌else◌, option_map, list_any, list_all, IsDistinct, AllByRecursion, false≢true, both_ways, or_parts, or_right, or_cases, false_from_ne_true, ObjNo, Name, Property, nothing, same_object, same_text, same_property, folded, is_among, same_object-Decides, World, WorldObject, IsTree, IsWellFormed, Chain, LocationChain, NamesDiffer, is_object, parent_of, chain, property_names_of, owner_of, slot_of, defined_by, defined_by_any, property_named, has_property, fresh, slot_for, with_slots, is_property_name, verb_fits, row_fits, unless_defined_by, released, object_removed, recycled, front_of, Climbs-once, any-append, all_right, own_pair, in_owed, definer_among, named_owed, named_so, some_named, slot_of-rebuilt, slot_kept, slot_lost, slot_absent, MayBeRebuilt, IsWellFormed-rebuilt, named_is, chain_is, Chain-chain, linked, no_parent, nothing_is_no_object, own_owed}, proofs.Inheritance.Reparenting.{all_join, all_left}}
 
 -- a list without one object
 abbrev pub left_out : ObjNo → List ObjNo → List ObjNo
@@ -29,27 +29,7 @@ module _ (w : World) (x : ObjNo) (t : IsTree w) (xo : is_object w x ≡ true) wh
   -- a chain goes on without x, whose place its parent takes
   pub Climbs-left_out : (l : List ObjNo) (z : ObjNo) → Chain w z l → Chain lessened (if same_object x z then heir else z) (left_out x l)
   Climbs-left_out [] z p = ap (λ k. if same_object x k then heir else k) p ∙ ap (λ b. if b then heir else nothing) x_is_something
-  Climbs-left_out (y ∷ l) z p = by (same_object x y) refl (Climbs-left_out l p.1 p.3)
-    where
-      at_x : same_object x y ≡ true → heir ≡ p.1
-      at_x e = ap (λ o. unwrap_or o nothing) (ap (parent_of w) ((same_object-Decides x y).0 e ∙ sym p.0) ∙ p.2)
-
-      not_next : same_object x y ≡ true → same_object x p.1 ≡ false
-      not_next e = begins l p.1 p.3 (subst (λ k. is_among k l ≡ false) (p.0 ∙ sym ((same_object-Decides x y).0 e)) (Climbs-once (parent_of w) (no_parent w t) l z y p))
-        where
-          begins : (m : List ObjNo) (k : ObjNo) → Chain w k m → is_among x m ≡ false → same_object x k ≡ false
-          begins [] k c h = subst (λ j. same_object x j ≡ false) (sym c) x_is_something
-          begins (j ∷ m) k c h = subst (λ i. same_object x i ≡ false) (sym c.0) (or_parts (same_object x j) (is_among x m) h).0
-
-      by : (b : Bool) → same_object x y ≡ b → Chain lessened (if same_object x p.1 then heir else p.1) (left_out x l) → Chain lessened (if same_object x z then heir else z) (cond b (left_out x l) (y ∷ left_out x l))
-      by true e r =
-          let here : (if same_object x z then heir else z) ≡ heir = ap (λ k. if same_object x k then heir else z) p.0 ∙ ap (λ b. if b then heir else z) e in
-          let there : (if same_object x p.1 then heir else p.1) ≡ heir = ap (λ b. if b then heir else p.1) (not_next e) ∙ sym (at_x e) in
-          subst (λ k. Chain lessened k (left_out x l)) (there ∙ sym here) r
-      by false e r =
-          let other : same_object x z ≡ false = ap (same_object x) p.0 ∙ e in
-          let here : (if same_object x z then heir else z) ≡ z = ap (λ b. if b then heir else z) other in
-          (here ∙ p.0, (if same_object x p.1 then heir else p.1), ap (parent_of lessened) here ∙ kept_parent z p.1 (w.object z) other p.2, r)
+  Climbs-left_out (y ∷ l) z p = grind (arith, Climbs-left_out l p.1 p.3, same_object-Decides, Climbs-once, no_parent, x_is_something, or_parts, kept_parent)
 
   -- locations end in front of x
   pub LocationChain-cut : (l : List ObjNo) (z : ObjNo) → LocationChain w z l → same_object x z ≡ false → LocationChain lessened z (front_of x l)
@@ -100,52 +80,25 @@ module _ (w : World) (x : ObjNo) where
 
   pub owed_lessened : (l : List ObjNo) → defined_by_any (object_removed w x) (left_out x l) ≡ defined_by_any w (left_out x l)
   owed_lessened [] = refl
-  owed_lessened (y ∷ l) = by (same_object x y) refl (owed_lessened l)
-    where
-      by : (b : Bool) → same_object x y ≡ b → defined_by_any (object_removed w x) (left_out x l) ≡ defined_by_any w (left_out x l) → defined_by_any (object_removed w x) (cond b (left_out x l) (y ∷ left_out x l)) ≡ defined_by_any w (cond b (left_out x l) (y ∷ left_out x l))
-      by b e r = grind arith
+  owed_lessened (y ∷ l) = grind (arith, owed_lessened l)
 
   -- what the rest of a list has_property the list has_property
   pub owed_more : (p : Property) (l : List ObjNo) → in_owed w p (left_out x l) ≡ true → in_owed w p l ≡ true
   owed_more p [] h = h
-  owed_more p (y ∷ l) h = any-append (same_property p) (defined_by w y) (defined_by_any w l) ∙ by (same_object x y) h (owed_more p l)
-    where
-      left : (a b : Bool) → a ≡ true → (a || b) ≡ true
-      left a b e = grind arith
-
-      by : (b : Bool) → in_owed w p (cond b (left_out x l) (y ∷ left_out x l)) ≡ true → (in_owed w p (left_out x l) ≡ true → in_owed w p l ≡ true) → (list_any (same_property p) (defined_by w y) || in_owed w p l) ≡ true
-      by true k r = or_right _ _ (r k)
-      by false k r = elim (or_cases _ _ (sym (any-append (same_property p) (defined_by w y) (defined_by_any w (left_out x l))) ∙ k)) [ inl g ↦ left (list_any (same_property p) (defined_by w y)) (in_owed w p l) g | inr g ↦ or_right (list_any (same_property p) (defined_by w y)) (in_owed w p l) (r g) ]
+  owed_more p (y ∷ l) h = grind (arith, owed_more p l, any-append, or_right, or_cases)
 
   -- what the list has_property and x doesn't define the rest has_property
   pub owed_less : (p : Property) (l : List ObjNo) → in_owed w p l ≡ true → same_object x p.0 ≡ false → in_owed w p (left_out x l) ≡ true
   owed_less p [] h e = h
-  owed_less p (y ∷ l) h e = by (same_object x y) refl (or_cases _ _ (sym (any-append (same_property p) (defined_by w y) (defined_by_any w l)) ∙ h)) (owed_less p l)
-    where
-      left : (a b : Bool) → a ≡ true → (a || b) ≡ true
-      left a b g = grind arith
-
-      by : (b : Bool) → same_object x y ≡ b → (list_any (same_property p) (defined_by w y) ≡ true) ⊎ (in_owed w p l ≡ true) → (in_owed w p l ≡ true → same_object x p.0 ≡ false → in_owed w p (left_out x l) ≡ true) → in_owed w p (cond b (left_out x l) (y ∷ left_out x l)) ≡ true
-      by true g (inl k) r = absurd (both_ways (same_object x p.0) e (ap (same_object x) ((same_object-Decides p.0 y).0 (own_pair y (property_names_of w y) p k)) ∙ g))
-      by true g (inr k) r = r k e
-      by false g (inl k) r = any-append (same_property p) (defined_by w y) (defined_by_any w (left_out x l)) ∙ left _ _ k
-      by false g (inr k) r = any-append (same_property p) (defined_by w y) (defined_by_any w (left_out x l)) ∙ or_right _ _ (r k e)
+  owed_less p (y ∷ l) h e = grind (arith, owed_less p l, or_cases, any-append, same_object-Decides, own_pair, or_right)
 
   not_left : (d : ObjNo) (l : List ObjNo) → is_among d (left_out x l) ≡ true → same_object x d ≡ false
   not_left d [] h = absurd (false≢true h)
-  not_left d (y ∷ l) h = by (same_object x y) refl h (not_left d l)
-    where
-      by : (b : Bool) → same_object x y ≡ b → is_among d (cond b (left_out x l) (y ∷ left_out x l)) ≡ true → (is_among d (left_out x l) ≡ true → same_object x d ≡ false) → same_object x d ≡ false
-      by true e k r = r k
-      by false e k r = elim (or_cases _ _ k) [ inl g ↦ ap (same_object x) ((same_object-Decides d y).0 g) ∙ e | inr g ↦ r g ]
+  not_left d (y ∷ l) h = grind (arith, not_left d l, or_cases, same_object-Decides)
 
   all_owed : (P : Property → Type 0) (l : List ObjNo) → AllByRecursion P (defined_by_any w l) → AllByRecursion P (defined_by_any w (left_out x l))
   all_owed P [] h = h
-  all_owed P (y ∷ l) h = by (same_object x y) (all_owed P l (all_right P (defined_by w y) (defined_by_any w l) h))
-    where
-      by : (b : Bool) → AllByRecursion P (defined_by_any w (left_out x l)) → AllByRecursion P (defined_by_any w (cond b (left_out x l) (y ∷ left_out x l)))
-      by true r = r
-      by false r = all_join P (defined_by w y) (defined_by_any w (left_out x l)) (all_left P (defined_by w y) (defined_by_any w l) h) r
+  all_owed P (y ∷ l) h = grind (arith, all_owed P l, all_right, all_join, all_left)
 
   pub differ_less : (l : List ObjNo) → NamesDiffer (defined_by_any w l) → NamesDiffer (defined_by_any w (left_out x l))
   unfolding IsDistinct

@@ -1,5 +1,5 @@
 -- A change of parent keeps the world well formed.
-use Rattle.moo_world.{proofs.Lemmas.{arith, ◌≡◌, Bool, true, false, cond, ◌||◌, List, [], ◌∷◌, ◌++◌, map, refl, sym, ◌∙◌, ap, subst, ◌⊎◌, inl, Option, Some, None, append_assoc, unwrap_or, if◌then◌else◌, option_map, option_or, list_any, list_all, IsDistinct, AllByRecursion, both_ways, or_right, none-some, same_Some, ObjNo, Name, Property, nothing, same_object, same_text, same_property, folded, is_among, same_text-Decides, same_property-self, World, WorldObject, with_slots, is_property_name, verb_fits, row_fits, IsWellFormed, Chain, NamesDiffer, is_object, parent_of, slot_of, defined_by, defined_by_any, property_named, has_property, chain, with_parent, reparented, front_of, Climbs-split, chain_is, Chain-chain, linked, no_parent, nothing_is_no_object, defined_by_any-append, named-append, in_owed, in_owed-append, definer_among, named_owed, NoClash, under_x, MayBeRebuilt, IsWellFormed-rebuilt, own_owed, owed_is_object}, proofs.Ancestry.Moving.{names_moved, object_moved, owed_moved, Chain-new, IsTree-moved, chain_unmoved, chain_moved}}
+use Rattle.moo_world.{proofs.Lemmas.{arith, ◌≡◌, Bool, true, false, ◌||◌, List, [], ◌∷◌, ◌++◌, map, refl, sym, ◌∙◌, ap, subst, ◌⊎◌, inl, Option, Some, None, append_assoc, if◌then◌else◌, option_map, option_or, list_any, IsDistinct, AllByRecursion, both_ways, or_right, none-some, same_Some, ObjNo, Name, Property, nothing, same_object, same_text, same_property, folded, is_among, same_text-Decides, same_property-self, World, WorldObject, with_slots, IsWellFormed, Chain, NamesDiffer, is_object, parent_of, slot_of, defined_by, defined_by_any, property_named, has_property, chain, with_parent, reparented, front_of, Climbs-split, chain_is, Chain-chain, linked, no_parent, nothing_is_no_object, defined_by_any-append, named-append, in_owed, in_owed-append, definer_among, named_owed, NoClash, under_x, MayBeRebuilt, IsWellFormed-rebuilt, own_owed, owed_is_object}, proofs.Ancestry.Moving.{names_moved, object_moved, owed_moved, Chain-new, IsTree-moved, chain_unmoved, chain_moved}}
 
 -- ---- lists of names that differ, joined
 
@@ -18,15 +18,7 @@ differ_left (x ∷ xs) ys d = (all_left (λ y. same_text (folded x.1) (folded y.
 
 others : (x : Property) (ys : List Property) → property_named ys (folded x.1) ≡ None → AllByRecursion (λ y. same_text (folded x.1) (folded y.1) ≡ false) ys
 others x [] e = tt
-others x (y ∷ ys) e = by (same_text (folded y.1) (folded x.1)) refl e (others x ys)
-  where
-    turned : (b : Bool) → same_text (folded x.1) (folded y.1) ≡ b → same_text (folded y.1) (folded x.1) ≡ false → b ≡ false
-    turned true k h = absurd (both_ways (same_text (folded y.1) (folded x.1)) h ((same_text-Decides (folded y.1) (folded x.1)).1 (sym ((same_text-Decides (folded x.1) (folded y.1)).0 k))))
-    turned false k h = refl
-
-    by : (b : Bool) → same_text (folded y.1) (folded x.1) ≡ b → cond b (Some y) (property_named ys (folded x.1)) ≡ None → (property_named ys (folded x.1) ≡ None → AllByRecursion (λ k. same_text (folded x.1) (folded k.1) ≡ false) ys) → (same_text (folded x.1) (folded y.1) ≡ false) × AllByRecursion (λ k. same_text (folded x.1) (folded k.1) ≡ false) ys
-    by true k g r = absurd (none-some y (sym g))
-    by false k g r = (turned (same_text (folded x.1) (folded y.1)) refl k, r g)
+others x (y ∷ ys) e = grind (arith, others x ys, same_text, same_text-Decides)
 
 differ_join : (xs ys : List Property) → NamesDiffer xs → NamesDiffer ys → ((p : Property) → list_any (same_property p) xs ≡ true → property_named ys (folded p.1) ≡ None) → NamesDiffer (xs ++ ys)
 unfolding IsDistinct
@@ -127,20 +119,7 @@ module _ (w : World) (x q : ObjNo) (wf : IsWellFormed w) (xo : is_object w x ≡
   unread y g h o = grind arith
 
   pub MayBeRebuilt-moved : MayBeRebuilt w s q
-  MayBeRebuilt-moved = record {
-    tree = IsTree-moved w x q wf.tree xo qo outside;
-    names = names_moved_differ;
-    new = new_slot;
-    own = own_slot;
-    limits = record {
-      top = wf.limits.top;
-      props = wf.limits.props;
-      verbs = wf.limits.verbs;
-      names = λ y. unread y (λ k. list_all is_property_name (unwrap_or (option_map (λ r. r.defines) k) [])) (λ r. refl) (w.object y) ∙ wf.limits.names y;
-      directories = λ y. unread y (λ k. list_all verb_fits (unwrap_or (option_map (λ r. r.verbs) k) [])) (λ r. refl) (w.object y) ∙ wf.limits.directories y;
-      rows = λ y. unread y (λ k. unwrap_or (option_map row_fits (option_map (λ r. r.row) k)) true) (λ r. refl) (w.object y) ∙ wf.limits.rows y;
-    };
-  }
+  MayBeRebuilt-moved = grind (arith, IsTree-moved, names_moved_differ, new_slot, own_slot, unread)
 
   -- a change of parent keeps the world well formed
   pub IsWellFormed-reparented : IsWellFormed (reparented w x q)

@@ -1,5 +1,5 @@
 -- A property of a well formed world under another name.
-use Rattle.moo_world.{proofs.Lemmas.{arith, ◌≡◌, Bool, true, false, cond, ◌||◌, Option, None, Some, List, [], ◌∷◌, ◌++◌, map, refl, sym, ap, ◌∙◌, subst, ◌⊎◌, inl, inr, append_assoc, ◌&&◌, if◌then◌else◌, option_map, option_and_then, list_any, list_all, IsDistinct, AllByRecursion, false≢true, both_ways, or_parts, or_cases, and_parts, none-some, ObjNo, Clear, clashes, property_renamed, Name, Property, nothing, same_object, same_text, same_property, folded, is_among, same_object-Decides, same_text-Decides, World, WorldObject, Slot, IsWellFormed, Climbs, Chain, NamesDiffer, is_object, parent_of, chain, property_names_of, defined_by, defined_by_any, property_named, slot_of, is_property_name, Climbs-once, none_named, chain_is, Chain-chain, no_parent, nothing_is_no_object, parents_alike, objects_alike, tree_alike, limits_alike, names_fit}, proofs.Shown.PairLists.{distinct_map, pairs_left}, proofs.Inheritance.Insertion.{Inserted, still_apart, named_after, further, none_owed, some_record}}
+use Rattle.moo_world.{proofs.Lemmas.{arith, ◌≡◌, Bool, true, false, cond, ◌||◌, Option, None, Some, List, [], ◌∷◌, ◌++◌, map, refl, sym, ap, ◌∙◌, subst, ◌⊎◌, inl, inr, append_assoc, if◌then◌else◌, option_map, option_and_then, list_any, list_all, IsDistinct, AllByRecursion, false≢true, both_ways, or_parts, or_cases, and_parts, none-some, ObjNo, Clear, clashes, property_renamed, Name, Property, nothing, same_object, same_text, same_property, folded, is_among, same_object-Decides, same_text-Decides, World, WorldObject, Slot, IsWellFormed, Climbs, Chain, NamesDiffer, is_object, parent_of, chain, property_names_of, defined_by, defined_by_any, property_named, slot_of, is_property_name, Climbs-once, none_named, chain_is, Chain-chain, no_parent, nothing_is_no_object, parents_alike, objects_alike, tree_alike, limits_alike, names_fit}, proofs.Shown.PairLists.{distinct_map, pairs_left}, proofs.Inheritance.Insertion.{Inserted, still_apart, named_after, further, none_owed, some_record}}
 
 -- ---- lists of pairs
 
@@ -23,14 +23,8 @@ none_but p (x ∷ xs) ys d =
     ap (λ b. cond b (Some x) (property_named (xs ++ ys) (folded p.1))) (one_of (λ y. same_text (folded x.1) (folded y.1) ≡ false) xs ys p d.0) ∙ none_but p xs ys d.1
 
 none_fewer : (p : Property) (n : Name) (xs ys : List Property) → property_named (xs ++ (p ∷ ys)) n ≡ None → property_named (xs ++ ys) n ≡ None
-none_fewer p n [] ys e = by (same_text (folded p.1) n) e
-  where
-    by : (b : Bool) → cond b (Some p) (property_named ys n) ≡ None → property_named ys n ≡ None
-    by b h = grind arith
-none_fewer p n (x ∷ xs) ys e = by (same_text (folded x.1) n) e (none_fewer p n xs ys)
-  where
-    by : (b : Bool) → cond b (Some x) (property_named (xs ++ (p ∷ ys)) n) ≡ None → (property_named (xs ++ (p ∷ ys)) n ≡ None → property_named (xs ++ ys) n ≡ None) → cond b (Some x) (property_named (xs ++ ys) n) ≡ None
-    by b h r = grind arith
+none_fewer p n [] ys e = grind (arith, same_text)
+none_fewer p n (x ∷ xs) ys e = grind (arith, none_fewer p n xs ys, same_text)
 
 -- b is a with q in the place of p
 record Replaced (p q : Property) (a b : List Property) : Type 0 where
@@ -84,19 +78,11 @@ record Place (old new : Name) (a b : List Name) : Type 0 where
 
 others : (old new n : Name) (l : List Name) → same_text (folded n) (folded old) ≡ true → AllByRecursion (λ k. same_text (folded n) (folded k) ≡ false) l → map (renames old new) l ≡ l
 others old new n [] e h = refl
-others old new n (k ∷ l) e h = by (same_text (folded k) (folded old)) refl (others old new n l e h.1)
-  where
-    by : (b : Bool) → same_text (folded k) (folded old) ≡ b → map (renames old new) l ≡ l → (if b then new else k) ∷ map (renames old new) l ≡ k ∷ l
-    by false f r = ap (λ m. k ∷ m) r
-    by true f r = absurd (both_ways (same_text (folded n) (folded k)) h.0 ((same_text-Decides (folded n) (folded k)).1 ((same_text-Decides (folded n) (folded old)).0 e ∙ sym ((same_text-Decides (folded k) (folded old)).0 f))))
+others old new n (k ∷ l) e h = grind (arith, others old new n l e h.1, same_text, same_text-Decides)
 
 none_alike : (old n : Name) (l : List Name) → same_text (folded n) (folded old) ≡ true → AllByRecursion (λ k. same_text (folded n) (folded k) ≡ false) l → list_any (same_text old) l ≡ false
 none_alike old n [] e h = refl
-none_alike old n (k ∷ l) e h = by (same_text old k) refl (none_alike old n l e h.1)
-  where
-    by : (b : Bool) → same_text old k ≡ b → list_any (same_text old) l ≡ false → (b || list_any (same_text old) l) ≡ false
-    by false f r = r
-    by true f r = absurd (both_ways (same_text (folded n) (folded k)) h.0 ((same_text-Decides (folded n) (folded k)).1 ((same_text-Decides (folded n) (folded old)).0 e ∙ ap folded ((same_text-Decides old k).0 f))))
+none_alike old n (k ∷ l) e h = grind (arith, none_alike old n l e h.1, same_text, same_text-Decides)
 
 place : (old new : Name) (l : List Name) → list_any (same_text old) l ≡ true → IsDistinct (λ a b. same_text (folded a) (folded b)) l → Place old new l (map (renames old new) l)
 unfolding IsDistinct
@@ -118,10 +104,7 @@ map-mid x (k ∷ xs) ys n = ap (λ l. (x, k) ∷ l) (map-mid x xs ys n)
 listed_name : (x : ObjNo) (old : Name) (l : List Name) → list_any (same_property (x, old)) (map (λ n. (x, n)) l) ≡ true → list_any (same_text old) l ≡ true
 unfolding same_property
 listed_name x old [] h = h
-listed_name x old (n ∷ l) h = by (same_object x x) (same_text old n) h (listed_name x old l)
-  where
-    by : (a b : Bool) → ((a && b) || list_any (same_property (x, old)) (map (λ n. (x, n)) l)) ≡ true → (list_any (same_property (x, old)) (map (λ n. (x, n)) l) ≡ true → list_any (same_text old) l ≡ true) → (b || list_any (same_text old) l) ≡ true
-    by a b e r = grind arith
+listed_name x old (n ∷ l) h = grind (arith, listed_name x old l, same_text)
 
 -- ---- the world
 
@@ -181,17 +164,10 @@ module _ (w : World) (wf : IsWellFormed w) (x : ObjNo) (old new : Name) (xo : is
 
   owed_beside : (l : List ObjNo) → is_among x l ≡ false → defined_by_any v l ≡ defined_by_any w l
   owed_beside [] h = refl
-  owed_beside (z ∷ l) h =
-      let parts = or_parts (same_object x z) (is_among x l) h in
-      λ i. defined_other z parts.0 i ++ owed_beside l parts.1 i
+  owed_beside (z ∷ l) h = grind (arith, owed_beside l, or_parts, defined_other)
 
   put_in : (n : Name) (d : List Property) (m : List Property) → d ≡ pairs at.before ++ ((x, n) ∷ pairs at.after) → Inserted (x, n) (pairs at.before ++ (pairs at.after ++ m)) (d ++ m)
-  put_in n d m e = record {
-    before = pairs at.before;
-    after = pairs at.after ++ m;
-    less = refl;
-    more = ap (λ k. k ++ m) e ∙ append_assoc (pairs at.before) ((x, n) ∷ pairs at.after) m;
-  }
+  put_in n d m e = grind (arith, at, append_assoc)
 
   replaced : (y : ObjNo) (l : List ObjNo) → Chain w y l → is_among x l ≡ true → Replaced (x, old) (x, new) (defined_by_any w l) (defined_by_any v l)
   replaced y [] c h = absurd (false≢true h)
@@ -217,11 +193,7 @@ module _ (w : World) (wf : IsWellFormed w) (x : ObjNo) (old new : Name) (xo : is
           }))
 
   names : (y : ObjNo) (l : List ObjNo) → Chain v y l → NamesDiffer (defined_by_any v l)
-  names y l c = by (is_among x l) refl
-    where
-      by : (b : Bool) → is_among x l ≡ b → NamesDiffer (defined_by_any v l)
-      by false e = subst NamesDiffer (sym (owed_beside l e)) (wf.names y l (back y l c))
-      by true e = differ_now (x, old) (x, new) (defined_by_any w l) (defined_by_any v l) (replaced y l (back y l c) e) (wf.names y l (back y l c)) (none_of_name y l (back y l c) e)
+  names y l c = grind (arith, owed_beside, back, differ_now, replaced, none_of_name)
 
   -- ---- the slots
 
@@ -295,10 +267,7 @@ module _ (w : World) (wf : IsWellFormed w) (x : ObjNo) (old new : Name) (xo : is
       where
         each : (l : List Name) → list_all is_property_name l ≡ true → list_all is_property_name (map (renames old new) l) ≡ true
         each [] h = h
-        each (n ∷ l) h = let parts = and_parts (is_property_name n) (list_all is_property_name l) h in one (same_text (folded n) (folded old)) parts.0 (each l parts.1)
-          where
-            one : (b : Bool) → is_property_name n ≡ true → list_all is_property_name (map (renames old new) l) ≡ true → (is_property_name (if b then new else n) && list_all is_property_name (map (renames old new) l)) ≡ true
-            one b k r = grind arith
+        each (n ∷ l) h = grind (arith, each l, and_parts, same_text)
 
         by : (b : Bool) → list_all is_property_name (if b then map (renames old new) (property_names_of w y) else property_names_of w y) ≡ true
         by false = names_fit w wf.limits y

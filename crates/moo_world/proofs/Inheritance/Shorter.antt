@@ -1,37 +1,24 @@
 -- A property taken from a well formed world.
-use Rattle.moo_world.proofs.Lemmas.{arith, ◌≡◌, Bool, true, false, cond, ◌||◌, Option, None, Some, List, [], ◌∷◌, ◌++◌, map, refl, sym, ap, ◌∙◌, subst, ◌&&◌, not, if◌then◌else◌, option_map, filter, list_any, list_all, IsDistinct, AllByRecursion, both_ways, and_parts, none-some, same_Some, ObjNo, property_removed, Name, Property, nothing, same_object, same_text, same_property, folded, same_object-Decides, same_text-Decides, World, WorldObject, Slot, IsWellFormed, Climbs, Chain, NamesDiffer, is_object, parent_of, chain, climb, numbers_to, property_names_of, defined_by, defined_by_any, has_property, owner_of, property_named, slot_of, slot_for, fresh, object_changed, is_property_name, MayBeRebuilt, IsWellFormed-rebuilt, named_owed, named_so, none_named, slot_of-rebuilt, Chain-chain, parents_alike, objects_alike, tree_alike, limits_alike, names_fit, own_owed}
+use Rattle.moo_world.proofs.Lemmas.{arith, ◌≡◌, Bool, true, false, cond, Option, None, Some, List, [], ◌∷◌, ◌++◌, map, refl, sym, ap, ◌∙◌, subst, ◌&&◌, not, if◌then◌else◌, option_map, filter, list_any, list_all, IsDistinct, AllByRecursion, both_ways, and_parts, ObjNo, property_removed, Name, Property, nothing, same_object, same_text, same_property, folded, same_object-Decides, same_text-Decides, World, WorldObject, Slot, IsWellFormed, Climbs, Chain, NamesDiffer, is_object, parent_of, chain, climb, numbers_to, property_names_of, defined_by, defined_by_any, has_property, property_named, slot_of, slot_for, fresh, object_changed, is_property_name, MayBeRebuilt, IsWellFormed-rebuilt, named_owed, named_so, none_named, slot_of-rebuilt, Chain-chain, parents_alike, objects_alike, tree_alike, limits_alike, names_fit, own_owed}
 
 -- ---- lists
 
 filter-append : {A : Type 0} (test : A → Bool) (l m : List A) → filter test (l ++ m) ≡ filter test l ++ filter test m
 filter-append test [] m = refl
-filter-append test (a ∷ l) m = by (test a) (filter-append test l m)
-  where
-    by : (b : Bool) → filter test (l ++ m) ≡ filter test l ++ filter test m → cond b (a ∷ filter test (l ++ m)) (filter test (l ++ m)) ≡ cond b (a ∷ filter test l) (filter test l) ++ filter test m
-    by b r = grind arith
+filter-append test (a ∷ l) m = grind (arith, filter-append test l m)
 
 all_of_filter : {A : Type 0} (P : A → Type 0) (test : A → Bool) (l : List A) → AllByRecursion P l → AllByRecursion P (filter test l)
 all_of_filter P test [] h = tt
-all_of_filter P test (a ∷ l) h = by (test a) (all_of_filter P test l h.1)
-  where
-    by : (b : Bool) → AllByRecursion P (filter test l) → AllByRecursion P (cond b (a ∷ filter test l) (filter test l))
-    by b r = grind arith
+all_of_filter P test (a ∷ l) h = grind (arith, all_of_filter P test l h.1)
 
 any_of_filter : {A : Type 0} (t test : A → Bool) (l : List A) → list_any t (filter test l) ≡ true → list_any t l ≡ true
 any_of_filter t test [] h = h
-any_of_filter t test (a ∷ l) h = by (test a) h (any_of_filter t test l)
-  where
-    by : (b : Bool) → list_any t (cond b (a ∷ filter test l) (filter test l)) ≡ true → (list_any t (filter test l) ≡ true → list_any t l ≡ true) → (t a || list_any t l) ≡ true
-    by b k r = grind arith
+any_of_filter t test (a ∷ l) h = grind (arith, any_of_filter t test l)
 
 fewer_differ : (test : Property → Bool) (l : List Property) → NamesDiffer l → NamesDiffer (filter test l)
 unfolding IsDistinct
 fewer_differ test [] d = d
-fewer_differ test (p ∷ l) d = by (test p) (fewer_differ test l d.1)
-  where
-    by : (b : Bool) → NamesDiffer (filter test l) → NamesDiffer (cond b (p ∷ filter test l) (filter test l))
-    by true r = (all_of_filter (λ y. same_text (folded p.1) (folded y.1) ≡ false) test l d.0, r)
-    by false r = r
+fewer_differ test (p ∷ l) d = grind (arith, fewer_differ test l d.1, all_of_filter, same_text)
 
 abbrev pub kept_pair : (Property → Bool) → Option Property → Option Property
 kept_pair test None = None
@@ -39,10 +26,7 @@ kept_pair test (Some p) = if test p then Some p else None
 
 none_of_filter : (test : Property → Bool) (n : Name) (l : List Property) → property_named l n ≡ None → property_named (filter test l) n ≡ None
 none_of_filter test n [] e = refl
-none_of_filter test n (p ∷ l) e = by (same_text (folded p.1) n) refl e (test p) (none_of_filter test n l)
-  where
-    by : (b : Bool) → same_text (folded p.1) n ≡ b → cond b (Some p) (property_named l n) ≡ None → (c : Bool) → (property_named l n ≡ None → property_named (filter test l) n ≡ None) → property_named (cond c (p ∷ filter test l) (filter test l)) n ≡ None
-    by b f g c r = grind arith
+none_of_filter test n (p ∷ l) e = grind (arith, none_of_filter test n l, same_text)
 
 named_in_filter : (test : Property → Bool) (n : Name) (l : List Property) → NamesDiffer l → property_named (filter test l) n ≡ kept_pair test (property_named l n)
 unfolding IsDistinct
@@ -87,13 +71,7 @@ module _ (w : World) (wf : IsWellFormed w) (x : ObjNo) (name : Name) where
   names_now y = grind arith
 
   turned : (a b : ObjNo) → same_object a b ≡ same_object b a
-  turned a b = by (same_object a b) refl (same_object b a) refl
-    where
-      by : (c : Bool) → same_object a b ≡ c → (d : Bool) → same_object b a ≡ d → c ≡ d
-      by true e true f = refl
-      by false e false f = refl
-      by true e false f = absurd (both_ways (same_object b a) f ((same_object-Decides b a).1 (sym ((same_object-Decides a b).0 e))))
-      by false e true f = absurd (both_ways (same_object a b) e ((same_object-Decides a b).1 (sym ((same_object-Decides b a).0 f))))
+  turned a b = grind (arith, same_object-Decides)
 
   defined_now : (y : ObjNo) → defined_by s y ≡ filter stays (defined_by w y)
   defined_now y = ap (map {B = Property} (λ n. (y, n))) (names_now y) ∙ by (same_object x y) refl (property_names_of w y)
@@ -101,15 +79,8 @@ module _ (w : World) (wf : IsWellFormed w) (x : ObjNo) (name : Name) where
       by : (b : Bool) → same_object x y ≡ b → (l : List Name) → map {B = Property} (λ n. (y, n)) (if b then filter (λ m. not (same_text (folded m) (folded name))) l else l) ≡ filter stays (map {B = Property} (λ n. (y, n)) l)
       by true e [] = refl
       by false e [] = refl
-      by true e (n ∷ l) =
-          one (same_text (folded n) (folded name)) (by true e l)
-          ∙ ap (λ b. cond (not (b && same_text (folded n) (folded name))) ((y, n) ∷ filter stays (map {B = Property} (λ n. (y, n)) l)) (filter stays (map {B = Property} (λ n. (y, n)) l))) (sym (sym (turned x y) ∙ e))
-        where
-          one : (c : Bool) → map {B = Property} (λ n. (y, n)) (filter (λ m. not (same_text (folded m) (folded name))) l) ≡ filter stays (map {B = Property} (λ n. (y, n)) l) → map {B = Property} (λ n. (y, n)) (cond (not c) (n ∷ filter (λ m. not (same_text (folded m) (folded name))) l) (filter (λ m. not (same_text (folded m) (folded name))) l)) ≡ cond (not c) ((y, n) ∷ filter stays (map {B = Property} (λ n. (y, n)) l)) (filter stays (map {B = Property} (λ n. (y, n)) l))
-          one c r = grind arith
-      by false e (n ∷ l) =
-          ap (λ k. (y, n) ∷ k) (by false e l)
-          ∙ ap (λ b. cond (not (b && same_text (folded n) (folded name))) ((y, n) ∷ filter stays (map {B = Property} (λ n. (y, n)) l)) (filter stays (map {B = Property} (λ n. (y, n)) l))) (sym (sym (turned x y) ∙ e))
+      by true e (n ∷ l) = grind (arith, by true e l, same_text, turned)
+      by false e (n ∷ l) = grind (arith, by false e l, same_text, turned)
 
   owed_now : (l : List ObjNo) → defined_by_any s l ≡ filter stays (defined_by_any w l)
   owed_now [] = refl
@@ -126,10 +97,7 @@ module _ (w : World) (wf : IsWellFormed w) (x : ObjNo) (name : Name) where
     where
       each : (l : List Name) → list_all is_property_name l ≡ true → list_all is_property_name (fewer l) ≡ true
       each [] h = h
-      each (n ∷ l) h = one (not (same_text (folded n) (folded name))) (and_parts (is_property_name n) (list_all is_property_name l) h) (each l)
-        where
-          one : (c : Bool) → (is_property_name n ≡ true) × (list_all is_property_name l ≡ true) → (list_all is_property_name l ≡ true → list_all is_property_name (fewer l) ≡ true) → list_all is_property_name (cond c (n ∷ fewer l) (fewer l)) ≡ true
-          one c k r = grind arith
+      each (n ∷ l) h = grind (arith, each l, same_text, and_parts)
 
       by : (b : Bool) → list_all is_property_name (if b then fewer (property_names_of w y) else property_names_of w y) ≡ true
       by true = each (property_names_of w y) (names_fit w wf.limits y)
@@ -161,23 +129,4 @@ module _ (w : World) (wf : IsWellFormed w) (x : ObjNo) (name : Name) where
       ∙ by (property_named (defined_by_any w (chain w y)) n) refl (slot_of w y n) refl (wf.slots y (chain w y) n o (Chain-chain w wf.tree y o))
     where
       by : (a : Option Property) → property_named (defined_by_any w (chain w y)) n ≡ a → (b : Option Slot) → slot_of w y n ≡ b → option_map (λ k. k.definer) (slot_of w y n) ≡ option_map (λ p. p.0) (property_named (defined_by_any w (chain w y)) n) → slot_for w s nothing y n (kept_pair stays a) ≡ kept_slot n b
-      by None e None f h = refl
-      by None e (Some z) f h = absurd (none-some z.definer (sym (sym (ap (option_map (λ (k : Slot). k.definer)) f) ∙ h ∙ ap (option_map (λ (p : Property). p.0)) e)))
-      by (Some p) e None f h = absurd (none-some p.0 (sym (ap (option_map (λ (k : Slot). k.definer)) f) ∙ h ∙ ap (option_map (λ (p : Property). p.0)) e))
-      by (Some p) e (Some z) f h = tested (same_object p.0 x && same_text (folded p.1) (folded name)) refl
-        where
-          mine : z.definer ≡ p.0
-          mine = same_Some z.definer p.0 (sym (ap (option_map (λ (k : Slot). k.definer)) f) ∙ h ∙ ap (option_map (λ (p : Property). p.0)) e)
-
-          called : folded p.1 ≡ n
-          called = named_so (defined_by_any w (chain w y)) n p e
-
-          alike : (same_object z.definer x && same_text n (folded name)) ≡ (same_object p.0 x && same_text (folded p.1) (folded name))
-          alike = λ i. same_object (mine i) x && same_text (sym called i) (folded name)
-
-          tested : (c : Bool) → (same_object p.0 x && same_text (folded p.1) (folded name)) ≡ c → slot_for w s nothing y n (if not (same_object p.0 x && same_text (folded p.1) (folded name)) then Some p else None) ≡ (if same_object z.definer x && same_text n (folded name) then None else Some z)
-          tested true g = ap (λ b. slot_for w s nothing y n (if not b then Some p else None)) g ∙ sym (ap (λ b. if b then None else Some z) (alike ∙ g))
-          tested false g =
-              ap (λ b. slot_for w s nothing y n (if not b then Some p else None)) g
-              ∙ ap (λ b. if b then slot_of w y n else option_map (fresh (owner_of s y)) (slot_of w nothing n)) (named_owed w (chain w y) n p e)
-              ∙ f ∙ sym (ap (λ b. if b then None else Some z) (alike ∙ g))
+      by a e b f h = grind (arith, same_text, named_so, fresh, named_owed)

@@ -1,5 +1,5 @@
 -- Nobody's ownership changes by a field, a quota, or a property that is added or has another name.
-use Rattle.moo_world.{proofs.Lemmas.{arith, ◌≡◌, Bool, true, false, List, [], ◌∷◌, ◌++◌, map, refl, sym, ◌∙◌, ap, Option, Some, None, ℤ, pos, negsuc, ◌+ℤ◌, ◌&&◌, if◌then◌else◌, option_map, option_and_then, none-some, same_Some, ObjNo, Int, Bits, SlotState, Set, Change, clashes, property_added, property_renamed, info_set, changed, field_changed, Name, Property, nothing, same_object, same_text, folded, is_among, same_text-Decides, KeepsOwnership, name_changed, quota_name, quota_of, quota_changed, set_slot, charged, quota_returned, World, WorldObject, Slot, IsWellFormed, is_object, chain, slot_of, fresh, object_changed, same_links, rank, face, faced, on_record, on_slot, unchanged, slotted, Chain-chain}, proofs.Inheritance.Insertion.{none_owed}, proofs.Ownership.Created.{chains_same}, proofs.Ownership.Kept.{after}}
+use Rattle.moo_world.{proofs.Lemmas.{arith, ◌≡◌, Bool, true, false, List, map, refl, sym, ◌∙◌, ap, Option, Some, None, ℤ, ◌&&◌, if◌then◌else◌, option_map, option_and_then, none-some, same_Some, ObjNo, Bits, Change, clashes, property_added, property_renamed, info_set, changed, field_changed, Name, Property, same_object, same_text, folded, is_among, same_text-Decides, KeepsOwnership, name_changed, quota_changed, charged, quota_returned, World, WorldObject, Slot, IsWellFormed, is_object, chain, slot_of, fresh, same_links, rank, face, faced, on_record, on_slot, unchanged, slotted, Chain-chain}, proofs.Inheritance.Insertion.{none_owed}, proofs.Ownership.Created.{chains_same}, proofs.Ownership.Kept.{after}}
 use Rattle.moo_world.specs.declared.change.Change.TheVariants as to
 
 -- no field that says who owns or may what is changed
@@ -23,28 +23,13 @@ module _ (w : World) (p : ObjNo) where
   -- ---- quotas
 
   pub by_quota : (v : World) (o : ObjNo) (more : ℤ) → KeepsOwnership w v p (λ y n. n) → KeepsOwnership w (quota_changed v o more) p (λ y n. n)
-  by_quota v o more k = by (quota_of v o)
-    where
-      kept : (state : SlotState) (b : Bool) (s : Option Slot) → option_map face (if b then option_map (λ (z : Slot). record z { state = state }) s else s) ≡ option_map face s
-      kept state b s = grind arith
-
-      by : (q : Option ℤ) → KeepsOwnership w (elim q [ None ↦ v | Some had ↦ object_changed v o (set_slot quota_name (Set (Int (had +ℤ more)))) ]) p (λ y n. n)
-      by None = k
-      by (Some had) = on_record w p v o (set_slot quota_name (Set (Int (had +ℤ more)))) (λ r. refl) (λ r n e. kept (Set (Int (had +ℤ more))) (same_text quota_name n) (r.slot n)) k
+  by_quota v o more k = grind (arith, on_record, same_text)
 
   pub by_charge : (v : World) (o : ObjNo) → KeepsOwnership w v p (λ y n. n) → KeepsOwnership w (charged v o) p (λ y n. n)
-  by_charge v o k = by (same_object nothing o)
-    where
-      by : (b : Bool) → KeepsOwnership w (if b then v else quota_changed v o (negsuc 0)) p (λ y n. n)
-      by true = k
-      by false = by_quota v o (negsuc 0) k
+  by_charge v o k = grind (arith, by_quota)
 
   pub by_return : (v : World) (o : ObjNo) → KeepsOwnership w v p (λ y n. n) → KeepsOwnership w (quota_returned v o) p (λ y n. n)
-  by_return v o k = by _
-    where
-      by : (b : Bool) → KeepsOwnership w (if b then quota_changed v o (pos 1) else v) p (λ y n. n)
-      by false = k
-      by true = by_quota v o (pos 1) k
+  by_return v o k = grind (arith, by_quota)
 
   -- ---- properties
 
@@ -66,20 +51,7 @@ module _ (w : World) (p : ObjNo) where
     by_defining s = after w p w (property_added w x name s) (λ y n. n) (λ y n. n) (λ y. ranks_still _ _ (w.object y)) faces (unchanged w p)
       where
         faces : (y : ObjNo) (n : Name) (a : Slot) → slot_of w y n ≡ Some a → faced (property_added w x name s) y n ≡ faced w y n
-        faces y n a e = by (w.object y) refl
-          where
-            test : (r : WorldObject) → slot_of w y n ≡ r.slot n → (under : Bool) → is_among x (chain w y) ≡ under → (b : Bool) → same_text (folded name) n ≡ b
-                → option_map face (if under then (if b then Some (if same_object x y then s else fresh r.row.owner s) else r.slot n) else r.slot n) ≡ option_map face (r.slot n)
-            test r f false u b g = refl
-            test r f true u false g = refl
-            test r f true u true g = absurd (unnamed y a u (ap (slot_of w y) ((same_text-Decides (folded name) n).0 g) ∙ e))
-
-            by : (o : Option WorldObject) → w.object y ≡ o → option_map face (option_and_then (λ (r : WorldObject). r.slot n) (option_map (λ (r : WorldObject). record r {
-              defines = if same_object x y then r.defines ++ name ∷ [] else r.defines;
-              slot = λ m. if is_among x (chain w y) then (if same_text (folded name) m then Some (if same_object x y then s else fresh r.row.owner s) else r.slot m) else r.slot m;
-            }) o)) ≡ option_map face (option_and_then (λ (r : WorldObject). r.slot n) o)
-            by None f = refl
-            by (Some r) f = test r (ap (option_and_then (λ (k : WorldObject). k.slot n)) f) (is_among x (chain w y)) refl (same_text (folded name) n) refl
+        faces y n a e = grind (arith, same_text, fresh, unnamed, same_text-Decides)
 
     -- a new name for a property of x, once its slot has been changed
     pub by_renaming : (old : Name) (owner : ObjNo) (bits : Bits) → KeepsOwnership w (info_set w x old owner bits) p (λ y n. n) → KeepsOwnership w (property_renamed (info_set w x old owner bits) x old name) p (name_changed w x old name)

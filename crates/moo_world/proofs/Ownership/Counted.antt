@@ -1,5 +1,5 @@
 -- What quotas count.
-use Rattle.moo_world.{proofs.Lemmas.{arith, ◌≡◌, true, false, ◌||◌, refl, sym, ◌∙◌, ap, subst, inl, inr, Some, ℤ, pos, negsuc, ◌+ℤ◌, int_lt, unwrap_or, if◌then◌else◌, option_map, both_ways, or_cases, ObjNo, Value, Obj, create, recycle, next_object, owner_or_self, created, nothing, same_object, CreateTakesOne, RecycleGivesOne, quota_name, quota_in, quota_of, quota_changed, quota_returned, charged, recycled, may_be_parent, World, IsWellFormed, is_object, owner_of, known_numbered, of_done}, proofs.Form.Passing.{each_check}, proofs.Ownership.Created.{free, formed, objects_now, owner_new, owner_old, read_old}, proofs.Ownership.Quotas.{quota_read, objects_stay, owners_stay}, proofs.Inheritance.Recycling.{IsWellFormed-recycled}}
+use Rattle.moo_world.{proofs.Lemmas.{arith, ◌≡◌, true, false, ◌||◌, refl, sym, ◌∙◌, ap, subst, inl, inr, Some, ℤ, pos, negsuc, ◌+ℤ◌, if◌then◌else◌, both_ways, or_cases, ObjNo, Value, Obj, create, recycle, next_object, owner_or_self, created, nothing, same_object, CreateTakesOne, RecycleGivesOne, quota_name, quota_in, quota_of, quota_changed, quota_returned, charged, recycled, may_be_parent, World, IsWellFormed, is_object, owner_of, known_numbered, of_done}, proofs.Form.Passing.{each_check}, proofs.Ownership.Created.{free, formed, objects_now, owner_new, owner_old, read_old}, proofs.Ownership.Quotas.{quota_read, objects_stay, owners_stay}, proofs.Inheritance.Recycling.{IsWellFormed-recycled}}
 
 -- a parent that is allowed is an object or nothing
 pub parent_known : (w : World) (p q : ObjNo) → may_be_parent w p q ≡ true → (is_object w q || same_object nothing q) ≡ true
@@ -45,6 +45,4 @@ recycle_gives_one w next p x v k wf h had small =
     of_done (λ _ left. quota_of left (owner_of w x) ≡ Some (k +ℤ pos 1)) (recycle w p x) v next (search (each_check, given_back) depth 12) h
   where
     given_back : is_object w x ≡ true → quota_of (quota_returned (recycled w x) (owner_of w x)) (owner_of w x) ≡ Some (k +ℤ pos 1)
-    given_back xo =
-        ap (λ b. quota_of (if b then quota_changed (recycled w x) (owner_of w x) (pos 1) else recycled w x) (owner_of w x)) (ap (λ o. unwrap_or (option_map (λ n. int_lt n (pos 9223372036854775807)) o) false) had ∙ small)
-        ∙ quota_read (recycled w x) (IsWellFormed-recycled w x wf xo).tree (owner_of w x) k (pos 1) had
+    given_back xo = grind (arith, quota_read, IsWellFormed-recycled)

@@ -1,5 +1,5 @@
 -- What stays of a world, and what is new, when an object is made.
-use Rattle.moo_world.{proofs.Lemmas.{◌≡◌, Bool, true, false, ◌||◌, List, [], ◌∷◌, refl, sym, ◌∙◌, ap, ◌⊎◌, inl, inr, Option, Some, None, pos, arith, ◌+ℤ◌, ◌<ℤ◌, is_some, unwrap_or, if◌then◌else◌, option_map, or_cases, none-some, ObjNo, is_number, plain_object, next_object, object_added, created, Name, Property, nothing, same_object, same_object-Decides, World, WorldObject, Slot, IsWellFormed, SameButSlots, Chain, is_object, owner_of, chain, climb, numbers_to, slot_of, defined_by_any, property_named, slot_for, fresh, read_in, read_along, read_of, named_owed, SameButSlots-rebuilt, objects_same, owners_same, parents_same, slot_of-rebuilt, Chain-chain, linked}, proofs.Inheritance.Creating.{IsWellFormed-created, chain_other, owed_still}}
+use Rattle.moo_world.{proofs.Lemmas.{◌≡◌, Bool, true, false, ◌||◌, List, [], ◌∷◌, refl, sym, ◌∙◌, ap, ◌⊎◌, inl, inr, Option, Some, None, pos, arith, ◌+ℤ◌, ◌<ℤ◌, is_some, unwrap_or, if◌then◌else◌, option_map, or_cases, ObjNo, is_number, plain_object, next_object, object_added, created, Name, Property, nothing, same_object, same_object-Decides, World, WorldObject, Slot, IsWellFormed, SameButSlots, Chain, is_object, owner_of, chain, climb, numbers_to, slot_of, defined_by_any, property_named, slot_for, fresh, read_along, read_of, named_owed, SameButSlots-rebuilt, objects_same, owners_same, parents_same, slot_of-rebuilt, Chain-chain, linked}, proofs.Inheritance.Creating.{IsWellFormed-created, chain_other, owed_still}}
 
 -- worlds that differ in slots alone have the same chains
 pub chains_same : (a b : World) → SameButSlots a b → (y : ObjNo) → chain a y ≡ chain b y
@@ -45,11 +45,7 @@ module _ (w : World) (x q owner : ObjNo) (wf : IsWellFormed w) (is_next : next_o
       ∙ ap (λ b. unwrap_or (option_map (λ (r : WorldObject). r.row.owner) (if b then Some (plain_object q owner) else w.object x)) nothing) ((same_object-Decides x x).1 refl)
 
   not_new : (y : ObjNo) → is_object w y ≡ true → same_object x y ≡ false
-  not_new y o = by (same_object x y) refl
-    where
-      by : (b : Bool) → same_object x y ≡ b → b ≡ false
-      by false e = refl
-      by true e = absurd (none-some true (ap (λ b. if b then Some true else None) (sym free ∙ ap (is_object w) ((same_object-Decides x y).0 e) ∙ o)))
+  not_new y o = grind (arith, free, same_object-Decides)
 
   pub record_old : (y : ObjNo) → is_object w y ≡ true → s.object y ≡ w.object y
   record_old y o = ap (λ b. if b then Some (plain_object q owner) else w.object y) (not_new y o)
@@ -76,9 +72,7 @@ module _ (w : World) (x q owner : ObjNo) (wf : IsWellFormed w) (is_next : next_o
 
   read_on : (n : Name) (l : List ObjNo) (y : ObjNo) → Chain w y l → read_along (created w x q owner) n l ≡ read_along w n l
   read_on n [] y c = refl
-  read_on n (z ∷ l) y c =
-      let o : is_object w z ≡ true = ap (is_object w) (sym c.0) ∙ linked (w.object y) (λ r. r.row.parent) c.1 c.2 in
-      λ i. read_in (slot_old z n o i) (read_on n l c.1 c.3 i)
+  read_on n (z ∷ l) y c = grind (arith, read_on n l c.1 c.3, linked, slot_old)
 
   pub read_old : (y : ObjNo) (n : Name) → is_object w y ≡ true → read_of (created w x q owner) y n ≡ read_of w y n
   read_old y n o =

@@ -1,5 +1,5 @@
 -- What a change of the world has to keep for nobody's ownership to change.
-use Rattle.moo_world.proofs.Words.{arith, ◌≡◌, Bool, true, false, refl, sym, ◌∙◌, ap, Option, Some, None, is_some, unwrap_or, if◌then◌else◌, option_map, option_and_then, same_Some, ObjNo, ObjRow, Name, nothing, same_object, same_text, folded, same_object-Decides, same_text-Decides, with_slot_of, SameRights, KeepsOwnership, World, WorldObject, Slot, is_object, slot_of, object_changed, rebuilt}
+use Rattle.moo_world.proofs.Words.{arith, ◌≡◌, Bool, true, false, refl, sym, ◌∙◌, ap, Option, Some, unwrap_or, option_map, same_Some, ObjNo, ObjRow, Name, nothing, same_text, folded, same_object-Decides, same_text-Decides, with_slot_of, SameRights, KeepsOwnership, World, WorldObject, Slot, is_object, slot_of, object_changed, rebuilt}
 
 -- whose an object is and what its bits let it do
 abbrev pub rank : WorldObject → ObjNo × Bool × Bool × Bool
@@ -24,14 +24,8 @@ owner_in o = unwrap_or (option_map (λ (r : WorldObject). r.row.owner) o) nothin
 rights_in : (a b : Option WorldObject) → option_map rank a ≡ option_map rank b → (owner_in a ≡ owner_in b) × (passes (λ r. r.player) a ≡ passes (λ r. r.player) b) × (passes (λ r. r.programmer) a ≡ passes (λ r. r.programmer) b) × (passes (λ r. r.wizard) a ≡ passes (λ r. r.wizard) b)
 rights_in a b e = grind arith
 
-pub some_in : (a b : Option WorldObject) → option_map rank a ≡ option_map rank b → is_some a ≡ is_some b
-some_in a b e = grind arith
-
 pub rights_from : (w next : World) (y : ObjNo) → ranked next y ≡ ranked w y → SameRights w next y
 rights_from w next y e = rights_in (next.object y) (w.object y) e
-
-same_face : (a b : Option Slot) (t : Slot) → option_map face a ≡ option_map face b → a ≡ Some t → (u : Slot) × (b ≡ Some u) × (face t ≡ face u)
-same_face a b t e h = grind arith
 
 -- what has a slot is an object
 pub slotted : (w : World) (y : ObjNo) (n : Name) (s : Slot) → slot_of w y n ≡ Some s → is_object w y ≡ true
@@ -59,21 +53,8 @@ module _ (w : World) (p : ObjNo) where
 
   -- a change of one record
   pub on_record : (v : World) (x : ObjNo) (change : WorldObject → WorldObject) → ((r : WorldObject) → rank (change r) ≡ rank r) → ((r : WorldObject) (n : Name) → v.object x ≡ Some r → option_map face ((change r).slot n) ≡ option_map face (r.slot n)) → KeepsOwnership w v p (λ y n. n) → KeepsOwnership w (object_changed v x change) p (λ y n. n)
-  on_record v x change ranks faces k = after v (object_changed v x change) (λ y n. n) (λ y n. n) (λ y. of_rank (same_object x y) (v.object y)) (λ y n s e. of_face y n (same_object x y) refl (v.object y) refl) k
-    where
-      of_rank : (b : Bool) (o : Option WorldObject) → option_map rank (option_map (λ (r : WorldObject). if b then change r else r) o) ≡ option_map rank o
-      of_rank b o = grind arith
-
-      of_face : (y : ObjNo) (n : Name) (b : Bool) → same_object x y ≡ b → (o : Option WorldObject) → v.object y ≡ o → option_map face (option_and_then (λ (r : WorldObject). r.slot n) (option_map (λ (r : WorldObject). if b then change r else r) o)) ≡ option_map face (option_and_then (λ (r : WorldObject). r.slot n) o)
-      of_face y n b e None f = refl
-      of_face y n false e (Some r) f = refl
-      of_face y n true e (Some r) f = faces r n (ap v.object ((same_object-Decides x y).0 e) ∙ f)
+  on_record v x change ranks faces k = grind (arith, after, same_object-Decides)
 
   -- a change of one slot that keeps its owner
   pub on_slot : (v : World) (x : ObjNo) (m : Name) (change : Slot → Slot) → ((s : Slot) → slot_of v x (folded m) ≡ Some s → face (change s) ≡ face s) → KeepsOwnership w v p (λ y n. n) → KeepsOwnership w (with_slot_of v x m change) p (λ y n. n)
-  on_slot v x m change keeps k = on_record v x (λ r. record r { slot = λ n. if same_text (folded m) n then option_map change (r.slot n) else r.slot n }) (λ r. refl) (λ r n e. by r n e (same_text (folded m) n) refl (r.slot n) refl) k
-    where
-      by : (r : WorldObject) (n : Name) → v.object x ≡ Some r → (b : Bool) → same_text (folded m) n ≡ b → (o : Option Slot) → r.slot n ≡ o → option_map face (if b then option_map change o else o) ≡ option_map face o
-      by r n e false f o g = refl
-      by r n e true f None g = refl
-      by r n e true f (Some s) g = ap Some (keeps s (ap (option_and_then (λ (z : WorldObject). z.slot (folded m))) e ∙ ap r.slot ((same_text-Decides (folded m) n).0 f) ∙ g))
+  on_slot v x m change keeps k = grind (arith, on_record, same_text, same_text-Decides)

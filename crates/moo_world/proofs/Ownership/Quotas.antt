@@ -1,5 +1,5 @@
 -- What a quota reads as after it is moved, and what stays.
-use Rattle.moo_world.proofs.Lemmas.{arith, ◌≡◌, refl, sym, ◌∙◌, ap, Option, Some, None, ℤ, ◌+ℤ◌, is_some, if◌then◌else◌, option_map, option_and_then, none-some, ObjNo, Int, SlotState, Set, same_object, same_object-Decides, same_text-Decides, quota_name, quota_in, quota_of, quota_changed, set_slot, World, WorldObject, Slot, IsTree, is_object, owner_of, parent_of, chain, climb, numbers_to, read_in, read_along, read_of, slot_of, object_changed, chain-step, chain_of_none}
+use Rattle.moo_world.proofs.Lemmas.{arith, ◌≡◌, refl, sym, ◌∙◌, ap, Option, Some, None, ℤ, ◌+ℤ◌, is_some, if◌then◌else◌, option_and_then, none-some, ObjNo, Int, SlotState, Set, same_object, same_object-Decides, same_text-Decides, quota_name, quota_in, quota_of, quota_changed, set_slot, World, WorldObject, Slot, IsTree, is_object, owner_of, parent_of, chain, climb, numbers_to, read_in, read_along, read_of, slot_of, object_changed, chain-step, chain_of_none}
 
 module _ (w : World) (o : ObjNo) (state : SlotState) where
   abbrev v : World
@@ -16,11 +16,7 @@ module _ (w : World) (o : ObjNo) (state : SlotState) where
   same_chain y = λ i. climb (numbers_to w.top) (parents i) y
 
   slot_here : (r : WorldObject) (s : Slot) → w.object o ≡ Some r → r.slot quota_name ≡ Some s → slot_of v o quota_name ≡ Some (record s { state = state })
-  slot_here r s e f =
-      ap (λ k. option_and_then (λ (z : WorldObject). z.slot quota_name) (option_map (put o) k)) e
-      ∙ ap (λ b. (if b then set_slot quota_name state r else r).slot quota_name) ((same_object-Decides o o).1 refl)
-      ∙ ap (λ b. if b then option_map (λ (z : Slot). record z { state = state }) (r.slot quota_name) else r.slot quota_name) ((same_text-Decides quota_name quota_name).1 refl)
-      ∙ ap (option_map (λ (z : Slot). record z { state = state })) f
+  slot_here r s e f = grind (arith, same_object-Decides, same_text-Decides)
 
 -- where a quota is read, it is read as what it is moved to
 pub quota_read : (w : World) → IsTree w → (o : ObjNo) (had more : ℤ) → quota_of w o ≡ Some had → quota_of (quota_changed w o more) o ≡ Some (had +ℤ more)

@@ -31,8 +31,7 @@ module _ (w s : World) (q : ObjNo) (wf : IsWellFormed w) (may : MayBeRebuilt w s
   owner_kept = by (property_named (defined_by_any s (chain s y)) n) refl (sym (slot_of-rebuilt w s q y n) ∙ has)
     where
       test : (p : Property) → property_named (defined_by_any s (chain s y)) n ≡ Some p → (c : Bool) → has_property w y p ≡ c → (if c then slot_of w y n else option_map (fresh (owner_of s y)) (slot_of w q n)) ≡ Some b → b.owner ≡ a.owner
-      test p e true h g = same_owner a b (slot_of w y n) had g
-      test p e false h g = absurd (both_ways (has_property w y p) h (was_owed p e (fresh_definer (owner_of s y) p.0 (slot_of w q n) g (may.new y n p s_object e h))))
+      test p e c h g = grind (arith, same_owner, was_owed, fresh_definer, s_object)
 
       by : (o : Option Property) → property_named (defined_by_any s (chain s y)) n ≡ o → slot_for w s q y n o ≡ Some b → b.owner ≡ a.owner
       by None e g = absurd (none-some b g)

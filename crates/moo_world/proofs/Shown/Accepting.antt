@@ -24,8 +24,7 @@ module _ (w : World) where
   module _ (t : IsTree w) where
     along_list : (x : ObjNo) (list : List ObjNo) → HasList w x list → accept_along w (chain w x) ≡ Some list
     along_list x list (own {entry = r} g k) = ap (accept_along w) (chain-step w t x r g) ∙ ap (λ a. option_or a (accept_along w (chain w r.row.parent))) (accept_at x r g ∙ k)
-    along_list x list (inherited {entry = r} g k h) =
-        ap (accept_along w) (chain-step w t x r g) ∙ ap (λ a. option_or a (accept_along w (chain w r.row.parent))) (accept_at x r g ∙ k) ∙ along_list r.row.parent list h
+    along_list x list (inherited {entry = r} g k h) = grind (arith, along_list r.row.parent list h, chain-step, accept_at)
 
     list_of_chain : (x : ObjNo) (list : List ObjNo) → accept_along w (chain w x) ≡ Some list → HasList w x list
     list_of_chain x list e = by (is_object w x) refl
@@ -59,11 +58,7 @@ module _ (w : World) where
           by false k = on_list (accept_along w (chain w x)) refl (sym (ap (λ b. b || listed_by (accept_along w (chain w x))) k) ∙ e)
 
       pub to_test : (x : ObjNo) → Accepts w x thing → accepts w x thing ≡ true
-      to_test x (anything e) = ap (λ b. b || listed_by (accept_along w (chain w x))) ((same_object-Decides nothing x).1 (sym e))
-      to_test x (listed {list = list} h a) = or_true (same_object nothing x) (ap listed_by (along_list x list h) ∙ tested list a)
-        where
-          or_true : (b : Bool) {c : Bool} → c ≡ true → (b || c) ≡ true
-          or_true b e = grind arith
+      to_test x h = grind (arith, same_object-Decides, listed, along_list, tested)
 
 pub accepted : AcceptsIsTested
 accepted w x thing t there = (from_test w t thing there x, to_test w t thing there x)

@@ -32,17 +32,12 @@ module _ {K X : Type 0} (cmp : K → K → Ordering) where
       where
         weaker : (l : List (K × X)) → T (below_all cmp e.0 l) → AllByRecursion (λ k. find cmp k.0 es ≡ Some k.1) l → AllByRecursion (λ k. find cmp k.0 (e ∷ es) ≡ Some k.1) l
         weaker [] b h = tt
-        weaker (k ∷ l) b h =
-            let less : cmp e.0 k.0 ≡ Less = less_of _ (first_of _ _ b) in
-            (elsewhere cmp k.0 e es (ap is_eq (total.antisymm k.0 e.0 ∙ ap ordering_reverse less)) ∙ h.0, weaker l (second_of _ _ b) h.1)
+        weaker (k ∷ l) b h = grind (arith, weaker l, less_of, first_of, elsewhere, second_of)
 
 -- what is read of those that pass is what passes of what is read
 pub filter_map-read : {A B : Type 0} (read : A → B) (test : B → Bool) (l : List A) → filter test (map read l) ≡ map read (filter (λ a. test (read a)) l)
 filter_map-read read test [] = refl
-filter_map-read read test (x ∷ l) = by (test (read x)) (filter_map-read read test l)
-  where
-    by : (b : Bool) → filter test (map read l) ≡ map read (filter (λ a. test (read a)) l) → cond b (read x ∷ filter test (map read l)) (filter test (map read l)) ≡ map read (cond b (x ∷ filter (λ a. test (read a)) l) (filter (λ a. test (read a)) l))
-    by b r = grind arith
+filter_map-read read test (x ∷ l) = grind (arith, filter_map-read read test l)
 
 -- tests that answer alike on a list let the same pass
 pub filter_alike : {A : Type 0} (p q : A → Bool) (l : List A) → AllByRecursion (λ a. p a ≡ q a) l → filter p l ≡ filter q l

@@ -12,10 +12,7 @@ pub object_key : (x y : ObjNo) → eq_by_cmp object_cmp y x ≡ same_object x y
 object_key x y = decided_alike _ _ (x ≡ y) (let d = key-Decides object_cmp object_total object_exact y x in (λ e. sym (d.0 e), λ e. d.1 (sym e))) (same_object-Decides x y)
 
 slot_key-Decides : (x y : ObjNo) (id j : ℕ) → Decides (same_object x y && eqb id j) (◌≡◌ {A = ObjNo × PropId} (y, prop_id j) (x, prop_id id))
-slot_key-Decides x y id j = (
-  λ e. let parts = and_parts (same_object x y) (eqb id j) e in λ i. (sym ((same_object-Decides x y).0 parts.0) i, prop_id (sym (eqb-true id j parts.1) i)),
-  λ e. λ i. (same_object-Decides x y).1 (sym (ap (λ (k : ObjNo × PropId). k.0) e)) i && eq-eqb id j (sym (ap (λ (k : ObjNo × PropId). k.1.0) e)) i,
-)
+slot_key-Decides x y id j = grind (arith, and_parts, same_object-Decides, eqb-true, eq-eqb)
 
 pub slot_key : (x y : ObjNo) (id j : ℕ) → eq_by_cmp slot_cmp (y, prop_id j) (x, prop_id id) ≡ (same_object x y && eqb id j)
 slot_key x y id j = decided_alike _ _ (◌≡◌ {A = ObjNo × PropId} (y, prop_id j) (x, prop_id id)) (key-Decides slot_cmp slot_total slot_exact (y, prop_id j) (x, prop_id id)) (slot_key-Decides x y id j)

@@ -16,28 +16,12 @@ module _ {X : Type 0} (h : ℕ → Option X) where
   -- the first value is that of a number
   pub first_from : (n : ℕ) (v : X) → slice_get (filter_map h (numbers_below n)) 0 ≡ Some v → (k : ℕ) × (k < n) × (h k ≡ Some v)
   first_from zero v e = absurd (none-some v e)
-  first_from (suc n) v e =
-      elim (first_append (filter_map h (numbers_below n)) (filter_map h (n ∷ [])) v (ap (λ l. slice_get l 0) (sym (filter_map-append h (numbers_below n) (n ∷ []))) ∙ e)) [
-        | inl k ↦ let r = first_from n v k in (r.0, omega (arith, r.1), r.2)
-        | inr k ↦ (n, omega arith, from_last n v k)
-      ]
+  first_from (suc n) v e = grind (arith, first_from n v, first_append, numbers_below, filter_map-append, from_last)
 
   -- where a number has a value a test that it passes finds one
   pub any_from : (test : X → Bool) (n k : ℕ) (v : X) → k < n → h k ≡ Some v → test v ≡ true → list_any test (filter_map h (numbers_below n)) ≡ true
   any_from test zero k v l e t = absurd (omega arith)
-  any_from test (suc n) k v l e t =
-      ap (list_any test) (filter_map-append h (numbers_below n) (n ∷ [])) ∙ any-append test (filter_map h (numbers_below n)) (filter_map h (n ∷ []))
-      ∙ by (cases_eq k n) (any_from test n k v)
-    where
-      left : (a b : Bool) → a ≡ true → (a || b) ≡ true
-      left a b g = grind arith
-
-      alone : (o : Option X) → o ≡ Some v → list_any test (cons_option o []) ≡ true
-      alone o g = grind arith
-
-      by : (k ≡ n) ⊎ (k ≡ n → ⊥) → (k < n → h k ≡ Some v → test v ≡ true → list_any test (filter_map h (numbers_below n)) ≡ true) → (list_any test (filter_map h (numbers_below n)) || list_any test (filter_map h (n ∷ []))) ≡ true
-      by (inl g) r = or_right _ _ (alone (h n) (sym (ap h g) ∙ e))
-      by (inr g) r = left _ _ (r (omega arith) e t)
+  any_from test (suc n) k v l e t = grind (arith, any_from test n k v, filter_map-append, numbers_below, any-append, or_right)
 
   -- where there is no first value no number has one
   pub none_from : (n k : ℕ) → slice_get (filter_map h (numbers_below n)) 0 ≡ None → k < n → h k ≡ None

@@ -79,13 +79,7 @@ calls_stay p (call ∷ calls) old new l = stay_joined old l.1 new (call_stays (i
 
 pub petitions_stay : (p : ObjNo) (calls : List Call) (old new : Maps) → CallsLead p calls old new → PetitionsStay (state_of old) (state_of new)
 petitions_stay p [] old new e = subst (λ m. PetitionsStay (state_of old) (state_of m)) (sym e) (petitions_same (state_of old) (world_of old))
-petitions_stay p (call ∷ calls) old new l =
-    petitions_joined (state_of old) (state_of l.1) (state_of new) (petitions_kept (state_of old) (state_of l.1) p call l.0 l.2) (petitions_stay p calls l.1 new l.5)
+petitions_stay p (call ∷ calls) old new l = grind (arith, petitions_stay p calls l.1 new l.5, petitions_joined, petitions_kept)
 
 pub batches_keep_numbers : BatchesKeepNumbers
-batches_keep_numbers batch old new l =
-    let s = calls_stay batch.programmer batch.calls old l.0 l.1 in
-    let t = petitions_stay batch.programmer batch.calls old l.0 l.1 in (
-      subst (NumbersStay old) (sym l.2) (record { props = s.props; verbs = s.verbs; next_prop = s.next_prop; next_verb = s.next_verb }),
-      subst (λ m. PetitionsStay (state_of old) (state_of m)) (sym l.2) (record { same = t.same; next = t.next }),
-    )
+batches_keep_numbers batch old new l = grind (arith, calls_stay, petitions_stay)

@@ -1,5 +1,5 @@
 -- The ascending lists of objects of the world that maps show are lists of the maps' entries.
-use Rattle.moo_world.{proofs.Lemmas.{◌≡◌, ℕ, zero, suc, ◌<◌, ◌≤◌, Bool, true, false, cond, ◌||◌, T, Option, None, Some, List, [], ◌∷◌, ◌++◌, map, Less, refl, sym, ap, ◌∙◌, subst, arith, pos, append-nil, is_some, option_map, int_cmp_is, filter, filter_map, cons_option, AllByRecursion, get, get-entries, is_sorted, entries, entries_sorted, same_entries, find-append, ints, filter_map-append, ObjNo, ObjRow, Maps, object_cmp, object_exact, object_total, object_at, same_object, is_among, same_object-Decides, same_object-eq, IsTree, is_object, row_passes, numbers_to, numbers_below, look_ups, world_of, objects_of, object_key, is_among-append, is_object_seen, passes_seen, numbered, assigned}, proofs.Shown.EntriesInOrder.{all_then, sorted_then, past_each, own_entries, filter_map-read, filter_alike, all_weaker}}
+use Rattle.moo_world.{proofs.Lemmas.{◌≡◌, ℕ, zero, suc, ◌<◌, ◌≤◌, Bool, true, false, cond, ◌||◌, T, Option, None, Some, List, [], ◌∷◌, ◌++◌, map, Less, refl, sym, ap, ◌∙◌, arith, pos, append-nil, is_some, option_map, int_cmp_is, filter, filter_map, cons_option, AllByRecursion, get, get-entries, is_sorted, entries, entries_sorted, same_entries, find-append, ints, filter_map-append, ObjNo, ObjRow, Maps, object_cmp, object_exact, object_total, object_at, same_object, is_among, same_object-Decides, same_object-eq, IsTree, is_object, row_passes, numbers_to, numbers_below, look_ups, world_of, objects_of, object_key, is_among-append, is_object_seen, passes_seen, numbered, assigned}, proofs.Shown.EntriesInOrder.{all_then, sorted_then, past_each, own_entries, filter_map-read, filter_alike, all_weaker}}
 use Rattle.std.specs.FinMap.{find}
 
 pub same_object-symm : (x y : ObjNo) → same_object x y ≡ same_object y x
@@ -22,19 +22,11 @@ module _ (t : Maps) where
 
   all_below : (n m : ℕ) → n ≤ m → AllByRecursion (λ e. object_cmp e.0 (object_at m) ≡ Less) (entries_below n)
   all_below zero m h = tt
-  all_below (suc n) m h = subst (AllByRecursion (λ e. object_cmp e.0 (object_at m) ≡ Less)) (sym (one_more n)) (by (get t.objects (object_at n)) (all_below n m (omega arith)))
-    where
-      by : (o : Option ObjRow) → AllByRecursion (λ e. object_cmp e.0 (object_at m) ≡ Less) (entries_below n) → AllByRecursion (λ e. object_cmp e.0 (object_at m) ≡ Less) (entries_below n ++ cons_option (option_map (λ r. (object_at n, r)) o) [])
-      by None a = subst (AllByRecursion (λ e. object_cmp e.0 (object_at m) ≡ Less)) (sym (append-nil (entries_below n))) a
-      by (Some r) a = all_then (λ e. object_cmp e.0 (object_at m) ≡ Less) (entries_below n) (object_at n, r) a (less_number n m (omega arith))
+  all_below (suc n) m h = grind (arith, all_below n m, one_more, append-nil, all_then, less_number)
 
   sorted_below : (n : ℕ) → T (is_sorted object_cmp (entries_below n))
   sorted_below zero = tt
-  sorted_below (suc n) = subst (λ es. T (is_sorted object_cmp es)) (sym (one_more n)) (by (get t.objects (object_at n)) (sorted_below n))
-    where
-      by : (o : Option ObjRow) → T (is_sorted object_cmp (entries_below n)) → T (is_sorted object_cmp (entries_below n ++ cons_option (option_map (λ r. (object_at n, r)) o) []))
-      by None s = subst (λ es. T (is_sorted object_cmp es)) (sym (append-nil (entries_below n))) s
-      by (Some r) s = sorted_then object_cmp (entries_below n) (object_at n) r s (all_below n n (omega arith))
+  sorted_below (suc n) = grind (arith, sorted_below n, one_more, append-nil, sorted_then, all_below)
 
   abbrev objects_below : ℕ → List ObjNo
   objects_below n = map object_at (numbers_below n)
@@ -75,12 +67,7 @@ module _ (t : Maps) where
   -- their keys
   keys_listed : (l : List ℕ) → map (λ e. e.0) (filter_map entry_at l) ≡ filter (is_object (world_of t)) (map object_at l)
   keys_listed [] = refl
-  keys_listed (n ∷ l) = by (get t.objects (object_at n)) refl (keys_listed l)
-    where
-      by : (o : Option ObjRow) → get t.objects (object_at n) ≡ o → map (λ e. e.0) (filter_map entry_at l) ≡ filter (is_object (world_of t)) (map object_at l)
-          → map (λ e. e.0) (cons_option (option_map (λ r. (object_at n, r)) o) (filter_map entry_at l)) ≡ cond (is_object (world_of t) (object_at n)) (object_at n ∷ filter (is_object (world_of t)) (map object_at l)) (filter (is_object (world_of t)) (map object_at l))
-      by None e r = r ∙ ap (λ b. cond b (object_at n ∷ filter (is_object (world_of t)) (map object_at l)) (filter (is_object (world_of t)) (map object_at l))) (sym (is_object_seen (look_ups t) (object_at n) ∙ ap is_some e))
-      by (Some row) e r = ap (λ m. object_at n ∷ m) r ∙ ap (λ b. cond b (object_at n ∷ filter (is_object (world_of t)) (map object_at l)) (filter (is_object (world_of t)) (map object_at l))) (sym (is_object_seen (look_ups t) (object_at n) ∙ ap is_some e))
+  keys_listed (n ∷ l) = grind (arith, keys_listed l, is_object_seen)
 
   module _ (tree : IsTree (world_of t)) where
     abbrev size : ℕ

@@ -1,5 +1,5 @@
 -- The opening rows are sound, and their world is well formed.
-use Rattle.moo_world.proofs.Words.{◌≡◌, ◌≢◌, ℕ, pos, Bool, true, false, cond, List, [], ◌∷◌, ◌++◌, map, Option, Some, None, is_some, Equal, Ordering, refl, sym, ap, ◌∙◌, subst, arith, ◌≤ℤ◌, unwrap_or, option_map, option_and_then, list_all, IsDistinct, eq_by_cmp, is_eq, get, get-insert, get-empty, empty, ObjNo, ObjRow, object_cmp, prop_cmp, slot_cmp, verb_cmp, petition_cmp, object_total, Name, Property, nothing, World, WorldObject, Slot, IsTree, IsWellFormed, KeepsLimits, Chain, LocationChain, is_object, slot_of, property_names_of, defined_by_any, property_named, is_property_name, verb_fits, row_fits, without_slots, with_slots, NamesDiffer, PetitionsStand, IsGood, LookUps, AreSound, world_shown, look_ups, prop_id, verb_id, object_shown}
+use Rattle.moo_world.proofs.Words.{◌≡◌, ◌≢◌, ℕ, pos, Bool, true, false, cond, List, [], ◌∷◌, ◌++◌, map, Option, Some, None, is_some, Equal, Ordering, refl, sym, subst, arith, ◌≤ℤ◌, unwrap_or, option_map, option_and_then, list_all, IsDistinct, eq_by_cmp, is_eq, get, get-insert, get-empty, empty, ObjNo, ObjRow, object_cmp, petition_cmp, object_total, Name, nothing, World, WorldObject, IsTree, IsWellFormed, KeepsLimits, Chain, LocationChain, is_object, slot_of, property_names_of, defined_by_any, is_property_name, verb_fits, row_fits, without_slots, with_slots, NamesDiffer, PetitionsStand, IsGood, LookUps, AreSound, world_shown, look_ups, object_shown}
 use Rattle.moo_rows.specs.Opening.{opening_maps, system_object, root_class, first_room, wizard}
 
 abbrev no : ℕ → ObjNo
@@ -16,21 +16,10 @@ abbrev opening_look_ups : LookUps
 opening_look_ups = record { head = opening_maps.head; object = row_at; prop = λ id. None; slot = λ x id. None; verb = λ x id. None }
 
 rows_are : (x : ObjNo) → get opening_maps.objects x ≡ row_at x
-rows_are x =
-    get-insert object_total _ (no 3) wizard x
-    ∙ ap (cond (eq_by_cmp object_cmp x (no 3)) (Some wizard)) (get-insert object_total _ (no 2) first_room x
-    ∙ ap (cond (eq_by_cmp object_cmp x (no 2)) (Some first_room)) (get-insert object_total _ (no 1) root_class x
-    ∙ ap (cond (eq_by_cmp object_cmp x (no 1)) (Some root_class)) (get-insert object_total _ (no 0) system_object x
-    ∙ ap (cond (eq_by_cmp object_cmp x (no 0)) (Some system_object)) (get-empty object_cmp x))))
+rows_are x = grind (arith, get-insert, object_total, get-empty)
 
 maps_are : look_ups opening_maps ≡ opening_look_ups
-maps_are = λ i. record {
-  head = opening_maps.head;
-  object = λ x. rows_are x i;
-  prop = λ id. get-empty prop_cmp (prop_id id) i;
-  slot = λ x id. get-empty slot_cmp (x, prop_id id) i;
-  verb = λ x id. get-empty verb_cmp (x, verb_id id) i;
-}
+maps_are = grind (arith, rows_are, get-empty)
 
 false_true : false ≢ true
 false_true e = cc
@@ -115,21 +104,10 @@ unfolding IsDistinct
 none_differ = tt
 
 well_formed : IsWellFormed world
-well_formed = record {
-  tree = tree;
-  names = λ x l c. subst NamesDiffer (sym (none_owed l)) none_differ;
-  slots = λ x l n is c. ap (option_map (λ (s : Slot). s.definer)) (no_slot x n) ∙ sym (ap (λ owed. option_map (λ (p : Property). p.0) (property_named owed n)) (none_owed l));
-  set = λ x n s e d c. none_some s (sym (no_slot x n) ∙ e);
-  fit = λ x n s e. absurd (none_some s (sym (no_slot x n) ∙ e));
-  limits = limits;
-}
+well_formed = grind (arith, tree, none_owed, none_differ, no_slot, none_some, limits)
 
 no_petitions : PetitionsStand (empty {R = petition_cmp}) 1
-no_petitions = record {
-  numbered = λ id h. absurd (false_true (ap is_some (sym (get-empty petition_cmp id)) ∙ h));
-  fit = λ id row e. absurd (none_some row (sym (get-empty petition_cmp id) ∙ e));
-  counter = (omega arith, omega arith);
-}
+no_petitions = grind (arith, false_true, get-empty, none_some)
 
 pub opening-good : IsGood opening_maps
 opening-good = record { sound = subst AreSound (sym maps_are) sound; formed = subst (λ m. IsWellFormed (world_shown m)) (sym maps_are) well_formed; petitions = no_petitions }

@@ -1,54 +1,22 @@
 -- What rows say of the world that they show, and what one more row says.
-use Rattle.moo_world.proofs.Words.{◌≡◌, ◌≢◌, ℕ, zero, suc, ◌<◌, ◌+◌, Bool, true, false, eqb, [], ◌∷◌, ◌++◌, refl, sym, ◌∙◌, ap, subst, ◌⊎◌, inl, inr, Option, Some, None, arith, append-nil, add-one, ◌&&◌, is_some, unwrap_or, slice_get, if◌then◌else◌, option_map, option_and_then, filter_map, cons_option, cases_eq, eq-eqb, ne_eqb, filter_map-append, none-some, same_Some, ObjNo, ObjRow, PropRow, SlotRow, Name, same_object, same_text, folded, same_object-Decides, same_text-Decides, WorldObject, slot_of, property_names_of, object_changed, LookUps, AreSound, with_object_row, with_slot_row, numbers_below, name_on, slot_on, slot_seen, object_shown, world_shown}
+use Rattle.moo_world.proofs.Words.{◌≡◌, ◌≢◌, ℕ, zero, suc, ◌<◌, ◌+◌, Bool, true, false, eqb, [], ◌∷◌, ◌++◌, refl, sym, ◌∙◌, ap, subst, Option, Some, None, arith, append-nil, add-one, ◌&&◌, is_some, unwrap_or, slice_get, if◌then◌else◌, option_map, option_and_then, filter_map, cons_option, eq-eqb, ne_eqb, filter_map-append, ObjNo, ObjRow, PropRow, SlotRow, Name, same_object, same_text, folded, same_object-Decides, same_text-Decides, WorldObject, slot_of, property_names_of, object_changed, LookUps, AreSound, with_object_row, with_slot_row, numbers_below, name_on, slot_on, slot_seen, object_shown, world_shown}
 
 module _ {X : Type 0} (h : ℕ → Option X) where
   none_below : (n : ℕ) → ((j : ℕ) → j < n → h j ≡ None) → filter_map h (numbers_below n) ≡ []
   none_below zero none = refl
-  none_below (suc n) none =
-      filter_map-append h (numbers_below n) (n ∷ [])
-      ∙ (λ i. none_below n (λ j l. none j (omega arith)) i ++ alone (none n (omega arith)) i)
-    where
-      alone : h n ≡ None → filter_map h (n ∷ []) ≡ []
-      alone e = subst (λ o. cons_option o [] ≡ []) (sym e) refl
+  none_below (suc n) none = grind (arith, none_below n, filter_map-append, numbers_below)
 
   -- where one number alone gives a value, that is the list
   one_below : (n k : ℕ) (v : X) → k < n → h k ≡ Some v → ((j : ℕ) → j < n → j ≢ k → h j ≡ None) → filter_map h (numbers_below n) ≡ v ∷ []
   one_below zero k v l e others = absurd (omega arith)
-  one_below (suc n) k v l e others = by (cases_eq n k) (one_below n k v)
-    where
-      some_alone : h n ≡ Some v → filter_map h (n ∷ []) ≡ v ∷ []
-      some_alone g = subst (λ o. cons_option o [] ≡ v ∷ []) (sym g) refl
-
-      none_alone : h n ≡ None → filter_map h (n ∷ []) ≡ []
-      none_alone g = subst (λ o. cons_option o [] ≡ []) (sym g) refl
-
-      by : (n ≡ k) ⊎ (n ≡ k → ⊥) → (k < n → h k ≡ Some v → ((j : ℕ) → j < n → j ≢ k → h j ≡ None) → filter_map h (numbers_below n) ≡ v ∷ []) → filter_map h (numbers_below (suc n)) ≡ v ∷ []
-      by (inl g) r =
-          filter_map-append h (numbers_below n) (n ∷ [])
-          ∙ (λ i. none_below n (λ j m. others j (omega arith) (omega arith)) i ++ some_alone (ap h g ∙ e) i)
-      by (inr g) r =
-          filter_map-append h (numbers_below n) (n ∷ [])
-          ∙ (λ i. r (omega arith) e (λ j m. others j (omega arith)) i ++ none_alone (others n (omega arith) g) i)
+  one_below (suc n) k v l e others = grind (arith, one_below n k v, numbers_below, filter_map-append, none_below)
 
 module _ (m : LookUps) (sound : AreSound m) (x : ObjNo) (row : ObjRow) (here : m.object x ≡ Some row) where
   found : (id : ℕ) (p : PropRow) (k : SlotRow) → m.prop id ≡ Some p → m.slot x id ≡ Some k → slot_on m x (folded p.name) id ≡ Some (slot_seen p.definer k)
-  found id p k e f =
-      subst (λ o. option_and_then (λ (r : PropRow). if same_text (folded r.name) (folded p.name) then option_map (slot_seen r.definer) (m.slot x id) else None) o ≡ Some (slot_seen p.definer k)) (sym e)
-      (ap (λ b. if b then option_map (slot_seen p.definer) (m.slot x id) else None) ((same_text-Decides (folded p.name) (folded p.name)).1 refl) ∙ ap (option_map (slot_seen p.definer)) f)
+  found id p k e f = grind (arith, same_text, same_text-Decides)
 
   other : (id j : ℕ) (p : PropRow) → m.prop id ≡ Some p → is_some (m.slot x id) ≡ true → j ≢ id → slot_on m x (folded p.name) j ≡ None
-  other id j p e s ne = by (m.prop j) refl
-    where
-      by : (o : Option PropRow) → m.prop j ≡ o → option_and_then (λ (r : PropRow). if same_text (folded r.name) (folded p.name) then option_map (slot_seen r.definer) (m.slot x j) else None) o ≡ None
-      by None g = refl
-      by (Some r) g = test (same_text (folded r.name) (folded p.name)) refl
-        where
-          slotless : (o : Option SlotRow) → m.slot x j ≡ o → folded r.name ≡ folded p.name → option_map (slot_seen r.definer) o ≡ None
-          slotless o u v = grind arith
-
-          test : (b : Bool) → same_text (folded r.name) (folded p.name) ≡ b → (if b then option_map (slot_seen r.definer) (m.slot x j) else None) ≡ None
-          test true v = slotless (m.slot x j) refl ((same_text-Decides (folded r.name) (folded p.name)).0 v)
-          test false v = refl
+  other id j p e s ne = grind (arith, same_text, same_text-Decides)
 
   -- a slot's row is the slot of its property's name
   pub slot_shown : (id : ℕ) (p : PropRow) (k : SlotRow) → m.prop id ≡ Some p → m.slot x id ≡ Some k → slot_of (world_shown m) x (folded p.name) ≡ Some (slot_seen p.definer k)
@@ -63,10 +31,7 @@ with_prop m p = record m { head = record m.head { next_prop = m.head.next_prop +
 
 same_below : {X : Type 0} (h g : ℕ → Option X) (n : ℕ) → ((j : ℕ) → j < n → h j ≡ g j) → filter_map h (numbers_below n) ≡ filter_map g (numbers_below n)
 same_below h g zero e = refl
-same_below h g (suc n) e =
-    filter_map-append h (numbers_below n) (n ∷ [])
-    ∙ (λ i. same_below h g n (λ j l. e j (omega arith)) i ++ cons_option (e n (omega arith) i) [])
-    ∙ sym (filter_map-append g (numbers_below n) (n ∷ []))
+same_below h g (suc n) e = grind (arith, same_below h g n, filter_map-append, numbers_below)
 
 pub names_shown : (m : LookUps) (x : ObjNo) (row : ObjRow) → m.object x ≡ Some row → property_names_of (world_shown m) x ≡ filter_map (name_on m x) (numbers_below m.head.next_prop)
 unfolding world_shown
@@ -103,15 +68,7 @@ module _ (m : LookUps) (p : PropRow) where
 -- the row of an object changed and put: the world with that object's row changed
 pub world_shown-with_object_row : (m : LookUps) (x : ObjNo) (row : ObjRow) (f : ObjRow → ObjRow) → m.object x ≡ Some row → world_shown (with_object_row m x (f row)) ≡ object_changed (world_shown m) x (λ r. record r { row = f r.row })
 unfolding world_shown
-world_shown-with_object_row m x row f e = λ i. record (world_shown m) { object = λ y. at y (same_object x y) refl (m.object y) refl i }
-  where
-    at : (y : ObjNo) (b : Bool) → same_object x y ≡ b → (o : Option ObjRow) → m.object y ≡ o → option_map (object_shown m y) (if b then Some (f row) else o) ≡ option_map (λ r. if b then (record r { row = f r.row }) else r) (option_map (object_shown m y) o)
-    at y true g (Some r) h =
-        let same : row ≡ r = same_Some row r (sym e ∙ ap m.object ((same_object-Decides x y).0 g) ∙ h) in
-        ap (λ k. Some (object_shown m y (f k))) same
-    at y true g None h = absurd (none-some row (sym h ∙ ap m.object (sym ((same_object-Decides x y).0 g)) ∙ e))
-    at y false g None h = refl
-    at y false g (Some r) h = refl
+world_shown-with_object_row m x row f e = grind (arith, same_object-Decides)
 
 -- a slot put: the world with that slot of that object, where no other property of the name has a slot there
 module _ (m : LookUps) (x : ObjNo) (id : ℕ) (k : SlotRow) (p : PropRow) (there : m.prop id ≡ Some p) (low : id < m.head.next_prop) (alone : (j : ℕ) (r : PropRow) → m.prop j ≡ Some r → is_some (m.slot x j) ≡ true → folded r.name ≡ folded p.name → j ≡ id) where
@@ -130,19 +87,7 @@ module _ (m : LookUps) (x : ObjNo) (id : ℕ) (k : SlotRow) (p : PropRow) (there
 
   -- under its own name nothing else is there
   own_name : (n : Name) (j : ℕ) → same_text (folded p.name) n ≡ true → j ≢ id → slot_on put x n j ≡ None
-  own_name n j e ne = put_other x n j (apart (same_object x x)) ∙ by (m.prop j) refl
-    where
-      apart : (b : Bool) → (b && eqb id j) ≡ false
-      apart b = grind arith
-
-      by : (o : Option PropRow) → m.prop j ≡ o → option_and_then (λ (r : PropRow). if same_text (folded r.name) n then option_map (slot_seen r.definer) (m.slot x j) else None) o ≡ None
-      by None g = refl
-      by (Some r) g = test (same_text (folded r.name) n) refl (m.slot x j) refl
-        where
-          test : (b : Bool) → same_text (folded r.name) n ≡ b → (o : Option SlotRow) → m.slot x j ≡ o → (if b then option_map (slot_seen r.definer) o else None) ≡ None
-          test false v o u = refl
-          test true v None u = refl
-          test true v (Some s) u = absurd (ne (alone j r g (ap is_some u) ((same_text-Decides (folded r.name) n).0 v ∙ sym ((same_text-Decides (folded p.name) n).0 e))))
+  own_name n j e ne = grind (arith, put_other, same_text, same_text-Decides)
 
   slot_here : (n : Name) → slice_get (filter_map (slot_on put x n) (numbers_below m.head.next_prop)) 0 ≡ (if same_text (folded p.name) n then Some (slot_seen p.definer k) else slice_get (filter_map (slot_on m x n) (numbers_below m.head.next_prop)) 0)
   slot_here n = by (same_text (folded p.name) n) refl
@@ -159,9 +104,4 @@ module _ (m : LookUps) (x : ObjNo) (id : ℕ) (k : SlotRow) (p : PropRow) (there
 
   pub world_shown-with_slot_row : world_shown put ≡ object_changed (world_shown m) x (λ r. record r { slot = λ n. if same_text (folded p.name) n then Some (slot_seen p.definer k) else r.slot n })
   unfolding world_shown
-  world_shown-with_slot_row = λ i. record (world_shown m) { object = λ y. at y (same_object x y) refl (m.object y) i }
-    where
-      at : (y : ObjNo) (b : Bool) → same_object x y ≡ b → (o : Option ObjRow) → option_map (object_shown put y) o ≡ option_map (λ r. if b then (record r { slot = λ n. if same_text (folded p.name) n then Some (slot_seen p.definer k) else r.slot n }) else r) (option_map (object_shown m y) o)
-      at y b e None = refl
-      at y true e (Some row) = subst (λ z. Some (object_shown put z row) ≡ Some (record (object_shown m z row) { slot = λ n. if same_text (folded p.name) n then Some (slot_seen p.definer k) else (object_shown m z row).slot n })) ((same_object-Decides x y).0 e) (λ i. Some (record (object_shown m x row) { slot = λ n. slot_here n i }))
-      at y false e (Some row) = λ i. Some (record (object_shown m y row) { slot = λ n. slot_there y n e i })
+  world_shown-with_slot_row = grind (arith, same_text, same_object-Decides, slot_here, slot_there)

@@ -1,5 +1,5 @@
 -- The slots of the world that rows show, one by one.
-use Rattle.moo_world.{proofs.Words.{◌≡◌, ℕ, ◌<◌, Bool, true, false, Option, None, Some, refl, sym, ap, ◌∙◌, slice_get, if◌then◌else◌, option_map, option_and_then, filter_map, none-some, same_Some, ObjNo, ObjRow, PropRow, SlotRow, Name, same_text, folded, same_text-Decides, Slot, slot_of, LookUps, numbers_below, slot_on, slot_seen, object_shown, world_shown}, proofs.Shown.Numbered.{first_from, none_from}}
+use Rattle.moo_world.{proofs.Words.{arith, ◌≡◌, ℕ, ◌<◌, Bool, true, false, Option, None, Some, refl, sym, ap, ◌∙◌, slice_get, if◌then◌else◌, option_map, option_and_then, filter_map, none-some, same_Some, ObjNo, ObjRow, PropRow, SlotRow, Name, same_text, folded, same_text-Decides, Slot, slot_of, LookUps, numbers_below, slot_on, slot_seen, object_shown, world_shown}, proofs.Shown.Numbered.{first_from, none_from}}
 
 -- the property under a number, of this folded name, with its slot on y
 pub record SlotHere (m : LookUps) (y : ObjNo) (n : Name) (id : ℕ) : Type 0 where
@@ -15,10 +15,7 @@ module _ (m : LookUps) (y : ObjNo) (n : Name) where
   slots_shown row e = ap (λ o. option_and_then (λ r. r.slot n) (option_map (object_shown m y) o)) e
 
   pub slot_on-here : (id : ℕ) (h : SlotHere m y n id) → slot_on m y n id ≡ Some (slot_seen h.prop.definer h.row)
-  slot_on-here id h =
-      ap (option_and_then (λ (p : PropRow). if same_text (folded p.name) n then option_map (slot_seen p.definer) (m.slot y id) else None)) h.there
-      ∙ ap (λ b. if b then option_map (slot_seen h.prop.definer) (m.slot y id) else None) ((same_text-Decides (folded h.prop.name) n).1 h.name)
-      ∙ ap (option_map (slot_seen h.prop.definer)) h.held
+  slot_on-here id h = grind (arith, same_text, same_text-Decides)
 
   pub here-slot_on : (id : ℕ) (s : Slot) → slot_on m y n id ≡ Some s → (h : SlotHere m y n id) × (s ≡ slot_seen h.prop.definer h.row)
   here-slot_on id s e = by (m.prop id) refl e

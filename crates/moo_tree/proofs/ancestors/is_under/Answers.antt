@@ -1,4 +1,4 @@
-use Rattle.moo_tree.proofs.Words.{◌≡◌, length, sym, ap, ◌∙◌, true, false, arith, is_among, same_object, same_object-eq, is_among_here, is_among_later, chain_of_row, chain_of_no_row, look_ups}
+use Rattle.moo_tree.proofs.Words.{◌≡◌, length, sym, ap, ◌∙◌, true, arith, is_among, same_object, same_object-eq, is_among_here, is_among_later, chain_of_row, chain_of_no_row, look_ups}
 use Rattle.moo_tree.proofs.ancestors.is_under.Goals as goal
 
 pub returns-then-eq : goal.returns-then-eq
@@ -11,10 +11,7 @@ pub loop-row-smaller : goal.loop-row-smaller
 loop-row-smaller g c = omega (arith, ap length (chain_of_row (look_ups (g.R.Rows.held c.args.rows.now).maps) c.requires c.loop-row.at c.in-Some.row.now c.in-Some.ensures))
 
 pub loop-row-preserved : goal.loop-row-preserved
-loop-row-preserved g c =
-    let m = look_ups (g.R.Rows.held c.args.rows.now).maps in
-    let other : same_object c.args.ancestor c.loop-row.at ≡ false = sym (same_object-eq c.args.ancestor c.loop-row.at) ∙ sym c.if-eq.ensures in
-    is_among_later c.args.ancestor c.loop-row.at _ _ (chain_of_row m c.requires c.loop-row.at c.in-Some.row.now c.in-Some.ensures) other ∙ c.loop-row.invariant
+loop-row-preserved g c = grind (arith, same_object-eq, is_among_later, chain_of_row)
 
 pub returns : goal.returns
 returns g c = ap (is_among c.args.ancestor) (sym (chain_of_no_row (look_ups (g.R.Rows.held c.args.rows.now).maps) c.loop-row.at c.in_default.ensures)) ∙ c.loop-row.invariant

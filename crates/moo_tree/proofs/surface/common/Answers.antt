@@ -1,11 +1,8 @@
-use Rattle.moo_tree.{proofs.Words.{◌≡◌, ◌-◌, true, [], ◌∷◌, drop, length, sym, ap, ◌∙◌, subst, arith, unwrap_or, is_some, find, ancestors, nothing, is_among, same_object-eq, same_object-Decides, look_ups, world_of, is_object, chain, chain_of_row, chain_of_no_row, is_object_seen}, proofs.Climbing.{one_shorter, is_here}, proofs.Sharing.{common_of_none, cut_alike, cut_within, tail_within, among_drop, find_here, find_later, found_no_deeper, apart}}
+use Rattle.moo_tree.{proofs.Words.{◌≡◌, ◌-◌, true, ◌∷◌, drop, length, sym, ap, ◌∙◌, subst, arith, unwrap_or, is_some, ancestors, nothing, is_among, same_object-eq, same_object-Decides, look_ups, world_of, is_object, chain, chain_of_row, chain_of_no_row, is_object_seen}, proofs.Climbing.{one_shorter, is_here}, proofs.Sharing.{common_of_none, cut_alike, cut_within, tail_within, among_drop, find_here, find_later, found_no_deeper, apart}}
 use Rattle.moo_tree.proofs.surface.common.Goals as goal
 
 pub returns-in-None : goal.returns-in-None
-returns-in-None g c =
-    let m = look_ups (g.R.Rows.held c.args.rows.now).maps in
-    let w = world_of (g.R.Rows.held c.args.rows.now).maps in
-    c.nothing.ensures ∙ sym (common_of_none w c.args.x c.args.new (chain_of_no_row m c.args.x c.in-None.ensures))
+returns-in-None g c = grind (arith, common_of_none, chain_of_no_row)
 
 pub loop-row-init : goal.loop-row-init
 loop-row-init g c =
@@ -64,8 +61,4 @@ loop-row-preserved g c =
     }
 
 pub returns : goal.returns
-returns g c =
-    let m = look_ups (g.R.Rows.held c.args.rows.now).maps in
-    let w = world_of (g.R.Rows.held c.args.rows.now).maps in
-    let none : chain w c.loop-row.other ≡ [] = chain_of_no_row m c.loop-row.other c.in_default.ensures in
-    c.nothing-2.ensures ∙ ap (λ o. unwrap_or o nothing) (sym (ap (find (λ d. is_among d (ancestors w c.args.x))) none) ∙ c.loop-row.invariant.found)
+returns g c = grind (arith, chain_of_no_row)

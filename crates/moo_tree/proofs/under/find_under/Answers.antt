@@ -1,12 +1,9 @@
-use Rattle.moo_tree.{proofs.Words.{◌≡◌, ◌≢◌, suc, ◌+◌, ◌<◌, ◌≤◌, [], ◌∷◌, ◌++◌, length, drop, sym, ap, ◌∙◌, subst, rules, slice_index_or, get, insert, get-empty, from_entries, object_cmp, contents, is_among, children_of, world_of, chain}, proofs.Searching.{Search, AreAt, begun, nothing_under, step, ended, is_there, rank-smaller, deeper, rest_of, in_list, alone, a_row, among-first, no_items}}
+use Rattle.moo_tree.{proofs.Words.{arith, ◌≡◌, ◌≢◌, suc, ◌+◌, ◌<◌, ◌≤◌, [], ◌∷◌, ◌++◌, length, drop, sym, ap, ◌∙◌, subst, rules, slice_index_or, get, insert, get-empty, from_entries, object_cmp, contents, is_among, children_of, world_of, chain}, proofs.Searching.{Search, AreAt, begun, nothing_under, step, ended, is_there, rank-smaller, deeper, rest_of, in_list, alone, a_row, among-first, no_items}}
 use Rattle.std.proofs.lemmas.List.{drop_all}
 use Rattle.moo_tree.proofs.under.find_under.Goals as goal
 
 pub returns-then-not-valid : goal.returns-then-not-valid
-returns-then-not-valid g c =
-    let t = (g.R.Rows.held c.args.rows.now).maps in
-    nothing_under t c.requires c.args.x (contents object_cmp c.new-found.result)
-    (λ q. ap (λ es. get (from_entries {R = object_cmp} es) q) c.new-found.ensures.empty ∙ get-empty object_cmp q) (sym c.if-not-valid.ensures)
+returns-then-not-valid g c = grind (arith, nothing_under, from_entries, get-empty)
 
 pub loop-alloc-init : goal.loop-alloc-init
 loop-alloc-init g c =

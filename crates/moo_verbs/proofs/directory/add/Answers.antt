@@ -1,4 +1,4 @@
-use Rattle.moo_verbs.{proofs.Words.{FitsSigned, w32, rules, ◌≡◌, ◌+◌, refl, sym, ap, ◌∙◌, subst, arith, insert, ObjNo, VerbId, VerbRow, Held, wrote, world_of, Keeps, props_stay}, proofs.Changes.{added_world, added_good}}
+use Rattle.moo_verbs.{proofs.Words.{FitsSigned, w32, rules, ◌≡◌, ◌+◌, refl, sym, ap, ◌∙◌, subst, arith, insert, ObjNo, VerbId, VerbRow, Held, wrote, Keeps, props_stay}, proofs.Changes.{added_world, added_good}}
 use Rattle.moo_verbs.proofs.directory.add.Goals as goal
 use Rattle.moo_rows.specs.declared.row.Head.{Head}
 use Rattle.moo_world.{specs.Numbers.{verb_added}, proofs.Form.Limits.{verb_within}}
@@ -16,9 +16,7 @@ whole g c =
     ∙ ap (after c.args.x c.args.verb (g.R.Rows.held c.args.rows.now)) c.head-head.ensures
 
 pub returns-clause-world : goal.returns-clause-world
-returns-clause-world g c =
-    let old = (g.R.Rows.held c.args.rows.now).maps in
-    ap (λ (h : Held). world_of h.maps) (whole g c) ∙ added_world old c.requires.good c.args.x c.args.verb (record { 0 = old.head.next_verb }) refl
+returns-clause-world g c = grind (arith, added_world)
 
 pub returns-clause-kept : goal.returns-clause-kept
 returns-clause-kept g c =

@@ -1,11 +1,9 @@
-use Rattle.moo_verbs.{proofs.Words.{refl, sym, ap, ◌∙◌, subst, arith, Held, world_of, Keeps, props_stay}, proofs.Changes.{removed_world, removed_good}}
+use Rattle.moo_verbs.{proofs.Words.{refl, sym, ap, subst, arith, Held, Keeps, props_stay}, proofs.Changes.{removed_world, removed_good}}
 use Rattle.moo_verbs.proofs.directory.delete.Goals as goal
 use Rattle.moo_world.specs.Numbers.{verb_removed}
 
 pub returns-clause-world : goal.returns-clause-world
-returns-clause-world g c =
-    ap (λ (h : Held). world_of h.maps) c.in_ok-remove_verb.ensures.ok
-    ∙ removed_world (g.R.Rows.held c.args.rows.now).maps c.requires.good c.args.x c.args.id c.requires.held
+returns-clause-world g c = grind (arith, removed_world)
 
 pub returns-clause-kept : goal.returns-clause-kept
 returns-clause-kept g c =
