@@ -20,19 +20,7 @@ get_after text at n within =
 -- where a text departs from a piece, it departs from each text that has the piece there
 pub departs : (text piece : List ℕ) (at count : ℕ) → at + count ≤ length text → count < length piece → take count (drop at text) ≡ take count piece → slice_get piece count ≢ slice_get (drop at text) count
     → (rest : List ℕ) → PartAt (take at text ++ (piece ++ rest)) text (at + count)
-departs text piece at count within short shared differ rest =
-    let low : at ≤ length text = omega arith in
-    let e : length (take at text) ≡ at = length-take-le at text low in
-    record {
-      within = within;
-      same =
-          ap (λ (n : ℕ). take (n + count) (take at text ++ (piece ++ rest))) (sym e) ∙ take-append-add (take at text) (piece ++ rest) count
-          ∙ ap (λ (t : List ℕ). take at text ++ t) (take-append-le count piece rest (omega arith) ∙ sym shared)
-          ∙ sym (take-add at count text);
-      next = λ same. differ
-          (sym (ap (λ (n : ℕ). slice_get (take at text ++ (piece ++ rest)) (n + count)) (sym e) ∙ get_second (take at text) (piece ++ rest) count ∙ get_first piece rest count short)
-          ∙ same ∙ get_after text at count low);
-    }
+departs text piece at count within short shared differ rest = grind (arith, length-take-le, take-append-add, take-append-le, take-add, get_second, get_first, get_after)
 
 -- a text that goes on after all of another one departs from it there
 pub goes_on : (text : List ℕ) (at : ℕ) → at < length text → PartAt (take at text) text at
@@ -57,10 +45,7 @@ IsComparedTo before all now left = before ++ all ≡ now ++ left
 
 -- a fault at one of them is a fault at all of them
 pub fault_at : (before all now ahead piece left text shown : List ℕ) (fault new : CompareFault) → IsComparedTo before all now ahead → ahead ≡ piece ++ left → shown ≡ piece → new ≡ fault → ((rest : List ℕ) → TellsDifference (now ++ (shown ++ rest)) text fault) → (rest : List ℕ) → TellsDifference (before ++ (all ++ rest)) text new
-fault_at before all now ahead piece left text shown fault new compared is own same tells rest =
-    subst (λ (f : CompareFault). TellsDifference (before ++ (all ++ rest)) text f) (sym same) (subst (λ (t : List ℕ). TellsDifference t text fault)
-    ((λ i. now ++ (own i ++ (left ++ rest))) ∙ ap (λ (t : List ℕ). now ++ t) (sym (append_assoc piece left rest) ∙ ap (λ (t : List ℕ). t ++ rest) (sym is)) ∙ sym (append_assoc now ahead rest) ∙ ap (λ (t : List ℕ). t ++ rest) (sym compared) ∙ append_assoc before all rest)
-    (tells (left ++ rest)))
+fault_at before all now ahead piece left text shown fault new compared is own same tells rest = grind (arith, append_assoc)
 
 -- ---- the parts of a dump, of which so much is compared
 
@@ -79,5 +64,4 @@ module _ (t : Maps) (read one two three : List ℕ) (heading_read : read ≡ hea
 
 -- one piece more is compared
 pub next_compared : (before all now ahead piece left shown next : List ℕ) → IsComparedTo before all now ahead → ahead ≡ piece ++ left → shown ≡ piece → next ≡ now ++ shown → IsComparedTo before all next left
-next_compared before all now ahead piece left shown next compared is own more =
-    compared ∙ ap (λ (t : List ℕ). now ++ t) is ∙ sym (append_assoc now piece left) ∙ ap (λ (t : List ℕ). t ++ left) (ap (λ (t : List ℕ). now ++ t) (sym own) ∙ sym more)
+next_compared before all now ahead piece left shown next compared is own more = grind (arith, append_assoc)

@@ -1,5 +1,5 @@
 -- Lists joined of the lists that are made of elements.
-use Rattle.moo_dump.proofs.Words.{◌≡◌, ℕ, ◌+◌, ◌<◌, ◌≤◌, Bool, true, false, cond, List, [], ◌∷◌, ◌++◌, refl, sym, ap, ◌∙◌, append_assoc, take_all, get_or, length, take, filter, flat_map, AllByRecursion}
+use Rattle.moo_dump.proofs.Words.{arith, ◌≡◌, ℕ, ◌+◌, ◌<◌, ◌≤◌, Bool, true, false, cond, List, [], ◌∷◌, ◌++◌, refl, sym, ap, ◌∙◌, append_assoc, take_all, get_or, length, take, filter, flat_map, AllByRecursion}
 use Rattle.std.{proofs.Common.{map}, proofs.lemmas.List.{flat_map_more, take_more}, proofs.lemmas.List.Concat.{flat_map-append}}
 
 pub flat_map-map : {A B C : Type 0} (f : B → List C) (g : A → B) (l : List A) → flat_map f (map g l) ≡ flat_map (λ a. f (g a)) l
@@ -22,8 +22,7 @@ all_passing P test (x ∷ l) a = elim (test x) as (λ (b : Bool). test x ≡ b �
 
 -- a text with what is made of one element more
 pub one_more : {A : Type 0} (f : A → List ℕ) (old : List ℕ) (l : List A) (i : ℕ) (default : A) (before after : List ℕ) → i < length l → after ≡ before ++ f (get_or l i default) → before ≡ old ++ flat_map f (take i l) → after ≡ old ++ flat_map f (take (i + 1) l)
-one_more f old l i default before after within put done =
-    put ∙ (λ k. done k ++ f (get_or l i default)) ∙ flat_map_more f old (take i l) (get_or l i default) ∙ ap (λ m. old ++ flat_map f m) (sym (take_more l i default within))
+one_more f old l i default before after within put done = grind (arith, flat_map_more, take_more)
 
 -- and with what is made of all of them
 pub all_made : {A : Type 0} (f : A → List ℕ) (old : List ℕ) (l : List A) (i : ℕ) (now : List ℕ) → length l ≤ i → now ≡ old ++ flat_map f (take i l) → now ≡ old ++ flat_map f l

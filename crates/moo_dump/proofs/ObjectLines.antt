@@ -1,5 +1,5 @@
 -- The lines that are printed from the rows are those of the world.
-use Rattle.moo_dump.{proofs.Words.{◌||◌, ◌≡◌, ℕ, Bool, true, false, Option, Some, None, List, [], ◌∷◌, ◌++◌, refl, sym, ap, ◌∙◌, unwrap_or, option_map, filter, flat_map, AllByRecursion, entries, ObjNo, ObjRow, PropId, Maps, same_object, same_object-Decides, world_of, Entry, walk, verb_line, object_lines, ids_defined, property_line_of, slot_line_of, slot_lines_over, objects_text}, specs.Dump.{object_line, property_line, slot_line, owed_line, record_lines}, specs.Lines.{slot_line_by}, proofs.FlatMaps.{flat_map-map, flat_map-flat_map, flat_map-alike, all_passing}}
+use Rattle.moo_dump.{proofs.Words.{arith, ◌||◌, ◌≡◌, ℕ, Bool, true, false, Option, Some, None, List, [], ◌∷◌, ◌++◌, refl, sym, ap, ◌∙◌, unwrap_or, option_map, filter, flat_map, AllByRecursion, entries, ObjNo, ObjRow, PropId, Maps, same_object, same_object-Decides, world_of, Entry, walk, verb_line, object_lines, ids_defined, property_line_of, slot_line_of, slot_lines_over, objects_text}, specs.Dump.{object_line, property_line, slot_line, owed_line, record_lines}, specs.Lines.{slot_line_by}, proofs.FlatMaps.{flat_map-map, flat_map-flat_map, flat_map-alike, all_passing}}
 use Rattle.std.{specs.Prelude.{is_some}, specs.FinMap.{get-entries, entries_sorted, find, get}, proofs.lemmas.Bool.{or_right, false≢true}}
 use Rattle.moo_rows.{specs.declared.row.PropRow.{PropRow}, specs.declared.row.SlotRow.{SlotRow}, specs.Maps.{prop_cmp}, proofs.Orders.{prop_total}}
 use Rattle.moo_world.{specs.Objects.{Name, folded, is_among}, specs.World.{World, WorldObject, Slot, is_object, chain, property_names_of, defined_by, defined_by_any, directory_of, slot_of}, specs.Rows.{IsSound, IsGood, look_ups, world_shown, object_shown, slot_seen}, proofs.Shown.EntriesInOrder.{own_entries, all_weaker}, proofs.Shown.ObjectEntries.{objects_listed}, proofs.Shown.PairLists.{some_of}, proofs.Shown.Seen.{object_seen}}

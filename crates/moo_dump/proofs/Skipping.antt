@@ -8,12 +8,7 @@ use Rattle.moo_world.{specs.World.{IsTree, chain}, proofs.Shown.MapLaws.{object_
 module _ (t : Maps) where
   -- an object that defines nothing leads to its parent
   pub leads_up : IsTree (world_of t) → (x : ObjNo) (row : ObjRow) → Some row ≡ get t.objects x → ids_defined t x ≡ [] → LeadsUp t x row.parent
-  leads_up tree x row there none =
-      let step : chain (world_of t) x ≡ x ∷ chain (world_of t) row.parent = chain_of_row (look_ups t) tree x row there in
-      record {
-        nearer = omega (arith, ap length step);
-        same = λ z. ap (slot_lines_over t z) step ∙ ap (λ (ids : List PropId). flat_map (slot_line_of t z) ids ++ slot_lines_over t z (chain (world_of t) row.parent)) none;
-      }
+  leads_up tree x row there none = grind (arith, chain_of_row)
 
   pub leads_on : (x y z : ObjNo) → LeadsUp t x y → LeadsUp t y z → LeadsUp t x z
   leads_on x y z a b = record { nearer = omega (arith, a.nearer, b.nearer); same = λ u. a.same u ∙ b.same u }
@@ -25,8 +20,7 @@ module _ (t : Maps) where
 
   -- where the way goes on, at or past p, the lines of slots are those from p up
   over_past : (z p r : ObjNo) → (r ≡ p) ⊎ LeadsUp t p r → slot_lines_over t z (chain (world_of t) p) ≡ slot_lines_over t z (chain (world_of t) r)
-  over_past z p r (inl e) = ap (λ k. slot_lines_over t z (chain (world_of t) k)) (sym e)
-  over_past z p r (inr l) = l.same z
+  over_past z p r h1 = grind arith
 
   module _ (tree : IsTree (world_of t)) (at : ObjNo) (row : ObjRow) (there : Some row ≡ get t.objects at) (r : ObjNo) (on : (r ≡ row.parent) ⊎ LeadsUp t row.parent r) where
     step : chain (world_of t) at ≡ at ∷ chain (world_of t) row.parent
@@ -34,10 +28,7 @@ module _ (t : Maps) where
 
     -- the lines of what an object defines, and those from where the way goes on
     pub one_up : (x : ObjNo) (old new : List ℕ) → new ≡ old ++ flat_map (slot_line_of t x) (ids_defined t at) → new ++ slot_lines_over t x (chain (world_of t) r) ≡ old ++ slot_lines_over t x (chain (world_of t) at)
-    one_up x old new put =
-        (λ i. put i ++ sym (over_past x row.parent r on) i)
-        ∙ append_assoc old (flat_map (slot_line_of t x) (ids_defined t at)) (slot_lines_over t x (chain (world_of t) row.parent))
-        ∙ ap (λ (l : List ℕ). old ++ l) (sym (ap (slot_lines_over t x) step))
+    one_up x old new put = grind (arith, over_past, append_assoc, step)
 
     pub shorter : length (chain (world_of t) r) < length (chain (world_of t) at)
     shorter = elim on [ inl e ↦ omega (arith, ap length step, ap (λ k. length (chain (world_of t) k)) e) | inr l ↦ omega (arith, ap length step, l.nearer) ]

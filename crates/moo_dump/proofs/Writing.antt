@@ -1,5 +1,5 @@
 -- What is written, piece by piece.
-use Rattle.moo_dump.{proofs.Words.{◌≡◌, ℕ, ◌+◌, List, [], ◌++◌, length, take, drop, Option, refl, sym, ap, subst, ◌∙◌, append_assoc, Appends, append-nil, take-append-drop, AppendsFront, Maps, codes, dump, heading, objects_text, petitions_text, state_of, take_at}, proofs.Compared.{parts}}
+use Rattle.moo_dump.{proofs.Words.{arith, ◌≡◌, ℕ, ◌+◌, List, [], ◌++◌, length, take, drop, Option, refl, sym, ap, subst, ◌∙◌, append_assoc, Appends, append-nil, take-append-drop, AppendsFront, Maps, codes, dump, heading, objects_text, petitions_text, state_of, take_at}, proofs.Compared.{parts}}
 use Rattle.std.{specs.Prelude.{Result, Ok, Err, OnErr}, proofs.KnownBytes.{Appends-nil, Appends-trans}}
 
 -- ---- fronts of a text
@@ -18,12 +18,7 @@ front_before a b xs ys h = record { front = h.front; rest = h.rest ++ ys; whole 
 
 -- so is the first with a front of the second
 pub front_then : (a b c : Option (List ℕ)) (xs ys : List ℕ) → Appends a b xs → AppendsFront b c ys → AppendsFront a c (xs ++ ys)
-front_then a b c xs ys p h = record {
-  front = xs ++ h.front;
-  rest = h.rest;
-  whole = ap (λ (t : List ℕ). xs ++ t) h.whole ∙ sym (append_assoc xs h.front h.rest);
-  wrote = Appends-trans a b c xs h.front p h.wrote;
-}
+front_then a b c xs ys p h = grind (arith, append_assoc, Appends-trans)
 
 -- ---- a text that is written in parts
 
@@ -56,8 +51,7 @@ module _ (a b c : Option (List ℕ)) (piece left shown : List ℕ) (own : shown 
 
 -- what holds in any case holds at an error
 pub on_err : {T E P : Type 0} (r : Result T E) → P → OnErr r P
-on_err (Ok x) p = tt
-on_err (Err e) p = p
+on_err r h1 = grind arith
 
 -- ---- the parts of a dump, one after another: what is written of it at a fault in each, and at the end
 

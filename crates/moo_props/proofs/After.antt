@@ -174,9 +174,7 @@ module _ (t : Maps) (sound : IsSound t) (x q : ObjNo) (may : MayReparent (world_
     origin y id h = grind (arith, slots (y, prop_id id), some_map)
 
     slot_rows : (y : ObjNo) (id : ℕ) → Origin y id → (is_some (m.object y) ≡ true) × (is_some (m.prop id) ≡ true)
-    slot_rows y id (beside u k) = sound.slots y id k
-    slot_rows y id (old u l k) = sound.slots y id k
-    slot_rows y id (new u g k) = (sym (is_object_seen m y) ∙ object_of_chain w x y u, (sound.slots q id k).1)
+    slot_rows y id h1 = grind (arith, is_object_seen, object_of_chain)
 
     one_new : (y : ObjNo) (i j : ℕ) (p r : PropRow) → m.prop i ≡ Some p → m.prop j ≡ Some r → folded p.name ≡ folded r.name → is_among x (chain w y) ≡ true → is_defined_among coming t (prop_id i) ≡ true → is_defined_among going t (prop_id j) ≡ false → is_some (m.slot y j) ≡ true → ⊥
     one_new y i j p r e f n u g l k =
@@ -189,10 +187,4 @@ module _ (t : Maps) (sound : IsSound t) (x q : ObjNo) (may : MayReparent (world_
     one_name2 y i j p r b o e f n = grind (arith, one_new)
 
     pub sound_after : IsSound t2
-    sound_after = record {
-      props_below = sound.props_below;
-      definers = λ id p e. still_object p.definer (sound.definers id p e);
-      slots = λ y id e. let r = slot_rows y id (origin y id e) in (still_object y r.0, r.1);
-      one_name = λ y i j p r k h e f n. one_name2 y i j p r (origin y i k) (origin y j h) e f n;
-      verbs = λ y id e. let r = sound.verbs y id e in (still_object y r.0, r.1, r.2);
-    }
+    sound_after = grind (arith, still_object, slot_rows, origin, one_name2)

@@ -1,5 +1,5 @@
 -- The keys that a change touches are in order.
-use Rattle.moo_props.proofs.Words.{◌≡◌, Bool, T, List, [], ◌∷◌, ◌++◌, map, Ordering, Less, refl, sym, ap, ◌∙◌, subst, tied_itself, int_eq, ordering_then, filter, AllByRecursion, entries, is_sorted, entries_sorted, ObjNo, PropId, Maps, object_cmp, prop_cmp, slot_cmp, verb_cmp, object_total, first_of, chain, is_among, world_of, links_to, linked_among, verbs_among, AreAscending, owners_under, props_of, keys_on, keys_over, cond_both, keys_by}
+use Rattle.moo_props.proofs.Words.{arith, ◌≡◌, Bool, T, List, [], ◌∷◌, ◌++◌, map, Ordering, Less, refl, sym, ap, ◌∙◌, subst, tied_itself, int_eq, ordering_then, filter, AllByRecursion, entries, is_sorted, entries_sorted, ObjNo, PropId, Maps, object_cmp, prop_cmp, slot_cmp, verb_cmp, object_total, first_of, chain, is_among, world_of, links_to, linked_among, verbs_among, AreAscending, owners_under, props_of, keys_on, keys_over, cond_both, keys_by}
 use Rattle.std.specs.FinMap.Entries.{below_all}
 use Rattle.moo_rows.proofs.Walking.{second_of, less_of}
 use Rattle.moo_world.proofs.Inheritance.Reparenting.{all_join}
@@ -12,9 +12,7 @@ Rises cmp key (a ∷ l) = AllByRecursion (λ b. cmp (key a) (key b) ≡ Less) l 
 module _ {K X B : Type 0} (cmp : K → K → Ordering) (key : B → K) (test : K × X → Bool) (made : K × X → B) (same : (e : K × X) → key (made e) ≡ e.0) where
   above_made : (k : K) (es : List (K × X)) → T (below_all cmp k es) → AllByRecursion (λ b. cmp k (key b) ≡ Less) (map made (filter test es))
   above_made k [] h = tt
-  above_made k (e ∷ es) h =
-      let r = above_made k es (second_of _ _ h) in
-      cond_both (test e) (e ∷ filter test es) (filter test es) (λ l. AllByRecursion (λ b. cmp k (key b) ≡ Less) (map made l)) (λ c. (ap (cmp k) (same e) ∙ less_of _ (first_of _ _ h), r)) (λ c. r)
+  above_made k (e ∷ es) h = grind (arith, second_of, cond_both, less_of, first_of, above_made k es)
 
   -- what is made of sorted entries rises
   pub rises_made : (es : List (K × X)) → T (is_sorted cmp es) → Rises cmp key (map made (filter test es))

@@ -27,37 +27,22 @@ module _ (t : Maps) where
   all_lower (suc n) k l = subst (AllByRecursion (λ e. prop_cmp e.0 (prop_id k) ≡ Less)) (sym (next n)) (by (row_at n) (all_lower n k (omega arith)))
     where
       by : (o : Option PropRow) → AllByRecursion (λ e. prop_cmp e.0 (prop_id k) ≡ Less) (by_number n) → AllByRecursion (λ e. prop_cmp e.0 (prop_id k) ≡ Less) (by_number n ++ cons_option (option_map (λ p. (prop_id n, p)) o) [])
-      by None a = subst (AllByRecursion (λ e. prop_cmp e.0 (prop_id k) ≡ Less)) (sym (append-nil (by_number n))) a
-      by (Some p) a = all_then (λ e. prop_cmp e.0 (prop_id k) ≡ Less) (by_number n) (prop_id n, p) a (sym (nat_cmp_is n k Less (omega arith)))
+      by o h1 = grind (arith, append-nil, all_then, nat_cmp_is)
 
   sorted : (n : ℕ) → T (is_sorted prop_cmp (by_number n))
   sorted zero = tt
   sorted (suc n) = subst (λ es. T (is_sorted prop_cmp es)) (sym (next n)) (by (row_at n) (sorted n))
     where
       by : (o : Option PropRow) → T (is_sorted prop_cmp (by_number n)) → T (is_sorted prop_cmp (by_number n ++ cons_option (option_map (λ p. (prop_id n, p)) o) []))
-      by None s = subst (λ es. T (is_sorted prop_cmp es)) (sym (append-nil (by_number n))) s
-      by (Some p) s = sorted_then prop_cmp (by_number n) (prop_id n) p s (all_lower n n (omega arith))
+      by o h1 = grind (arith, append-nil, sorted_then, all_lower)
 
   ties : (j k : ℕ) → (eq_by_cmp prop_cmp (prop_id j) (prop_id k) ≡ true → j ≡ k) × (j ≡ k → eq_by_cmp prop_cmp (prop_id j) (prop_id k) ≡ true)
-  ties j k =
-      let d = key-Decides prop_cmp prop_total prop_exact (prop_id j) (prop_id k) in
-      (λ e. ap (λ (id : PropId). id.0) (d.0 e), λ e. d.1 (ap prop_id e))
+  ties j k = grind (arith, key-Decides, prop_total)
 
   -- what a number has is found among them where it is below
   found : (j n : ℕ) → find prop_cmp (prop_id j) (by_number n) ≡ cond (nat_lt j n) (row_at j) None
   found j zero = sym (ap (λ b. cond b (row_at j) None) (le-ltb j zero (omega arith)))
-  found j (suc n) = ap (find prop_cmp (prop_id j)) (next n) ∙ by (row_at n) refl (found j n)
-    where
-      higher : j ≢ n → cond (nat_lt j n) (row_at j) None ≡ cond (nat_lt j (suc n)) (row_at j) None
-      higher ne = grind (arith, nat_tests)
-
-      here : j ≡ n → cond (nat_lt j (suc n)) (row_at j) None ≡ row_at n
-      here e = ap (λ b. cond b (row_at j) None) (lt-ltb j (suc n) (omega arith)) ∙ ap row_at e
-
-      by : (o : Option PropRow) → row_at n ≡ o → find prop_cmp (prop_id j) (by_number n) ≡ cond (nat_lt j n) (row_at j) None
-          → find prop_cmp (prop_id j) (by_number n ++ cons_option (option_map (λ p. (prop_id n, p)) o) []) ≡ cond (nat_lt j (suc n)) (row_at j) None
-      by None g f = grind (arith, append-nil (by_number n), cases_eq j n, here, higher)
-      by (Some p) g f = grind (arith, find-append prop_cmp prop_total (by_number n) (prop_id n) p (prop_id j) (past_each prop_cmp prop_total (by_number n) (prop_id n) (all_lower n n (omega arith))), ties j n, here, higher)
+  found j (suc n) = grind (arith, next, lt-ltb, append-nil, cases_eq, find-append, prop_total, past_each, all_lower, ties, found j n)
 
   named : (x : ObjNo) (l : List ℕ) → names_among x (filter_map entry_at l) ≡ filter_map (name_on (look_ups t) x) l
   named x [] = refl

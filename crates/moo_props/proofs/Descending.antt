@@ -39,9 +39,7 @@ module _ (t : Maps) (tree : IsTree (world_of t)) where
   -- ---- one step
 
   pub linked_child : (y from c : ObjNo) → IsFirst object_cmp (is_linked t (ChildOf y)) from (Some c) → (r : ObjRow) × (get t.objects c ≡ Some r) × (r.parent ≡ y)
-  linked_child y from c h =
-      let r = passing (λ (r : ObjRow). has_link (ChildOf y) (ties_of r)) (get t.objects c) h.0 in
-      (r.0, r.1, sym ((same_object-Decides y r.0.parent).0 (sym (same_object-eq y r.0.parent) ∙ r.2)))
+  linked_child y from c h = grind (arith, passing)
 
   children_over : (y from : ObjNo) → IsFirst object_cmp (is_linked t (ChildOf y)) from None → children_past t y from ≡ []
   children_over y from h = ap (map (λ e. e.0)) (linked-end t (ChildOf y) from h)
@@ -171,9 +169,7 @@ module _ (t : Maps) (tree : IsTree (world_of t)) where
 
     -- the walk from x on
     pub top_walk : is_object w x ≡ true → from_here t x (Some x) ≡ walk_down w x
-    top_walk o =
-        ap (λ l. x ∷ (descendants w x ++ l)) at_top ∙ ap (λ l. x ∷ l) (append-nil (descendants w x))
-        ∙ sym (ap (λ b. if b then x ∷ descendants w x else []) o)
+    top_walk o = grind (arith, at_top, append-nil)
 
     -- no sibling is left
     pub upward : (c y : ObjNo) (r : ObjRow) → get t.objects c ≡ Some r → r.parent ≡ y → is_among x (chain w y) ≡ true → IsFirst object_cmp (is_linked t (ChildOf y)) c None → after_below t x y ≡ after_below t x c
@@ -181,11 +177,7 @@ module _ (t : Maps) (tree : IsTree (world_of t)) where
 
     -- the next child of y, and what comes after it
     pub onward : (y from c : ObjNo) → is_among x (chain w y) ≡ true → IsFirst object_cmp (is_linked t (ChildOf y)) from (Some c) → from_here t x (Some c) ≡ branches w (children_past t y from) ++ after_below t x y
-    onward y from c h first =
-        let k = linked_child y from c first in
-        ap (λ l. c ∷ (descendants w c ++ l)) (beside c y k.0 k.1 k.2 h)
-        ∙ sym (append_assoc (c ∷ descendants w c) (branches w (children_past t y c)) (after_below t x y))
-        ∙ ap (λ l. branches w l ++ after_below t x y) (sym (ap (map (λ e. e.0)) (linked-step t (ChildOf y) from c k.0 first k.1)))
+    onward y from c h first = grind (arith, linked_child, beside, append_assoc, linked-step)
 
     pub sideward : (c y next : ObjNo) (r : ObjRow) → get t.objects c ≡ Some r → r.parent ≡ y → is_among x (chain w y) ≡ true → IsFirst object_cmp (is_linked t (ChildOf y)) c (Some next) → from_here t x (Some next) ≡ after_below t x c
     sideward c y next r e p h first = onward y c next h first ∙ sym (beside c y r e p h)

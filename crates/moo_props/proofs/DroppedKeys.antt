@@ -32,9 +32,7 @@ module _ (t : Maps) (good : IsGood t) (x : ObjNo) (row : ObjRow) (here : get t.o
   own_slot z j u d = grind (arith, slot_on_heir, object_of_chain, same_object-Decides)
 
   listed_has : (z : ObjNo) (j : PropId) → holds slot_cmp (keys_by (ids_for x all own) (owners_under t x)) (z, j) ≡ (is_among x (chain (world_of t) z) && has_id j (ids_for x all own z))
-  listed_has z j =
-      held_by (ids_for x all own) z j (owners_under t x)
-      ∙ ap (λ b. b && has_id j (ids_for x all own z)) (under_is t x z)
+  listed_has z j = grind (arith, held_by, has_id, under_is)
 
   keys_have : (z : ObjNo) (j : PropId) → holds slot_cmp (dropped_keys t x) (z, j) ≡ (is_some (get t.slots (z, j)) && goes_with t x (z, j))
   keys_have z j =

@@ -50,10 +50,7 @@ module _ {Y : Type 0} (step : Y → Held → Held) where
   module _ {Z : Type 0} (see : Held → Z) (test : Y → Bool) (change : Z → Z) (twice : (v : Z) → change (change v) ≡ change v) where
     pub all_of_change : (P : Y → Type 0) → ((y : Y) (held : Held) → P y → see (step y held) ≡ cond (test y) (change (see held)) (see held)) → (ys : List Y) (held : Held) → AllByRecursion P ys → see (after_each step ys held) ≡ cond (list_any test ys) (change (see held)) (see held)
     all_of_change P one [] held h = refl
-    all_of_change P one (y ∷ ys) held h =
-        all_of_change P one ys (step y held) h.1
-        ∙ ap (λ v. cond (list_any test ys) (change v) v) (one y held h.0)
-        ∙ changed_or change twice (test y) (list_any test ys) (see held)
+    all_of_change P one (y ∷ ys) held h = grind (arith, changed_or, all_of_change P one ys)
 
     pub all_change : ((y : Y) (held : Held) → see (step y held) ≡ cond (test y) (change (see held)) (see held)) → (ys : List Y) (held : Held) → see (after_each step ys held) ≡ cond (list_any test ys) (change (see held)) (see held)
     all_change one ys held = all_of_change (λ y. ⊤) (λ y held h. one y held) ys held (all_any ys)

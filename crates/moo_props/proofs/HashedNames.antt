@@ -1,5 +1,5 @@
 -- Properties that are kept by the hashes of their names.
-use Rattle.moo_props.{proofs.Words.{◌≡◌, ℕ, true, false, ◌&&◌, Option, None, Some, [], Less, refl, sym, ap, ◌∙◌, both_ways, and_parts, false_from_ne_true, true≢false, is_some, unwrap_or, option_map, list_any, IsTotalOrder, tied_itself, nat_cmp_is, ordering_then, FinMap, get, some_of, ObjNo, PropId, PropRow, prop_cmp, prop_total, IsFirst, Maps, Name, folded, slot_of, chain, defined_by_any, property_named, IsGood, IsSound, look_ups, world_of, is_object_seen, prop_id, meets_on, name_of, HoldsNames, hashed_cmp, has_under_name}, proofs.Cases.{passing}, proofs.Folding.{is_id, is_id-Decides}, proofs.Walked.{Entry, walk, walk_meets, slot_here}, proofs.NameClashes.{any_defined}}
+use Rattle.moo_props.{proofs.Words.{arith, ◌≡◌, ℕ, true, false, ◌&&◌, Option, None, Some, [], Less, refl, sym, ap, ◌∙◌, both_ways, and_parts, false_from_ne_true, true≢false, is_some, unwrap_or, option_map, list_any, IsTotalOrder, tied_itself, nat_cmp_is, ordering_then, FinMap, get, some_of, ObjNo, PropId, PropRow, prop_cmp, prop_total, IsFirst, Maps, Name, folded, slot_of, chain, defined_by_any, property_named, IsGood, IsSound, look_ups, world_of, is_object_seen, prop_id, meets_on, name_of, HoldsNames, hashed_cmp, has_under_name}, proofs.Cases.{passing}, proofs.Folding.{is_id, is_id-Decides}, proofs.Walked.{Entry, walk, walk_meets, slot_here}, proofs.NameClashes.{any_defined}}
 use Rattle.std.{specs.Prelude.{⊤}, proofs.lemmas.Cmp.{on_total, then_total, nat_cmp_total}}
 use Rattle.moo_rows.{specs.Links.{is_definer}, specs.Named.{is_alike, in_lower_case, name_hash}, specs.Ordered.{IsNext}, proofs.Linking.{defined-end}, proofs.Naming.{one_hash}}
 use Rattle.moo_world.{proofs.Ownership.Kept.{slotted}, proofs.Shown.Slots.{slot_from}}
@@ -16,23 +16,17 @@ hashed-none m hash after h q past = ap is_some (h (hash, q) (ap (λ o. ordering_
 
 -- a slot is met
 pub id_met : (t : Maps) → IsSound t → (x : ObjNo) (id : PropId) → is_some (get t.slots (x, id)) ≡ true → list_any (λ (e : Entry). is_id id e.0.1) (walk t x) ≡ true
-id_met t sound x id held =
-    let s = some_of (get t.slots (x, id)) held in
-    walk_meets t sound x (λ (e : Entry). is_id id e.0.1) id s.0 s.1 ((is_id-Decides id id).1 refl)
+id_met t sound x id held = grind (arith, some_of, walk_meets, is_id, is_id-Decides)
 
 -- ---- looking a name up
 
 module _ (t : Maps) (good : IsGood t) (x : ObjNo) (n : Name) where
   parts : (q : PropId) → has_under_name t x n q ≡ true → ((p : PropRow) × (get t.props q ≡ Some p) × (is_alike p.name n ≡ true)) × (is_some (get t.slots (x, q)) ≡ true)
-  parts q h =
-      let both = and_parts (unwrap_or (option_map (λ (p : PropRow). is_alike p.name n) (get t.props q)) false) (is_some (get t.slots (x, q))) h in
-      (passing (λ (p : PropRow). is_alike p.name n) (get t.props q) both.0, both.1)
+  parts q h = grind (arith, and_parts, passing)
 
   -- what isn't kept for the hash of the name isn't one of the name
   pub hashed-covers : (names : FinMap hashed_cmp ⊤) → HoldsNames t x names → (hash : ℕ) → hash ≡ name_hash n → (q : PropId) → is_some (get names (hash, q)) ≡ false → has_under_name t x n q ≡ false
-  hashed-covers names holds hash same q lacks = false_from_ne_true (has_under_name t x n q) (λ h.
-      let p = parts q h in
-      both_ways (is_some (get names (hash, q))) lacks (ap (λ k. is_some (get names (k, q))) (same ∙ sym (one_hash p.0.0.name n p.0.2)) ∙ holds q p.0.0 p.0.1 p.1))
+  hashed-covers names holds hash same q lacks = grind (arith, false_from_ne_true, parts, both_ways, one_hash)
 
   pub one_is_named : (q : PropId) → has_under_name t x n q ≡ true → is_some (slot_of (world_of t) x (folded n)) ≡ true
   unfolding folded

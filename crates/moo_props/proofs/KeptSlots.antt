@@ -3,10 +3,7 @@ use Rattle.moo_props.{proofs.Words.{arith, ◌≡◌, ℕ, Bool, false, Option, 
 
 -- worlds with the same links whose objects have the same slots are one
 pub same_by_objects : (a b : World) → without_slots a ≡ without_slots b → ((y : ObjNo) (n : Name) → is_object a y ≡ true → slot_of a y n ≡ slot_of b y n) → a ≡ b
-same_by_objects a b links same = same_world a b links (λ y n. by y n (is_object a y) refl)
-  where
-    by : (y : ObjNo) (n : Name) (here : Bool) → is_object a y ≡ here → slot_of a y n ≡ slot_of b y n
-    by y n here e = grind (arith, same y n, no_slot (a.object y) n, no_slot (b.object y) n, objects_same a b links y)
+same_by_objects a b links same = grind (arith, same_world, no_slot, objects_same)
 
 module _ (before after : LookUps) (sound : AreSound before) (sound_after : AreSound after) (y : ObjNo) (n : Name) (there : is_some (before.object y) ≡ true) (still : is_some (after.object y) ≡ true) where
   -- if what is here passes and was here, and what was here and passes is here still

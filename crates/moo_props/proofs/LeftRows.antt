@@ -70,12 +70,7 @@ module _ (t : Maps) (good : IsGood t) (x : ObjNo) (row : ObjRow) (here : get t.o
   no_place = ap (option_map (λ (r : WorldObject). r.row.location)) (none_of ((world_of t).object nothing) (nothing_is_no_object (world_of t) good.formed.tree))
 
   unlinked : links_to x row ≡ false
-  unlinked =
-      let c = good.formed.tree.chains x xo in
-      let p = good.formed.tree.locations x xo in
-      λ i.
-      apart (parent_of (world_of t)) (no_parent (world_of t) good.formed.tree) c.0 c.1 row.parent (ap (option_map (λ (r : WorldObject). r.row.parent)) seen) i
-      || apart (location_of (world_of t)) no_place p.0 p.1 row.location (ap (option_map (λ (r : WorldObject). r.row.location)) seen) i
+  unlinked = grind (arith, xo, apart, no_parent, seen, no_place)
 
   pub relinked_there : ArePresent after.maps.objects (linked_among x (entries t.objects))
   relinked_there = all_made (λ e. find object_cmp e.0 (entries t.objects) ≡ Some e.1) (λ y. is_some (get after.maps.objects y) ≡ true) (λ e. links_to x e.1) (λ e. e.0)

@@ -40,12 +40,7 @@ module _ (m : LookUps) (sound : AreSound m) (wf : IsWellFormed (world_shown m)) 
 
   bare : without_slots (world_shown m2) ≡ without_slots (record w { object = λ y. if same_object x y then None else option_map (released x row.parent) (w.object y) })
   unfolding world_shown
-  bare = λ i. record w { object = λ y. at y (same_object x y) refl (m.object y) i }
-    where
-      at : (y : ObjNo) (b : Bool) → same_object x y ≡ b → (o : Option ObjRow)
-          → option_map (with_slots (λ n. None)) (option_map (object_shown m2 y) (if b then None else option_map (released_row x row.parent) o))
-          ≡ option_map (with_slots (λ n. None)) (if b then None else option_map (released x row.parent) (option_map (object_shown m y) o))
-      at y b e o = grind (arith, names)
+  bare = grind (arith, names)
 
   links : without_slots (world_shown m2) ≡ without_slots s
   links = bare ∙ ap (λ q. without_slots (record w { object = λ y. if same_object x y then None else option_map (released x q) (w.object y) })) (sym (ap (λ o. unwrap_or (option_map (λ (r : WorldObject). r.row.parent) o) nothing) (object_seen m x row here)))
@@ -73,13 +68,7 @@ module _ (m : LookUps) (sound : AreSound m) (wf : IsWellFormed (world_shown m)) 
   slot_was y j e = let a = left_some (same_object x y) (if is_own m x j then None else m.slot y j) e in let b = left_some (is_own m x j) (m.slot y j) a.1 in (a.0, b.0, b.1)
 
   pub sound_less : AreSound m2
-  sound_less = record {
-    props_below = λ j e. sound.props_below j (left_some (is_own m x j) (m.prop j) e).1;
-    definers = λ j p e. let k = prop_was j p e in still p.definer k.0 (sound.definers j p k.1);
-    slots = λ y j e. let k = slot_was y j e in let r = sound.slots y j k.2 in (still y k.0 r.0, ap (λ b. is_some (if b then None else m.prop j)) k.1 ∙ r.1);
-    one_name = λ y i j p r k l e f n. sound.one_name y i j p r (slot_was y i k).2 (slot_was y j l).2 (prop_was i p e).1 (prop_was j r f).1 n;
-    verbs = λ y j e. let k = left_some (same_object x y) (m.verb y j) e in let r = sound.verbs y j k.1 in (still y k.0 r.0, r.1, r.2);
-  }
+  sound_less = grind (arith, left_some, prop_was, still, slot_was)
 
   kept : (y : ObjNo) (n : Name) → same_object x y ≡ false → is_object w y ≡ true → slot_of (world_shown m2) y n ≡ unless_defined_by (x ∷ []) (slot_of w y n)
   kept y n e o =
@@ -87,7 +76,4 @@ module _ (m : LookUps) (sound : AreSound m) (wf : IsWellFormed (world_shown m)) 
       kept_slots m m2 sound sound_less y n there (still y e there) (λ s. is_among s.definer (x ∷ [])) (unless_defined_by (x ∷ [])) refl (λ s. refl) (λ j. before y n j e) (λ j. after y n j e)
 
   pub world_less : world_shown m2 ≡ recycled w x
-  world_less = same_by_objects (world_shown m2) (recycled w x) (links ∙ sym (SameButSlots-rebuilt w s nothing)) (λ y n e.
-      let left = left_some (same_object x y) (option_map (released_row x row.parent) (m.object y)) (sym (is_object_seen m2 y) ∙ e) in
-      let here = is_object_seen m y ∙ sym (some_map (released_row x row.parent) (m.object y)) ∙ left.1 in
-      kept y n left.0 here ∙ sym (recycle_law w x wf xo y n (sym (objects_same (world_shown m2) s links y) ∙ e)))
+  world_less = grind (arith, same_by_objects, links, SameButSlots-rebuilt, left_some, is_object_seen, some_map, kept, recycle_law, xo, objects_same)

@@ -15,18 +15,7 @@ keeps-moved lost os es held =
 
 pub writes-moved : (lost : ObjNo → List PropId) (os : List Origin) (ids : List PropId) → length os ≤ length ids → (es : List (ObjNo × ObjNo)) (held : Held) → (slots_moved lost os es held).writes ≤ held.writes + (length (keys_by lost es) + length (keys_over ids es))
 writes-moved lost os ids few [] held = omega arith
-writes-moved lost os ids few (e ∷ es) held =
-    omega (
-      arith,
-      few,
-      writes-moved lost os ids few es (with_fresh e.0 e.1 os (without_on e.0 (lost e.0) held)),
-      all_write (λ o. slot_put e.0 o.id (fresh_of e.1 o)) (λ o h. omega arith) os (without_on e.0 (lost e.0) held),
-      all_write (slot_removed e.0) (λ id h. omega arith) (lost e.0) held,
-      length-append (keys_on e.0 (lost e.0)) (keys_by lost es),
-      length-append (keys_on e.0 ids) (keys_over ids es),
-      length-map {B = ObjNo × PropId} (lost e.0) (λ (id : PropId). (e.0, id)),
-      length-map {B = ObjNo × PropId} ids (λ (id : PropId). (e.0, id)),
-    )
+writes-moved lost os ids few (e ∷ es) held = grind (arith, all_write, length-append, length-map, writes-moved lost os ids few es)
 
 pub no_keys : (es : List (ObjNo × ObjNo)) → keys_over [] es ≡ []
 no_keys [] = refl

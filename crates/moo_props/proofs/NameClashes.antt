@@ -30,12 +30,7 @@ module _ (w : World) where
   -- the first of them that defines the name
   first_defines : (l : List ObjNo) (n : Name) → find (λ y. defines_name w y n) l ≡ definer_of_name (defined_by_any w l) (folded n)
   first_defines [] n = refl
-  first_defines (y ∷ l) n =
-      let named : Property → Bool = λ p. same_text (folded p.1) (folded n) in
-      sym (first_or (λ y. defines_name w y n) y l)
-      ∙ (λ i. option_or (sym (own_definer y (folded n) (property_names_of w y)) i) (first_defines l n i))
-      ∙ sym (map_or (λ (p : Property). p.0) (find named (defined_by w y)) (find named (defined_by_any w l)))
-      ∙ sym (ap (option_map (λ (p : Property). p.0)) (find-append named (defined_by w y) (defined_by_any w l)))
+  first_defines (y ∷ l) n = grind (arith, first_or, own_definer, map_or, find-append, first_defines l)
 
   -- one of them defines the name
   pub any_defines : (l : List ObjNo) (n : Name) → list_any (λ y. defines_name w y n) l ≡ is_some (property_named (defined_by_any w l) (folded n))
@@ -48,10 +43,7 @@ module _ (w : World) where
   module _ (wf : IsWellFormed w) where
     -- the first above x that defines the name is the definer of x's slot
     first_above : (x : ObjNo) (n : Name) → find (λ y. defines_name w y n) (chain w x) ≡ definer_of_slot w x (folded n)
-    first_above x n = by (is_object w x) refl
-      where
-        by : (b : Bool) → is_object w x ≡ b → find (λ y. defines_name w y n) (chain w x) ≡ definer_of_slot w x (folded n)
-        by b o = grind (arith, first_defines (chain w x) n, wf.slots x (chain w x) (folded n), Chain-chain w wf.tree x, chain_of_none w x, no_slot)
+    first_above x n = grind (arith, first_defines, Chain-chain, chain_of_none, no_slot)
 
     -- y defines a name of a slot that new has
     pub meets_by_slots : (new y : ObjNo) → list_any (λ m. is_some (slot_of w new (folded m))) (property_names_of w y) ≡ meets_on w new y
@@ -76,9 +68,7 @@ module _ (t : Maps) (good : IsGood t) (x : ObjNo) where
 
   -- the first that defines a name which the new parent has
   pub first_meeting : (new : ObjNo) → find (meets_on w new) (walk_down w x) ≡ (if shares_property_name w x new then Some (first_to_meet w x new) else None)
-  first_meeting new =
-      first_if_any (find (meets_on w new) (walk_down w x)) (shares_property_name w x new) nothing
-      (found_any (meets_on w new) (walk_down w x) ∙ any_walked t good.formed.tree x (meets_on w new) ∙ any_meets w x new)
+  first_meeting new = grind (arith, first_if_any, found_any, any_walked, any_meets)
 
   module _ (n : Name) where
     abbrev defines_it : ObjNo → Bool
@@ -86,16 +76,10 @@ module _ (t : Maps) (good : IsGood t) (x : ObjNo) where
 
     -- the first that defines the name
     first_definer : find defines_it (chain w x ++ walk_down w x) ≡ (if clashes w x n then Some (first_to_define w x n) else None)
-    first_definer =
-        first_if_any (find defines_it (chain w x ++ walk_down w x)) (clashes w x n) nothing
-        (found_any defines_it (chain w x ++ walk_down w x)
-        ∙ any-append defines_it (chain w x) (walk_down w x)
-        ∙ (λ i. any_defines w (chain w x) n i || (any_walked t good.formed.tree x defines_it ∙ any_defines w (subtree_of w x) n) i))
+    first_definer = grind (arith, first_if_any, found_any, any-append, any_defines, any_walked)
 
     by_slot : option_or (definer_of_slot w x (folded n)) (find defines_it (walk_down w x)) ≡ (if clashes w x n then Some (first_to_define w x n) else None)
-    by_slot =
-        sym (ap (λ o. option_or o (find defines_it (walk_down w x))) (first_above w good.formed x n))
-        ∙ sym (find-append defines_it (chain w x) (walk_down w x)) ∙ first_definer
+    by_slot = grind (arith, first_above, find-append, first_definer)
 
     -- it is the definer of x's slot, and if x has none it is the first in the walk down
     pub definer_above : (s : Slot) → Some s ≡ slot_of w x (folded n) → Some s.definer ≡ (if clashes w x n then Some (first_to_define w x n) else None)

@@ -61,9 +61,7 @@ module _ (t : Maps) (good : IsGood t) (x : ObjNo) where
 
     -- one of the chain that defines the name
     pub some_left : (n : Name) → defines_name w at n ≡ true → list_any (λ y. defines_name w y n) (chain w at) ≡ list_any (λ y. defines_name w y n) (chain w x) → true ≡ is_some (slot_of w x (folded n))
-    some_left n own any =
-        sym (ap (list_any (λ y. defines_name w y n)) step ∙ or_left (defines_name w at n) (list_any (λ y. defines_name w y n) (chain w row.parent)) own)
-        ∙ any ∙ chain_has n
+    some_left n own any = grind (arith, step, or_left, chain_has)
 
     -- and one that doesn't
     pub rest_left : (n : Name) → defines_name w at n ≡ false → list_any (λ y. defines_name w y n) (chain w row.parent) ≡ list_any (λ y. defines_name w y n) (chain w at)

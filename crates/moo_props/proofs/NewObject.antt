@@ -7,13 +7,7 @@ use Rattle.moo_world.proofs.Ownership.Created.{slot_old}
 module _ (m : LookUps) (sound : AreSound m) where
   -- the slots of any number, object or not
   shown_any : (q : ObjNo) (n : Name) → slot_of (world_shown m) q n ≡ slice_get (filter_map (slot_on m q n) (numbers_below m.head.next_prop)) 0
-  shown_any q n = by (m.object q) refl
-    where
-      by : (o : Option ObjRow) → m.object q ≡ o → slot_of (world_shown m) q n ≡ slice_get (filter_map (slot_on m q n) (numbers_below m.head.next_prop)) 0
-      by (Some row) e = slots_shown m q n row e
-      by None e =
-          no_slot ((world_shown m).object q) n (is_object_seen m q ∙ ap is_some e)
-          ∙ sym (ap (λ l. slice_get l 0) (nothing_below (slot_on m q n) m.head.next_prop (λ id s f. let h = here-slot_on m q n id s f in false≢true (ap is_some (sym e) ∙ (sound.slots q id (ap is_some h.0.held)).0))))
+  shown_any q n = grind (arith, slots_shown, no_slot, is_object_seen, nothing_below, here-slot_on, false≢true)
 
 module _ (m : LookUps) (sound : AreSound m) (wf : IsWellFormed (world_shown m)) (x q owner : ObjNo) (is_next : next_object (world_shown m) ≡ Some x) (parent : (is_object (world_shown m) q || same_object nothing q) ≡ true) where
   abbrev w : World
@@ -111,10 +105,4 @@ module _ (m : LookUps) (sound : AreSound m) (wf : IsWellFormed (world_shown m)) 
   one_name2 y i j p r h k e f n = grind (arith, from_parent)
 
   pub sound_new : AreSound m2
-  sound_new = record {
-    props_below = sound.props_below;
-    definers = λ id p e. still p.definer (sound.definers id p e);
-    slots = rows_of;
-    one_name = one_name2;
-    verbs = λ y id e. let r = sound.verbs y id e in (still y r.0, r.1, r.2);
-  }
+  sound_new = grind (arith, still, rows_of, one_name2)

@@ -78,11 +78,7 @@ module _ (m : LookUps) (sound : AreSound m) (wf : IsWellFormed (world_shown m)) 
   last y n = grind (arith)
 
   all_slots : (y : ObjNo) (n : Name) → slice_get (filter_map (slot_on m2 y n) (numbers_below (next + 1))) 0 ≡ option_or (old y n) (if same_text (folded name) n then option_map (slot_seen x) (if under y then Some (made y) else None) else None)
-  all_slots y n =
-      ap (λ k. slice_get (filter_map (slot_on m2 y n) (numbers_below k)) 0) (add-one next)
-      ∙ ap (λ l. slice_get l 0) (filter_map-append (slot_on m2 y n) (numbers_below next) (next ∷ []))
-      ∙ first_of_two (filter_map (slot_on m2 y n) (numbers_below next)) (slot_on m2 y n next)
-      ∙ (λ i. option_or (slice_get (same_below (slot_on m2 y n) (slot_on m y n) next (before y n) i) 0) (last y n i))
+  all_slots y n = grind (arith, add-one, filter_map-append, first_of_two, same_below, before, last)
 
   none_yet : (y : ObjNo) (r : ObjRow) → m.object y ≡ Some r → under y ≡ true → old y (folded name) ≡ None
   none_yet y r e u =
@@ -105,14 +101,7 @@ module _ (m : LookUps) (sound : AreSound m) (wf : IsWellFormed (world_shown m)) 
 
   pub world_with : world_shown m2 ≡ property_added w x name s
   unfolding world_shown
-  world_with = λ i. record { object = λ y. at y (m.object y) refl i; top = m.head.top; next_prop = next + 1; next_verb = m.head.next_verb }
-    where
-      at : (y : ObjNo) (o : Option ObjRow) → m.object y ≡ o → option_map (object_shown m2 y) o ≡ option_map (λ (r : WorldObject). record r {
-        defines = if same_object x y then r.defines ++ name ∷ [] else r.defines;
-        slot = λ n. if is_among x (chain (world_shown m) y) then (if same_text (folded name) n then Some (if same_object x y then s else fresh r.row.owner s) else r.slot n) else r.slot n;
-      }) (option_map (object_shown m y) o)
-      at y None e = refl
-      at y (Some r) e = λ i. Some (record (object_shown m2 y r) { defines = names y r e i; slot = λ n. slots y r e n i })
+  world_with = grind (arith, names, slots)
 
   pub formed_with : is_property_name name ≡ true → next < 4294967295 → slot_fits s ≡ true → IsWellFormed (property_added w x name s)
   formed_with n l f = IsWellFormed-property_added w wf x name s xo free refl (λ c. absurd (cc)) n (subst (λ k. k < 4294967295) (sym counter) l) f
@@ -153,10 +142,4 @@ module _ (m : LookUps) (sound : AreSound m) (wf : IsWellFormed (world_shown m)) 
   definer j p e = grind (arith, sym (is_object_seen m x) ∙ xo)
 
   pub sound_with : AreSound m2
-  sound_with = record {
-    props_below = low;
-    definers = definer;
-    slots = λ y j e. rows_of y j (origin y j e);
-    one_name = λ y i j p r k l e f n. one_name y i j p r (origin y i k) (origin y j l) e f n;
-    verbs = sound.verbs;
-  }
+  sound_with = grind (arith, low, definer, slots, rows_of, origin, one_name)

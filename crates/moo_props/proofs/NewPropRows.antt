@@ -15,27 +15,11 @@ module _ (t : Maps) (tree : IsTree (world_of t)) (x : ObjNo) (xo : is_object (wo
   held2 = wrote held1 (record (held1.maps) { slots = insert held1.maps.slots (x, prop_id t.head.next_prop) row })
 
   slots2 : (y : ObjNo) (j : ℕ) → get held2.maps.slots (y, prop_id j) ≡ (with_property m x name row).slot y j
-  slots2 y j =
-      get-insert slot_total held1.maps.slots (x, prop_id t.head.next_prop) row (y, prop_id j)
-      ∙ (λ i. cond (key_parts x y (prop_id t.head.next_prop) (prop_id j) i) (Some row) (slots_of_moved t x (λ z. []) (o ∷ []) y (prop_id j) (with_definition x name held) i))
-      ∙ (λ i. settle (unsigned_tied j t.head.next_prop i) (get (same i).slots (y, prop_id j)))
-      ∙ by (same_object x y) refl (eqb j t.head.next_prop) (is_among x (chain (world_of t) y)) refl
-    where
-      settle : Bool → Option SlotRow → Option SlotRow
-      settle c g = cond (same_object x y && c) (Some row) (cond (is_among x (chain (world_of t) y)) (cond c (Some (fresh_of (owner_of (world_of t) y) o)) g) g)
-
-      by : (a : Bool) → same_object x y ≡ a → (c u : Bool) → is_among x (chain (world_of t) y) ≡ u → cond (a && c) (Some row) (cond u (cond c (Some (fresh_of (owner_of (world_of t) y) o)) (get t.slots (y, prop_id j))) (get t.slots (y, prop_id j))) ≡ (if c && u then Some (if a then row else fresh_of (owner_of (world_of t) y) o) else get t.slots (y, prop_id j))
-      by b e o u h = grind (arith, same_object-Decides, own_among)
+  slots2 y j = grind (arith, get-insert, slot_total, key_parts, slots_of_moved, unsigned_tied, own_among)
 
   -- all but the slots
   pub only2 : held2.maps ≡ record t { head = record (t.head) { next_prop = t.head.next_prop + 1 }; props = insert t.props (prop_id t.head.next_prop) (record { definer = x; name = name }); slots = held2.maps.slots }
   only2 = ap (λ (z : Maps). record z { slots = held2.maps.slots }) (same_maps (keeps-moved (λ y. []) (o ∷ []) (owners_under t x) (with_definition x name held)) held1.maps.slots) ∙ ap (λ (z : Maps). record z { head = record (z.head) { next_prop = z.head.next_prop + 1 }; props = insert z.props (prop_id z.head.next_prop) (record { definer = x; name = name }); slots = held2.maps.slots }) same
 
   pub look_ups-with : look_ups held2.maps ≡ with_property m x name row
-  look_ups-with =
-      ap look_ups only2
-      ∙ (λ i. record m {
-        head = record (t.head) { next_prop = t.head.next_prop + 1 };
-        prop = λ j. (get-insert prop_total t.props (prop_id t.head.next_prop) (record { definer = x; name = name }) (prop_id j) ∙ ap (λ b. cond b (Some (record { definer = x; name = name })) (get t.props (prop_id j))) (unsigned_tied j t.head.next_prop)) i;
-        slot = λ y j. slots2 y j i;
-      })
+  look_ups-with = grind (arith, only2, get-insert, prop_total, unsigned_tied, slots2)

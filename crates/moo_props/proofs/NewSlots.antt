@@ -9,10 +9,7 @@ module _ (m : Maps) (q : ObjNo) where
 
   among_is : (es : List Entry) → AllByRecursion (λ e. (get m.slots e.0 ≡ Some e.1) × (int_eq e.0.0.0 q.0 ≡ true)) es → origins_among es ≡ origins m.slots q (map (λ e. e.0.1) es)
   among_is [] a = refl
-  among_is (e ∷ es) a =
-      let own : e.0.0 ≡ q = let k = (Decides-int_eq e.0.0.0 q.0).0 a.0.1 in λ i. record { 0 = k i } in
-      let here : get m.slots (q, e.0.1) ≡ Some e.1 = ap (λ y. get m.slots (y, e.0.1)) (sym own) ∙ a.0.0 in
-      (λ i. origin_of e.0.1 e.1 ∷ among_is es a.1 i) ∙ sym (ap (λ o. cons_option (option_map (origin_of e.0.1) o) (origins m.slots q (map (λ e. e.0.1) es))) here)
+  among_is (e ∷ es) a = grind (arith, Decides-int_eq, among_is es)
 
   -- each slot of q is met
   pub has_all : IsSound m → (j : PropId) (s : SlotRow) → get m.slots (q, j) ≡ Some s → has_id j ids_on ≡ true
@@ -55,10 +52,4 @@ module _ (t : Maps) (sound : IsSound t) (x q owner : ObjNo) (free : get t.object
   only2 = same_maps (keeps-fresh x owner (origins_among (walk t q)) held1) held2.maps.slots ∙ ap (λ (z : Maps). record z { head = record (z.head) { top = x.0 }; objects = insert z.objects x (new_row q owner); slots = held2.maps.slots }) at
 
   pub look_ups-new : look_ups held2.maps ≡ with_new (look_ups t) x q owner
-  look_ups-new =
-      ap look_ups only2
-      ∙ (λ i. record (look_ups t) {
-        head = record (t.head) { top = x.0 };
-        object = λ y. (get-insert object_total t.objects x (new_row q owner) y ∙ ap (λ b. cond b (Some (new_row q owner)) (get t.objects y)) (object_key x y)) i;
-        slot = λ y j. slots2 y (prop_id j) i;
-      })
+  look_ups-new = grind (arith, only2, get-insert, object_total, object_key, slots2)

@@ -21,10 +21,7 @@ changed f = over_numbers (map f) (option_map f) refl (λ o l. grind arith)
 
 pub same_below : {X : Type 0} (h g : ℕ → Option X) (n : ℕ) → ((j : ℕ) → j < n → h j ≡ g j) → filter_map h (numbers_below n) ≡ filter_map g (numbers_below n)
 same_below h g zero e = refl
-same_below h g (suc n) e =
-    filter_map-append h (numbers_below n) (n ∷ [])
-    ∙ (λ i. same_below h g n (λ j l. e j (omega arith)) i ++ cons_option (e n (omega arith) i) [])
-    ∙ sym (filter_map-append g (numbers_below n) (n ∷ []))
+same_below h g (suc n) e = grind (arith, filter_map-append, same_below h g n)
 
 pub nothing_below : {X : Type 0} (h : ℕ → Option X) (n : ℕ) → ((k : ℕ) (v : X) → h k ≡ Some v → ⊥) → filter_map h (numbers_below n) ≡ []
 nothing_below h n none = no_first (filter_map h (numbers_below n)) (no_value (slice_get (filter_map h (numbers_below n)) 0) (λ v e. let k = first_from h n v e in none k.0 v k.2))

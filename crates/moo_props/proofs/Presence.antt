@@ -1,5 +1,5 @@
 -- Removed keys had rows and have none, added ones had none and have rows.
-use Rattle.moo_props.{proofs.Words.{◌≡◌, Bool, true, false, Option, None, Some, List, [], ◌∷◌, refl, ap, ◌∙◌, is_some, if◌then◌else◌, option_map, AllByRecursion, FinMap, get, entries, get-entries, entries_sorted, and_parts, both_ways, ObjNo, PropId, PropRow, SlotRow, Maps, object_cmp, prop_cmp, slot_cmp, object_exact, prop_exact, object_total, prop_total, folded, is_among, World, Slot, chain, owner_of, IsSound, world_of, MayReparent, ancestors, lost, gained, owners_under, props_of, is_defined_among, slot_after, removed_keys, added_keys, ArePresent, AreAbsent, keys_on, keys_over, fresh_row, own_entries, all_made, false_from_ne_true, not-true}, proofs.Shared.{new_is, no_clash, no_value, object_of_chain, slot_on_heir, some_map}, proofs.Definers.{only_lost, only_gained}, proofs.Gains.{slot_on_new}, proofs.After.{slot_is, tests, gained_named, no_both}}
+use Rattle.moo_props.{proofs.Words.{arith, ◌≡◌, Bool, true, false, Option, None, Some, List, [], ◌∷◌, refl, ap, ◌∙◌, is_some, if◌then◌else◌, option_map, AllByRecursion, FinMap, get, entries, get-entries, entries_sorted, and_parts, both_ways, ObjNo, PropId, PropRow, SlotRow, Maps, object_cmp, prop_cmp, slot_cmp, object_exact, prop_exact, object_total, prop_total, folded, is_among, World, Slot, chain, owner_of, IsSound, world_of, MayReparent, ancestors, lost, gained, owners_under, props_of, is_defined_among, slot_after, removed_keys, added_keys, ArePresent, AreAbsent, keys_on, keys_over, fresh_row, own_entries, all_made, false_from_ne_true, not-true}, proofs.Shared.{new_is, no_clash, no_value, object_of_chain, slot_on_heir, some_map}, proofs.Definers.{only_lost, only_gained}, proofs.Gains.{slot_on_new}, proofs.After.{slot_is, tests, gained_named, no_both}}
 use Rattle.std.specs.FinMap.{find}
 use Rattle.moo_world.{proofs.Inheritance.ManualLaw.{chain_y}, proofs.Inheritance.Owed.{is_among-right}, proofs.Inheritance.Reparenting.{all_join}}
 

@@ -71,13 +71,7 @@ module _ (t : Maps) (good : IsGood t) (x : ObjNo) (id : ℕ) (p : PropRow) (ther
   one_name y i j a b k l o u n = grind (arith, clash)
 
   pub sound_renamed : AreSound m2
-  sound_renamed = record {
-    props_below = λ j e. good.sound.props_below j (prop_was j e);
-    definers = λ j r e. definer j r (origin j r e);
-    slots = λ y j e. let r = good.sound.slots y j e in (r.0, put_some (eqb j id) put (m.prop j) r.1);
-    one_name = λ y i j a b k l e f n. one_name y i j a b k l (origin i a e) (origin j b f) n;
-    verbs = good.sound.verbs;
-  }
+  sound_renamed = grind (arith, prop_was, definer, origin, put_some, one_name)
 
   -- ---- names
 

@@ -51,13 +51,7 @@ module _ (t : Maps) (good : IsGood t) (x : ObjNo) (id : ℕ) (p : PropRow) (ther
   -- ---- sound rows
 
   pub sound_shorter : AreSound m2
-  sound_shorter = record {
-    props_below = λ j e. good.sound.props_below j (left_some (eqb j id) (m.prop j) e).1;
-    definers = λ j r e. good.sound.definers j r (left_value (eqb j id) (m.prop j) r e).1;
-    slots = λ y j e. let k = left_some (eqb j id) (m.slot y j) e in let r = good.sound.slots y j k.1 in (r.0, ap (λ b. is_some (if b then None else m.prop j)) k.0 ∙ r.1);
-    one_name = λ y i j a b k l e f n. good.sound.one_name y i j a b (left_some (eqb i id) (m.slot y i) k).1 (left_some (eqb j id) (m.slot y j) l).1 (left_value (eqb i id) (m.prop i) a e).1 (left_value (eqb j id) (m.prop j) b f).1 n;
-    verbs = good.sound.verbs;
-  }
+  sound_shorter = grind (arith, left_some, left_value)
 
   -- ---- the slots
 
@@ -103,9 +97,4 @@ module _ (t : Maps) (good : IsGood t) (x : ObjNo) (id : ℕ) (p : PropRow) (ther
     slots2 z j = grind (arith, slots_of_moved, eqb-true, same_object-Decides, own_under)
 
     pub look_ups-shorter : look_ups held2.maps ≡ m2
-    look_ups-shorter =
-        ap look_ups only2
-        ∙ (λ i. record m {
-          prop = λ j. (get-remove prop_total t.props (prop_id id) (prop_id j) ∙ ap (λ b. cond b None (m.prop j)) (unsigned_tied j id)) i;
-          slot = λ z j. slots2 z j i;
-        })
+    look_ups-shorter = grind (arith, only2, get-remove, prop_total, unsigned_tied, slots2)

@@ -19,9 +19,7 @@ module _ (t : Maps) (sound : IsSound t) (wf : IsWellFormed (world_of t)) (x : Ob
   slot_read = slot_here t sound x id k held prop.0 prop.1
 
   pub set_read : (v : Value) → k.state ≡ Set v → read_of w x (name_of t id) ≡ Some v
-  set_read v e =
-      let r = read_step w wf.tree (name_of t id) x (slot_seen prop.0.definer k) slot_read in
-      r.2 ∙ ap (λ z. elim z [ Clear ↦ read_of w r.0.row.parent (name_of t id) | Set u ↦ Some u ]) e
+  set_read v e = grind (arith, read_step, prop, slot_read)
 
   module _ (clear : k.state ≡ Clear) (r : ObjRow) (there : m.object x ≡ Some r) where
     pub clear_read : read_of w x (name_of t id) ≡ read_of w r.parent (name_of t id)

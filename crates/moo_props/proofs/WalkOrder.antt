@@ -1,12 +1,10 @@
 -- The walk over an object's slots gives its properties in order.
-use Rattle.moo_props.{proofs.Words.{◌≡◌, Bool, true, Some, List, [], ◌∷◌, map, Ordering, Less, sym, ap, ◌∙◌, refl, subst, tied_itself, int_eq, ordering_then, filter, AllByRecursion, get, entries, entries_sorted, Decides-int_eq, ObjNo, Maps, object_cmp, prop_cmp, slot_cmp, object_total, ids_among, cond_both}, proofs.Ascending.{Rises, rises_made}, proofs.Walked.{Entry, all_filter, walk, walk_held}}
+use Rattle.moo_props.{proofs.Words.{arith, ◌≡◌, Bool, true, Some, List, [], ◌∷◌, map, Ordering, Less, sym, ap, ◌∙◌, refl, subst, tied_itself, int_eq, ordering_then, filter, AllByRecursion, get, entries, entries_sorted, Decides-int_eq, ObjNo, Maps, object_cmp, prop_cmp, slot_cmp, object_total, ids_among, cond_both}, proofs.Ascending.{Rises, rises_made}, proofs.Walked.{Entry, all_filter, walk, walk_held}}
 use Rattle.moo_world.proofs.Shown.EntriesInOrder.{all_weaker}
 
 rises_fewer : {K A : Type 0} (cmp : K → K → Ordering) (key : A → K) (test : A → Bool) (l : List A) → Rises cmp key l → Rises cmp key (filter test l)
 rises_fewer cmp key test [] r = tt
-rises_fewer cmp key test (a ∷ l) r =
-    let k = rises_fewer cmp key test l r.1 in
-    cond_both (test a) (a ∷ filter test l) (filter test l) (Rises cmp key) (λ e. (all_filter (λ b. cmp (key a) (key b) ≡ Less) test l r.0, k)) (λ e. k)
+rises_fewer cmp key test (a ∷ l) r = grind (arith, cond_both, all_filter, rises_fewer cmp key test l)
 
 -- the properties of one object's slots
 ids_rise : (x : ObjNo) (es : List Entry) → AllByRecursion (λ e. e.0.0 ≡ x) es → Rises slot_cmp (λ e. e.0) es → Rises prop_cmp (λ j. j) (ids_among es)
@@ -15,8 +13,7 @@ ids_rise x (e ∷ es) a r = (each es a.1 r.0, ids_rise x es a.1 r.1)
   where
     each : (l : List Entry) → AllByRecursion (λ e. e.0.0 ≡ x) l → AllByRecursion (λ b. slot_cmp e.0 b.0 ≡ Less) l → AllByRecursion (λ j. prop_cmp e.0.1 j ≡ Less) (ids_among l)
     each [] a h = tt
-    each (b ∷ l) c h =
-        (sym (ap (λ o. ordering_then o (prop_cmp e.0.1 b.0.1)) (tied_itself object_total x)) ∙ sym (λ i. ordering_then (object_cmp (a.0 i) (c.0 i)) (prop_cmp e.0.1 b.0.1)) ∙ h.0, each l c.1 h.1)
+    each (b ∷ l) c h = grind (arith, tied_itself, object_total, each l)
 
 -- each slot is the object's
 pub walk_own : (t : Maps) (x : ObjNo) → AllByRecursion (λ (e : Entry). e.0.0 ≡ x) (walk t x)
@@ -38,6 +35,4 @@ walk_ids_rise t x = ids_rise x (walk t x) (walk_own t x) (walk_rises t x)
 
 -- and those whose slots pass a test
 pub passing_ids_rise : (t : Maps) (x : ObjNo) (test : Entry → Bool) → Rises prop_cmp (λ j. j) (ids_among (filter test (walk t x)))
-passing_ids_rise t x test =
-    ids_rise x (filter test (walk t x)) (all_filter (λ (e : Entry). e.0.0 ≡ x) test (walk t x) (walk_own t x))
-    (rises_fewer slot_cmp (λ (e : Entry). e.0) test (walk t x) (walk_rises t x))
+passing_ids_rise t x test = grind (arith, ids_rise, walk, all_filter, walk_own, rises_fewer, walk_rises)

@@ -15,9 +15,7 @@ all_filter P test (x ∷ l) a = let r = all_filter P test l a.1 in cond_both (te
 
 pub all_pass : {A : Type 0} (P : A → Type 0) (test : A → Bool) (l : List A) → AllByRecursion P l → AllByRecursion (λ a. P a × (test a ≡ true)) (filter test l)
 all_pass P test [] a = tt
-all_pass P test (x ∷ l) a =
-    let r = all_pass P test l a.1 in
-    cond_both (test x) (x ∷ filter test l) (filter test l) (AllByRecursion (λ a. P a × (test a ≡ true))) (λ e. ((a.0, e), r)) (λ e. r)
+all_pass P test (x ∷ l) a = grind (arith, cond_both, all_pass P test l)
 
 pub found_any : {A : Type 0} (test : A → Bool) (l : List A) → is_some (find test l) ≡ list_any test l
 found_any test [] = refl

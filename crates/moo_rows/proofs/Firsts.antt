@@ -1,6 +1,6 @@
 -- The first key that passes, among keys that may.
-use Rattle.moo_rows.{proofs.Words.{◌≡◌, ◌≢◌, Bool, true, false, ◌||◌, cond, Option, None, Some, List, [], ◌∷◌, Less, Equal, Greater, Ordering, is_some, refl, sym, ap, ◌∙◌, subst, T, unwrap_or, option_map, IsTotalOrder, tied_itself, eq_by_cmp, is_lt, is_eq, match_ordering, ordering_reverse, ordering_then, filter, FinMap, find, is_sorted, entries, entries_sorted, get-entries, get-insert, get-remove, below_all, OnOk, OnErr, CmpEqualImpliesEq, true≢false, ObjNo, lesser, IsPast, IsNext, is_past, entries_past, IsFirst}, proofs.Orders.{object_total}, proofs.Walking.{key_cmp, first_of, second_of, elsewhere, here, past_test, past_is, below, not_held, all_past, all_past_key, keeps, drops, some_none}}
-use Rattle.std.{specs.declared.result.Result.{Result}, specs.declared.result.Result.TheVariants.{Ok, Err}}
+use Rattle.moo_rows.{proofs.Words.{arith, ◌≡◌, ◌≢◌, Bool, true, false, ◌||◌, cond, Option, None, Some, List, [], ◌∷◌, Less, Equal, Greater, Ordering, is_some, refl, sym, ap, ◌∙◌, subst, T, unwrap_or, option_map, IsTotalOrder, tied_itself, is_lt, is_eq, ordering_reverse, ordering_then, filter, FinMap, find, is_sorted, entries, entries_sorted, get-entries, get-insert, get-remove, below_all, OnOk, OnErr, CmpEqualImpliesEq, true≢false, ObjNo, lesser, IsPast, IsNext, is_past, entries_past, IsFirst}, proofs.Orders.{object_total}, proofs.Walking.{key_cmp, first_of, second_of, elsewhere, here, past_test, past_is, below, not_held, all_past, all_past_key, keeps, drops, some_none}}
+use Rattle.std.{specs.declared.result.Result.{Result}}
 use Rattle.std.specs.FinMap as map
 
 -- ---- by a superset
@@ -13,56 +13,33 @@ module _ {K : Type 0} {cmp : K → K → Ordering} (total : IsTotalOrder cmp) (e
   first-found after key h is = (is, h.1, λ q past less. covers q (h.2 q past less))
 
   split_at : (key q : K) → (cmp q key ≡ Less → passes q ≡ false) → passes key ≡ false → (cmp key q ≡ Less → passes q ≡ false) → passes q ≡ false
-  split_at key q before at above =
-      elim (cmp q key) as (λ o. cmp q key ≡ o → passes q ≡ false) [
-        | Less ↦ before
-        | Equal ↦ λ o. subst (λ k. passes k ≡ false) (sym (exact q key o)) at
-        | Greater ↦ λ o. above (total.antisymm key q ∙ ap ordering_reverse o)
-      ] refl
+  split_at key q before at above = grind arith
 
   -- what is first past a key that doesn't pass is first past what that was first past
   pub first-skipped : (after key : K) → IsFirst cmp may after (Some key) → passes key ≡ false → (r : Option K) → IsFirst cmp passes key r → IsFirst cmp passes after r
-  first-skipped after key h fails None next = λ q past. split_at key q (λ less. covers q (h.2 q past less)) fails (λ above. next q above)
-  first-skipped after key h fails (Some k) next =
-      (next.0, total.trans after key k h.1 next.1, λ q past less. split_at key q (λ low. covers q (h.2 q past low)) fails (λ above. next.2 q above less))
+  first-skipped after key h1 h2 r h3 = grind (arith, split_at)
 
 -- ---- of two tests
 
 pub or_first : (a b : Bool) → (a || b) ≡ false → a ≡ false
-or_first true b h = absurd (true≢false h)
-or_first false b h = refl
+or_first a b h1 = grind (arith, true≢false)
 
 pub or_second : (a b : Bool) → (a || b) ≡ false → b ≡ false
-or_second true b h = absurd (true≢false h)
-or_second false b h = h
+or_second a b h1 = grind (arith, true≢false)
 
 -- the lesser of two that are first is first of both
 module _ {K : Type 0} {cmp : K → K → Ordering} (total : IsTotalOrder cmp) (exact : CmpEqualImpliesEq cmp) (a b : K → Bool) where
   pub either-first : (after : K) (r s : Option K) → IsFirst cmp a after r → IsFirst cmp b after s → IsFirst cmp (λ q. a q || b q) after (lesser cmp r s)
-  either-first after None None h k = λ q past i. h q past i || k q past i
-  either-first after None (Some y) h k = ((λ i. h y k.1 i || k.0 i), k.1, λ q past less i. h q past i || k.2 q past less i)
-  either-first after (Some x) None h k = ((λ i. h.0 i || b x), h.1, λ q past less i. h.2 q past less i || k q past i)
-  either-first after (Some x) (Some y) h k =
-      elim (cmp y x) as (λ o. cmp y x ≡ o → IsFirst cmp (λ q. a q || b q) after (match_ordering o (Some y) (Some x) (Some x))) [
-        | Less ↦ λ o. ((λ i. h.2 y k.1 o i || k.0 i), k.1, λ q past less i. h.2 q past (total.trans q y x less o) i || k.2 q past less i)
-        | Equal ↦ λ o. ((λ i. h.0 i || b x), h.1, λ q past less i. h.2 q past less i || k.2 q past (subst (λ z. cmp q z ≡ Less) (sym (exact y x o)) less) i)
-        | Greater ↦ λ o. (
-          (λ i. h.0 i || b x),
-          h.1,
-          λ q past less i. h.2 q past less i || k.2 q past (total.trans q x y less (total.antisymm x y ∙ ap ordering_reverse o)) i,
-        )
-      ] refl
+  either-first after r s h1 h2 = grind arith
 
 -- tests that answer alike have one first key
 pub first-alike : {K : Type 0} (cmp : K → K → Ordering) (a b : K → Bool) → ((q : K) → a q ≡ b q) → (after : K) (r : Option K) → IsFirst cmp a after r → IsFirst cmp b after r
-first-alike cmp a b same after None h = λ q past. sym (same q) ∙ h q past
-first-alike cmp a b same after (Some k) h = (sym (same k) ∙ h.0, h.1, λ q past less. sym (same q) ∙ h.2 q past less)
+first-alike cmp a b h1 after r h2 = grind arith
 
 -- ---- of pairs
 
 pub next-first : {K X : Type 0} {cmp : K → K → Ordering} (m : FinMap cmp X) (after : K) (r : Option K) → IsNext m (Some after) r → IsFirst cmp (λ q. is_some (map.get m q)) after r
-next-first m after None h = λ q past. ap is_some (h q past)
-next-first m after (Some k) h = (h.0, h.1, λ q past less. ap is_some (h.2 q past less))
+next-first m after r h1 = grind arith
 
 pair_past : {I : Type 0} (number_cmp : I → I → Ordering) (x : ObjNo) (a b : I) → number_cmp a b ≡ Less → key_cmp number_cmp (x, a) (x, b) ≡ Less
 pair_past number_cmp x a b h = ap (λ o. ordering_then o (number_cmp a b)) (tied_itself object_total x) ∙ h
@@ -75,26 +52,16 @@ module _ {I X : Type 0} (number_cmp : I → I → Ordering) where
 
 module _ {K X : Type 0} {cmp : K → K → Ordering} (total : IsTotalOrder cmp) where
   pub lacked-insert : (m : FinMap cmp X) (k : K) (v : X) (q : K) → is_some (map.get (map.insert m k v) q) ≡ false → is_some (map.get m q) ≡ false
-  lacked-insert m k v q h = by (eq_by_cmp cmp q k) (sym (ap is_some (get-insert total m k v q)) ∙ h)
-    where
-      by : (b : Bool) → is_some (cond b (Some v) (map.get m q)) ≡ false → is_some (map.get m q) ≡ false
-      by true e = absurd (true≢false e)
-      by false e = e
+  lacked-insert m k v q h = grind (arith, get-insert, true≢false)
 
   pub lacked-put : {U E : Type 0} (result : Result U E) (old new : FinMap cmp X) (k : K) (v : X) → OnOk result (new ≡ map.insert old k v) → OnErr result (new ≡ old) → (q : K) → is_some (map.get new q) ≡ false → is_some (map.get old q) ≡ false
-  lacked-put (Ok u) old new k v ok err q h = lacked-insert old k v q (ap (λ m. is_some (map.get m q)) (sym ok) ∙ h)
-  lacked-put (Err e) old new k v ok err q h = ap (λ m. is_some (map.get m q)) (sym err) ∙ h
+  lacked-put result old new k v h1 h2 q h3 = grind (arith, lacked-insert)
 
   pub has-insert : (m : FinMap cmp X) (k : K) (v : X) → is_some (map.get (map.insert m k v) k) ≡ true
   has-insert m k v = ap is_some (get-insert total m k v k) ∙ ap (λ o. is_some (cond (is_eq o) (Some v) (map.get m k))) (tied_itself total k)
 
   pub lacked-remove : CmpEqualImpliesEq cmp → (m : FinMap cmp X) (k q : K) → q ≢ k → is_some (map.get (map.remove m k) q) ≡ false → is_some (map.get m q) ≡ false
-  lacked-remove exact m k q apart h = by (cmp q k) refl
-    where
-      by : (o : Ordering) → cmp q k ≡ o → is_some (map.get m q) ≡ false
-      by Equal o = absurd (apart (exact q k o))
-      by Less o = sym (ap is_some (get-remove total m k q) ∙ ap (λ o. is_some (cond (is_eq o) None (map.get m q))) o) ∙ h
-      by Greater o = sym (ap is_some (get-remove total m k q) ∙ ap (λ o. is_some (cond (is_eq o) None (map.get m q))) o) ∙ h
+  lacked-remove exact m k q apart h = grind (arith, get-remove)
 
 -- ---- walks over the entries that pass
 
@@ -116,12 +83,7 @@ module _ {K X : Type 0} {cmp : K → K → Ordering} (total : IsTotalOrder cmp) 
   drops_row e es h = ap (λ b. cond b (e ∷ those es) (those es)) h
 
   tail : (e : K × X) (es : List (K × X)) → T (below_all cmp e.0 es) → (q : K) → read (find cmp q (e ∷ es)) ≡ false → read (find cmp q es) ≡ false
-  tail e es low q h =
-      elim (cmp q e.0) as (λ o. cmp q e.0 ≡ o → read (find cmp q es) ≡ false) [
-        | Less ↦ λ o. sym (ap read (elsewhere cmp q e es (ap is_eq o))) ∙ h
-        | Equal ↦ λ o. ap read (ap (λ k. find cmp k es) (exact q e.0 o) ∙ not_held cmp total e.0 es low)
-        | Greater ↦ λ o. sym (ap read (elsewhere cmp q e es (ap is_eq o))) ∙ h
-      ] refl
+  tail e es low q h = grind (arith, elsewhere, not_held)
 
   own : (e : K × X) (es : List (K × X)) → read (find cmp e.0 (e ∷ es)) ≡ false → test e.1 ≡ false
   own e es h = sym (ap read (here cmp e.0 e es (ap is_eq (tied_itself total e.0)))) ∙ h
@@ -168,9 +130,7 @@ module _ {K X : Type 0} {cmp : K → K → Ordering} (total : IsTotalOrder cmp) 
   first-end m from h = none_pass from (entries m) (entries_sorted m) (λ q past. sym (ap read (get-entries m q)) ∙ h q past)
 
   pub first-step : (m : FinMap cmp X) (from k : K) (row : X) → IsFirst cmp (λ q. unwrap_or (option_map test (map.get m q)) false) from (Some k) → map.get m k ≡ Some row → those_past from (entries m) ≡ (k, row) ∷ those_past k (entries m)
-  first-step m from k row h held =
-      next_passes from k row (entries m) (entries_sorted m) (sym (get-entries m k) ∙ held) (sym (ap read held) ∙ h.0) h.1 (λ q past less. sym (ap read (get-entries m q)) ∙ h.2 q past less)
+  first-step m from k row h held = grind (arith, next_passes, entries_sorted, get-entries)
 
 pub on_ok : {U E : Type 0} {A B : Type 0} (result : Result U E) → (A → B) → OnOk result A → OnOk result B
-on_ok (Ok u) f a = f a
-on_ok (Err e) f a = tt
+on_ok result h1 h2 = grind arith

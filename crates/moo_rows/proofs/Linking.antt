@@ -1,27 +1,19 @@
 -- Which objects may have a link, after more are added and some are forgotten.
-use Rattle.moo_rows.{proofs.Words.{◌≡◌, ◌≢◌, Bool, true, false, cond, ◌||◌, [], ◌∷◌, Option, None, Some, Ordering, Less, Equal, Greater, is_some, refl, sym, ap, ◌∙◌, tied_itself, eq_by_cmp, is_eq, int_eq, FinMap, get, insert, remove, option_map, ⊤, true≢false, Decides-int_eq, ObjNo, ObjRow, PropId, PropRow, object_exact, prop_exact, tie_exact, Maps, object_cmp, prop_cmp, slot_cmp, LinkSets, tie_cmp, is_kept, is_to_nothing, is_candidate, may_have, has_link, ties_of, ties_have, row_has, row_defined, is_linked, is_definer, linked_left, defined_left, IsFirst, AreCovered, AreOfDefiners}, specs.declared.row.Ties.{Ties}, specs.declared.row.Link.{Link}, specs.declared.row.Link.TheVariants.{ChildOf, Within, Player}, proofs.Orders.{object_total, prop_total, slot_total, tie_total}, proofs.Firsts.{lacked-insert, lacked-remove, has-insert, first-end, first-step}}
+use Rattle.moo_rows.{proofs.Words.{arith, ◌≡◌, ◌≢◌, Bool, true, false, cond, [], ◌∷◌, Option, None, Some, Ordering, Less, Equal, Greater, is_some, refl, sym, ap, ◌∙◌, tied_itself, eq_by_cmp, is_eq, int_eq, FinMap, get, insert, remove, option_map, ⊤, true≢false, Decides-int_eq, ObjNo, ObjRow, PropId, PropRow, object_exact, prop_exact, tie_exact, Maps, object_cmp, prop_cmp, slot_cmp, LinkSets, tie_cmp, is_kept, is_candidate, may_have, has_link, ties_of, ties_have, row_has, row_defined, is_linked, is_definer, linked_left, defined_left, IsFirst, AreCovered, AreOfDefiners}, specs.declared.row.Ties.{Ties}, specs.declared.row.Link.{Link}, specs.declared.row.Link.TheVariants.{ChildOf, Within, Player}, proofs.Orders.{object_total, prop_total, slot_total, tie_total}, proofs.Firsts.{lacked-insert, lacked-remove, has-insert, first-end, first-step}}
 use Rattle.std.proofs.lemmas.Option.{none-some, same_Some}
 
 module _ (s : LinkSets) where
   pub none-may : ((p : ObjNo × ObjNo) → get s.parents p ≡ None) → ((p : ObjNo × ObjNo) → get s.locations p ≡ None) → ((p : ObjNo) → get s.players p ≡ None) → (l : Link) (q : ObjNo) → is_kept s l q ≡ false
-  none-may a b c (ChildOf x) q = ap is_some (a (x, q))
-  none-may a b c (Within x) q = ap is_some (b (x, q))
-  none-may a b c Player q = ap is_some (c q)
+  none-may h1 h2 h3 l q = grind arith
 
   pub more-parents : (new : FinMap tie_cmp ⊤) → ((p : ObjNo × ObjNo) → is_some (get new p) ≡ false → is_some (get s.parents p) ≡ false) → (l : Link) (q : ObjNo) → is_kept (record s { parents = new }) l q ≡ false → is_kept s l q ≡ false
-  more-parents new h (ChildOf x) q e = h (x, q) e
-  more-parents new h (Within x) q e = e
-  more-parents new h Player q e = e
+  more-parents new h1 l q h2 = grind arith
 
   pub more-locations : (new : FinMap tie_cmp ⊤) → ((p : ObjNo × ObjNo) → is_some (get new p) ≡ false → is_some (get s.locations p) ≡ false) → (l : Link) (q : ObjNo) → is_kept (record s { locations = new }) l q ≡ false → is_kept s l q ≡ false
-  more-locations new h (ChildOf x) q e = e
-  more-locations new h (Within x) q e = h (x, q) e
-  more-locations new h Player q e = e
+  more-locations new h1 l q h2 = grind arith
 
   pub more-players : (new : FinMap object_cmp ⊤) → ((p : ObjNo) → is_some (get new p) ≡ false → is_some (get s.players p) ≡ false) → (l : Link) (q : ObjNo) → is_kept (record s { players = new }) l q ≡ false → is_kept s l q ≡ false
-  more-players new h (ChildOf x) q e = e
-  more-players new h (Within x) q e = e
-  more-players new h Player q e = h q e
+  more-players new h1 l q h2 = grind arith
 
   module _ (key : ObjNo) (stays : Option Ties) where
     pub less-parents : (x : ObjNo) → false ≡ ties_have (ChildOf x) stays → (new : FinMap tie_cmp ⊤) → new ≡ remove s.parents (x, key) → (l : Link) (q : ObjNo) → (q ≡ key → ties_have l stays ≡ true) → is_kept (record s { parents = new }) l q ≡ false → is_kept s l q ≡ false
@@ -41,36 +33,20 @@ module _ (s : LinkSets) where
     less-locations x lacks new is Player q has e = e
 
     pub less-players : false ≡ ties_have Player stays → (new : FinMap object_cmp ⊤) → new ≡ remove s.players key → (l : Link) (q : ObjNo) → (q ≡ key → ties_have l stays ≡ true) → is_kept (record s { players = new }) l q ≡ false → is_kept s l q ≡ false
-    less-players lacks new is (ChildOf y) q has e = e
-    less-players lacks new is (Within y) q has e = e
-    less-players lacks new is Player q has e =
-        lacked-remove object_total object_exact s.players key q (λ same. true≢false (sym (has same) ∙ sym lacks)) (ap (λ m. is_some (get m q)) (sym is) ∙ e)
+    less-players h1 new h2 l q h3 h4 = grind (arith, lacked-remove, object_total, true≢false)
 
 -- who is kept for no link but those that it was kept for may have no others
 pub may-as-kept : (old new : LinkSets) (l : Link) (q : ObjNo) → (is_kept new l q ≡ false → is_kept old l q ≡ false) → may_have new l q ≡ false → may_have old l q ≡ false
-may-as-kept old new l q kept e = by (is_to_nothing l) e
-  where
-    by : (b : Bool) → (b || is_kept new l q) ≡ false → (b || is_kept old l q) ≡ false
-    by true h = h
-    by false h = kept h
+may-as-kept old new l q kept e = grind arith
 
 -- who is kept for a link may have it
 pub kept-may : (sets : LinkSets) (l : Link) (q : ObjNo) → is_kept sets l q ≡ true → may_have sets l q ≡ true
-kept-may sets l q kept = by (is_to_nothing l)
-  where
-    by : (b : Bool) → (b || is_kept sets l q) ≡ true
-    by true = refl
-    by false = kept
+kept-may sets l q kept = grind arith
 
 -- who isn't to be looked at hasn't the link
 pub candidate-covers : (objects : FinMap object_cmp ObjRow) (sets : LinkSets) → AreCovered (get objects) sets
     → (l : Link) (q : ObjNo) → is_candidate sets objects l q ≡ false → row_has l (get objects q) ≡ false
-candidate-covers objects sets covered l q e = by (is_to_nothing l) (get objects q) (covered l q) e
-  where
-    by : (b : Bool) (o : Option ObjRow) → ((b || is_kept sets l q) ≡ false → row_has l o ≡ false) → cond b (is_some o) (is_kept sets l q) ≡ false → row_has l o ≡ false
-    by true None h e = refl
-    by true (Some r) h e = absurd (true≢false e)
-    by false o h e = h e
+candidate-covers objects sets covered l q e = grind (arith, true≢false)
 
 -- ---- links of rows
 
@@ -101,18 +77,7 @@ module _ (row_at row_at' : ObjNo → Option ObjRow) (key : ObjNo) where
   pub covered-remove : (old new : LinkSets) → AreCovered row_at old
       → ((l : Link) (q : ObjNo) → (q ≡ key → ties_have l None ≡ true) → may_have new l q ≡ false → may_have old l q ≡ false)
       → ((q : ObjNo) → row_at' q ≡ cond (eq_by_cmp object_cmp q key) None (row_at q)) → AreCovered row_at' new
-  covered-remove old new covered kept is l q e = ap (row_has l) (is q) ∙ by (object_cmp q key) refl
-    where
-      apart : (o : Ordering) → object_cmp q key ≡ o → is_eq o ≡ false → q ≡ key → ties_have l None ≡ true
-      apart o c other same = absurd (true≢false (sym (ap is_eq (ap (λ z. object_cmp z key) same ∙ tied)) ∙ ap is_eq c ∙ other))
-        where
-          tied : object_cmp key key ≡ Equal
-          tied = tied_itself object_total key
-
-      by : (o : Ordering) → object_cmp q key ≡ o → row_has l (cond (is_eq o) None (row_at q)) ≡ false
-      by Equal o = refl
-      by Less o = covered l q (kept l q (apart Less o refl) e)
-      by Greater o = covered l q (kept l q (apart Greater o refl) e)
+  covered-remove old new covered kept is l q e = grind (arith, true≢false, tied_itself, object_total)
 
 -- ---- walks
 
@@ -132,22 +97,13 @@ defined-step t x from k row h held = first-step prop_total prop_exact (λ r. int
 
 module _ (l : Link) (row : ObjRow) where
   pub same-there : (o : Option ObjRow) → option_map ties_of o ≡ Some (ties_of row) → has_link l (ties_of row) ≡ true → row_has l o ≡ true
-  same-there None e h = absurd (none-some (ties_of row) e)
-  same-there (Some r) e h = ap (has_link l) (same_Some (ties_of r) (ties_of row) e) ∙ h
+  same-there o h1 h2 = grind (arith, none-some, same_Some)
 
   pub covered-there : (row_at : ObjNo → Option ObjRow) (sets : LinkSets) (key : ObjNo) → AreCovered row_at sets → option_map ties_of (row_at key) ≡ Some (ties_of row) → has_link l (ties_of row) ≡ true → may_have sets l key ≡ true
-  covered-there row_at sets key covered e h = by (may_have sets l key) refl
-    where
-      by : (b : Bool) → may_have sets l key ≡ b → b ≡ true
-      by true m = refl
-      by false m = absurd (true≢false (sym (same-there (row_at key) e h) ∙ covered l key m))
+  covered-there row_at sets key covered e h = grind (arith, true≢false, same-there)
 
   pub stays-there : (final added : LinkSets) (key : ObjNo) → (may_have final l key ≡ false → may_have added l key ≡ false) → may_have added l key ≡ true → may_have final l key ≡ true
-  stays-there final added key f h = by (may_have final l key) refl
-    where
-      by : (b : Bool) → may_have final l key ≡ b → b ≡ true
-      by true m = refl
-      by false m = absurd (true≢false (sym h ∙ f m))
+  stays-there final added key f h = grind (arith, true≢false)
 
 -- ---- properties
 
@@ -174,15 +130,4 @@ module _ (row_at row_at' : PropId → Option PropRow) (key : PropId) where
   pub defined-remove : (old new : FinMap slot_cmp ⊤) → AreOfDefiners row_at old
       → ((x : ObjNo) (id : PropId) → id ≢ key → is_some (get new (x, id)) ≡ false → is_some (get old (x, id)) ≡ false)
       → ((q : PropId) → row_at' q ≡ cond (eq_by_cmp prop_cmp q key) None (row_at q)) → AreOfDefiners row_at' new
-  defined-remove old new covered kept is x q e = ap (row_defined x) (is q) ∙ by (prop_cmp q key) refl
-    where
-      apart : (o : Ordering) → prop_cmp q key ≡ o → is_eq o ≡ false → q ≢ key
-      apart o c other same = true≢false (sym (ap is_eq (ap (λ z. prop_cmp z key) same ∙ tied)) ∙ ap is_eq c ∙ other)
-        where
-          tied : prop_cmp key key ≡ Equal
-          tied = tied_itself prop_total key
-
-      by : (o : Ordering) → prop_cmp q key ≡ o → row_defined x (cond (is_eq o) None (row_at q)) ≡ false
-      by Equal o = refl
-      by Less o = covered x q (kept x q (apart Less o refl) e)
-      by Greater o = covered x q (kept x q (apart Greater o refl) e)
+  defined-remove old new covered kept is x q e = grind (arith, true≢false, tied_itself, prop_total)

@@ -1,5 +1,5 @@
 -- Properties that are kept by their definer and the hash of their name, after more are put and some are removed.
-use Rattle.moo_rows.{proofs.Words.{◌≡◌, ℕ, Bool, true, false, ◌&&◌, cond, List, [], ◌∷◌, Option, None, Some, Ordering, Less, Equal, Greater, is_some, refl, sym, ap, ◌∙◌, subst, tied_itself, eq_by_cmp, is_eq, int_eq, nat_cmp, ordering_then, FinMap, get, get-insert, get-remove, insert, remove, ⊤, true≢false, Decides-int_eq, CmpEqualImpliesEq, IsTotalOrder, IsNext, IsFirst, ObjNo, PropId, PropRow, object_exact, prop_exact, prop_cmp, object_cmp}, specs.Named.{Tag, tag_of, tag_cmp, named_cmp, row_named, is_alike, in_lower_case, name_hash, AreByName}, proofs.Orders.{object_total, prop_total}}
+use Rattle.moo_rows.{proofs.Words.{arith, ◌≡◌, ℕ, Bool, true, false, ◌&&◌, cond, List, [], ◌∷◌, Option, None, Some, Ordering, Less, Equal, Greater, is_some, refl, sym, ap, ◌∙◌, tied_itself, eq_by_cmp, int_eq, nat_cmp, ordering_then, FinMap, get, get-insert, insert, ⊤, true≢false, Decides-int_eq, CmpEqualImpliesEq, IsTotalOrder, IsNext, IsFirst, ObjNo, PropId, PropRow, object_exact, prop_exact, prop_cmp, object_cmp}, specs.Named.{Tag, tag_of, tag_cmp, named_cmp, row_named, is_alike, in_lower_case, name_hash, AreByName}, proofs.Orders.{object_total, prop_total}}
 use Rattle.std.{proofs.lemmas.Cmp.{on_total, then_total, nat_cmp_total}, proofs.lemmas.Map.Lookups.{exact_pairs, exact_unsigned}, proofs.lemmas.Option.{none-some, same_Some}, specs.List.{fold}}
 use Rattle.std.specs.Hash.DefaultHasher as sip
 use lib.Pointwise.{bytes_decides}
@@ -33,9 +33,7 @@ module _ {X : Type 0} (m : FinMap named_cmp X) (tag : Tag) (after : PropId) wher
 
   -- a next key with the tag
   pub named-same : (of : Tag) (key : PropId) → of ≡ tag → IsNext m (Some (tag, after)) (Some (of, key)) → IsFirst prop_cmp (λ q. is_some (get m (tag, q))) after (Some key)
-  named-same of key same next =
-      let h = subst (λ t. IsNext m (Some (tag, after)) (Some (t, key))) same next in
-      (h.0, sym (tie after key) ∙ h.1, λ q past less. ap is_some (h.2 (tag, q) (tie after q ∙ past) (tie q key ∙ less)))
+  named-same of key same next = grind (arith, tie)
 
   -- and one without it
   pub named-past : (of : Tag) (key : PropId) → (of ≡ tag → ⊥) → IsNext m (Some (tag, after)) (Some (of, key)) → IsFirst prop_cmp (λ q. is_some (get m (tag, q))) after None
@@ -66,19 +64,7 @@ named-covers row_at names kept x name q lacks = by (row_at q) refl
 -- ---- puts and removals
 
 pub kept-insert : {K X : Type 0} {cmp : K → K → Ordering} → IsTotalOrder cmp → (m : FinMap cmp X) (k : K) (v : X) (q : K) → is_some (get m q) ≡ true → is_some (get (insert m k v) q) ≡ true
-kept-insert {cmp} total m k v q h = ap is_some (get-insert total m k v q) ∙ by (eq_by_cmp cmp q k)
-  where
-    by : (b : Bool) → is_some (cond b (Some v) (get m q)) ≡ true
-    by true = refl
-    by false = h
-
-kept-remove : {K X : Type 0} {cmp : K → K → Ordering} → IsTotalOrder cmp → CmpEqualImpliesEq cmp → (m : FinMap cmp X) (k q : K) → (q ≡ k → ⊥) → is_some (get m q) ≡ true → is_some (get (remove m k) q) ≡ true
-kept-remove {cmp} total exact m k q apart h = ap is_some (get-remove total m k q) ∙ by (cmp q k) refl
-  where
-    by : (o : Ordering) → cmp q k ≡ o → is_some (cond (is_eq o) None (get m q)) ≡ true
-    by Equal o = absurd (apart (exact q k o))
-    by Less o = h
-    by Greater o = h
+kept-insert {cmp} total m k v q h = grind (arith, get-insert)
 
 module _ (row_at row_at' : PropId → Option PropRow) (key : PropId) (old new : FinMap named_cmp ⊤) (kept : AreByName row_at old) where
   -- more are kept, and the rows are as they were
@@ -90,24 +76,13 @@ module _ (row_at row_at' : PropId → Option PropRow) (key : PropId) (old new : 
       → (id ≡ key → o ≡ Some row → is_some (get new (tag_of row, id)) ≡ true)
       → ((id ≡ key → ⊥) → is_some (get old (tag_of row, id)) ≡ true → is_some (get new (tag_of row, id)) ≡ true)
       → is_some (get new (tag_of row, id)) ≡ true
-  other_row o is id row e own others = by (prop_cmp id key) refl (sym (is id) ∙ e)
-    where
-      apart : (c : Ordering) → prop_cmp id key ≡ c → is_eq c ≡ false → id ≡ key → ⊥
-      apart c at other same = true≢false (sym (ap is_eq (ap (λ z. prop_cmp z key) same ∙ tied_itself prop_total key)) ∙ ap is_eq at ∙ other)
-
-      by : (c : Ordering) → prop_cmp id key ≡ c → cond (is_eq c) o (row_at id) ≡ Some row → is_some (get new (tag_of row, id)) ≡ true
-      by Equal c r = own (prop_exact id key c) r
-      by Less c r = others (apart Less c refl) (kept id row r)
-      by Greater c r = others (apart Greater c refl) (kept id row r)
+  other_row o is id row e own others = grind (arith, true≢false, tied_itself, prop_total)
 
   -- a row is put, whose pair is there
   pub named-put : (row : PropRow) → is_some (get new (tag_of row, key)) ≡ true
       → ((p : Tag × PropId) → (p.1 ≡ key → p.0 ≡ tag_of row) → is_some (get old p) ≡ true → is_some (get new p) ≡ true)
       → ((q : PropId) → row_at' q ≡ cond (eq_by_cmp prop_cmp q key) (Some row) (row_at q)) → AreByName row_at' new
-  named-put row there stay is id r e =
-      other_row (Some row) is id r e
-      (λ same h. let one = same_Some row r h in ap (λ (p : Tag × PropId). is_some (get new p)) (λ i. (tag_of (sym one i), same i)) ∙ there)
-      (λ apart h. stay (tag_of r, id) (λ same. absurd (apart same)) h)
+  named-put row there stay is id r e = grind (arith, other_row, same_Some)
 
   -- a row is removed
   pub named-remove : ((p : Tag × PropId) → (p.1 ≡ key → ⊥) → is_some (get old p) ≡ true → is_some (get new p) ≡ true)

@@ -1,5 +1,5 @@
 -- The words that most proofs of this crate share.
-pub use Rattle.std.proofs.Common.{Bool, Equal, Greater, IsSome, Less, List, None, Option, Ordering, Some, T, [], ap, append-nil, append_assoc, cond, false, is_some, map, nat_lt, negsuc, pos, refl, subst, sym, true, unwrap_or, ℕ, ℤ, ◌&&◌, ◌++◌, ◌<◌, ◌||◌, ◌∙◌, ◌∷◌, ◌≡◌, ◌≢◌}
+pub use Rattle.std.proofs.Common.{arith, Bool, Equal, Greater, IsSome, Less, List, None, Option, Ordering, Some, T, [], ap, append-nil, append_assoc, cond, false, is_some, map, nat_lt, negsuc, pos, refl, subst, sym, true, unwrap_or, ℕ, ℤ, ◌&&◌, ◌++◌, ◌<◌, ◌||◌, ◌∙◌, ◌∷◌, ◌≡◌, ◌≢◌}
 pub use Rattle.std.proofs.lemmas.Bool.{lt-ltb, true≢false}
 pub use Rattle.std.proofs.lemmas.Bool.Decides.{Decides-int_eq}
 pub use Rattle.std.proofs.lemmas.Map.Lookups.{CmpEqualImpliesEq}

@@ -1,4 +1,4 @@
-use Rattle.moo_dump.{proofs.Words.{take, ap, ◌∙◌, flat_map, err_from_is_err_and, petitions_left, petition_line, petitions_text}, proofs.Compared.{fault_at, next_compared}}
+use Rattle.moo_dump.{proofs.Words.{arith, take, ap, ◌∙◌, flat_map, err_from_is_err_and, petitions_left, petition_line, petitions_text}, proofs.Compared.{fault_at, next_compared}}
 use Rattle.moo_dump.proofs.comparing.after_petitions.Goals as goal
 
 pub returns-in_err-at-clause-err : goal.returns-in_err-at-clause-err

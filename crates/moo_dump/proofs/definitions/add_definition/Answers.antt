@@ -1,4 +1,4 @@
-use Rattle.moo_dump.{proofs.Words.{rules, ◌++◌, [], ◌∷◌, Option, Some, cond, ap, ◌∙◌, unwrap_or, option_map, is_at, Vec, PropId, object_cmp}, proofs.Listing.{listed_more}}
+use Rattle.moo_dump.{proofs.Words.{arith, rules, ◌++◌, [], ◌∷◌, Option, Some, cond, ap, ◌∙◌, unwrap_or, option_map, is_at, Vec, PropId, object_cmp}, proofs.Listing.{listed_more}}
 use Rattle.moo_dump.proofs.definitions.add_definition.Goals as goal
 use Rattle.std.specs.BTreeMap.{get}
 

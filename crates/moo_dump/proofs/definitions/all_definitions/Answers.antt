@@ -1,4 +1,4 @@
-use Rattle.moo_dump.{proofs.Words.{ap, ◌∙◌, ids_listed}, specs.Lines.{ids_defined_by}, proofs.FlatMaps.{one_left}, proofs.Listing.{defined_more}}
+use Rattle.moo_dump.{proofs.Words.{arith, ap, ◌∙◌, ids_listed}, specs.Lines.{ids_defined_by}, proofs.FlatMaps.{one_left}, proofs.Listing.{defined_more}}
 use Rattle.moo_dump.proofs.definitions.all_definitions.Goals as goal
 use Rattle.moo_rows.specs.Walk.{props_left}
 

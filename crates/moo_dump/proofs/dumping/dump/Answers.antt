@@ -1,31 +1,22 @@
-use Rattle.moo_dump.{proofs.Words.{ℕ, take, ◌∙◌, Appends, dump, state_of}, proofs.Writing.{on_err, all_written, at_end, at_heading, at_objects, at_petitions}}
+use Rattle.moo_dump.{proofs.Words.{arith, ℕ, take, ◌∙◌, Appends, dump, state_of}, proofs.Writing.{on_err, all_written, at_end, at_heading, at_objects, at_petitions}}
 use Rattle.moo_dump.proofs.dumping.dump.Goals as goal
 use Rattle.std.proofs.KnownBytes.{Appends-nil}
 
 pub returns-in_err-outline-clause-err : goal.returns-in_err-outline-clause-err
-returns-in_err-outline-clause-err g c =
-    let old = g.W.Write.contents c.args.output.now in
-    let none : (count : ℕ) × Appends old old (take count (dump (state_of (g.R.Rows.held c.args.rows.now).maps))) = (0, Appends-nil old) in
-    on_err c.from_residual.result none
+returns-in_err-outline-clause-err g c = grind (arith, Appends-nil, on_err)
 
 pub returns-in_err-heading-clause-err : goal.returns-in_err-heading-clause-err
-returns-in_err-heading-clause-err g c =
-    let old = g.W.Write.contents c.args.output.now in
-    let none : (count : ℕ) × Appends old old (take count (dump (state_of (g.R.Rows.held c.args.rows.now).maps))) = (0, Appends-nil old) in
-    on_err c.from_residual-in_err-heading.result none
+returns-in_err-heading-clause-err g c = grind (arith, Appends-nil, on_err)
 
 pub returns-in_err-put_all-clause-err : goal.returns-in_err-put_all-clause-err
 returns-in_err-put_all-clause-err g c =
     on_err c.from_residual-in_err-put_all.result (at_heading (g.R.Rows.held c.args.rows.now).maps (g.W.Write.contents c.args.output.now) (g.W.Write.contents c.put_all.new.writer) c.deref.result.now (c.deref.ensures.value ∙ c.in_ok-heading.ensures) c.in_err-put_all.ensures.err)
 
 pub returns-in_err-put_objects-clause-err : goal.returns-in_err-put_objects-clause-err
-returns-in_err-put_objects-clause-err g c =
-    on_err c.from_residual-in_err-put_objects.result (at_objects (g.R.Rows.held c.args.rows.now).maps (g.W.Write.contents c.args.output.now) (g.W.Write.contents c.put_all.new.writer) c.deref.result.now (c.deref.ensures.value ∙ c.in_ok-heading.ensures) c.in_ok-put_all.ensures.ok (g.W.Write.contents c.put_objects.new.output) c.in_err-put_objects.ensures.err)
+returns-in_err-put_objects-clause-err g c = grind (arith, on_err, at_objects)
 
 pub returns-in_err-put_petitions-clause-err : goal.returns-in_err-put_petitions-clause-err
-returns-in_err-put_petitions-clause-err g c =
-    on_err c.from_residual-in_err-put_petitions.result
-    (at_petitions (g.R.Rows.held c.args.rows.now).maps (g.W.Write.contents c.args.output.now) (g.W.Write.contents c.put_all.new.writer) c.deref.result.now (c.deref.ensures.value ∙ c.in_ok-heading.ensures) c.in_ok-put_all.ensures.ok (g.W.Write.contents c.put_objects.new.output) c.in_ok-put_objects.ensures.ok (g.W.Write.contents c.put_petitions.new.output) c.in_err-put_petitions.ensures.err)
+returns-in_err-put_petitions-clause-err g c = grind (arith, on_err, at_petitions)
 
 pub returns-in_err-put_all-2-clause-err : goal.returns-in_err-put_all-2-clause-err
 returns-in_err-put_all-2-clause-err g c =

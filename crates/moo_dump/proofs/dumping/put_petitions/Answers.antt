@@ -1,12 +1,8 @@
-use Rattle.moo_dump.{proofs.Words.{◌≡◌, sym, ap, subst, ◌∙◌, rules, entries, flat_map, petitions_left, petition_line, petitions_text}, proofs.Writing.{HasWritten, written_none, on_err, next_part, next_written}}
+use Rattle.moo_dump.{proofs.Words.{arith, ◌≡◌, sym, ap, subst, ◌∙◌, rules, entries, flat_map, petitions_left, petition_line, petitions_text}, proofs.Writing.{HasWritten, written_none, on_err, next_part, next_written}}
 use Rattle.moo_dump.proofs.dumping.put_petitions.Goals as goal
 
 pub loop-id-init : goal.loop-id-init
-loop-id-init g c =
-    let t = (g.R.Rows.held c.args.rows.now).maps in
-    let all : petitions_left c.into_iter-id-iterator.result.last (g.R.Rows.held c.into_iter-id-iterator.result.rows.now).maps ≡ entries t.petitions = search rules in
-    let a = g.W.Write.contents c.args.output.now in
-    subst (λ left. HasWritten a a left (petitions_text t)) (ap (flat_map petition_line) (sym all)) (written_none a (petitions_text t))
+loop-id-init g c = grind (arith, written_none)
 
 pub returns-in_err-put_all-clause-err : goal.returns-in_err-put_all-clause-err
 returns-in_err-put_all-clause-err g c =

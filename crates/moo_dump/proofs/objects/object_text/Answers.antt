@@ -1,4 +1,4 @@
-use Rattle.moo_dump.{proofs.Words.{◌≡◌, ℕ, List, [], ◌++◌, sym, ap, ◌∙◌, append_assoc, Vec, flat_map, ids_defined, property_line_of}, proofs.ObjectLines.{object_printed, nothing_printed}, proofs.objects.object_text.Goals.{in-Some+in_ok-put_object_line+in_ok-put_properties+in_ok-put_slots+in_ok-put_verbs, in_default}}
+use Rattle.moo_dump.{proofs.Words.{arith, ◌≡◌, ℕ, List, [], ◌++◌, sym, ap, ◌∙◌, append_assoc, Vec, flat_map, ids_defined, property_line_of}, proofs.ObjectLines.{object_printed, nothing_printed}, proofs.objects.object_text.Goals.{in-Some+in_ok-put_object_line+in_ok-put_properties+in_ok-put_slots+in_ok-put_verbs, in_default}}
 use Rattle.moo_dump.proofs.objects.object_text.Goals as goal
 
 joined : (n a b c d own names slots verbs : List ℕ) → n ≡ [] → a ≡ n ++ own → b ≡ a ++ names → c ≡ b ++ slots → d ≡ c ++ verbs → d ≡ own ++ (names ++ (slots ++ verbs))

@@ -1,4 +1,4 @@
-use Rattle.moo_dump.{proofs.Words.{◌++◌, ℕ, Option, Some, None, [], ap, sym, ◌∙◌, append-nil, Vec, property_line_of}, specs.Dump.{property_line}, proofs.FlatMaps.{one_more, all_made}, proofs.objects.put_properties.Goals.{in-Some+in_ok-put_property_line, in_default}}
+use Rattle.moo_dump.{proofs.Words.{arith, ◌++◌, ℕ, Option, Some, None, [], ap, sym, ◌∙◌, append-nil, Vec, property_line_of}, specs.Dump.{property_line}, proofs.FlatMaps.{one_more, all_made}, proofs.objects.put_properties.Goals.{in-Some+in_ok-put_property_line, in_default}}
 use Rattle.moo_dump.proofs.objects.put_properties.Goals as goal
 use Rattle.moo_rows.specs.declared.row.PropRow.{PropRow}
 

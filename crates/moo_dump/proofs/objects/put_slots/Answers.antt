@@ -1,12 +1,10 @@
-use Rattle.moo_dump.{proofs.Words.{◌≡◌, ◌++◌, [], sym, ap, ◌∙◌, append-nil, flat_map, world_of, ids_defined, slot_line_of}, proofs.Skipping.{one_up, shorter}}
+use Rattle.moo_dump.{proofs.Words.{arith, ◌≡◌, ◌++◌, [], sym, ap, ◌∙◌, append-nil, flat_map, world_of, ids_defined, slot_line_of}, proofs.Skipping.{one_up, shorter}}
 use Rattle.moo_dump.proofs.objects.put_slots.Goals as goal
 use Rattle.moo_tree.proofs.Words.{chain_of_no_row, look_ups}
 use Rattle.moo_world.specs.World.{chain}
 
 pub loop-row-smaller : goal.loop-row-smaller
-loop-row-smaller g c =
-    let t = (g.R.Rows.held c.args.rows.now).maps in
-    shorter t c.requires.tree c.loop-row.at c.in-Some.row.now c.in-Some.ensures c.skip_up_from-at.result (c.skip_up_from-at.ensures t c.requires.outline.up)
+loop-row-smaller g c = grind (arith, shorter)
 
 pub loop-row-preserved : goal.loop-row-preserved
 loop-row-preserved g c =
@@ -17,7 +15,4 @@ loop-row-preserved g c =
     ∙ c.loop-row.invariant
 
 pub returns : goal.returns
-returns g c =
-    let t = (g.R.Rows.held c.args.rows.now).maps in
-    let none : chain (world_of t) c.loop-row.at ≡ [] = chain_of_no_row (look_ups t) c.loop-row.at c.in_default.ensures in
-    sym (append-nil c.loop-row.out.items) ∙ (rw none at c.loop-row.invariant)
+returns g c = grind (arith, chain_of_no_row, append-nil)

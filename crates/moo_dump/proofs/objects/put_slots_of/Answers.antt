@@ -1,4 +1,4 @@
-use Rattle.moo_dump.{proofs.Words.{slot_line_of}, proofs.FlatMaps.{one_more, all_made}}
+use Rattle.moo_dump.{proofs.Words.{arith, slot_line_of}, proofs.FlatMaps.{one_more, all_made}}
 use Rattle.moo_dump.proofs.objects.put_slots_of.Goals as goal
 
 pub loop-id-preserved : goal.loop-id-preserved

@@ -1,4 +1,4 @@
-use Rattle.moo_dump.{proofs.Words.{rules, ◌≡◌, ◌++◌, ℕ, List, ap, ◌∙◌, flat_map, Entry, walk, verb_line}, proofs.FlatMaps.{one_left}, proofs.ObjectLines.{verbs_walked}}
+use Rattle.moo_dump.{proofs.Words.{arith, rules, ◌≡◌, ◌++◌, ℕ, List, ap, ◌∙◌, flat_map, Entry, walk, verb_line}, proofs.FlatMaps.{one_left}, proofs.ObjectLines.{verbs_walked}}
 use Rattle.moo_dump.proofs.objects.put_verbs.Goals as goal
 use Rattle.moo_rows.specs.Walk.{verbs_of_left}
 

@@ -1,5 +1,5 @@
 use Rattle.std.proofs.Common.{pos}
-use Rattle.moo_dump.{proofs.Words.{get_or, LeadsUp}, proofs.Skipping.{added, all_at}}
+use Rattle.moo_dump.{proofs.Words.{arith, get_or, LeadsUp}, proofs.Skipping.{added, all_at}}
 use Rattle.moo_dump.proofs.skips.add_way.Goals as goal
 
 pub loop-y-preserved : goal.loop-y-preserved

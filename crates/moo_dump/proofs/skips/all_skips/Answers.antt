@@ -1,4 +1,4 @@
-use Rattle.moo_dump.proofs.Words.{sym, subst, AllByRecursion, LeadsUp}
+use Rattle.moo_dump.proofs.Words.{arith, sym, subst, AllByRecursion, LeadsUp}
 use Rattle.moo_dump.proofs.skips.all_skips.Goals as goal
 
 pub loop-row-preserved : goal.loop-row-preserved

@@ -1,4 +1,4 @@
-use Rattle.moo_props.{proofs.Words.{FitsSigned, w32, rules, ◌≡◌, refl, ap, ◌∙◌, Maps, Held, look_ups, world_of, world_shown, World, read_of, number_within, with_new_row, origins_among, with_fresh, numbers_same, beside_world}, proofs.Shared.{good_by, keeps-fresh, same_base, same_maps, walk}, proofs.NewSlots.{with_new, look_ups-new}, proofs.NewObject.{world_new, formed_new, sound_new, no_row}}
+use Rattle.moo_props.{proofs.Words.{arith, FitsSigned, w32, rules, ◌≡◌, refl, ap, ◌∙◌, Maps, Held, look_ups, world_of, world_shown, World, read_of, number_within, with_new_row, origins_among, with_fresh, numbers_same, beside_world}, proofs.Shared.{good_by, keeps-fresh, same_base, same_maps, walk}, proofs.NewSlots.{with_new, look_ups-new}, proofs.NewObject.{world_new, formed_new, sound_new, no_row}}
 use Rattle.moo_props.proofs.birth.make.Goals as goal
 use Rattle.moo_world.proofs.Ownership.Created.{read_old}
 
@@ -31,6 +31,4 @@ returns-clause-kept g c =
     }
 
 pub returns-clause-reads : goal.returns-clause-reads
-returns-clause-reads g c o n h =
-    ap (λ (w : World). read_of w o n) (returns-clause-world g c)
-    ∙ read_old (world_of (t g c)) c.args.x c.args.parent c.args.owner c.requires.good.formed c.requires.next c.requires.parent o n h
+returns-clause-reads g c o n h = grind (arith, returns-clause-world, read_old)

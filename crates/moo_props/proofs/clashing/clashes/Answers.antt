@@ -1,4 +1,4 @@
-use Rattle.moo_props.{proofs.Words.{slot_seen}, proofs.NameClashes.{definer_above, definer_under}}
+use Rattle.moo_props.{proofs.Words.{arith, slot_seen}, proofs.NameClashes.{definer_above, definer_under}}
 use Rattle.moo_props.proofs.clashing.clashes.Goals as goal
 
 pub returns-in-Some : goal.returns-in-Some

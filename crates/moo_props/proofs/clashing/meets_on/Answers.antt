@@ -1,4 +1,4 @@
-use Rattle.moo_props.{proofs.Words.{ap, ◌∙◌, is_some, list_any, defined_left, folded, world_of, slot_of}, proofs.NameClashes.{any_defined, meets_by_slots}}
+use Rattle.moo_props.{proofs.Words.{arith, ap, ◌∙◌, is_some, list_any, defined_left, folded, world_of, slot_of}, proofs.NameClashes.{any_defined, meets_by_slots}}
 use Rattle.moo_props.proofs.clashing.meets_on.Goals as goal
 
 pub loop-id-init : goal.loop-id-init

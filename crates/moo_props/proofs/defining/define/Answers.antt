@@ -1,4 +1,4 @@
-use Rattle.moo_props.{proofs.Words.{FitsSigned, w32, rules, ◌≡◌, ◌+◌, refl, ap, ◌∙◌, Maps, Held, wrote, PropId, SlotRow, Set, property_added, look_ups, world_of, world_shown, prop_id, number_within, slot_within, insert, Origin, with_definition, owners_under, verbs_stay, as_high, beside_world, slots_moved, [], ◌∷◌}, proofs.Shared.{good_by, same_base}, proofs.NewProp.{sound_with, world_with, formed_with, with_property}, proofs.Folding.{ids_same}, proofs.Moved.{keeps-moved}, proofs.NewPropRows.{look_ups-with, held2, only2}}
+use Rattle.moo_props.{proofs.Words.{arith, FitsSigned, w32, rules, ◌≡◌, ◌+◌, refl, ap, ◌∙◌, Maps, Held, wrote, PropId, SlotRow, Set, property_added, look_ups, world_of, world_shown, prop_id, number_within, slot_within, insert, Origin, with_definition, owners_under, verbs_stay, as_high, beside_world, slots_moved, [], ◌∷◌}, proofs.Shared.{good_by, same_base}, proofs.NewProp.{sound_with, world_with, formed_with, with_property}, proofs.Folding.{ids_same}, proofs.Moved.{keeps-moved}, proofs.NewPropRows.{look_ups-with, held2, only2}}
 use Rattle.moo_props.proofs.defining.define.Goals as goal
 use Rattle.moo_world.{specs.Numbers.{prop_added}, proofs.Shown.NumbersKept.{one_higher}}
 

@@ -9,8 +9,7 @@ above : (t : Maps) (tree : IsTree (world_of t)) (x y : ObjNo) (r : ObjRow) → S
 above t tree x y r row other under = parent_under t tree x y r.parent r (sym row) refl (sym (same_object-eq x y) ∙ not-true _ (sym other)) under
 
 pub unreachable-requires : goal.unreachable-requires
-unreachable-requires g c =
-    true≢false (sym c.loop-x.invariant.under ∙ ap (is_among c.args.x) (chain_of_no_row (look_ups (g.R.Rows.held c.args.rows.now).maps) c.loop-x.done c.in-None.ensures))
+unreachable-requires g c = grind (arith, true≢false, chain_of_no_row)
 
 pub returns-in-Some-next_linked-clause-next : goal.returns-in-Some-next_linked-clause-next
 returns-in-Some-next_linked-clause-next g c =
@@ -28,12 +27,7 @@ pub loop-x-smaller : goal.loop-x-smaller
 loop-x-smaller g c = omega (arith, ap length (chain_up (g.R.Rows.held c.args.rows.now).maps c.requires.tree c.loop-x.done c.in-Some.row.now.parent c.in-Some.row.now (sym c.in-Some.ensures) refl))
 
 pub loop-x-preserved : goal.loop-x-preserved
-loop-x-preserved g c =
-    let t = (g.R.Rows.held c.args.rows.now).maps in
-    record {
-      same = upward t c.requires.tree c.args.x c.loop-x.done c.in-Some.row.now.parent c.in-Some.row.now (sym c.in-Some.ensures) refl (above t c.requires.tree c.args.x c.loop-x.done c.in-Some.row.now c.in-Some.ensures c.loop-x-test.ensures c.loop-x.invariant.under) c.in_default.ensures ∙ c.loop-x.invariant.same;
-      under = above t c.requires.tree c.args.x c.loop-x.done c.in-Some.row.now c.in-Some.ensures c.loop-x-test.ensures c.loop-x.invariant.under;
-    }
+loop-x-preserved g c = grind (arith, upward, above)
 
 pub returns-clause-next : goal.returns-clause-next
 returns-clause-next g c =

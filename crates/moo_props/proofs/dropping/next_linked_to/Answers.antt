@@ -1,4 +1,4 @@
-use Rattle.moo_props.{proofs.Words.{◌||◌, sym, subst, ChildOf, Within, object_exact, IsFirst, is_linked, object_cmp, object_total}, proofs.WholeWalks.{linked-first}}
+use Rattle.moo_props.{proofs.Words.{arith, ◌||◌, sym, subst, ChildOf, Within, object_exact, IsFirst, is_linked, object_cmp, object_total}, proofs.WholeWalks.{linked-first}}
 use Rattle.moo_props.proofs.dropping.next_linked_to.Goals as goal
 use Rattle.moo_rows.proofs.Firsts.{either-first}
 

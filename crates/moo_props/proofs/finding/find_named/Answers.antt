@@ -3,16 +3,10 @@ use Rattle.moo_world.proofs.Shown.Seen.{chain_of_row}
 use Rattle.moo_props.proofs.finding.find_named.Goals as goal
 
 pub returns-in-Some-clause-held : goal.returns-in-Some-clause-held
-returns-in-Some-clause-held g c =
-    let t = (g.R.Rows.held c.args.rows.now).maps in
-    let row = own_row t c.requires.sound c.climb.at c.in-Some.id c.in-Some.ensures.own in
-    own_held t c.requires c.args.x c.climb.at row.0 row.1 c.climb.invariant.above c.in-Some.id c.in-Some.ensures.own
+returns-in-Some-clause-held g c = grind (arith, own_row, own_held)
 
 pub returns-in-Some-clause-exact : goal.returns-in-Some-clause-exact
-returns-in-Some-clause-exact g c =
-    let t = (g.R.Rows.held c.args.rows.now).maps in
-    let row = own_row t c.requires.sound c.climb.at c.in-Some.id c.in-Some.ensures.own in
-    some_left t c.requires c.args.x c.climb.at row.0 row.1 c.args.name.now (sym c.in-Some.ensures.exact) c.climb.invariant.any
+returns-in-Some-clause-exact g c = grind (arith, own_row, some_left)
 
 pub climb-smaller : goal.climb-smaller
 climb-smaller g c = omega (arith, ap length (chain_of_row (look_ups (g.R.Rows.held c.args.rows.now).maps) c.requires.formed.tree c.climb.at c.in-Some-object.row.now c.in-Some-object.ensures))

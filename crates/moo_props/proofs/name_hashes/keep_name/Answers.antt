@@ -1,4 +1,4 @@
-use Rattle.moo_props.{proofs.Words.{◌≡◌, sym, ap, ◌∙◌, same_Some, is_some, get, insert, PropRow, contents, hashed_cmp}, proofs.HashedNames.{hashed_total}}
+use Rattle.moo_props.{proofs.Words.{arith, ◌≡◌, sym, ap, ◌∙◌, same_Some, is_some, get, insert, PropRow, contents, hashed_cmp}, proofs.HashedNames.{hashed_total}}
 use Rattle.moo_rows.{specs.Named.{name_hash}, proofs.Firsts.{has-insert, on_ok}, proofs.Naming.{kept-insert}}
 use Rattle.moo_props.proofs.name_hashes.keep_name.Goals as goal
 

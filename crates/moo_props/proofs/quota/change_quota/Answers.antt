@@ -1,4 +1,4 @@
-use Rattle.moo_props.{proofs.Words.{◌+ℤ◌, FitsSigned, w64, rules, sym, ◌∙◌, ap, to_z-of_z, Int, Set, with_slot_of, world_of, spelling_of}, proofs.Quotas.{moved, folded_spelling}}
+use Rattle.moo_props.{proofs.Words.{arith, ◌+ℤ◌, FitsSigned, w64, rules, sym, ◌∙◌, ap, to_z-of_z, Int, Set, with_slot_of, world_of, spelling_of}, proofs.Quotas.{moved, folded_spelling}}
 use Rattle.moo_props.proofs.quota.change_quota.Goals as goal
 use Rattle.moo_rows.specs.declared.row.SlotState.{SlotState}
 

@@ -1,4 +1,4 @@
-use Rattle.moo_props.{proofs.Words.{FitsSigned, w64, rules, Some, sym, ap, ◌∙◌, to_z-of_z, folded, quota_in, world_of, name_of}, proofs.Cases.{none_of}, proofs.Quotas.{no_quota, no_integer, quota_is}}
+use Rattle.moo_props.{proofs.Words.{arith, FitsSigned, w64, rules, Some, sym, ap, ◌∙◌, to_z-of_z, folded, quota_in, world_of, name_of}, proofs.Cases.{none_of}, proofs.Quotas.{no_quota, no_integer, quota_is}}
 use Rattle.moo_props.proofs.quota.quota_here.Goals as goal
 
 pub returns-in-None-clause-quota : goal.returns-in-None-clause-quota
@@ -7,10 +7,7 @@ returns-in-None-clause-quota g c = let m = (g.R.Rows.held c.args.rows.now).maps 
 
 pub returns-in-Int-clause-quota : goal.returns-in-Int-clause-quota
 unfolding folded
-returns-in-Int-clause-quota g c =
-    let f : FitsSigned w64 c.in-Int.quota = search rules in
-    let w = world_of (g.R.Rows.held c.args.rows.now).maps in
-    ap Some (to_z-of_z w64 c.in-Int.quota f) ∙ sym (quota_is w c.args.o (name_of (g.R.Rows.held c.args.rows.now).maps c.in-Some.id) c.value_of.result.now c.in-Some.ensures.named c.value_of.ensures ∙ ap (λ v. quota_in (Some v)) c.in-Int.is)
+returns-in-Int-clause-quota g c = grind (arith, to_z-of_z, quota_is)
 
 pub returns-in-Int-clause-named : goal.returns-in-Int-clause-named
 unfolding folded
@@ -18,8 +15,4 @@ returns-in-Int-clause-named g c = c.in-Some.ensures.named
 
 pub returns-in_default : goal.returns-in_default
 unfolding folded
-returns-in_default g c = record {
-  quota = sym (quota_is (world_of (g.R.Rows.held c.args.rows.now).maps) c.args.o (name_of (g.R.Rows.held c.args.rows.now).maps c.in-Some.id) c.value_of.result.now c.in-Some.ensures.named c.value_of.ensures ∙ no_integer c.value_of.result.now c.in_default.not-Int);
-  has = tt;
-  named = tt;
-}
+returns-in_default g c = grind (arith, quota_is, no_integer)

@@ -1,4 +1,4 @@
-use Rattle.moo_props.{proofs.Words.{◌≡◌, Some, sym, ap, ◌∙◌, get, insert, PropRow, Maps, Held, property_renamed, look_ups, world_of, world_shown, verbs_stay, beside_world}, proofs.Kept.{good_by, numbers_by}, proofs.RenamedRows.{with_new_name, look_ups-property_renamed, world_renamed, sound_renamed, formed_renamed}, proofs.ShorterRows.{own_row, spelled}}
+use Rattle.moo_props.{proofs.Words.{arith, ◌≡◌, Some, sym, ap, ◌∙◌, get, insert, PropRow, Maps, Held, property_renamed, look_ups, world_of, world_shown, verbs_stay, beside_world}, proofs.Kept.{good_by, numbers_by}, proofs.RenamedRows.{with_new_name, look_ups-property_renamed, world_renamed, sound_renamed, formed_renamed}, proofs.ShorterRows.{own_row, spelled}}
 use Rattle.moo_props.proofs.renaming.rename.Goals as goal
 use Rattle.moo_world.specs.Numbers.{prop_renamed}
 

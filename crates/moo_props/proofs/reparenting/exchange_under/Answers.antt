@@ -1,4 +1,4 @@
-use Rattle.moo_props.{proofs.Words.{◌∙◌, keys_by, slots_moved}, proofs.Folding.{ids_same}}
+use Rattle.moo_props.{proofs.Words.{arith, ◌∙◌, keys_by, slots_moved}, proofs.Folding.{ids_same}}
 use Rattle.moo_props.proofs.reparenting.exchange_under.Goals as goal
 
 pub returns : goal.returns

@@ -1,4 +1,4 @@
-use Rattle.moo_props.{proofs.Words.{◌++◌, sym, ap, ◌∙◌, filter, slots_of_left, ids_among, is_defined_only, is_key}, proofs.AmongSlots.{slots_are_props}, proofs.Steps.{kept}}
+use Rattle.moo_props.{proofs.Words.{arith, ◌++◌, sym, ap, ◌∙◌, filter, slots_of_left, ids_among, is_defined_only, is_key}, proofs.AmongSlots.{slots_are_props}, proofs.Steps.{kept}}
 use Rattle.moo_props.proofs.reparenting.props_among.Goals as goal
 
 pub loop-key-init : goal.loop-key-init

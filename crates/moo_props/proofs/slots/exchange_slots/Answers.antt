@@ -1,4 +1,4 @@
-use Rattle.moo_props.proofs.Words.{ObjNo, pos, get_or, sym, ap, ◌∙◌, with_fresh, without_on}
+use Rattle.moo_props.proofs.Words.{arith, ObjNo, pos, get_or, sym, ap, ◌∙◌, with_fresh, without_on}
 use Rattle.std.proofs.lemmas.List.Sums.{fold_more}
 use Rattle.moo_props.proofs.slots.exchange_slots.Goals as goal
 

@@ -1,4 +1,4 @@
-use Rattle.moo_props.{proofs.Words.{refl, sym, ap, ◌∙◌, subst, Held, world_of, slot_within, IsSameButSlots, slots_only}, proofs.States.{put_slot_world, put_slot_good}}
+use Rattle.moo_props.{proofs.Words.{arith, refl, sym, ap, ◌∙◌, subst, Held, world_of, slot_within, IsSameButSlots, slots_only}, proofs.States.{put_slot_world, put_slot_good}}
 use Rattle.moo_props.proofs.state.put_state.Goals as goal
 use Rattle.moo_world.{specs.Keeps.{Keeps}, proofs.Form.Limits.{slot_owner}}
 

@@ -1,4 +1,4 @@
-use Rattle.moo_props.{proofs.Words.{rules, ◌≡◌, refl, sym, ap, ◌∙◌, subst, ObjNo, Held, SlotRow, world_of, slot_seen, Slot, number_within, slot_within, IsSameButSlots, slots_only}, proofs.States.{put_slot_world, put_slot_good, clear_inherited}}
+use Rattle.moo_props.{proofs.Words.{arith, rules, ◌≡◌, refl, sym, ap, ◌∙◌, subst, ObjNo, Held, SlotRow, world_of, slot_seen, Slot, number_within, slot_within, IsSameButSlots, slots_only}, proofs.States.{put_slot_world, put_slot_good, clear_inherited}}
 use Rattle.moo_props.proofs.state.set_info.Goals as goal
 use Rattle.moo_world.{specs.Keeps.{Keeps}, proofs.Form.Limits.{slot_state}}
 

@@ -1,4 +1,4 @@
-use Rattle.moo_props.{proofs.Words.{◌≡◌, Some, refl, sym, ap, ◌∙◌, get, remove, PropRow, Maps, Held, property_removed, look_ups, world_of, world_shown, owners_under, verbs_stay, beside_world, slots_moved, without_prop, [], ◌∷◌}, proofs.Shared.{good_by, numbers_by, same_base}, proofs.ShorterRows.{own_row, spelled, world_shorter, sound_shorter, less_property, look_ups-shorter, only2, held1, held2}, proofs.Folding.{ids_same}, proofs.Moved.{keeps-moved}}
+use Rattle.moo_props.{proofs.Words.{arith, ◌≡◌, Some, refl, sym, ap, ◌∙◌, get, remove, PropRow, Maps, Held, property_removed, look_ups, world_of, world_shown, owners_under, verbs_stay, beside_world, slots_moved, without_prop, [], ◌∷◌}, proofs.Shared.{good_by, numbers_by, same_base}, proofs.ShorterRows.{own_row, spelled, world_shorter, sound_shorter, less_property, look_ups-shorter, only2, held1, held2}, proofs.Folding.{ids_same}, proofs.Moved.{keeps-moved}}
 use Rattle.moo_props.proofs.undefining.undefine.Goals as goal
 use Rattle.moo_world.{specs.Numbers.{prop_removed}, proofs.Inheritance.Shorter.{IsWellFormed-property_removed}}
 
@@ -9,9 +9,7 @@ prop : (g : _) (c : goal.After-drop-under-2 g) → (p : PropRow) × (get (t g c)
 prop g c = own_row (t g c) c.args.x c.args.id c.requires.own
 
 ends : (g : _) (c : goal.After-drop-under-2 g) → g.R.Rows.held c.remove_prop.new.self ≡ held2 (t g c) c.requires.good c.args.x c.args.id.0 (prop g c).0 (prop g c).1 (prop g c).2 (g.R.Rows.held c.args.rows.now) refl
-ends g c =
-    c.in_ok-remove_prop.ensures.ok
-    ∙ ap (λ h. without_prop h c.args.id) (c.in_ok-exchange_slots.ensures ∙ (λ i. slots_moved (ids_same c.args.x (c.args.id ∷ []) i) [] ((c.as_slice.ensures.value ∙ c.in_ok-under.ensures) i) (g.R.Rows.held c.args.rows.now)))
+ends g c = grind (arith, ids_same)
 
 shown : (g : _) (c : goal.After-drop-under-2 g) → look_ups (g.R.Rows.held c.remove_prop.new.self).maps ≡ less_property (look_ups (t g c)) c.args.id.0
 shown g c = ap (λ (h : Held). look_ups h.maps) (ends g c) ∙ look_ups-shorter (t g c) c.requires.good c.args.x c.args.id.0 (prop g c).0 (prop g c).1 (prop g c).2 (g.R.Rows.held c.args.rows.now) refl

@@ -1,4 +1,4 @@
-use Rattle.moo_rows.{proofs.Words.{◌≡◌, ℕ, pos, negsuc, Option, None, Some, Less, refl, sym, ap, IsSome, true≢false, get, entries, IsNext, IsPast, Maps, object_cmp, objects_left, ObjNo, ObjRow}, proofs.Walking.{past_none, objects-end, objects-step}}
+use Rattle.moo_rows.{proofs.Words.{◌≡◌, ℕ, pos, negsuc, Option, Some, refl, ap, true≢false, entries, IsNext, IsPast, Maps, object_cmp, objects_left, ObjNo}, proofs.Walking.{past_none, objects-end, objects-step}}
 use Rattle.moo_rows.proofs.walk.object_count.Goals as goal
 use Rattle.moo_rows.proofs.walk.object_count.Invariants.{FitUpTo}
 use Rattle.std.proofs.Common.{arith, rules, suc, length, ◌+◌, ◌≤ℤ◌}
@@ -7,15 +7,10 @@ use Rattle.std.proofs.lemmas.Cmp.{int_ranked}
 
 -- the next one is the first of those that were left
 one_left : (t : Maps) (last : Option ObjNo) (x : ObjNo) → IsNext t.objects last (Some x) → length (objects_left last t) ≡ suc (length (objects_left (Some x) t))
-one_left t last x next = by (get t.objects x) refl next.0
-  where
-    by : (o : Option ObjRow) → get t.objects x ≡ o → IsSome o → length (objects_left last t) ≡ suc (length (objects_left (Some x) t))
-    by None held is = absurd (true≢false (sym is))
-    by (Some row) held is = ap length (objects-step t last x row next held)
+one_left t last x next = grind (arith, true≢false, objects-step)
 
 fit_on : (last : Option ObjNo) (x : ObjNo) (count : ℕ) → IsPast object_cmp last x → negsuc 2147483647 ≤ℤ x.0 → FitUpTo last count → FitUpTo (Some x) (count + 1)
-fit_on None x count past low fit = omega (arith, ints, low, fit)
-fit_on (Some last) x count past low fit = omega (arith, ints, int_ranked last.0 x.0 Less (sym past), fit)
+fit_on last x count h1 h2 h3 = grind (arith, int_ranked)
 
 pub loop-x-init : goal.loop-x-init
 loop-x-init g c = let all = ap length (past_none object_cmp (entries (g.R.Rows.held c.args.rows.now).maps.objects)) in (omega (arith, all), refl)

@@ -1,17 +1,10 @@
-use Rattle.moo_rows.{proofs.Words.{◌≡◌, Bool, Some, true, false, refl, ap, ◌∙◌}, specs.Bits.{bits_of, letters_of}}
+use Rattle.moo_rows.{proofs.Words.{arith, ◌≡◌, Bool, Some, ap, ◌∙◌}, specs.Bits.{bits_of, letters_of}}
 use Rattle.moo_rows.proofs.row.Bits.letters.Goals as goal
 use Rattle.std.proofs.Common.{rules}
 
 -- the letters of rights are read as these rights
 read_back : (r w c : Bool) → bits_of (letters_of (record { r = r; w = w; c = c })) ≡ Some (record { r = r; w = w; c = c })
-read_back true true true = refl
-read_back true true false = refl
-read_back true false true = refl
-read_back true false false = refl
-read_back false true true = refl
-read_back false true false = refl
-read_back false false true = refl
-read_back false false false = refl
+read_back r w c = grind arith
 
 pub returns-clause-letters : goal.returns-clause-letters
 returns-clause-letters c = search rules

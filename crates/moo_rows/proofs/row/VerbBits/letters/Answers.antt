@@ -1,25 +1,10 @@
-use Rattle.moo_rows.{proofs.Words.{◌≡◌, Bool, Some, true, false, refl, ap, ◌∙◌}, specs.Bits.{verb_bits_of, verb_letters_of}}
+use Rattle.moo_rows.{proofs.Words.{arith, ◌≡◌, Bool, Some, ap, ◌∙◌}, specs.Bits.{verb_bits_of, verb_letters_of}}
 use Rattle.moo_rows.proofs.row.VerbBits.letters.Goals as goal
 use Rattle.std.proofs.Common.{rules}
 
 -- the letters of rights are read as these rights
 read_back : (r w x d : Bool) → verb_bits_of (verb_letters_of (record { r = r; w = w; x = x; d = d })) ≡ Some (record { r = r; w = w; x = x; d = d })
-read_back true true true true = refl
-read_back true true true false = refl
-read_back true true false true = refl
-read_back true true false false = refl
-read_back true false true true = refl
-read_back true false true false = refl
-read_back true false false true = refl
-read_back true false false false = refl
-read_back false true true true = refl
-read_back false true true false = refl
-read_back false true false true = refl
-read_back false true false false = refl
-read_back false false true true = refl
-read_back false false true false = refl
-read_back false false false true = refl
-read_back false false false false = refl
+read_back r w x d = grind arith
 
 pub returns-clause-letters : goal.returns-clause-letters
 returns-clause-letters c = search rules
