@@ -1,15 +1,11 @@
 -- Why one of several calls failed, one after another.
-use Rattle.moo_tables_rows.{proofs.Words.{IfErr, ◌≡◌, inl, inr, ◌≤◌, Ok, Err, Result, IsTrue, IsSome, true≢false, sym, subst, ◌∙◌, arith, ⊤, Error, Trees, State, HasCleanDisk, HasCause, Survives, Tables, Sees, Changes, StaysInside, StopsChange, HasCauseIn, true, false, refl, ap, MatchBool, IsUnchanged, store_error, KeepsUnread, Holds, MeetsRowIn, is_conflict, ◌⊎◌}, proofs.InsideLemmas.{clean_before, stays, stays_then}}
+use Rattle.moo_tables_rows.{proofs.Words.{IfErr, ◌≡◌, inl, inr, ◌≤◌, Ok, Err, Result, IsTrue, IsSome, true≢false, sym, subst, ◌∙◌, arith, ⊤, Error, Trees, State, HasCleanDisk, HasCause, Survives, Tables, Sees, Changes, StaysInside, StopsChange, HasCauseIn, true, false, refl, ap, MatchBool, IsUnchanged, store_error, KeepsUnread, Holds, MeetsRowIn, is_conflict, ◌⊎◌}, proofs.InsideLemmas.{clean_before, stays_then}}
 use Rattle.std.specs.Result.{IsErrAnd}
-use Rattle.sqlite_trees.{specs.declared.error.StoreError.{StoreError}, specs.declared.error.StoreError.TheVariants.{OutOfMemory, Io, Corrupt, Full, Broken, Unstorable}}
+use Rattle.sqlite_trees.{specs.declared.error.StoreError.{StoreError}, specs.declared.error.StoreError.TheVariants.{OutOfMemory, Broken}}
 
 cause_from : (old mid new : State) (cause : StoreError) → old.faults ≤ mid.faults → IsTrue mid.is_open → HasCause mid new ⊤ cause → HasCause old new ⊤ cause
-cause_from old mid new OutOfMemory up is_open h = tt
-cause_from old mid new Io up is_open h = omega arith
-cause_from old mid new Corrupt up is_open h = omega arith
-cause_from old mid new Full up is_open h = omega arith
 cause_from old mid new Broken up is_open h = absurd (true≢false (sym is_open ∙ h))
-cause_from old mid new Unstorable up is_open h = tt
+cause_from old mid new cause up is_open h = grind arith
 
 -- a call stopped, after others that forgot no fault of the disk and left the limit on steps
 pub stops_since : (old mid new : State) (e : Error) → old.faults ≤ mid.faults → mid.step_limit ≡ old.step_limit → IsTrue mid.is_open → StopsChange mid new e → StopsChange old new e
@@ -18,12 +14,8 @@ stops_since old mid new e up steps is_open (inr (inl h)) = inr (inl (h.0, subst 
 stops_since old mid new e up steps is_open (inr (inr h)) = inr (inr h)
 
 cause_to : (old mid new : State) (cause : StoreError) → mid.faults ≤ new.faults → HasCause old mid ⊤ cause → HasCause old new ⊤ cause
-cause_to old mid new OutOfMemory up h = tt
-cause_to old mid new Io up h = omega arith
-cause_to old mid new Corrupt up h = omega arith
-cause_to old mid new Full up h = omega arith
 cause_to old mid new Broken up h = h
-cause_to old mid new Unstorable up h = tt
+cause_to old mid new cause up h = grind arith
 
 -- and the transaction was undone
 pub stops_to : (old mid new : State) (e : Error) (P : Trees → Type 0) → Survives mid new P → StopsChange old mid e → StopsChange old new e
@@ -35,9 +27,6 @@ pub record Reaches (old mid : State) : Type 0 where
   pub inside : StaysInside old mid
   pub sees : HasCleanDisk mid → (tables : Tables) → Sees old tables → (after : Tables) × Sees mid after
 
-pub reaches_none : (s : State) → Reaches s s
-reaches_none s = record { inside = stays s; sees = λ clean tables seen. (tables, seen) }
-
 pub reaches_more : {a b c : State} {change : Tables → Tables} → Reaches a b → StaysInside b c → Changes change b c → Reaches a c
 reaches_more {a} {b} {c} {change} first quiet changes = record {
   inside = stays_then first.inside quiet;
@@ -45,7 +34,7 @@ reaches_more {a} {b} {c} {change} first quiet changes = record {
 }
 
 pub reaches : {a b : State} {change : Tables → Tables} → StaysInside a b → Changes change a b → Reaches a b
-reaches {a} quiet changes = reaches_more (reaches_none a) quiet changes
+reaches {change = change} quiet changes = record { inside = quiet; sees = λ clean tables seen. (change tables, (changes clean tables seen).0) }
 
 pub fails_after : {A : Type 0} {old mid new : State} (r : Result A Error) → Reaches old mid → StaysInside mid new → HasCauseIn mid new r → HasCauseIn old new r
 fails_after (Ok x) first quiet cause = λ clean tables seen. tt
@@ -65,11 +54,7 @@ err_after {A} {B} {old} {mid} {new} {e} r s first quiet cause was is = λ clean 
 
 stored_otherwise : (cause : StoreError) → is_conflict (store_error cause) ≡ false
 stored_otherwise OutOfMemory = refl
-stored_otherwise Io = refl
-stored_otherwise Corrupt = refl
-stored_otherwise Full = refl
-stored_otherwise Broken = refl
-stored_otherwise Unstorable = refl
+stored_otherwise cause = refl
 
 -- no cause of any change is that a rule refused a row
 no_conflict : (old new : State) (e : Error) → StopsChange old new e → is_conflict e ≡ false

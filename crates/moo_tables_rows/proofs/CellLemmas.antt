@@ -21,12 +21,11 @@ module _ (key : Option ℕ) where
     there at (c ∷ front) name more row apart present = there (at + 1) front name more row apart (and_parts _ _ present).1
 
     typed : (at : ℕ) (front : List Column) (name : List ℕ) (more : List Column) (row : Row) → IsApart at front → are_typed key at (front ++ required kind name ∷ more) row ≡ true → is_null (column row (length front)) ≡ false → is_of kind (column row (length front)) ≡ true
-    typed at [] name more [] apart typed_so some = absurd (true≢false some)
     typed at [] name more (v ∷ vs) apart typed_so some =
         let here : (if is_key key at then is_null v else is_of kind v) ≡ true = (and_parts (if is_key key at then is_null v else is_of kind v) (are_typed key (at + 1) more vs) typed_so).0 in
         ap (λ b. if b then is_null v else is_of kind v) (sym apart) ∙ here
-    typed at (c ∷ front) name more [] apart typed_so some = absurd (true≢false some)
     typed at (c ∷ front) name more (v ∷ vs) apart typed_so some = typed (at + 1) front name more vs apart (and_parts _ _ typed_so).1 some
+    typed at front name more row apart typed_so some = absurd (true≢false some)
 
     pub cell_in : (front : List Column) (name : List ℕ) (more : List Column) (row : Row) → IsApart 0 front → place_behind 0 front ≡ suc (length front) → are_typed key 0 (front ++ required kind name ∷ more) (drop 1 row) ≡ true → are_present key 0 (front ++ required kind name ∷ more) row ≡ true
         → (is_of kind (column row (suc (length front))) ≡ true) × (is_null (column row (suc (length front))) ≡ false)

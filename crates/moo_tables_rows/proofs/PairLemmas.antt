@@ -1,10 +1,8 @@
 -- Two columns as a key, of which the table has an index.
-use Rattle.moo_tables_rows.{proofs.Words.{◌≡◌, List, ℤ, [], ◌∷◌, Bool, true, false, ◌&&◌, ◌||◌, None, refl, ap, ◌∙◌, and_parts, Null, Int, Row, column, binary, is_true, agree, Binary, Compare, Eq, with_rowid, Chosen, Has, has_pair, first_key, plain, pair_places, same_numbers}, proofs.TextLemmas.{pair_terms}, proofs.StepLemmas.{cast_null}, proofs.KeyLemmas.{pair_exact, pair_apart}, proofs.RowLemmas.{equal_number, pair_free, pair_has, picks_pair}, proofs.FindLemmas.{exactly, ArePairs}, proofs.UniqueLemmas.{AreApart}, proofs.StopPairLemmas.{left_apart, new_apart}, proofs.KindLemmas.{Kind}}
+use Rattle.moo_tables_rows.{proofs.Words.{arith, ◌≡◌, List, ℤ, [], ◌∷◌, Bool, true, false, ◌&&◌, ◌||◌, None, refl, ap, ◌∙◌, and_parts, Null, Int, Row, column, binary, is_true, agree, Binary, Compare, Eq, with_rowid, Chosen, Has, has_pair, first_key, plain, pair_places, same_numbers}, proofs.TextLemmas.{pair_terms}, proofs.StepLemmas.{cast_null}, proofs.KeyLemmas.{pair_exact, pair_apart}, proofs.RowLemmas.{equal_number, pair_free, pair_has, picks_pair}, proofs.FindLemmas.{exactly, ArePairs}, proofs.UniqueLemmas.{AreApart}, proofs.StopPairLemmas.{left_apart, new_apart}, proofs.KindLemmas.{Kind}}
 
 same_or_not : (a b : Bool) → ((a && (b && true)) || false) ≡ (a && b)
-same_or_not true true = refl
-same_or_not true false = refl
-same_or_not false b = refl
+same_or_not a b = grind arith
 
 pub pairs_agree : (id m n : ℤ) (tail r : Row) → (agree plain (1 ∷ 2 ∷ []) r (1 ∷ 2 ∷ []) (Int id ∷ Int m ∷ Int n ∷ tail) || false) ≡ has_pair (m, n) r
 unfolding first_key

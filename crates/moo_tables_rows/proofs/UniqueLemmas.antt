@@ -1,5 +1,5 @@
 -- No two rows of a table share a key of two columns, whichever row is put or taken out.
-use Rattle.moo_tables_rows.{proofs.Words.{◌≡◌, ◌⊎◌, inl, inr, ℤ, List, [], ◌∷◌, true, true≢false, ◌&&◌, not, IsTrue, refl, sym, ap, subst, ◌∙◌, AllByRecursion, is_ne, and_parts, and_from, tied_itself, Int, Row, column, value_cmp, binary, is_true, Binary, Compare, Eq, id_in, rowid, put_row, agree, differ, clashes, first_key, plain, value_cmp_total, Has, all_from, some_has, is_int, has_pair}, proofs.KeyLemmas.{ties_itself, is_false, int_value, pair_apart, pair_exact}, proofs.RowLemmas.{equal_number}, proofs.FindLemmas.{differ_numbers}}
+use Rattle.moo_tables_rows.{proofs.Words.{arith, ◌≡◌, ◌⊎◌, inl, inr, ℤ, List, [], ◌∷◌, true, true≢false, ◌&&◌, not, IsTrue, refl, sym, ap, subst, ◌∙◌, AllByRecursion, is_ne, and_parts, and_from, tied_itself, Int, Row, column, value_cmp, binary, is_true, Binary, Compare, Eq, id_in, rowid, put_row, agree, differ, clashes, first_key, plain, value_cmp_total, Has, all_from, some_has, is_int, has_pair}, proofs.KeyLemmas.{ties_itself, is_false, int_value, pair_apart, pair_exact}, proofs.RowLemmas.{equal_number}, proofs.FindLemmas.{differ_numbers}}
 use Rattle.sqlite_rules.proofs.TableLemmas.{put_has}
 
 -- no other row has the key of one
@@ -47,10 +47,7 @@ module _ (left : List Row) (numbered : (r : Row) → Has left r → IsNumbered r
   other key s in_it p q = none s in_it (subst (λ k. has_pair k s ≡ true) (pair_exact key pair (pair_apart key pair new p has)) q)
 
   only : (key : ℤ × ℤ) (r s : Row) → (r ≡ new) ⊎ Has left r → (s ≡ new) ⊎ Has left s → has_pair key r ≡ true → has_pair key s ≡ true → r ≡ s
-  only key r s (inl a) (inl b) p q = a ∙ sym b
-  only key r s (inl a) (inr b) p q = absurd (other key s b (subst (λ x. has_pair key x ≡ true) a p) q)
-  only key r s (inr a) (inl b) p q = absurd (other key r a (subst (λ x. has_pair key x ≡ true) b q) p)
-  only key r s (inr a) (inr b) p q = one key r s a b p q
+  only key r s p q a b = grind (arith, other, one)
 
   each_numbered : (r : Row) → (r ≡ new) ⊎ Has left r → IsNumbered r
   each_numbered r (inl a) = subst IsNumbered (sym a) is
