@@ -1,5 +1,5 @@
 -- Cells of the kinds of their columns are stored as they are.
-use Rattle.moo_tables_rows.{proofs.Words.{◌≡◌, Bool, true, false, ◌&&◌, List, [], ◌∷◌, refl, ap, ◌∙◌, and_parts, Value, Row, cast, cast_all, Column}, proofs.StepLemmas.{cast_null, cast_int}}
+use Rattle.moo_tables_rows.{proofs.Words.{arith, ◌≡◌, Bool, true, false, ◌&&◌, List, [], ◌∷◌, refl, Value, Row, cast, cast_all, Column}, proofs.StepLemmas.{cast_null, cast_int}}
 use Rattle.sqlite.{specs.Kind.{Kind}, specs.Kind.TheVariants.{Integer, Text, Blob, Any}}
 use Rattle.sqlite.specs.declared.types.Value.TheVariants as value
 
@@ -26,7 +26,5 @@ kept_one kind v h = absurd (let e : false ≡ true = h in cc)
 
 pub kept_all : (columns : List Column) (row : Row) → fit columns row ≡ true → cast_all columns row ≡ row
 kept_all [] [] h = refl
-kept_all (c ∷ cs) (v ∷ vs) h =
-    let parts = and_parts (fits c.kind v) (fit cs vs) h in
-    ap (λ w. w ∷ cast_all cs vs) (kept_one c.kind v parts.0) ∙ ap (λ ws. v ∷ ws) (kept_all cs vs parts.1)
+kept_all (c ∷ cs) (v ∷ vs) h = grind (arith, h, kept_one c.kind v, kept_all cs vs)
 kept_all columns row h = cc

@@ -1,7 +1,7 @@
 -- Why one of several calls failed, one after another.
-use Rattle.moo_tables_rows.{proofs.Words.{IfErr, ◌≡◌, inl, inr, ◌≤◌, Ok, Err, Result, IsTrue, IsSome, true≢false, sym, subst, ◌∙◌, arith, ⊤, Error, Trees, State, HasCleanDisk, HasCause, Survives, Tables, Sees, Changes, StaysInside, StopsChange, HasCauseIn, true, false, refl, ap, MatchBool, IsUnchanged, store_error, KeepsUnread, Holds, MeetsRowIn, is_conflict, ◌⊎◌}, proofs.InsideLemmas.{clean_before, stays_then}}
+use Rattle.moo_tables_rows.{proofs.Words.{IfErr, ◌≡◌, inl, inr, ◌≤◌, Ok, Err, Result, IsTrue, IsSome, true≢false, sym, subst, ◌∙◌, arith, ⊤, Error, Trees, State, HasCleanDisk, HasCause, Survives, Tables, Sees, Changes, StaysInside, StopsChange, HasCauseIn, true, false, ap, MatchBool, IsUnchanged, store_error, KeepsUnread, Holds, MeetsRowIn, is_conflict, ◌⊎◌}, proofs.InsideLemmas.{clean_before, stays_then}}
 use Rattle.std.specs.Result.{IsErrAnd}
-use Rattle.sqlite_trees.{specs.declared.error.StoreError.{StoreError}, specs.declared.error.StoreError.TheVariants.{OutOfMemory, Broken}}
+use Rattle.sqlite_trees.{specs.declared.error.StoreError.{StoreError}, specs.declared.error.StoreError.TheVariants.{Broken}}
 
 cause_from : (old mid new : State) (cause : StoreError) → old.faults ≤ mid.faults → IsTrue mid.is_open → HasCause mid new ⊤ cause → HasCause old new ⊤ cause
 cause_from old mid new Broken up is_open h = absurd (true≢false (sym is_open ∙ h))
@@ -53,8 +53,7 @@ err_after {A} {B} {old} {mid} {new} {e} r s first quiet cause was is = λ clean 
 -- ---- a call that may meet a row with the key
 
 stored_otherwise : (cause : StoreError) → is_conflict (store_error cause) ≡ false
-stored_otherwise OutOfMemory = refl
-stored_otherwise cause = refl
+stored_otherwise cause = grind arith
 
 -- no cause of any change is that a rule refused a row
 no_conflict : (old new : State) (e : Error) → StopsChange old new e → is_conflict e ≡ false

@@ -1,5 +1,5 @@
 -- Which row of a table is found, and that its key tells it.
-use Rattle.moo_tables_rows.{proofs.Words.{arith, suc, length, ◌++◌, ◌≡◌, inl, inr, ℕ, ℤ, List, [], ◌∷◌, find, map, drop, codes, option_map, Option, Some, None, Bool, true, false, not, ◌&&◌, cond, IsTrue, refl, sym, ap, ◌∙◌, true≢false, is_eq, is_ne, Ordering, Equal, and_parts, and_from, not-true, Value, Null, Int, Row, column, value_cmp, binary, is_true, rowid, id_in, first_key, plain, is_int, agree, clashes, differ, is_of, are_typed, are_present, has_computed, Datatype, NotNull, Unique, Table, Trees, Column, Binary, Compare, Eq, AllByRecursion, IsSound, Has, all_has, some_from, has_found, Version, First, Second, required, schema_of, slot_tree, slot_table, slot2_table, verb_table, has_pair, AreKeyed}, proofs.KeyLemmas.{ties_itself, is_false, one_row, int_value, ties_one}, proofs.RowLemmas.{equal_number, told}, proofs.CellLemmas.{IsApart, place_behind, cell_in}}
+use Rattle.moo_tables_rows.{proofs.Words.{arith, suc, length, ◌++◌, ◌≡◌, inl, inr, ℕ, ℤ, List, [], ◌∷◌, find, map, drop, codes, option_map, Option, Some, None, Bool, true, false, not, ◌&&◌, cond, IsTrue, refl, sym, ap, ◌∙◌, true≢false, is_eq, is_ne, Ordering, Equal, and_parts, and_from, not-true, Value, Int, Row, column, value_cmp, binary, is_true, rowid, id_in, first_key, plain, is_int, agree, clashes, differ, is_of, are_typed, are_present, has_computed, Datatype, NotNull, Unique, Table, Trees, Column, Binary, Compare, Eq, AllByRecursion, IsSound, Has, all_has, some_from, has_found, Version, First, Second, required, schema_of, slot_tree, slot_table, slot2_table, verb_table, has_pair, AreKeyed}, proofs.KeyLemmas.{ties_itself, is_false, one_row, int_value, ties_one}, proofs.RowLemmas.{equal_number, told}, proofs.CellLemmas.{IsApart, place_behind, cell_in}}
 use Rattle.sqlite_sql.specs.Ops.{is_null}
 use Rattle.sqlite_schema.specs.declared.schema.Kind.TheVariants as kind
 
@@ -39,26 +39,21 @@ find_alike p xs ys over back one = go (find p xs) (find p ys) refl refl
 -- ---- what the schema asks of a row of two key columns
 
 int_of : (v : Value) → (is_of kind.Integer v ≡ true) × (is_null v ≡ false) → IsTrue (is_int v)
-int_of Null it = absurd (true≢false it.1)
-int_of (Int n) it = refl
-int_of v it = absurd (true≢false (sym it.0))
+int_of v it = grind arith
 
 pub int_in : (key : Option ℕ) (front : List Column) (name : List ℕ) (more : List Column) (row : Row) → IsApart key 0 front → place_behind key 0 front ≡ suc (length front) → are_typed key 0 (front ++ required kind.Integer name ∷ more) (drop 1 row) ≡ true → are_present key 0 (front ++ required kind.Integer name ∷ more) row ≡ true
     → IsTrue (is_int (column row (suc (length front))))
 int_in key front name more row apart is typed present = int_of (column row (suc (length front))) (cell_in key kind.Integer front name more row apart is typed present)
 
 pub exactly : (v : Value) (n : ℤ) → IsTrue (is_int v) → is_eq (value_cmp v (Int n)) ≡ true → v ≡ Int n
-exactly v n int tie =
-    let is = int_value v int in
-    is ∙ ap Int (ties_one v (id_in v) n (ties_itself v (id_in v) is) tie)
+exactly v n int tie = grind (arith, int_value v int, ties_one v (id_in v) n, ties_itself v (id_in v), tie)
 
 pub differ_numbers : (m n : ℤ) → differ (Int m) (Int n) ≡ is_ne (value_cmp (Int m) (Int n))
 unfolding binary
 differ_numbers m n = told (is_ne (value_cmp (Int m) (Int n)))
 
 not_ne : (o : Ordering) → is_ne o ≡ false → o ≡ Equal
-not_ne Equal h = refl
-not_ne o h = absurd (true≢false h)
+not_ne o h = grind arith
 
 -- a whole number that isn't apart from another, as SQL's <> has it, is that number
 pub not_apart : (v : Value) (n : ℤ) → IsTrue (is_int v) → differ v (Int n) ≡ false → v ≡ Int n

@@ -1,5 +1,5 @@
 -- Rows found by their keys, after a row is put in place of those with its key, and after they are taken out.
-use Rattle.moo_tables_rows.proofs.Words.{◌≡◌, inl, inr, ℤ, List, [], ◌∷◌, filter, find, map, option_map, Option, Some, None, Bool, true, false, not, ◌||◌, cond, refl, sym, ap, subst, ◌∙◌, arith, true≢false, IsTrue, list_any, is_eq, int_cmp, match_ordering, Ordering, Less, Equal, not-true, and_parts, and_from, tied_itself, tied_back, Value, Int, Row, column, value_cmp, rowid, has_rowid, put_row, without_rowid, IsTable, id_in, without_all, is_int, Has, ids_of, all_has, some_has, some_from, has_filtered, value_cmp_total, value_cmp-Int, has_pair, found_in, with_cells, same_number, same_numbers, AreKeyed}
+use Rattle.moo_tables_rows.proofs.Words.{◌≡◌, inl, inr, ℤ, List, [], ◌∷◌, filter, find, map, option_map, Option, Some, None, Bool, true, false, not, ◌||◌, cond, refl, sym, ap, subst, ◌∙◌, arith, true≢false, IsTrue, list_any, is_eq, int_cmp, match_ordering, Ordering, Less, Equal, not-true, tied_itself, tied_back, Value, Int, Row, column, value_cmp, rowid, has_rowid, put_row, without_rowid, IsTable, id_in, without_all, is_int, Has, ids_of, all_has, some_has, some_from, has_filtered, value_cmp_total, value_cmp-Int, has_pair, found_in, with_cells, same_number, same_numbers, AreKeyed}
 use Rattle.std.proofs.lemmas.Int.{ints}
 use Rattle.sqlite_rules.proofs.ProbeLemmas.{has_mapped}
 
@@ -52,9 +52,7 @@ one_row (x ∷ rows) r s up (inr p) (inr q) tie = one_row rows r s up.1 p q tie
 
 -- two rows that both have a number tie
 pub tie_by : (x y : Row) (id : ℤ) → has_rowid id x ≡ true → has_rowid id y ≡ true → value_cmp (rowid x) (rowid y) ≡ Equal
-tie_by x y id here there =
-    let both : value_cmp (rowid x) (rowid y) ≡ value_cmp (Int id) (rowid y) = value_cmp_total.congr (rowid x) (Int id) (rowid y) (tied_as_equal _ here) in
-    both ∙ tied_back value_cmp_total (rowid y) (Int id) (tied_as_equal _ there)
+tie_by x y id here there = grind (arith, value_cmp_total.congr (rowid x) (Int id) (rowid y), tied_as_equal, tied_back value_cmp_total (rowid y) (Int id), here, there)
 
 -- so they are one row
 pub number_one : (id : ℤ) (rows : List Row) → AreKeyed rows → (r s : Row) → Has rows r → Has rows s → has_rowid id r ≡ true → has_rowid id s ≡ true → r ≡ s
@@ -162,16 +160,7 @@ pub number_apart : (k key : ℤ) (r : Row) → has_rowid k r ≡ true → has_ro
 number_apart k key r p q = subst (λ n. same_number k n ≡ true) (ties_one (rowid r) k key p q) (number_itself k)
 
 pub pair_exact : (k key : ℤ × ℤ) → same_numbers k key ≡ true → k ≡ key
-pair_exact k key h =
-    let parts = and_parts _ _ h in
-    let first = number_exact k.0 key.0 parts.0 in
-    let second = number_exact k.1 key.1 parts.1 in
-    ap (λ a. (a, k.1)) first ∙ ap (λ b. (key.0, b)) second
+pair_exact k key h = grind (arith, number_exact k.0 key.0, number_exact k.1 key.1, h)
 
 pub pair_apart : (k key : ℤ × ℤ) (r : Row) → has_pair k r ≡ true → has_pair key r ≡ true → same_numbers k key ≡ true
-pair_apart k key r p q =
-    let here = and_parts _ _ p in
-    let there = and_parts _ _ q in
-    let one : same_number k.0 key.0 ≡ true = subst (λ n. same_number k.0 n ≡ true) (ties_one (column r 1) k.0 key.0 here.0 there.0) (number_itself k.0) in
-    let two : same_number k.1 key.1 ≡ true = subst (λ n. same_number k.1 n ≡ true) (ties_one (column r 2) k.1 key.1 here.1 there.1) (number_itself k.1) in
-    and_from _ _ one two
+pair_apart k key r p q = grind (arith, ties_one (column r 1) k.0 key.0, ties_one (column r 2) k.1 key.1, number_itself k.0, number_itself k.1, p, q)

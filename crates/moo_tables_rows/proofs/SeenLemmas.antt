@@ -1,6 +1,5 @@
 -- What a transaction sees of the tables once one of them was written.
-use Rattle.moo_tables_rows.proofs.Words.{◌≡◌, ◌≢◌, ◌==◌, ℕ, ℤ, List, Option, Bool, true, false, true≢false, IsTrue, refl, sym, ap, subst, ◌∙◌, Row, IsDatabase, State, IsSound, IsNoIndex, Version, present, Tables, tables_in, schema_of, slot_tree, present_schema, head_table, object_table, prop_table, slot2_table, verb_table, petition_table, petition_head_table, petition_rows, numbered_in, paired_in, numbered_with, paired_with, AreKeyed, IsCurrent, Sees, KeepsUnread}
-use Rattle.std.proofs.lemmas.Bool.Decides.{Decides-eqb}
+use Rattle.moo_tables_rows.proofs.Words.{arith, ◌≡◌, ◌≢◌, ℕ, ℤ, List, Option, IsTrue, refl, sym, ap, subst, ◌∙◌, Row, IsDatabase, State, IsSound, IsNoIndex, Version, present, Tables, tables_in, schema_of, slot_tree, present_schema, head_table, object_table, prop_table, slot2_table, verb_table, petition_table, petition_head_table, petition_rows, numbered_in, paired_in, numbered_with, paired_with, AreKeyed, IsCurrent, Sees, KeepsUnread}
 
 -- one tree has these rows, and the trees of the other tables are as they were
 pub record SetsTree (old new : State) (tree : ℕ) (rows : List Row) : Type 0 where
@@ -105,11 +104,7 @@ module _ {old new : State} {tree : ℕ} {rows : List Row} (it : SetsTree old new
 
 module _ {old new : State} {tree : ℕ} (it : SetsTree old new tree (old.now.trees tree)) where
   still : (t : ℕ) → IsNoIndex present_schema t → new.now.trees t ≡ old.now.trees t
-  still t no_index = go (t == tree) refl
-    where
-      go : (b : Bool) → (t == tree) ≡ b → new.now.trees t ≡ old.now.trees t
-      go true e = subst (λ u. new.now.trees u ≡ old.now.trees u) (sym ((Decides-eqb t tree).0 e)) it.rows_are
-      go false e = it.others t (λ same. true≢false (sym ((Decides-eqb t tree).1 same) ∙ e)) no_index
+  still t no_index = grind (arith, it.rows_are, λ (apart : t ≢ tree). it.others t apart no_index)
 
   -- as after a change of a tree that no table has
   pub sees_still : (tables : Tables) → Sees old tables → Sees new tables × KeepsUnread old.now new.now

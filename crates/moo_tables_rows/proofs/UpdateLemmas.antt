@@ -2,9 +2,6 @@
 use Rattle.moo_tables_rows.{proofs.Words.{arith, ◌≡◌, ◌⊎◌, inl, inr, List, [], ◌∷◌, ◌&&◌, map, drop, length, Bool, true, false, true≢false, IsTrue, refl, sym, ap, subst, ◌∙◌, list_all, list_any, and_parts, IsPermutation, Row, Int, Term, holds, eval_all, rowid, put_row, id_in, without_all, put_all, cast_row, Given, Table, ids_of, is_int, Has, all_has, some_has, some_from, AreKeyed}, proofs.QueryLemmas.{chosen}, proofs.KeyLemmas.{is_false, int_value}, proofs.RowLemmas.{rest}, proofs.OverLemmas.{Found, none_kept, no_permutation, same_row, answers_one, takes_place}}
 use Rattle.sqlite.specs.Edit.{numbered}
 
-none : (b : Bool) → (b && false) ≡ false
-none b = grind arith
-
 asked_alike : (a b c : Bool) → (c ≡ true → a ≡ b) → (a && c) ≡ (b && c)
 asked_alike a b c same = grind (arith, same)
 
