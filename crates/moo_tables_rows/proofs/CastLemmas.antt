@@ -1,6 +1,6 @@
 -- Cells of the kinds of their columns are stored as they are.
 use Rattle.moo_tables_rows.{proofs.Words.{arith, ◌≡◌, Bool, true, false, ◌&&◌, List, [], ◌∷◌, refl, Value, Row, cast, cast_all, Column}, proofs.StepLemmas.{cast_null, cast_int}}
-use Rattle.sqlite.{specs.Kind.{Kind}, specs.Kind.TheVariants.{Integer, Text, Blob, Any}}
+use Rattle.sqlite.{specs.Kind.{Kind}, specs.Kind.TheVariants.{Integer, Text}}
 use Rattle.sqlite.specs.declared.types.Value.TheVariants as value
 
 -- a whole number or nothing in a column of numbers, a text in a column of texts
@@ -17,12 +17,7 @@ fit [] (v ∷ vs) = false
 fit (c ∷ cs) [] = false
 
 kept_one : (kind : Kind) (v : Value) → fits kind v ≡ true → cast kind v ≡ v
-kept_one Integer value.Null h = cast_null
-kept_one Integer (value.Int n) h = cast_int n
-kept_one Text (value.Text t) h = refl
-kept_one Blob v h = refl
-kept_one Any v h = refl
-kept_one kind v h = absurd (let e : false ≡ true = h in cc)
+kept_one kind v h = grind (arith, cast_null, cast_int, h)
 
 pub kept_all : (columns : List Column) (row : Row) → fit columns row ≡ true → cast_all columns row ≡ row
 kept_all [] [] h = refl

@@ -1,11 +1,10 @@
 -- Why one of several calls failed, one after another.
-use Rattle.moo_tables_rows.{proofs.Words.{IfErr, ◌≡◌, inl, inr, ◌≤◌, Ok, Err, Result, IsTrue, IsSome, true≢false, sym, subst, ◌∙◌, arith, ⊤, Error, Trees, State, HasCleanDisk, HasCause, Survives, Tables, Sees, Changes, StaysInside, StopsChange, HasCauseIn, true, false, ap, MatchBool, IsUnchanged, store_error, KeepsUnread, Holds, MeetsRowIn, is_conflict, ◌⊎◌}, proofs.InsideLemmas.{clean_before, stays_then}}
+use Rattle.moo_tables_rows.{proofs.Words.{IfErr, ◌≡◌, inl, inr, ◌≤◌, Ok, Err, Result, IsTrue, IsSome, sym, subst, ◌∙◌, arith, ⊤, Error, Trees, State, HasCleanDisk, HasCause, Survives, Tables, Sees, Changes, StaysInside, StopsChange, HasCauseIn, true, false, ap, MatchBool, IsUnchanged, store_error, KeepsUnread, Holds, MeetsRowIn, is_conflict, ◌⊎◌}, proofs.InsideLemmas.{clean_before, stays_then}}
 use Rattle.std.specs.Result.{IsErrAnd}
-use Rattle.sqlite_trees.{specs.declared.error.StoreError.{StoreError}, specs.declared.error.StoreError.TheVariants.{Broken}}
+use Rattle.sqlite_trees.{specs.declared.error.StoreError.{StoreError}}
 
 cause_from : (old mid new : State) (cause : StoreError) → old.faults ≤ mid.faults → IsTrue mid.is_open → HasCause mid new ⊤ cause → HasCause old new ⊤ cause
-cause_from old mid new Broken up is_open h = absurd (true≢false (sym is_open ∙ h))
-cause_from old mid new cause up is_open h = grind arith
+cause_from old mid new cause up is_open h = grind (arith, h, is_open)
 
 -- a call stopped, after others that forgot no fault of the disk and left the limit on steps
 pub stops_since : (old mid new : State) (e : Error) → old.faults ≤ mid.faults → mid.step_limit ≡ old.step_limit → IsTrue mid.is_open → StopsChange mid new e → StopsChange old new e
@@ -14,8 +13,7 @@ stops_since old mid new e up steps is_open (inr (inl h)) = inr (inl (h.0, subst 
 stops_since old mid new e up steps is_open (inr (inr h)) = inr (inr h)
 
 cause_to : (old mid new : State) (cause : StoreError) → mid.faults ≤ new.faults → HasCause old mid ⊤ cause → HasCause old new ⊤ cause
-cause_to old mid new Broken up h = h
-cause_to old mid new cause up h = grind arith
+cause_to old mid new cause up h = grind (arith, h)
 
 -- and the transaction was undone
 pub stops_to : (old mid new : State) (e : Error) (P : Trees → Type 0) → Survives mid new P → StopsChange old mid e → StopsChange old new e
@@ -57,9 +55,7 @@ stored_otherwise cause = grind arith
 
 -- no cause of any change is that a rule refused a row
 no_conflict : (old new : State) (e : Error) → StopsChange old new e → is_conflict e ≡ false
-no_conflict old new e (inl h) = ap is_conflict h.1 ∙ stored_otherwise h.0
-no_conflict old new e (inr (inl h)) = ap is_conflict h.0
-no_conflict old new e (inr (inr h)) = ap is_conflict h
+no_conflict old new e h = grind (arith, stored_otherwise, h)
 
 sees_on : (old new : State) (tables : Tables) → IsUnchanged old new → Sees old tables → Sees new tables × KeepsUnread old.now new.now
 sees_on old new tables same seen = (

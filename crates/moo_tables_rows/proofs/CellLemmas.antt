@@ -1,5 +1,5 @@
 -- A column that is never empty has a value of its kind in each row that the rules of types let be.
-use Rattle.moo_tables_rows.proofs.Words.{arith, ◌≡◌, ◌+◌, ◌++◌, ℕ, suc, List, [], ◌∷◌, drop, length, Option, true, false, subst, true≢false, and_parts, Row, column, is_of, are_typed, are_present, Column, required}
+use Rattle.moo_tables_rows.proofs.Words.{arith, ◌≡◌, ◌+◌, ◌++◌, ℕ, suc, List, [], ◌∷◌, drop, length, Option, true, false, true≢false, and_parts, Row, column, is_of, are_typed, are_present, Column, required}
 use Rattle.sqlite_sql.specs.Ops.{is_null}
 use Rattle.sqlite_schema.{specs.Names.{is_key}, specs.declared.schema.Kind.{Kind}}
 
@@ -26,5 +26,4 @@ module _ (key : Option ℕ) where
     pub cell_in : (front : List Column) (name : List ℕ) (more : List Column) (row : Row) → IsApart 0 front → place_behind 0 front ≡ suc (length front) → are_typed key 0 (front ++ required kind name ∷ more) (drop 1 row) ≡ true → are_present key 0 (front ++ required kind name ∷ more) row ≡ true
         → (is_of kind (column row (suc (length front))) ≡ true) × (is_null (column row (suc (length front))) ≡ false)
     cell_in front name more [] apart is typed_so present = absurd (true≢false (there 0 front name more [] apart present))
-    cell_in front name more (id ∷ tail) apart is typed_so present =
-        let some = subst (λ p. is_null (column (id ∷ tail) p) ≡ false) is (there 0 front name more (id ∷ tail) apart present) in (typed 0 front name more tail apart typed_so some, some)
+    cell_in front name more (id ∷ tail) apart is typed_so present = grind (arith, is, there 0 front name more (id ∷ tail) apart present, typed 0 front name more tail apart typed_so)

@@ -57,10 +57,7 @@ not_ne o h = grind arith
 
 -- a whole number that isn't apart from another, as SQL's <> has it, is that number
 pub not_apart : (v : Value) (n : ℤ) → IsTrue (is_int v) → differ v (Int n) ≡ false → v ≡ Int n
-not_apart v n int h =
-    let is = int_value v int in
-    let tie = not_ne (value_cmp (Int (id_in v)) (Int n)) (sym (differ_numbers (id_in v) n) ∙ ap (λ u. differ u (Int n)) (sym is) ∙ h) in
-    exactly v n int (ap is_eq (ap (λ u. value_cmp u (Int n)) is ∙ tie))
+not_apart v n int h = grind (arith, int_value v int, not_ne, differ_numbers (id_in v) n, exactly v n int, h)
 
 equal_columns : (r s : Row) (at : ℕ) (n : ℤ) → column s at ≡ Int n → is_eq (value_cmp (column r at) (Int n)) ≡ true → is_true (binary (Compare Eq Binary) (column r at) (column s at)) ≡ true
 equal_columns r s at n is tie = ap (λ v. is_true (binary (Compare Eq Binary) (column r at) v)) is ∙ equal_number (column r at) n ∙ tie

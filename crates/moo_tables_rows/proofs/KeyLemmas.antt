@@ -26,10 +26,7 @@ ties_itself v n is = ap is_eq (ap (λ w. value_cmp w (Int n)) is ∙ tied_itself
 
 -- two numbers that a value ties with are one
 pub ties_one : (v : Value) (m n : ℤ) → is_eq (value_cmp v (Int m)) ≡ true → is_eq (value_cmp v (Int n)) ≡ true → m ≡ n
-ties_one v m n p q =
-    let here = tied_back value_cmp_total v (Int m) (tied_as_equal _ p) in
-    let both : value_cmp (Int m) (Int n) ≡ value_cmp v (Int n) = value_cmp_total.congr (Int m) v (Int n) here in
-    int_exact m n (sym (value_cmp-Int m n) ∙ both ∙ tied_as_equal _ q)
+ties_one v m n p q = grind (arith, tied_as_equal, tied_back value_cmp_total v (Int m), value_cmp_total.congr (Int m) v (Int n), value_cmp-Int m n, int_exact m n, p, q)
 
 pub mapped_has : {X Y : Type 0} (f : X → Y) (xs : List X) (x : X) → Has xs x → Has (map f xs) (f x)
 mapped_has f [] x has = absurd has

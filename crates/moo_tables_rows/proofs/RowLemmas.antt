@@ -1,5 +1,5 @@
 -- What one statement makes of the tables, where it changes one row.
-use Rattle.moo_tables_rows.{proofs.Words.{arith, true≢false, ◌≡◌, ℕ, ℤ, List, [], ◌∷◌, filter, map, Some, Bool, true, false, not, Result, refl, sym, ap, subst, ◌∙◌, list_all, is_eq, IsPermutation, Contains-permutation, IsPermutation-sym, not-true, Equal, Value, Null, Int, Real, Text, Blob, Error, Row, column, value_cmp, binary, is_true, from_truth, Term, holds, Binary, Compare, Eq, rowid, has_rowid, without_all, next_rowid, State, Has, ids_of, has_filtered, has_kept, has_contained, contains_had, some_from, present_schema, has_pair, AreKeyed, RanStatement}, proofs.TextLemmas.{by_given, by_pair}, proofs.QueryLemmas.{chosen}, proofs.StepLemmas.{SetsOffNothing}, proofs.KeyLemmas.{ties_itself, removed, mapped_has}}
+use Rattle.moo_tables_rows.{proofs.Words.{arith, true≢false, ◌≡◌, ℕ, ℤ, List, [], ◌∷◌, filter, map, Some, Bool, true, false, not, Result, refl, sym, ap, subst, ◌∙◌, list_all, is_eq, IsPermutation, Contains-permutation, IsPermutation-sym, not-true, Equal, Value, Int, Error, Row, column, value_cmp, binary, is_true, from_truth, Term, holds, Binary, Compare, Eq, rowid, has_rowid, without_all, next_rowid, State, Has, ids_of, has_filtered, has_kept, has_contained, contains_had, some_from, present_schema, has_pair, AreKeyed, RanStatement}, proofs.TextLemmas.{by_given, by_pair}, proofs.QueryLemmas.{chosen}, proofs.StepLemmas.{SetsOffNothing}, proofs.KeyLemmas.{ties_itself, removed, mapped_has}}
 use Rattle.sqlite_trees.proofs.TreeLemmas.{IsShaped-filter}
 use Rattle.sqlite_trees.specs.declared.store.Shape.TheVariants as shape
 use Rattle.sqlite_rules.{specs.declared.error.Rowids.TheVariants.{Chosen}, proofs.ProbeLemmas.{has_mapped}, proofs.PlaceLemmas.{next_is_free}}
@@ -17,11 +17,7 @@ told b = grind arith
 -- a value equals a number as SQL's = has it exactly where they tie
 pub equal_number : (v : Value) (n : ℤ) → is_true (binary (Compare Eq Binary) v (Int n)) ≡ is_eq (value_cmp v (Int n))
 unfolding binary value_cmp
-equal_number Null n = refl
-equal_number (Int m) n = told (is_eq (value_cmp (Int m) (Int n)))
-equal_number (Real x) n = told (is_eq (value_cmp (Real x) (Int n)))
-equal_number (Text t) n = told (is_eq (value_cmp (Text t) (Int n)))
-equal_number (Blob b) n = told (is_eq (value_cmp (Blob b) (Int n)))
+equal_number v n = grind (arith, told)
 
 -- ---- what a put and a removal make of the rows of one tree
 
