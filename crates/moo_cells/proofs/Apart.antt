@@ -86,16 +86,13 @@ alike_numbers j r s p q =
     let equal = eq_by_cmp_equiv value_cmp_total in
     equal.congr (rowid r) (Int j) (rowid s) p ∙ equal.symm (Int j) (rowid s) ∙ q
 
-flips : (r s : Row) → is_same_number r s ≡ is_same_number s r
-flips r s = (eq_by_cmp_equiv value_cmp_total).symm (rowid r) (rowid s)
-
 pub numbered : (rows : List Row) → AreKeyed rows → HaveNumbers rows
 numbered rows keyed = record { whole = keyed.1; apart = distinct_from is_same_number rises (λ r s up. ap is_eq up) rows keyed.0 }
 
 pub numbered_again : (xs ys : List Row) → IsPermutation xs ys → HaveNumbers xs → HaveNumbers ys
 numbered_again xs ys same h = record {
   whole = all-permutation (λ c. IsTrue (is_int (column c 0))) xs ys same h.whole;
-  apart = IsDistinct-IsPermutation is_same_number flips xs ys same h.apart;
+  apart = IsDistinct-IsPermutation is_same_number (λ r s. (eq_by_cmp_equiv value_cmp_total).symm (rowid r) (rowid s)) xs ys same h.apart;
 }
 
 -- ---- two numbers
@@ -112,14 +109,11 @@ alike_pairs j r s p q =
 pair_cmp_total : IsTotalOrder pair_cmp
 pair_cmp_total = then_total (on_total (λ (p : Value × Value). p.0) value_cmp_total) (on_total (λ (p : Value × Value). p.1) value_cmp_total)
 
-flips_pair : (r s : Row) → is_same_pair r s ≡ is_same_pair s r
-flips_pair r s = (eq_by_cmp_equiv pair_cmp_total).symm (column r 0, column r 1) (column s 0, column s 1)
-
 pub paired : (rows : List Row) → ArePaired rows → HavePairs rows
 paired rows listed = record { whole = listed.whole; apart = distinct_from is_same_pair IsRowBelow (λ r s up. ap is_eq up) rows listed.rise }
 
 pub paired_again : (xs ys : List Row) → IsPermutation xs ys → HavePairs xs → HavePairs ys
 paired_again xs ys same h = record {
   whole = all-permutation (λ c. IsTrue (is_int (column c 0)) × IsTrue (is_int (column c 1))) xs ys same h.whole;
-  apart = IsDistinct-IsPermutation is_same_pair flips_pair xs ys same h.apart;
+  apart = IsDistinct-IsPermutation is_same_pair (λ r s. (eq_by_cmp_equiv pair_cmp_total).symm (column r 0, column r 1) (column s 0, column s 1)) xs ys same h.apart;
 }

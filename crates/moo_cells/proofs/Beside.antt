@@ -15,8 +15,7 @@ one_more reads all i r within is old new every e first shows rest later =
 
 module _ {J K X : Type 0} {has : J → Row → Bool} {number : K → J} {reads : K → Row → X → Type 0} {up : Row → Row → Type 0} {below : J → J → Type 0} (bears : Bears has number reads up below) where
   each_read : (rows : List Row) (es : List (K × X)) → ShowEach reads rows es → AllByRecursion (IsRead reads) rows
-  each_read [] [] show = tt
-  each_read [] (e ∷ es) show = tt
+  each_read [] es show = tt
   each_read (r ∷ rows) [] show = absurd show
   each_read (r ∷ rows) (e ∷ es) show = ((e.0, e.1, show.0), each_read rows es show.1)
 

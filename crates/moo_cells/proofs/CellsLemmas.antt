@@ -1,5 +1,5 @@
 -- Damage of tables, and damage of the rows that they show.
-use Rattle.moo_cells.{proofs.Words.{◌≡◌, ◌⊎◌, inl, inr, ◌<◌, pos, negsuc, Option, Some, None, refl, sym, subst, ◌∙◌, arith, get, Row, Maps, IsGood, Tables, head_cells, version_number, Kind, BadHead, BadCell, PastHead, NoParent, ParentLoop, NoPlace, PlaceLoop, NoDefiner, DoubleName, StrangeSlot, MissingSlot, ClearDefiner, StrangeVerb, Mismatch, Key, Object, Prop, Slot, Verb, Petition, rank, NoneBefore, IsLeast, IsFirstInRows, InRows, AreWithin, HeadIs, ReadsHead, IsRead, ObjectFits, PropFits, SlotFits, VerbFits, PetitionFits, ShowsOrNone, ShowsObject, ShowsProp, ShowsSlot, ShowsVerb, ShowsPetition, ShowsRows, IsNewer, IsBadHead, IsBadCell, IsMet, Damage, SaysOfCells, CellFault, Damaged, NewerVersion, OutOfMemory}, proofs.GoodRows.{head_limits, object_fits, prop_fits, slot_fits_here, verb_fits_here, counter_fits, petition_fits_here, good_within}, proofs.OneRows.{one_rows}, proofs.Ranks.{at_head, by_rank}}
+use Rattle.moo_cells.{proofs.Words.{◌≡◌, ◌⊎◌, inl, inr, ◌<◌, pos, negsuc, Option, Some, None, refl, sym, subst, ◌∙◌, arith, get, Row, Maps, IsGood, Tables, head_cells, version_number, Kind, BadHead, BadCell, Key, Object, Prop, Slot, Verb, Petition, rank, NoneBefore, IsLeast, IsFirstInRows, InRows, AreWithin, HeadIs, ReadsHead, IsRead, ObjectFits, PropFits, SlotFits, VerbFits, PetitionFits, ShowsOrNone, ShowsObject, ShowsProp, ShowsSlot, ShowsVerb, ShowsPetition, ShowsRows, IsNewer, IsBadHead, IsBadCell, IsMet, Damage, SaysOfCells, CellFault, Damaged, NewerVersion, OutOfMemory}, proofs.GoodRows.{head_limits, object_fits, prop_fits, slot_fits_here, verb_fits_here, counter_fits, petition_fits_here, good_within}, proofs.OneRows.{one_rows}, proofs.Ranks.{at_head, by_rank}}
 use Rattle.moo_cells.{proofs.HeadLemmas.{head_known, head_not_newer}, proofs.OneCells.{one_some}}
 use Rattle.moo_damage.{specs.declared.kind.Key.TheVariants.{Head}, proofs.Clean.{clean}, proofs.Least.{none_met as none_in_rows}, proofs.Told.{none_told}}
 
@@ -50,25 +50,11 @@ pub record OfRows (t : Tables) (kind : Kind) : Type 0 where
   pub up : (m : Maps) (key : Key) → ShowsRows t m → AreWithin m → InRows m kind key → IsMet t kind key
   pub down : (m : Maps) (key : Key) → ShowsRows t m → AreWithin m → IsMet t kind key → InRows m kind key
 
-in_rows : (t : Tables) (m n : Maps) (kind : Kind) (key : Key) → ShowsRows t m → AreWithin m → ShowsRows t n → AreWithin n → InRows n kind key → InRows m kind key
-in_rows t m n kind key sm wm sn wn met = subst (λ m. InRows m kind key) (one_rows t n m sn wn sm wm) met
-
 -- each kind but the first two is of rows
 kind_of : (t : Tables) (kind : Kind) → (rank kind < 3) ⊎ OfRows t kind
 kind_of t BadHead = inl (omega arith)
 kind_of t BadCell = inl (omega arith)
-kind_of t PastHead = inr (record { up = λ m key s w met. (m, s, w, met); down = λ m key s w met. in_rows t m met.0 PastHead key s w met.1 met.2 met.3 })
-kind_of t NoParent = inr (record { up = λ m key s w met. (m, s, w, met); down = λ m key s w met. in_rows t m met.0 NoParent key s w met.1 met.2 met.3 })
-kind_of t ParentLoop = inr (record { up = λ m key s w met. (m, s, w, met); down = λ m key s w met. in_rows t m met.0 ParentLoop key s w met.1 met.2 met.3 })
-kind_of t NoPlace = inr (record { up = λ m key s w met. (m, s, w, met); down = λ m key s w met. in_rows t m met.0 NoPlace key s w met.1 met.2 met.3 })
-kind_of t PlaceLoop = inr (record { up = λ m key s w met. (m, s, w, met); down = λ m key s w met. in_rows t m met.0 PlaceLoop key s w met.1 met.2 met.3 })
-kind_of t NoDefiner = inr (record { up = λ m key s w met. (m, s, w, met); down = λ m key s w met. in_rows t m met.0 NoDefiner key s w met.1 met.2 met.3 })
-kind_of t DoubleName = inr (record { up = λ m key s w met. (m, s, w, met); down = λ m key s w met. in_rows t m met.0 DoubleName key s w met.1 met.2 met.3 })
-kind_of t StrangeSlot = inr (record { up = λ m key s w met. (m, s, w, met); down = λ m key s w met. in_rows t m met.0 StrangeSlot key s w met.1 met.2 met.3 })
-kind_of t MissingSlot = inr (record { up = λ m key s w met. (m, s, w, met); down = λ m key s w met. in_rows t m met.0 MissingSlot key s w met.1 met.2 met.3 })
-kind_of t ClearDefiner = inr (record { up = λ m key s w met. (m, s, w, met); down = λ m key s w met. in_rows t m met.0 ClearDefiner key s w met.1 met.2 met.3 })
-kind_of t StrangeVerb = inr (record { up = λ m key s w met. (m, s, w, met); down = λ m key s w met. in_rows t m met.0 StrangeVerb key s w met.1 met.2 met.3 })
-kind_of t Mismatch = inr (record { up = λ m key s w met. (m, s, w, met); down = λ m key s w met. in_rows t m met.0 Mismatch key s w met.1 met.2 met.3 })
+kind_of t kind = inr (record { up = λ m key s w met. (m, s, w, met); down = λ m key s w met. subst (λ m. InRows m kind key) (one_rows t met.0 m met.1 met.2 s w) met.3 })
 
 no_rows : (m : Maps) (kind : Kind) → rank kind < 3 → (key : Key) → InRows m kind key → ⊥
 no_rows m kind under key = by_rank (λ k. InRows m k key → ⊥) (none_in_rows m BadHead no no no no no key) (none_in_rows m BadCell no no no no no key) kind under

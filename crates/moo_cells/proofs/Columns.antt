@@ -12,6 +12,5 @@ behind_first x r at (suc n) = ap (λ (l : Row). column r at ∷ l) (behind_first
 
 pub all_columns : (n : ℕ) (r : Row) → length r ≡ n → r ≡ columns_from 0 n r
 all_columns zero [] long = refl
-all_columns zero (x ∷ r) long = absurd (omega arith)
-all_columns (suc n) [] long = absurd (omega arith)
 all_columns (suc n) (x ∷ r) long = ap (λ (l : Row). x ∷ l) (all_columns n r (omega arith) ∙ sym (behind_first x r 0 n))
+all_columns n r long = absurd (omega arith)

@@ -1,5 +1,5 @@
 -- A table that is put into a map row by row, whether or not its keys differ.
-use Rattle.moo_cells.{proofs.Words.{◌≡◌, List, [], ◌∷◌, ◌++◌, Bool, true, false, cond, Option, Some, None, refl, sym, ap, subst, ◌∙◌, AllByRecursion, eq_by_cmp, IsTotalOrder, Ordering, FinMap, empty, entries, get, get-empty, get-insert, IsAntisymmetric, ShowEach, Row, has_rowid, has_key_pair, TakesRow, SaysUnread, IsLess, IsPairLess, CellFault, Key, Maps, Tables, Version, ReadsObject, ReadsProp, ReadsSlot, ReadsVerb, ReadsPetition, object_number, prop_number, slot_number, verb_number, petition_number, object_key, prop_key, slot_key, verb_key, petition_key, object_total, object_exact, prop_total, prop_exact, slot_total, slot_exact, verb_total, verb_exact, petition_total, petition_exact}, proofs.Beside.{each_held}, proofs.RowsLemmas.{held_fills}, proofs.Keys.{objects_bear, props_bear, slots_bear, verbs_bear, petitions_bear}, proofs.Table.{Bears, held_none, held_more, held_first, tied}, proofs.Apart.{in_any_order, pairwise, holds_again, alike_numbers, alike_pairs, numbered_again, paired_again}, specs.Apart.{HaveNumbers, HavePairs, is_same_number, is_same_pair}, specs.Holding.{FillsTable, HoldsEachRow, HasWholeNumber, HasWholePair, KeepsTable, TellsKey}, specs.Filled.{FillsInSomeOrder, FillsMap}, specs.Taken.{TakesTable}}
+use Rattle.moo_cells.{proofs.Words.{◌≡◌, List, [], ◌∷◌, ◌++◌, Bool, true, false, cond, Option, Some, None, refl, sym, ap, subst, ◌∙◌, AllByRecursion, eq_by_cmp, IsTotalOrder, Ordering, FinMap, empty, entries, get, get-empty, get-insert, IsAntisymmetric, ShowEach, Row, has_rowid, has_key_pair, TakesRow, SaysUnread, IsLess, IsPairLess, CellFault, Key, Maps, Tables, Version, ReadsObject, ReadsProp, ReadsSlot, ReadsVerb, ReadsPetition, object_number, prop_number, slot_number, verb_number, petition_number, object_key, prop_key, slot_key, verb_key, petition_key, object_total, object_exact, prop_total, prop_exact, slot_total, slot_exact, verb_total, verb_exact, petition_total, petition_exact}, proofs.Beside.{each_held}, proofs.RowsLemmas.{held_fills}, proofs.Keys.{objects_bear, props_bear, slots_bear, verbs_bear, petitions_bear}, proofs.Table.{Bears, held_none, held_more, held_first, tied}, proofs.Apart.{in_any_order, pairwise, holds_again, alike_numbers, alike_pairs, numbered, numbered_again, paired, paired_again}, specs.Apart.{HaveNumbers, HavePairs, is_same_number, is_same_pair}, specs.Holding.{FillsTable, HoldsEachRow, HasWholeNumber, HasWholePair, KeepsTable, TellsKey}, specs.Filled.{FillsInSomeOrder, FillsMap}, specs.Taken.{TakesTable}}
 use Rattle.moo_cells.proofs.OneCells.{one_some}
 use Rattle.std.{specs.List.{IsDistinct}, specs.List.Sorted.{IsPermutation}}
 use Rattle.moo_rows.specs.Maps.{object_cmp, prop_cmp, slot_cmp, verb_cmp, petition_cmp}
@@ -136,3 +136,6 @@ verbs_keep version = keeps verb_key (verbs_bear version) pairs_keyed alike_pairs
 
 pub petitions_keep : (version : Version) → KeepsTable petition_cmp (ReadsPetition version) HaveNumbers AreKeyed (HoldsEachRow has_rowid petition_number (ReadsPetition version)) (SaysUnread has_rowid (ReadsPetition version) IsLess petition_key) HasWholeNumber (TellsKey has_rowid petition_key)
 petitions_keep version = keeps petition_key (petitions_bear version) numbers_keyed alike_numbers (λ rows h. h.0) petition_total petition_exact
+
+-- each table is kept, and rows in the order of their keys have each key once
+pub ruleset keeps_each = (objects_keep, props_keep, slots_keep, verbs_keep, petitions_keep, numbered, paired)

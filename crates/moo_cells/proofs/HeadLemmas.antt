@@ -1,5 +1,5 @@
 -- The head, from the rows of its table, and the number of the next petition, from those of its own.
-use Rattle.moo_cells.{proofs.Words.{◌≡◌, ◌≢◌, inl, inr, ℕ, ℤ, pos, ◌<ℤ◌, ◌≤ℤ◌, List, [], ◌∷◌, length, get_or, find, cond, Bool, true, false, true≢false, Option, Some, None, refl, sym, ap, subst, ◌∙◌, arith, IsTrue, ints, Row, column, rowid, has_rowid, Head, Version, First, Second, version_number, petition_head_cells, greatest_version, head_row, by_rowid, HeadIs, ReadsHead, ReadsNewer, ReadsKnown, IsNewerThan, HasHead, IsCounter, ReadsCounter, HasCounter, SaysOfHead, ShowsCounter, CellFault, Damaged, NewerVersion, OutOfMemory, has_petitions, ShowsNext}, specs.HeadCells.{cells_of, IsHead}, specs.declared.head.HeadCells.{HeadCells}, proofs.Numbers.{self_tied, tied_number, number_apart}, proofs.Texts.{int_inj}, proofs.OneCells.{one_some}}
+use Rattle.moo_cells.{proofs.Words.{◌≡◌, ◌≢◌, inl, inr, ℕ, ℤ, pos, ◌<ℤ◌, ◌≤ℤ◌, List, [], ◌∷◌, length, get_or, find, cond, Bool, true, false, Option, Some, None, refl, sym, ap, subst, ◌∙◌, arith, IsTrue, ints, Row, column, rowid, has_rowid, Head, Version, First, Second, version_number, petition_head_cells, greatest_version, head_row, by_rowid, HeadIs, ReadsHead, ReadsNewer, ReadsKnown, IsNewerThan, HasHead, IsCounter, ReadsCounter, HasCounter, SaysOfHead, ShowsCounter, CellFault, Damaged, NewerVersion, OutOfMemory, has_petitions, ShowsNext}, specs.HeadCells.{cells_of, IsHead}, specs.declared.head.HeadCells.{HeadCells}, proofs.Numbers.{self_tied, tied_number, number_apart}, proofs.Texts.{int_inj}, proofs.OneCells.{one_some}}
 use Rattle.sqlite.{specs.declared.types.Value.TheVariants.{Int as Number}, specs.Edit.{id_in}}
 use Rattle.sqlite_rules.{specs.Lists.{Has}, proofs.ListLemmas.{all_has}}
 use Rattle.sqlite_trees.specs.View.{is_int}
@@ -16,18 +16,6 @@ module _ (cells : Row) (n : HeadCells) (is : cells ≡ cells_of n) (v s t p q : 
 
   pub version_is : n.version ≡ v
   version_is = int_inj n.version v (at_column 1)
-
-  pub seq_is : n.seq ≡ s
-  seq_is = int_inj n.seq s (at_column 2)
-
-  pub top_is : n.top ≡ t
-  top_is = int_inj n.top t (at_column 3)
-
-  pub next_prop_is : n.next_prop ≡ p
-  next_prop_is = int_inj n.next_prop p (at_column 4)
-
-  pub next_verb_is : n.next_verb ≡ q
-  next_verb_is = int_inj n.next_verb q (at_column 5)
 
 -- cells without numbers are none of a head
 pub no_numbers : (v : ℤ) (cells : Row) → ((n : HeadCells) → cells ≡ cells_of n → ⊥) → ¬ (ReadsKnown v cells) × ¬ (ReadsNewer greatest_version cells)
@@ -59,10 +47,10 @@ outside v cells n is low none = (
       let head = k.0 in
       let shown = k.1.0 in
       none head (record {
-        seq = seq_is cells n is v (pos head.seq) head.top (pos head.next_prop) (pos head.next_verb) shown;
-        top = top_is cells n is v (pos head.seq) head.top (pos head.next_prop) (pos head.next_verb) shown;
-        next_prop = next_prop_is cells n is v (pos head.seq) head.top (pos head.next_prop) (pos head.next_verb) shown;
-        next_verb = next_verb_is cells n is v (pos head.seq) head.top (pos head.next_prop) (pos head.next_verb) shown;
+        seq = int_inj n.seq (pos head.seq) (at_column cells n is v (pos head.seq) head.top (pos head.next_prop) (pos head.next_verb) shown 2);
+        top = int_inj n.top head.top (at_column cells n is v (pos head.seq) head.top (pos head.next_prop) (pos head.next_verb) shown 3);
+        next_prop = int_inj n.next_prop (pos head.next_prop) (at_column cells n is v (pos head.seq) head.top (pos head.next_prop) (pos head.next_verb) shown 4);
+        next_verb = int_inj n.next_verb (pos head.next_verb) (at_column cells n is v (pos head.seq) head.top (pos head.next_prop) (pos head.next_verb) shown 5);
         fits = k.1.1;
       })),
   not_newer cells n is low,
@@ -72,12 +60,8 @@ outside v cells n is low none = (
 
 found_some : (p : Row → Bool) (xs : List Row) (x : Row) → Has xs x → p x ≡ true → find p xs ≡ None → ⊥
 found_some p [] x has h none = has
-found_some p (y ∷ xs) x has h none = go (p y) refl has none (λ later rest. found_some p xs x later h rest)
-  where
-    go : (b : Bool) → p y ≡ b → Has (y ∷ xs) x → cond b (Some y) (find p xs) ≡ None → (Has xs x → find p xs ≡ None → ⊥) → ⊥
-    go true e has none later = let it : Some y ≡ None = none in cc
-    go false e (inl same) none later = true≢false (sym h ∙ ap p same ∙ e)
-    go false e (inr more) none later = later more none
+found_some p (y ∷ xs) x (inl same) h none = grind (arith, h, same, none)
+found_some p (y ∷ xs) x (inr more) h none = grind (arith, none, found_some p xs x more h)
 
 found_one : (b : Bool) (x cells : Row) → cond b (Some x) None ≡ Some cells → x ≡ cells
 found_one true x cells e = let it : Some x ≡ Some cells = e in cc
@@ -111,9 +95,8 @@ head_alone x is = record {
     go n other false e = refl
 
 pub one_row : (rows : List Row) (r : Row) → length rows ≡ 1 → r ≡ get_or rows 0 r → rows ≡ r ∷ []
-one_row [] r one is = absurd (omega arith)
 one_row (x ∷ []) r one is = ap (λ c. c ∷ []) (sym is)
-one_row (x ∷ y ∷ rest) r one is = absurd (omega arith)
+one_row rows r one is = absurd (omega arith)
 
 -- ---- what is told of the table
 

@@ -1,5 +1,5 @@
 -- How the rows of each table bear their keys.
-use Rattle.moo_cells.{proofs.Words.{◌≡◌, inl, inr, ℕ, ℤ, pos, negsuc, ◌<ℤ◌, true, refl, sym, ap, ◌∙◌, is_eq, int_cmp, ordering_then, int_ranked, tied_itself, Ordering, Less, Equal, Greater, and_parts, and_from, Value, Row, column, value_cmp, rowid, has_rowid, Version, has_key_pair, IsRowBelow, ReadsObject, ReadsProp, ReadsSlot, ReadsVerb, ReadsPetition, object_number, prop_number, slot_number, verb_number, petition_number, IsLess, IsPairLess}, proofs.Table.{Bears}}
+use Rattle.moo_cells.{proofs.Words.{arith, ints, ◌≡◌, inl, inr, ℕ, ℤ, pos, negsuc, ◌<ℤ◌, true, refl, sym, ap, ◌∙◌, is_eq, int_cmp, ordering_then, int_ranked, tied_itself, Ordering, Less, Equal, Greater, and_parts, and_from, Value, Row, column, value_cmp, rowid, has_rowid, Version, has_key_pair, IsRowBelow, ReadsObject, ReadsProp, ReadsSlot, ReadsVerb, ReadsPetition, object_number, prop_number, slot_number, verb_number, petition_number, IsLess, IsPairLess}, proofs.Table.{Bears}}
 use Rattle.sqlite.specs.declared.types.Value.TheVariants.{Int}
 use Rattle.sqlite_value.proofs.OrderLemmas.{value_cmp_total}
 use Rattle.moo_cells.proofs.Numbers.{asymmetric, irreflexive, less_of, tied, ties}
@@ -71,14 +71,10 @@ then_less j k e = go (int_cmp j.0 k.0) refl e
     go Greater is h = cc
 
 pair_asymmetric : (j k : ℤ × ℤ) → IsPairLess j k → IsPairLess k j → ⊥
-pair_asymmetric j k (inl h) (inl g) = asymmetric j.0 k.0 h g
-pair_asymmetric j k (inl h) (inr g) = irreflexive j.0 k.0 h (sym g.0)
-pair_asymmetric j k (inr h) (inl g) = irreflexive k.0 j.0 g (sym h.0)
-pair_asymmetric j k (inr h) (inr g) = asymmetric j.1 k.1 h.1 g.1
+pair_asymmetric j k h g = grind (arith, ints, h, g)
 
 pair_irreflexive : (j k : ℤ × ℤ) → IsPairLess j k → j.0 ≡ k.0 → j.1 ≡ k.1 → ⊥
-pair_irreflexive j k (inl h) e f = irreflexive j.0 k.0 h e
-pair_irreflexive j k (inr h) e f = irreflexive j.1 k.1 h.1 f
+pair_irreflexive j k h e f = grind (arith, ints, h)
 
 pair_apart : (j : ℤ × ℤ) (r s : Row) → IsRowBelow r s → has_key_pair j r ≡ true → has_key_pair j s ≡ true → ⊥
 pair_apart j r s up p q = pair_irreflexive j j (then_less j j (pair_ties r s j j p q ∙ up)) refl refl
@@ -90,20 +86,13 @@ same_tie : (v : Value) (m n : ℤ) → is_eq (value_cmp v (Int m)) ≡ true → 
 same_tie v m n p q = int_ranked m n Equal (sym (sym (ties v v m n (tied _ p) (tied _ q)) ∙ tied_itself value_cmp_total v))
 
 pair_same : (j k : ℤ × ℤ) (r : Row) → has_key_pair j r ≡ true → has_key_pair k r ≡ true → IsPairLess j k → ⊥
-pair_same j k r p q under =
-    let a = and_parts _ _ p in
-    let b = and_parts _ _ q in
-    pair_irreflexive j k under (same_tie (column r 0) j.0 k.0 a.0 b.0) (same_tie (column r 1) j.1 k.1 a.1 b.1)
+pair_same j k r p q under = grind (arith, pair_irreflexive j k under, same_tie (column r 0) j.0 k.0, same_tie (column r 1) j.1 k.1, p, q)
 
 pub pair_mine : (r : Row) (m n : ℤ) → column r 0 ≡ Int m → column r 1 ≡ Int n → has_key_pair (m, n) r ≡ true
 pair_mine r m n p q = and_from _ _ (self_tied (column r 0) m p) (self_tied (column r 1) n q)
 
 pair_only : (j : ℤ × ℤ) (r : Row) (m n : ℤ) → column r 0 ≡ Int m → column r 1 ≡ Int n → has_key_pair j r ≡ true → j ≡ (m, n)
-pair_only j r m n p q h =
-    let a = and_parts _ _ h in
-    let one = tied_number (column r 0) m j.0 p a.0 in
-    let two = tied_number (column r 1) n j.1 q a.1 in
-    λ i. (one i, two i)
+pair_only j r m n p q h = grind (arith, tied_number (column r 0) m j.0 p, tied_number (column r 1) n j.1 q, h)
 
 pub slots_bear : (version : Version) → Bears has_key_pair slot_number (ReadsSlot version) IsRowBelow IsPairLess
 slots_bear version = record {

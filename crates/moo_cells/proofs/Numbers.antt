@@ -1,12 +1,11 @@
 -- Numbers that order rows.
-use Rattle.moo_cells.proofs.Words.{◌≡◌, ℤ, ◌<ℤ◌, true, refl, sym, ap, ◌∙◌, arith, is_eq, int_cmp, int_ranked, tied_itself, alike_right, Ordering, Less, Equal, Greater, ints, Value, Row, value_cmp, rowid, has_rowid}
+use Rattle.moo_cells.proofs.Words.{◌≡◌, ℤ, ◌<ℤ◌, true, refl, sym, ap, ◌∙◌, arith, is_eq, int_cmp, int_ranked, tied_itself, alike_right, Ordering, Less, Equal, ints, Value, Row, value_cmp, rowid, has_rowid}
 use Rattle.sqlite.specs.declared.types.Value.TheVariants.{Int}
 use Rattle.sqlite_value.proofs.OrderLemmas.{value_cmp_total, value_cmp-Int}
 
 pub tied : (o : Ordering) → is_eq o ≡ true → o ≡ Equal
-tied Less h = cc
 tied Equal h = refl
-tied Greater h = cc
+tied o h = cc
 
 -- a value that ties with a number orders as it does
 pub ties : (a b : Value) (m n : ℤ) → value_cmp a (Int m) ≡ Equal → value_cmp b (Int n) ≡ Equal → value_cmp a b ≡ int_cmp m n

@@ -37,14 +37,11 @@ number_same a b = (λ e i. record { 0 = int_inj a.0 b.0 e i }, ap (λ (n : ObjNo
 text_same : (a b : List ℕ) → (Text a ≡ Text b) ↔ (a ≡ b)
 text_same a b = (text_inj a b, ap Text)
 
-accept_same : (text : List ℕ) (x y : ObjRow) → row_fits x ≡ true → row_fits y ≡ true → ShowsAccept text x.accept → ShowsAccept text y.accept → x.accept ≡ y.accept
-accept_same text x y f g = accept_one text x.accept y.accept (and_parts _ _ (and_parts _ _ f).1).1 (and_parts _ _ (and_parts _ _ g).1).1
-
 -- cells show one row within the limits at most
 pub object_one : (version : Version) (n : ObjNo) (c : Row) (x y : ObjRow) → row_fits x ≡ true → row_fits y ≡ true → ShowsObject version n c x → ShowsObject version n c y → x ≡ y
 object_one version n c x y f g p q =
     let e : object_row_cells n x p.0 ≡ object_row_cells n y q.0 = sym p.2 ∙ q.2 in
     let text : p.0 ≡ q.0 = ap (text_at accept_place) e in
-    let accept = accept_same q.0 x y f g (subst (λ t. ShowsAccept t x.accept) text p.1) q.1 in
+    let accept = accept_one q.0 x.accept y.accept (and_parts _ _ (and_parts _ _ f).1).1 (and_parts _ _ (and_parts _ _ g).1).1 (subst (λ t. ShowsAccept t x.accept) text p.1) q.1 in
     let columns = subst (λ cells. StandFrom 0 (object_row_cells n x p.0) cells) e (stand_themselves (object_row_cells n x p.0)) in
     let fields = simp (flag_same, number_same, text_same) at columns in search rules

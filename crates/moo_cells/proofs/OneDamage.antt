@@ -59,10 +59,6 @@ key_order (Slot n i) = by_key (Ordered (Slot n i)) (above (omega arith)) (λ k. 
 key_order (Verb n i) = by_key (Ordered (Verb n i)) (above (omega arith)) (λ k. above (omega arith)) (λ k. above (omega arith)) (λ k j. above (omega arith)) (λ k j. map_order (λ e l. Verb (e.0 l) (e.1 l)) (pair_order n i k j)) (λ k. below (omega arith))
 key_order (Petition n) = by_key (Ordered (Petition n)) (above (omega arith)) (λ k. above (omega arith)) (λ k. above (omega arith)) (λ k j. above (omega arith)) (λ k j. above (omega arith)) (λ k. map_order (λ e i. Petition (e i)) (int_order n k))
 
--- two kinds of one rank are one
-kind_inj : (a b : Kind) → rank a ≡ rank b → a ≡ b
-kind_inj a b e = sym (kind_again a) ∙ ap kind_at e ∙ kind_again b
-
 -- ---- one damage
 
 one_key : (meets : Kind → Key → Type 0) (kind : Kind) (key at : Key) → IsFirstMet meets kind key → IsFirstMet meets kind at → key ≡ at
@@ -70,5 +66,5 @@ one_key meets kind key at f g = only_same (key_order key at) (λ h. g.1.1 key h 
 
 pub one_damage : (meets : Kind → Key → Type 0) (kind other : Kind) (key at : Key) → IsFirstMet meets kind key → IsFirstMet meets other at → (kind ≡ other) × (key ≡ at)
 one_damage meets kind other key at f g =
-    let is = kind_inj kind other (only_same (nat_order (rank kind) (rank other)) (λ h. g.0 kind h key f.1.0) (λ h. f.0 other h at g.1.0)) in
+    let is : kind ≡ other = sym (kind_again kind) ∙ ap kind_at (only_same (nat_order (rank kind) (rank other)) (λ h. g.0 kind h key f.1.0) (λ h. f.0 other h at g.1.0)) ∙ kind_again other in
     (is, one_key meets other key at (subst (λ k. IsFirstMet meets k key) is f) g)

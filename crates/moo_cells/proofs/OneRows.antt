@@ -1,6 +1,6 @@
 -- Tables show one lot of rows within the limits at most.
-use Rattle.moo_cells.{proofs.Words.{◌≡◌, ℕ, ℤ, pos, true, Option, Some, None, refl, sym, ap, subst, ◌∙◌, same_map, and_parts, Row, column, ObjNo, Spells, one_spelled, Head, Maps, object_exact, prop_exact, slot_exact, verb_exact, petition_exact, object_total, prop_total, slot_total, verb_total, petition_total, is_number, petition_fits, row_fits, state_fits, Version, Tables, head_cells, petition_head_cells, AreWithin, calls_fit, ShowsOrNone, ShowsBits, ShowsSlotState, ShowsObject, ShowsProp, ShowsSlot, ShowsVerb, ShowsPetition, ShowsCounter, ShowsRows, Bool, false, has_petitions, ShowsNext}, proofs.Keys.{pos_inj}}
-use Rattle.moo_cells.{proofs.Texts.{int_inj, values_in, calls_within}, proofs.OneCells.{one_some, text_at, place_inj, prep_inj, bits_one, state_one}, proofs.ObjectLemmas.{object_one}}
+use Rattle.moo_cells.{proofs.Words.{has_lettered_bits, ◌≡◌, ℕ, ℤ, pos, true, Option, Some, None, refl, sym, ap, subst, ◌∙◌, same_map, and_parts, Row, column, ObjNo, Spells, one_spelled, Head, Maps, object_exact, prop_exact, slot_exact, verb_exact, petition_exact, object_total, prop_total, slot_total, verb_total, petition_total, is_number, petition_fits, row_fits, state_fits, Version, Tables, head_cells, petition_head_cells, AreWithin, calls_fit, ShowsOrNone, ShowsBits, ShowsSlotState, ShowsObject, ShowsProp, ShowsSlot, ShowsVerb, ShowsPetition, ShowsRows, Bool, false, has_petitions, ShowsNext}, proofs.Keys.{pos_inj}}
+use Rattle.moo_cells.{proofs.Texts.{int_inj, values_in, calls_within}, proofs.OneCells.{one_some, text_at, place_inj, prep_inj, rights_one, state_one}, proofs.ObjectLemmas.{object_one}}
 use Rattle.moo_value.specs.declared.value.Value.TheVariants.{List as a_list}
 use Rattle.moo_rows.{specs.declared.row.PetitionId.{PetitionId}, specs.declared.row.PetitionRow.{PetitionRow}, specs.declared.row.PropId.{PropId}, specs.declared.row.PropRow.{PropRow}, specs.declared.row.SlotRow.{SlotRow}, specs.declared.row.VerbId.{VerbId}, specs.declared.row.VerbRow.{VerbRow}, specs.Bits.{verb_bits_of}}
 
@@ -18,7 +18,7 @@ slot_one version key c x y f g p q =
     let e = sym p.4 ∙ q.4 in
     let owner = int_inj x.owner.0 y.owner.0 (ap (λ (c : Row). column c 2) e) in
     let cell : p.0 ≡ q.0 = ap (λ (c : Row). column c 3) e in
-    let bits = bits_one version q.0 x.bits y.bits (subst (λ v. ShowsBits version v x.bits) cell p.2) q.2 in
+    let bits = rights_one (has_lettered_bits version) q.0 x.bits y.bits (subst (λ v. ShowsBits version v x.bits) cell p.2) q.2 in
     let text : p.1 ≡ q.1 = ap (text_at 4) e in
     let state = state_one q.1 x.state y.state f g (subst (λ t. ShowsSlotState t x.state) text p.3) q.3 in
     λ i. record { owner = record { 0 = owner i }; bits = bits i; state = state i }
@@ -50,17 +50,11 @@ same_row : {X : Type 0} (shows : Row → X → Type 0) (fits : X → Type 0) →
     → ((r : X) → x ≡ Some r → fits r) → ((r : X) → y ≡ Some r → fits r) → ShowsOrNone shows o x → ShowsOrNone shows o y → x ≡ y
 same_row shows fits one None None None f g p q = refl
 same_row shows fits one (Some c) (Some x) (Some y) f g p q = ap Some (one c x y (f x refl) (g y refl) p q)
-same_row shows fits one None None (Some y) f g p q = absurd q
-same_row shows fits one None (Some x) y f g p q = absurd p
-same_row shows fits one (Some c) None y f g p q = absurd p
-same_row shows fits one (Some c) (Some x) None f g p q = absurd q
+same_row shows fits one o x y f g p q = absurd assumption
 
 next_one : (petitions : Bool) (table : ℤ → Option Row) (m n : ℕ) → ShowsNext petitions table m → ShowsNext petitions table n → m ≡ n
 next_one false table m n p q = p ∙ sym q
 next_one true table m n p q = let e = one_some (petition_head_cells m) (petition_head_cells n) (sym p.0 ∙ q.0) in pos_inj m n (int_inj (pos m) (pos n) (ap (λ (c : Row). column c 1) e))
-
-counter_one : (version : Version) (table : ℤ → Option Row) (m n : ℕ) → ShowsCounter version table m → ShowsCounter version table n → m ≡ n
-counter_one version = next_one (has_petitions version)
 
 head_one : (version : Version) (g h : Head) → Some (head_cells version g) ≡ Some (head_cells version h) → g.next_petition ≡ h.next_petition → g ≡ h
 head_one version g h same next_petition =
@@ -73,7 +67,7 @@ head_one version g h same next_petition =
 
 pub one_rows : (t : Tables) (m n : Maps) → ShowsRows t m → AreWithin m → ShowsRows t n → AreWithin n → m ≡ n
 one_rows t m n p f q g =
-    let head = head_one t.version m.head n.head (sym p.head ∙ q.head) (counter_one t.version t.petition_head m.head.next_petition n.head.next_petition p.counter q.counter) in
+    let head = head_one t.version m.head n.head (sym p.head ∙ q.head) (next_one (has_petitions t.version) t.petition_head m.head.next_petition n.head.next_petition p.counter q.counter) in
     let objects = same_map object_total object_exact m.objects n.objects (λ x. same_row (ShowsObject t.version x) (λ row. row_fits row ≡ true) (object_one t.version x) (t.object x.0) _ _ (f.objects x) (g.objects x) (p.maps.objects x) (q.maps.objects x)) in
     let props = same_map prop_total prop_exact m.props n.props (λ id. same_row (ShowsProp t.version id) (λ row. Unit {0}) (λ c x y _ _. prop_one t.version id c x y) (t.prop (pos id.0)) _ _ (λ r e. tt) (λ r e. tt) (p.maps.props id) (q.maps.props id)) in
     let slots = same_map slot_total slot_exact m.slots n.slots (λ key. same_row (ShowsSlot t.version key) (λ row. state_fits row.state ≡ true) (slot_one t.version key) (t.slot (key.0.0, pos key.1.0)) _ _ (λ s e. (and_parts _ _ (f.slots key s e)).1) (λ s e. (and_parts _ _ (g.slots key s e)).1) (p.maps.slots key) (q.maps.slots key)) in

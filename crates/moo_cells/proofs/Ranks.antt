@@ -21,19 +21,7 @@ kind_at n = get_or (BadHead ∷ BadCell ∷ PastHead ∷ NoParent ∷ ParentLoop
 
 pub kind_again : (kind : Kind) → kind_at (rank kind) ≡ kind
 kind_again BadHead = refl
-kind_again BadCell = refl
-kind_again PastHead = refl
-kind_again NoParent = refl
-kind_again ParentLoop = refl
-kind_again NoPlace = refl
-kind_again PlaceLoop = refl
-kind_again NoDefiner = refl
-kind_again DoubleName = refl
-kind_again StrangeSlot = refl
-kind_again MissingSlot = refl
-kind_again ClearDefiner = refl
-kind_again StrangeVerb = refl
-kind_again Mismatch = refl
+kind_again kind = refl
 
 -- so what holds of the first two kinds holds of each kind before the third
 pub by_rank : (P : Kind → Type 0) → P BadHead → P BadCell → (kind : Kind) → rank kind < 3 → P kind

@@ -7,16 +7,13 @@ use Rattle.moo_tables.specs.declared.reading.CellLists.{CellLists}
 use Rattle.moo_damage.specs.declared.kind.Key.TheVariants.{Head}
 
 pub shows_of : {X : Type 0} (reads shows : Row → X → Type 0) → ((c : Row) (x : X) → reads c x → shows c x) → (o : Option Row) (x : Option X) → ShowsOrNone reads o x → ShowsOrNone shows o x
-shows_of reads shows f None None h = h
 shows_of reads shows f (Some c) (Some x) h = f c x h
-shows_of reads shows f (Some c) None h = absurd h
-shows_of reads shows f None (Some x) h = absurd h
+shows_of reads shows f o x h = h
 
 pub read_of : {X : Type 0} (reads : Row → X → Type 0) (o : Option Row) (y : Option X) (x : X) → ShowsOrNone reads o y → y ≡ Some x → (c : Row) × reads c x
 read_of reads None None x h e = absurd cc
 read_of reads (Some c) (Some z) x h e = (c, subst (reads c) (one_some z x e) h)
-read_of reads (Some c) None x h e = absurd h
-read_of reads None (Some z) x h e = absurd h
+read_of reads o y x h e = absurd h
 
 pub not_negative : (m n : ℕ) → negsuc n ≡ pos m → ⊥
 not_negative m n e = cc

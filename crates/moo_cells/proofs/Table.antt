@@ -38,11 +38,7 @@ module _ {J K X : Type 0} {has : J → Row → Bool} {number : K → J} {reads :
   -- no row in front has the key of a later one
   pub fresh : (j : J) (front : List Row) (r : Row) (rest : List Row) → IsAscending up (front ++ r ∷ rest) → has j r ≡ true → find (has j) front ≡ None
   fresh j [] r rest rise h = refl
-  fresh j (y ∷ ys) r rest rise h = go (has j y) refl (fresh j ys r rest rise.1 h)
-    where
-      go : (b : Bool) → has j y ≡ b → find (has j) ys ≡ None → find (has j) (y ∷ ys) ≡ None
-      go true e later = absurd (bears.apart j y r (all_has (up y) (ys ++ r ∷ rest) r rise.0 (has_between ys r rest)) e h)
-      go false e later = rw e later
+  fresh j (y ∷ ys) r rest rise h = grind (arith, h, fresh j ys r rest rise.1 h, bears.apart j y r (all_has (up y) (ys ++ r ∷ rest) r rise.0 (has_between ys r rest)))
 
   -- one row more
   pub step : {cmp : K → K → Ordering} → IsTotalOrder cmp → IsAntisymmetric cmp → (front : List Row) (r : Row) (rest : List Row) → IsAscending up (front ++ r ∷ rest)

@@ -1,5 +1,5 @@
 -- Texts in cells.
-use Rattle.moo_cells.proofs.Words.{◌≡◌, ◌≢◌, ℕ, zero, suc, ℤ, List, [], ◌∷◌, ◌≤◌, ◌<◌, length, map, get_or, take, Bool, true, false, true≢false, Some, Result, Ok, Err, refl, sym, ap, subst, ◌∙◌, arith, if◌then◌else◌, ◌==◌, ◌&&◌, nat_le, list_all, and_parts, and_from, le-leb, leb-true, Value, ObjNo, Spells, Fits, HoldInside, InRange, gather, nesting, spread, one_spelled, is_text, is_number, all_within_limits, is_named, are_few, are_shallow, has_word, state_fits, accept_fits, text_tested, fits_tested, fits_of, range_of, fits_signed, calls_fit, object_list, ShowsSlotState}
+use Rattle.moo_cells.proofs.Words.{◌≡◌, ◌≢◌, ℕ, zero, suc, ℤ, List, [], ◌∷◌, ◌≤◌, ◌<◌, length, map, get_or, Bool, true, false, true≢false, Some, Result, Ok, Err, refl, sym, ap, subst, ◌∙◌, arith, if◌then◌else◌, ◌==◌, ◌&&◌, nat_le, list_all, and_parts, and_from, le-leb, leb-true, Value, ObjNo, Spells, Fits, HoldInside, InRange, gather, nesting, spread, one_spelled, is_text, is_number, all_within_limits, is_named, are_few, are_shallow, has_word, state_fits, accept_fits, text_tested, fits_tested, fits_of, range_of, fits_signed, calls_fit, object_list, ShowsSlotState}
 use Rattle.std.specs.Prelude.{◌+◌}
 use Rattle.std.{specs.Result.{is_err}, proofs.lemmas.List.{take_all}}
 use Rattle.sqlite.specs.declared.types.Value.TheVariants.{Int, Text}
@@ -25,15 +25,12 @@ int_in n v = n
 pub int_inj : (m n : ℤ) → Int m ≡ Int n → m ≡ n
 int_inj m n e = ap (int_in m) e
 
-whole_allowed : (s : List ℕ) → IsText s → AllAllowed (take (MAX_LENGTH + 1) s)
-whole_allowed s t = let short = t.short in subst AllAllowed (sym (take_all (MAX_LENGTH + 1) s (omega arith))) t.allowed
-
 -- bytes that are no text are those of no text
 pub not_text : (f : LiteralFault) (s text : List ℕ) → IsTextFault f s → f ≢ OutOfMemory → is_text text ≡ true → s ≡ text → ⊥
 not_text f s text fault some fits same = by f fault some (subst IsText (sym same) ((text_tested text).0 fits))
   where
     by : (f : LiteralFault) → IsTextFault f s → f ≢ OutOfMemory → IsText s → ⊥
-    by BadByte fault some t = fault (whole_allowed s t)
+    by BadByte fault some t = let short = t.short in fault (subst AllAllowed (sym (take_all (MAX_LENGTH + 1) s (omega arith))) t.allowed)
     by TooLong fault some t = let short = t.short in let long = fault.0 in absurd (omega arith)
     by OutOfMemory fault some t = some refl
     by NotALiteral fault some t = fault
@@ -54,12 +51,8 @@ has_a_word names r is right = go (has_word names) (sym (ap is_err is) ∙ right)
 
 -- a whole text that fails to be read spells no value within the limits
 pub fails_none : (f : LiteralFault) (v : MooValue) → Fails f (let x : Result MooValue LiteralFault = Ok v in x) → f ≢ OutOfMemory → ⊥
-fails_none BadByte v e some = cc
-fails_none TooLong v e some = cc
 fails_none OutOfMemory v e some = some refl
-fails_none NotALiteral v e some = cc
-fails_none OutOfRange v e some = cc
-fails_none TooDeep v e some = cc
+fails_none fault v e some = cc
 
 pub not_state : (f : LiteralFault) (s text : List ℕ) (state : SlotState) → ((v : MooValue) → Fits v → Spells v s → Fails f (let x : Result MooValue LiteralFault = Ok v in x)) → f ≢ OutOfMemory → (s ≡ [] → ⊥) → ShowsSlotState text state → state_fits state ≡ true → s ≡ text → ⊥
 not_state f s text Clear only some full shows fits is = full (is ∙ shows)
@@ -71,9 +64,6 @@ not_state f s text (Set v) only some full shows fits is = fails_none f v (only v
 numbers_in : (objects : List ObjNo) → HoldInside InRange IsText (gather (map Obj objects)) → list_all is_number objects ≡ true
 numbers_in [] h = refl
 numbers_in (x ∷ objects) h = and_from _ _ (range_of x.0 h.0) (numbers_in objects h.1)
-
-pub list_fits : (objects : List ObjNo) → length objects ≤ MOST_ACCEPTED → Fits (object_list objects) → accept_fits (Some objects) ≡ true
-list_fits objects short fits = and_from _ _ (le-leb (length objects) MOST_ACCEPTED short) (numbers_in objects fits.0)
 
 inside : (objects : List ObjNo) → list_all is_number objects ≡ true → HoldInside InRange IsText (gather (map Obj objects))
 inside [] h = tt
@@ -106,7 +96,7 @@ not_empty s some none = true≢false (ap (λ l. length l == 0) (sym none) ∙ so
 -- ---- a list that a literal spells
 
 pub fits_spelled : (vs : Values) (items : List MooValue) (objects : List ObjNo) → Fits (a_list vs) → gather items ≡ vs → items ≡ map Obj objects → length objects ≤ MOST_ACCEPTED → accept_fits (Some objects) ≡ true
-fits_spelled vs items objects fits gathered same short = list_fits objects short (subst Fits (ap a_list (sym gathered ∙ ap gather same)) fits)
+fits_spelled vs items objects fits gathered same short = and_from _ _ (le-leb (length objects) MOST_ACCEPTED short) (numbers_in objects (subst Fits (ap a_list (sym gathered ∙ ap gather same)) fits).0)
 
 pub spread_objects : (objects : List ObjNo) → spread (gather (map Obj objects)) ≡ map Obj objects
 spread_objects [] = refl
@@ -157,6 +147,3 @@ calls_held calls fits held =
 pub calls_may : (calls : Values) → calls_fit calls ≡ true → (list_all is_named (spread calls) && (are_few calls && are_shallow calls)) ≡ true
 calls_may calls fits =
     let held = held_of calls fits in and_from (list_all is_named (spread calls)) (are_few calls && are_shallow calls) held.named (and_from (are_few calls) (are_shallow calls) held.few held.shallow)
-
-pub same_values : (calls others : Values) → a_list calls ≡ a_list others → calls ≡ others
-same_values calls others same = ap values_in same

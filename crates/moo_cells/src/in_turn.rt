@@ -31,6 +31,7 @@ use std::alloc::Global;
 
 /// Reads a table, and puts what each of its rows shows into the maps, which have none of them yet. None if some row shows no row within
 /// its limits, or if memory ran out.
+#[tactic(auto, using(moo_tables::proofs::ReadLemmas::hands_on, moo_tables::proofs::ReadLemmas::answers, moo_tables::proofs::ReadLemmas::read_then))]
 fn take_table<R: ReadRow, S: Alter>(
     alloc: Global,
     conn: &mut Connection<S>,
@@ -54,6 +55,7 @@ fn take_table<R: ReadRow, S: Alter>(
 
 /// Reads the tables of objects, properties, slots and verbs, one after another, and puts their rows into maps that have a head alone.
 /// None if some row shows no row within its limits, or if memory ran out.
+#[tactic(auto, using(moo_tables::proofs::ReadLemmas::hands_on, moo_tables::proofs::ReadLemmas::answers, moo_tables::proofs::ReadLemmas::read_then))]
 fn take_tables<S: Alter>(
     alloc: Global,
     conn: &mut Connection<S>,
@@ -95,6 +97,7 @@ pub(crate) fn are_each_numbered(one: &[Row], two: &[Row], three: &[Row]) -> bool
 }
 
 /// Reads all tables: the rows within their limits that they show. None if they show no such rows, or if memory ran out.
+#[tactic(auto, using(moo_tables::proofs::ReadLemmas::hands_on, moo_tables::proofs::ReadLemmas::answers, moo_tables::proofs::ReadLemmas::read_then))]
 fn take_rows<S: Alter>(
     alloc: Global,
     conn: &mut Connection<S>,
@@ -128,6 +131,7 @@ fn take_rows<S: Alter>(
 /// The rows that the tables of a connection show, if they are those of a world; None if they show no world, or if memory ran out.
 ///
 /// Nothing is written. After a fault of the store the tables are as they were, unless the fault shut the connection.
+#[tactic(auto, using(moo_tables::proofs::ReadLemmas::hands_on, moo_tables::proofs::ReadLemmas::answers, moo_tables::proofs::ReadLemmas::read_then))]
 pub fn read_in_turn<S: Alter>(
     alloc: Global,
     conn: &mut Connection<S>,

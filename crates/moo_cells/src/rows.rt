@@ -28,6 +28,7 @@ pub(crate) fn head_alone(alloc: Global, head: Head) -> Flat
 
 /// Puts what each table shows, one after another, into rows that have a head alone. The cells of the rows are let go soon after they are
 /// read. `Damaged` with `BadCell` and the least key of a row that shows none within its limits; `OutOfMemory`.
+#[tactic(auto, using(crate::proofs::FillLemmas::keeps_each))]
 fn read_tables(alloc: Global, lists: CellLists, rows: &mut Flat) -> Result<(), CellFault>
     // In each table the keys are whole numbers, and each is above the one before.
     requires listed { AreListed lists }

@@ -38,6 +38,7 @@ fn are_shown<R: ReadRow>(alloc: Global, version: Version, cells: &[Row], rows: &
 }
 
 /// Reads a table of a connection. Whether its rows are seen to show all rows of their kind, one for one; false too if memory ran out.
+#[tactic(auto, using(moo_tables::proofs::ReadLemmas::hands_on, moo_tables::proofs::ReadLemmas::answers, moo_tables::proofs::ReadLemmas::read_then))]
 fn show_table<R: ReadRow, S: Alter>(
     alloc: Global,
     conn: &mut Connection<S>,
@@ -60,6 +61,7 @@ fn show_table<R: ReadRow, S: Alter>(
 
 /// Reads the tables of objects, properties, slots and verbs, one after another. Whether each is seen to show all rows of its kind, one
 /// for one; false too if memory ran out.
+#[tactic(auto, using(moo_tables::proofs::ReadLemmas::hands_on, moo_tables::proofs::ReadLemmas::answers, moo_tables::proofs::ReadLemmas::read_then))]
 fn show_tables<S: Alter>(
     alloc: Global,
     conn: &mut Connection<S>,
@@ -91,6 +93,7 @@ fn show_tables<S: Alter>(
 /// Whether the tables of a connection are seen to show these rows; false too if memory ran out.
 ///
 /// Nothing is written. After a fault of the store the tables are as they were, unless the fault shut the connection.
+#[tactic(auto, using(moo_tables::proofs::ReadLemmas::hands_on, moo_tables::proofs::ReadLemmas::answers, moo_tables::proofs::ReadLemmas::read_then))]
 pub fn show_in_turn<S: Alter>(
     alloc: Global,
     conn: &mut Connection<S>,

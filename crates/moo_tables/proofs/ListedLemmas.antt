@@ -1,15 +1,12 @@
 -- Keys that rise from row to row are in order.
-use Rattle.moo_tables.{proofs.Words.{◌≡◌, ◌↔◌, ℕ, ℤ, ◌+◌, ◌<◌, ◌≤◌, suc, drop, length, get_or, List, [], ◌∷◌, Option, Some, None, Bool, true, false, ◌&&◌, IsTrue, refl, sym, ap, ◌∙◌, arith, true≢false, AllByRecursion, IsTotalOrder, is_lt, int_cmp, Ordering, Less, Equal, Greater, drop_all, and_parts, and_from, on_total, then_total, Value, Int, Row, column, value_cmp, IsAscending, is_int, value_cmp_total, value_cmp-Int, all_weaker, Tables, AreKeyed, ListsTables, ArePaired, tables_of, pair_cmp, is_above, has_two_numbers}, specs.declared.reading.CellLists.{CellLists}}
+use Rattle.moo_tables.{proofs.Words.{◌≡◌, ◌↔◌, ℕ, ℤ, ◌+◌, ◌<◌, ◌≤◌, suc, drop, length, get_or, List, [], ◌∷◌, Option, Some, None, Bool, true, false, ◌&&◌, IsTrue, refl, sym, ap, ◌∙◌, arith, true≢false, AllByRecursion, IsTotalOrder, is_lt, int_cmp, Ordering, Less, drop_all, and_parts, and_from, on_total, then_total, Value, Int, Row, column, value_cmp, IsAscending, is_int, value_cmp_total, value_cmp-Int, all_weaker, Tables, AreKeyed, ListsTables, ArePaired, tables_of, pair_cmp, is_above, has_two_numbers}, specs.declared.reading.CellLists.{CellLists}}
 use Rattle.std.proofs.Math.Seq.{drop-cons}
 
 less_of : (o : Ordering) → is_lt o ≡ true → o ≡ Less
-less_of Less h = refl
-less_of Equal h = cc
-less_of Greater h = cc
+less_of o h = grind arith
 
 not_both : (a : Bool) {b : Bool} → b ≡ false → (a && b) ≡ false
-not_both true low = low
-not_both false low = refl
+not_both a low = grind (arith, low)
 
 module _ {K : Type 0} (cmp : K → K → Ordering) (is_whole : Row → Bool) (key : Row → K) where
   pub rise : Option K → List Row → Bool

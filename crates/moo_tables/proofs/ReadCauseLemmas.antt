@@ -3,15 +3,13 @@ use Rattle.moo_tables.{proofs.Words.{◌≡◌, ◌≤◌, inl, inr, ap, sym, su
 use Rattle.std.specs.Result.{IsErrAnd}
 use Rattle.sqlite.specs.declared.error.Error.TheVariants.{SqliteFailure}
 use Rattle.sqlite.specs.declared.error.ErrorCode.TheVariants as code
-use Rattle.sqlite_trees.{specs.declared.error.StoreError.{StoreError}, specs.declared.error.StoreError.TheVariants.{OutOfMemory, Io, Corrupt, Full, Broken, Unstorable}}
+use Rattle.sqlite_trees.{specs.declared.error.StoreError.{StoreError}, specs.declared.error.StoreError.TheVariants.{OutOfMemory, Broken, Unstorable}}
 
 pub cause_from : (old mid new : State) (cause : StoreError) → old.faults ≤ mid.faults → IsTrue mid.is_open → HasCause mid new ⊥ cause → HasCause old new ⊥ cause
 cause_from old mid new OutOfMemory up is_open h = tt
-cause_from old mid new Io up is_open h = omega arith
-cause_from old mid new Corrupt up is_open h = omega arith
-cause_from old mid new Full up is_open h = omega arith
 cause_from old mid new Broken up is_open h = absurd (true≢false (sym is_open ∙ h))
 cause_from old mid new Unstorable up is_open h = absurd h
+cause_from old mid new cause up is_open h = omega arith
 
 -- a query stopped, after calls that forgot no fault of the disk and left the limit on steps
 pub query_stops_since : (old mid new : State) (e : Error) → old.faults ≤ mid.faults → mid.step_limit ≡ old.step_limit → IsTrue mid.is_open → StopsQuery mid new e → StopsQuery old new e
@@ -35,11 +33,7 @@ handed_on P (Err x) e is it = subst P (sym is) it
 
 stored_otherwise : (cause : StoreError) → ¬ (SqliteFailure code.NotADatabase ≡ store_error cause)
 stored_otherwise OutOfMemory is = absurd cc
-stored_otherwise Io is = absurd cc
-stored_otherwise Corrupt is = absurd cc
-stored_otherwise Full is = absurd cc
-stored_otherwise Broken is = absurd cc
-stored_otherwise Unstorable is = absurd cc
+stored_otherwise cause is = absurd cc
 
 -- no cause is that the file isn't a database
 pub not_a_database : (old new : State) → ¬ StopsQuery old new (SqliteFailure code.NotADatabase)

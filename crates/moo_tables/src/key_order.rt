@@ -36,6 +36,7 @@ fn pair_in(row: &Row) -> Option<(i64, i64)>
 }
 
 /// Whether a key of one number is above the last one, or is the first.
+#[tactic(auto, using(crate::proofs::ListedLemmas::is_value_cmp))]
 fn is_number_above(last: Option<i64>, number: i64) -> bool
     ensures { result ≡ is_above value_cmp (option_map Int last) (Int number) }
 {
@@ -46,6 +47,7 @@ fn is_number_above(last: Option<i64>, number: i64) -> bool
 }
 
 /// Whether a key of two numbers is above the last one, or is the first. The first numbers are compared first.
+#[tactic(auto, using(crate::proofs::ListedLemmas::is_value_cmp))]
 fn is_pair_above(last: Option<(i64, i64)>, pair: (i64, i64)) -> bool
     ensures { result ≡ is_above pair_cmp (option_map pair_of_ints last) (pair_of_ints pair) }
 {

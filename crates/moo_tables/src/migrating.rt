@@ -16,6 +16,7 @@ use sqlite::{Alter, Connection, Error};
 
 /// Makes the tables that the second version added to the first, `slot2`, `petition` and `petition_head`, empty. The other tables stay as
 /// they are.
+#[tactic(auto, using(moo_tables_rows::proofs::InsideLemmas::stays_then))]
 pub(crate) fn create_added_tables<T: Run>(tx: &mut T) -> Result<usize, Error>
     // The transaction is on the connection that it was on.
     ensures same_reference { T.lender tx.new ≡ T.lender tx.old }
@@ -34,6 +35,7 @@ pub(crate) fn create_added_tables<T: Run>(tx: &mut T) -> Result<usize, Error>
 /// Makes the tables of the present version with this head and these slots, within a transaction.
 ///
 /// The first petition has the number 1. Every row of the table `slot` is deleted, which only the first version reads.
+#[tactic(auto, using(moo_tables_rows::proofs::InsideLemmas::stays_then))]
 fn write_migrated<T: Run>(
     tx: &mut T,
     head: &Head,

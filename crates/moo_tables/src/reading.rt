@@ -45,6 +45,7 @@ impl TakeRows for Listed {
 ///
 /// Nothing is written. After a fault of the store the tables are as they were, unless the fault shut the connection. If the tables are of
 /// the version, it fails only if the store does, if memory runs out, or if it takes more steps than the connection allows.
+#[tactic(auto, using(crate::proofs::ReadLemmas::hands_on, crate::proofs::ReadLemmas::answers, crate::proofs::ReadLemmas::ran_out))]
 pub fn cells_of<S: Alter>(
     alloc: Global,
     conn: &mut Connection<S>,
@@ -71,6 +72,7 @@ pub fn cells_of<S: Alter>(
 
 /// Reads the three small tables: the rows of `head`, of `petition` and of `petition_head`. If the version has no petitions, the last two
 /// lists are empty, and the store isn't asked for them. It fails as `cells_of` does.
+#[tactic(auto, using(crate::proofs::ReadLemmas::hands_on, crate::proofs::ReadLemmas::answers, crate::proofs::ReadLemmas::read_then))]
 pub fn small_cells_of<S: Alter>(
     alloc: Global,
     conn: &mut Connection<S>,
@@ -97,6 +99,7 @@ pub fn small_cells_of<S: Alter>(
 /// The version has to be that of the database (`version_of`): of another one nothing is said. Nothing is written. It fails
 /// only if the store does, or if it takes more steps than the connection allows. After a fault of the store the tables are as
 /// they were, unless the fault shut the connection.
+#[tactic(auto, using(crate::proofs::ReadLemmas::hands_on, crate::proofs::ReadLemmas::answers, crate::proofs::ReadLemmas::read_then))]
 pub fn read_tables<S: Alter>(
     alloc: Global,
     conn: &mut Connection<S>,

@@ -1,6 +1,6 @@
 -- Cells of the kinds of their columns are stored as they are.
-use Rattle.moo_tables_rows.{proofs.Words.{◌≡◌, Bool, true, false, ◌&&◌, List, [], ◌∷◌, refl, ap, ◌∙◌, and_parts, Value, Row, cast, cast_all, Column}, proofs.StepLemmas.{cast_null, cast_int}}
-use Rattle.sqlite.{specs.Kind.{Kind}, specs.Kind.TheVariants.{Integer, Real, Text, Blob, Any}}
+use Rattle.moo_tables_rows.{proofs.Words.{arith, ◌≡◌, Bool, true, false, ◌&&◌, List, [], ◌∷◌, refl, Value, Row, cast, cast_all, Column}, proofs.StepLemmas.{cast_null, cast_int}}
+use Rattle.sqlite.{specs.Kind.{Kind}, specs.Kind.TheVariants.{Integer, Text}}
 use Rattle.sqlite.specs.declared.types.Value.TheVariants as value
 
 -- a whole number or nothing in a column of numbers, a text in a column of texts
@@ -17,24 +17,9 @@ fit [] (v ∷ vs) = false
 fit (c ∷ cs) [] = false
 
 kept_one : (kind : Kind) (v : Value) → fits kind v ≡ true → cast kind v ≡ v
-kept_one Integer value.Null h = cast_null
-kept_one Integer (value.Int n) h = cast_int n
-kept_one Integer (value.Real x) h = cc
-kept_one Integer (value.Text t) h = cc
-kept_one Integer (value.Blob b) h = cc
-kept_one Real v h = absurd (let e : false ≡ true = h in cc)
-kept_one Text value.Null h = cc
-kept_one Text (value.Int n) h = cc
-kept_one Text (value.Real x) h = cc
-kept_one Text (value.Text t) h = refl
-kept_one Text (value.Blob b) h = cc
-kept_one Blob v h = refl
-kept_one Any v h = refl
+kept_one kind v h = grind (arith, cast_null, cast_int, h)
 
 pub kept_all : (columns : List Column) (row : Row) → fit columns row ≡ true → cast_all columns row ≡ row
 kept_all [] [] h = refl
-kept_all (c ∷ cs) (v ∷ vs) h =
-    let parts = and_parts (fits c.kind v) (fit cs vs) h in
-    ap (λ w. w ∷ cast_all cs vs) (kept_one c.kind v parts.0) ∙ ap (λ ws. v ∷ ws) (kept_all cs vs parts.1)
-kept_all [] (v ∷ vs) h = cc
-kept_all (c ∷ cs) [] h = cc
+kept_all (c ∷ cs) (v ∷ vs) h = grind (arith, h, kept_one c.kind v, kept_all cs vs)
+kept_all columns row h = cc

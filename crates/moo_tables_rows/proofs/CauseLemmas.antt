@@ -1,15 +1,10 @@
 -- Why one of several calls failed, one after another.
-use Rattle.moo_tables_rows.{proofs.Words.{IfErr, ◌≡◌, inl, inr, ◌≤◌, Ok, Err, Result, IsTrue, IsSome, true≢false, sym, subst, ◌∙◌, arith, ⊤, Error, Trees, State, HasCleanDisk, HasCause, Survives, Tables, Sees, Changes, StaysInside, StopsChange, HasCauseIn, true, false, refl, ap, MatchBool, IsUnchanged, store_error, KeepsUnread, Holds, MeetsRowIn, is_conflict, ◌⊎◌}, proofs.InsideLemmas.{clean_before, stays, stays_then}}
+use Rattle.moo_tables_rows.{proofs.Words.{IfErr, ◌≡◌, inl, inr, ◌≤◌, Ok, Err, Result, IsTrue, IsSome, sym, subst, ◌∙◌, arith, ⊤, Error, Trees, State, HasCleanDisk, HasCause, Survives, Tables, Sees, Changes, StaysInside, StopsChange, HasCauseIn, true, false, ap, MatchBool, IsUnchanged, store_error, KeepsUnread, Holds, MeetsRowIn, is_conflict, ◌⊎◌}, proofs.InsideLemmas.{clean_before, stays_then}}
 use Rattle.std.specs.Result.{IsErrAnd}
-use Rattle.sqlite_trees.{specs.declared.error.StoreError.{StoreError}, specs.declared.error.StoreError.TheVariants.{OutOfMemory, Io, Corrupt, Full, Broken, Unstorable}}
+use Rattle.sqlite_trees.{specs.declared.error.StoreError.{StoreError}}
 
 cause_from : (old mid new : State) (cause : StoreError) → old.faults ≤ mid.faults → IsTrue mid.is_open → HasCause mid new ⊤ cause → HasCause old new ⊤ cause
-cause_from old mid new OutOfMemory up is_open h = tt
-cause_from old mid new Io up is_open h = omega arith
-cause_from old mid new Corrupt up is_open h = omega arith
-cause_from old mid new Full up is_open h = omega arith
-cause_from old mid new Broken up is_open h = absurd (true≢false (sym is_open ∙ h))
-cause_from old mid new Unstorable up is_open h = tt
+cause_from old mid new cause up is_open h = grind (arith, h, is_open)
 
 -- a call stopped, after others that forgot no fault of the disk and left the limit on steps
 pub stops_since : (old mid new : State) (e : Error) → old.faults ≤ mid.faults → mid.step_limit ≡ old.step_limit → IsTrue mid.is_open → StopsChange mid new e → StopsChange old new e
@@ -18,12 +13,7 @@ stops_since old mid new e up steps is_open (inr (inl h)) = inr (inl (h.0, subst 
 stops_since old mid new e up steps is_open (inr (inr h)) = inr (inr h)
 
 cause_to : (old mid new : State) (cause : StoreError) → mid.faults ≤ new.faults → HasCause old mid ⊤ cause → HasCause old new ⊤ cause
-cause_to old mid new OutOfMemory up h = tt
-cause_to old mid new Io up h = omega arith
-cause_to old mid new Corrupt up h = omega arith
-cause_to old mid new Full up h = omega arith
-cause_to old mid new Broken up h = h
-cause_to old mid new Unstorable up h = tt
+cause_to old mid new cause up h = grind (arith, h)
 
 -- and the transaction was undone
 pub stops_to : (old mid new : State) (e : Error) (P : Trees → Type 0) → Survives mid new P → StopsChange old mid e → StopsChange old new e
@@ -35,9 +25,6 @@ pub record Reaches (old mid : State) : Type 0 where
   pub inside : StaysInside old mid
   pub sees : HasCleanDisk mid → (tables : Tables) → Sees old tables → (after : Tables) × Sees mid after
 
-pub reaches_none : (s : State) → Reaches s s
-reaches_none s = record { inside = stays s; sees = λ clean tables seen. (tables, seen) }
-
 pub reaches_more : {a b c : State} {change : Tables → Tables} → Reaches a b → StaysInside b c → Changes change b c → Reaches a c
 reaches_more {a} {b} {c} {change} first quiet changes = record {
   inside = stays_then first.inside quiet;
@@ -45,7 +32,7 @@ reaches_more {a} {b} {c} {change} first quiet changes = record {
 }
 
 pub reaches : {a b : State} {change : Tables → Tables} → StaysInside a b → Changes change a b → Reaches a b
-reaches {a} quiet changes = reaches_more (reaches_none a) quiet changes
+reaches {change = change} quiet changes = record { inside = quiet; sees = λ clean tables seen. (change tables, (changes clean tables seen).0) }
 
 pub fails_after : {A : Type 0} {old mid new : State} (r : Result A Error) → Reaches old mid → StaysInside mid new → HasCauseIn mid new r → HasCauseIn old new r
 fails_after (Ok x) first quiet cause = λ clean tables seen. tt
@@ -64,18 +51,11 @@ err_after {A} {B} {old} {mid} {new} {e} r s first quiet cause was is = λ clean 
 -- ---- a call that may meet a row with the key
 
 stored_otherwise : (cause : StoreError) → is_conflict (store_error cause) ≡ false
-stored_otherwise OutOfMemory = refl
-stored_otherwise Io = refl
-stored_otherwise Corrupt = refl
-stored_otherwise Full = refl
-stored_otherwise Broken = refl
-stored_otherwise Unstorable = refl
+stored_otherwise cause = grind arith
 
 -- no cause of any change is that a rule refused a row
 no_conflict : (old new : State) (e : Error) → StopsChange old new e → is_conflict e ≡ false
-no_conflict old new e (inl h) = ap is_conflict h.1 ∙ stored_otherwise h.0
-no_conflict old new e (inr (inl h)) = ap is_conflict h.0
-no_conflict old new e (inr (inr h)) = ap is_conflict h
+no_conflict old new e h = grind (arith, stored_otherwise, h)
 
 sees_on : (old new : State) (tables : Tables) → IsUnchanged old new → Sees old tables → Sees new tables × KeepsUnread old.now new.now
 sees_on old new tables same seen = (

@@ -1,5 +1,5 @@
 -- A column that is never empty has a value of its kind in each row that the rules of types let be.
-use Rattle.moo_tables_rows.proofs.Words.{if◌then◌else◌, ◌≡◌, ◌+◌, ◌++◌, ◌||◌, ℕ, suc, List, [], ◌∷◌, drop, length, Option, true, false, not, sym, ap, subst, ◌∙◌, true≢false, and_parts, not-true, Row, column, is_of, are_typed, are_present, Column, required}
+use Rattle.moo_tables_rows.proofs.Words.{arith, ◌≡◌, ◌+◌, ◌++◌, ℕ, suc, List, [], ◌∷◌, drop, length, Option, true, false, true≢false, and_parts, Row, column, is_of, are_typed, are_present, Column, required}
 use Rattle.sqlite_sql.specs.Ops.{is_null}
 use Rattle.sqlite_schema.{specs.Names.{is_key}, specs.declared.schema.Kind.{Kind}}
 
@@ -15,21 +15,15 @@ module _ (key : Option ℕ) where
 
   module _ (kind : Kind) where
     there : (at : ℕ) (front : List Column) (name : List ℕ) (more : List Column) (row : Row) → IsApart at front → are_present key at (front ++ required kind name ∷ more) row ≡ true → is_null (column row (place_behind at front)) ≡ false
-    there at [] name more row apart present =
-        let here : (is_key key at || not true || not (is_null (column row (at + 1)))) ≡ true = (and_parts (is_key key at || not true || not (is_null (column row (at + 1)))) (are_present key (at + 1) more row) present).0 in
-        not-true _ (ap (λ b. b || not true || not (is_null (column row (at + 1)))) (sym apart) ∙ here)
+    there at [] name more row apart present = grind (arith, apart, present)
     there at (c ∷ front) name more row apart present = there (at + 1) front name more row apart (and_parts _ _ present).1
 
     typed : (at : ℕ) (front : List Column) (name : List ℕ) (more : List Column) (row : Row) → IsApart at front → are_typed key at (front ++ required kind name ∷ more) row ≡ true → is_null (column row (length front)) ≡ false → is_of kind (column row (length front)) ≡ true
-    typed at [] name more [] apart typed_so some = absurd (true≢false some)
-    typed at [] name more (v ∷ vs) apart typed_so some =
-        let here : (if is_key key at then is_null v else is_of kind v) ≡ true = (and_parts (if is_key key at then is_null v else is_of kind v) (are_typed key (at + 1) more vs) typed_so).0 in
-        ap (λ b. if b then is_null v else is_of kind v) (sym apart) ∙ here
-    typed at (c ∷ front) name more [] apart typed_so some = absurd (true≢false some)
+    typed at [] name more (v ∷ vs) apart typed_so some = grind (arith, apart, typed_so)
     typed at (c ∷ front) name more (v ∷ vs) apart typed_so some = typed (at + 1) front name more vs apart (and_parts _ _ typed_so).1 some
+    typed at front name more row apart typed_so some = absurd (true≢false some)
 
     pub cell_in : (front : List Column) (name : List ℕ) (more : List Column) (row : Row) → IsApart 0 front → place_behind 0 front ≡ suc (length front) → are_typed key 0 (front ++ required kind name ∷ more) (drop 1 row) ≡ true → are_present key 0 (front ++ required kind name ∷ more) row ≡ true
         → (is_of kind (column row (suc (length front))) ≡ true) × (is_null (column row (suc (length front))) ≡ false)
     cell_in front name more [] apart is typed_so present = absurd (true≢false (there 0 front name more [] apart present))
-    cell_in front name more (id ∷ tail) apart is typed_so present =
-        let some = subst (λ p. is_null (column (id ∷ tail) p) ≡ false) is (there 0 front name more (id ∷ tail) apart present) in (typed 0 front name more tail apart typed_so some, some)
+    cell_in front name more (id ∷ tail) apart is typed_so present = grind (arith, is, there 0 front name more (id ∷ tail) apart present, typed 0 front name more tail apart typed_so)

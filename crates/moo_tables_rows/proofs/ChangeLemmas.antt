@@ -15,20 +15,8 @@ in_turn change all none more xs a b in_each = λ clean tables seen. let it = in_
     go [] t = none t
     go (x ∷ xs) t = go xs (change x.0 x.1 t) ∙ more x xs t
 
-pub objects_in_turn : (xs : List (ObjNo × Option ObjectCells)) (a b : State) → Changes (with_each with_object_cells xs) a b → Changes (with_object_changes xs) a b
-objects_in_turn = in_turn with_object_cells with_object_changes (λ t. refl) (λ x xs t. refl)
-
-pub props_in_turn : (xs : List (PropId × Option PropCells)) (a b : State) → Changes (with_each with_prop_cells xs) a b → Changes (with_prop_changes xs) a b
-props_in_turn = in_turn with_prop_cells with_prop_changes (λ t. refl) (λ x xs t. refl)
-
 pub slots_in_turn : (xs : List ((ObjNo × PropId) × Option SlotCells)) (a b : State) → Changes (with_each with_slot_cells xs) a b → Changes (with_slot_changes xs) a b
 slots_in_turn = in_turn with_slot_cells with_slot_changes (λ t. refl) (λ x xs t. refl)
-
-pub verbs_in_turn : (xs : List ((ObjNo × VerbId) × Option VerbCells)) (a b : State) → Changes (with_each with_verb_cells xs) a b → Changes (with_verb_changes xs) a b
-verbs_in_turn = in_turn with_verb_cells with_verb_changes (λ t. refl) (λ x xs t. refl)
-
-pub petitions_in_turn : (xs : List (PetitionId × Option PetitionCells)) (a b : State) → Changes (with_each with_petition_cells xs) a b → Changes (with_petition_changes xs) a b
-petitions_in_turn = in_turn with_petition_cells with_petition_changes (λ t. refl) (λ x xs t. refl)
 
 -- the parts of a change make the whole
 module _ (a b n d e h k z : State) (changes : CellChanges) (objects : List (ObjNo × Option ObjectCells)) (props : List (PropId × Option PropCells)) (slots : List ((ObjNo × PropId) × Option SlotCells)) (verbs : List ((ObjNo × VerbId) × Option VerbCells)) (petitions : List (PetitionId × Option PetitionCells))
@@ -43,8 +31,8 @@ module _ (a b n d e h k z : State) (changes : CellChanges) (objects : List (ObjN
   all_written one quiet-two two quiet-three three quiet-four four quiet-five five quiet-six six quiet-seven (Err error) seven = tt
   all_written one quiet-two two quiet-three three quiet-four four quiet-five five quiet-six six quiet-seven (Ok done) seven =
       let first = changes_then quiet-two one two in
-      let second = changes_then quiet-three first (objects_in_turn changes.objects.items n d (subst (λ xs. Changes (with_each with_object_cells xs) n d) are_objects three)) in
-      let third = changes_then quiet-four second (props_in_turn changes.props.items d e (subst (λ xs. Changes (with_each with_prop_cells xs) d e) are_props four)) in
+      let second = changes_then quiet-three first (in_turn with_object_cells with_object_changes (λ t. refl) (λ x xs t. refl) changes.objects.items n d (subst (λ xs. Changes (with_each with_object_cells xs) n d) are_objects three)) in
+      let third = changes_then quiet-four second (in_turn with_prop_cells with_prop_changes (λ t. refl) (λ x xs t. refl) changes.props.items d e (subst (λ xs. Changes (with_each with_prop_cells xs) d e) are_props four)) in
       let fourth = changes_then quiet-five third (slots_in_turn changes.slots.items e h (subst (λ xs. Changes (with_each with_slot_cells xs) e h) are_slots five)) in
-      let fifth = changes_then quiet-six fourth (verbs_in_turn changes.verbs.items h k (subst (λ xs. Changes (with_each with_verb_cells xs) h k) are_verbs six)) in
-      changes_then quiet-seven fifth (petitions_in_turn changes.petitions.items k z (subst (λ xs. Changes (with_each with_petition_cells xs) k z) are_petitions seven))
+      let fifth = changes_then quiet-six fourth (in_turn with_verb_cells with_verb_changes (λ t. refl) (λ x xs t. refl) changes.verbs.items h k (subst (λ xs. Changes (with_each with_verb_cells xs) h k) are_verbs six)) in
+      changes_then quiet-seven fifth (in_turn with_petition_cells with_petition_changes (λ t. refl) (λ x xs t. refl) changes.petitions.items k z (subst (λ xs. Changes (with_each with_petition_cells xs) k z) are_petitions seven))

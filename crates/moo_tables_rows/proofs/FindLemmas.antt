@@ -1,5 +1,5 @@
 -- Which row of a table is found, and that its key tells it.
-use Rattle.moo_tables_rows.{proofs.Words.{suc, length, ◌++◌, ◌≡◌, inl, inr, ℕ, ℤ, List, [], ◌∷◌, find, map, drop, codes, option_map, Option, Some, None, Bool, true, false, not, ◌&&◌, cond, IsTrue, refl, sym, ap, ◌∙◌, true≢false, is_eq, is_ne, Ordering, Less, Equal, Greater, and_parts, and_from, not-true, Value, Null, Int, Real, Text, Blob, Row, column, value_cmp, binary, is_true, rowid, id_in, first_key, plain, is_int, agree, clashes, differ, is_of, are_typed, are_present, has_computed, Datatype, NotNull, Unique, Table, Trees, Column, Binary, Compare, Eq, AllByRecursion, IsSound, Has, all_has, some_from, has_found, Version, First, Second, required, schema_of, slot_tree, slot_table, slot2_table, verb_table, has_pair, AreKeyed}, proofs.KeyLemmas.{ties_itself, is_false, one_row, int_value, ties_one}, proofs.RowLemmas.{equal_number, told}, proofs.CellLemmas.{IsApart, place_behind, cell_in}}
+use Rattle.moo_tables_rows.{proofs.Words.{arith, suc, length, ◌++◌, ◌≡◌, inl, inr, ℕ, ℤ, List, [], ◌∷◌, find, map, drop, codes, option_map, Option, Some, None, Bool, true, false, not, ◌&&◌, cond, IsTrue, refl, sym, ap, ◌∙◌, true≢false, is_eq, is_ne, Ordering, Equal, and_parts, and_from, not-true, Value, Int, Row, column, value_cmp, binary, is_true, rowid, id_in, first_key, plain, is_int, agree, clashes, differ, is_of, are_typed, are_present, has_computed, Datatype, NotNull, Unique, Table, Trees, Column, Binary, Compare, Eq, AllByRecursion, IsSound, Has, all_has, some_from, has_found, Version, First, Second, required, schema_of, slot_tree, slot_table, slot2_table, verb_table, has_pair, AreKeyed}, proofs.KeyLemmas.{ties_itself, is_false, one_row, int_value, ties_one}, proofs.RowLemmas.{equal_number, told}, proofs.CellLemmas.{IsApart, place_behind, cell_in}}
 use Rattle.sqlite_sql.specs.Ops.{is_null}
 use Rattle.sqlite_schema.specs.declared.schema.Kind.TheVariants as kind
 
@@ -11,22 +11,14 @@ find-map p f (x ∷ xs) = elim (p (f x)) as (λ b. cond b (Some (f x)) (find p (
 
 none_has : (p : Row → Bool) (xs : List Row) (x : Row) → find p xs ≡ None → Has xs x → p x ≡ false
 none_has p [] x h has = absurd has
-none_has p (y ∷ xs) x h has = go (p y) refl h has (none_has p xs x)
-  where
-    go : (b : Bool) → p y ≡ b → cond b (Some y) (find p xs) ≡ None → Has (y ∷ xs) x → (find p xs ≡ None → Has xs x → p x ≡ false) → p x ≡ false
-    go true e h has more = absurd (let e : Some y ≡ None = h in cc)
-    go false e h (inl same) more = ap p same ∙ e
-    go false e h (inr later) more = more h later
+none_has p (y ∷ xs) x h (inl same) = grind (arith, h, same)
+none_has p (y ∷ xs) x h (inr later) = grind (arith, h, λ (e : find p xs ≡ None). none_has p xs x e later)
 
 -- the one that passes is found
 pub find_one : (p : Row → Bool) (xs : List Row) (x : Row) → Has xs x → p x ≡ true → ((y : Row) → Has xs y → p y ≡ true → y ≡ x) → find p xs ≡ Some x
 find_one p [] x has passes one = absurd has
-find_one p (y ∷ xs) x has passes one = go (p y) refl has (λ in_it. find_one p xs x in_it passes (λ z there. one z (inr there)))
-  where
-    go : (b : Bool) → p y ≡ b → Has (y ∷ xs) x → (Has xs x → find p xs ≡ Some x) → cond b (Some y) (find p xs) ≡ Some x
-    go true e has later = ap Some (one y (inl refl) e)
-    go false e (inl is) later = absurd (true≢false (sym passes ∙ ap p is ∙ e))
-    go false e (inr in_it) later = later in_it
+find_one p (y ∷ xs) x (inl is) passes one = grind (arith, passes, is)
+find_one p (y ∷ xs) x (inr in_it) passes one = grind (arith, one y (inl refl), find_one p xs x in_it passes (λ z there. one z (inr there)))
 
 pub find_alike : (p : Row → Bool) (xs ys : List Row) → ((x : Row) → Has xs x → Has ys x) → ((y : Row) → Has ys y → Has xs y) → ((x y : Row) → Has xs x → Has xs y → p x ≡ true → p y ≡ true → x ≡ y) → find p xs ≡ find p ys
 find_alike p xs ys over back one = go (find p xs) (find p ys) refl refl
@@ -47,36 +39,25 @@ find_alike p xs ys over back one = go (find p xs) (find p ys) refl refl
 -- ---- what the schema asks of a row of two key columns
 
 int_of : (v : Value) → (is_of kind.Integer v ≡ true) × (is_null v ≡ false) → IsTrue (is_int v)
-int_of Null it = absurd (true≢false it.1)
-int_of (Int n) it = refl
-int_of (Real x) it = absurd (true≢false (sym it.0))
-int_of (Text t) it = absurd (true≢false (sym it.0))
-int_of (Blob b) it = absurd (true≢false (sym it.0))
+int_of v it = grind arith
 
 pub int_in : (key : Option ℕ) (front : List Column) (name : List ℕ) (more : List Column) (row : Row) → IsApart key 0 front → place_behind key 0 front ≡ suc (length front) → are_typed key 0 (front ++ required kind.Integer name ∷ more) (drop 1 row) ≡ true → are_present key 0 (front ++ required kind.Integer name ∷ more) row ≡ true
     → IsTrue (is_int (column row (suc (length front))))
 int_in key front name more row apart is typed present = int_of (column row (suc (length front))) (cell_in key kind.Integer front name more row apart is typed present)
 
 pub exactly : (v : Value) (n : ℤ) → IsTrue (is_int v) → is_eq (value_cmp v (Int n)) ≡ true → v ≡ Int n
-exactly v n int tie =
-    let is = int_value v int in
-    is ∙ ap Int (ties_one v (id_in v) n (ties_itself v (id_in v) is) tie)
+exactly v n int tie = grind (arith, int_value v int, ties_one v (id_in v) n, ties_itself v (id_in v), tie)
 
 pub differ_numbers : (m n : ℤ) → differ (Int m) (Int n) ≡ is_ne (value_cmp (Int m) (Int n))
 unfolding binary
 differ_numbers m n = told (is_ne (value_cmp (Int m) (Int n)))
 
 not_ne : (o : Ordering) → is_ne o ≡ false → o ≡ Equal
-not_ne Less h = absurd (true≢false h)
-not_ne Equal h = refl
-not_ne Greater h = absurd (true≢false h)
+not_ne o h = grind arith
 
 -- a whole number that isn't apart from another, as SQL's <> has it, is that number
 pub not_apart : (v : Value) (n : ℤ) → IsTrue (is_int v) → differ v (Int n) ≡ false → v ≡ Int n
-not_apart v n int h =
-    let is = int_value v int in
-    let tie = not_ne (value_cmp (Int (id_in v)) (Int n)) (sym (differ_numbers (id_in v) n) ∙ ap (λ u. differ u (Int n)) (sym is) ∙ h) in
-    exactly v n int (ap is_eq (ap (λ u. value_cmp u (Int n)) is ∙ tie))
+not_apart v n int h = grind (arith, int_value v int, not_ne, differ_numbers (id_in v) n, exactly v n int, h)
 
 equal_columns : (r s : Row) (at : ℕ) (n : ℤ) → column s at ≡ Int n → is_eq (value_cmp (column r at) (Int n)) ≡ true → is_true (binary (Compare Eq Binary) (column r at) (column s at)) ≡ true
 equal_columns r s at n is tie = ap (λ v. is_true (binary (Compare Eq Binary) (column r at) v)) is ∙ equal_number (column r at) n ∙ tie

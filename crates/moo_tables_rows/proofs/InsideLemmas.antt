@@ -1,5 +1,5 @@
 -- Calls of one transaction, one after another.
-use Rattle.moo_tables_rows.{proofs.Words.{◌≡◌, true, false, inl, inr, length, IsTrue, IfErr, OnErr, OnOk, Result, Ok, Err, Error, refl, sym, ap, subst, ◌∙◌, arith, Trees, Schema, State, HasCleanDisk, Shows, KeepsCommit, IsRolledBack, Survives, Database, Held, state, survives_then, Version, Tables, schema_of, IsCurrent, Holds, Sees, Rests, Leaves, StaysInside, Changes, First, Second, IsEarlier}, specs.Inside.{RestsAt}}
+use Rattle.moo_tables_rows.{proofs.Words.{◌≡◌, true, false, inl, inr, IsTrue, IfErr, OnErr, OnOk, Result, Ok, Err, Error, refl, sym, ap, subst, ◌∙◌, arith, Trees, State, HasCleanDisk, Shows, KeepsCommit, IsRolledBack, Survives, Database, Held, state, survives_then, Version, Tables, schema_of, IsCurrent, Holds, Sees, Rests, Leaves, StaysInside, Changes, First, IsEarlier}, specs.Inside.{RestsAt}}
 use Rattle.std.specs.Result.{IsErrAnd}
 use Rattle.sqlite.{specs.Steps.{FailsToCommit}, specs.Store.{Ghosts}}
 
@@ -47,13 +47,10 @@ of_version version db tables is it = subst (Holds db) (λ i. record tables { ver
 
 -- the first version alone is earlier than the present one
 pub only_first : (version : Version) → IsEarlier version → version ≡ First
-only_first First earlier = refl
-only_first Second earlier = absurd (earlier refl)
+only_first version earlier = grind (arith, earlier)
 
 pub earlier_too : (a b : Version) → schema_of a ≡ schema_of b → IsEarlier a → IsEarlier b
-earlier_too First First same earlier = earlier
-earlier_too First Second same earlier = absurd (let n = ap (λ (s : Schema). length s.tables) same in cc)
-earlier_too Second b same earlier = absurd (earlier refl)
+earlier_too a b same earlier = grind (arith, same, earlier)
 
 -- ---- a whole transaction
 

@@ -1,31 +1,24 @@
 -- Rows found by their keys, after a row is put in place of those with its key, and after they are taken out.
-use Rattle.moo_tables_rows.proofs.Words.{◌≡◌, inl, inr, ℤ, List, [], ◌∷◌, filter, find, map, option_map, Option, Some, None, Bool, true, false, not, ◌||◌, cond, refl, sym, ap, subst, ◌∙◌, arith, true≢false, IsTrue, list_any, is_eq, int_cmp, match_ordering, Ordering, Less, Equal, Greater, not-true, and_parts, and_from, tied_itself, tied_back, Value, Null, Int, Real, Text, Blob, Row, column, value_cmp, rowid, has_rowid, put_row, without_rowid, IsTable, id_in, without_all, is_int, Has, ids_of, all_has, some_has, some_from, has_filtered, value_cmp_total, value_cmp-Int, has_pair, found_in, with_cells, same_number, same_numbers, AreKeyed}
+use Rattle.moo_tables_rows.proofs.Words.{◌≡◌, inl, inr, ℤ, List, [], ◌∷◌, filter, find, map, option_map, Option, Some, None, Bool, true, false, not, ◌||◌, cond, refl, sym, ap, subst, ◌∙◌, arith, true≢false, IsTrue, list_any, is_eq, int_cmp, match_ordering, Ordering, Less, Equal, not-true, tied_itself, tied_back, Value, Int, Row, column, value_cmp, rowid, has_rowid, put_row, without_rowid, IsTable, id_in, without_all, is_int, Has, ids_of, all_has, some_has, some_from, has_filtered, value_cmp_total, value_cmp-Int, has_pair, found_in, with_cells, same_number, same_numbers, AreKeyed}
 use Rattle.std.proofs.lemmas.Int.{ints}
 use Rattle.sqlite_rules.proofs.ProbeLemmas.{has_mapped}
 
 pub both_ways : (a b : Bool) → (a ≡ true → b ≡ true) → (b ≡ true → a ≡ true) → a ≡ b
-both_ways true b to back = sym (to refl)
-both_ways false true to back = back refl
-both_ways false false to back = refl
+both_ways a b to back = grind arith
 
 pub is_false : (b : Bool) → (b ≡ true → ⊥) → b ≡ false
-is_false true none = absurd (none refl)
-is_false false none = refl
+is_false b none = grind arith
 
 pub tied_as_equal : (o : Ordering) → is_eq o ≡ true → o ≡ Equal
-tied_as_equal Less h = cc
 tied_as_equal Equal h = refl
-tied_as_equal Greater h = cc
+tied_as_equal o h = cc
 
 pub int_exact : (m n : ℤ) → int_cmp m n ≡ Equal → m ≡ n
 int_exact m n h = grind (arith, ints, h)
 
 pub int_value : (v : Value) → IsTrue (is_int v) → v ≡ Int (id_in v)
-int_value Null h = cc
 int_value (Int n) h = refl
-int_value (Real x) h = cc
-int_value (Text t) h = cc
-int_value (Blob b) h = cc
+int_value v h = cc
 
 -- a number ties with itself
 pub ties_itself : (v : Value) (n : ℤ) → v ≡ Int n → is_eq (value_cmp v (Int n)) ≡ true
@@ -33,10 +26,7 @@ ties_itself v n is = ap is_eq (ap (λ w. value_cmp w (Int n)) is ∙ tied_itself
 
 -- two numbers that a value ties with are one
 pub ties_one : (v : Value) (m n : ℤ) → is_eq (value_cmp v (Int m)) ≡ true → is_eq (value_cmp v (Int n)) ≡ true → m ≡ n
-ties_one v m n p q =
-    let here = tied_back value_cmp_total v (Int m) (tied_as_equal _ p) in
-    let both : value_cmp (Int m) (Int n) ≡ value_cmp v (Int n) = value_cmp_total.congr (Int m) v (Int n) here in
-    int_exact m n (sym (value_cmp-Int m n) ∙ both ∙ tied_as_equal _ q)
+ties_one v m n p q = grind (arith, tied_as_equal, tied_back value_cmp_total v (Int m), value_cmp_total.congr (Int m) v (Int n), value_cmp-Int m n, int_exact m n, p, q)
 
 pub mapped_has : {X Y : Type 0} (f : X → Y) (xs : List X) (x : X) → Has xs x → Has (map f xs) (f x)
 mapped_has f [] x has = absurd has
@@ -59,9 +49,7 @@ one_row (x ∷ rows) r s up (inr p) (inr q) tie = one_row rows r s up.1 p q tie
 
 -- two rows that both have a number tie
 pub tie_by : (x y : Row) (id : ℤ) → has_rowid id x ≡ true → has_rowid id y ≡ true → value_cmp (rowid x) (rowid y) ≡ Equal
-tie_by x y id here there =
-    let both : value_cmp (rowid x) (rowid y) ≡ value_cmp (Int id) (rowid y) = value_cmp_total.congr (rowid x) (Int id) (rowid y) (tied_as_equal _ here) in
-    both ∙ tied_back value_cmp_total (rowid y) (Int id) (tied_as_equal _ there)
+tie_by x y id here there = grind (arith, value_cmp_total.congr (rowid x) (Int id) (rowid y), tied_as_equal, tied_back value_cmp_total (rowid y) (Int id), here, there)
 
 -- so they are one row
 pub number_one : (id : ℤ) (rows : List Row) → AreKeyed rows → (r s : Row) → Has rows r → Has rows s → has_rowid id r ≡ true → has_rowid id s ≡ true → r ≡ s
@@ -69,11 +57,7 @@ number_one id rows keyed r s p q here there = one_row rows r s keyed.0 p q (tie_
 
 filter_twice : {X : Type 0} (p q : X → Bool) (xs : List X) → filter (λ x. not (q x)) (filter (λ x. not (p x)) xs) ≡ filter (λ x. not (p x || q x)) xs
 filter_twice p q [] = refl
-filter_twice p q (x ∷ xs) =
-    elim (p x) as (λ b. filter (λ x. not (q x)) (cond (not b) (x ∷ filter (λ x. not (p x)) xs) (filter (λ x. not (p x)) xs)) ≡ cond (not (b || q x)) (x ∷ filter (λ x. not (p x || q x)) xs) (filter (λ x. not (p x || q x)) xs)) [
-      | true ↦ filter_twice p q xs
-      | false ↦ ap (λ more. cond (not (q x)) (x ∷ more) more) (filter_twice p q xs)
-    ]
+filter_twice p q (x ∷ xs) = grind (arith, filter_twice p q xs)
 
 taken_out : (ids : List ℤ) (rows : List Row) → without_all rows ids ≡ filter (λ r. not (list_any (λ id. has_rowid id r) ids)) rows
 taken_out [] rows = sym (all_stay rows)
@@ -117,11 +101,7 @@ removed test rows found keyed sound complete =
 
 find_kept : (test p : Row → Bool) (rows : List Row) → ((r : Row) → test r ≡ true → p r ≡ true) → find test (filter p rows) ≡ find test rows
 find_kept test p [] keeps = refl
-find_kept test p (r ∷ rows) keeps = go (test r) refl (find_kept test p rows keeps)
-  where
-    go : (b : Bool) → test r ≡ b → find test (filter p rows) ≡ find test rows → find test (filter p (r ∷ rows)) ≡ find test (r ∷ rows)
-    go true e later = rw (keeps r e, e) refl
-    go false e later = rw e (elim (p r) as (λ b. find test (cond b (r ∷ filter p rows) (filter p rows)) ≡ find test rows) [ true ↦ rw e later | false ↦ later ])
+find_kept test p (r ∷ rows) keeps = grind (arith, keeps r, find_kept test p rows keeps)
 
 pub find_none : (test : Row → Bool) (rows : List Row) → ((r : Row) → Has rows r → test r ≡ false) → find test rows ≡ None
 find_none test [] none = refl
@@ -132,21 +112,11 @@ Puts o new r rows = match_ordering o (r ∷ put_row new rows) (new ∷ rows) (ne
 
 find_past : (test : Row → Bool) (new : Row) (rows : List Row) → test new ≡ false → ((r : Row) → Has rows r → value_cmp (rowid r) (rowid new) ≡ Equal → ⊥) → find test (put_row new rows) ≡ find test rows
 find_past test new [] other fresh = rw other refl
-find_past test new (r ∷ rows) other fresh = go (value_cmp (rowid r) (rowid new)) refl (find_past test new rows other (λ s has. fresh s (inr has)))
-  where
-    go : (o : Ordering) → value_cmp (rowid r) (rowid new) ≡ o → find test (put_row new rows) ≡ find test rows → find test (Puts o new r rows) ≡ find test (r ∷ rows)
-    go Less e later = ap (λ found. cond (test r) (Some r) found) later
-    go Equal e later = absurd (fresh r (inl refl) e)
-    go Greater e later = rw other refl
+find_past test new (r ∷ rows) other fresh = grind (arith, other, fresh r (inl refl), find_past test new rows other (λ s has. fresh s (inr has)))
 
 find_put : (test : Row → Bool) (new : Row) (rows : List Row) → test new ≡ true → ((r : Row) → Has rows r → test r ≡ false) → find test (put_row new rows) ≡ Some new
 find_put test new [] here none = rw here refl
-find_put test new (r ∷ rows) here none = go (value_cmp (rowid r) (rowid new)) refl (find_put test new rows here (λ s has. none s (inr has)))
-  where
-    go : (o : Ordering) → value_cmp (rowid r) (rowid new) ≡ o → find test (put_row new rows) ≡ Some new → find test (Puts o new r rows) ≡ Some new
-    go Less e later = rw (none r (inl refl)) later
-    go Equal e later = rw here refl
-    go Greater e later = rw here refl
+find_put test new (r ∷ rows) here none = grind (arith, here, none r (inl refl), find_put test new rows here (λ s has. none s (inr has)))
 
 module _ {K : Type 0} (same : K → K → Bool) (has : K → Row → Bool) (shown : Row → Row) (exact : (k key : K) → same k key ≡ true → k ≡ key) (apart : (k key : K) (r : Row) → has k r ≡ true → has key r ≡ true → same k key ≡ true) where
   not_both : (k key : K) (r : Row) → same k key ≡ false → has k r ≡ true → has key r ≡ false
@@ -154,11 +124,7 @@ module _ {K : Type 0} (same : K → K → Bool) (has : K → Row → Bool) (show
 
   -- what is found at a key and what is found beside it tell the whole table
   at_key : (key : K) (rows after : List Row) (cells : Option Row) → found_in has shown after key ≡ cells → ((k : K) → same k key ≡ false → find (has k) after ≡ find (has k) rows) → (k : K) → found_in has shown after k ≡ with_cells same key cells (found_in has shown rows) k
-  at_key key rows after cells here beside k = go (same k key) refl
-    where
-      go : (b : Bool) → same k key ≡ b → found_in has shown after k ≡ with_cells same key cells (found_in has shown rows) k
-      go true e = rw e (ap (found_in has shown after) (exact k key e) ∙ here)
-      go false e = rw e (ap (option_map shown) (beside k e))
+  at_key key rows after cells here beside k = grind (arith, here, exact k key, beside k)
 
   gone : (key : K) (rows : List Row) (r : Row) → Has (filter (λ r. not (has key r)) rows) r → has key r ≡ false
   gone key rows r in_it = not-true _ (has_filtered (λ r. not (has key r)) rows r in_it).1
@@ -191,16 +157,7 @@ pub number_apart : (k key : ℤ) (r : Row) → has_rowid k r ≡ true → has_ro
 number_apart k key r p q = subst (λ n. same_number k n ≡ true) (ties_one (rowid r) k key p q) (number_itself k)
 
 pub pair_exact : (k key : ℤ × ℤ) → same_numbers k key ≡ true → k ≡ key
-pair_exact k key h =
-    let parts = and_parts _ _ h in
-    let first = number_exact k.0 key.0 parts.0 in
-    let second = number_exact k.1 key.1 parts.1 in
-    ap (λ a. (a, k.1)) first ∙ ap (λ b. (key.0, b)) second
+pair_exact k key h = grind (arith, number_exact k.0 key.0, number_exact k.1 key.1, h)
 
 pub pair_apart : (k key : ℤ × ℤ) (r : Row) → has_pair k r ≡ true → has_pair key r ≡ true → same_numbers k key ≡ true
-pair_apart k key r p q =
-    let here = and_parts _ _ p in
-    let there = and_parts _ _ q in
-    let one : same_number k.0 key.0 ≡ true = subst (λ n. same_number k.0 n ≡ true) (ties_one (column r 1) k.0 key.0 here.0 there.0) (number_itself k.0) in
-    let two : same_number k.1 key.1 ≡ true = subst (λ n. same_number k.1 n ≡ true) (ties_one (column r 2) k.1 key.1 here.1 there.1) (number_itself k.1) in
-    and_from _ _ one two
+pair_apart k key r p q = grind (arith, ties_one (column r 1) k.0 key.0, ties_one (column r 2) k.1 key.1, number_itself k.0, number_itself k.1, p, q)

@@ -1,9 +1,8 @@
 -- The row's number as its key.
-use Rattle.moo_tables_rows.{proofs.Words.{◌≡◌, ℤ, [], ◌∷◌, Bool, true, false, ◌&&◌, ◌||◌, Some, refl, ap, ◌∙◌, Null, Int, Row, binary, is_true, agree, Binary, Compare, Eq, with_rowid, Chosen, rowid, has_rowid, first_key, plain, number_places, same_number, ⊤}, proofs.TextLemmas.{number_terms}, proofs.StepLemmas.{cast_int}, proofs.KeyLemmas.{number_exact, number_apart, number_one, ties_one, ties_itself}, proofs.RowLemmas.{equal_number, number_free, picks_given}, proofs.KindLemmas.{Kind}}
+use Rattle.moo_tables_rows.{proofs.Words.{arith, ◌≡◌, ℤ, [], ◌∷◌, Bool, true, false, ◌&&◌, ◌||◌, Some, refl, ap, ◌∙◌, Null, Int, Row, binary, is_true, agree, Binary, Compare, Eq, with_rowid, Chosen, rowid, has_rowid, first_key, plain, number_places, same_number, ⊤}, proofs.TextLemmas.{number_terms}, proofs.StepLemmas.{cast_int}, proofs.KeyLemmas.{number_exact, number_apart, number_one, ties_one, ties_itself}, proofs.RowLemmas.{equal_number, number_free, picks_given}, proofs.KindLemmas.{Kind}}
 
 same_or_not : (b : Bool) → ((b && true) || false) ≡ b
-same_or_not true = refl
-same_or_not false = refl
+same_or_not b = grind arith
 
 pub numbers_agree : (n : ℤ) (tail r : Row) → (agree plain (0 ∷ []) r (0 ∷ []) (Int n ∷ tail) || false) ≡ has_rowid n r
 unfolding first_key

@@ -42,10 +42,6 @@ module _ {K : Type 0} (has : K → Row → Bool) (key : K) (rows : List Row) (ke
   pub all_free : ((r : Row) → Has rows r → has key r ≡ true → ⊥) → rows ≡ rest has key rows keyed
   all_free none = removed (has key) rows [] keyed (λ x in_it. absurd in_it) (λ r in_it passes. none r in_it passes)
 
-  pub all_others : (target : List ℕ) (table : Table) (new : Row) → AreConflicts (Some target) present_schema.indexes table rows new []
-      → ((r : Row) → Has rows r → conflicts (Some target) present_schema.indexes table new r ≡ has key r) → rows ≡ rest has key rows keyed
-  all_others target table new met meets = all_free (λ r in_it passes. met.complete r in_it (meets r in_it ∙ passes))
-
   module _ (one : (r s : Row) → Has rows r → Has rows s → has key r ≡ true → has key s ≡ true → r ≡ s) (there : Row) (f : Found there) where
     pub itself : has_rowid f.number f.row ≡ true
     itself = ties_itself (rowid f.row) f.number f.numbered
@@ -53,9 +49,6 @@ module _ {K : Type 0} (has : K → Row → Bool) (key : K) (rows : List Row) (ke
     -- the row that has its number is the one that has its key
     pub same_row : (r : Row) → Has rows r → has_rowid f.number r ≡ has key r
     same_row r in_it = both_ways _ _ (λ h. subst (λ x. has key x ≡ true) (sym (number_one f.number rows keyed r f.row in_it f.in_it h itself)) f.here) (λ h. subst (λ x. has_rowid f.number x ≡ true) (sym (one r f.row in_it f.in_it h f.here)) itself)
-
-    pub went_one : without_all rows (f.number ∷ []) ≡ rest has key rows keyed
-    went_one = filter_same (λ r. not (has_rowid f.number r)) (λ r. not (has key r)) rows (λ r in_it. ap not (same_row r in_it))
 
     pub answers_one : (tests project : List Term) (given : Row) (answer : List Row) → ((r : Row) → Has rows r → list_all (holds (given ∷ r ∷ [])) tests ≡ has_rowid f.number r)
         → IsPermutation (map (λ r. eval_all project (given ∷ r ∷ [])) (chosen tests given rows)) answer → answer ≡ eval_all project (given ∷ f.row ∷ []) ∷ []
@@ -69,7 +62,7 @@ module _ {K : Type 0} (has : K → Row → Bool) (key : K) (rows : List Row) (ke
         → next ≡ put_row (cast_row table (drop 1 found)) (rest has key rows keyed)
     takes_place table found answer next is id it =
         let alone = subst (λ a. next ≡ put_all (without_all rows (ids_of a)) (numbered Given (without_all rows (ids_of a)) (map (λ s. cast_row table (drop 1 s)) a))) is it in
-        alone ∙ ap (λ n. put_row (cast_row table (drop 1 found)) (without_all rows (n ∷ []))) (ap id_in id) ∙ ap (put_row (cast_row table (drop 1 found))) went_one
+        alone ∙ ap (λ n. put_row (cast_row table (drop 1 found)) (without_all rows (n ∷ []))) (ap id_in id) ∙ ap (put_row (cast_row table (drop 1 found))) (filter_same (λ r. not (has_rowid f.number r)) (λ r. not (has key r)) rows (λ r in_it. ap not (same_row r in_it)))
 
     -- and none of the others has its number
     pub free_beside : (stored : Row) → rowid stored ≡ Int f.number → (r : Row) → Has (rest has key rows keyed) r → value_cmp (rowid r) (rowid stored) ≡ Equal → ⊥

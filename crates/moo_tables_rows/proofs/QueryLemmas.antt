@@ -1,5 +1,5 @@
 -- What a query over one table answers.
-use Rattle.moo_tables_rows.{proofs.Words.{◌≡◌, if◌then◌else◌, ℕ, List, [], ◌∷◌, ◌++◌, map, flat_map, filter, true, false, refl, sym, ap, subst, subst₂, ◌∙◌, IsSorted, list_all, IsPermutation, IsPermutation-map, Row, Term, Env, eval_all, holds, Trees, Query, Output, IsAnswer, output_cmp, output, AllByRecursion, Less, output_cmp_total, IsAscending}, proofs.TextLemmas.{plain_query}}
+use Rattle.moo_tables_rows.{proofs.Words.{arith, ◌≡◌, if◌then◌else◌, ℕ, List, [], ◌∷◌, map, flat_map, filter, refl, sym, ap, subst, subst₂, ◌∙◌, IsSorted, list_all, IsPermutation, IsPermutation-map, Row, Term, Env, eval_all, holds, Trees, Query, Output, IsAnswer, output_cmp, output, AllByRecursion, Less, output_cmp_total, IsAscending}, proofs.TextLemmas.{plain_query}}
 use Rattle.sqlite_value.specs.declared.keys.Key.{Key}
 use Rattle.sqlite_keyed.proofs.SortLemmas.{sorted_unique}
 
@@ -12,9 +12,7 @@ tried terms params rows = flat_map (λ r. if list_all (holds (params ∷ r ∷ [
 
 outputs : (q : Query) (terms : List Term) (params : Row) (rows : List Row) → map (output q) (tried terms params rows) ≡ map (λ r. output q (params ∷ r ∷ [])) (chosen terms params rows)
 outputs q terms params [] = refl
-outputs q terms params (r ∷ rows) =
-    elim (list_all (holds (params ∷ r ∷ [])) terms) as (λ b. map (output q) ((if b then (params ∷ r ∷ []) ∷ [] else []) ++ tried terms params rows) ≡ map (λ r. output q (params ∷ r ∷ [])) (if b then r ∷ chosen terms params rows else chosen terms params rows))
-    [ true ↦ ap (λ es. output q (params ∷ r ∷ []) ∷ es) (outputs q terms params rows) | false ↦ outputs q terms params rows ]
+outputs q terms params (r ∷ rows) = grind (arith, outputs q terms params rows)
 
 pub shown_rows : (q : Query) (params : Row) (rows : List Row) → map (λ (o : Output). o.1) (map (λ r. output q (params ∷ r ∷ [])) rows) ≡ map (λ r. eval_all q.project (params ∷ r ∷ [])) rows
 shown_rows q params [] = refl

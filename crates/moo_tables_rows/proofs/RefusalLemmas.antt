@@ -1,8 +1,7 @@
 -- Why SQL refuses a write of our tables: it can, for its steps or for its rows' numbers, but not for its text, its types or its keys.
-use Rattle.moo_tables_rows.{proofs.Words.{◌≡◌, ◌⊎◌, inl, inr, ℕ, zero, suc, ℤ, List, [], ◌∷◌, ◌++◌, length, drop, Bool, true, false, true≢false, ◌||◌, not, Option, Some, None, Err, Result, IsSome, refl, sym, ap, subst, ◌∙◌, arith, length-append, ◌/◌, ◌&&◌, nat_lt, AllByRecursion, list_all, Error, Row, Table, Trees, put_row, rowid, with_tree, Edit, edit_of, with_rowid, without_all, cast_row, Given, Chosen, Answers, RefusesQuery, value_rows, edit_error, Concludes, Task, Written, Edited, Updates, Deletes, InsertsOr, Tries, TriesEach, Judged, Upserts, Meets, Clears, Puts, shown, count_of, nothing, inner, end, Term, overlay, Enforced, Datatype, NotNull, Check, PrimaryKey, Unique, ForeignKey, Refers, Keeps, passes, AreConflicts, ids_of, is_int, Column, Abort, Upsert, Values, Order, IsRefused, is_taken, taken_by, left_by, edited, are_fresh, have_rowids, is_referred, no_fold_overflows, accepts_program, accepts_terms, present_schema, table_of, Inserts, is_conflict}, proofs.TextLemmas.{plain_query, writes_where}}
+use Rattle.moo_tables_rows.{proofs.Words.{◌≡◌, ◌⊎◌, inl, inr, ℕ, zero, suc, ℤ, List, [], ◌∷◌, ◌++◌, length, drop, Bool, true, false, true≢false, ◌||◌, not, Option, Some, None, Err, Result, IsSome, refl, sym, ap, subst, ◌∙◌, arith, length-append, ◌/◌, ◌&&◌, nat_lt, AllByRecursion, list_all, Error, Row, Table, Trees, put_row, rowid, with_tree, Edit, edit_of, with_rowid, without_all, cast_row, Given, Chosen, Answers, RefusesQuery, value_rows, edit_error, Concludes, Task, Written, Edited, Updates, Deletes, InsertsOr, Tries, TriesEach, Judged, Upserts, Meets, Clears, Puts, shown, count_of, nothing, inner, end, Term, overlay, Enforced, Datatype, NotNull, Check, PrimaryKey, Unique, Keeps, passes, AreConflicts, ids_of, is_int, Column, Abort, Upsert, Values, Order, IsRefused, is_taken, taken_by, left_by, edited, are_fresh, have_rowids, is_referred, no_fold_overflows, accepts_program, accepts_terms, present_schema, table_of, Inserts, is_conflict}, proofs.TextLemmas.{plain_query, writes_where}}
 use Rattle.sqlite.{specs.declared.error.Error.TheVariants.{SqliteFailure}, specs.declared.run.Mode.{Mode}}
 use Rattle.sqlite.specs.declared.error.ErrorCode.TheVariants as code
-use Rattle.sqlite_schema.specs.declared.schema.Among.TheVariants.{All}
 use Rattle.sqlite_rules.{specs.declared.error.Refusal.{Refusal}, specs.declared.error.Refusal.TheVariants.{Violates, Mismatch, NoRowid, BadReference, TooDeep}, specs.Steps.{IsJudged, is_typed, is_present}, specs.Action.{works, Leads, Writes}}
 
 -- all that SQL may refuse a write for
@@ -20,9 +19,6 @@ pub each : (rows : List Row) → AllByRecursion (λ row. true ≡ true) rows
 each [] = tt
 each (r ∷ rows) = (refl, each rows)
 
-refer_all : (db : Trees) → Refers All present_schema db
-refer_all db = (each (db 0), (each (db 1), (each (db 2), (each (db 3), (each (db 5), (each (db 7), (each (db 9), (each (db 10), tt))))))))
-
 abbrev pub mode : Mode
 mode = record { keys = Enforced; in_doubt = false; may_wait = false }
 
@@ -32,7 +28,7 @@ module _ (limit : Option ℕ) (table : Table) (params : Row) where
 
   pub concluded : (w : Written) (e : Error) → Concludes task mode None w (Err (Some e)) → ⊥
   concluded w e h = elim (halted h) [
-    | inl tested ↦ tested.0 (refer_all w.trees)
+    | inl tested ↦ tested.0 (each _, (each _, (each _, (each _, (each _, (each _, (each _, (each _, tt))))))))
     | inr more ↦ elim (halted more.2) [ inl gave ↦ absurd (let x = gave in cc) | inr gives ↦ absurd (let x = gives.2 in cc) ]
   ]
 
@@ -70,11 +66,10 @@ not_refused db edit clear (Violates NotNull) h = absurd (both clear.present h)
 not_refused db edit clear (Violates Check) h = absurd (both clear.checked h)
 not_refused db edit clear (Violates PrimaryKey) h = absurd (both clear.fresh h)
 not_refused db edit clear (Violates Unique) h = absurd (h clear.unique)
-not_refused db edit clear (Violates ForeignKey) h = absurd h
 not_refused db edit clear Mismatch h = absurd (both clear.keyed h)
 not_refused db edit clear NoRowid h = refl
 not_refused db edit clear BadReference h = absurd (both clear.referred h)
-not_refused db edit clear TooDeep h = absurd h
+not_refused db edit clear why h = absurd h
 
 settled : (db : Trees) (n : ℕ) (why : Refusal) → Leads present_schema Enforced n db [] (Err (Some why)) → ⊥
 settled db zero why h = let e = h.1 in cc
@@ -108,10 +103,7 @@ edited_conflicts db edit e keyed referred (Some why, wrote, is) =
 -- ---- a table of ours: no CHECK, no reference, nothing computed
 
 fits : (adds removes : Bool) → ((not adds || true) && (not removes || true)) ≡ true
-fits true true = refl
-fits true false = refl
-fits false true = refl
-fits false false = refl
+fits adds removes = grind arith
 
 alone : (b : Bool) → b ≡ true → (b && true) ≡ true
 alone b is = rw is refl
@@ -215,15 +207,10 @@ module _ (name : List ℕ) (tree : ℕ) (columns : List Column) (key : Option �
       judged_stops : (row : Row) (verdict : Option Refusal) → IsFit row → Upserting row → IsJudged t row verdict → Judged mine Abort (clause ∷ []) row db verdict (Err (Some e)) → IsAllowed limit e
       judged_stops row None fit ups is h = met_stops row h.0 ups h.1 h.2
       judged_stops row (Some Mismatch) fit ups is h = absurd (both fit.keyed is)
-      judged_stops row (Some NoRowid) fit ups is h = absurd is
-      judged_stops row (Some BadReference) fit ups is h = absurd is
-      judged_stops row (Some TooDeep) fit ups is h = absurd is
       judged_stops row (Some (Violates Datatype)) fit ups is h = absurd (both fit.typed is)
       judged_stops row (Some (Violates NotNull)) fit ups is h = absurd (both fit.present is)
       judged_stops row (Some (Violates Check)) fit ups is h = absurd (let x = is in cc)
-      judged_stops row (Some (Violates PrimaryKey)) fit ups is h = absurd is
-      judged_stops row (Some (Violates Unique)) fit ups is h = absurd is
-      judged_stops row (Some (Violates ForeignKey)) fit ups is h = absurd is
+      judged_stops row (Some why) fit ups is h = absurd is
 
       tried_stops : (row : Row) → IsFit row → Upserting row → Tries mine Abort (clause ∷ []) row db (Err (Some e)) → IsAllowed limit e
       tried_stops row fit ups (inl late) = inr (let x = late.1 in cc)

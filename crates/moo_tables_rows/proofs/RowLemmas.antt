@@ -1,6 +1,6 @@
 -- What one statement makes of the tables, where it changes one row.
-use Rattle.moo_tables_rows.{proofs.Words.{true≢false, ◌≡◌, ℕ, ℤ, List, [], ◌∷◌, filter, map, Some, Bool, true, false, ◌&&◌, not, Result, IsTrue, refl, sym, ap, subst, ◌∙◌, list_all, is_eq, IsPermutation, Contains-permutation, IsPermutation-sym, not-true, Equal, Value, Null, Int, Real, Text, Blob, Error, Row, column, value_cmp, binary, is_true, from_truth, Term, holds, Binary, Compare, Eq, rowid, has_rowid, put_row, without_all, next_rowid, State, is_int, Has, ids_of, has_filtered, has_kept, has_contained, contains_had, some_from, present_schema, has_pair, AreKeyed, RanStatement}, proofs.TextLemmas.{by_given, by_pair}, proofs.QueryLemmas.{chosen}, proofs.StepLemmas.{SetsOffNothing}, proofs.KeyLemmas.{ties_itself, removed, mapped_has}}
-use Rattle.sqlite_trees.proofs.TreeLemmas.{IsShaped-put_row, IsShaped-filter}
+use Rattle.moo_tables_rows.{proofs.Words.{arith, true≢false, ◌≡◌, ℕ, ℤ, List, [], ◌∷◌, filter, map, Some, Bool, true, false, not, Result, refl, sym, ap, subst, ◌∙◌, list_all, is_eq, IsPermutation, Contains-permutation, IsPermutation-sym, not-true, Equal, Value, Int, Error, Row, column, value_cmp, binary, is_true, from_truth, Term, holds, Binary, Compare, Eq, rowid, has_rowid, without_all, next_rowid, State, Has, ids_of, has_filtered, has_kept, has_contained, contains_had, some_from, present_schema, has_pair, AreKeyed, RanStatement}, proofs.TextLemmas.{by_given, by_pair}, proofs.QueryLemmas.{chosen}, proofs.StepLemmas.{SetsOffNothing}, proofs.KeyLemmas.{ties_itself, removed, mapped_has}}
+use Rattle.sqlite_trees.proofs.TreeLemmas.{IsShaped-filter}
 use Rattle.sqlite_trees.specs.declared.store.Shape.TheVariants as shape
 use Rattle.sqlite_rules.{specs.declared.error.Rowids.TheVariants.{Chosen}, proofs.ProbeLemmas.{has_mapped}, proofs.PlaceLemmas.{next_is_free}}
 
@@ -12,17 +12,12 @@ pub ran_as : (text : List ℕ) (values params : Row) (old new : State) (r : Resu
 ran_as text values params old new r are ran = subst (λ v. RanStatement text v old new r) are ran
 
 pub told : (b : Bool) → is_true (from_truth (Some b)) ≡ b
-told true = refl
-told false = refl
+told b = grind arith
 
 -- a value equals a number as SQL's = has it exactly where they tie
 pub equal_number : (v : Value) (n : ℤ) → is_true (binary (Compare Eq Binary) v (Int n)) ≡ is_eq (value_cmp v (Int n))
 unfolding binary value_cmp
-equal_number Null n = refl
-equal_number (Int m) n = told (is_eq (value_cmp (Int m) (Int n)))
-equal_number (Real x) n = told (is_eq (value_cmp (Real x) (Int n)))
-equal_number (Text t) n = told (is_eq (value_cmp (Text t) (Int n)))
-equal_number (Blob b) n = told (is_eq (value_cmp (Blob b) (Int n)))
+equal_number v n = grind (arith, told)
 
 -- ---- what a put and a removal make of the rows of one tree
 
@@ -32,9 +27,6 @@ module _ {K : Type 0} (has : K → Row → Bool) (key : K) (rows : List Row) (ke
 
   pub rest_keyed : AreKeyed rest
   rest_keyed = IsShaped-filter shape.Table (λ r. not (has key r)) rows keyed
-
-  pub put_keyed : (row : Row) → IsTrue (is_int (rowid row)) → AreKeyed (put_row row rest)
-  put_keyed row int = IsShaped-put_row row rest int rest_keyed
 
   pub went_out : (terms : List Term) (params shown : List Value) (ids : List Row) → IsPermutation (map (λ r. rowid r ∷ []) (chosen terms params rows)) ids → ((r : Row) → list_all (holds (params ∷ r ∷ [])) terms ≡ has key r)
       → without_all rows (ids_of ids) ≡ rest
@@ -64,16 +56,10 @@ pair_free key rows keyed r in_it tie =
 -- ---- keys that are written as terms
 
 pub picks_given : (base : ℕ) (given : Row) (id : ℤ) → column given base ≡ Int id → (r : Row) → list_all (holds (given ∷ r ∷ [])) (by_given base) ≡ has_rowid id r
-picks_given base given id there r =
-    let plainly : list_all (holds (given ∷ r ∷ [])) (by_given base) ≡ is_true (binary (Compare Eq Binary) (rowid r) (column given base)) = elim (is_true (binary (Compare Eq Binary) (rowid r) (column given base))) as (λ b. (b && true) ≡ b) [ true ↦ refl | false ↦ refl ] in
-    plainly ∙ ap (λ v. is_true (binary (Compare Eq Binary) (rowid r) v)) there ∙ equal_number (rowid r) id
+picks_given base given id there r = grind (arith, there, equal_number (rowid r) id)
 
 pub pair_has : (pair : ℤ × ℤ) (tail : Row) (id : ℤ) → has_pair pair (Int id ∷ Int pair.0 ∷ Int pair.1 ∷ tail) ≡ true
 pair_has pair tail id = rw (ties_itself (Int pair.0) pair.0 refl, ties_itself (Int pair.1) pair.1 refl)
 
 pub picks_pair : (pair : ℤ × ℤ) (tail r : Row) → list_all (holds ((Int pair.0 ∷ Int pair.1 ∷ tail) ∷ r ∷ [])) by_pair ≡ has_pair pair r
-picks_pair pair tail r =
-    let second = is_true (binary (Compare Eq Binary) (column r 2) (Int pair.1)) in
-    let plainly : list_all (holds ((Int pair.0 ∷ Int pair.1 ∷ tail) ∷ r ∷ [])) by_pair ≡ (is_true (binary (Compare Eq Binary) (column r 1) (Int pair.0)) && second) =
-    ap (λ b. is_true (binary (Compare Eq Binary) (column r 1) (Int pair.0)) && b) (elim second as (λ b. (b && true) ≡ b) [ true ↦ refl | false ↦ refl ]) in
-    plainly ∙ rw (equal_number (column r 1) pair.0, equal_number (column r 2) pair.1)
+picks_pair pair tail r = grind (arith, equal_number (column r 1) pair.0, equal_number (column r 2) pair.1)

@@ -1,6 +1,5 @@
 -- What a transaction sees of the tables once one of them was written.
-use Rattle.moo_tables_rows.proofs.Words.{◌≡◌, ◌≢◌, ◌==◌, ℕ, ℤ, List, Option, Bool, true, false, true≢false, IsTrue, refl, sym, ap, subst, ◌∙◌, Row, IsDatabase, State, IsSound, IsNoIndex, Version, present, Tables, tables_in, schema_of, slot_tree, present_schema, head_table, object_table, prop_table, slot2_table, verb_table, petition_table, petition_head_table, petition_rows, numbered_in, paired_in, numbered_with, paired_with, AreKeyed, IsCurrent, Sees, KeepsUnread}
-use Rattle.std.proofs.lemmas.Bool.Decides.{Decides-eqb}
+use Rattle.moo_tables_rows.proofs.Words.{arith, ◌≡◌, ◌≢◌, ℕ, ℤ, List, Option, IsTrue, refl, sym, ap, subst, ◌∙◌, Row, IsDatabase, State, IsSound, IsNoIndex, Version, present, Tables, tables_in, schema_of, slot_tree, present_schema, head_table, object_table, prop_table, slot2_table, verb_table, petition_table, petition_head_table, petition_rows, numbered_in, paired_in, numbered_with, paired_with, AreKeyed, IsCurrent, Sees, KeepsUnread}
 
 -- one tree has these rows, and the trees of the other tables are as they were
 pub record SetsTree (old new : State) (tree : ℕ) (rows : List Row) : Type 0 where
@@ -35,9 +34,6 @@ pub same_tables : {n n′ : Version} {h h′ o o′ p p′ : ℤ → Option Row}
     → ◌≡◌ {A = Tables} (record { version = n; head = h; object = o; prop = p; slot = s; verb = v; petition = q; petition_head = c }) (record { version = n′; head = h′; object = o′; prop = p′; slot = s′; verb = v′; petition = q′; petition_head = c′ })
 same_tables n a b c d e f g = λ i. record { version = n i; head = a i; object = b i; prop = c i; slot = d i; verb = e i; petition = f i; petition_head = g i }
 
-pub each_key : {K : Type 0} {f g : K → Option Row} → ((k : K) → f k ≡ g k) → f ≡ g
-each_key same = λ i k. same k i
-
 -- the rows of one table show these cells
 pub record ShowsTable {K : Type 0} (s : State) (tree : ℕ) (shown : List Row → K → Option Row) (table : K → Option Row) : Type 0 where
   pub cells : shown (s.now.trees tree) ≡ table
@@ -46,7 +42,7 @@ pub record ShowsTable {K : Type 0} (s : State) (tree : ℕ) (shown : List Row �
 module _ {old new : State} {tree : ℕ} {rows : List Row} (it : SetsTree old new tree rows) where
   pub written : {K : Type 0} (shown : List Row → K → Option Row) (change : (K → Option Row) → K → Option Row) (table : K → Option Row) → shown (old.now.trees tree) ≡ table → AreKeyed rows
       → ((k : K) → shown rows k ≡ change (shown (old.now.trees tree)) k) → ShowsTable new tree shown (change table)
-  written shown change table was keyed at_keys = record { cells = ap shown it.rows_are ∙ each_key at_keys ∙ ap change was; keyed = subst AreKeyed (sym it.rows_are) keyed }
+  written shown change table was keyed at_keys = record { cells = ap shown it.rows_are ∙ (λ i k. at_keys k i) ∙ ap change was; keyed = subst AreKeyed (sym it.rows_are) keyed }
 
   unwritten : {K : Type 0} (shown : List Row → K → Option Row) (table : K → Option Row) (t : ℕ) → t ≢ tree → IsNoIndex present_schema t → shown (old.now.trees t) ≡ table → AreKeyed (old.now.trees t) → ShowsTable new t shown table
   unwritten shown table t apart no_index was keyed = let same = it.others t apart no_index in record { cells = ap shown same ∙ was; keyed = subst AreKeyed (sym same) keyed }
@@ -108,11 +104,7 @@ module _ {old new : State} {tree : ℕ} {rows : List Row} (it : SetsTree old new
 
 module _ {old new : State} {tree : ℕ} (it : SetsTree old new tree (old.now.trees tree)) where
   still : (t : ℕ) → IsNoIndex present_schema t → new.now.trees t ≡ old.now.trees t
-  still t no_index = go (t == tree) refl
-    where
-      go : (b : Bool) → (t == tree) ≡ b → new.now.trees t ≡ old.now.trees t
-      go true e = subst (λ u. new.now.trees u ≡ old.now.trees u) (sym ((Decides-eqb t tree).0 e)) it.rows_are
-      go false e = it.others t (λ same. true≢false (sym ((Decides-eqb t tree).1 same) ∙ e)) no_index
+  still t no_index = grind (arith, it.rows_are, λ (apart : t ≢ tree). it.others t apart no_index)
 
   -- as after a change of a tree that no table has
   pub sees_still : (tables : Tables) → Sees old tables → Sees new tables × KeepsUnread old.now new.now

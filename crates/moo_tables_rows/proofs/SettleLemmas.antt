@@ -1,5 +1,5 @@
 -- The rows of one tree, after an upsert: its row is put where none has its key, or stands in place of the one that has it, or that one is left.
-use Rattle.moo_tables_rows.{proofs.Words.{◌≡◌, ◌≢◌, ◌⊎◌, inl, inr, ℕ, ℤ, List, [], ◌∷◌, ◌++◌, ◌&&◌, map, drop, Some, Bool, true, false, refl, sym, ap, subst, ◌∙◌, list_all, Equal, IsPermutation, Row, value_cmp, Int, Term, holds, eval_all, Trees, rowid, has_rowid, put_row, shown, overlay, IsNoIndex, without_all, put_all, next_rowid, cast_row, Given, Table, ids_of, AreConflicts, conflicts, Has, present_schema, AreKeyed, Null}, proofs.TextLemmas.{writes_where}, proofs.QueryLemmas.{chosen, shows_all}, proofs.RowLemmas.{rest}, proofs.OverLemmas.{found_first, same_row, all_others, takes_place, free_beside}, proofs.UpdateLemmas.{one_or_none}, proofs.UpsertLemmas.{Settles, WritesOver}, proofs.KindLemmas.{Kind, written_as}}
+use Rattle.moo_tables_rows.{proofs.Words.{◌≡◌, ◌≢◌, ◌⊎◌, inl, inr, ℕ, ℤ, List, [], ◌∷◌, ◌++◌, ◌&&◌, map, drop, Some, Bool, true, false, refl, sym, ap, subst, ◌∙◌, list_all, Equal, IsPermutation, Row, value_cmp, Int, Term, holds, eval_all, Trees, rowid, has_rowid, put_row, shown, overlay, IsNoIndex, without_all, put_all, next_rowid, cast_row, Given, Table, ids_of, AreConflicts, conflicts, Has, present_schema, AreKeyed, Null}, proofs.TextLemmas.{writes_where}, proofs.QueryLemmas.{chosen, shows_all}, proofs.RowLemmas.{rest}, proofs.OverLemmas.{found_first, same_row, all_free, takes_place, free_beside}, proofs.UpdateLemmas.{one_or_none}, proofs.UpsertLemmas.{Settles, WritesOver}, proofs.KindLemmas.{Kind, written_as}}
 use Rattle.sqlite.specs.Edit.{numbered}
 
 -- the trees of the other tables are as they were
@@ -37,7 +37,7 @@ module _ (k : Kind) (t : Table) (key : k.Key) (db next : Trees) (keyed : AreKeye
         → ((id : ℤ) (r : Row) → list_all (holds (given id ∷ r ∷ [])) tests ≡ (also r && has_rowid id r)) → ((id : ℤ) (r : Row) → eval_all project (given id ∷ r ∷ []) ≡ rowid r ∷ rowid r ∷ k.kept r ++ tail)
         → (found : List Row) → AreConflicts (Some k.terms.primary) present_schema.indexes t rows source found → Settles present_schema t db params (writes_where t.tree tests project) source found next → Stands tail ⊎ Stays also
     settles meets kept picks overs [] met it =
-        inl (record { number = next_rowid rows; rows_are = it.rows ∙ ap (λ r. put_row r rows) (kept (next_rowid rows)) ∙ ap (put_row source) (all_others k.has key rows keyed k.terms.primary t source met (λ r in_it. meets r)); free = k.free key rows keyed; others = it.others })
+        inl (record { number = next_rowid rows; rows_are = it.rows ∙ ap (λ r. put_row r rows) (kept (next_rowid rows)) ∙ ap (put_row source) (all_free k.has key rows keyed (λ r in_it passes. met.complete r in_it (meets r ∙ passes))); free = k.free key rows keyed; others = it.others })
     settles meets kept picks overs (x ∷ more) met it =
         let f = found_first k.has key rows keyed k.terms.primary t source x more met (λ r in_it. meets r) in
         let one = k.one rows keyed told key in

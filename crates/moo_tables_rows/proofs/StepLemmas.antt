@@ -1,12 +1,11 @@
 -- What one statement makes of the tables, whatever they are.
-use Rattle.moo_tables_rows.proofs.Words.{◌≡◌, ◌⊎◌, inl, inr, ℕ, List, [], length, slice_get, Bool, true, false, cond, Option, Some, None, unwrap_or, Ok, Err, Result, refl, sym, ap, subst, subst₂, ◌∙◌, Value, Null, Int, Row, unary, Table, Schema, Update, Delete, CreateTable, Edit, edit_of, Applies, cast, Given, Tally, Does, lacks_sequence, table_defined_by, Written, Database, Answers, State, mode_of, Writes, Enforced, taken_by, one_step, ids_of, Program, Column, Order, table_of, ◌++◌, ◌/◌, ◌∷◌, Chosen, Insert, Values, Term, value_rows}
+use Rattle.moo_tables_rows.proofs.Words.{arith, ◌≡◌, ◌⊎◌, inl, inr, ℕ, List, [], length, slice_get, Bool, false, cond, Option, Some, None, unwrap_or, Ok, Err, Result, sym, ap, subst, subst₂, ◌∙◌, Value, Null, Int, Row, unary, Table, Schema, Update, Delete, CreateTable, Edit, edit_of, Applies, cast, Given, Tally, Does, lacks_sequence, table_defined_by, Written, Database, Answers, State, mode_of, Writes, Enforced, taken_by, one_step, ids_of, Program, Column, Order, table_of, ◌++◌, ◌/◌, ◌∷◌, Chosen, Insert, Values, Term, value_rows}
 use Rattle.sqlite.{specs.Kind.TheVariants.{Integer}, specs.Change.{created, next_tree, KeepsRows}}
 use Rattle.sqlite_rules.specs.Action.{works}
 use Rattle.sqlite_rules.specs.Action as action
 
 either : (b : Bool) (x : Value) → cond b x x ≡ x
-either true x = refl
-either false x = refl
+either b x = grind arith
 
 pub cast_null : cast Integer Null ≡ Null
 unfolding unary

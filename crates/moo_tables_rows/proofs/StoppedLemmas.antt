@@ -1,9 +1,9 @@
 -- Why a statement fails whose text and values are sound.
-use Rattle.moo_tables_rows.{proofs.Words.{◌≡◌, inl, inr, ℕ, List, [], append-nil, length, Bool, true, false, true≢false, ◌||◌, Option, Some, None, Err, Result, IsTrue, refl, sym, ap, subst, subst₂, ◌∙◌, ⊤, Error, Row, Schema, Does, Database, is_query, understood, timed, State, HasCleanDisk, Fails, HasCause, IsNotRun, IsNoStatement, IsStatement, IsMisplaced, ExecutesIn, ExecutesInside, EndsScope, RunsCommand, shows_rows, is_pragma, mode_of, text_of, statement_of, IsPlain, command_of, StopsChange, ◌⊎◌, IsUnchanged, Ok, HasCauseIn, MeetsRowIn, is_conflict, Sees, Tables, present_schema}, proofs.RefusalLemmas.{IsAllowed}, proofs.SeenLemmas.{schema_seen}, proofs.CauseLemmas.{met_or_stopped}, proofs.TextLemmas.{IsWritten}}
+use Rattle.moo_tables_rows.{proofs.Words.{arith, ◌≡◌, inl, inr, ℕ, List, [], append-nil, length, Bool, true, false, true≢false, ◌||◌, Option, Some, None, Err, Result, IsTrue, refl, sym, ap, subst, subst₂, ◌∙◌, ⊤, Error, Row, Schema, Does, Database, is_query, understood, timed, State, HasCleanDisk, Fails, HasCause, IsNotRun, IsNoStatement, IsStatement, IsMisplaced, ExecutesIn, ExecutesInside, EndsScope, RunsCommand, shows_rows, is_pragma, mode_of, text_of, statement_of, IsPlain, command_of, StopsChange, ◌⊎◌, IsUnchanged, Ok, HasCauseIn, MeetsRowIn, is_conflict, Sees, Tables, present_schema}, proofs.RefusalLemmas.{IsAllowed}, proofs.SeenLemmas.{schema_seen}, proofs.CauseLemmas.{met_or_stopped}, proofs.TextLemmas.{IsWritten}}
 use Rattle.sqlite.specs.declared.run.Mode.{Mode}
 use Rattle.sqlite_resolve.specs.declared.compiled.Compiled.{Compiled}
 use Rattle.sqlite_schema.{specs.declared.command.Command.{Command}, specs.declared.command.Command.TheVariants.{Insert, InsertOr, Update, Delete, CreateTable, Begin, Commit, Rollback, Release, RollbackTo}}
-use Rattle.sqlite_trees.{specs.declared.error.StoreError.{StoreError}, specs.declared.error.StoreError.TheVariants.{OutOfMemory, Io, Corrupt, Full, Broken, Unstorable}}
+use Rattle.sqlite_trees.{specs.declared.error.StoreError.{StoreError}}
 pub use Rattle.moo_tables_rows.proofs.TextLemmas.{IsOne}
 
 abbrev pub is_change : Command → Bool
@@ -15,12 +15,7 @@ is_change CreateTable = true
 is_change _ = false
 
 any_size : (old new : State) (Big : Type 0) (cause : StoreError) → HasCause old new Big cause → HasCause old new ⊤ cause
-any_size old new Big OutOfMemory h = h
-any_size old new Big Io h = h
-any_size old new Big Corrupt h = h
-any_size old new Big Full h = h
-any_size old new Big Broken h = h
-any_size old new Big Unstorable h = tt
+any_size old new Big cause h = grind (arith, h)
 
 pub fails_so : (old new : State) (Big : Type 0) (e : Error) → Fails old new Big e → StopsChange old new e
 fails_so old new Big e h = inl (h.0, h.1, any_size old new Big h.0 h.2)

@@ -10,10 +10,8 @@ HasText row place = (text : List ℕ) × (column row place ≡ value.Text text)
 
 text_of : (v : Value) → (is_of kind.Text v ≡ true) × (is_null v ≡ false) → (text : List ℕ) × (v ≡ value.Text text)
 text_of value.Null it = absurd (true≢false it.1)
-text_of (value.Int n) it = absurd (true≢false (sym it.0))
-text_of (value.Real x) it = absurd (true≢false (sym it.0))
 text_of (value.Text t) it = (t, refl)
-text_of (value.Blob b) it = absurd (true≢false (sym it.0))
+text_of v it = absurd (true≢false (sym it.0))
 
 text_in : (key : Option ℕ) (front : List Column) (name : List ℕ) (more : List Column) (row : Row) → IsApart key 0 front → place_behind key 0 front ≡ suc (length front) → are_typed key 0 (front ++ required kind.Text name ∷ more) (drop 1 row) ≡ true → are_present key 0 (front ++ required kind.Text name ∷ more) row ≡ true
     → HasText row (suc (length front))

@@ -1,5 +1,5 @@
 -- No two rows of a table share a key of two columns, whichever row is put or taken out.
-use Rattle.moo_tables_rows.{proofs.Words.{◌≡◌, ◌⊎◌, inl, inr, ℤ, List, [], ◌∷◌, true, true≢false, ◌&&◌, not, IsTrue, refl, sym, ap, subst, ◌∙◌, AllByRecursion, is_ne, and_parts, and_from, tied_itself, Int, Row, column, value_cmp, binary, is_true, Binary, Compare, Eq, id_in, rowid, put_row, agree, differ, clashes, first_key, plain, value_cmp_total, Has, all_from, some_has, is_int, has_pair}, proofs.KeyLemmas.{ties_itself, is_false, int_value, pair_apart, pair_exact}, proofs.RowLemmas.{equal_number}, proofs.FindLemmas.{differ_numbers}}
+use Rattle.moo_tables_rows.{proofs.Words.{arith, ◌≡◌, ◌⊎◌, inl, inr, ℤ, List, [], ◌∷◌, true, ◌&&◌, not, IsTrue, refl, sym, subst, AllByRecursion, and_parts, and_from, tied_itself, Int, Row, column, id_in, rowid, put_row, agree, differ, clashes, first_key, plain, value_cmp_total, Has, all_from, some_has, is_int, has_pair}, proofs.KeyLemmas.{ties_itself, is_false, int_value, pair_apart, pair_exact}, proofs.RowLemmas.{equal_number}, proofs.FindLemmas.{differ_numbers}}
 use Rattle.sqlite_rules.proofs.TableLemmas.{put_has}
 
 -- no other row has the key of one
@@ -18,17 +18,10 @@ has_its_own r is = and_from _ _ (ties_itself (column r 1) (id_in (column r 1)) (
 
 agrees : (o r : Row) → IsNumbered r → agree plain (1 ∷ 2 ∷ []) o (1 ∷ 2 ∷ []) r ≡ true → has_pair (key_of r) o ≡ true
 unfolding first_key
-agrees o r is h =
-    let one = and_parts _ _ h in
-    let two = and_parts _ _ one.1 in
-    let at = λ (v w : _) (int : IsTrue (is_int w)) (same : is_true (binary (Compare Eq Binary) v w) ≡ true). sym (equal_number v (id_in w)) ∙ ap (λ u. is_true (binary (Compare Eq Binary) v u)) (sym (int_value w int)) ∙ same in
-    and_from _ _ (at (column o 1) (column r 1) is.1.0 one.0) (at (column o 2) (column r 2) is.1.1 two.0)
+agrees o r is h = grind (arith, equal_number (column o 1) (id_in (column r 1)), equal_number (column o 2) (id_in (column r 2)), int_value (column r 1) is.1.0, int_value (column r 2) is.1.1, h)
 
 never_differs : (r : Row) → IsTrue (is_int (rowid r)) → differ (rowid r) (rowid r) ≡ true → ⊥
-never_differs r int h =
-    let n = id_in (rowid r) in
-    let apart : is_ne (value_cmp (Int n) (Int n)) ≡ true = sym (differ_numbers n n) ∙ ap (λ v. differ v v) (sym (int_value (rowid r) int)) ∙ h in
-    true≢false (sym apart ∙ ap is_ne (tied_itself value_cmp_total (Int n)))
+never_differs r int h = grind (arith, differ_numbers (id_in (rowid r)) (id_in (rowid r)), int_value (rowid r) int, tied_itself value_cmp_total (Int (id_in (rowid r))), h)
 
 pub are_apart : (rows : List Row) → ((r : Row) → Has rows r → IsNumbered r) → ((key : ℤ × ℤ) (r s : Row) → Has rows r → Has rows s → has_pair key r ≡ true → has_pair key s ≡ true → r ≡ s) → AreApart rows
 are_apart rows numbered one = all_from _ rows (λ r in_it. let none = is_false (clashes plain (1 ∷ 2 ∷ []) rows r) (clash r in_it) in rw none refl)
@@ -47,10 +40,7 @@ module _ (left : List Row) (numbered : (r : Row) → Has left r → IsNumbered r
   other key s in_it p q = none s in_it (subst (λ k. has_pair k s ≡ true) (pair_exact key pair (pair_apart key pair new p has)) q)
 
   only : (key : ℤ × ℤ) (r s : Row) → (r ≡ new) ⊎ Has left r → (s ≡ new) ⊎ Has left s → has_pair key r ≡ true → has_pair key s ≡ true → r ≡ s
-  only key r s (inl a) (inl b) p q = a ∙ sym b
-  only key r s (inl a) (inr b) p q = absurd (other key s b (subst (λ x. has_pair key x ≡ true) a p) q)
-  only key r s (inr a) (inl b) p q = absurd (other key r a (subst (λ x. has_pair key x ≡ true) b q) p)
-  only key r s (inr a) (inr b) p q = one key r s a b p q
+  only key r s p q a b = grind (arith, other, one)
 
   each_numbered : (r : Row) → (r ≡ new) ⊎ Has left r → IsNumbered r
   each_numbered r (inl a) = subst IsNumbered (sym a) is

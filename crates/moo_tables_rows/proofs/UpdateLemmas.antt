@@ -1,14 +1,9 @@
 -- The rows of one tree, after a query of the row with a key, and after an update of what it answers: the row that has the key is written over, or there is none and all stay.
-use Rattle.moo_tables_rows.{proofs.Words.{◌≡◌, ◌⊎◌, inl, inr, List, [], ◌∷◌, ◌&&◌, map, drop, length, Bool, true, false, true≢false, IsTrue, refl, sym, ap, subst, ◌∙◌, list_all, list_any, and_parts, IsPermutation, Row, Int, Term, holds, eval_all, rowid, put_row, id_in, without_all, put_all, cast_row, Given, Table, ids_of, is_int, Has, all_has, some_has, some_from, AreKeyed}, proofs.QueryLemmas.{chosen}, proofs.KeyLemmas.{is_false, int_value}, proofs.RowLemmas.{rest}, proofs.OverLemmas.{Found, none_kept, no_permutation, same_row, answers_one, takes_place}}
+use Rattle.moo_tables_rows.{proofs.Words.{arith, ◌≡◌, ◌⊎◌, inl, inr, List, [], ◌∷◌, ◌&&◌, map, drop, length, Bool, true, false, true≢false, IsTrue, refl, sym, ap, subst, ◌∙◌, list_all, list_any, and_parts, IsPermutation, Row, Int, Term, holds, eval_all, rowid, put_row, id_in, without_all, put_all, cast_row, Given, Table, ids_of, is_int, Has, all_has, some_has, some_from, AreKeyed}, proofs.QueryLemmas.{chosen}, proofs.KeyLemmas.{is_false, int_value}, proofs.RowLemmas.{rest}, proofs.OverLemmas.{Found, none_kept, no_permutation, same_row, answers_one, takes_place}}
 use Rattle.sqlite.specs.Edit.{numbered}
 
-none : (b : Bool) → (b && false) ≡ false
-none true = refl
-none false = refl
-
 asked_alike : (a b c : Bool) → (c ≡ true → a ≡ b) → (a && c) ≡ (b && c)
-asked_alike a b true same = ap (λ d. d && true) (same refl)
-asked_alike a b false same = none a ∙ sym (none b)
+asked_alike a b c same = grind (arith, same)
 
 module _ {K : Type 0} (has : K → Row → Bool) (key : K) (rows : List Row) (keyed : AreKeyed rows) (one : (r s : Row) → Has rows r → Has rows s → has key r ≡ true → has key s ≡ true → r ≡ s) (tests project : List Term) (given : Row) (answer : List Row) where
   -- what a query of the row with a key answers: that row, or none

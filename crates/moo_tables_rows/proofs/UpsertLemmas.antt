@@ -62,9 +62,6 @@ module _ (schema : Schema) (none : SetsOffNothing schema) (at : ℕ) (name : Lis
       let same : one.trees ≡ written.0 = ap (λ (it : Written). it.trees) (same_value written.2) in
       record { answer = asked.0; answers = asked.1; applies = subst (Applies schema Enforced old.now.trees edit) (sym same) step }
 
-  settled : (row : Row) (found : List Row) (one next : Trees) → one ≡ next → Ends row found one → Ends row found next
-  settled row found one next same it = subst (Ends row found) same it
-
   abbrev Met : Row → Written → Type 0
   Met row one = (found : List Row) × AreConflicts (Some target) schema.indexes table (old.now.trees tree) row found × Meets task (Upserts task Abort row old.now.trees []) row old.now.trees clause found (Ok one)
 
@@ -102,5 +99,5 @@ module _ (schema : Schema) (none : SetsOffNothing schema) (at : ℕ) (name : Lis
         found = met.0;
         conflicts = met.1;
         schema_is = ap (λ (d : Database). d.schema) now;
-        settles = settled row met.0 first.0.trees new.now.trees (sym trees) (settles_as row met.0 first.0 met.2);
+        settles = subst (Ends row met.0) (sym trees) (settles_as row met.0 first.0 met.2);
       }

@@ -1,5 +1,5 @@
 -- What the statements do that write a table, whichever kind of key it has.
-use Rattle.moo_tables_rows.{proofs.Words.{◌≡◌, ◌+◌, ◌/◌, ℕ, ℤ, List, [], ◌∷◌, ◌++◌, drop, map, append-nil, length, slice_get, Option, Some, None, true, false, ◌&&◌, ◌||◌, ◌⊎◌, inl, inr, Bool, Result, Ok, Err, OnOk, IfOk, IsTrue, refl, sym, ap, subst, ◌∙◌, arith, list_all, is_eq, value_cmp, option_map, IsPermutation, Null, Int, Error, Row, Term, column, col, holds, eval_all, with_rowid, next_rowid, cast_all, cast_row, Chosen, shown, Table, Trees, rowid, has_rowid, put_row, overlay, value_rows, understood, State, Executes, statement_of, runs_as, Has, some_from, true≢false, Equal, AreConflicts, conflicts, agree, plain, Column, IsSound, Tables, present_schema, cells_at, found_in, with_cells, update_text, remove_text, put_text, insert_text, AreKeyed, Sees, Changes, RanStatement, KeepsUnread, WritesOver}, proofs.TextLemmas.{IsWritten, WritesByKey, by_given, new_terms, over_terms, put_command, writes_where, rowids_where}, proofs.CastLemmas.{fit, kept_all}, proofs.StepLemmas.{cast_int, updates, deletes, inserts}, proofs.UpsertLemmas.{Settles, upserts}, proofs.OverLemmas.{free_beside, all_free}, proofs.InsertLemmas.{is_put, put_there, others_there}, proofs.UpdateLemmas.{over_or_left}, proofs.SettleLemmas.{OthersStay, settles}, proofs.FindLemmas.{find_one}, proofs.QueryLemmas.{chosen, shows_all}, proofs.KeyLemmas.{ties_itself, after_put, after_removal, after_same}, proofs.RowLemmas.{picks_given, moo_quiet, put_keyed, rest_keyed, rest, went_out}, proofs.SeenLemmas.{schema_seen, sound_seen, SetsTree, sees_still}, proofs.KindLemmas.{Kind, table, behind, stored, written_as}}
+use Rattle.moo_tables_rows.{proofs.Words.{◌≡◌, ◌+◌, ◌/◌, ℕ, ℤ, List, [], ◌∷◌, ◌++◌, drop, map, append-nil, length, slice_get, Option, Some, None, true, false, ◌&&◌, ◌||◌, ◌⊎◌, inl, inr, Bool, Result, Ok, Err, OnOk, IfOk, IsTrue, refl, sym, ap, subst, ◌∙◌, arith, list_all, is_eq, value_cmp, option_map, IsPermutation, Null, Int, Error, Row, Term, column, col, holds, eval_all, with_rowid, next_rowid, cast_all, cast_row, Chosen, shown, Table, Trees, rowid, has_rowid, put_row, overlay, value_rows, understood, State, Executes, statement_of, runs_as, Has, some_from, true≢false, Equal, AreConflicts, conflicts, agree, plain, Column, IsSound, Tables, present_schema, cells_at, found_in, with_cells, update_text, remove_text, put_text, insert_text, AreKeyed, Sees, Changes, RanStatement, KeepsUnread, WritesOver}, proofs.TextLemmas.{IsWritten, WritesByKey, by_given, new_terms, over_terms, put_command, writes_where, rowids_where}, proofs.CastLemmas.{fit, kept_all}, proofs.StepLemmas.{cast_int, updates, deletes, inserts}, proofs.UpsertLemmas.{Settles, upserts}, proofs.OverLemmas.{free_beside, all_free}, proofs.InsertLemmas.{is_put, put_there, others_there}, proofs.UpdateLemmas.{over_or_left}, proofs.SettleLemmas.{OthersStay, settles}, proofs.FindLemmas.{find_one}, proofs.QueryLemmas.{chosen, shows_all}, proofs.KeyLemmas.{ties_itself, after_put, after_removal, after_same}, proofs.RowLemmas.{picks_given, moo_quiet, rest_keyed, rest, went_out}, proofs.SeenLemmas.{schema_seen, sound_seen, SetsTree, sees_still}, proofs.KindLemmas.{Kind, table, behind, stored, written_as}}
 use Rattle.sqlite_trees.proofs.TreeLemmas.{IsShaped-put_row}
 
 -- The rows of the table have these cells. Each of these facts is computed, whatever the columns are.
@@ -42,7 +42,7 @@ module _ (k : Kind) (t : Table) (of : Tables → k.Key → Option Row) (With : k
   stands id cells placed sets free =
       let keyed = is_seen.keyed old tables seen in
       let source = stored k id n cells in
-      is_seen.changes old new tables n (Some cells) (put_row source others) seen sets (put_keyed k.has n rows keyed source refl)
+      is_seen.changes old new tables n (Some cells) (put_row source others) seen sets (IsShaped-put_row source others refl (rest_keyed k.has n rows keyed))
       (λ j. after_put k.same k.has (cells_at (k.places t)) k.exact k.apart n source rows (k.itself id n (drop k.terms.width cells)) free j
       ∙ ap (λ shown. with_cells k.same n (Some shown) (found_in k.has (cells_at (k.places t)) rows) j) placed)
 

@@ -35,6 +35,7 @@ fn write_new<T: Run, R: TableRow>(tx: &mut T, key: R::Key, row: &R) -> Result<bo
 }
 
 /// Writes over the row with the key, or puts a new one if no row has it. Answers whether one had it.
+#[tactic(auto, using(crate::proofs::InsideLemmas::stays_then))]
 fn write_over<T: Run, R: TableRow>(tx: &mut T, key: R::Key, row: &R) -> Result<bool, Error>
     // The transaction is on the connection that it was on.
     ensures same_reference { T.lender tx.new ≡ T.lender tx.old }
@@ -82,6 +83,7 @@ fn write_row<T: Run, R: TableRow>(
 
 /// Writes changes of rows of one table, one after another: at each key the new row, or none. The first row is taken to be there or not as
 /// the hint says. After a row that wasn't there the others are taken to be new too, until one is there.
+#[tactic(auto, using(crate::proofs::InsideLemmas::stays_then))]
 pub fn write_rows<T: Run, R: TableRow>(
     tx: &mut T,
     changes: &[(R::Key, Option<R>)],

@@ -1,20 +1,18 @@
-use Rattle.moo_cells.{proofs.Words.{Option, sym, subst, IfSome, Kind, Key, IsFirstInRows, err_from_is_err_and, tables_of, SaysOfCells}, proofs.CellsLemmas.{rows_damage, none_met, says_nothing, says_no_damage, one_good}}
+use Rattle.moo_cells.proofs.Exits.{err_of}
+use Rattle.moo_cells.{proofs.Words.{Option, sym, subst, IfSome, Kind, Key, IsFirstInRows, tables_of, SaysOfCells}, proofs.CellsLemmas.{rows_damage, none_met, says_nothing, says_no_damage, one_good}}
 use Rattle.moo_cells.proofs.cells.read_cells.Goals as goal
 
 pub returns-in_err-rows-clause-fault : goal.returns-in_err-rows-clause-fault
 returns-in_err-rows-clause-fault c =
-    let p = err_from_is_err_and c.from_residual.result c.from_residual.ensures.1 in
-    rw p.1 (subst (SaysOfCells (tables_of c.args.lists)) (sym p.2) c.in_err-rows.ensures.fault)
+    err_of c.from_residual.result c.from_residual.ensures.1 (λ e is. subst (SaysOfCells (tables_of c.args.lists)) (sym is) c.in_err-rows.ensures.fault)
 
 pub returns-in_err-rows-clause-whole : goal.returns-in_err-rows-clause-whole
 returns-in_err-rows-clause-whole c m shown good =
-    let p = err_from_is_err_and c.from_residual.result c.from_residual.ensures.1 in
-    rw p.1 (says_nothing (tables_of c.args.lists) m shown good p.0 (subst (SaysOfCells (tables_of c.args.lists)) (sym p.2) c.in_err-rows.ensures.fault))
+    err_of c.from_residual.result c.from_residual.ensures.1 (λ e is. says_nothing (tables_of c.args.lists) m shown good e (subst (SaysOfCells (tables_of c.args.lists)) (sym is) c.in_err-rows.ensures.fault))
 
 pub returns-in_err-rows-clause-undamaged : goal.returns-in_err-rows-clause-undamaged
 returns-in_err-rows-clause-undamaged c known none =
-    let p = err_from_is_err_and c.from_residual.result c.from_residual.ensures.1 in
-    rw p.1 (says_no_damage (tables_of c.args.lists) known none p.0 (subst (SaysOfCells (tables_of c.args.lists)) (sym p.2) c.in_err-rows.ensures.fault))
+    err_of c.from_residual.result c.from_residual.ensures.1 (λ e is. says_no_damage (tables_of c.args.lists) known none e (subst (SaysOfCells (tables_of c.args.lists)) (sym is) c.in_err-rows.ensures.fault))
 
 pub returns-in-Some-clause-undamaged : goal.returns-in-Some-clause-undamaged
 returns-in-Some-clause-undamaged c known none =

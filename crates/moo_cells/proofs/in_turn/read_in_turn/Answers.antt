@@ -1,12 +1,5 @@
 use Rattle.moo_cells.proofs.CellsLemmas.{one_good}
-use Rattle.moo_tables.proofs.ReadLemmas.{hands_on, answers}
 use Rattle.moo_cells.proofs.in_turn.read_in_turn.Goals as goal
-
-pub returns-in_err-taken-clause-reads : goal.returns-in_err-taken-clause-reads
-returns-in_err-taken-clause-reads g c = hands_on c.from_residual.result c.from_residual.ensures.1 c.in_err-taken.ensures.reads
-
-pub returns-in-Ok-None-clause-reads : goal.returns-in-Ok-None-clause-reads
-returns-in-Ok-None-clause-reads g c = answers c.in_ok-taken.ensures.reads
 
 pub returns-in-Ok-None-clause-shown : goal.returns-in-Ok-None-clause-shown
 returns-in-Ok-None-clause-shown g c clean = rw c.in-Some.is at (c.in_ok-taken.ensures.shown clean)

@@ -3,7 +3,6 @@ use Rattle.moo_cells.proofs.{Apart.{numbered}, FillLemmas.{petitions_keep}}
 use Rattle.moo_tables_rows.specs.Inside.{AreKeyed}
 use Rattle.moo_cells.proofs.TakenLemmas.{no_petition, same_head, taken_shown, taken_within}
 use Rattle.moo_rows.specs.Maps.{no_maps}
-use Rattle.moo_tables.proofs.ReadLemmas.{hands_on, answers, read_then}
 use Rattle.moo_cells.proofs.in_turn.take_rows.Goals as goal
 
 pub take_tables-requires : goal.take_tables-requires
@@ -17,15 +16,6 @@ read_table-requires-clause-apart g c = let keyed : AreKeyed c.in_ok-head.petitio
 
 pub read_table-requires-clause-none : goal.read_table-requires-clause-none
 read_table-requires-clause-none g c = no_petition (rw c.in-Some.is at c.in_ok-all.ensures.taken) ∙ ap (λ (m : Maps). m.petitions) c.head_alone.ensures
-
-pub returns-in_err-head-clause-reads : goal.returns-in_err-head-clause-reads
-returns-in_err-head-clause-reads g c = hands_on c.from_residual.result c.from_residual.ensures.1 c.in_err-head.ensures.reads
-
-pub returns-in_err-all-clause-reads : goal.returns-in_err-all-clause-reads
-returns-in_err-all-clause-reads g c = hands_on c.from_residual-in_err-all.result c.from_residual-in_err-all.ensures.1 (read_then c.in_ok-head.ensures.reads c.in_err-all.ensures.reads)
-
-pub returns-in-Ok-read_table-clause-reads : goal.returns-in-Ok-read_table-clause-reads
-returns-in-Ok-read_table-clause-reads g c = answers (read_then c.in_ok-head.ensures.reads c.in_ok-all.ensures.reads)
 
 -- the head of the rows is the one that was read
 

@@ -1,14 +1,7 @@
 use Rattle.moo_cells.{proofs.Words.{[], refl, ap}, proofs.FillLemmas.{filled_in_turn, put_none}, proofs.TakenLemmas.{if_some}}
 use Rattle.std.proofs.lemmas.List.Sorted.{IsPermutation-refl}
 use Rattle.moo_rows.specs.Maps.{Held}
-use Rattle.moo_tables.proofs.ReadLemmas.{hands_on, answers}
 use Rattle.moo_cells.proofs.in_turn.take_table.Goals as goal
-
-pub returns-in_err-whole-clause-reads : goal.returns-in_err-whole-clause-reads
-returns-in_err-whole-clause-reads g c = hands_on c.from_residual.result c.from_residual.ensures.1 c.in_err-whole.ensures.reads
-
-pub returns-clause-reads : goal.returns-clause-reads
-returns-clause-reads g c = answers c.in_ok-whole.ensures.reads
 
 pub returns-clause-taken : goal.returns-clause-taken
 returns-clause-taken g c keep none =

@@ -1,9 +1,6 @@
-use Rattle.moo_cells.{proofs.Words.{ap, ◌∙◌, Maps}, proofs.FillLemmas.{objects_keep, props_keep, slots_keep, verbs_keep}, proofs.TakenLemmas.{if_some, takes_all}}
 use Rattle.moo_tables.proofs.ReadLemmas.{hands_on, answers, read_then}
+use Rattle.moo_cells.{proofs.Words.{ap, ◌∙◌, Maps}, proofs.FillLemmas.{objects_keep, props_keep, slots_keep, verbs_keep}, proofs.TakenLemmas.{if_some, takes_all}}
 use Rattle.moo_cells.proofs.in_turn.take_tables.Goals as goal
-
-pub returns-in_err-objects-clause-reads : goal.returns-in_err-objects-clause-reads
-returns-in_err-objects-clause-reads g c = hands_on c.from_residual.result c.from_residual.ensures.1 c.in_err-objects.ensures.reads
 
 pub returns-in_err-props-clause-reads : goal.returns-in_err-props-clause-reads
 returns-in_err-props-clause-reads g c = hands_on c.from_residual-in_err-props.result c.from_residual-in_err-props.ensures.1 (read_then c.in_ok-objects.ensures.reads c.in_err-props.ensures.reads)

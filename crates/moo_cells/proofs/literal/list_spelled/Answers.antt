@@ -1,12 +1,12 @@
-use Rattle.moo_cells.{proofs.Words.{◌≡◌, true, List, map, length, ◌≤◌, Some, subst, err_from_is_err_and, ObjNo, Spells, Fits, accept_fits, object_list}, specs.declared.fault.RowFault.{RowFault}, specs.declared.fault.RowFault.TheVariants.{Unreadable}, proofs.Exits.{both_ok, err_then}, proofs.Texts.{fails_none, fits_list, fits_spelled, no_list, no_items}}
+use Rattle.moo_cells.proofs.Exits.{err_of}
+use Rattle.moo_cells.{proofs.Words.{◌≡◌, true, List, map, length, ◌≤◌, Some, subst, ObjNo, Spells, Fits, accept_fits, object_list}, specs.declared.fault.RowFault.{RowFault}, specs.declared.fault.RowFault.TheVariants.{Unreadable}, proofs.Exits.{both_ok, err_then}, proofs.Texts.{fails_none, fits_list, fits_spelled, no_list, no_items}}
 use Rattle.moo_cells.proofs.literal.list_spelled.Goals as goal
 use Rattle.moo_value.{specs.declared.value.Value.{Value}, specs.declared.value.Value.TheVariants.{Obj, List as a_list}}
 use Rattle.moo_world.specs.declared.values.TheConstants.{MOST_ACCEPTED}
 
 pub returns-in_err-list-clause-err : goal.returns-in_err-list-clause-err
 returns-in_err-list-clause-err c =
-    let p = err_from_is_err_and c.from_residual.result c.from_residual.ensures.1 in
-    rw p.1 (λ unreadable objects fits spells. fails_none c.in_err-list.field-0.0 (object_list objects) (c.in_err-list.ensures.only (object_list objects) (fits_list objects fits).1 spells) (p.2 unreadable))
+    err_of c.from_residual.result c.from_residual.ensures.1 (λ e is unreadable objects fits spells. fails_none c.in_err-list.field-0.0 (object_list objects) (c.in_err-list.ensures.only (object_list objects) (fits_list objects fits).1 spells) (is unreadable))
 
 pub returns-in-List-clause-fits : goal.returns-in-List-clause-fits
 returns-in-List-clause-fits c =

@@ -1,17 +1,11 @@
-use Rattle.moo_cells.{proofs.Words.{◌∙◌, sym, ap, subst, err_from_is_err_and, Maps, tables_of, has_rowid, ReadsPetition, HoldsTable, SaysUnread, IsLess, petition_key, petition_number, SaysOfCells}, proofs.Apart.{numbered, paired}, proofs.FillLemmas.{objects_keep, props_keep, slots_keep, verbs_keep, petitions_keep}, proofs.RowsLemmas.{cells_in, held_fills, listed_apart, read_all, rows_shown, rows_within, says_object, says_prop, says_slot, says_verb, says_petition, none_met}}
+use Rattle.moo_cells.{proofs.Apart.{numbered}, proofs.FillLemmas.{slots_keep, verbs_keep}}
+use Rattle.moo_cells.proofs.Exits.{err_of}
+use Rattle.moo_cells.{proofs.Words.{◌∙◌, sym, ap, subst, Maps, tables_of, has_rowid, ReadsPetition, HoldsTable, SaysUnread, IsLess, petition_key, petition_number, SaysOfCells}, proofs.RowsLemmas.{cells_in, held_fills, listed_apart, read_all, rows_shown, rows_within, says_object, says_prop, says_slot, says_verb, says_petition, none_met}}
 use Rattle.moo_cells.proofs.Exits.{err_then}
 use Rattle.moo_tables_rows.specs.Inside.{AreKeyed}
 use Rattle.moo_cells.proofs.rows.read_tables.Goals as goal
 use Rattle.std.proofs.lemmas.Result.{on_ok_weaker}
 use Rattle.sqlite_rules.proofs.ViewLemmas.{on_ok_both}
-
--- how each table is kept
-
-pub read_table-requires-clause-keeps : goal.read_table-requires-clause-keeps
-read_table-requires-clause-keeps c = objects_keep c.args.lists.version
-
-pub read_table-requires-2-clause-keeps : goal.read_table-requires-2-clause-keeps
-read_table-requires-2-clause-keeps c = props_keep c.args.lists.version
 
 pub read_table-requires-3-clause-keeps : goal.read_table-requires-3-clause-keeps
 read_table-requires-3-clause-keeps c = slots_keep c.args.lists.version
@@ -19,22 +13,11 @@ read_table-requires-3-clause-keeps c = slots_keep c.args.lists.version
 pub read_table-requires-4-clause-keeps : goal.read_table-requires-4-clause-keeps
 read_table-requires-4-clause-keeps c = verbs_keep c.args.lists.version
 
-pub read_table-requires-5-clause-keeps : goal.read_table-requires-5-clause-keeps
-read_table-requires-5-clause-keeps c = petitions_keep c.args.lists.version
-
--- rows in the order of their keys have each key once
-
 pub read_table-requires-clause-apart : goal.read_table-requires-clause-apart
 read_table-requires-clause-apart c = numbered c.args.lists.object.items c.requires.listed.object
 
 pub read_table-requires-2-clause-apart : goal.read_table-requires-2-clause-apart
 read_table-requires-2-clause-apart c = numbered c.args.lists.prop.items c.requires.listed.prop
-
-pub read_table-requires-3-clause-apart : goal.read_table-requires-3-clause-apart
-read_table-requires-3-clause-apart c = paired c.args.lists.slot.items c.requires.listed.slot
-
-pub read_table-requires-4-clause-apart : goal.read_table-requires-4-clause-apart
-read_table-requires-4-clause-apart c = paired c.args.lists.verb.items c.requires.listed.verb
 
 pub read_table-requires-5-clause-apart : goal.read_table-requires-5-clause-apart
 read_table-requires-5-clause-apart c = numbered c.args.lists.petition.items c.requires.listed.petition
@@ -60,23 +43,19 @@ read_table-requires-5-clause-none c = ap (λ (m : Maps). m.petitions) c.in_ok-re
 
 pub returns-in_err-read_table-clause-fault : goal.returns-in_err-read_table-clause-fault
 returns-in_err-read_table-clause-fault c =
-    let p = err_from_is_err_and c.from_residual.result c.from_residual.ensures.1 in
-    rw p.1 (subst (SaysOfCells (tables_of c.args.lists)) (sym p.2) (says_object c.args.lists c.args.rows.now.maps.head c.requires.head.0 c.requires.head.1 c.requires.head.2 c.requires.counter c.in_err-read_table.field-0.0 (c.in_err-read_table.ensures.fault c.requires.listed.object)))
+    err_of c.from_residual.result c.from_residual.ensures.1 (λ e is. subst (SaysOfCells (tables_of c.args.lists)) (sym is) (says_object c.args.lists c.args.rows.now.maps.head c.requires.head.0 c.requires.head.1 c.requires.head.2 c.requires.counter c.in_err-read_table.field-0.0 (c.in_err-read_table.ensures.fault c.requires.listed.object)))
 
 pub returns-in_err-read_table-2-clause-fault : goal.returns-in_err-read_table-2-clause-fault
 returns-in_err-read_table-2-clause-fault c =
-    let p = err_from_is_err_and c.from_residual-in_err-read_table-2.result c.from_residual-in_err-read_table-2.ensures.1 in
-    rw p.1 (subst (SaysOfCells (tables_of c.args.lists)) (sym p.2) (says_prop c.args.lists c.args.rows.now.maps.head c.requires.head.0 c.requires.head.1 c.requires.head.2 c.requires.counter c.in_ok-read_table.ensures.holds.read c.in_err-read_table-2.field-0.0 (c.in_err-read_table-2.ensures.fault c.requires.listed.prop)))
+    err_of c.from_residual-in_err-read_table-2.result c.from_residual-in_err-read_table-2.ensures.1 (λ e is. subst (SaysOfCells (tables_of c.args.lists)) (sym is) (says_prop c.args.lists c.args.rows.now.maps.head c.requires.head.0 c.requires.head.1 c.requires.head.2 c.requires.counter c.in_ok-read_table.ensures.holds.read c.in_err-read_table-2.field-0.0 (c.in_err-read_table-2.ensures.fault c.requires.listed.prop)))
 
 pub returns-in_err-read_table-3-clause-fault : goal.returns-in_err-read_table-3-clause-fault
 returns-in_err-read_table-3-clause-fault c =
-    let p = err_from_is_err_and c.from_residual-in_err-read_table-3.result c.from_residual-in_err-read_table-3.ensures.1 in
-    rw p.1 (subst (SaysOfCells (tables_of c.args.lists)) (sym p.2) (says_slot c.args.lists c.args.rows.now.maps.head c.requires.head.0 c.requires.head.1 c.requires.head.2 c.requires.counter c.in_ok-read_table.ensures.holds.read c.in_ok-read_table-2.ensures.holds.read c.in_err-read_table-3.field-0.0 (c.in_err-read_table-3.ensures.fault c.requires.listed.slot)))
+    err_of c.from_residual-in_err-read_table-3.result c.from_residual-in_err-read_table-3.ensures.1 (λ e is. subst (SaysOfCells (tables_of c.args.lists)) (sym is) (says_slot c.args.lists c.args.rows.now.maps.head c.requires.head.0 c.requires.head.1 c.requires.head.2 c.requires.counter c.in_ok-read_table.ensures.holds.read c.in_ok-read_table-2.ensures.holds.read c.in_err-read_table-3.field-0.0 (c.in_err-read_table-3.ensures.fault c.requires.listed.slot)))
 
 pub returns-in_err-read_table-4-clause-fault : goal.returns-in_err-read_table-4-clause-fault
 returns-in_err-read_table-4-clause-fault c =
-    let p = err_from_is_err_and c.from_residual-in_err-read_table-4.result c.from_residual-in_err-read_table-4.ensures.1 in
-    rw p.1 (subst (SaysOfCells (tables_of c.args.lists)) (sym p.2) (says_verb c.args.lists c.args.rows.now.maps.head c.requires.head.0 c.requires.head.1 c.requires.head.2 c.requires.counter c.in_ok-read_table.ensures.holds.read c.in_ok-read_table-2.ensures.holds.read c.in_ok-read_table-3.ensures.holds.read c.in_err-read_table-4.field-0.0 (c.in_err-read_table-4.ensures.fault c.requires.listed.verb)))
+    err_of c.from_residual-in_err-read_table-4.result c.from_residual-in_err-read_table-4.ensures.1 (λ e is. subst (SaysOfCells (tables_of c.args.lists)) (sym is) (says_verb c.args.lists c.args.rows.now.maps.head c.requires.head.0 c.requires.head.1 c.requires.head.2 c.requires.counter c.in_ok-read_table.ensures.holds.read c.in_ok-read_table-2.ensures.holds.read c.in_ok-read_table-3.ensures.holds.read c.in_err-read_table-4.field-0.0 (c.in_err-read_table-4.ensures.fault c.requires.listed.verb)))
 
 pub returns-clause-fault : goal.returns-clause-fault
 returns-clause-fault c =

@@ -1,15 +1,5 @@
 use Rattle.moo_cells.{proofs.Words.{List, refl, subst, entries, Row, Head, ShowEach, by_rowid, HoldsHead, ReadsCounter, ReadsPetition}, proofs.FillLemmas.{petitions_keep}, proofs.TakenLemmas.{taken_shown}}
-use Rattle.moo_tables.proofs.ReadLemmas.{hands_on, read_then}
 use Rattle.moo_cells.proofs.showing_in_turn.show_in_turn.Goals as goal
-
-pub returns-in_err-head-clause-reads : goal.returns-in_err-head-clause-reads
-returns-in_err-head-clause-reads g c = hands_on c.from_residual.result c.from_residual.ensures.1 c.in_err-head.ensures.reads
-
-pub returns-in_err-all-clause-reads : goal.returns-in_err-all-clause-reads
-returns-in_err-all-clause-reads g c = hands_on c.from_residual-in_err-all.result c.from_residual-in_err-all.ensures.1 (read_then c.in_ok-head.ensures.reads c.in_err-all.ensures.reads)
-
-pub returns-clause-reads : goal.returns-clause-reads
-returns-clause-reads g c = read_then c.in_ok-head.ensures.reads c.in_ok-all.ensures.reads
 
 pub returns-clause-shown : goal.returns-clause-shown
 returns-clause-shown g c clean all tables was is =

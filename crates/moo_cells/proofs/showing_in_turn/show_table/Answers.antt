@@ -1,12 +1,5 @@
 use Rattle.moo_cells.{proofs.Words.{List, sym, subst, entries, Row, ShowEach}, proofs.FillLemmas.{fills_shown}}
-use Rattle.moo_tables.proofs.ReadLemmas.{hands_on, answers}
 use Rattle.moo_cells.proofs.showing_in_turn.show_table.Goals as goal
-
-pub returns-in_err-cells-clause-reads : goal.returns-in_err-cells-clause-reads
-returns-in_err-cells-clause-reads g c = hands_on c.from_residual.result c.from_residual.ensures.1 c.in_err-cells.ensures.reads
-
-pub returns-clause-reads : goal.returns-clause-reads
-returns-clause-reads g c = answers c.in_ok-cells.ensures.reads
 
 pub returns-clause-shown : goal.returns-clause-shown
 returns-clause-shown g c keep is =

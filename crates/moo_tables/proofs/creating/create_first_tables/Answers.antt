@@ -1,18 +1,5 @@
-use Rattle.moo_tables.{proofs.Words.{refl, create_head_is, create_object_is, create_prop_is, create_slot_is, clean_before, on_ok, stays_then}, proofs.CreateLemmas.{makes, makes_verb}, proofs.FirstLemmas.{head_fails, begins_head, goes_on, stops_early, stops_late, object_making, prop_making, slot_making, verb_making}}
+use Rattle.moo_tables.{proofs.Words.{refl, create_head_is, create_object_is, create_prop_is, create_slot_is, clean_before, on_ok}, proofs.CreateLemmas.{makes, makes_verb}, proofs.FirstLemmas.{head_fails, begins_head, goes_on, stops_early, stops_late, object_making, prop_making, slot_making, verb_making}}
 use Rattle.moo_tables.proofs.creating.create_first_tables.Goals as goal
-
-pub returns-in_err-run-2-clause-inside : goal.returns-in_err-run-2-clause-inside
-returns-in_err-run-2-clause-inside g c = stays_then c.run.ensures.inside c.run-2.ensures.inside
-
-pub returns-in_err-run-3-clause-inside : goal.returns-in_err-run-3-clause-inside
-returns-in_err-run-3-clause-inside g c = stays_then (stays_then c.run.ensures.inside c.run-2.ensures.inside) c.run-3.ensures.inside
-
-pub returns-in_err-run-4-clause-inside : goal.returns-in_err-run-4-clause-inside
-returns-in_err-run-4-clause-inside g c = stays_then (stays_then (stays_then c.run.ensures.inside c.run-2.ensures.inside) c.run-3.ensures.inside) c.run-4.ensures.inside
-
-pub returns-clause-inside : goal.returns-clause-inside
-returns-clause-inside g c =
-    stays_then (stays_then (stays_then (stays_then c.run.ensures.inside c.run-2.ensures.inside) c.run-3.ensures.inside) c.run-4.ensures.inside) c.run-5.ensures.inside
 
 pub returns-clause-made : goal.returns-clause-made
 returns-clause-made g c =

@@ -1,4 +1,4 @@
-use Rattle.moo_tables.{proofs.Words.{[], empty_slots_text, stays_then}, proofs.GrowLemmas.{becomes_then}, proofs.MigrateLemmas.{all_migrated, empties, empties_beside, goes_on}, proofs.StopMigrateLemmas.{emptying_fails, comes_grown, comes_more, fails_then, fails_on}}
+use Rattle.moo_tables.{proofs.Words.{[], empty_slots_text}, proofs.GrowLemmas.{becomes_then}, proofs.MigrateLemmas.{all_migrated, empties, empties_beside, goes_on}, proofs.StopMigrateLemmas.{emptying_fails, comes_grown, comes_more, fails_then, fails_on}}
 use Rattle.moo_tables.proofs.migrating.write_migrated.Goals as goal
 
 pub returns-clause-goes_on : goal.returns-clause-goes_on
@@ -12,22 +12,6 @@ returns-clause-migrated g c =
     let becomes = becomes_then s0 c.put_counter.ensures.inside c.in_ok-create_added_tables.ensures.made c.in_ok-put_counter.ensures.put in
     all_migrated s0 c.args.head.now c.args.slots.now c.run.result c.put_head.ensures.inside c.write_rows.ensures.inside c.run.ensures.inside becomes c.in_ok-put_head.ensures.put c.in_ok-write_rows.ensures.written
     (empties_beside s4 s5 c.run.result c.run.ensures.ran) (empties s4 s5 c.run.result c.run.ensures.ran)
-
--- nothing is committed on the way
-
-pub returns-in_err-put_counter-clause-inside : goal.returns-in_err-put_counter-clause-inside
-returns-in_err-put_counter-clause-inside g c = stays_then c.create_added_tables.ensures.inside c.put_counter.ensures.inside
-
-pub returns-in_err-put_head-clause-inside : goal.returns-in_err-put_head-clause-inside
-returns-in_err-put_head-clause-inside g c = stays_then (stays_then c.create_added_tables.ensures.inside c.put_counter.ensures.inside) c.put_head.ensures.inside
-
-pub returns-in_err-write_rows-clause-inside : goal.returns-in_err-write_rows-clause-inside
-returns-in_err-write_rows-clause-inside g c =
-    stays_then (stays_then (stays_then c.create_added_tables.ensures.inside c.put_counter.ensures.inside) c.put_head.ensures.inside) c.write_rows.ensures.inside
-
-pub returns-clause-inside : goal.returns-clause-inside
-returns-clause-inside g c =
-    stays_then (stays_then (stays_then (stays_then c.create_added_tables.ensures.inside c.put_counter.ensures.inside) c.put_head.ensures.inside) c.write_rows.ensures.inside) c.run.ensures.inside
 
 -- why one fails
 

@@ -1,11 +1,5 @@
-use Rattle.moo_tables.{proofs.Words.{sym, ap, ◌∙◌, has_petitions}, proofs.ReadLemmas.{rests_read, hands_on, answers, read_then, none_listed}}
+use Rattle.moo_tables.{proofs.Words.{sym, ap, ◌∙◌, has_petitions}, proofs.ReadLemmas.{rests_read, none_listed}}
 use Rattle.moo_tables.proofs.reading.small_cells_of.Goals as goal
-
-pub returns-in_err-head-clause-reads : goal.returns-in_err-head-clause-reads
-returns-in_err-head-clause-reads g c = hands_on c.from_residual.result c.from_residual.ensures.1 c.in_err-head.ensures.reads
-
-pub returns-then-not-has_petitions-clause-reads : goal.returns-then-not-has_petitions-clause-reads
-returns-then-not-has_petitions-clause-reads g c = answers c.in_ok-head.ensures.reads
 
 pub returns-then-not-has_petitions-clause-listed : goal.returns-then-not-has_petitions-clause-listed
 returns-then-not-has_petitions-clause-listed g c clean tables was is =
@@ -17,16 +11,6 @@ cells_of-requires-2 g c = sym c.has_petitions.ensures ∙ c.if-not-has_petitions
 
 pub cells_of-requires-3 : goal.cells_of-requires-3
 cells_of-requires-3 g c = sym c.has_petitions.ensures ∙ c.if-not-has_petitions.false
-
-pub returns-in_err-petition-clause-reads : goal.returns-in_err-petition-clause-reads
-returns-in_err-petition-clause-reads g c = hands_on c.from_residual-in_err-petition.result c.from_residual-in_err-petition.ensures.1 (read_then c.in_ok-head.ensures.reads c.in_err-petition.ensures.reads)
-
-pub returns-in_err-petition_head-clause-reads : goal.returns-in_err-petition_head-clause-reads
-returns-in_err-petition_head-clause-reads g c =
-    hands_on c.from_residual-in_err-petition_head.result c.from_residual-in_err-petition_head.ensures.1 (read_then (read_then c.in_ok-head.ensures.reads c.in_ok-petition.ensures.reads) c.in_err-petition_head.ensures.reads)
-
-pub returns-clause-reads : goal.returns-clause-reads
-returns-clause-reads g c = answers (read_then (read_then c.in_ok-head.ensures.reads c.in_ok-petition.ensures.reads) c.in_ok-petition_head.ensures.reads)
 
 pub returns-clause-listed : goal.returns-clause-listed
 returns-clause-listed g c clean tables was is =

@@ -1,4 +1,4 @@
-use Rattle.moo_tables_rows.{proofs.Words.{Ok, StopsChange, arith, head_table, put_text, refl, update_text}, proofs.InsideLemmas.{stays_then, changes_then}, proofs.CauseLemmas.{err_again, reaches, err_after}, proofs.HeadLemmas.{wrote}}
+use Rattle.moo_tables_rows.{proofs.Words.{Ok, StopsChange, arith, head_table, put_text, refl, update_text}, proofs.InsideLemmas.{changes_then}, proofs.CauseLemmas.{err_again, reaches, err_after}, proofs.HeadLemmas.{wrote}}
 use Rattle.moo_tables_rows.proofs.head.put_head.Goals as goal
 
 pub returns-in_err-count-clause-cause : goal.returns-in_err-count-clause-cause
@@ -10,18 +10,12 @@ pub returns-then-count-gt0-clause-put : goal.returns-then-count-gt0-clause-put
 returns-then-count-gt0-clause-put g c =
     ((wrote _ _ c.args.row.now (update_text head_table) _ (Ok c.in_ok-count.count) c.head_values-values.ensures c.in_ok-count.ensures.ran c.in_ok-count.ensures.executes).updates refl).0.found (omega arith)
 
-pub returns-in_err-run-clause-inside : goal.returns-in_err-run-clause-inside
-returns-in_err-run-clause-inside g c = stays_then c.run.ensures.inside c.run-2.ensures.inside
-
 pub returns-in_err-run-clause-cause : goal.returns-in_err-run-clause-cause
 returns-in_err-run-clause-cause g c =
     let over = ((wrote _ _ c.args.row.now (update_text head_table) _ (Ok c.in_ok-count.count) c.head_values-values.ensures c.in_ok-count.ensures.ran c.in_ok-count.ensures.executes).updates refl).0 in
     let first = reaches c.run.ensures.inside (over.missed (omega arith)) in
     let cause = ((wrote _ _ c.args.row.now (put_text head_table) _ c.run-2.result c.head_values-values.ensures c.run-2.ensures.ran c.run-2.ensures.executes).puts refl).1 in
     err_after c.run-2.result c.from_residual-in_err-run.result first c.run-2.ensures.inside cause c.in_err-run.was c.from_residual-in_err-run.ensures.1
-
-pub returns-clause-inside : goal.returns-clause-inside
-returns-clause-inside g c = stays_then c.run.ensures.inside c.run-2.ensures.inside
 
 pub returns-clause-put : goal.returns-clause-put
 returns-clause-put g c =

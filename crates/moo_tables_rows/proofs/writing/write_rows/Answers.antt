@@ -21,9 +21,6 @@ returns-clause-written g c clean tables seen =
     let new = g.T.Run.state c.loop-change.tx in
     subst (λ changes. Sees new (with_each g.R.TableRow.with_row changes tables) × KeepsUnread old.now new.now) (take_all c.loop-change.change-index c.args.changes.now c.loop-change-test.false) (c.loop-change.invariant.2 clean tables seen)
 
-pub returns-in_err-expected-clause-inside : goal.returns-in_err-expected-clause-inside
-returns-in_err-expected-clause-inside g c = stays_then c.loop-change.invariant.1 c.write_row.ensures.inside
-
 pub returns-in_err-expected-clause-cause : goal.returns-in_err-expected-clause-cause
 returns-in_err-expected-clause-cause g c =
     let old = g.T.Run.state c.args.tx.now in

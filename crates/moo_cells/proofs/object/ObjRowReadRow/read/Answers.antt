@@ -1,3 +1,4 @@
+use Rattle.moo_cells.proofs.Exits.{err_of}
 use Rattle.moo_cells.{proofs.Words.{subst, sym, ◌∙◌, and_parts, and_from, err_from_is_err_and, column}, specs.Object.{StandFrom, accept_place}, proofs.ObjectLemmas.{cells_shown, column_read, flags_read}}
 use Rattle.moo_tables_rows.specs.Object.{object_row, object_row_cells}
 use Rattle.moo_cells.proofs.object.ObjRowReadRow.read.Goals as goal
@@ -8,23 +9,19 @@ returns-in_err-number-clause-err c =
 
 pub returns-in_err-name-clause-err : goal.returns-in_err-name-clause-err
 returns-in_err-name-clause-err c =
-    let p = err_from_is_err_and c.from_residual-in_err-name.result c.from_residual-in_err-name.ensures.1 in
-    rw p.1 (λ fault read. c.in_err-name.ensures.err (sym p.2 ∙ fault) read.1.name (and_parts _ _ read.2.1.fits).0 (column_read c.args.version c.args.cells.now read 1))
+    err_of c.from_residual-in_err-name.result c.from_residual-in_err-name.ensures.1 (λ e is fault read. c.in_err-name.ensures.err (sym is ∙ fault) read.1.name (and_parts _ _ read.2.1.fits).0 (column_read c.args.version c.args.cells.now read 1))
 
 pub returns-in_err-owner-clause-err : goal.returns-in_err-owner-clause-err
 returns-in_err-owner-clause-err c =
-    let p = err_from_is_err_and c.from_residual-in_err-owner.result c.from_residual-in_err-owner.ensures.1 in
-    rw p.1 (λ fault read. c.in_err-owner.ensures.err read.1.owner (and_parts _ _ (and_parts _ _ read.2.1.fits).1).0 (column_read c.args.version c.args.cells.now read 2))
+    rw (err_from_is_err_and c.from_residual-in_err-owner.result c.from_residual-in_err-owner.ensures.1).1 (λ fault read. c.in_err-owner.ensures.err read.1.owner (and_parts _ _ (and_parts _ _ read.2.1.fits).1).0 (column_read c.args.version c.args.cells.now read 2))
 
 pub returns-in_err-parent-clause-err : goal.returns-in_err-parent-clause-err
 returns-in_err-parent-clause-err c =
-    let p = err_from_is_err_and c.from_residual-in_err-parent.result c.from_residual-in_err-parent.ensures.1 in
-    rw p.1 (λ fault read. c.in_err-parent.ensures.err read.1.parent read.2.1.parent (column_read c.args.version c.args.cells.now read 3))
+    rw (err_from_is_err_and c.from_residual-in_err-parent.result c.from_residual-in_err-parent.ensures.1).1 (λ fault read. c.in_err-parent.ensures.err read.1.parent read.2.1.parent (column_read c.args.version c.args.cells.now read 3))
 
 pub returns-in_err-location-clause-err : goal.returns-in_err-location-clause-err
 returns-in_err-location-clause-err c =
-    let p = err_from_is_err_and c.from_residual-in_err-location.result c.from_residual-in_err-location.ensures.1 in
-    rw p.1 (λ fault read. c.in_err-location.ensures.err read.1.location read.2.1.location (column_read c.args.version c.args.cells.now read 4))
+    rw (err_from_is_err_and c.from_residual-in_err-location.result c.from_residual-in_err-location.ensures.1).1 (λ fault read. c.in_err-location.ensures.err read.1.location read.2.1.location (column_read c.args.version c.args.cells.now read 4))
 
 pub returns-in_err-flags-clause-err : goal.returns-in_err-flags-clause-err
 returns-in_err-flags-clause-err c =
@@ -32,8 +29,7 @@ returns-in_err-flags-clause-err c =
 
 pub returns-in_err-accept-clause-err : goal.returns-in_err-accept-clause-err
 returns-in_err-accept-clause-err c =
-    let p = err_from_is_err_and c.from_residual-in_err-accept.result c.from_residual-in_err-accept.ensures.1 in
-    rw p.1 (λ fault read. c.in_err-accept.ensures.err (sym p.2 ∙ fault) read.2.0.0 read.1.accept read.2.0.1 (and_parts _ _ (and_parts _ _ read.2.1.fits).1).1 (column_read c.args.version c.args.cells.now read accept_place))
+    err_of c.from_residual-in_err-accept.result c.from_residual-in_err-accept.ensures.1 (λ e is fault read. c.in_err-accept.ensures.err (sym is ∙ fault) read.2.0.0 read.1.accept read.2.0.1 (and_parts _ _ (and_parts _ _ read.2.1.fits).1).1 (column_read c.args.version c.args.cells.now read accept_place))
 
 pub returns-clause-ok : goal.returns-clause-ok
 returns-clause-ok c =

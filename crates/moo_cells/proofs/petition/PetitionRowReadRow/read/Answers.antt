@@ -1,3 +1,4 @@
+use Rattle.moo_cells.proofs.Exits.{err_of}
 use Rattle.moo_cells.{proofs.Words.{ap, sym, ◌∙◌, ◌≡◌, length, [], ◌∷◌, and_parts, and_from, err_from_is_err_and, Row, column, is_number, calls_fit}, proofs.Columns.{all_columns}}
 use Rattle.moo_cells.proofs.petition.PetitionRowReadRow.read.Goals as goal
 
@@ -7,13 +8,11 @@ returns-in_err-id-clause-err c =
 
 pub returns-in_err-who-clause-err : goal.returns-in_err-who-clause-err
 returns-in_err-who-clause-err c =
-    let p = err_from_is_err_and c.from_residual-in_err-who.result c.from_residual-in_err-who.ensures.1 in
-    rw p.1 (λ fault read. c.in_err-who.ensures.err read.1.who (and_parts (is_number read.1.who) (calls_fit read.1.calls) read.2.1.fits).0 (ap (λ (r : Row). column r 1) read.2.0.2))
+    rw (err_from_is_err_and c.from_residual-in_err-who.result c.from_residual-in_err-who.ensures.1).1 (λ fault read. c.in_err-who.ensures.err read.1.who (and_parts (is_number read.1.who) (calls_fit read.1.calls) read.2.1.fits).0 (ap (λ (r : Row). column r 1) read.2.0.2))
 
 pub returns-in_err-calls-clause-err : goal.returns-in_err-calls-clause-err
 returns-in_err-calls-clause-err c =
-    let p = err_from_is_err_and c.from_residual-in_err-calls.result c.from_residual-in_err-calls.ensures.1 in
-    rw p.1 (λ fault read. c.in_err-calls.ensures.err (sym p.2 ∙ fault) read.2.0.0 read.1.calls read.2.0.1 (and_parts (is_number read.1.who) (calls_fit read.1.calls) read.2.1.fits).1 (ap (λ (r : Row). column r 2) read.2.0.2))
+    err_of c.from_residual-in_err-calls.result c.from_residual-in_err-calls.ensures.1 (λ e is fault read. c.in_err-calls.ensures.err (sym is ∙ fault) read.2.0.0 read.1.calls read.2.0.1 (and_parts (is_number read.1.who) (calls_fit read.1.calls) read.2.1.fits).1 (ap (λ (r : Row). column r 2) read.2.0.2))
 
 pub returns-clause-ok : goal.returns-clause-ok
 returns-clause-ok c =

@@ -1,3 +1,4 @@
+use Rattle.moo_cells.proofs.Exits.{err_of}
 use Rattle.moo_cells.{proofs.Words.{◌≡◌, length, [], ◌∷◌, ap, sym, ◌∙◌, and_parts, err_from_is_err_and, Row, column}, proofs.Columns.{all_columns}}
 use Rattle.moo_cells.proofs.prop.PropRowReadRow.read.Goals as goal
 
@@ -11,8 +12,7 @@ returns-in_err-definer-clause-err c =
 
 pub returns-in_err-name-clause-err : goal.returns-in_err-name-clause-err
 returns-in_err-name-clause-err c =
-    let p = err_from_is_err_and c.from_residual-in_err-name.result c.from_residual-in_err-name.ensures.1 in
-    rw p.1 (λ fault read. c.in_err-name.ensures.err (sym p.2 ∙ fault) read.1.name (and_parts _ _ read.2.1.name).0 (ap (λ (r : Row). column r 2) read.2.0))
+    err_of c.from_residual-in_err-name.result c.from_residual-in_err-name.ensures.1 (λ e is fault read. c.in_err-name.ensures.err (sym is ∙ fault) read.1.name (and_parts _ _ read.2.1.name).0 (ap (λ (r : Row). column r 2) read.2.0))
 
 pub returns-clause-ok : goal.returns-clause-ok
 returns-clause-ok c =

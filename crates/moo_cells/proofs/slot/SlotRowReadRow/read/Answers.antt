@@ -1,3 +1,4 @@
+use Rattle.moo_cells.proofs.Exits.{err_of}
 use Rattle.moo_cells.{proofs.Words.{◌≡◌, length, [], ◌∷◌, ap, sym, subst, ◌∙◌, err_from_is_err_and, Value, Row, column, ShowsBits}, proofs.Columns.{all_columns}}
 use Rattle.moo_cells.proofs.slot.SlotRowReadRow.read.Goals as goal
 
@@ -15,13 +16,11 @@ returns-in_err-owner-clause-err c =
 
 pub returns-in_err-bits-clause-err : goal.returns-in_err-bits-clause-err
 returns-in_err-bits-clause-err c =
-    let p = err_from_is_err_and c.from_residual-in_err-bits.result c.from_residual-in_err-bits.ensures.1 in
-    rw p.1 (λ fault read. c.in_err-bits.ensures.err read.1.bits (subst (λ (v : Value). ShowsBits c.args.version v read.1.bits) (sym (ap (λ (r : Row). column r 3) read.2.0.4)) read.2.0.2))
+    rw (err_from_is_err_and c.from_residual-in_err-bits.result c.from_residual-in_err-bits.ensures.1).1 (λ fault read. c.in_err-bits.ensures.err read.1.bits (subst (λ (v : Value). ShowsBits c.args.version v read.1.bits) (sym (ap (λ (r : Row). column r 3) read.2.0.4)) read.2.0.2))
 
 pub returns-in_err-state-clause-err : goal.returns-in_err-state-clause-err
 returns-in_err-state-clause-err c =
-    let p = err_from_is_err_and c.from_residual-in_err-state.result c.from_residual-in_err-state.ensures.1 in
-    rw p.1 (λ fault read. c.in_err-state.ensures.err (sym p.2 ∙ fault) read.2.0.1 read.1.state read.2.0.3 read.2.1.state (ap (λ (r : Row). column r 4) read.2.0.4))
+    err_of c.from_residual-in_err-state.result c.from_residual-in_err-state.ensures.1 (λ e is fault read. c.in_err-state.ensures.err (sym is ∙ fault) read.2.0.1 read.1.state read.2.0.3 read.2.1.state (ap (λ (r : Row). column r 4) read.2.0.4))
 
 pub returns-clause-ok : goal.returns-clause-ok
 returns-clause-ok c =

@@ -1,3 +1,4 @@
+use Rattle.moo_cells.proofs.Exits.{err_of}
 use Rattle.moo_cells.{proofs.Words.{◌≡◌, length, [], ◌∷◌, ap, sym, ◌∙◌, and_parts, and_from, err_from_is_err_and, Row, column}, proofs.Columns.{all_columns}, proofs.Texts.{has_a_word}}
 use Rattle.moo_cells.proofs.verb.VerbRowReadRow.read.Goals as goal
 
@@ -11,13 +12,11 @@ returns-in_err-id-clause-err c =
 
 pub returns-in_err-names-clause-err : goal.returns-in_err-names-clause-err
 returns-in_err-names-clause-err c =
-    let p = err_from_is_err_and c.from_residual-in_err-names.result c.from_residual-in_err-names.ensures.1 in
-    rw p.1 (λ fault read. c.in_err-names.ensures.err (sym p.2 ∙ fault) read.1.names (and_parts _ _ (and_parts _ _ read.2.1.fits).1).0 (ap (λ (r : Row). column r 2) read.2.0.2))
+    err_of c.from_residual-in_err-names.result c.from_residual-in_err-names.ensures.1 (λ e is fault read. c.in_err-names.ensures.err (sym is ∙ fault) read.1.names (and_parts _ _ (and_parts _ _ read.2.1.fits).1).0 (ap (λ (r : Row). column r 2) read.2.0.2))
 
 pub returns-in_err-owner-clause-err : goal.returns-in_err-owner-clause-err
 returns-in_err-owner-clause-err c =
-    let p = err_from_is_err_and c.from_residual-in_err-owner.result c.from_residual-in_err-owner.ensures.1 in
-    rw p.1 (λ fault read. c.in_err-owner.ensures.err read.1.owner (and_parts _ _ (and_parts _ _ read.2.1.fits).1).1 (ap (λ (r : Row). column r 3) read.2.0.2))
+    rw (err_from_is_err_and c.from_residual-in_err-owner.result c.from_residual-in_err-owner.ensures.1).1 (λ fault read. c.in_err-owner.ensures.err read.1.owner (and_parts _ _ (and_parts _ _ read.2.1.fits).1).1 (ap (λ (r : Row). column r 3) read.2.0.2))
 
 pub returns-in_err-bits-clause-err : goal.returns-in_err-bits-clause-err
 returns-in_err-bits-clause-err c =
@@ -25,8 +24,7 @@ returns-in_err-bits-clause-err c =
 
 pub returns-in_err-args-clause-err : goal.returns-in_err-args-clause-err
 returns-in_err-args-clause-err c =
-    let p = err_from_is_err_and c.from_residual-in_err-args.result c.from_residual-in_err-args.ensures.1 in
-    rw p.1 (λ fault read. c.in_err-args.ensures.err read.1.args (record { dobj = (ap (λ (r : Row). column r 5) read.2.0.2); prep = (ap (λ (r : Row). column r 6) read.2.0.2); iobj = (ap (λ (r : Row). column r 7) read.2.0.2) }))
+    rw (err_from_is_err_and c.from_residual-in_err-args.result c.from_residual-in_err-args.ensures.1).1 (λ fault read. c.in_err-args.ensures.err read.1.args (record { dobj = (ap (λ (r : Row). column r 5) read.2.0.2); prep = (ap (λ (r : Row). column r 6) read.2.0.2); iobj = (ap (λ (r : Row). column r 7) read.2.0.2) }))
 
 pub returns-clause-ok : goal.returns-clause-ok
 returns-clause-ok c =
