@@ -23,8 +23,7 @@ module _ (p : ObjNo) (w v : World) (rest : SameButSlots w v) where
     has_same x n = sym (emptied (slot_of v x n)) ∙ ap is_some (slots x n) ∙ emptied (slot_of w x n)
       where
         emptied : (o : Option Slot) → is_some (option_map emptied_slot o) ≡ is_some o
-        emptied None = refl
-        emptied (Some slot) = refl
+        emptied o = grind arith
 
     near_same : (call : CallName) (given : ObjNo × Name) → names_near v p call given ≡ names_near w p call given
     near_same call given = λ i. if has_same given.0 (folded given.1) i then [] else take 200 (flat_map (λ y. listed_same y i) (objects_searched call (sym (chains_same w v rest given.0) i)))
@@ -64,9 +63,8 @@ module _ (w : World) (p : ObjNo) where
   meant_listed call args reason = by (lacks_property reason) (property_given args)
     where
       by : (b : Bool) (given : Option (ObjNo × Name)) → All (IsListed w p) (if b then elim given [ None ↦ [] | Some one ↦ names_near w p call one ] else [])
-      by true None = All-nil (IsListed w p)
       by true (Some given) = near_listed call given
-      by false given = All-nil (IsListed w p)
+      by b given = All-nil (IsListed w p)
 
   -- ---- what is found
 
@@ -83,6 +81,5 @@ module _ (w : World) (p : ObjNo) where
     where
       by : (b : Bool) → may_read_object w p definer ≡ b → (given : Option ObjNo) → IfSome (if b then option_and_then (name_shared w definer) given else None) (IsListed w p)
       by true may (Some q) = found_listed _ (take 200 (property_names_of w definer)) (All-take (IsListed w p) 200 (property_names_of w definer) (λ k d below. (definer, may, Contains-get_or (property_names_of w definer) k d below)))
-      by true may None = tt
-      by false may given = tt
+      by b may given = tt
   clash_listed args other = tt

@@ -15,19 +15,14 @@ both_redefined names first second w v same = one first w ∙ ap (redefined names
   where
     by : (slots : ObjNo → WorldObject → Name → Option Slot) (y : ObjNo) (o : Option WorldObject)
         → option_map bare (option_map (λ (r : WorldObject). record r { defines = names y r.defines; slot = slots y r }) o) ≡ option_map (λ (r : WorldObject). record r { defines = names y r.defines; slot = λ n. None }) (option_map bare o)
-    by slots y None = refl
-    by slots y (Some r) = refl
+    by slots y o = grind arith
 
     one : (slots : ObjNo → WorldObject → Name → Option Slot) (k : World) → without_slots (redefined names slots k) ≡ redefined names (λ y r n. None) (without_slots k)
     one slots k = λ i. record k { object = λ y. by slots y (k.object y) i }
 
 -- the slot of a redefined object
 slot_redefined : (names : ObjNo → List Name → List Name) (slots : ObjNo → WorldObject → Name → Option Slot) (w : World) (y : ObjNo) (n : Name) → slot_of (redefined names slots w) y n ≡ option_and_then (λ r. slots y r n) (w.object y)
-slot_redefined names slots w y n = by (w.object y)
-  where
-    by : (o : Option WorldObject) → option_and_then (λ (r : WorldObject). r.slot n) (option_map (λ (r : WorldObject). record r { defines = names y r.defines; slot = slots y r }) o) ≡ option_and_then (λ r. slots y r n) o
-    by None = refl
-    by (Some r) = refl
+slot_redefined names slots w y n = grind arith
 
 -- ---- a name that is free
 
@@ -144,9 +139,7 @@ module _ (x : ObjNo) (old name : Name) where
       by true new was same None = none (same_text (folded name) n) (same_text (folded old) n)
         where
           none : (a b : Bool) → None ≡ afterwards true a b None None
-          none true b = refl
-          none false true = refl
-          none false false = refl
+          none a b = grind arith
       by false new was same None = refl
       by true new was same (Some r) = refl
       by false new was same (Some r) = refl
@@ -155,10 +148,9 @@ module _ (p : ObjNo) (w v : World) (alike : SameButGuarded p w v) (wf : IsWellFo
     (own : (y : ObjNo) (t : Slot) → is_among x (chain w y) ≡ true → slot_of w y (folded old) ≡ Some t → t.definer ≡ x) (shown : (y : ObjNo) → is_among x (chain w y) ≡ true → slot_of v y (folded old) ≡ slot_of w y (folded old)) where
   comes_named : (y : ObjNo) (n : Name) (under new was : Bool) → is_among x (chain w y) ≡ under → same_text (folded name) n ≡ new
       → Comes p w v alike n (afterwards x old name under new was (slot_of w y (folded old)) (slot_of w y n)) (afterwards x old name under new was (slot_of v y (folded old)) (slot_of v y n))
-  comes_named y n false new was e f = as_it_was p w v alike n y _ _ refl refl
   comes_named y n true true was e f = made (shown y e) (λ t g z u h d. not_defined w wf x name s xo free z u (ap (slot_of w z) ((same_text-Decides (folded name) n).0 f) ∙ h) (d ∙ own y t e g))
   comes_named y n true false true e f = gone refl refl
-  comes_named y n true false false e f = as_it_was p w v alike n y _ _ refl refl
+  comes_named y n under new was e f = as_it_was p w v alike n y _ _ refl refl
 
   named_slots : (y : ObjNo) (n : Name) → Comes p w v alike n (slot_of (property_renamed w x old name) y n) (slot_of (property_renamed v x old name) y n)
   named_slots y n =

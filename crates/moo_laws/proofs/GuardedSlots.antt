@@ -18,8 +18,7 @@ module _ (p : ObjNo) (w v : World) (alike : SameButGuarded p w v) where
   as_it_was n y a b e f = from y (λ s. s) (e ∙ itself (slot_of w y n)) (f ∙ itself (slot_of v y n)) (λ s. refl) (λ s t h. h) (λ s h shut. shut)
     where
       itself : (o : Option Slot) → o ≡ option_map (λ s. s) o
-      itself None = refl
-      itself (Some s) = refl
+      itself o = grind arith
 
   mapped : (g : Slot → Slot) (o : Option Slot) (s : Slot) → option_map g o ≡ Some s → (t : Slot) × (o ≡ Some t) × (g t ≡ s)
   mapped g None s e = absurd (none-some s e)

@@ -1,5 +1,5 @@
 -- A guarded value, and a petition of somebody else, may be any.
-use Rattle.moo_world.{proofs.Lemmas.{◌≡◌, Bool, true, false, cond, ◌&&◌, refl, sym, ap, subst, ◌∙◌, ◌⊎◌, inl, inr, Option, Some, None, is_some, if◌then◌else◌, option_map, option_and_then, and_parts, same_Some, get, insert, get-insert, ObjNo, Value, Clear, PetitionId, PetitionRow, petition_cmp, petition_total, petition_exact, Name, same_object, same_text, folded, same_object-Decides, same_object-self, same_text-Decides, State, World, Slot, slot_of, same_links}, proofs.Form.Slots.{slot_changed}, proofs.Shown.MapLaws.{key-Decides}}
+use Rattle.moo_world.{proofs.Lemmas.{◌≡◌, Bool, true, false, cond, ◌&&◌, refl, sym, ap, subst, ◌∙◌, ◌⊎◌, inl, inr, Option, Some, None, is_some, if◌then◌else◌, option_map, option_and_then, and_parts, same_Some, get, insert, get-insert, ObjNo, Value, Clear, PetitionId, PetitionRow, petition_cmp, petition_total, petition_exact, Name, same_object, same_text, folded, same_object-Decides, same_object-self, same_text-Decides, State, World, Slot, slot_of, same_links, arith}, proofs.Form.Slots.{slot_changed}, proofs.Shown.MapLaws.{key-Decides}}
 use Rattle.std.specs.Ordering.{eq_by_cmp}
 use Rattle.moo_world.specs.Changes.{value_set}
 use Rattle.moo_rows.specs.declared.row.SlotState.TheVariants.{Set as a_value}
@@ -15,9 +15,7 @@ module _ (p : ObjNo) (w : World) (x : ObjNo) (n : Name) (slot : Slot) (value : V
   emptied_same y m = ap (option_map emptied_slot) (slot_changed w x n change y m) ∙ by (same_object x y && same_text (folded n) m) (slot_of w y m)
     where
       by : (b : Bool) (o : Option Slot) → option_map emptied_slot (if b then option_map change o else o) ≡ option_map emptied_slot o
-      by false o = refl
-      by true None = refl
-      by true (Some s) = refl
+      by b o = grind arith
 
   same_or_guarded : (y : ObjNo) (m : Name) (s : Slot) → slot_of w y m ≡ Some s → (slot_of (value_set w x n value) y m ≡ Some s) ⊎ IsGuarded w p s.definer m
   same_or_guarded y m s e = by (same_object x y && same_text (folded n) m) refl

@@ -13,8 +13,8 @@ bare_changed : (w : World) (x : ObjNo) (c : WorldObject → WorldObject) → ((r
 bare_changed w x c h = λ i. record w { object = λ y. by (same_object x y) (w.object y) i }
   where
     by : (b : Bool) (o : Option WorldObject) → option_map bare (option_map (λ r. if b then c r else r) o) ≡ option_map (λ r. if b then c r else r) (option_map bare o)
-    by b None = refl
     by true (Some r) = ap Some (h r)
+    by b None = refl
     by false (Some r) = refl
 
 pub both_changed : (w v : World) (x : ObjNo) (c : WorldObject → WorldObject) → SameButSlots w v → ((r : WorldObject) → bare (c r) ≡ c (bare r)) → SameButSlots (object_changed w x c) (object_changed v x c)
@@ -24,8 +24,8 @@ slots_stay : (w : World) (x : ObjNo) (c : WorldObject → WorldObject) → ((r :
 slots_stay w x c h y n = by (same_object x y) (w.object y)
   where
     by : (b : Bool) (o : Option WorldObject) → option_and_then (λ (r : WorldObject). r.slot n) (option_map (λ r. if b then c r else r) o) ≡ option_and_then (λ (r : WorldObject). r.slot n) o
-    by b None = refl
     by true (Some r) = ap (λ f. f n) (h r)
+    by b None = refl
     by false (Some r) = refl
 
 module _ (p : ObjNo) (w v : World) (alike : SameButGuarded p w v) where
@@ -45,8 +45,7 @@ module _ (p : ObjNo) (w v : World) (alike : SameButGuarded p w v) where
   both_added x entry = one w ∙ ap (λ k. object_added k x (bare entry)) alike.rest ∙ sym (one v)
     where
       by : (b : Bool) (o : Option WorldObject) → option_map bare (if b then Some entry else o) ≡ (if b then Some (bare entry) else option_map bare o)
-      by true o = refl
-      by false o = refl
+      by b o = grind arith
 
       one : (k : World) → without_slots (object_added k x entry) ≡ object_added (without_slots k) x (bare entry)
       one k = λ i. record k { object = λ y. by (same_object x y) (k.object y) i; top = x.0 }
@@ -58,9 +57,7 @@ module _ (p : ObjNo) (w v : World) (alike : SameButGuarded p w v) where
       taken q k = record k { object = λ y. if same_object x y then None else option_map (released x q) (k.object y) }
 
       by : (q : ObjNo) (b : Bool) (o : Option WorldObject) → option_map bare (if b then None else option_map (released x q) o) ≡ (if b then None else option_map (released x q) (option_map bare o))
-      by q true o = refl
-      by q false None = refl
-      by q false (Some r) = refl
+      by q b o = grind arith
 
       one : (k : World) → without_slots (object_removed k x) ≡ taken (unwrap_or (parent_of k x) nothing) (without_slots k)
       one k = λ i. record k { object = λ y. by (unwrap_or (parent_of k x) nothing) (same_object x y) (k.object y) i }
@@ -82,8 +79,7 @@ module _ (p : ObjNo) (w v : World) (alike : SameButGuarded p w v) where
       by None e None h = bothnone (slot_of v y quota_name) (alike.slots y quota_name ∙ ap (option_map emptied_slot) e)
         where
           bothnone : (o : Option Slot) → option_map emptied_slot o ≡ None → o ≡ None
-          bothnone None h = refl
-          bothnone (Some t) h = absurd (none-some (emptied_slot t) (sym h))
+          bothnone o h = grind arith
 
   quota_along : (l : List ObjNo) → read_along v quota_name l ≡ read_along w quota_name l
   quota_along [] = refl

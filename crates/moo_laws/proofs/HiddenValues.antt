@@ -1,5 +1,6 @@
 -- A value that a programmer may not read may be any.
 use Rattle.moo_world.{proofs.Lemmas.{◌≡◌, Bool, true, false, ◌||◌, List, [], ◌∷◌, arith, refl, sym, ap, ◌∙◌, Option, Some, None, is_some, if◌then◌else◌, option_map, both_ways, false≢true, same_Some, ObjNo, Value, Name, same_object, same_text, same_text-Decides, folded, is_among, World, WorldObject, Slot, IsWellFormed, is_object, slot_of, chain, same_links, slotted, chain-step, read_in, read_along}, proofs.Form.Slots.{slot_changed}, proofs.Ownership.Created.{chains_same}}
+use Rattle.std.proofs.lemmas.Bool.{false_from_ne_true}
 use Rattle.moo_world.specs.Changes.{value_set}
 use Rattle.moo_world.specs.PropertyCalls.{is_clear}
 use Rattle.moo_world.specs.Rights.{may_read_slot}
@@ -30,9 +31,7 @@ module _ (w : World) (wf : IsWellFormed w) (p x : ObjNo) (n : Name) (value : Val
   emptied_same y m = ap (option_map emptied_slot) (changed y m) ∙ by (same_object x y && same_text (folded n) m) (slot_of w y m)
     where
       by : (b : Bool) (o : Option Slot) → option_map emptied_slot (if b then option_map change o else o) ≡ option_map emptied_slot o
-      by false o = refl
-      by true None = refl
-      by true (Some slot) = refl
+      by b o = grind arith
 
   same_slot : (y : ObjNo) (m : Name) → (same_object x y && same_text (folded n) m) ≡ false → slot_of next y m ≡ slot_of w y m
   same_slot y m e = changed y m ∙ ap (λ b. if b then option_map change (slot_of w y m) else slot_of w y m) e
@@ -42,11 +41,7 @@ module _ (w : World) (wf : IsWellFormed w) (p x : ObjNo) (n : Name) (value : Val
   along (y ∷ objects) m h = λ i. read_in (same_slot y m (apart (same_object x y) (is_among x objects) (same_text (folded n) m) h) i) (along objects m (λ e. later (same_object x y) (is_among x objects) (h e)) i)
 
   outside : (y : ObjNo) (m : Name) (a : Slot) → slot_of w y m ≡ Some a → may_read_slot w p a ≡ true → same_text (folded n) m ≡ true → is_among x (chain w y) ≡ false
-  outside y m a e may named = by (is_among x (chain w y)) refl
-    where
-      by : (b : Bool) → is_among x (chain w y) ≡ b → is_among x (chain w y) ≡ false
-      by false out = out
-      by true inside = absurd (both_ways (may_read_slot w p a) (hidden y a inside (ap (slot_of w y) ((same_text-Decides (folded n) m).0 named) ∙ e)) may)
+  outside y m a e may named = false_from_ne_true (is_among x (chain w y)) (λ inside. both_ways (may_read_slot w p a) (hidden y a inside (ap (slot_of w y) ((same_text-Decides (folded n) m).0 named) ∙ e)) may)
 
   not_itself : (y : ObjNo) → is_object w y ≡ true → is_among x (chain w y) ≡ false → same_object x y ≡ false
   not_itself y there out = by (w.object y) refl

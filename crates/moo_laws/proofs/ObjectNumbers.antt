@@ -1,6 +1,6 @@
 -- No call gives the number of an object again.
-use Rattle.moo_world.{proofs.Lemmas.{◌≡◌, Bool, true, false, List, arith, ints, refl, sym, subst, ◌∙◌, ap, Option, Some, None, ℤ, pos, negsuc, ◌+ℤ◌, ◌≤ℤ◌, is_some, if◌then◌else◌, option_map, unwrap_or, ObjNo, Value, VerbRow, plain_object, Name, nothing, same_object, same_object-Decides, Done, World, WorldObject, Slot, is_object, parent_of, owner_of, SameButSlots-rebuilt, objects_same, Holds, on_check, on_failed, of_done, named_call, world_call}, proofs.Form.Passing.{each_check}, specs.declared.name.CallName.{CallName}, specs.declared.call.Call.{Call}, specs.declared.change.Change.{Change}}
-use Rattle.moo_world.specs.declared.name.CallName.TheVariants.{Set, Valid, Parent, Children, IsPlayer, Players, MaxObject, Get, Properties, PropertyInfo, IsClearProperty, Verbs, VerbInfo, VerbArgs, AcceptList, Create, Chparent, Recycle, Move, SetPlayerFlag, AddProperty, DeleteProperty, SetPropertyInfo, ClearProperty, AddVerb, DeleteVerb, SetVerbInfo, SetVerbArgs, SetAccept, Petition, Petitions, Grant, Decline}
+use Rattle.moo_world.{proofs.Lemmas.{◌≡◌, false≢true, Bool, true, false, List, arith, ints, refl, sym, subst, ◌∙◌, ap, Option, Some, None, ℤ, pos, negsuc, ◌+ℤ◌, ◌≤ℤ◌, is_some, if◌then◌else◌, option_map, unwrap_or, ObjNo, Value, VerbRow, plain_object, Name, nothing, same_object, same_object-Decides, Done, World, WorldObject, Slot, is_object, parent_of, owner_of, SameButSlots-rebuilt, objects_same, Holds, on_check, of_done, named_call, world_call}, proofs.Form.Passing.{each_check}, specs.declared.name.CallName.{CallName}, specs.declared.call.Call.{Call}, specs.declared.change.Change.{Change}}
+use Rattle.moo_world.specs.declared.name.CallName.TheVariants.{Set, Create, Chparent, Recycle, Move, SetPlayerFlag, AddProperty, DeleteProperty, SetPropertyInfo, ClearProperty, AddVerb, DeleteVerb, SetVerbInfo, SetVerbArgs, SetAccept}
 use Rattle.moo_world.specs.World.{rebuilt, object_changed, with_parent, reparented}
 use Rattle.moo_world.specs.Creation.{next_object, owner_or_self, object_added, created}
 use Rattle.moo_world.specs.Recycling.{released, object_removed, recycled}
@@ -31,8 +31,7 @@ none_again_joins a b c f g = record {
 }
 
 same_some : (f : WorldObject → WorldObject) (o : Option WorldObject) → is_some (option_map f o) ≡ is_some o
-same_some f None = refl
-same_some f (Some r) = refl
+same_some f o = grind arith
 
 -- a world of the same number, with no other objects
 alike : (w next : World) → next.top ≡ w.top → ((y : ObjNo) → is_object next y ≡ is_object w y) → KeepsObjectNumbers w next
@@ -97,10 +96,7 @@ module _ (w : World) where
     where
       by : (y : ObjNo) → y.0 ≤ℤ w.top → (b : Bool) → same_object x y ≡ b → is_some (if b then Some (plain_object q owner) else w.object y) ≡ true → is_object w y ≡ true
       by y below false e is = is
-      by y below true e is = absurd (both (above y.0 w.top (sym (ap (λ (z : ObjNo). z.0) ((same_object-Decides x y).0 e)) ∙ next_is x is_next) below))
-        where
-          both : false ≡ true → ⊥
-          both h = absurd cc
+      by y below true e is = absurd (false≢true (above y.0 w.top (sym (ap (λ (z : ObjNo). z.0) ((same_object-Decides x y).0 e)) ∙ next_is x is_next) below))
 
   made : (x q owner : ObjNo) → next_object w ≡ Some x → Passes (charged (created w x q (owner_or_self x owner)) owner)
   made x q owner is_next = by_charge (created w x q (owner_or_self x owner)) owner (on_rebuilt w (object_added w x (plain_object q (owner_or_self x owner))) w q (added x q (owner_or_self x owner) is_next))
@@ -155,20 +151,6 @@ module _ (w : World) where
   -- ---- by name
 
   named : (p : ObjNo) (values : List Value) (name : CallName) → Holds (λ v next. KeepsObjectNumbers w next) (named_call w p name values)
-  named p values Valid = search (each_check, same)
-  named p values Parent = search (each_check, same)
-  named p values Children = search (each_check, same)
-  named p values IsPlayer = search (each_check, same)
-  named p values Players = search (each_check, same)
-  named p values MaxObject = search (each_check, same)
-  named p values Get = search (each_check, same) depth 9
-  named p values Properties = search (each_check, same) depth 9
-  named p values PropertyInfo = search (each_check, same) depth 9
-  named p values IsClearProperty = search (each_check, same) depth 9
-  named p values Verbs = search (each_check, same) depth 9
-  named p values VerbInfo = search (each_check, same) depth 9
-  named p values VerbArgs = search (each_check, same) depth 9
-  named p values AcceptList = search (each_check, same)
   named p values Create = search (each_check, made) depth 12
   named p values Chparent = search (each_check, moved_under) depth 12
   named p values Recycle = search (each_check, gone) depth 12
@@ -184,10 +166,7 @@ module _ (w : World) where
   named p values SetVerbInfo = search (each_check, with_verb_info) depth 15
   named p values SetVerbArgs = search (each_check, with_verb_args) depth 12
   named p values SetAccept = search (each_check, with_field) depth 12
-  named p values Petition = on_failed _ _
-  named p values Petitions = on_failed _ _
-  named p values Grant = on_failed _ _
-  named p values Decline = on_failed _ _
+  named p values name = search (each_check, same) depth 9
 
 pub none_again : (w next : World) (p : ObjNo) (call : Call) (v : Value) → world_call w p call ≡ Done v next → KeepsObjectNumbers w next
 unfolding world_call

@@ -1,5 +1,6 @@
 -- What each call of who isn't a wizard makes of a quota that wizards keep.
 use Rattle.moo_world.{proofs.Lemmas.{◌≡◌, ◌≤◌, ℕ, ℤ, pos, negsuc, ◌+ℤ◌, int_lt, Bool, true, false, ◌||◌, arith, refl, sym, ap, subst, ◌∙◌, inl, inr, Option, Some, None, is_some, unwrap_or, if◌then◌else◌, option_map, option_and_then, both_ways, or_cases, none-some, ObjNo, ObjRow, Int, Set, Clear, SlotState, nothing, same_object, same_object-Decides, same_object-self, same_text-Decides, World, WorldObject, Slot, IsWellFormed, is_object, owner_of, slot_of, chain, chain-step, read_in, read_along, is_wizard, controls, may_be_parent, may_make_owner, quota_name, quota_in, quota_of, quota_changed, set_slot, charged, quota_returned, created, owner_or_self, next_object, recycled, object_changed, slotted, nothing_is_no_object, object_numbered}, proofs.Ownership.Created.{formed}, proofs.Ownership.Counted.{parent_known}, proofs.Inheritance.Insertion.{some_record}}
+use Rattle.std.proofs.lemmas.Bool.{false_from_ne_true}
 use Rattle.std.proofs.Math.IntN.{+ℤ_assoc}
 use Rattle.moo_world.proofs.Inheritance.Recycling.{IsWellFormed-recycled as recycled_formed}
 use Rattle.moo_laws.specs.KeptQuotas.{HasKeptQuota}
@@ -27,8 +28,7 @@ module _ (v : World) (o : ObjNo) (more : ℤ) where
   slot_beside y e = by (quota_of v o)
     where
       same : (k : Option WorldObject) → option_and_then (λ (r : WorldObject). r.slot quota_name) (option_map (λ r. r) k) ≡ option_and_then (λ (r : WorldObject). r.slot quota_name) k
-      same None = refl
-      same (Some r) = refl
+      same k = grind arith
 
       by : (q : Option ℤ) → slot_of (elim q [ None ↦ v | Some had ↦ object_changed v o (set_slot quota_name (Set (Int (had +ℤ more)))) ]) y quota_name ≡ slot_of v y quota_name
       by None = refl
@@ -76,8 +76,7 @@ module _ (w : World) (p owner : ObjNo) (quota : ℤ) (wf : IsWellFormed w) (po :
   still_own next same = same.slots owner hangs_itself ∙ kept.set.1
 
   none_at : (b : Bool) → ◌≡◌ {A = ℕ} (if b then 0 else 0) 0
-  none_at true = refl
-  none_at false = refl
+  none_at b = grind arith
 
   pub plain : (next : World) → Same w p owner quota wf po none kept next → Effect 0 0 next
   plain next same = record {
@@ -158,11 +157,7 @@ module _ (w : World) (p owner : ObjNo) (quota : ℤ) (wf : IsWellFormed w) (po :
   no_other b e = elim (or_cases b (is_wizard w p) e) [ inl f ↦ f | inr f ↦ absurd (both_ways (is_wizard w p) none f) ]
 
   something : same_object nothing p ≡ false
-  something = by (same_object nothing p) refl
-    where
-      by : (b : Bool) → same_object nothing p ≡ b → b ≡ false
-      by false e = refl
-      by true e = absurd (both_ways (is_object w nothing) (nothing_is_no_object w wf.tree) (ap (is_object w) ((same_object-Decides nothing p).0 e) ∙ po))
+  something = false_from_ne_true (same_object nothing p) (λ e. both_ways (is_object w nothing) (nothing_is_no_object w wf.tree) (ap (is_object w) ((same_object-Decides nothing p).0 e) ∙ po))
 
   pub made : (x q o : ObjNo) → may_be_parent w p q ≡ true → may_make_owner w p o ≡ true → next_object w ≡ Some x → Effect 1 0 (charged (created w x q (owner_or_self x o)) o)
   made x q o parent mine is_next =

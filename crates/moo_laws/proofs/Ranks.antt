@@ -1,6 +1,7 @@
 -- Over calls, batches and lists of batches of who isn't a wizard nobody rises.
-use Rattle.moo_world.{proofs.Lemmas.{◌≡◌, Bool, true, false, List, [], ◌∷◌, arith, refl, sym, subst, ◌∙◌, Option, Some, None, is_some, if◌then◌else◌, option_and_then, both_ways, false≢true, none-some, nat_lt, list_all, and_parts, ObjNo, ObjRow, Value, Name, same_object, same_object-Decides, Outcome, Done, Failed, Full, KeepsOwnership, IsFormed, in_world, petition_call, is_wizard, row_passes, option_map, unwrap_or, World, WorldObject, Slot, IsWellFormed, is_object, slot_of, State, same_owner, arguments_fit, new_property_info, name_by, name_after}, proofs.Form.Calls.{no_wizard_keeps_ownership}, proofs.Form.Petitions.{requests_keep_form}, proofs.Form.Runs.{runs_keep_form}, proofs.Ownership.Petitions.{petitions_leave_the_world}, proofs.Batches.Requested.{request_steps}, specs.declared.call.Call.{Call}, specs.declared.call.Batch.{Batch}, specs.declared.name.CallName.{CallName}, specs.declared.name.CallName.TheVariants.{SetPropertyInfo}}
-use Rattle.moo_world.specs.Judge.{Ran, Through, FailedAt, FullAt, Verdict, Accepted, Refused, NoRoom, Stale, after_one, run_calls, is_due, last_seq, verdict_of, judge, left_by, after, is_accepted, state_of}
+use Rattle.moo_world.{proofs.Lemmas.{◌≡◌, Bool, true, false, List, [], ◌∷◌, arith, refl, sym, subst, ◌∙◌, Option, Some, None, is_some, if◌then◌else◌, option_and_then, both_ways, none-some, nat_lt, list_all, and_parts, ObjNo, ObjRow, Value, Name, same_object, same_object-Decides, Outcome, Done, Failed, Full, KeepsOwnership, IsFormed, in_world, petition_call, is_wizard, row_passes, option_map, unwrap_or, World, WorldObject, Slot, IsWellFormed, is_object, slot_of, State, same_owner, arguments_fit, new_property_info, name_by, name_after}, proofs.Form.Calls.{no_wizard_keeps_ownership}, proofs.Form.Petitions.{requests_keep_form}, proofs.Form.Runs.{runs_keep_form}, proofs.Ownership.Petitions.{petitions_leave_the_world}, proofs.Batches.Requested.{request_steps}, specs.declared.call.Call.{Call}, specs.declared.call.Batch.{Batch}, specs.declared.name.CallName.{CallName}, specs.declared.name.CallName.TheVariants.{SetPropertyInfo}}
+use Rattle.std.proofs.lemmas.Bool.{false_from_ne_true}
+use Rattle.moo_world.specs.Judge.{Ran, Through, FailedAt, FullAt, Verdict, Accepted, NoRoom, Stale, after_one, run_calls, is_due, last_seq, verdict_of, judge, left_by, after, is_accepted, state_of}
 use Rattle.moo_world.specs.Requests.{batch_call}
 use Rattle.moo_world.specs.Between.{CallsLead, BatchLeads}
 use Rattle.moo_world.specs.Rows.{IsGood, world_of}
@@ -60,8 +61,7 @@ passes_of_object : (test : ObjRow → Bool) (w : World) (x : ObjNo) → row_pass
 passes_of_object test w x h = by (w.object x) h
   where
     by : (o : Option WorldObject) → unwrap_or (option_map test (option_map (λ (r : WorldObject). r.row) o)) false ≡ true → is_some o ≡ true
-    by None h = h
-    by (Some r) h = refl
+    by o h = grind arith
 
 -- who has a bit had it: an object that was there has its rights, and one that is made has none
 had_it : (test : ObjRow → Bool) (w v : World) (x : ObjNo) → (is_object w x ≡ true → is_object v x ≡ true → row_passes test v x ≡ row_passes test w x) → (is_object w x ≡ false → is_object v x ≡ true → row_passes test v x ≡ false)
@@ -121,8 +121,7 @@ one_call : (s next : State) (p : ObjNo) (call : Call) (v : Value) → IsWellForm
 one_call s next p call v formed none done = by (is_some (petition_call call.name)) refl
   where
     no_petition : (o : Option PetitionCall) → is_some o ≡ false → o ≡ None
-    no_petition None e = refl
-    no_petition (Some c) e = absurd (false≢true (sym e))
+    no_petition o e = grind arith
 
     by : (b : Bool) → is_some (petition_call call.name) ≡ b → Kept s.world next.world (λ x named. slot_behind_call s.world next.world call x named)
     by false e =
@@ -140,28 +139,21 @@ FormedBy s p [] = IsWellFormed s.world
 FormedBy s p (call ∷ calls) = IsWellFormed s.world × ((v : Value) (next : State) → batch_call s p call ≡ Done v next → FormedBy next p calls)
 
 pub still_none : (w v : World) (p : ObjNo) → NobodyRises w v → is_wizard w p ≡ false → is_wizard v p ≡ false
-still_none w v p rises none = by (is_wizard v p) refl
-  where
-    by : (b : Bool) → is_wizard v p ≡ b → is_wizard v p ≡ false
-    by false e = e
-    by true e = absurd (both_ways (is_wizard w p) none (rises.wizards p e))
+still_none w v p rises none = false_from_ne_true (is_wizard v p) (λ e. both_ways (is_wizard w p) none (rises.wizards p e))
 
 -- and who isn't a wizard doesn't become one by a call
 pub none_after : (s next : State) (p : ObjNo) (call : Call) (v : Value) → IsWellFormed s.world → is_wizard s.world p ≡ false → batch_call s p call ≡ Done v next → is_wizard next.world p ≡ false
 none_after s next p call v formed none done = still_none s.world next.world p (one_call s next p call v formed none done).rises none
 
+pub through_end : (vs us : List Value) (s t : State) → Through vs s ≡ Through us t → s ≡ t
+through_end vs us s t h = cc
+
 pub ran_on : (v : Value) (r : Ran) (answers : List Value) (end : State) → after_one v r ≡ Through answers end → (rest : List Value) × (r ≡ Through rest end)
 ran_on v (Through rest s) answers end h = (rest, grind arith)
-ran_on v (FailedAt k e) answers end h = absurd (grind arith)
-ran_on v (FullAt k) answers end h = absurd (grind arith)
+ran_on v r answers end h = absurd (grind arith)
 
 calls_keep : (s : State) (p : ObjNo) (calls : List Call) → FormedBy s p calls → is_wizard s.world p ≡ false → (answers : List Value) (end : State) → run_calls s p calls ≡ Through answers end → Kept s.world end.world (λ x named. slot_behind_calls s p calls x named)
-calls_keep s p [] formed none answers end h = subst (λ (r : Ran). IfThrough r) h (kept_itself s.world)
-  where
-    IfThrough : Ran → Type 0
-    IfThrough (Through answers end) = Kept s.world end.world (λ x named. Some named)
-    IfThrough (FailedAt k e) = Unit {0}
-    IfThrough (FullAt k) = Unit {0}
+calls_keep s p [] formed none answers end h = subst (λ (t : State). Kept s.world t.world (λ x named. Some named)) (through_end [] answers s end h) (kept_itself s.world)
 calls_keep s p (call ∷ calls) formed none answers end h = by (batch_call s p call) refl (λ next. calls_keep next p calls) h
   where
     by : (o : Outcome State) → batch_call s p call ≡ o
@@ -173,8 +165,7 @@ calls_keep s p (call ∷ calls) formed none answers end h = by (batch_call s p c
         let goes = ran_on v (run_calls next p calls) answers end h in
         kept_joins s.world next.world end.world (λ x named. slot_behind_call s.world next.world call x named) (λ x named. slot_behind_calls next p calls x named) formed.0 one
         (rest next (formed.1 v next e) (still_none s.world next.world p one.rises none) goes.0 end goes.1)
-    by (Failed failure) e rest h = absurd (grind arith)
-    by Full e rest h = absurd (grind arith)
+    by o e rest h = absurd (grind arith)
 
 -- ---- batches
 
@@ -185,10 +176,7 @@ accepted_ran s b answers next h = by (is_due b.at s.seq) (nat_lt s.seq last_seq)
     by : (due room : Bool) (r : Ran) → run_calls s b.programmer b.calls ≡ r → (if due then (if room then verdict_of s.seq r else NoRoom 0) else Stale s.seq) ≡ Accepted answers next
         → (end : State) × (run_calls s b.programmer b.calls ≡ Through answers end) × (next.world ≡ end.world)
     by true true (Through got end) e h = (end, grind arith, grind arith)
-    by true true (FailedAt k c) e h = absurd (grind arith)
-    by true true (FullAt k) e h = absurd (grind arith)
-    by true false r e h = absurd (grind arith)
-    by false room r e h = absurd (grind arith)
+    by due room r e h = absurd (grind arith)
 
 one_batch : (s : State) (b : Batch) → (is_accepted (judge s b) ≡ true → FormedBy s b.programmer b.calls) → (is_accepted (judge s b) ≡ true → is_wizard s.world b.programmer ≡ false)
     → Kept s.world (left_by s (judge s b)).world (λ x named. if is_accepted (judge s b) then slot_behind_calls s b.programmer b.calls x named else Some named)
@@ -199,9 +187,7 @@ one_batch s b formed none = by (judge s b) refl (formed) none
     by (Accepted answers next) e formed none =
         let ran = accepted_ran s b answers next e in
         subst (λ (w : World). Kept s.world w (λ x named. slot_behind_calls s b.programmer b.calls x named)) (sym ran.2) (calls_keep s b.programmer b.calls (formed refl) (none refl) answers ran.0 ran.1)
-    by (Refused place code) e formed none = kept_itself s.world
-    by (NoRoom place) e formed none = kept_itself s.world
-    by (Stale number) e formed none = kept_itself s.world
+    by v e formed none = kept_itself s.world
 
 abbrev pub FormedAll : State → List Batch → Type 0
 FormedAll s [] = Unit {0}
