@@ -1,6 +1,7 @@
 -- Properties, kept by a key of their rows: exactly those that have it, after more are kept and some are forgotten.
-use Rattle.moo_memory.{proofs.Words.{◌≡◌, ◌≢◌, Bool, true, false, cond, Option, None, Some, Less, Equal, Greater, Ordering, is_some, refl, sym, ap, ◌∙◌, eq_by_cmp, is_eq, FinMap, get, insert, get-remove, get-insert, PropId, prop_cmp, prop_exact, prop_total, slot_cmp, named_cmp, row_defined, AreOfDefiners, AreByName, tag_of, ⊤}, specs.Forgotten.{AddsAtMost, AreKeysOf, ForgetsKey}, proofs.Keeping.{had-insert, had-removed}}
-use Rattle.std.{specs.Prelude.{◌↔◌, OnErr, OnOk}, specs.FinMap.{remove}, specs.Option.{option_map}, proofs.Common.{Result, Ok, Err, inl, inr, int_eq}, specs.Cmp.{IsTotalOrder, tied_itself}, proofs.lemmas.Bool.{true≢false}, proofs.lemmas.Bool.Decides.{Decides-int_eq}, proofs.lemmas.Map.Lookups.{CmpEqualImpliesEq}, proofs.lemmas.Option.{none-some, same_Some}}
+use Rattle.moo_memory.{proofs.Words.{arith, ◌≡◌, ◌≢◌, Bool, true, false, cond, Option, None, Some, Less, Equal, Greater, Ordering, is_some, refl, sym, ap, ◌∙◌, eq_by_cmp, is_eq, FinMap, get, insert, get-remove, get-insert, PropId, prop_cmp, prop_exact, prop_total, slot_cmp, named_cmp, row_defined, AreOfDefiners, AreByName, tag_of, ⊤}, specs.Forgotten.{AddsAtMost, AreKeysOf, ForgetsKey}, proofs.Keeping.{differs, had-insert, had-removed}}
+use Rattle.std.proofs.lemmas.Bool.{false_from_ne_true}
+use Rattle.std.{specs.Prelude.{◌↔◌, OnErr, OnOk}, specs.FinMap.{remove}, specs.Option.{option_map}, proofs.Common.{Result, Ok, Err, inl, inr, int_eq}, specs.Cmp.{IsTotalOrder}, proofs.lemmas.Bool.{true≢false}, proofs.lemmas.Bool.Decides.{Decides-int_eq}, proofs.lemmas.Map.Lookups.{CmpEqualImpliesEq}, proofs.lemmas.Option.{none-some, same_Some}}
 use Rattle.moo_rows.specs.declared.row.PropRow.{PropRow}
 use Rattle.moo_value.specs.declared.value.ObjNo.{ObjNo}
 
@@ -11,8 +12,7 @@ module _ {K : Type 0} {cmp : K → K → Ordering} (total : IsTotalOrder cmp) (e
   still-inserted m k q h = ap is_some (get-insert total m k tt q) ∙ by (eq_by_cmp cmp q k)
     where
       by : (b : Bool) → is_some (cond b (Some tt) (get m q)) ≡ true
-      by true = refl
-      by false = h
+      by b = grind arith
 
   pub adds-put : {U E : Type 0} (r : Result U E) (old new : FinMap cmp ⊤) (k : K) → OnOk r (new ≡ insert old k tt) → OnErr r (new ≡ old) → AddsAtMost k old new
   adds-put (Ok u) old new k ok err q =
@@ -47,10 +47,6 @@ module _ {K : Type 0} {cmp : K × PropId → K × PropId → Ordering} (old : Fi
 -- ---- rows
 
 module _ {K : Type 0} {cmp : K × PropId → K × PropId → Ordering} (of : PropRow → K) (row_at row_at' : PropId → Option PropRow) (key : PropId) (old : FinMap cmp ⊤) (before : AreKeysOf of row_at old) where
-  -- the row of another key is as before
-  apart : (q : PropId) (o : Ordering) → prop_cmp q key ≡ o → is_eq o ≡ false → q ≢ key
-  apart q o c other same = true≢false (sym (ap is_eq (ap (λ z. prop_cmp z key) same ∙ tied_itself prop_total key)) ∙ ap is_eq c ∙ other)
-
   -- a row is put in the place of another, or taken away: its key is kept, and that of the row before isn't unless it is the same
   keys-changed : (o : Option PropRow) (new : FinMap cmp ⊤)
       → ((k : K) (id : PropId) → id ≢ key → (is_some (get new (k, id)) ≡ true) ↔ (is_some (get old (k, id)) ≡ true))
@@ -63,7 +59,7 @@ module _ {K : Type 0} {cmp : K × PropId → K × PropId → Ordering} (of : Pro
 
       elsewhere : (c : Ordering) (e : prop_cmp id key ≡ c) → is_eq c ≡ false → option_map of (row_at' id) ≡ option_map of (row_at id) → (is_some (get new (k, id)) ≡ true) ↔ (option_map of (row_at' id) ≡ Some k)
       elsewhere c e other same =
-          ((λ h. same ∙ (before k id).0 ((others k id (apart id c e other)).0 h)), λ h. (others k id (apart id c e other)).1 ((before k id).1 (sym same ∙ h)))
+          ((λ h. same ∙ (before k id).0 ((others k id (differs prop_total id key (ap is_eq e ∙ other))).0 h)), λ h. (others k id (differs prop_total id key (ap is_eq e ∙ other))).1 ((before k id).1 (sym same ∙ h)))
 
       by : (c : Ordering) → prop_cmp id key ≡ c → (is_some (get new (k, id)) ≡ true) ↔ (option_map of (row_at' id) ≡ Some k)
       by Equal e =
@@ -112,13 +108,9 @@ keys-define row_at definers keys x id lacks = by (row_at id) refl
   where
     by : (o : Option PropRow) → row_at id ≡ o → row_defined x o ≡ false
     by None is = refl
-    by (Some row) is = own (int_eq row.definer.0 x.0) refl
-      where
-        own : (b : Bool) → int_eq row.definer.0 x.0 ≡ b → b ≡ false
-        own true same =
-            let number = (Decides-int_eq row.definer.0 x.0).0 same in
-            absurd (true≢false (sym ((keys x id).1 (ap (option_map (λ r. r.definer)) is ∙ (λ i. Some (record { 0 = number i })))) ∙ lacks))
-        own false other = refl
+    by (Some row) is = false_from_ne_true (int_eq row.definer.0 x.0) (λ same.
+        let number = (Decides-int_eq row.definer.0 x.0).0 same in
+        true≢false (sym ((keys x id).1 (ap (option_map (λ r. r.definer)) is ∙ (λ i. Some (record { 0 = number i })))) ∙ lacks))
 
 pub keys-name : (row_at : PropId → Option PropRow) (names : FinMap named_cmp ⊤) → AreKeysOf tag_of row_at names → AreByName row_at names
 keys-name row_at names keys id row is = (keys (tag_of row) id).1 (ap (option_map tag_of) is)
@@ -132,8 +124,4 @@ keys-of-nothing of row_at kept rows none k id =
 -- what other properties are kept for stays, in both forms
 pub lost-none : {key : PropId} (old new : FinMap slot_cmp ⊤) → ((x : ObjNo) (id : PropId) → id ≢ key → is_some (get old (x, id)) ≡ true → is_some (get new (x, id)) ≡ true)
     → (x : ObjNo) (id : PropId) → id ≢ key → is_some (get new (x, id)) ≡ false → is_some (get old (x, id)) ≡ false
-lost-none old new stays x id other lacks = by (is_some (get old (x, id))) refl
-  where
-    by : (b : Bool) → is_some (get old (x, id)) ≡ b → b ≡ false
-    by true had = absurd (true≢false (sym (stays x id other had) ∙ lacks))
-    by false had = refl
+lost-none old new stays x id other lacks = false_from_ne_true (is_some (get old (x, id))) (λ had. true≢false (sym (stays x id other had) ∙ lacks))

@@ -1,11 +1,11 @@
 -- The next key of a map with changes over it.
-use Rattle.moo_memory.proofs.Words.{◌≡◌, ◌≢◌, ◌+◌, Bool, true, false, ◌||◌, Option, None, Some, List, [], ◌∷◌, cond, length, Less, Equal, Greater, Ordering, IsSome, IsTrue, unwrap_or, is_some, refl, sym, ap, ◌∙◌, subst, arith, ordering_reverse, match_ordering, lesser, eq_by_cmp, FinMap, get, entries, insert, empty, from_entries, find, get-entries, get-insert, get-remove, same_map, len-entries, len-empty, contents, IsNextAt, IsNext, changed, changed_all, overlaid, row_over, IsNextOfEither}
+use Rattle.moo_memory.proofs.Words.{◌≡◌, ◌≢◌, ◌+◌, Bool, false, ◌||◌, Option, None, Some, List, [], ◌∷◌, cond, length, Less, Equal, Greater, Ordering, IsSome, IsTrue, unwrap_or, is_some, refl, sym, ap, ◌∙◌, subst, arith, ordering_reverse, match_ordering, lesser, eq_by_cmp, FinMap, get, entries, insert, empty, from_entries, find, get-entries, get-insert, get-remove, same_map, len-entries, len-empty, contents, IsNextAt, IsNext, changed, changed_all, overlaid, row_over, IsNextOfEither}
+use Rattle.std.proofs.lemmas.List.{nil_from_length}
 use Rattle.std.{specs.Cmp.{IsTotalOrder}, specs.BTreeMap.{BTreeMap}, proofs.lemmas.Map.Lookups.{CmpEqualImpliesEq}}
 use Rattle.moo_rows.{specs.Walk.{entries_past}, proofs.Walking.{next-step, onward}}
 
 by_or : (b : Bool) → IsTrue (b || false) → IsTrue b
-by_or true h = refl
-by_or false h = h
+by_or b h = grind arith
 
 module _ {K X : Type 0} {cmp : K → K → Ordering} (row_at : K → Option X) (changes : FinMap cmp (Option X)) where
   -- no row where neither has the key
@@ -69,8 +69,7 @@ module _ {K X : Type 0} {cmp : K → K → Ordering} (total : IsTotalOrder cmp) 
       ] refl
 
 unwrapped : {X : Type 0} (b : Bool) (o : Option X) (f : Option (Option X)) (d : Option X) → cond b o (unwrap_or f d) ≡ unwrap_or (cond b (Some o) f) d
-unwrapped true o f d = refl
-unwrapped false o f d = refl
+unwrapped b o f d = grind arith
 
 module _ {K X : Type 0} {cmp : K → K → Ordering} (total : IsTotalOrder cmp) where
   pub get-changed : (base : FinMap cmp X) (key : K) (o : Option X) (q : K) → get (changed base key o) q ≡ cond (eq_by_cmp cmp q key) o (get base q)
@@ -99,13 +98,9 @@ module _ {K X : Type 0} {cmp : K → K → Ordering} (total : IsTotalOrder cmp) 
       ∙ sym (get-changed (overlaid base changes) key o q ∙ ap (cond (eq_by_cmp cmp q key) o) (get-overlaid base changes q)
       ∙ unwrapped (eq_by_cmp cmp q key) o (get changes q) (get base q)))
 
-no_length : {A : Type 0} (es : List A) → length es ≡ 0 → es ≡ []
-no_length [] e = refl
-no_length (x ∷ es) e = absurd (omega arith)
-
 -- no changes
 pub overlaid-empty : {K X : Type 0} {cmp : K → K → Ordering} (base : FinMap cmp X) → overlaid base (empty {R = cmp}) ≡ base
-overlaid-empty {cmp = cmp} base = ap (changed_all base) (no_length (entries empty) (sym (len-entries empty) ∙ len-empty cmp _))
+overlaid-empty {cmp = cmp} base = ap (changed_all base) (nil_from_length (entries empty) (sym (len-entries empty) ∙ len-empty cmp _))
 
 pub overlaid-none : {K X : Type 0} {cmp : K → K → Ordering} (base : FinMap cmp X) (changes : BTreeMap K (Option X)) → changes.entries ≡ [] → overlaid base (contents cmp changes) ≡ base
 overlaid-none base changes e = ap (λ es. overlaid base (from_entries es)) e ∙ overlaid-empty base
