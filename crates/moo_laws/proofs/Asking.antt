@@ -1,5 +1,5 @@
 -- Calls that only read answer the same in worlds that look alike.
-use Rattle.moo_world.{proofs.Lemmas.{◌≡◌, Bool, true, false, List, arith, refl, sym, ap, ◌∙◌, Option, Some, None, is_some, unwrap_or, if◌then◌else◌, option_map, option_and_then, false≢true, filter, map, length, nat_lt, ObjNo, ObjRow, Value, VerbRow, Name, same_object, World, WorldObject, Slot, is_object, SameButSlots, parent_of, slot_of, parents_same, names_same, property_names_of, row_passes, row_of, Outcome, Failed, check, found_or, named_call, world_call, Done, Full}, specs.declared.name.CallName.{CallName}, specs.declared.call.Call.{Call}, specs.declared.descriptor.Desc.{Desc}}
+use Rattle.moo_world.{proofs.Lemmas.{◌≡◌, Bool, true, false, List, arith, refl, sym, ap, ◌∙◌, Option, Some, None, is_some, unwrap_or, if◌then◌else◌, option_map, option_and_then, false≢true, filter, map, length, nat_lt, ObjNo, ObjRow, Value, VerbRow, Name, same_object, World, WorldObject, Slot, is_object, SameButSlots, parent_of, slot_of, parents_same, names_same, property_names_of, row_passes, row_of, Outcome, Failed, check, found_or, named_call, world_call}, specs.declared.name.CallName.{CallName}, specs.declared.call.Call.{Call}, specs.declared.descriptor.Desc.{Desc}}
 use Rattle.moo_world.specs.declared.name.CallName.TheVariants.{Valid, Parent, Children, IsPlayer, Players, MaxObject, Get, Properties, PropertyInfo, IsClearProperty, Verbs, VerbInfo, VerbArgs, AcceptList}
 use Rattle.moo_world.specs.declared.descriptor.Desc.TheVariants.{Index, Name as a_word}
 use Rattle.moo_world.specs.declared.built_in.BuiltIn.{BuiltIn}
@@ -135,10 +135,7 @@ module _ (p : ObjNo) (w v : World) (alike : LookAlike p w v) where
     asked name values h = absurd (false≢true h)
 
 same_answer : (r s : Outcome World) → Both (λ w v. Unit {0}) r s → SameAnswer r s
-same_answer (Done a w) (Done b v) h = h.0
-same_answer (Failed c) (Failed d) h = h
-same_answer Full Full h = tt
-same_answer r s h = absurd h
+same_answer r s e = grind arith
 
 pub questions_tell_no_more : (p : ObjNo) (w v : World) (call : Call) → LookAlike p w v → is_question call.name ≡ true → SameAnswer (world_call w p call) (world_call v p call)
 unfolding world_call

@@ -1,9 +1,8 @@
 -- Calls one after another, and batches, tell the same from two states if each call does.
-use Rattle.moo_world.{proofs.Lemmas.{◌≡◌, Bool, true, false, List, ◌∷◌, ◌+◌, refl, sym, ap, subst, Option, Some, None, if◌then◌else◌, nat_lt, ObjNo, Value, State, Outcome, Done, Failed, Full}, specs.declared.call.Call.{Call}, specs.declared.call.Batch.{Batch}}
+use Rattle.moo_world.{proofs.Lemmas.{arith, ◌≡◌, Bool, List, ◌+◌, refl, Option, Some, None, if◌then◌else◌, ObjNo, Value, State, Outcome, Done, Failed, Full}, specs.declared.call.Call.{Call}, specs.declared.call.Batch.{Batch}}
 use Rattle.std.specs.Prelude.{ℕ}
 use Rattle.moo_world.specs.Outcomes.{Failure}
-use Rattle.moo_world.specs.Reasons.{error_of}
-use Rattle.moo_world.specs.Judge.{Ran, Through, FailedAt, FullAt, Verdict, NoRoom, Stale, after_one, run_calls, is_due, last_seq, verdict_of, judge, left_by}
+use Rattle.moo_world.specs.Judge.{Ran, Through, FailedAt, FullAt, Verdict, NoRoom, Stale, after_one, run_calls, verdict_of, judge, left_by}
 use Rattle.moo_batch.specs.Facts.{state_before_call}
 use Rattle.moo_laws.specs.Agreeing.{SameVerdict}
 use Rattle.moo_laws.proofs.Both.{Both}
@@ -17,10 +16,7 @@ BothRan Q r q = ⊥
 
 module _ (Q : State → State → Type 0) where
   one_more : (a b : Value) (r q : Ran) → b ≡ a → BothRan Q r q → BothRan Q (after_one a r) (after_one b q)
-  one_more a b (Through vs x) (Through us y) e (f, g) = (λ i. e i ∷ f i, g)
-  one_more a b (FailedAt k c) (FailedAt l d) e (f, g) = (ap (λ n. n + 1) f, g)
-  one_more a b (FullAt k) (FullAt l) e f = ap (λ n. n + 1) f
-  one_more a b r q e h = absurd h
+  one_more a b r q e f = grind arith
 
   -- one call, and the others from what it leaves
   pub runs_joined : (p : ObjNo) (calls : List Call) (o q : Outcome State) → Both Q o q → ((v : Value) (x y : State) → o ≡ Done v x → Q x y → BothRan Q (run_calls x p calls) (run_calls y p calls))
@@ -31,10 +27,7 @@ module _ (Q : State → State → Type 0) where
   runs_joined p calls o q same rest = absurd same
 
   pub reason_of_runs : (r q : Ran) → BothRan Q r q → ◌≡◌ {A = Option (ℕ × Failure)} (elim q [ FailedAt k d ↦ Some (k, d) | _ ↦ None ]) (elim r [ FailedAt k d ↦ Some (k, d) | _ ↦ None ])
-  reason_of_runs (Through vs x) (Through us y) h = refl
-  reason_of_runs (FailedAt k c) (FailedAt l d) (e, f) = λ i. Some (e i, f i)
-  reason_of_runs (FullAt k) (FullAt l) h = refl
-  reason_of_runs r q h = absurd h
+  reason_of_runs r q e = grind arith
 
   module _ (s t : State) (alike : Q s t) where
     -- the state on which a call is made
@@ -50,18 +43,11 @@ module _ (Q : State → State → Type 0) where
       Judged v u = SameVerdict v u × Q (left_by s v) (left_by t u)
 
       of_runs : (r q : Ran) → BothRan Q r q → Judged (verdict_of s.seq r) (verdict_of t.seq q)
-      of_runs (Through vs x) (Through us y) (e, left) = (e, counted x y left)
-      of_runs (FailedAt k c) (FailedAt l d) (e, f) = ((e, ap (λ (failure : Failure). error_of failure.reason) f), alike)
-      of_runs (FullAt k) (FullAt l) e = (e, alike)
-      of_runs r q h = absurd h
+      of_runs r q e = grind arith
 
       weighed : (due room : Bool) (r q : Ran) → BothRan Q r q → Judged (if due then (if room then verdict_of s.seq r else NoRoom 0) else Stale s.seq) (if due then (if room then verdict_of t.seq q else NoRoom 0) else Stale t.seq)
-      weighed true true r q h = of_runs r q h
-      weighed true false r q h = (refl, alike)
-      weighed false room r q h = (accepted, alike)
+      weighed due room r q e = grind arith
 
       pub both_judged : (b : Batch) → BothRan Q (run_calls s b.programmer b.calls) (run_calls t b.programmer b.calls) → SameVerdict (judge s b) (judge t b) × Q (left_by s (judge s b)) (left_by t (judge t b))
       unfolding judge
-      both_judged b h =
-          subst (λ n. Judged (if is_due b.at s.seq then (if nat_lt s.seq last_seq then verdict_of s.seq (run_calls s b.programmer b.calls) else NoRoom 0) else Stale s.seq) (if is_due b.at n then (if nat_lt n last_seq then verdict_of t.seq (run_calls t b.programmer b.calls) else NoRoom 0) else Stale t.seq)) (sym accepted)
-          (weighed (is_due b.at s.seq) (nat_lt s.seq last_seq) (run_calls s b.programmer b.calls) (run_calls t b.programmer b.calls) h)
+      both_judged b h = grind arith

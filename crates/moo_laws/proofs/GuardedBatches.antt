@@ -1,5 +1,5 @@
 -- Batches of who isn't a wizard have the same verdicts from states that are alike, and leave such states.
-use Rattle.moo_world.{proofs.Form.Petitions.{requests_keep_form}, proofs.Form.Runs.{runs_keep_form}, proofs.Lemmas.{◌≡◌, true, false, ◌&&◌, List, [], ◌∷◌, ◌+◌, refl, sym, ap, subst, Option, Some, None, list_all, and_parts, ObjNo, same_object, same_object-Decides, State, World, IsFormed, is_object, is_wizard, Outcome, Done, Failed, Full, named_call, in_world, petition_call, petition_call_by, batch_call, arguments_fit}, specs.declared.call.Call.{Call}, specs.declared.call.Batch.{Batch}, specs.declared.name.PetitionCall.{PetitionCall}}
+use Rattle.moo_world.{proofs.Form.Petitions.{requests_keep_form}, proofs.Form.Runs.{runs_keep_form}, proofs.Lemmas.{arith, ◌≡◌, true, false, ◌&&◌, List, [], ◌∷◌, ◌+◌, refl, sym, ap, subst, Option, Some, None, list_all, and_parts, ObjNo, same_object, same_object-Decides, State, World, IsFormed, is_object, is_wizard, Outcome, named_call, in_world, petition_call, petition_call_by, batch_call, arguments_fit}, specs.declared.call.Call.{Call}, specs.declared.call.Batch.{Batch}, specs.declared.name.PetitionCall.{PetitionCall}}
 use Rattle.std.specs.Prelude.{ℕ, zero, suc}
 use Rattle.moo_world.specs.Judge.{run_calls, judge, left_by, after}
 use Rattle.moo_batch.specs.Facts.{state_before_call}
@@ -16,10 +16,7 @@ module _ (p : ObjNo) where
   -- ---- one call
 
   in_both : (s t : State) → AlikeFor p s t → (o q : Outcome World) → Both (SameButGuarded p) o q → Both (AlikeFor p) (in_world s o) (in_world t q)
-  in_both s t alike (Done a x) (Done b y) (same, worlds) = (same, record { worlds = worlds; numbers = alike.numbers; own = alike.own; next = alike.next; accepted = alike.accepted })
-  in_both s t alike (Failed c) (Failed d) same = same
-  in_both s t alike Full Full same = tt
-  in_both s t alike o q same = absurd same
+  in_both s t e o q f = grind arith
 
   step : (s t : State) → IsFormed s → is_wizard s.world p ≡ false → AlikeFor p s t → (call : Call) → Both (AlikeFor p) (batch_call s p call) (batch_call t p call)
   unfolding batch_call
@@ -39,10 +36,7 @@ module _ (p : ObjNo) where
       (λ v x y e left. runs calls x y (requests_keep_form s x p call v formed parts.0 e) (none_after s x p call v formed.world none e) left parts.1)
 
   own_runs : (s t : State) (b : Batch) → IsFormed s → is_wizard s.world p ≡ false → AlikeFor p s t → is_batch_of p b ≡ true → BothRan (AlikeFor p) (run_calls s b.programmer b.calls) (run_calls t b.programmer b.calls)
-  own_runs s t b formed none alike h =
-      let parts = and_parts (same_object b.programmer p) (list_all arguments_fit b.calls) h in
-      let own : b.programmer ≡ p = (same_object-Decides b.programmer p).0 parts.0 in
-      subst (λ x. BothRan (AlikeFor p) (run_calls s x b.calls) (run_calls t x b.calls)) (sym own) (runs b.calls s t formed none alike parts.1)
+  own_runs s t b formed none alike h = grind (arith, and_parts, same_object-Decides, runs)
 
   -- ---- why a batch is refused
 

@@ -4,7 +4,6 @@ use Rattle.moo_world.specs.declared.reason.Reason.{Reason}
 use Rattle.moo_world.specs.Objects.{object_at}
 use Rattle.moo_world.specs.Rows.{numbers_below}
 use Rattle.moo_world.specs.declared.built_in.BuiltIn.{BuiltIn}
-use Rattle.moo_world.specs.declared.built_in.BuiltIn.TheVariants.{Name as NameField, Owner, R, W, F}
 use Rattle.moo_world.specs.declared.change.Change.{Change}
 use Rattle.moo_world.specs.declared.change.Change.TheVariants as to
 use Rattle.moo_laws.specs.Reading.{emptied_slot}
@@ -81,11 +80,7 @@ module _ (p : ObjNo) (w v : World) (rest : SameButSlots w v) where
   -- ---- fields and names
 
   pub settable : (x : ObjNo) (f : BuiltIn) → may_set v p x f ≡ may_set w p x f
-  settable x NameField = λ i. if passing (λ row. row.player) x i then wizards i else controlled x i
-  settable x R = controlled x
-  settable x W = controlled x
-  settable x F = controlled x
-  settable x f = wizards
+  settable x f = grind (arith, passing, wizards, controlled)
 
   pub owner_there : (c : Change) → owner_is_object v c ≡ owner_is_object w c
   owner_there (to.Owner owner) = objects owner
@@ -98,8 +93,7 @@ module _ (p : ObjNo) (w v : World) (rest : SameButSlots w v) where
   defining x n = sym (defines_same w v rest x n)
 
   pub renamable : (x : ObjNo) (n : Name) (new : Option Name) → may_rename v x n new ≡ may_rename w x n new
-  renamable x n None = refl
-  renamable x n (Some new) = λ i. defining x n i && definable x new i
+  renamable x n new = grind (arith, defining, definable)
 
   -- ---- slots
 

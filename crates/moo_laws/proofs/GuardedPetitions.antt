@@ -1,5 +1,5 @@
 -- The calls of petitions of who isn't a wizard tell the same in states that are alike, and leave such states.
-use Rattle.moo_world.{proofs.Lemmas.{◌≡◌, ℤ, pos, negsuc, Bool, true, false, cond, ◌||◌, List, ◌+◌, map, nat_lt, refl, sym, ap, ◌∙◌, Option, Some, None, is_some, if◌then◌else◌, option_map, option_and_then, both_ways, false≢true, get, get-insert, get-remove, list_of, ObjNo, Value, Values, Int, PetitionId, PetitionRow, petition_cmp, petition_total, petition_id, are_few, are_shallow, are_on_world, is_named, asked, without, Outcome, Done, check, found_or, same_object, State, is_wizard, petition_call_by, one_list, one_integer, no_values, list_all, spread, arith}, specs.declared.name.PetitionCall.{PetitionCall}}
+use Rattle.moo_world.{proofs.Lemmas.{◌≡◌, ℤ, pos, negsuc, Bool, false, cond, ◌||◌, List, ◌+◌, map, nat_lt, refl, sym, ap, ◌∙◌, Option, Some, None, is_some, if◌then◌else◌, option_map, option_and_then, both_ways, false≢true, get, get-insert, get-remove, list_of, ObjNo, Value, Values, Int, PetitionId, PetitionRow, petition_cmp, petition_total, petition_id, are_few, are_shallow, are_on_world, is_named, asked, without, Outcome, Done, check, found_or, same_object, State, is_wizard, petition_call_by, one_list, one_integer, no_values, list_all, spread, arith}, specs.declared.name.PetitionCall.{PetitionCall}}
 use Rattle.std.specs.Ordering.{eq_by_cmp}
 use Rattle.moo_world.specs.Answers.{zero}
 use Rattle.moo_world.specs.Outcomes.{fails}

@@ -28,10 +28,7 @@ module _ (w : World) (wf : IsWellFormed w) (p x : ObjNo) (n : Name) (value : Val
   changed y m = slot_changed w x n change y m
 
   emptied_same : (y : ObjNo) (m : Name) → option_map emptied_slot (slot_of next y m) ≡ option_map emptied_slot (slot_of w y m)
-  emptied_same y m = ap (option_map emptied_slot) (changed y m) ∙ by (same_object x y && same_text (folded n) m) (slot_of w y m)
-    where
-      by : (b : Bool) (o : Option Slot) → option_map emptied_slot (if b then option_map change o else o) ≡ option_map emptied_slot o
-      by b o = grind arith
+  emptied_same y m = grind arith
 
   same_slot : (y : ObjNo) (m : Name) → (same_object x y && same_text (folded n) m) ≡ false → slot_of next y m ≡ slot_of w y m
   same_slot y m e = changed y m ∙ ap (λ b. if b then option_map change (slot_of w y m) else slot_of w y m) e
@@ -51,10 +48,7 @@ module _ (w : World) (wf : IsWellFormed w) (p x : ObjNo) (n : Name) (value : Val
       by (Some r) e = earlier (same_object x y) (is_among x (chain w r.row.parent)) (sym (ap (is_among x) (chain-step w wf.tree y r e)) ∙ out)
 
   apart_here : (y : ObjNo) (m : Name) (a : Slot) → slot_of w y m ≡ Some a → may_read_slot w p a ≡ true → (same_object x y && same_text (folded n) m) ≡ false
-  apart_here y m a e may = apart (same_object x y) false (same_text (folded n) m) (λ named. or_false (same_object x y) (not_itself y (slotted w y m a e) (outside y m a e may named)))
-    where
-      or_false : (b : Bool) → b ≡ false → (b || false) ≡ false
-      or_false b e = grind arith
+  apart_here y m a e may = grind (arith, apart, same_text, not_itself, slotted, outside)
 
   pub hidden_look_alike : LookAlike p w next
   hidden_look_alike = record {

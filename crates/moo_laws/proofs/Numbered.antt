@@ -1,20 +1,15 @@
 -- Over calls, batches and lists of batches no number of an object is given again.
-use Rattle.moo_world.{proofs.Lemmas.{◌≡◌, List, [], ◌∷◌, arith, refl, subst, Option, Some, None, nat_lt, if◌then◌else◌, ObjNo, Value, Outcome, Done, Failed, Full, State, World, held_call, held_step, held_steps, world_call, Led, of_done, request_leaves}, specs.declared.call.Call.{Call}, specs.declared.call.Batch.{Batch}}
+use Rattle.moo_world.{proofs.Lemmas.{◌≡◌, List, [], ◌∷◌, arith, refl, subst, nat_lt, if◌then◌else◌, ObjNo, Value, Outcome, Done, Failed, Full, State, World, held_step, held_steps, Led, of_done, request_leaves}, specs.declared.call.Call.{Call}, specs.declared.call.Batch.{Batch}}
 use Rattle.moo_world.specs.Judge.{Ran, Through, FailedAt, FullAt, NoRoom, Stale, after_one, run_calls, is_due, last_seq, verdict_of, judge, left_by, after}
 use Rattle.moo_world.specs.Requests.{batch_call}
-use Rattle.moo_world.specs.Outcomes.{fails, in_petition}
-use Rattle.moo_world.specs.declared.reason.Reason.TheVariants.{Unasked}
-use Rattle.std.specs.Prelude.{ℕ, ◌+◌, Bool, true}
+use Rattle.moo_world.specs.Outcomes.{in_petition}
+use Rattle.std.specs.Prelude.{ℕ, ◌+◌, Bool}
 use Rattle.moo_laws.specs.ObjectNumbers.{KeepsObjectNumbers}
 use Rattle.moo_laws.proofs.ObjectNumbers.{none_again, none_again_itself, none_again_joins}
 
 -- a call that a petition holds
 one_held : (w mid : World) (p : ObjNo) (held : Value) (a : Value) → held_step w p held ≡ Done a mid → KeepsObjectNumbers w mid
-one_held w mid p held a e = by (held_call held) e
-  where
-    by : (o : Option Call) → (elim o [ None ↦ fails Unasked | Some call ↦ world_call w p call ]) ≡ Done a mid → KeepsObjectNumbers w mid
-    by None e = absurd (grind arith)
-    by (Some call) e = none_again w mid p call a e
+one_held w mid p held a e = grind (arith, none_again)
 
 -- all of them
 held_again : (place : ℕ) (w next : World) (p : ObjNo) (helds : List Value) (v : Value) → held_steps place w p helds ≡ Done v next → KeepsObjectNumbers w next
@@ -48,8 +43,7 @@ LeavesNumbers w (Through answers s) = KeepsObjectNumbers w s.world
 LeavesNumbers w r = Unit {0}
 
 one_more : (w mid : World) (v : Value) (r : Ran) → KeepsObjectNumbers w mid → LeavesNumbers mid r → LeavesNumbers w (after_one v r)
-one_more w mid v (Through answers s) one h = none_again_joins w mid s.world one h
-one_more w mid v r one h = tt
+one_more w mid v r e f = grind arith
 
 calls_again : (s : State) (p : ObjNo) (calls : List Call) → LeavesNumbers s.world (run_calls s p calls)
 calls_again s p [] = none_again_itself s.world
@@ -64,8 +58,7 @@ unfolding judge
 batch_again s b = by (is_due b.at s.seq) (nat_lt s.seq last_seq) (run_calls s b.programmer b.calls) (calls_again s b.programmer b.calls)
   where
     by : (due room : Bool) (r : Ran) → LeavesNumbers s.world r → KeepsObjectNumbers s.world (left_by s (if due then (if room then verdict_of s.seq r else NoRoom 0) else Stale s.seq)).world
-    by true true (Through answers end) h = h
-    by due room r h = none_again_itself s.world
+    by due room r e = grind arith
 
 pub object_numbers_stay : (s : State) (bs : List Batch) → KeepsObjectNumbers s.world (after s bs).world
 object_numbers_stay s [] = none_again_itself s.world

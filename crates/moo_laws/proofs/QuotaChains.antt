@@ -1,5 +1,5 @@
 -- What who isn't a wizard may not change of a quota that wizards keep, and of the objects that it hangs on.
-use Rattle.moo_world.{proofs.Lemmas.{◌≡◌, ℤ, Bool, true, false, ◌||◌, List, [], ◌∷◌, arith, refl, sym, ap, ◌∙◌, Option, Some, None, unwrap_or, option_map, both_ways, or_right, false≢true, ObjNo, ObjRow, nothing, same_object, same_object-Decides, same_object-self, is_among, World, WorldObject, Slot, IsWellFormed, IsTree, Climbs, is_object, parent_of, owner_of, slot_of, chain, chain_is, Chain, Chain-chain, is_wizard, controls, may_write_object, may_write_slot, quota_name, slotted}}
+use Rattle.moo_world.{proofs.Lemmas.{◌≡◌, ℤ, Bool, true, false, ◌||◌, List, [], ◌∷◌, arith, refl, sym, ap, ◌∙◌, Option, Some, option_map, both_ways, or_right, false≢true, ObjNo, same_object, same_object-Decides, same_object-self, is_among, World, WorldObject, Slot, IsWellFormed, IsTree, Climbs, is_object, parent_of, slot_of, chain, chain_is, Chain, Chain-chain, is_wizard, controls, may_write_object, may_write_slot, quota_name, slotted}}
 use Rattle.std.proofs.lemmas.Bool.{false_from_ne_true}
 use Rattle.moo_laws.specs.KeptQuotas.{IsWizardOrGone, HasKeptQuota}
 
@@ -33,17 +33,10 @@ module _ (w : World) (p owner : ObjNo) (quota : ℤ) (wf : IsWellFormed w) (po :
   own_chain = Chain-chain w wf.tree owner owner_there
 
   not_mine : (who : ObjNo) → IsWizardOrGone w who → same_object p who ≡ false
-  not_mine who g = false_from_ne_true (same_object p who) (λ e.
-      let same : p ≡ who = (same_object-Decides p who).0 e in both_ways (is_wizard w p) none (ap (is_wizard w) same ∙ g.1 (ap (is_object w) (sym same) ∙ po)))
+  not_mine who g = grind (arith, false_from_ne_true, same_object-Decides, both_ways)
 
   uncontrolled : (x : ObjNo) → hangs x ≡ true → controls w p x ≡ false
-  uncontrolled x h = by (w.object x) refl
-    where
-      by : (o : Option WorldObject) → w.object x ≡ o → controls w p x ≡ false
-      by None e = ap (λ (k : Option WorldObject). unwrap_or (option_map (λ (r : ObjRow). same_object p r.owner) (option_map (λ (r : WorldObject). r.row) k)) false || is_wizard w p) e ∙ none
-      by (Some r) e =
-          let mine : same_object p r.row.owner ≡ false = ap (λ (k : Option WorldObject). same_object p (unwrap_or (option_map (λ (r : WorldObject). r.row.owner) k) nothing)) (sym e) ∙ not_mine (owner_of w x) (kept.objects x h).0 in
-          ap (λ (k : Option WorldObject). unwrap_or (option_map (λ (r : ObjRow). same_object p r.owner) (option_map (λ (r : WorldObject). r.row) k)) false || is_wizard w p) e ∙ (λ i. mine i || none i)
+  uncontrolled x h = grind (arith, not_mine)
 
   apart_if : (x : ObjNo) (b : Bool) → b ≡ true → (hangs x ≡ true → b ≡ false) → hangs x ≡ false
   apart_if x b e h = false_from_ne_true (hangs x) (λ f. both_ways b (h f) e)

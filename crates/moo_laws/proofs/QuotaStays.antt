@@ -1,9 +1,8 @@
 -- What a change by who isn't a wizard leaves as it was of the objects that a kept quota hangs on, and of the slots of the quota on them.
-use Rattle.moo_world.{proofs.Lemmas.{◌≡◌, ℤ, Bool, true, false, ◌&&◌, ◌||◌, List, [], ◌∷◌, not, filter, arith, refl, sym, ap, ◌∙◌, ◌⊎◌, inl, inr, Option, Some, None, is_some, unwrap_or, if◌then◌else◌, option_map, option_and_then, both_ways, and_parts, or_cases, none-some, same_Some, ObjNo, VerbRow, Bits, changed, field_changed, Name, Property, nothing, same_object, same_text, folded, is_among, same_object-Decides, same_text-Decides, World, WorldObject, Slot, IsWellFormed, is_object, parent_of, owner_of, row_passes, slot_of, chain, chain-step, Chain, Chain-chain, linked, is_wizard, controls, may_set, may_write_object, may_write_slot, may_define, may_rename, defines_name, clashes, quota_name, slotted, object_changed, with_slot_of, with_verbs, property_added, property_removed, property_renamed, renamed_to, info_set, rebuilt, reparented, manual_law, NoClash-from_meets, shares_property_name, recycled, object_removed, released, unless_defined_by, created, next_object, same_links, definer_among, named_owed, property_named, defined_by_any, gained, lost, fresh}, proofs.Form.Fields.{not_true}, proofs.Form.Slots.{slot_changed}, proofs.Ownership.Created.{chains_same, record_old, slot_old}, proofs.Inheritance.Insertion.{none_owed}, proofs.Inheritance.Recycling.{recycle_law}, proofs.Inheritance.Shorter.{undefined_law, kept_slot}}
+use Rattle.moo_world.{proofs.Lemmas.{◌≡◌, ℤ, Bool, true, false, ◌&&◌, ◌||◌, List, [], ◌∷◌, not, filter, arith, refl, sym, ap, ◌∙◌, ◌⊎◌, inl, inr, Option, Some, None, is_some, unwrap_or, if◌then◌else◌, option_map, option_and_then, both_ways, and_parts, or_cases, none-some, same_Some, ObjNo, VerbRow, Bits, changed, field_changed, Name, Property, nothing, same_object, same_text, folded, is_among, same_object-Decides, same_text-Decides, World, WorldObject, Slot, IsWellFormed, is_object, parent_of, owner_of, slot_of, chain, chain-step, Chain, Chain-chain, linked, is_wizard, controls, may_set, may_write_object, may_write_slot, may_define, may_rename, defines_name, clashes, quota_name, slotted, object_changed, with_slot_of, with_verbs, property_added, property_removed, property_renamed, renamed_to, info_set, rebuilt, reparented, manual_law, NoClash-from_meets, shares_property_name, recycled, object_removed, released, unless_defined_by, created, next_object, same_links, definer_among, named_owed, property_named, defined_by_any, gained, lost, fresh}, proofs.Form.Fields.{not_true}, proofs.Form.Slots.{slot_changed}, proofs.Ownership.Created.{chains_same, record_old, slot_old}, proofs.Inheritance.Insertion.{none_owed}, proofs.Inheritance.Recycling.{recycle_law}, proofs.Inheritance.Shorter.{undefined_law, kept_slot}}
 use Rattle.std.proofs.lemmas.Bool.{false_from_ne_true}
 use Rattle.moo_world.specs.declared.change.Change.{Change}
 use Rattle.moo_world.specs.declared.built_in.BuiltIn.{BuiltIn}
-use Rattle.moo_world.specs.declared.built_in.BuiltIn.TheVariants.{Name as NameField, R, W, F}
 use Rattle.moo_laws.specs.KeptQuotas.{HasKeptQuota}
 use Rattle.moo_laws.proofs.QuotaChains.{line, line_in, hangs, owner_there, own_chain, controlled_apart, written_apart, slot_unwritten, not_above, not_itself, chain_in_chain}
 use Rattle.moo_laws.proofs.GuardedInfo.{in_own_chain}
@@ -23,8 +22,7 @@ in_chain_object w [] o y c h = absurd (none-some true (ap (λ b. if b then Some 
 in_chain_object w (z ∷ l) o y c h = by (same_object y z) refl h (in_chain_object w l c.1 y c.3)
   where
     by : (b : Bool) → same_object y z ≡ b → (b || is_among y l) ≡ true → (is_among y l ≡ true → is_object w y ≡ true) → is_object w y ≡ true
-    by true e g r = ap (is_object w) ((same_object-Decides y z).0 e ∙ sym c.0) ∙ linked (w.object o) (λ k. k.row.parent) c.1 c.2
-    by false e g r = r g
+    by b e f g = grind (arith, same_object-Decides, linked)
 
 rebuilt_line : (w s : World) (q y : ObjNo) → line (rebuilt w s q) y ≡ line s y
 unfolding rebuilt
@@ -60,15 +58,7 @@ module _ (w : World) (p owner : ObjNo) (quota : ℤ) (wf : IsWellFormed w) (po :
   no_wizard e next = absurd (both_ways (is_wizard w p) none e)
 
   pub set_field : (x : ObjNo) (f : BuiltIn) (c : Change) → may_set w p x f ≡ true → Same (field_changed w x c)
-  set_field x R c e = field_same x c e
-  set_field x W c e = field_same x c e
-  set_field x F c e = field_same x c e
-  set_field x NameField c e = by (row_passes (λ row. row.player) w x) e
-    where
-      by : (b : Bool) → (if b then is_wizard w p else controls w p x) ≡ true → Same (field_changed w x c)
-      by true g = no_wizard g _
-      by false g = field_same x c g
-  set_field x f c e = no_wizard e _
+  set_field x f c e = grind (arith, field_same, no_wizard)
 
   pub verbs_same : (x : ObjNo) (change : List VerbRow → List VerbRow) → Same (with_verbs w x change)
   verbs_same x change = record { lines = λ y e. lines (same_object x y) (w.object y); slots = λ y e. slots (same_object x y) (w.object y) }

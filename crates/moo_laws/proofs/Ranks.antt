@@ -1,5 +1,5 @@
 -- Over calls, batches and lists of batches of who isn't a wizard nobody rises.
-use Rattle.moo_world.{proofs.Lemmas.{◌≡◌, Bool, true, false, List, [], ◌∷◌, arith, refl, sym, subst, ◌∙◌, Option, Some, None, is_some, if◌then◌else◌, option_and_then, both_ways, none-some, nat_lt, list_all, and_parts, ObjNo, ObjRow, Value, Name, same_object, same_object-Decides, Outcome, Done, Failed, Full, KeepsOwnership, IsFormed, in_world, petition_call, is_wizard, row_passes, option_map, unwrap_or, World, WorldObject, Slot, IsWellFormed, is_object, slot_of, State, same_owner, arguments_fit, new_property_info, name_by, name_after}, proofs.Form.Calls.{no_wizard_keeps_ownership}, proofs.Form.Petitions.{requests_keep_form}, proofs.Form.Runs.{runs_keep_form}, proofs.Ownership.Petitions.{petitions_leave_the_world}, proofs.Batches.Requested.{request_steps}, specs.declared.call.Call.{Call}, specs.declared.call.Batch.{Batch}, specs.declared.name.CallName.{CallName}, specs.declared.name.CallName.TheVariants.{SetPropertyInfo}}
+use Rattle.moo_world.{proofs.Lemmas.{◌≡◌, Bool, true, false, List, [], ◌∷◌, arith, refl, sym, subst, ◌∙◌, Option, Some, None, is_some, if◌then◌else◌, option_and_then, both_ways, none-some, nat_lt, list_all, and_parts, ObjNo, ObjRow, Value, Name, same_object-Decides, Outcome, Done, Failed, Full, KeepsOwnership, IsFormed, in_world, petition_call, is_wizard, row_passes, World, IsWellFormed, is_object, slot_of, State, same_owner, arguments_fit, name_after}, proofs.Form.Calls.{no_wizard_keeps_ownership}, proofs.Form.Petitions.{requests_keep_form}, proofs.Form.Runs.{runs_keep_form}, proofs.Ownership.Petitions.{petitions_leave_the_world}, proofs.Batches.Requested.{request_steps}, specs.declared.call.Call.{Call}, specs.declared.call.Batch.{Batch}}
 use Rattle.std.proofs.lemmas.Bool.{false_from_ne_true}
 use Rattle.moo_world.specs.Judge.{Ran, Through, FailedAt, FullAt, Verdict, Accepted, NoRoom, Stale, after_one, run_calls, is_due, last_seq, verdict_of, judge, left_by, after, is_accepted, state_of}
 use Rattle.moo_world.specs.Requests.{batch_call}
@@ -58,34 +58,15 @@ kept_joins a b c first second formed f g = record {
 
 -- what holds of the row of an object is of an object
 passes_of_object : (test : ObjRow → Bool) (w : World) (x : ObjNo) → row_passes test w x ≡ true → is_object w x ≡ true
-passes_of_object test w x h = by (w.object x) h
-  where
-    by : (o : Option WorldObject) → unwrap_or (option_map test (option_map (λ (r : WorldObject). r.row) o)) false ≡ true → is_some o ≡ true
-    by o h = grind arith
+passes_of_object test w x h = grind arith
 
 -- who has a bit had it: an object that was there has its rights, and one that is made has none
 had_it : (test : ObjRow → Bool) (w v : World) (x : ObjNo) → (is_object w x ≡ true → is_object v x ≡ true → row_passes test v x ≡ row_passes test w x) → (is_object w x ≡ false → is_object v x ≡ true → row_passes test v x ≡ false)
     → row_passes test v x ≡ true → row_passes test w x ≡ true
-had_it test w v x stays made h = by (is_object w x) refl
-  where
-    there : is_object v x ≡ true
-    there = passes_of_object test v x h
-
-    by : (b : Bool) → is_object w x ≡ b → row_passes test w x ≡ true
-    by true e = sym (stays e there) ∙ h
-    by false e = absurd (both_ways (row_passes test v x) (made e there) h)
+had_it test w v x stays made h = grind (arith, passes_of_object)
 
 followed : (w v : World) (call : Call) (x : ObjNo) (was now : NamedSlot) → slot_behind_call w v call x was ≡ Some now → (slot_of v x now.0 ≡ Some now.1) × (now.0 ≡ name_after w call x was.0) × (was.1.definer ≡ now.1.definer)
-followed w v call x was now h = by (slot_of v x (name_after w call x was.0)) refl h
-  where
-    test : (t : Slot) → slot_of v x (name_after w call x was.0) ≡ Some t → (b : Bool) → same_object was.1.definer t.definer ≡ b → (if b then Some (name_after w call x was.0, t) else None) ≡ Some now → (slot_of v x now.0 ≡ Some now.1) × (now.0 ≡ name_after w call x was.0) × (was.1.definer ≡ now.1.definer)
-    test t e false f h = absurd (none-some now h)
-    test t e true f h = let same = (same_object-Decides was.1.definer t.definer).0 f in grind arith
-
-    by : (o : Option Slot) → slot_of v x (name_after w call x was.0) ≡ o → option_and_then (λ (t : Slot). if same_object was.1.definer t.definer then Some (name_after w call x was.0, t) else None) o ≡ Some now
-        → (slot_of v x now.0 ≡ Some now.1) × (now.0 ≡ name_after w call x was.0) × (was.1.definer ≡ now.1.definer)
-    by None e h = absurd (none-some now h)
-    by (Some t) e h = test t e (same_object was.1.definer t.definer) refl h
+followed w v call x was now h = grind (arith, none-some, same_object-Decides)
 
 kept_by : (w v : World) (p : ObjNo) (call : Call) → KeepsOwnership w v p (name_after w call) → KeepsObjectNumbers w v → Kept w v (λ x named. slot_behind_call w v call x named)
 kept_by w v p call k again = record {
@@ -105,10 +86,7 @@ done_in_world s next o v h = grind arith
 
 -- the calls of petitions give no new names
 same_name : (w : World) (call : Call) (x : ObjNo) (n : Name) → is_some (petition_call call.name) ≡ true → name_after w call x n ≡ n
-same_name w call x n h = by call.name h
-  where
-    by : (c : CallName) → is_some (petition_call c) ≡ true → (elim c [ SetPropertyInfo ↦ name_by w (new_property_info call.args) x n | _ ↦ n ]) ≡ n
-    by c h = grind arith
+same_name w call x n h = grind arith
 
 unchanged_by : (w : World) (p : ObjNo) (call : Call) → is_some (petition_call call.name) ≡ true → KeepsOwnership w w p (name_after w call)
 unchanged_by w p call h = record {
@@ -149,8 +127,7 @@ pub through_end : (vs us : List Value) (s t : State) → Through vs s ≡ Throug
 through_end vs us s t h = cc
 
 pub ran_on : (v : Value) (r : Ran) (answers : List Value) (end : State) → after_one v r ≡ Through answers end → (rest : List Value) × (r ≡ Through rest end)
-ran_on v (Through rest s) answers end h = (rest, grind arith)
-ran_on v r answers end h = absurd (grind arith)
+ran_on v r answers end e = grind arith
 
 calls_keep : (s : State) (p : ObjNo) (calls : List Call) → FormedBy s p calls → is_wizard s.world p ≡ false → (answers : List Value) (end : State) → run_calls s p calls ≡ Through answers end → Kept s.world end.world (λ x named. slot_behind_calls s p calls x named)
 calls_keep s p [] formed none answers end h = subst (λ (t : State). Kept s.world t.world (λ x named. Some named)) (through_end [] answers s end h) (kept_itself s.world)

@@ -1,5 +1,5 @@
 -- Batches that only read have the same verdicts from states that agree.
-use Rattle.moo_world.{proofs.Lemmas.{◌≡◌, Bool, true, false, ◌||◌, List, [], ◌∷◌, arith, refl, sym, ap, subst, Option, Some, None, ◌+◌, map, list_all, and_parts, ObjNo, same_object, same_object-Decides, State, World, is_object, Outcome, Done, Failed, Full, named_call, in_world, petition_call, petition_call_by, no_values, list_of, batch_call}, specs.declared.name.CallName.{CallName}, specs.declared.call.Call.{Call}, specs.declared.call.Batch.{Batch}}
+use Rattle.moo_world.{proofs.Lemmas.{◌≡◌, Bool, true, false, ◌||◌, List, [], ◌∷◌, arith, refl, sym, ap, subst, Option, Some, None, ◌+◌, map, list_all, and_parts, ObjNo, same_object, same_object-Decides, State, World, is_object, Outcome, named_call, in_world, petition_call, petition_call_by, no_values, list_of, batch_call}, specs.declared.name.CallName.{CallName}, specs.declared.call.Call.{Call}, specs.declared.call.Batch.{Batch}}
 use Rattle.std.specs.Prelude.{ℕ, zero, suc}
 use Rattle.moo_world.specs.Requests.{listed}
 use Rattle.moo_world.specs.declared.name.PetitionCall.{PetitionCall}
@@ -26,10 +26,7 @@ module _ (p : ObjNo) where
   -- ---- one call from two states
 
   in_both : (s t : State) (o q : Outcome World) → Both (λ w v. AgreeFor p (record s { world = w }) (record t { world = v })) o q → Both (AgreeFor p) (in_world s o) (in_world t q)
-  in_both s t (Done a x) (Done b y) h = h
-  in_both s t (Failed c) (Failed d) h = h
-  in_both s t Full Full h = h
-  in_both s t o q h = absurd h
+  in_both s t o q e = grind arith
 
   step : (s t : State) → AgreeFor p s t → (call : Call) → (is_question call.name || lists_petitions call.name) ≡ true → Both (AgreeFor p) (batch_call s p call) (batch_call t p call)
   unfolding batch_call
