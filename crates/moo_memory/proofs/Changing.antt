@@ -1,5 +1,5 @@
 -- The changes of a map are exact, and applied to it they give the new one.
-use Rattle.moo_memory.{proofs.Words.{◌≡◌, Bool, true, false, cond, T, ◌&&◌, Option, None, Some, List, [], ◌∷◌, ◌++◌, append_assoc, append-nil, Less, Equal, Greater, Ordering, unwrap_or, refl, sym, ap, ◌∙◌, subst, eq_by_cmp, is_lt, is_eq, FinMap, find, get, get-from_entries, same_map, is_sorted, contents, changed, row_over, IsChanges, changed_each}, specs.Without.{Without, no_more, kept, left_out}, proofs.Overlays.{get-changed}}
+use Rattle.moo_memory.{proofs.Words.{arith, ◌≡◌, Bool, true, false, cond, T, ◌&&◌, Option, None, Some, List, [], ◌∷◌, ◌++◌, append_assoc, append-nil, Less, Equal, Ordering, unwrap_or, refl, sym, ap, ◌∙◌, subst, eq_by_cmp, is_lt, is_eq, FinMap, find, get, get-from_entries, same_map, is_sorted, contents, changed, row_over, IsChanges, changed_each}, specs.Without.{Without, no_more, kept, left_out}, proofs.Overlays.{get-changed}}
 use Rattle.moo_rows.proofs.Walking.{first_of, second_of, less_of}
 use Rattle.std.proofs.lemmas.Option.{none-some, same_Some}
 use Rattle.std.{specs.Cmp.{IsTotalOrder}, specs.BTreeMap.{BTreeMap, IsOrdered}, specs.FinMap.Entries.{below_all, same_entries}, specs.List.{AllByRecursion}, specs.List.Sorted.{IsStrictlySortedBy}, specs.Map.{keys_of}, proofs.lemmas.Map.Lookups.{CmpEqualImpliesEq}}
@@ -9,9 +9,7 @@ both true b p q = q
 both false b p q = p
 
 equal_of : (o : Ordering) → is_eq o ≡ true → o ≡ Equal
-equal_of Less p = cc
-equal_of Equal p = refl
-equal_of Greater p = cc
+equal_of o e = grind arith
 
 -- ---- ordered maps have their entries in order
 

@@ -13,15 +13,7 @@ differs {cmp = cmp} total q k other same = true≢false (sym (ap is_eq (ap (λ z
 module _ {K X : Type 0} {cmp : K → K → Ordering} (total : IsTotalOrder cmp) (exact : CmpEqualImpliesEq cmp) where
   -- a key that is there was there, or was put
   pub had-insert : (m : FinMap cmp X) (k : K) (v : X) (q : K) → is_some (get (insert m k v) q) ≡ true → (is_some (get m q) ≡ true) ⊎ (q ≡ k)
-  had-insert m k v q h = by (cmp q k) refl
-    where
-      stays : (o : Ordering) → cmp q k ≡ o → is_eq o ≡ false → is_some (get m q) ≡ true
-      stays o is apart = sym (ap is_some (get-insert total m k v q) ∙ ap (λ b. is_some (cond b (Some v) (get m q))) (ap is_eq is ∙ apart)) ∙ h
-
-      by : (o : Ordering) → cmp q k ≡ o → (is_some (get m q) ≡ true) ⊎ (q ≡ k)
-      by Equal o = inr (exact q k o)
-      by Less o = inl (stays Less o refl)
-      by Greater o = inl (stays Greater o refl)
+  had-insert m k v q h = grind (arith, get-insert)
 
   -- the same if there may be no memory for it
   pub had-put : {U E : Type 0} (r : Result U E) (old new : FinMap cmp X) (k : K) (v : X) → OnOk r (new ≡ insert old k v) → OnErr r (new ≡ old)
@@ -31,15 +23,7 @@ module _ {K X : Type 0} {cmp : K → K → Ordering} (total : IsTotalOrder cmp) 
 
   -- a key that is there was there, and isn't the one that was removed
   pub had-removed : (m : FinMap cmp X) (k : K) (q : K) → is_some (get (remove m k) q) ≡ true → (is_some (get m q) ≡ true) × (q ≢ k)
-  had-removed m k q h = by (cmp q k) refl
-    where
-      now : (o : Ordering) → cmp q k ≡ o → is_some (cond (is_eq o) None (get m q)) ≡ true
-      now o is = sym (ap is_some (get-remove total m k q) ∙ ap (λ o. is_some (cond (is_eq o) None (get m q))) is) ∙ h
-
-      by : (o : Ordering) → cmp q k ≡ o → (is_some (get m q) ≡ true) × (q ≢ k)
-      by Equal o = absurd (true≢false (sym (now Equal o)))
-      by Less o = (now Less o, differs total q k (ap is_eq o))
-      by Greater o = (now Greater o, differs total q k (ap is_eq o))
+  had-removed m k q h = grind (arith, get-remove, true≢false, differs)
 
 -- ---- one link
 
@@ -160,16 +144,7 @@ module _ (row_at row_at' : ObjNo → Option ObjRow) (key : ObjNo) (old : LinkSet
 -- the same: whoever has a link still may, once the row before is back and the links that were added are gone
 pub back-covered : (row_at : ObjNo → Option ObjRow) (key : ObjNo) (old mid new : LinkSets) → AreCovered row_at old
     → ((l : Link) (q : ObjNo) → may_have mid l q ≡ false → may_have old l q ≡ false) → ForgetsOnly key (option_map ties_of (row_at key)) mid new → AreCovered row_at new
-back-covered row_at key old mid new covered more forgets l q e = by (object_cmp q key) refl
-  where
-    own : q ≡ key → (b : Bool) → ties_have l (option_map ties_of (row_at key)) ≡ b → row_has l (row_at q) ≡ false
-    own here true h = covered l q (more l q (forgets l q (λ _. h) e))
-    own here false h = ap (λ x. row_has l (row_at x)) here ∙ sym (ties-row l (row_at key)) ∙ h
-
-    by : (o : Ordering) → object_cmp q key ≡ o → row_has l (row_at q) ≡ false
-    by Equal o = own (object_exact q key o) (ties_have l (option_map ties_of (row_at key))) refl
-    by Less o = covered l q (more l q (forgets l q (λ here. absurd (differs object_total q key (ap is_eq o) here)) e))
-    by Greater o = covered l q (more l q (forgets l q (λ here. absurd (differs object_total q key (ap is_eq o) here)) e))
+back-covered row_at key old mid new covered more forgets l q e = grind (arith, ties-row, differs)
 
 -- an object is kept for a link exactly if it has it
 pub kept-exactly : (row_at : ObjNo → Option ObjRow) (sets : LinkSets) → AreCovered row_at sets → KeepsNoOther row_at sets
