@@ -1,5 +1,5 @@
 -- The entries that are ahead, as their lines are taken one after another.
-use Rattle.moo_load.{proofs.Words.{arith, ◌≡◌, ℕ, ◌+◌, List, [], ◌∷◌, ◌++◌, length, drop, refl, sym, ap, subst, ◌∙◌, append_assoc, length-append, codes, flat_map, AllByRecursion, drop_at, Value, Int, Obj, Str, Error, a_list, Fits, HoldInside, InRange, IsText, gather, Entry, an_object, entry_text, entry_values, entry_lines, EntryFits, carried, EachHas, IsOneLine, word_text, append-nil}, proofs.OneLine.{one_line_append, list_plain}, proofs.Taken.{word_of, line_of, text_is, no_end}}
+use Rattle.moo_load.{proofs.Words.{◌≡◌, ℕ, ◌+◌, List, [], ◌∷◌, ◌++◌, length, drop, refl, sym, ap, subst, ◌∙◌, append_assoc, length-append, codes, flat_map, AllByRecursion, drop_at, Value, Int, Obj, Str, Error, a_list, Fits, HoldInside, InRange, IsText, gather, Entry, an_object, entry_text, entry_values, entry_lines, EntryFits, carried, EachHas, IsOneLine, word_text, append-nil}, proofs.OneLine.{one_line_append, list_plain}, proofs.Taken.{word_of, line_of, text_is, no_end}}
 
 -- The entries that are ahead: their lines are the rest of the text. What they are sure to have they have, and what they need they have if
 -- all had it.

@@ -1,5 +1,5 @@
 -- Values within the limits, and the calls of petitions.
-use Rattle.moo_load.proofs.Words.{arith, ◌≡◌, true, ◌&&◌, nat_le, list_all, and_parts, a_list, Fits, nesting, spread, Values, all_within_limits, is_named, are_few, are_shallow, fits_of, and_from}
+use Rattle.moo_load.proofs.Words.{◌≡◌, true, ◌&&◌, nat_le, list_all, and_parts, a_list, Fits, nesting, spread, Values, all_within_limits, is_named, are_few, are_shallow, fits_of, and_from}
 use Rattle.moo_value.specs.declared.value.TheConstants.{MAX_NESTING}
 
 -- a value within the limits is calls that a petition may hold, if they are named, few and shallow

@@ -1,5 +1,5 @@
 -- The printed values of a list, read one after another.
-use Rattle.moo_load.proofs.Words.{arith, ◌≡◌, ℕ, true, false, Result, List, [], ◌∷◌, ◌++◌, length, drop, Ok, Err, ◌≢◌, refl, sym, ap, subst, ◌∙◌, append_assoc, AllByRecursion, drop_at, LiteralFault, Value, Str, a_list, gather, Fits, Ends, Front, print, print_items, printed, prepend_printed, ArePrinted, append-nil}
+use Rattle.moo_load.proofs.Words.{◌≡◌, ℕ, true, false, Result, List, [], ◌∷◌, ◌++◌, length, drop, Ok, Err, ◌≢◌, refl, sym, ap, subst, ◌∙◌, append_assoc, AllByRecursion, drop_at, LiteralFault, Value, Str, a_list, gather, Fits, Ends, Front, print, print_items, printed, prepend_printed, ArePrinted, append-nil}
 use Rattle.moo_value.{proofs.Results.{is_ok}, specs.declared.fault.LiteralFault.TheVariants.{OutOfMemory}, specs.Reading.{Fails}}
 
 -- what is printed after a value of a list

@@ -1,5 +1,5 @@
 -- The next property of a definer is one alone.
-use Rattle.moo_load.proofs.Words.{arith, ◌≡◌, Bool, Option, Some, None, sym, ◌∙◌, refl, nat_cmp_is, ranked, Less, false≢true, PropId, IsFirst, prop_cmp, Equal, Greater}
+use Rattle.moo_load.proofs.Words.{◌≡◌, Bool, Option, Some, None, sym, ◌∙◌, refl, nat_cmp_is, ranked, Less, false≢true, PropId, IsFirst, prop_cmp, Equal, Greater}
 
 -- two that are the least past a number are one
 pub one_first : (passes : PropId → Bool) (after : PropId) (found : Option PropId) (id : PropId) → IsFirst prop_cmp passes after found → IsFirst prop_cmp passes after (Some id) → found ≡ Some id

@@ -1,5 +1,5 @@
 -- What is printed has no line end.
-use Rattle.moo_load.proofs.Words.{arith, ◌≡◌, ℕ, ℤ, Bool, true, false, cond, List, [], ◌∷◌, ◌++◌, refl, sym, ap, ◌∙◌, ◌==◌, not, flat_map, list_all, false≢true, and_parts, Decides-eqb, Int, Obj, a_list, IsText, Values, no_values, HoldInside, InRange, print_items, print, spelled, IsOneLine, both_true, ◌||◌, IsTrue, signed_decimal, is_allowed, int, object, string, error, list, is_digit, is_blank, AreDigits, AreBlanks, Spaced, an_integer, SpellsNumber, SpellsObject, escape, name, print_string, print_comma}
+use Rattle.moo_load.proofs.Words.{arith, ◌≡◌, ℕ, ℤ, Bool, true, false, cond, List, [], ◌∷◌, ◌++◌, refl, sym, ap, ◌∙◌, ◌==◌, not, flat_map, list_all, false≢true, and_parts, Decides-eqb, Int, Obj, a_list, IsText, Values, no_values, HoldInside, InRange, print_items, print, spelled, IsOneLine, both_true, IsTrue, signed_decimal, is_allowed, int, object, string, error, list, is_digit, is_blank, AreDigits, AreBlanks, Spaced, an_integer, SpellsNumber, SpellsObject, escape, name, print_string, print_comma}
 use Rattle.std.proofs.lemmas.List.Folds.{list_all-append}
 use Rattle.moo_value.{specs.declared.code.Code.{Code}, specs.declared.code.Code.TheVariants.{None}, specs.Literal.{an_object}}
 

@@ -1,5 +1,5 @@
 -- The line of an entry, split into its word and its values.
-use Rattle.moo_load.{proofs.Words.{arith, ◌≡◌, ℕ, ◌+◌, List, [], ◌∷◌, ◌++◌, get_or, drop, refl, sym, ap, ◌∙◌, false≢true, Decides-eqb, ObjNo, Value, print, ObjRow, PetitionId, PetitionRow, PropId, VerbRow, Maps, Property, list_of, Object, PropertyWord, Verb, Petition, Entry, an_object, a_property, a_slot, a_verb, a_petition, entry_text, entry_values, EntryFits, ArePrinted, word_text, slot_line_put, LastSlot, Name, codes, append_cancel_right}, specs.declared.line.Word.{Word}, specs.declared.line.Word.TheVariants.{Slot}}
+use Rattle.moo_load.{proofs.Words.{arith, ◌≡◌, ℕ, ◌+◌, List, [], ◌∷◌, ◌++◌, get_or, refl, sym, ap, ◌∙◌, false≢true, Decides-eqb, ObjNo, Value, print, ObjRow, PetitionId, PetitionRow, PropId, VerbRow, Maps, Property, list_of, Object, PropertyWord, Verb, Petition, Entry, an_object, a_property, a_slot, a_verb, a_petition, entry_text, entry_values, EntryFits, ArePrinted, word_text, slot_line_put, LastSlot, Name, codes, append_cancel_right}, specs.declared.line.Word.{Word}, specs.declared.line.Word.TheVariants.{Slot}}
 use Rattle.moo_world.specs.World.{Slot as ASlot}
 
 abbrev pub word_of : Entry → Word

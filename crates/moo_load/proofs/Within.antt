@@ -1,5 +1,5 @@
 -- Rows as far as they are read, with one row more.
-use Rattle.moo_load.proofs.Words.{◌≡◌, ◌+◌, ◌<◌, ◌≤◌, true, false, cond, ℕ, ℤ, Some, ap, refl, sym, subst, ◌∙◌, ◌&&◌, ◌^◌, pos, negsuc, ◌≤ℤ◌, arith, IsTotalOrder, CmpEqualImpliesEq, eq_by_cmp, Ordering, FinMap, get, insert, get-insert, get-empty, same_Some, none-some, ObjNo, Head, ObjRow, PetitionId, PetitionRow, PropId, PropRow, SlotRow, VerbRow, object_exact, prop_exact, slot_exact, verb_exact, petition_exact, Held, Maps, max, no_maps, object_cmp, prop_cmp, slot_cmp, verb_cmp, petition_cmp, object_total, prop_total, slot_total, verb_total, petition_total, key-Decides, is_number, petition_fits, row_fits, is_property_name, state_fits, verb_fits, AreRead, petition_taken, property_taken, verb_taken}
+use Rattle.moo_load.proofs.Words.{◌≡◌, ◌+◌, ◌<◌, ◌≤◌, true, false, cond, ℕ, ℤ, Some, refl, sym, subst, ◌∙◌, ◌&&◌, ◌^◌, pos, negsuc, ◌≤ℤ◌, arith, IsTotalOrder, CmpEqualImpliesEq, eq_by_cmp, Ordering, FinMap, get, insert, get-insert, get-empty, same_Some, none-some, ObjNo, Head, ObjRow, PetitionId, PetitionRow, PropId, PropRow, SlotRow, VerbRow, object_exact, prop_exact, slot_exact, verb_exact, petition_exact, Held, Maps, max, no_maps, object_cmp, prop_cmp, slot_cmp, verb_cmp, petition_cmp, object_total, prop_total, slot_total, verb_total, petition_total, key-Decides, is_number, petition_fits, row_fits, is_property_name, state_fits, verb_fits, AreRead, petition_taken, property_taken, verb_taken}
 use Rattle.moo_rows.specs.Maps.{with_prop, with_verb, with_petition}
 
 -- each row of a map passes, and so does one more

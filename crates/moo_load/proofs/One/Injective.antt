@@ -1,5 +1,5 @@
 -- The lines of entries that fit tell the entries.
-use Rattle.moo_load.{proofs.Words.{arith, ◌≡◌, ℕ, List, [], ◌∷◌, ◌++◌, refl, sym, ap, ◌∙◌, append_assoc, codes, flat_map, AllByRecursion, drop, false≢true, Decides-eqb, Fits, Entry, an_object, a_property, a_slot, a_verb, a_petition, entry_text, entry_lines, entry_values, list_of, print, word_text}, proofs.One.Texts.{one_list}, proofs.One.Values.{one_object, one_property, one_slot, one_verb, one_petition}, proofs.Taken.{kind, line_of, no_end, one_word, text_is, word_of}}
+use Rattle.moo_load.{proofs.Words.{◌≡◌, ℕ, List, [], ◌∷◌, ◌++◌, refl, sym, ap, ◌∙◌, append_assoc, codes, flat_map, AllByRecursion, drop, false≢true, Decides-eqb, Fits, Entry, an_object, a_property, a_slot, a_verb, a_petition, entry_text, entry_lines, entry_values, list_of, print, word_text}, proofs.One.Texts.{one_list}, proofs.One.Values.{one_object, one_property, one_slot, one_verb, one_petition}, proofs.Taken.{kind, line_of, no_end, one_word, text_is, word_of}}
 
 -- the definer of a slot is that of its property
 abbrev pub IsOwn : Entry → Type 0

@@ -1,5 +1,5 @@
 -- A dump names one state.
-use Rattle.moo_load.{proofs.Words.{arith, ◌≡◌, ℕ, pos, List, ◌∷◌, ◌++◌, drop, refl, sym, ap, ◌∙◌, decimal, filter_map, Value, Int, Obj, State, heading, dump, IsHeld, AreTheSame, AreRowsOf, all_weaker, entry_lines, subst, all_properties, first_head}, proofs.One.Entries.{entries_of, dump_is}, proofs.One.Texts.{one_print}, proofs.One.Values.{integer_in, object_in, size_in}, proofs.One.Injective.{one_entries, IsFit}, proofs.ReadBack.Said.{Good, all_good}, proofs.Headed.{count_fits, lines_are, top_fits, top_of, top_line}, proofs.ReadBack.Fit.{properties_are}, proofs.ReadBack.Taken.{property_in}, proofs.ReadBack.Whole.{rows_are, made_by}, proofs.Shown.Good.{same_state}}
+use Rattle.moo_load.{proofs.Words.{◌≡◌, ℕ, pos, List, ◌∷◌, ◌++◌, drop, refl, sym, ap, ◌∙◌, decimal, filter_map, Value, Int, Obj, State, heading, dump, IsHeld, AreTheSame, AreRowsOf, all_weaker, entry_lines, subst, all_properties, first_head}, proofs.One.Entries.{entries_of, dump_is}, proofs.One.Texts.{one_print}, proofs.One.Values.{integer_in, object_in, size_in}, proofs.One.Injective.{one_entries, IsFit}, proofs.ReadBack.Said.{Good, all_good}, proofs.Headed.{count_fits, lines_are, top_fits, top_of, top_line}, proofs.ReadBack.Fit.{properties_are}, proofs.ReadBack.Taken.{property_in}, proofs.ReadBack.Whole.{rows_are, made_by}, proofs.Shown.Good.{same_state}}
 
 -- the two lines of the heading, and what follows
 one_heading : (s t : State) → IsHeld s → IsHeld t → (a b : List ℕ) → heading s ++ a ≡ heading t ++ b → (s.seq ≡ t.seq) × (s.world.top ≡ t.world.top) × (a ≡ b)

@@ -1,5 +1,5 @@
 -- The values of a line tell the row that they are printed from.
-use Rattle.moo_load.proofs.Words.{arith, ◌≡◌, ℕ, ℤ, Bool, true, false, List, [], ◌∷◌, map, get_or, drop, Option, Some, None, refl, sym, ap, ◌∙◌, pos, not, ◌==◌, option_map, same_Some, ObjNo, Value, Int, Obj, Str, a_list, gather, spread, Values, no_values, Bits, ObjRow, PropRow, PetitionId, PetitionRow, ObjectSpec, Preposition, SlotState, Clear, Set, VerbBits, VerbRow, letters_of, verb_letters_of, flag, accept_value, Property, same_text, folded, prep_text, object_spec_text, Slot, object_values, state_values, verb_values, petition_values, bits_of, verb_bits_of, objects_among}
+use Rattle.moo_load.proofs.Words.{arith, ◌≡◌, ℕ, ℤ, Bool, true, false, List, [], ◌∷◌, map, get_or, Option, Some, None, refl, sym, ap, ◌∙◌, pos, not, ◌==◌, option_map, same_Some, ObjNo, Value, Int, Obj, Str, a_list, gather, spread, Values, no_values, Bits, ObjRow, PropRow, PetitionId, PetitionRow, ObjectSpec, Preposition, SlotState, Clear, Set, VerbBits, VerbRow, letters_of, verb_letters_of, flag, accept_value, Property, same_text, folded, prep_text, object_spec_text, Slot, object_values, state_values, verb_values, petition_values, bits_of, verb_bits_of, objects_among}
 use Rattle.moo_world.specs.VerbReading.{object_spec_of, prep_of}
 use Rattle.moo_verbs.proofs.TableLaw.{prep_read_again}
 

@@ -1,5 +1,5 @@
 -- Rows that are put into a map one after another.
-use Rattle.moo_load.{proofs.Words.{arith, ◌≡◌, true, false, cond, Option, Some, None, List, [], ◌∷◌, refl, sym, ap, ◌∙◌, ◌⊎◌, inl, inr, AllByRecursion, IsTotalOrder, FinMap, get, insert, empty, get-insert, get-empty, eq_by_cmp, Ordering, false≢true, CmpEqualImpliesEq, key-Decides, subst, at_number, ℕ}, proofs.ReadBack.Lists.{all_counted, counted, of_all, stands_counted, Stands}}
+use Rattle.moo_load.{proofs.Words.{◌≡◌, true, false, cond, Option, Some, None, List, [], ◌∷◌, refl, sym, ap, ◌∙◌, ◌⊎◌, inl, inr, AllByRecursion, IsTotalOrder, FinMap, get, insert, empty, get-insert, get-empty, eq_by_cmp, Ordering, false≢true, CmpEqualImpliesEq, key-Decides, subst, at_number, ℕ}, proofs.ReadBack.Lists.{all_counted, counted, of_all, stands_counted, Stands}}
 
 abbrev pub puts : {K X : Type 0} {cmp : K → K → Ordering} → List (K × X) → FinMap cmp X → FinMap cmp X
 puts [] m = m

@@ -1,5 +1,5 @@
 -- The rows of a state show its objects.
-use Rattle.moo_load.{proofs.Words.{arith, ◌≡◌, ℕ, true, false, cond, List, [], Option, Some, None, refl, sym, ap, ◌∙◌, is_some, unwrap_or, slice_get, option_map, option_and_then, get, filter_map, none-some, ObjNo, PropRow, VerbRow, Maps, State, objects_of, Name, Property, same_object, same_text, folded, same_text-Decides, world_of, world_shown, numbers_below, prop_id, verb_id, World, WorldObject, Slot, is_object, slot_of, chain, property_names_of, directory_of, all_properties, all_verbs, at_number, property_row, slot_of_property, verb_on, AreRowsOf, IsFormed, look_ups, object_shown, name_on, slot_on, slot_seen, object_listed}, proofs.Shown.Lists.{all_by_number, first_made, of_object, some_first}, proofs.ReadBack.Numbers.{objects_once}, proofs.ReadBack.Said.{among_all, slot_has_property, of_property, of_slot}, proofs.ReadBack.Lists.{made_of, stands_made}}
+use Rattle.moo_load.{proofs.Words.{arith, ◌≡◌, ℕ, true, cond, List, [], Option, Some, None, refl, sym, ap, ◌∙◌, is_some, unwrap_or, slice_get, option_map, option_and_then, get, filter_map, none-some, ObjNo, VerbRow, Maps, State, objects_of, Name, Property, same_object, same_text, folded, same_text-Decides, world_of, world_shown, numbers_below, verb_id, World, WorldObject, Slot, is_object, slot_of, chain, property_names_of, directory_of, all_properties, all_verbs, at_number, slot_of_property, verb_on, AreRowsOf, IsFormed, look_ups, object_shown, name_on, slot_on, slot_seen, object_listed}, proofs.Shown.Lists.{all_by_number, first_made, of_object, some_first}, proofs.ReadBack.Numbers.{objects_once}, proofs.ReadBack.Said.{among_all, slot_has_property, of_property, of_slot}, proofs.ReadBack.Lists.{made_of, stands_made}}
 use Rattle.moo_world.proofs.Shown.ObjectEntries.{same_object-symm}
 
 -- what is made of what is made
