@@ -1,9 +1,9 @@
 -- What a refusal tells is the same in worlds that differ in values alone, and each name is one that the programmer may list.
-use Rattle.std.proofs.Common.{◌≡◌, suc, Bool, true, false, ◌||◌, List, [], ◌∷◌, Option, Some, None, IfSome, take, refl, sym, ap, ◌∙◌, arith}
+use Rattle.std.proofs.Common.{◌≡◌, suc, Bool, true, false, ◌||◌, List, [], ◌∷◌, Option, Some, None, IfSome, take, refl, sym, ap, arith}
 use Rattle.std.{specs.Prelude.{if◌then◌else◌, is_some, unwrap_or}, specs.List.{All, find, flat_map}, specs.Option.{option_and_then, option_map}}
 use Rattle.std.proofs.lemmas.List.Elements.{All-append, All-nil, All-take, Contains-get_or}
 use Rattle.moo_value.{specs.declared.value.ObjNo.{ObjNo}, specs.declared.value.Value.{Value}}
-use Rattle.moo_world.{proofs.Lemmas.{ObjRow, World, Slot, names_same, same_object, SameButSlots}, proofs.Ownership.Created.{chains_same}}
+use Rattle.moo_world.{proofs.Lemmas.{ObjRow, World, names_same, same_object, SameButSlots}, proofs.Ownership.Created.{chains_same}}
 use Rattle.moo_world.{specs.declared.name.CallName.{CallName}, specs.Objects.{Name, folded}, specs.Rights.{may_read_object}, specs.World.{chain, property_names_of, slot_of}}
 use Rattle.moo_world.{specs.declared.reason.Reason.{Reason}, specs.declared.reason.Reason.TheVariants.{NameShared}}
 use Rattle.moo_laws.{specs.Listed.{IsListed}, specs.Reading.{emptied_slot}, proofs.Asking.{same_rows}}
@@ -20,11 +20,7 @@ module _ (p : ObjNo) (w v : World) (rest : SameButSlots w v) where
 
   module _ (slots : (x : ObjNo) (n : Name) → option_map emptied_slot (slot_of v x n) ≡ option_map emptied_slot (slot_of w x n)) where
     has_same : (x : ObjNo) (n : Name) → is_some (slot_of v x n) ≡ is_some (slot_of w x n)
-    has_same x n = sym (emptied (slot_of v x n)) ∙ ap is_some (slots x n) ∙ emptied (slot_of w x n)
-      where
-        emptied : (o : Option Slot) → is_some (option_map emptied_slot o) ≡ is_some o
-        emptied None = refl
-        emptied (Some slot) = refl
+    has_same x n = grind arith
 
     near_same : (call : CallName) (given : ObjNo × Name) → names_near v p call given ≡ names_near w p call given
     near_same call given = λ i. if has_same given.0 (folded given.1) i then [] else take 200 (flat_map (λ y. listed_same y i) (objects_searched call (sym (chains_same w v rest given.0) i)))
@@ -64,9 +60,8 @@ module _ (w : World) (p : ObjNo) where
   meant_listed call args reason = by (lacks_property reason) (property_given args)
     where
       by : (b : Bool) (given : Option (ObjNo × Name)) → All (IsListed w p) (if b then elim given [ None ↦ [] | Some one ↦ names_near w p call one ] else [])
-      by true None = All-nil (IsListed w p)
       by true (Some given) = near_listed call given
-      by false given = All-nil (IsListed w p)
+      by b given = All-nil (IsListed w p)
 
   -- ---- what is found
 
@@ -75,14 +70,12 @@ module _ (w : World) (p : ObjNo) where
   found_listed test (name ∷ names) listed = by (test name) (found_listed test names (λ k d below. listed (suc k) d (omega (arith, below))))
     where
       by : (b : Bool) → IfSome (find test names) (IsListed w p) → IfSome (if b then Some name else find test names) (IsListed w p)
-      by true rest = listed 0 name (omega arith)
-      by false rest = rest
+      by b e = grind arith
 
   pub clash_listed : (args : List Value) (reason : Reason) → IfSome (clash_name w p args reason) (IsListed w p)
   clash_listed args (NameShared definer) = by (may_read_object w p definer) refl (new_parent_given args)
     where
       by : (b : Bool) → may_read_object w p definer ≡ b → (given : Option ObjNo) → IfSome (if b then option_and_then (name_shared w definer) given else None) (IsListed w p)
       by true may (Some q) = found_listed _ (take 200 (property_names_of w definer)) (All-take (IsListed w p) 200 (property_names_of w definer) (λ k d below. (definer, may, Contains-get_or (property_names_of w definer) k d below)))
-      by true may None = tt
-      by false may given = tt
+      by b may given = tt
   clash_listed args other = tt

@@ -1,22 +1,22 @@
 -- Each call of who isn't a wizard tells the same in worlds that are the same but for guarded values, and leaves such worlds.
-use Rattle.moo_world.{proofs.Lemmas.{◌≡◌, true, false, ◌||◌, List, [], ◌∷◌, ◌++◌, not, nat_lt, nat_le, length, refl, sym, ap, subst, Option, unwrap_or, option_map, and_parts, ObjNo, Value, Clear, Set, Name, nothing, same_object, same_text, folded, is_among, Outcome, Done, Failed, Full, World, IsWellFormed, is_object, is_wizard, may_define, clashes, change_of, created, plain_object, owner_or_self, recycled, owner_of, owners_same, create, chparent, recycle, move, set_player_flag, set_accept, set, add_property, delete_property, set_property_info, clear_property, named_call, Holds, check, quota_returned, int_lt, filter, has_word}, proofs.Form.Fields.{not_true}, specs.declared.name.CallName.{CallName}, specs.declared.descriptor.Desc.{Desc}}
-use Rattle.moo_world.specs.declared.name.CallName.TheVariants.{Valid, Parent, Children, IsPlayer, Players, MaxObject, Get, Properties, PropertyInfo, IsClearProperty, Verbs, VerbInfo, VerbArgs, AcceptList, Create, Chparent, Recycle, Move, SetPlayerFlag, Set as to_set, AddProperty, DeleteProperty, SetPropertyInfo, ClearProperty, AddVerb, DeleteVerb, SetVerbInfo, SetVerbArgs, SetAccept, Petition, Petitions, Grant, Decline}
+use Rattle.moo_world.{proofs.Lemmas.{arith, ◌≡◌, true, false, ◌||◌, List, [], ◌∷◌, ◌++◌, not, nat_lt, nat_le, length, refl, sym, ap, subst, Option, unwrap_or, option_map, and_parts, ObjNo, Value, Clear, Set, Name, nothing, same_object, same_text, folded, is_among, Outcome, Failed, World, IsWellFormed, is_object, is_wizard, may_define, clashes, change_of, created, plain_object, owner_or_self, recycled, owner_of, owners_same, create, chparent, recycle, move, set_player_flag, set_accept, set, add_property, delete_property, set_property_info, clear_property, named_call, check, quota_returned, int_lt, filter, has_word}, proofs.Form.Fields.{not_true}, specs.declared.name.CallName.{CallName}, specs.declared.descriptor.Desc.{Desc}}
+use Rattle.moo_world.specs.declared.name.CallName.TheVariants.{Valid, Parent, Children, IsPlayer, Players, MaxObject, Get, Properties, PropertyInfo, IsClearProperty, Verbs, VerbInfo, VerbArgs, AcceptList, Create, Chparent, Recycle, Move, SetPlayerFlag, Set as to_set, AddProperty, DeleteProperty, SetPropertyInfo, ClearProperty, AddVerb, DeleteVerb, SetVerbInfo, SetVerbArgs, SetAccept}
 use Rattle.moo_world.specs.Arguments.{Info, one_object, two_objects, object_and_text, object_and_value, object_text_and_value, parent_and_owner, object_and_accept, new_property, new_property_info, object_and_desc, new_verb, new_verb_info, new_verb_args}
 use Rattle.std.specs.Prelude.{pos}
 use Rattle.moo_world.specs.BuiltIns.{built_in}
 use Rattle.moo_world.specs.Outcomes.{Failure, of_itself}
 use Rattle.moo_world.specs.declared.reason.Reason.TheVariants.{NameShared}
 use Rattle.moo_world.specs.VerbCalls.{add_verb, delete_verb, set_verb_info, set_verb_args}
-use Rattle.moo_laws.specs.Reading.{is_question, SameAnswer}
+use Rattle.moo_laws.specs.Reading.{is_question}
 use Rattle.moo_laws.specs.Guarded.{SameButGuarded}
 use Rattle.moo_laws.proofs.Asking.{asked, same_verb}
-use Rattle.moo_laws.proofs.ReadingBatches.{stays}
 use Rattle.moo_laws.proofs.GuardedReading.{look_alike}
 use Rattle.moo_laws.proofs.GuardedSlots.{alike_rebuilt, alike_changed}
 use Rattle.moo_laws.proofs.GuardedWorlds.{alike_rows, alike_verbs, next_verb_alike, both_changed, both_added, both_removed, charged_alike, returned_alike, quota_same}
 use Rattle.moo_laws.proofs.GuardedNames.{alike_added}
 use Rattle.moo_laws.proofs.GuardedInfo.{renamed_alike}
-use Rattle.moo_laws.proofs.GuardedChecks.{Both, on_checks, on_checks_for, on_rooms, on_givens, on_takens, on_founds, on_nexts, on_fields, on_slots, objects, chains, wizards, controlled, parents_allowed, owners_allowed, writable, verbs_writable, known, numbered, names_shared, accepting, within, settable, owner_there, definable, defining, renamable, slots_writable, written_is_shown}
+use Rattle.moo_laws.proofs.Both.{Both, on_checks, on_checks_for, on_rooms, on_givens, on_takens, on_founds, on_nexts, on_fields}
+use Rattle.moo_laws.proofs.GuardedChecks.{on_slots, objects, chains, wizards, controlled, parents_allowed, owners_allowed, writable, verbs_writable, known, numbered, names_shared, accepting, within, settable, owner_there, definable, defining, renamable, slots_writable, written_is_shown}
 use Rattle.moo_laws.proofs.GuardedClashes.{unfit_same, met_same, unset_same, undefined_same, unrenamed_same}
 use Rattle.moo_world.specs.declared.values.TheConstants.{MOST_ACCEPTED}
 
@@ -67,10 +67,7 @@ module _ (p : ObjNo) (w v : World) (wf : IsWellFormed w) (none : is_wizard w p �
       (refl, alike_rows p w v alike x _)
 
   flags : (x : ObjNo) (value : Value) → Both Rel (set_player_flag w p x value) (set_player_flag v p x value)
-  flags x value =
-      object_there x _ _ _ λ _.
-      on_checks Rel _ _ _ _ _ (wizards p w v alike.rest) λ _.
-      (refl, alike_rows p w v alike x _)
+  flags x value = grind (arith, object_there, on_checks, wizards)
 
   sets_list : (x : ObjNo) (list : Option (List ObjNo)) → Both Rel (set_accept w p x list) (set_accept v p x list)
   sets_list x list =
@@ -178,19 +175,7 @@ module _ (p : ObjNo) (w v : World) (wf : IsWellFormed w) (none : is_wizard w p �
   -- ---- each call by its name
 
   asks : (name : CallName) (values : List Value) → is_question name ≡ true → Both Rel (named_call w p name values) (named_call v p name values)
-  unfolding Holds
-  asks name values h = by (named_call w p name values) (named_call v p name values) (asked p w v (look_alike p w v wf none alike) name values h) (stays w p name values h) (stays v p name values h)
-    where
-      by : (o q : Outcome World) → SameAnswer o q → Holds (λ (a : Value) (next : World). next ≡ w) o → Holds (λ (a : Value) (next : World). next ≡ v) q → Both Rel o q
-      by (Done a x) (Done b y) same left right = (same, subst (λ k. Rel k y) (sym left) (subst (λ k. Rel w k) (sym right) alike))
-      by (Failed c) (Failed d) same left right = same
-      by Full Full same left right = tt
-      by (Done a x) (Failed d) same left right = absurd same
-      by (Done a x) Full same left right = absurd same
-      by (Failed c) (Done b y) same left right = absurd same
-      by (Failed c) Full same left right = absurd same
-      by Full (Done b y) same left right = absurd same
-      by Full (Failed d) same left right = absurd same
+  asks = asked p w v (look_alike p w v wf none alike) Rel alike
 
   pub tells : (name : CallName) (values : List Value) → Both Rel (named_call w p name values) (named_call v p name values)
   tells Valid values = asks Valid values refl
@@ -222,7 +207,4 @@ module _ (p : ObjNo) (w v : World) (wf : IsWellFormed w) (none : is_wizard w p �
   tells SetVerbInfo values = on_givens Rel (new_verb_info values) _ _ (λ (x, (d, (info, names))). sets_verb x d info names)
   tells SetVerbArgs values = on_givens Rel (new_verb_args values) _ _ (λ (x, (d, args)). sets_verb_args x d args)
   tells SetAccept values = on_givens Rel (object_and_accept values) _ _ (λ (x, list). sets_list x list)
-  tells Petition values = refl
-  tells Petitions values = refl
-  tells Grant values = refl
-  tells Decline values = refl
+  tells name values = refl

@@ -8,7 +8,7 @@ use Rattle.moo_world.specs.Objects.{object_at}
 use Rattle.moo_world.specs.PropertyCalls.{unset_reason, first_to_define, undefined_reason, unrenamed_reason}
 use Rattle.moo_world.specs.Rows.{numbers_below}
 use Rattle.moo_world.specs.declared.built_in.BuiltIn.{BuiltIn}
-use Rattle.moo_world.specs.declared.built_in.BuiltIn.TheVariants.{Name as NameField, Owner, Location, Contents, Programmer, Wizard, R, W, F}
+use Rattle.moo_world.specs.declared.built_in.BuiltIn.TheVariants.{Name as NameField}
 use Rattle.moo_world.specs.declared.reason.Reason.TheVariants.{NotFertile, NoParent, NamesPlayer, NotControlled, NotRenamed, NoPropertyName, NameTaken}
 use Rattle.moo_laws.proofs.GuardedChecks.{objects, passing, chains, defining}
 
@@ -18,14 +18,7 @@ module _ (p : ObjNo) (w v : World) (rest : SameButSlots w v) where
 
   pub unset_same : (x : ObjNo) (f : BuiltIn) → unset_reason v x f ≡ unset_reason w x f
   unset_same x NameField = λ i. if passing p w v rest (λ row. row.player) x i then NamesPlayer x else NotControlled x
-  unset_same x R = refl
-  unset_same x W = refl
-  unset_same x F = refl
-  unset_same x Owner = refl
-  unset_same x Location = refl
-  unset_same x Contents = refl
-  unset_same x Programmer = refl
-  unset_same x Wizard = refl
+  unset_same x f = refl
 
   -- ---- the walk down from an object
 

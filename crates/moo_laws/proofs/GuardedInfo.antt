@@ -1,5 +1,5 @@
 -- What set_property_info leaves of worlds that are the same but for guarded values is so too: other bits, and another name.
-use Rattle.moo_world.{proofs.Lemmas.{◌≡◌, true, false, ◌&&◌, ◌||◌, refl, sym, ap, subst, ◌∙◌, not, Option, Some, None, if◌then◌else◌, option_map, both_ways, and_parts, none-some, same_Some, both_true, ObjNo, Bits, Name, same_object, same_text, folded, is_among, same_object-self, World, Slot, SameButSlots, IsWellFormed, is_object, slot_of, chain, chain-step, is_wizard, may_define, may_rename, defines_name, clashes, info_set, property_renamed, renamed_to, objects_same, same_links, object_numbered, is_number, state_fits, IsWellFormed-with_slot_of, slotted}, proofs.Form.Fields.{not_true}, proofs.Form.Slots.{slot_changed}, proofs.Form.Values.{clashes_same, defines_same}, proofs.Ownership.Created.{chains_same}, proofs.Inheritance.Insertion.{some_record}}
+use Rattle.moo_world.{proofs.Lemmas.{◌≡◌, true, false, ◌||◌, refl, sym, ap, subst, ◌∙◌, not, Option, Some, None, option_map, both_ways, and_parts, same_Some, both_true, ObjNo, Bits, Name, same_text, folded, is_among, same_object-self, World, Slot, SameButSlots, IsWellFormed, is_object, slot_of, chain, chain-step, is_wizard, may_define, may_rename, defines_name, clashes, info_set, property_renamed, renamed_to, objects_same, same_links, object_numbered, is_number, state_fits, IsWellFormed-with_slot_of, slotted, arith}, proofs.Form.Fields.{not_true}, proofs.Form.Slots.{slot_changed}, proofs.Form.Values.{clashes_same, defines_same}, proofs.Ownership.Created.{chains_same}, proofs.Inheritance.Insertion.{some_record}}
 use Rattle.moo_laws.specs.Reading.{emptied_slot}
 use Rattle.moo_laws.specs.Guarded.{SameButGuarded, is_shut}
 use Rattle.moo_laws.proofs.GuardedReading.{all_same}
@@ -40,15 +40,10 @@ module _ (p : ObjNo) (w v : World) (wf : IsWellFormed w) (none : is_wizard w p �
         by None e h = nothing_there (slot_of v y (folded n)) (h ∙ ap (option_map emptied_slot) e)
           where
             nothing_there : (o : Option Slot) → option_map emptied_slot o ≡ None → o ≡ None
-            nothing_there None k = refl
-            nothing_there (Some t) k = absurd (none-some (emptied_slot t) (sym k))
+            nothing_there o k = grind arith
 
     changed_same : (y : ObjNo) → is_among x (chain with_info y) ≡ true → slot_of (info_set v x n owner bits) y (folded n) ≡ slot_of with_info y (folded n)
-    changed_same y under =
-        let same = slots_same y (ap (is_among x) (sym (chains_same with_info w links y)) ∙ under) in
-        slot_changed v x n change y (folded n)
-        ∙ ap (λ o. if same_object x y && same_text (folded n) (folded n) then option_map change o else o) same
-        ∙ sym (slot_changed w x n change y (folded n))
+    changed_same y under = grind (arith, slots_same, chains_same, links, slot_changed, same_text)
 
     pub name_alike : (new : Name) → clashes w x new ≡ false → SameButGuarded p (property_renamed with_info x n new) (property_renamed (info_set v x n owner bits) x n new)
     name_alike new free =

@@ -1,5 +1,5 @@
 -- A property that is added, or gets a new name, leaves worlds the same but for guarded values.
-use Rattle.moo_world.{proofs.Lemmas.{◌≡◌, Bool, true, false, ◌&&◌, ◌||◌, List, [], ◌∷◌, ◌++◌, ◌+◌, map, arith, refl, sym, ap, subst, ◌∙◌, ◌⊎◌, inl, inr, Option, Some, None, is_some, if◌then◌else◌, option_map, option_and_then, both_ways, false≢true, none-some, same_Some, list_any, ObjNo, Name, Property, nothing, same_object, same_text, folded, is_among, same_object-Decides, same_text-Decides, World, WorldObject, Slot, SameButSlots, IsWellFormed, is_object, slot_of, chain, with_slots, without_slots, fresh, property_added, property_renamed, defined_by_any, property_named, clashes, named_owed, definer_among, Chain, Chain-chain, slotted, NamesDiffer, IsDistinct, same_property, same_property-self, cond, or_cases, or_right, and_parts, some_named, none_named, owed_listed, property_names_of, defines_name, owner_of, unwrap_or, objects_same, owners_same}, proofs.Ownership.Created.{chains_same}, proofs.Inheritance.Insertion.{none_owed}}
+use Rattle.moo_world.{proofs.Lemmas.{◌≡◌, Bool, true, false, ◌&&◌, ◌||◌, List, [], ◌∷◌, ◌++◌, ◌+◌, map, arith, refl, sym, ap, subst, ◌∙◌, ◌⊎◌, inl, inr, Option, Some, None, if◌then◌else◌, option_map, option_and_then, both_ways, false≢true, none-some, same_Some, list_any, ObjNo, Name, Property, same_object, same_text, folded, is_among, same_object-Decides, same_text-Decides, World, WorldObject, Slot, SameButSlots, IsWellFormed, is_object, slot_of, chain, with_slots, without_slots, fresh, property_added, property_renamed, defined_by_any, property_named, clashes, named_owed, definer_among, Chain, Chain-chain, slotted, NamesDiffer, IsDistinct, same_property, same_property-self, cond, or_cases, or_right, and_parts, some_named, none_named, owed_listed, property_names_of, defines_name, owner_of, objects_same, owners_same}, proofs.Ownership.Created.{chains_same}, proofs.Inheritance.Insertion.{none_owed}}
 use Rattle.moo_laws.specs.Guarded.{SameButGuarded}
 use Rattle.moo_laws.proofs.GuardedSlots.{Comes, gone, made, as_it_was, alike_from}
 
@@ -15,19 +15,14 @@ both_redefined names first second w v same = one first w ∙ ap (redefined names
   where
     by : (slots : ObjNo → WorldObject → Name → Option Slot) (y : ObjNo) (o : Option WorldObject)
         → option_map bare (option_map (λ (r : WorldObject). record r { defines = names y r.defines; slot = slots y r }) o) ≡ option_map (λ (r : WorldObject). record r { defines = names y r.defines; slot = λ n. None }) (option_map bare o)
-    by slots y None = refl
-    by slots y (Some r) = refl
+    by slots y o = grind arith
 
     one : (slots : ObjNo → WorldObject → Name → Option Slot) (k : World) → without_slots (redefined names slots k) ≡ redefined names (λ y r n. None) (without_slots k)
     one slots k = λ i. record k { object = λ y. by slots y (k.object y) i }
 
 -- the slot of a redefined object
 slot_redefined : (names : ObjNo → List Name → List Name) (slots : ObjNo → WorldObject → Name → Option Slot) (w : World) (y : ObjNo) (n : Name) → slot_of (redefined names slots w) y n ≡ option_and_then (λ r. slots y r n) (w.object y)
-slot_redefined names slots w y n = by (w.object y)
-  where
-    by : (o : Option WorldObject) → option_and_then (λ (r : WorldObject). r.slot n) (option_map (λ (r : WorldObject). record r { defines = names y r.defines; slot = slots y r }) o) ≡ option_and_then (λ r. slots y r n) o
-    by None = refl
-    by (Some r) = refl
+slot_redefined names slots w y n = grind arith
 
 -- ---- a name that is free
 
@@ -56,15 +51,7 @@ module _ (x : ObjNo) (name : Name) (s : Slot) where
   here k y n = is_object k y && (is_among x (chain k y) && same_text (folded name) n)
 
   pub slot_added : (k : World) (y : ObjNo) (n : Name) → slot_of (property_added k x name s) y n ≡ now (here k y n) (same_object x y) n (owner_of k y) (slot_of k y n)
-  slot_added k y n = by (is_among x (chain k y)) (same_text (folded name) n) (same_object x y) (k.object y)
-    where
-      by : (under named same : Bool) (o : Option WorldObject) → option_and_then (λ (r : WorldObject). r.slot n) (option_map (λ (r : WorldObject). record r {
-        defines = if same then r.defines ++ name ∷ [] else r.defines;
-        slot = λ m. if under then (if same_text (folded name) m then Some (if same then s else fresh r.row.owner s) else r.slot m) else r.slot m;
-      }) o) ≡ now (is_some o && (under && same_text (folded name) n)) same n (unwrap_or (option_map (λ (r : WorldObject). r.row.owner) o) nothing) (option_and_then (λ (r : WorldObject). r.slot n) o)
-      by under named same None = refl
-      by true named same (Some r) = refl
-      by false named same (Some r) = refl
+  slot_added k y n = grind arith
 
 module _ (p : ObjNo) (w v : World) (alike : SameButGuarded p w v) (wf : IsWellFormed w) (x : ObjNo) (name : Name) (s : Slot) (xo : is_object w x ≡ true) (free : clashes w x name ≡ false) (mine : s.definer ≡ x) where
   comes_new : (y : ObjNo) (n : Name) (b : Bool) → here x name s w y n ≡ b → Comes p w v alike n (now x name s b (same_object x y) n (owner_of w y) (slot_of w y n)) (now x name s b (same_object x y) n (owner_of w y) (slot_of v y n))
@@ -72,10 +59,7 @@ module _ (p : ObjNo) (w v : World) (alike : SameButGuarded p w v) (wf : IsWellFo
   comes_new y n true e = made refl (λ t f z u g d. not_defined w wf x name s xo free z u (ap (slot_of w z) named ∙ g) (d ∙ sym (ap (λ (k : Slot). k.definer) (same_Some _ t f)) ∙ of_x (same_object x y)))
     where
       named : folded name ≡ n
-      named = (same_text-Decides (folded name) n).0 (last (is_object w y) (is_among x (chain w y)) (same_text (folded name) n) e)
-        where
-          last : (a b c : Bool) → (a && (b && c)) ≡ true → c ≡ true
-          last a b c h = grind arith
+      named = grind (arith, same_text-Decides)
 
       of_x : (b : Bool) → (if b then s else fresh (owner_of w y) s).definer ≡ x
       of_x true = mine
@@ -135,30 +119,15 @@ module _ (x : ObjNo) (old name : Name) where
   afterwards under new was o q = if under then (if new then o else (if was then None else q)) else q
 
   pub slot_renamed : (k : World) (y : ObjNo) (n : Name) → slot_of (property_renamed k x old name) y n ≡ afterwards (is_among x (chain k y)) (same_text (folded name) n) (same_text (folded old) n) (slot_of k y (folded old)) (slot_of k y n)
-  slot_renamed k y n = by (is_among x (chain k y)) (same_text (folded name) n) (same_text (folded old) n) (same_object x y) (k.object y)
-    where
-      by : (under new was same : Bool) (o : Option WorldObject) → option_and_then (λ (r : WorldObject). r.slot n) (option_map (λ (r : WorldObject). record r {
-        defines = if same then map (λ m. if same_text (folded m) (folded old) then name else m) r.defines else r.defines;
-        slot = λ m. if under then (if same_text (folded name) m then r.slot (folded old) else (if same_text (folded old) m then None else r.slot m)) else r.slot m;
-      }) o) ≡ afterwards under (same_text (folded name) n) (same_text (folded old) n) (option_and_then (λ (r : WorldObject). r.slot (folded old)) o) (option_and_then (λ (r : WorldObject). r.slot n) o)
-      by true new was same None = none (same_text (folded name) n) (same_text (folded old) n)
-        where
-          none : (a b : Bool) → None ≡ afterwards true a b None None
-          none true b = refl
-          none false true = refl
-          none false false = refl
-      by false new was same None = refl
-      by true new was same (Some r) = refl
-      by false new was same (Some r) = refl
+  slot_renamed k y n = grind arith
 
 module _ (p : ObjNo) (w v : World) (alike : SameButGuarded p w v) (wf : IsWellFormed w) (x : ObjNo) (old name : Name) (s : Slot) (xo : is_object w x ≡ true) (free : clashes w x name ≡ false)
     (own : (y : ObjNo) (t : Slot) → is_among x (chain w y) ≡ true → slot_of w y (folded old) ≡ Some t → t.definer ≡ x) (shown : (y : ObjNo) → is_among x (chain w y) ≡ true → slot_of v y (folded old) ≡ slot_of w y (folded old)) where
   comes_named : (y : ObjNo) (n : Name) (under new was : Bool) → is_among x (chain w y) ≡ under → same_text (folded name) n ≡ new
       → Comes p w v alike n (afterwards x old name under new was (slot_of w y (folded old)) (slot_of w y n)) (afterwards x old name under new was (slot_of v y (folded old)) (slot_of v y n))
-  comes_named y n false new was e f = as_it_was p w v alike n y _ _ refl refl
   comes_named y n true true was e f = made (shown y e) (λ t g z u h d. not_defined w wf x name s xo free z u (ap (slot_of w z) ((same_text-Decides (folded name) n).0 f) ∙ h) (d ∙ own y t e g))
   comes_named y n true false true e f = gone refl refl
-  comes_named y n true false false e f = as_it_was p w v alike n y _ _ refl refl
+  comes_named y n under new was e f = as_it_was p w v alike n y _ _ refl refl
 
   named_slots : (y : ObjNo) (n : Name) → Comes p w v alike n (slot_of (property_renamed w x old name) y n) (slot_of (property_renamed v x old name) y n)
   named_slots y n =

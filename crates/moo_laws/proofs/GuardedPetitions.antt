@@ -1,5 +1,5 @@
 -- The calls of petitions of who isn't a wizard tell the same in states that are alike, and leave such states.
-use Rattle.moo_world.{proofs.Lemmas.{◌≡◌, ℤ, pos, negsuc, Bool, true, false, cond, ◌||◌, List, ◌+◌, map, nat_lt, refl, sym, ap, ◌∙◌, Option, Some, None, is_some, if◌then◌else◌, option_map, option_and_then, both_ways, false≢true, none-some, get, get-insert, get-remove, list_of, ObjNo, Value, Values, Int, PetitionId, PetitionRow, petition_cmp, petition_total, petition_id, are_few, are_shallow, are_on_world, is_named, asked, without, Outcome, Done, check, found_or, same_object, State, is_wizard, petition_call_by, one_list, one_integer, no_values, list_all, spread}, specs.declared.name.PetitionCall.{PetitionCall}}
+use Rattle.moo_world.{proofs.Lemmas.{◌≡◌, ℤ, pos, negsuc, Bool, false, cond, ◌||◌, List, ◌+◌, map, nat_lt, refl, sym, ap, ◌∙◌, Option, Some, None, is_some, if◌then◌else◌, option_map, option_and_then, both_ways, false≢true, get, get-insert, get-remove, list_of, ObjNo, Value, Values, Int, PetitionId, PetitionRow, petition_cmp, petition_total, petition_id, are_few, are_shallow, are_on_world, is_named, asked, without, Outcome, Done, check, found_or, same_object, State, is_wizard, petition_call_by, one_list, one_integer, no_values, list_all, spread, arith}, specs.declared.name.PetitionCall.{PetitionCall}}
 use Rattle.std.specs.Ordering.{eq_by_cmp}
 use Rattle.moo_world.specs.Answers.{zero}
 use Rattle.moo_world.specs.Outcomes.{fails}
@@ -9,17 +9,12 @@ use Rattle.moo_world.specs.declared.name.PetitionCall.TheVariants.{Petition as t
 use Rattle.moo_laws.specs.Guarded.{AlikeFor}
 use Rattle.moo_laws.proofs.PetitionsSeen.{same_list}
 use Rattle.moo_laws.proofs.Unseen.{seen_own}
-use Rattle.moo_laws.proofs.GuardedChecks.{Both, on_checks, on_rooms, on_givens, wizards}
+use Rattle.moo_laws.proofs.Both.{Both, on_checks, on_rooms, on_givens}
+use Rattle.moo_laws.proofs.GuardedChecks.{wizards}
 
 -- a petition is the programmer's own in both states or in neither
 owned_alike : (p : ObjNo) (a b : PetitionRow) → ◌≡◌ {A = Option PetitionRow} (if same_object b.who p then Some b else None) (if same_object a.who p then Some a else None) → same_object b.who p ≡ same_object a.who p
-owned_alike p a b e = by (same_object a.who p) (same_object b.who p) e
-  where
-    by : (x y : Bool) → ◌≡◌ {A = Option PetitionRow} (if y then Some b else None) (if x then Some a else None) → y ≡ x
-    by true true e = refl
-    by false false e = refl
-    by true false e = absurd (none-some a e)
-    by false true e = absurd (none-some b (sym e))
+owned_alike p a b e = grind arith
 
 module _ (p : ObjNo) (s t : State) (alike : AlikeFor p s t) (none : is_wizard s.world p ≡ false) where
   abbrev Rel : State → State → Type 0
@@ -49,12 +44,10 @@ module _ (p : ObjNo) (s t : State) (alike : AlikeFor p s t) (none : is_wizard s.
       now id = get-insert petition_total t.petitions (petition_id t.next_petition) (record { who = p; calls = calls }) id ∙ ap (λ n. put calls (eq_by_cmp petition_cmp id (petition_id n)) (get t.petitions id)) alike.next
 
       by_number : (b : Bool) (o q : Option PetitionRow) → is_some q ≡ is_some o → is_some (put calls b q) ≡ is_some (put calls b o)
-      by_number true o q e = refl
-      by_number false o q e = e
+      by_number b o q e = grind arith
 
       by_own : (b : Bool) (o q : Option PetitionRow) → own_now q ≡ own_now o → own_now (put calls b q) ≡ own_now (put calls b o)
-      by_own true o q e = refl
-      by_own false o q e = e
+      by_own b o q e = grind arith
 
   asks_for : (calls : Values) → Both Rel (petition s p calls) (petition t p calls)
   asks_for calls =
@@ -83,12 +76,10 @@ module _ (p : ObjNo) (s t : State) (alike : AlikeFor p s t) (none : is_wizard s.
   }
     where
       by_number : (b : Bool) (o q : Option PetitionRow) → is_some q ≡ is_some o → is_some (cond b None q) ≡ is_some (cond b None o)
-      by_number true o q e = refl
-      by_number false o q e = e
+      by_number b o q e = grind arith
 
       by_own : (b : Bool) (o q : Option PetitionRow) → own_now q ≡ own_now o → own_now (cond b None q) ≡ own_now (cond b None o)
-      by_own true o q e = refl
-      by_own false o q e = e
+      by_own b o q e = grind arith
 
   abbrev taken_away : State → Option (PetitionId × PetitionRow) → Outcome State
   taken_away u o = found_or o NoPetition (λ found. check (same_object found.1.who p || is_wizard u.world p) (fails NotAsker) (Done zero (without found.0 u)))

@@ -12,8 +12,7 @@ own_named d [] n q e = absurd (none-some q e)
 own_named d (k ∷ names) n q e = by (same_text (folded k) n) e (own_named d names n q)
   where
     by : (b : Bool) → cond b (Some (d, k)) (property_named (map (λ k. (d, k)) names) n) ≡ Some q → (property_named (map (λ k. (d, k)) names) n ≡ Some q → q.0 ≡ d) → q.0 ≡ d
-    by true e r = ap (λ (z : Property). z.0) (sym (same_Some (d, k) q e))
-    by false e r = r e
+    by b e f = grind (arith, same_Some)
 
 defined_slot : (o : Option Slot) (d : ObjNo) → option_map (λ (s : Slot). s.definer) o ≡ Some d → (s : Slot) × (o ≡ Some s) × (s.definer ≡ d)
 defined_slot o d e = grind arith

@@ -18,26 +18,17 @@ module _ (p : ObjNo) (w v : World) (alike : SameButGuarded p w v) where
   as_it_was n y a b e f = from y (λ s. s) (e ∙ itself (slot_of w y n)) (f ∙ itself (slot_of v y n)) (λ s. refl) (λ s t h. h) (λ s h shut. shut)
     where
       itself : (o : Option Slot) → o ≡ option_map (λ s. s) o
-      itself None = refl
-      itself (Some s) = refl
+      itself o = grind arith
 
   mapped : (g : Slot → Slot) (o : Option Slot) (s : Slot) → option_map g o ≡ Some s → (t : Slot) × (o ≡ Some t) × (g t ≡ s)
-  mapped g None s e = absurd (none-some s e)
-  mapped g (Some t) s e = (t, refl, same_Some (g t) s e)
+  mapped g o s e = grind (arith, none-some, same_Some)
 
   emptied_alike : (g : Slot → Slot) → ((s t : Slot) → emptied_slot t ≡ emptied_slot s → emptied_slot (g t) ≡ emptied_slot (g s)) → (o q : Option Slot) → option_map emptied_slot q ≡ option_map emptied_slot o → option_map emptied_slot (option_map g q) ≡ option_map emptied_slot (option_map g o)
-  emptied_alike g h None None e = refl
-  emptied_alike g h None (Some t) e = absurd (none-some (emptied_slot t) (sym e))
-  emptied_alike g h (Some s) None e = absurd (none-some (emptied_slot s) e)
-  emptied_alike g h (Some s) (Some t) e = ap Some (h s t (same_Some (emptied_slot t) (emptied_slot s) e))
+  emptied_alike g e o q f = grind arith
 
   module _ (next other : World) (rest : SameButSlots next other) (comes : (y : ObjNo) (n : Name) → Comes n (slot_of next y n) (slot_of other y n)) where
     emptied_still : (y : ObjNo) (n : Name) → option_map emptied_slot (slot_of other y n) ≡ option_map emptied_slot (slot_of next y n)
-    emptied_still y n = elim (comes y n) [
-      | gone e f ↦ ap (option_map emptied_slot) (f ∙ sym e)
-      | from z g e f d h k ↦ ap (option_map emptied_slot) f ∙ emptied_alike g h (slot_of w z n) (slot_of v z n) (alike.slots z n) ∙ ap (option_map emptied_slot) (sym e)
-      | made e k ↦ ap (option_map emptied_slot) e
-    ]
+    emptied_still y n = grind (arith, emptied_alike)
 
     still_guarded : (n : Name) (d : ObjNo) (z : ObjNo) (s : Slot) → slot_of w z n ≡ Some s → s.definer ≡ d → IsGuarded w p d n → IsGuarded next p d n
     still_guarded n d z s e same guarded y t f g = by (comes y n)

@@ -1,5 +1,5 @@
 -- A guarded value, and a petition of somebody else, may be any.
-use Rattle.moo_world.{proofs.Lemmas.{◌≡◌, Bool, true, false, cond, ◌&&◌, refl, sym, ap, subst, ◌∙◌, ◌⊎◌, inl, inr, Option, Some, None, is_some, if◌then◌else◌, option_map, option_and_then, and_parts, same_Some, get, insert, get-insert, ObjNo, Value, Clear, PetitionId, PetitionRow, petition_cmp, petition_total, petition_exact, Name, same_object, same_text, folded, same_object-Decides, same_object-self, same_text-Decides, State, World, Slot, slot_of, same_links}, proofs.Form.Slots.{slot_changed}, proofs.Shown.MapLaws.{key-Decides}}
+use Rattle.moo_world.{proofs.Lemmas.{◌≡◌, Bool, true, false, cond, refl, sym, ap, ◌∙◌, ◌⊎◌, inl, Option, Some, None, is_some, if◌then◌else◌, option_map, option_and_then, and_parts, same_Some, get, insert, get-insert, ObjNo, Value, Clear, PetitionId, PetitionRow, petition_cmp, petition_total, petition_exact, Name, same_object, same_text, folded, same_object-Decides, same_object-self, same_text-Decides, State, World, Slot, slot_of, same_links, arith}, proofs.Form.Slots.{slot_changed}, proofs.Shown.MapLaws.{key-Decides}}
 use Rattle.std.specs.Ordering.{eq_by_cmp}
 use Rattle.moo_world.specs.Changes.{value_set}
 use Rattle.moo_rows.specs.declared.row.SlotState.TheVariants.{Set as a_value}
@@ -12,24 +12,10 @@ module _ (p : ObjNo) (w : World) (x : ObjNo) (n : Name) (slot : Slot) (value : V
   change s = record s { state = a_value value }
 
   emptied_same : (y : ObjNo) (m : Name) → option_map emptied_slot (slot_of (value_set w x n value) y m) ≡ option_map emptied_slot (slot_of w y m)
-  emptied_same y m = ap (option_map emptied_slot) (slot_changed w x n change y m) ∙ by (same_object x y && same_text (folded n) m) (slot_of w y m)
-    where
-      by : (b : Bool) (o : Option Slot) → option_map emptied_slot (if b then option_map change o else o) ≡ option_map emptied_slot o
-      by false o = refl
-      by true None = refl
-      by true (Some s) = refl
+  emptied_same y m = grind (arith, slot_changed)
 
   same_or_guarded : (y : ObjNo) (m : Name) (s : Slot) → slot_of w y m ≡ Some s → (slot_of (value_set w x n value) y m ≡ Some s) ⊎ IsGuarded w p s.definer m
-  same_or_guarded y m s e = by (same_object x y && same_text (folded n) m) refl
-    where
-      by : (b : Bool) → (same_object x y && same_text (folded n) m) ≡ b → (slot_of (value_set w x n value) y m ≡ Some s) ⊎ IsGuarded w p s.definer m
-      by false f = inl (slot_changed w x n change y m ∙ ap (λ b. if b then option_map change (slot_of w y m) else slot_of w y m) f ∙ e)
-      by true f =
-          let parts = and_parts (same_object x y) (same_text (folded n) m) f in
-          let own : x ≡ y = (same_object-Decides x y).0 parts.0 in
-          let named : folded n ≡ m = (same_text-Decides (folded n) m).0 parts.1 in
-          let same : slot ≡ s = same_Some slot s (sym here ∙ (λ i. slot_of w (own i) (named i)) ∙ e) in
-          inr (subst (λ (k : Name). IsGuarded w p s.definer k) named (subst (λ (k : Slot). IsGuarded w p k.definer (folded n)) same guarded))
+  same_or_guarded y m s e = grind (arith, same_text, slot_changed, and_parts, same_object-Decides, same_text-Decides, same_Some)
 
   worlds_alike : SameButGuarded p w (value_set w x n value)
   worlds_alike = record { rest = sym (same_links w x n change); slots = emptied_same; values = same_or_guarded }
@@ -48,9 +34,7 @@ unfolding value_in
 one_value s x n slot value other here same = sym (ap (value_in value) (now value)) ∙ ap (λ (k : State). value_in value (slot_of k.world x (folded n))) same ∙ ap (value_in value) (now other)
   where
     now : (u : Value) → slot_of (value_set s.world x n u) x (folded n) ≡ Some (record slot { state = a_value u })
-    now u =
-        slot_changed s.world x n (λ k. record k { state = a_value u }) x (folded n)
-        ∙ (λ i. if same_object-self x i && (same_text-Decides (folded n) (folded n)).1 refl i then option_map (λ (k : Slot). record k { state = a_value u }) (here i) else here i)
+    now u = grind (arith, slot_changed, same_object-self, same_text-Decides)
 
 -- ---- a petition of somebody else
 
@@ -70,9 +54,7 @@ other_petition p s id row other here theirs too = record {
     at key e = ap (get s.petitions) ((key-Decides petition_cmp petition_total petition_exact key id).0 e) ∙ here
 
     number : (key : PetitionId) (b : Bool) → eq_by_cmp petition_cmp key id ≡ b → is_some (cond b (Some other) (get s.petitions key)) ≡ is_some (get s.petitions key)
-    number key false e = refl
-    number key true e = sym (ap is_some (at key e))
+    number key b e = grind (arith, at)
 
     mine : (key : PetitionId) (b : Bool) → eq_by_cmp petition_cmp key id ≡ b → option_and_then (λ (r : PetitionRow). if same_object r.who p then Some r else None) (cond b (Some other) (get s.petitions key)) ≡ option_and_then (λ (r : PetitionRow). if same_object r.who p then Some r else None) (get s.petitions key)
-    mine key false e = refl
-    mine key true e = ap (λ b. if b then Some other else None) too ∙ sym (ap (option_and_then (λ (r : PetitionRow). if same_object r.who p then Some r else None)) (at key e) ∙ ap (λ b. if b then Some row else None) theirs)
+    mine key b e = grind (arith, at)

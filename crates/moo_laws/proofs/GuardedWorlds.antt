@@ -1,5 +1,5 @@
 -- The worlds that changes of objects, of quotas and of definitions leave are the same but for guarded values.
-use Rattle.moo_world.{proofs.Lemmas.{◌≡◌, Bool, true, false, ◌&&◌, ◌||◌, List, [], ◌∷◌, ◌+◌, not, arith, refl, sym, ap, subst, ◌∙◌, inl, inr, ℤ, pos, negsuc, ◌+ℤ◌, int_lt, Option, Some, None, unwrap_or, if◌then◌else◌, option_map, option_and_then, none-some, ObjNo, ObjRow, VerbRow, SlotState, Set, Int, Name, nothing, same_object, same_text, same_text-Decides, World, WorldObject, Slot, SameButSlots, parent_of, slot_of, chain, with_slots, without_slots, object_changed, object_added, object_removed, released, read_along, read_in, quota_name, quota_of, quota_in, quota_changed, set_slot, charged, quota_returned, parents_same}, proofs.Ownership.Created.{chains_same}}
+use Rattle.moo_world.{proofs.Lemmas.{◌≡◌, Bool, true, false, ◌&&◌, List, [], ◌∷◌, ◌+◌, arith, refl, sym, ap, subst, ◌∙◌, inl, inr, ℤ, pos, negsuc, ◌+ℤ◌, int_lt, Option, Some, None, unwrap_or, if◌then◌else◌, option_map, none-some, ObjNo, ObjRow, VerbRow, SlotState, Set, Int, Name, nothing, same_object, same_text, same_text-Decides, World, WorldObject, Slot, SameButSlots, parent_of, slot_of, chain, with_slots, without_slots, object_changed, object_added, object_removed, released, read_along, read_in, quota_name, quota_of, quota_in, quota_changed, set_slot, charged, quota_returned, parents_same}, proofs.Ownership.Created.{chains_same}}
 use Rattle.moo_laws.specs.Reading.{emptied_slot}
 use Rattle.moo_laws.specs.Guarded.{SameButGuarded, is_shut}
 use Rattle.moo_laws.proofs.GuardedSlots.{Comes, from, as_it_was, alike_from, with_same_slots}
@@ -10,23 +10,13 @@ bare r = with_slots (λ n. None) r
 -- ---- objects changed in one way
 
 bare_changed : (w : World) (x : ObjNo) (c : WorldObject → WorldObject) → ((r : WorldObject) → bare (c r) ≡ c (bare r)) → without_slots (object_changed w x c) ≡ object_changed (without_slots w) x c
-bare_changed w x c h = λ i. record w { object = λ y. by (same_object x y) (w.object y) i }
-  where
-    by : (b : Bool) (o : Option WorldObject) → option_map bare (option_map (λ r. if b then c r else r) o) ≡ option_map (λ r. if b then c r else r) (option_map bare o)
-    by b None = refl
-    by true (Some r) = ap Some (h r)
-    by false (Some r) = refl
+bare_changed w x c h = grind arith
 
 pub both_changed : (w v : World) (x : ObjNo) (c : WorldObject → WorldObject) → SameButSlots w v → ((r : WorldObject) → bare (c r) ≡ c (bare r)) → SameButSlots (object_changed w x c) (object_changed v x c)
 both_changed w v x c same h = bare_changed w x c h ∙ ap (λ k. object_changed k x c) same ∙ sym (bare_changed v x c h)
 
 slots_stay : (w : World) (x : ObjNo) (c : WorldObject → WorldObject) → ((r : WorldObject) → (c r).slot ≡ r.slot) → (y : ObjNo) (n : Name) → slot_of (object_changed w x c) y n ≡ slot_of w y n
-slots_stay w x c h y n = by (same_object x y) (w.object y)
-  where
-    by : (b : Bool) (o : Option WorldObject) → option_and_then (λ (r : WorldObject). r.slot n) (option_map (λ r. if b then c r else r) o) ≡ option_and_then (λ (r : WorldObject). r.slot n) o
-    by b None = refl
-    by true (Some r) = ap (λ f. f n) (h r)
-    by false (Some r) = refl
+slots_stay w x c h y n = grind arith
 
 module _ (p : ObjNo) (w v : World) (alike : SameButGuarded p w v) where
   -- a change of rows or verbs
@@ -45,8 +35,7 @@ module _ (p : ObjNo) (w v : World) (alike : SameButGuarded p w v) where
   both_added x entry = one w ∙ ap (λ k. object_added k x (bare entry)) alike.rest ∙ sym (one v)
     where
       by : (b : Bool) (o : Option WorldObject) → option_map bare (if b then Some entry else o) ≡ (if b then Some (bare entry) else option_map bare o)
-      by true o = refl
-      by false o = refl
+      by b o = grind arith
 
       one : (k : World) → without_slots (object_added k x entry) ≡ object_added (without_slots k) x (bare entry)
       one k = λ i. record k { object = λ y. by (same_object x y) (k.object y) i; top = x.0 }
@@ -58,9 +47,7 @@ module _ (p : ObjNo) (w v : World) (alike : SameButGuarded p w v) where
       taken q k = record k { object = λ y. if same_object x y then None else option_map (released x q) (k.object y) }
 
       by : (q : ObjNo) (b : Bool) (o : Option WorldObject) → option_map bare (if b then None else option_map (released x q) o) ≡ (if b then None else option_map (released x q) (option_map bare o))
-      by q true o = refl
-      by q false None = refl
-      by q false (Some r) = refl
+      by q b o = grind arith
 
       one : (k : World) → without_slots (object_removed k x) ≡ taken (unwrap_or (parent_of k x) nothing) (without_slots k)
       one k = λ i. record k { object = λ y. by (unwrap_or (parent_of k x) nothing) (same_object x y) (k.object y) i }
@@ -68,10 +55,7 @@ module _ (p : ObjNo) (w v : World) (alike : SameButGuarded p w v) where
   -- ---- quotas
 
   quotas_shown : (s : Slot) → is_shut p quota_name s ≡ true → ⊥
-  quotas_shown s h = by (same_text quota_name quota_name) ((same_text-Decides quota_name quota_name).1 refl) h
-    where
-      by : (b : Bool) → b ≡ true → not (same_object p s.owner || (s.bits.r || (s.bits.w || (s.bits.c || b)))) ≡ true → ⊥
-      by b e h = grind arith
+  quotas_shown s h = grind (arith, same_text, same_text-Decides)
 
   quota_slots : (y : ObjNo) → slot_of v y quota_name ≡ slot_of w y quota_name
   quota_slots y = by (slot_of w y quota_name) refl (slot_of v y quota_name) (alike.slots y quota_name)
@@ -82,8 +66,7 @@ module _ (p : ObjNo) (w v : World) (alike : SameButGuarded p w v) where
       by None e None h = bothnone (slot_of v y quota_name) (alike.slots y quota_name ∙ ap (option_map emptied_slot) e)
         where
           bothnone : (o : Option Slot) → option_map emptied_slot o ≡ None → o ≡ None
-          bothnone None h = refl
-          bothnone (Some t) h = absurd (none-some (emptied_slot t) (sym h))
+          bothnone o h = grind arith
 
   quota_along : (l : List ObjNo) → read_along v quota_name l ≡ read_along w quota_name l
   quota_along [] = refl

@@ -1,5 +1,6 @@
 -- A value that a programmer may not read may be any.
 use Rattle.moo_world.{proofs.Lemmas.{◌≡◌, Bool, true, false, ◌||◌, List, [], ◌∷◌, arith, refl, sym, ap, ◌∙◌, Option, Some, None, is_some, if◌then◌else◌, option_map, both_ways, false≢true, same_Some, ObjNo, Value, Name, same_object, same_text, same_text-Decides, folded, is_among, World, WorldObject, Slot, IsWellFormed, is_object, slot_of, chain, same_links, slotted, chain-step, read_in, read_along}, proofs.Form.Slots.{slot_changed}, proofs.Ownership.Created.{chains_same}}
+use Rattle.std.proofs.lemmas.Bool.{false_from_ne_true}
 use Rattle.moo_world.specs.Changes.{value_set}
 use Rattle.moo_world.specs.PropertyCalls.{is_clear}
 use Rattle.moo_world.specs.Rights.{may_read_slot}
@@ -27,12 +28,7 @@ module _ (w : World) (wf : IsWellFormed w) (p x : ObjNo) (n : Name) (value : Val
   changed y m = slot_changed w x n change y m
 
   emptied_same : (y : ObjNo) (m : Name) → option_map emptied_slot (slot_of next y m) ≡ option_map emptied_slot (slot_of w y m)
-  emptied_same y m = ap (option_map emptied_slot) (changed y m) ∙ by (same_object x y && same_text (folded n) m) (slot_of w y m)
-    where
-      by : (b : Bool) (o : Option Slot) → option_map emptied_slot (if b then option_map change o else o) ≡ option_map emptied_slot o
-      by false o = refl
-      by true None = refl
-      by true (Some slot) = refl
+  emptied_same y m = grind arith
 
   same_slot : (y : ObjNo) (m : Name) → (same_object x y && same_text (folded n) m) ≡ false → slot_of next y m ≡ slot_of w y m
   same_slot y m e = changed y m ∙ ap (λ b. if b then option_map change (slot_of w y m) else slot_of w y m) e
@@ -42,11 +38,7 @@ module _ (w : World) (wf : IsWellFormed w) (p x : ObjNo) (n : Name) (value : Val
   along (y ∷ objects) m h = λ i. read_in (same_slot y m (apart (same_object x y) (is_among x objects) (same_text (folded n) m) h) i) (along objects m (λ e. later (same_object x y) (is_among x objects) (h e)) i)
 
   outside : (y : ObjNo) (m : Name) (a : Slot) → slot_of w y m ≡ Some a → may_read_slot w p a ≡ true → same_text (folded n) m ≡ true → is_among x (chain w y) ≡ false
-  outside y m a e may named = by (is_among x (chain w y)) refl
-    where
-      by : (b : Bool) → is_among x (chain w y) ≡ b → is_among x (chain w y) ≡ false
-      by false out = out
-      by true inside = absurd (both_ways (may_read_slot w p a) (hidden y a inside (ap (slot_of w y) ((same_text-Decides (folded n) m).0 named) ∙ e)) may)
+  outside y m a e may named = false_from_ne_true (is_among x (chain w y)) (λ inside. both_ways (may_read_slot w p a) (hidden y a inside (ap (slot_of w y) ((same_text-Decides (folded n) m).0 named) ∙ e)) may)
 
   not_itself : (y : ObjNo) → is_object w y ≡ true → is_among x (chain w y) ≡ false → same_object x y ≡ false
   not_itself y there out = by (w.object y) refl
@@ -56,10 +48,7 @@ module _ (w : World) (wf : IsWellFormed w) (p x : ObjNo) (n : Name) (value : Val
       by (Some r) e = earlier (same_object x y) (is_among x (chain w r.row.parent)) (sym (ap (is_among x) (chain-step w wf.tree y r e)) ∙ out)
 
   apart_here : (y : ObjNo) (m : Name) (a : Slot) → slot_of w y m ≡ Some a → may_read_slot w p a ≡ true → (same_object x y && same_text (folded n) m) ≡ false
-  apart_here y m a e may = apart (same_object x y) false (same_text (folded n) m) (λ named. or_false (same_object x y) (not_itself y (slotted w y m a e) (outside y m a e may named)))
-    where
-      or_false : (b : Bool) → b ≡ false → (b || false) ≡ false
-      or_false b e = grind arith
+  apart_here y m a e may = grind (arith, apart, same_text, not_itself, slotted, outside)
 
   pub hidden_look_alike : LookAlike p w next
   hidden_look_alike = record {

@@ -1,9 +1,11 @@
 pub mod ObjectNumbers
 pub mod Numbered
 pub mod Ranks
+pub mod Both
 pub mod Asking
 pub mod HiddenValues
 pub mod PetitionsSeen
+pub mod BothRuns
 pub mod ReadingBatches
 pub mod Unseen
 pub mod GuardedReading

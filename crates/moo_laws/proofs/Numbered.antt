@@ -1,20 +1,15 @@
 -- Over calls, batches and lists of batches no number of an object is given again.
-use Rattle.moo_world.{proofs.Lemmas.{◌≡◌, List, [], ◌∷◌, arith, refl, subst, Option, Some, None, nat_lt, if◌then◌else◌, ObjNo, Value, Outcome, Done, Failed, Full, State, World, held_call, held_step, held_steps, world_call, Led, of_done, request_leaves}, specs.declared.call.Call.{Call}, specs.declared.call.Batch.{Batch}}
+use Rattle.moo_world.{proofs.Lemmas.{◌≡◌, List, [], ◌∷◌, arith, refl, subst, nat_lt, if◌then◌else◌, ObjNo, Value, Outcome, Done, Failed, Full, State, World, held_step, held_steps, Led, of_done, request_leaves}, specs.declared.call.Call.{Call}, specs.declared.call.Batch.{Batch}}
 use Rattle.moo_world.specs.Judge.{Ran, Through, FailedAt, FullAt, NoRoom, Stale, after_one, run_calls, is_due, last_seq, verdict_of, judge, left_by, after}
 use Rattle.moo_world.specs.Requests.{batch_call}
-use Rattle.moo_world.specs.Outcomes.{fails, in_petition}
-use Rattle.moo_world.specs.declared.reason.Reason.TheVariants.{Unasked}
-use Rattle.std.specs.Prelude.{ℕ, ◌+◌, Bool, true, false}
+use Rattle.moo_world.specs.Outcomes.{in_petition}
+use Rattle.std.specs.Prelude.{ℕ, ◌+◌, Bool}
 use Rattle.moo_laws.specs.ObjectNumbers.{KeepsObjectNumbers}
 use Rattle.moo_laws.proofs.ObjectNumbers.{none_again, none_again_itself, none_again_joins}
 
 -- a call that a petition holds
 one_held : (w mid : World) (p : ObjNo) (held : Value) (a : Value) → held_step w p held ≡ Done a mid → KeepsObjectNumbers w mid
-one_held w mid p held a e = by (held_call held) e
-  where
-    by : (o : Option Call) → (elim o [ None ↦ fails Unasked | Some call ↦ world_call w p call ]) ≡ Done a mid → KeepsObjectNumbers w mid
-    by None e = absurd (grind arith)
-    by (Some call) e = none_again w mid p call a e
+one_held w mid p held a e = grind (arith, none_again)
 
 -- all of them
 held_again : (place : ℕ) (w next : World) (p : ObjNo) (helds : List Value) (v : Value) → held_steps place w p helds ≡ Done v next → KeepsObjectNumbers w next
@@ -22,15 +17,13 @@ held_again place w next p [] v e = subst (λ (o : Outcome World). IfDone o) e (n
   where
     IfDone : Outcome World → Type 0
     IfDone (Done v next) = KeepsObjectNumbers w next
-    IfDone (Failed failure) = Unit {0}
-    IfDone Full = Unit {0}
+    IfDone a = Unit {0}
 held_again place w next p (held ∷ helds) v e = by (held_step w p held) (λ mid a done. one_held w mid p held a done) (λ mid done. held_again (place + 1) mid next p helds v done) e
   where
     by : (o : Outcome World) → ((mid : World) (a : Value) → o ≡ Done a mid → KeepsObjectNumbers w mid) → ((mid : World) → held_steps (place + 1) mid p helds ≡ Done v next → KeepsObjectNumbers mid next)
         → (elim o [ Done answer mid ↦ held_steps (place + 1) mid p helds | Failed failure ↦ Failed (in_petition place failure) | Full ↦ Full ]) ≡ Done v next → KeepsObjectNumbers w next
     by (Done a mid) one rest e = none_again_joins w mid next (one mid a refl) (rest mid e)
-    by (Failed failure) one rest e = absurd (grind arith)
-    by Full one rest e = absurd (grind arith)
+    by o one rest e = absurd (grind arith)
 
 request_again : (s next : State) (p : ObjNo) (call : Call) (v : Value) → batch_call s p call ≡ Done v next → KeepsObjectNumbers s.world next.world
 request_again s next p call v e = of_done (λ v next. KeepsObjectNumbers s.world next.world) (batch_call s p call) v next (request_leaves (λ next. KeepsObjectNumbers s.world next.world) s p call led) e
@@ -47,13 +40,10 @@ request_again s next p call v e = of_done (λ v next. KeepsObjectNumbers s.world
 -- calls that were all done
 abbrev LeavesNumbers : World → Ran → Type 0
 LeavesNumbers w (Through answers s) = KeepsObjectNumbers w s.world
-LeavesNumbers w (FailedAt k e) = Unit {0}
-LeavesNumbers w (FullAt k) = Unit {0}
+LeavesNumbers w r = Unit {0}
 
 one_more : (w mid : World) (v : Value) (r : Ran) → KeepsObjectNumbers w mid → LeavesNumbers mid r → LeavesNumbers w (after_one v r)
-one_more w mid v (Through answers s) one h = none_again_joins w mid s.world one h
-one_more w mid v (FailedAt k e) one h = tt
-one_more w mid v (FullAt k) one h = tt
+one_more w mid v r e f = grind arith
 
 calls_again : (s : State) (p : ObjNo) (calls : List Call) → LeavesNumbers s.world (run_calls s p calls)
 calls_again s p [] = none_again_itself s.world
@@ -61,19 +51,14 @@ calls_again s p (call ∷ calls) = by (batch_call s p call) refl (λ next. calls
   where
     by : (o : Outcome State) → batch_call s p call ≡ o → ((next : State) → LeavesNumbers next.world (run_calls next p calls)) → LeavesNumbers s.world (elim o [ Done v next ↦ after_one v (run_calls next p calls) | Failed failure ↦ FailedAt 1 failure | Full ↦ FullAt 1 ])
     by (Done v next) e rest = one_more s.world next.world v (run_calls next p calls) (request_again s next p call v e) (rest next)
-    by (Failed failure) e rest = tt
-    by Full e rest = tt
+    by o e rest = tt
 
 batch_again : (s : State) (b : Batch) → KeepsObjectNumbers s.world (left_by s (judge s b)).world
 unfolding judge
 batch_again s b = by (is_due b.at s.seq) (nat_lt s.seq last_seq) (run_calls s b.programmer b.calls) (calls_again s b.programmer b.calls)
   where
     by : (due room : Bool) (r : Ran) → LeavesNumbers s.world r → KeepsObjectNumbers s.world (left_by s (if due then (if room then verdict_of s.seq r else NoRoom 0) else Stale s.seq)).world
-    by true true (Through answers end) h = h
-    by true true (FailedAt k e) h = none_again_itself s.world
-    by true true (FullAt k) h = none_again_itself s.world
-    by true false r h = none_again_itself s.world
-    by false room r h = none_again_itself s.world
+    by due room r e = grind arith
 
 pub object_numbers_stay : (s : State) (bs : List Batch) → KeepsObjectNumbers s.world (after s bs).world
 object_numbers_stay s [] = none_again_itself s.world

@@ -1,17 +1,15 @@
 -- No call gives the number of an object again.
-use Rattle.moo_world.{proofs.Lemmas.{◌≡◌, Bool, true, false, List, arith, ints, refl, sym, subst, ◌∙◌, ap, Option, Some, None, ℤ, pos, negsuc, ◌+ℤ◌, ◌≤ℤ◌, is_some, if◌then◌else◌, option_map, unwrap_or, ObjNo, Value, VerbRow, plain_object, Name, nothing, same_object, same_object-Decides, Done, World, WorldObject, Slot, is_object, parent_of, owner_of, SameButSlots-rebuilt, objects_same, Holds, on_check, on_failed, of_done, named_call, world_call}, proofs.Form.Passing.{each_check}, specs.declared.name.CallName.{CallName}, specs.declared.call.Call.{Call}, specs.declared.change.Change.{Change}}
-use Rattle.moo_world.specs.declared.name.CallName.TheVariants.{Set, Valid, Parent, Children, IsPlayer, Players, MaxObject, Get, Properties, PropertyInfo, IsClearProperty, Verbs, VerbInfo, VerbArgs, AcceptList, Create, Chparent, Recycle, Move, SetPlayerFlag, AddProperty, DeleteProperty, SetPropertyInfo, ClearProperty, AddVerb, DeleteVerb, SetVerbInfo, SetVerbArgs, SetAccept, Petition, Petitions, Grant, Decline}
+use Rattle.moo_world.{proofs.Lemmas.{◌≡◌, false≢true, Bool, true, false, List, arith, ints, refl, sym, subst, ◌∙◌, Option, Some, None, ℤ, pos, ◌+ℤ◌, ◌≤ℤ◌, is_some, if◌then◌else◌, option_map, unwrap_or, ObjNo, Value, VerbRow, plain_object, Name, nothing, same_object, same_object-Decides, Done, World, WorldObject, Slot, is_object, parent_of, owner_of, SameButSlots-rebuilt, objects_same, Holds, on_check, of_done, named_call, world_call}, proofs.Form.Passing.{each_check}, specs.declared.name.CallName.{CallName}, specs.declared.call.Call.{Call}, specs.declared.change.Change.{Change}}
+use Rattle.moo_world.specs.declared.name.CallName.TheVariants.{Set, Create, Chparent, Recycle, Move, SetPlayerFlag, AddProperty, DeleteProperty, SetPropertyInfo, ClearProperty, AddVerb, DeleteVerb, SetVerbInfo, SetVerbArgs, SetAccept}
 use Rattle.moo_world.specs.World.{rebuilt, object_changed, with_parent, reparented}
 use Rattle.moo_world.specs.Creation.{next_object, owner_or_self, object_added, created}
 use Rattle.moo_world.specs.Recycling.{released, object_removed, recycled}
 use Rattle.moo_world.specs.Fields.{field_changed}
-use Rattle.moo_world.specs.Changes.{property_added, property_removed, property_renamed, value_set, cleared, info_set}
+use Rattle.moo_world.specs.Changes.{property_added, property_removed, value_set, cleared, info_set}
 use Rattle.moo_world.specs.Directories.{verb_added, verb_removed, verb_info_set, verb_args_set}
 use Rattle.moo_world.specs.PropertyCalls.{renamed_to}
-use Rattle.moo_world.specs.Quota.{quota_name, quota_of, set_slot, quota_changed, charged, quota_returned}
+use Rattle.moo_world.specs.Quota.{quota_changed, charged, quota_returned}
 use Rattle.moo_rows.specs.declared.row.{Bits.{Bits}, ArgSpec.{ArgSpec}, VerbBits.{VerbBits}}
-use Rattle.moo_rows.specs.declared.row.SlotState.TheVariants.{Set as a_value}
-use Rattle.moo_value.specs.declared.value.Value.TheVariants.{Int}
 use Rattle.std.specs.Prelude.{ℕ}
 use Rattle.moo_laws.specs.ObjectNumbers.{KeepsObjectNumbers}
 
@@ -31,8 +29,7 @@ none_again_joins a b c f g = record {
 }
 
 same_some : (f : WorldObject → WorldObject) (o : Option WorldObject) → is_some (option_map f o) ≡ is_some o
-same_some f None = refl
-same_some f (Some r) = refl
+same_some f o = grind arith
 
 -- a world of the same number, with no other objects
 alike : (w next : World) → next.top ≡ w.top → ((y : ObjNo) → is_object next y ≡ is_object w y) → KeepsObjectNumbers w next
@@ -61,25 +58,13 @@ module _ (w : World) where
   changed v x change k = none_again_joins w v (object_changed v x change) k (on_record v x change)
 
   by_quota : (v : World) (o : ObjNo) (more : ℤ) → Passes v → Passes (quota_changed v o more)
-  by_quota v o more k = by (quota_of v o)
-    where
-      by : (q : Option ℤ) → Passes (elim q [ None ↦ v | Some had ↦ object_changed v o (set_slot quota_name (a_value (Int (had +ℤ more)))) ])
-      by None = k
-      by (Some had) = changed v o (set_slot quota_name (a_value (Int (had +ℤ more)))) k
+  by_quota v o more k = grind (arith, changed)
 
   by_charge : (v : World) (o : ObjNo) → Passes v → Passes (charged v o)
-  by_charge v o k = by (same_object nothing o)
-    where
-      by : (b : Bool) → Passes (if b then v else quota_changed v o (negsuc 0))
-      by true = k
-      by false = by_quota v o (negsuc 0) k
+  by_charge v o k = grind (arith, nothing)
 
   by_return : (v : World) (o : ObjNo) → Passes v → Passes (quota_returned v o)
-  by_return v o k = by _
-    where
-      by : (b : Bool) → Passes (if b then quota_changed v o (pos 1) else v)
-      by true = by_quota v o (pos 1) k
-      by false = k
+  by_return v o k = grind arith
 
   -- ---- objects
 
@@ -96,11 +81,7 @@ module _ (w : World) where
   added x q owner is_next = record { top = grows w.top x.0 (next_is x is_next); old = λ y below is. by y below (same_object x y) refl is }
     where
       by : (y : ObjNo) → y.0 ≤ℤ w.top → (b : Bool) → same_object x y ≡ b → is_some (if b then Some (plain_object q owner) else w.object y) ≡ true → is_object w y ≡ true
-      by y below false e is = is
-      by y below true e is = absurd (both (above y.0 w.top (sym (ap (λ (z : ObjNo). z.0) ((same_object-Decides x y).0 e)) ∙ next_is x is_next) below))
-        where
-          both : false ≡ true → ⊥
-          both h = absurd cc
+      by y e b f g = grind (arith, false≢true, above, same_object-Decides, next_is)
 
   made : (x q owner : ObjNo) → next_object w ≡ Some x → Passes (charged (created w x q (owner_or_self x owner)) owner)
   made x q owner is_next = by_charge (created w x q (owner_or_self x owner)) owner (on_rebuilt w (object_added w x (plain_object q (owner_or_self x owner))) w q (added x q (owner_or_self x owner) is_next))
@@ -135,8 +116,7 @@ module _ (w : World) where
   without_property x n = on_rebuilt w _ w nothing (on_record w x _)
 
   with_info : (x : ObjNo) (n : Name) (owner : ObjNo) (bits : Bits) (new : Option Name) → Passes (renamed_to (info_set w x n owner bits) x n new)
-  with_info x n owner bits None = on_record w x _
-  with_info x n owner bits (Some name) = none_again_joins w (info_set w x n owner bits) _ (on_record w x _) (alike (info_set w x n owner bits) (property_renamed (info_set w x n owner bits) x n name) refl (λ y. same_some _ ((info_set w x n owner bits).object y)))
+  with_info x n owner bits new = grind (arith, on_record, alike, same_some)
 
   -- ---- verbs
 
@@ -155,20 +135,6 @@ module _ (w : World) where
   -- ---- by name
 
   named : (p : ObjNo) (values : List Value) (name : CallName) → Holds (λ v next. KeepsObjectNumbers w next) (named_call w p name values)
-  named p values Valid = search (each_check, same)
-  named p values Parent = search (each_check, same)
-  named p values Children = search (each_check, same)
-  named p values IsPlayer = search (each_check, same)
-  named p values Players = search (each_check, same)
-  named p values MaxObject = search (each_check, same)
-  named p values Get = search (each_check, same) depth 9
-  named p values Properties = search (each_check, same) depth 9
-  named p values PropertyInfo = search (each_check, same) depth 9
-  named p values IsClearProperty = search (each_check, same) depth 9
-  named p values Verbs = search (each_check, same) depth 9
-  named p values VerbInfo = search (each_check, same) depth 9
-  named p values VerbArgs = search (each_check, same) depth 9
-  named p values AcceptList = search (each_check, same)
   named p values Create = search (each_check, made) depth 12
   named p values Chparent = search (each_check, moved_under) depth 12
   named p values Recycle = search (each_check, gone) depth 12
@@ -184,10 +150,7 @@ module _ (w : World) where
   named p values SetVerbInfo = search (each_check, with_verb_info) depth 15
   named p values SetVerbArgs = search (each_check, with_verb_args) depth 12
   named p values SetAccept = search (each_check, with_field) depth 12
-  named p values Petition = on_failed _ _
-  named p values Petitions = on_failed _ _
-  named p values Grant = on_failed _ _
-  named p values Decline = on_failed _ _
+  named p values name = search (each_check, same) depth 9
 
 pub none_again : (w next : World) (p : ObjNo) (call : Call) (v : Value) → world_call w p call ≡ Done v next → KeepsObjectNumbers w next
 unfolding world_call

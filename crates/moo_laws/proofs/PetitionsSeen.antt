@@ -1,5 +1,5 @@
 -- The petitions that a programmer may see are all that the list of them depends on.
-use Rattle.moo_world.{proofs.Lemmas.{◌≡◌, Bool, true, false, refl, sym, ap, ◌∙◌, ◌||◌, cond, T, Option, Some, None, is_some, if◌then◌else◌, option_and_then, List, FinMap, entries, entries_sorted, get, get-entries, is_sorted, filter, ObjNo, same_object, PetitionId, PetitionRow, petition_cmp, petition_total, petition_exact, State, is_wizard}, proofs.Shown.EntriesInOrder.{own_entries, filter_alike, all_weaker}}
+use Rattle.moo_world.{proofs.Lemmas.{◌≡◌, Bool, sym, ap, ◌∙◌, ◌||◌, cond, T, Option, Some, None, is_some, if◌then◌else◌, option_and_then, List, FinMap, entries, entries_sorted, get, get-entries, is_sorted, filter, ObjNo, same_object, PetitionId, PetitionRow, petition_cmp, petition_total, petition_exact, State, is_wizard, arith}, proofs.Shown.EntriesInOrder.{own_entries, filter_alike, all_weaker}}
 use Rattle.std.specs.FinMap.{from_sorted, entries-from_sorted, get-from_sorted, same_map}
 use Rattle.std.specs.FinMap.Entries.{find, where_key, is_sorted-where_key, find-where_key}
 use Rattle.moo_laws.specs.Agreeing.{may_see_petition, seen_petition}
@@ -9,16 +9,10 @@ abbrev pub seen_list : State → ObjNo → List (PetitionId × PetitionRow)
 seen_list s p = filter (λ (id, row). is_wizard s.world p || same_object row.who p) (entries s.petitions)
 
 if_some : {A : Type 0} (b : Bool) (a : A) → is_some (if b then Some a else None) ≡ b
-if_some true a = refl
-if_some false a = refl
+if_some b a = grind arith
 
 kept_or_none : {A : Type 0} (test : A → Bool) (o : Option A) → cond (is_some (option_and_then (λ a. if test a then Some a else None) o)) o None ≡ option_and_then (λ a. if test a then Some a else None) o
-kept_or_none test None = refl
-kept_or_none test (Some a) = by (test a)
-  where
-    by : (b : Bool) → cond (is_some (if b then Some a else None)) (Some a) None ≡ (if b then Some a else None)
-    by true = refl
-    by false = refl
+kept_or_none test o = grind arith
 
 module _ (s : State) (p : ObjNo) where
   abbrev is_seen : PetitionId → Bool

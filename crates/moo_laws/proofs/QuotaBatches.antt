@@ -1,9 +1,9 @@
 -- Over calls in turn, batches and lists of batches a quota that wizards keep moves by what is made and recycled.
-use Rattle.moo_world.{proofs.Form.Petitions.{requests_keep_form}, proofs.Form.Runs.{runs_keep_form}, proofs.Ownership.Petitions.{petitions_leave_the_world}, proofs.Batches.Requested.{request_steps}, proofs.Lemmas.{◌≡◌, ℕ, ◌+◌, ℤ, Bool, true, false, ◌&&◌, cond, List, [], ◌∷◌, arith, refl, sym, ap, subst, ◌∙◌, Option, Some, None, is_some, if◌then◌else◌, list_all, false≢true, and_parts, ObjNo, Value, same_object, World, State, IsFormed, is_wizard, Outcome, Done, Failed, Full, petition_call, batch_call, arguments_fit}, specs.declared.call.Call.{Call}, specs.declared.call.Batch.{Batch}, specs.declared.name.CallName.{CallName}, specs.declared.name.PetitionCall.{PetitionCall}}
-use Rattle.moo_world.specs.Judge.{Ran, Through, FailedAt, FullAt, Verdict, Accepted, Refused, NoRoom, Stale, after_one, run_calls, judge, left_by, after, is_accepted}
+use Rattle.moo_world.{proofs.Form.Petitions.{requests_keep_form}, proofs.Form.Runs.{runs_keep_form}, proofs.Ownership.Petitions.{petitions_leave_the_world}, proofs.Batches.Requested.{request_steps}, proofs.Lemmas.{◌≡◌, ℕ, ◌+◌, ℤ, Bool, true, false, ◌&&◌, cond, List, [], ◌∷◌, arith, refl, sym, ap, subst, ◌∙◌, Option, None, is_some, if◌then◌else◌, list_all, and_parts, ObjNo, Value, same_object, World, State, IsFormed, is_wizard, Outcome, Done, Failed, Full, petition_call, batch_call, arguments_fit}, specs.declared.call.Call.{Call}, specs.declared.call.Batch.{Batch}, specs.declared.name.CallName.{CallName}, specs.declared.name.PetitionCall.{PetitionCall}}
+use Rattle.moo_world.specs.Judge.{Through, FailedAt, FullAt, Verdict, Accepted, after_one, run_calls, judge, left_by, after, is_accepted}
 use Rattle.moo_laws.specs.KeptQuotas.{HasKeptQuota, QuotaMoves, makes, ends, of_kind, calls_of_kind}
 use Rattle.moo_laws.specs.NobodyRises.{NoWizardActs}
-use Rattle.moo_laws.proofs.Ranks.{done_in_world, accepted_ran, ran_on, none_after}
+use Rattle.moo_laws.proofs.Ranks.{through_end, done_in_world, accepted_ran, ran_on, none_after}
 use Rattle.moo_laws.proofs.QuotaCalls.{moved_by, moves_itself, moves_join}
 
 -- ---- one call
@@ -19,13 +19,10 @@ one_call : (s next : State) (p owner : ObjNo) (quota : ℤ) (call : Call) (v : V
 one_call s next p owner quota call v formed later none kept done = by (is_some (petition_call call.name)) refl
   where
     no_petition : (o : Option PetitionCall) → is_some o ≡ false → o ≡ None
-    no_petition None e = refl
-    no_petition (Some c) e = absurd (false≢true (sym e))
+    no_petition o e = grind arith
 
     nothing_at : (b c : Bool) → c ≡ false → ◌≡◌ {A = ℕ} 0 (if b then cond c 1 0 else 0)
-    nothing_at true true e = absurd (false≢true (sym e))
-    nothing_at true false e = refl
-    nothing_at false c e = refl
+    nothing_at b c e = grind arith
 
     by : (b : Bool) → is_some (petition_call call.name) ≡ b → QuotaMoves next.world owner quota (if same_object p owner then cond (makes call.name) 1 0 else 0) (if same_object p owner then cond (ends call.name) 1 0 else 0)
     by false e = moved_by s.world next.world p owner quota call v formed.world later.world none kept (done_in_world s next _ v (sym (request_steps s p call (no_petition (petition_call call.name) e)) ∙ done))
@@ -41,21 +38,16 @@ abbrev share : Bool → ℕ → ℕ
 share b n = if b then n else 0
 
 shares_join : (b : Bool) (m n : ℕ) → share b m + share b n ≡ share b (m + n)
-shares_join true m n = refl
-shares_join false m n = refl
+shares_join b m n = grind arith
 
 calls_move : (p owner : ObjNo) (calls : List Call) (s : State) (quota : ℤ) → IsFormed s → list_all arguments_fit calls ≡ true → is_wizard s.world p ≡ false → HasKeptQuota s.world owner quota → (answers : List Value) (end : State) → run_calls s p calls ≡ Through answers end
     → QuotaMoves end.world owner quota (share (same_object p owner) (of_kind makes calls)) (share (same_object p owner) (of_kind ends calls))
-calls_move p owner [] s quota formed fit none kept answers end h = subst (λ (r : Ran). IfThrough r) h (by (same_object p owner))
+calls_move p owner [] s quota formed fit none kept answers end h =
+    subst (λ (t : State). QuotaMoves t.world owner quota (share (same_object p owner) 0) (share (same_object p owner) 0)) (through_end [] answers s end h) (by (same_object p owner))
   where
     by : (b : Bool) → QuotaMoves s.world owner quota (share b 0) (share b 0)
     by true = moves_itself s.world owner quota kept
     by false = moves_itself s.world owner quota kept
-
-    IfThrough : Ran → Type 0
-    IfThrough (Through answers end) = QuotaMoves end.world owner quota (share (same_object p owner) 0) (share (same_object p owner) 0)
-    IfThrough (FailedAt k e) = Unit {0}
-    IfThrough (FullAt k) = Unit {0}
 calls_move p owner (call ∷ calls) s quota formed fit none kept answers end h = by (batch_call s p call) refl (λ next quota. calls_move p owner calls next quota) h
   where
     parts : (arguments_fit call ≡ true) × (list_all arguments_fit calls ≡ true)
@@ -73,8 +65,7 @@ calls_move p owner (call ∷ calls) s quota formed fit none kept answers end h =
         subst (λ n. QuotaMoves end.world owner quota n (share (same_object p owner) (of_kind ends (call ∷ calls)))) (shares_join (same_object p owner) (cond (makes call.name) 1 0) (of_kind makes calls))
         (subst (λ n. QuotaMoves end.world owner quota (share (same_object p owner) (cond (makes call.name) 1 0) + share (same_object p owner) (of_kind makes calls)) n) (shares_join (same_object p owner) (cond (ends call.name) 1 0) (of_kind ends calls))
         (moves_join end.world owner quota one.0 _ _ _ _ one.2.0 one.2.1 one.2.2 one.2.3 (rest next one.0 later parts.1 (none_after s next p call v formed.world none e) one.1 goes.0 end goes.1)))
-    by (Failed failure) e rest h = absurd (grind arith)
-    by Full e rest h = absurd (grind arith)
+    by o e rest h = absurd (grind arith)
 
 -- ---- batches
 
@@ -96,9 +87,7 @@ one_batch s b owner quota formed fit none kept = by (judge s b) refl none
         let ran = accepted_ran s b answers next e in
         turn (same_object b.programmer owner) next.world (subst (λ w. QuotaMoves w owner quota (share (same_object b.programmer owner) (of_kind makes b.calls)) (share (same_object b.programmer owner) (of_kind ends b.calls))) (sym ran.2)
         (calls_move b.programmer owner b.calls s quota formed fit (none refl) kept answers ran.0 ran.1))
-    by (Refused place code) e none = nothing (same_object b.programmer owner)
-    by (NoRoom place) e none = nothing (same_object b.programmer owner)
-    by (Stale number) e none = nothing (same_object b.programmer owner)
+    by v e none = nothing (same_object b.programmer owner)
 
 pub kept_quotas_move : (owner : ObjNo) (quota : ℤ) (s : State) (bs : List Batch) → IsFormed s → list_all (λ batch. list_all arguments_fit batch.calls) bs ≡ true → NoWizardActs s bs → HasKeptQuota s.world owner quota
     → QuotaMoves (after s bs).world owner quota (calls_of_kind makes owner s bs) (calls_of_kind ends owner s bs)

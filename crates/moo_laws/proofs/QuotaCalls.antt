@@ -1,15 +1,13 @@
 -- Over calls, batches and lists of batches of who isn't a wizard a quota that wizards keep moves by what is made and recycled.
-use Rattle.moo_world.{proofs.Form.Passing.{each_check}, proofs.Form.Calls.{no_wizard_keeps_ownership}, proofs.Lemmas.{zero, suc, int_lt, ◌≤ℤ◌, ◌≡◌, ◌≤◌, ℕ, ◌+◌, ℤ, pos, ◌+ℤ◌, true, false, cond, List, [], ◌∷◌, arith, refl, sym, ap, subst, ◌∙◌, Option, Some, if◌then◌else◌, option_map, both_ways, ObjNo, Value, Int, Set, Name, same_object, World, Slot, WorldObject, ObjRow, unwrap_or, IsWellFormed, is_object, owner_of, slot_of, chain, is_wizard, quota_name, named_call, world_call, Outcome, Done, Failed, Full, Holds, of_done, controls, may_set, may_write_object, may_write_slot, may_be_parent, may_make_owner, may_rename, shares_property_name, is_among, nothing, not, ◌||◌, ◌++◌, VerbRow, Bits, Clear, folded, with_verbs, verb_added, field_changed, property_added, property_removed, renamed_to, info_set, reparented, next_object, created, owner_or_self, charged, quota_returned, recycled, on_check, on_failed, on_given, new_property_info, KeepsOwnership, name_after}, specs.declared.call.Call.{Call}, specs.declared.name.CallName.{CallName}}
-use Rattle.moo_world.specs.declared.name.CallName.TheVariants.{Valid, Parent, Children, IsPlayer, Players, MaxObject, Get, Properties, PropertyInfo, IsClearProperty, Verbs, VerbInfo, VerbArgs, AcceptList, Create, Chparent, Recycle, Move, SetPlayerFlag, Set as to_set, AddProperty, DeleteProperty, SetPropertyInfo, ClearProperty, AddVerb, DeleteVerb, SetVerbInfo, SetVerbArgs, SetAccept, Petition, Petitions, Grant, Decline}
+use Rattle.moo_world.{proofs.Form.Passing.{each_check}, proofs.Form.Calls.{no_wizard_keeps_ownership}, proofs.Lemmas.{zero, suc, int_lt, ◌≤ℤ◌, ◌≡◌, ◌≤◌, ℕ, ◌+◌, ℤ, pos, ◌+ℤ◌, true, false, cond, List, [], ◌∷◌, arith, refl, sym, ap, subst, ◌∙◌, Option, Some, if◌then◌else◌, option_map, ObjNo, Value, Int, Set, Name, same_object, World, Slot, WorldObject, ObjRow, unwrap_or, IsWellFormed, is_object, owner_of, slot_of, chain, is_wizard, quota_name, named_call, world_call, Outcome, Done, Holds, of_done, may_write_slot, is_among, nothing, ◌++◌, VerbRow, Clear, folded, verb_added, on_check, on_given, new_property_info, KeepsOwnership, name_after}, specs.declared.call.Call.{Call}, specs.declared.name.CallName.{CallName}}
+use Rattle.moo_world.specs.declared.name.CallName.TheVariants.{Create, Chparent, Recycle, Move, SetPlayerFlag, Set as to_set, AddProperty, DeleteProperty, SetPropertyInfo, ClearProperty, AddVerb, DeleteVerb, SetVerbInfo, SetVerbArgs, SetAccept}
 use Rattle.std.proofs.Math.IntN.{+ℤ_assoc}
-use Rattle.moo_world.specs.declared.change.Change.{Change}
-use Rattle.moo_world.specs.declared.built_in.BuiltIn.{BuiltIn}
 use Rattle.moo_world.specs.Changes.{value_set, cleared}
 use Rattle.moo_laws.specs.KeptQuotas.{IsWizardOrGone, HasKeptQuota, QuotaMoves, makes, ends}
 use Rattle.moo_laws.specs.ObjectNumbers.{KeepsObjectNumbers}
 use Rattle.moo_laws.proofs.ObjectNumbers.{none_again, le_below}
 use Rattle.moo_laws.proofs.QuotaChains.{line, line_in, quota_face, same_chain}
-use Rattle.moo_laws.proofs.QuotaStays.{Same, unchanged, field_same, set_field, verbs_same, slot_same, added_same, removed_same, info_same, moved_same}
+use Rattle.moo_laws.proofs.QuotaStays.{Same, unchanged, no_wizard, field_same, set_field, verbs_same, slot_same, added_same, removed_same, info_same, moved_same}
 use Rattle.moo_laws.proofs.QuotaSums.{below_greatest, fewer, later}
 use Rattle.moo_laws.proofs.QuotaEffects.{Effect, plain, made, ended}
 
@@ -25,18 +23,6 @@ module _ (w : World) (p owner : ObjNo) (quota : ℤ) (wf : IsWellFormed w) (po :
   asked : Still w
   asked = still w (unchanged w p owner quota wf po none kept)
 
-  of_mine : (x : ObjNo) (c : Change) → controls w p x ≡ true → Still (field_changed w x c)
-  of_mine x c e = still _ (field_same w p owner quota wf po none kept x c e)
-
-  of_wizards : (x : ObjNo) (c : Change) → is_wizard w p ≡ true → Still (field_changed w x c)
-  of_wizards x c e = absurd (both_ways (is_wizard w p) none e)
-
-  of_field : (x : ObjNo) (f : BuiltIn) (c : Change) → may_set w p x f ≡ true → Still (field_changed w x c)
-  of_field x f c e = still _ (set_field w p owner quota wf po none kept x f c e)
-
-  of_verbs : (x : ObjNo) (change : List VerbRow → List VerbRow) → Still (with_verbs w x change)
-  of_verbs x change = still _ (verbs_same w p owner quota wf po none kept x change)
-
   of_verb : (x : ObjNo) (v : VerbRow) → Still (verb_added w x v)
   of_verb x v = let same = verbs_same w p owner quota wf po none kept x (λ verbs. verbs ++ v ∷ []) in still (verb_added w x v) (record { lines = same.lines; slots = same.slots })
 
@@ -46,60 +32,25 @@ module _ (w : World) (p owner : ObjNo) (quota : ℤ) (wf : IsWellFormed w) (po :
   of_clear : (x : ObjNo) (n : Name) (s : Slot) → slot_of w x (folded n) ≡ Some s → may_write_slot w p s ≡ true → Still (cleared w x n)
   of_clear x n s e may = still _ (slot_same w p owner quota wf po none kept x n s (λ k. record k { state = Clear }) e may)
 
-  of_new : (x : ObjNo) (n : Name) (s : Slot) → may_write_object w p x ≡ true → Still (property_added w x n s)
-  of_new x n s may = still _ (added_same w p owner quota wf po none kept x n s may)
-
-  of_old : (x : ObjNo) (n : Name) → may_write_object w p x ≡ true → Still (property_removed w x n)
-  of_old x n may = still _ (removed_same w p owner quota wf po none kept x n may)
-
-  of_info : (x : ObjNo) (n : Name) (s : Slot) (o : ObjNo) (bits : Bits) (new : Option Name) → is_object w x ≡ true → slot_of w x (folded n) ≡ Some s → may_write_slot w p s ≡ true → may_rename w x n new ≡ true → Still (renamed_to (info_set w x n o bits) x n new)
-  of_info x n s o bits new xo e may good = still _ (info_same w p owner quota wf po none kept x n s o bits new xo e may good)
-
-  of_parent : (x q : ObjNo) → is_object w x ≡ true → (is_object w q || same_object nothing q) ≡ true → controls w p x ≡ true → not (is_among x (chain w q)) ≡ true → not (shares_property_name w x q) ≡ true → Still (reparented w x q)
-  of_parent x q xo qo own outside apart = still _ (moved_same w p owner quota wf po none kept x q xo qo own outside apart)
-
-  one_made : (x q o : ObjNo) → may_be_parent w p q ≡ true → may_make_owner w p o ≡ true → next_object w ≡ Some x → Effect w p owner quota wf po none kept 1 0 (charged (created w x q (owner_or_self x o)) o)
-  one_made x q o = made w p owner quota wf po none kept x q o
-
-  one_ended : (x : ObjNo) → is_object w x ≡ true → controls w p x ≡ true → Effect w p owner quota wf po none kept 0 1 (quota_returned (recycled w x) (owner_of w x))
-  one_ended x = ended w p owner quota wf po none kept x
-
   -- ---- by name
 
   effect : (name : CallName) → Holds (λ v next. Effect w p owner quota wf po none kept (cond (makes name) 1 0) (cond (ends name) 1 0) next) (named_call w p name values)
-  effect Valid = search (each_check, asked)
-  effect Parent = search (each_check, asked)
-  effect Children = search (each_check, asked)
-  effect IsPlayer = search (each_check, asked)
-  effect Players = search (each_check, asked)
-  effect MaxObject = search (each_check, asked)
-  effect Get = search (each_check, asked) depth 9
-  effect Properties = search (each_check, asked) depth 9
-  effect PropertyInfo = search (each_check, asked) depth 9
-  effect IsClearProperty = search (each_check, asked) depth 9
-  effect Verbs = search (each_check, asked) depth 9
-  effect VerbInfo = search (each_check, asked) depth 9
-  effect VerbArgs = search (each_check, asked) depth 9
-  effect AcceptList = search (each_check, asked)
-  effect Create = search (each_check, one_made) depth 12
-  effect Chparent = search (each_check, of_parent) depth 12
-  effect Recycle = search (each_check, one_ended) depth 12
-  effect Move = search (each_check, of_mine) depth 12
-  effect SetPlayerFlag = search (each_check, of_wizards) depth 12
-  effect to_set = search (each_check, of_field, of_value) depth 12
-  effect AddProperty = search (each_check, of_new) depth 15
-  effect DeleteProperty = search (each_check, of_old) depth 12
-  effect SetPropertyInfo = on_given _ (new_property_info values) _ (λ a e. search (each_check, of_info) depth 15)
+  effect Create = search (each_check, made) depth 12
+  effect Chparent = search (each_check, plain, moved_same) depth 12
+  effect Recycle = search (each_check, ended) depth 12
+  effect Move = search (each_check, plain, field_same) depth 12
+  effect SetPlayerFlag = search (each_check, plain, no_wizard) depth 12
+  effect to_set = search (each_check, plain, set_field, of_value) depth 12
+  effect AddProperty = search (each_check, plain, added_same) depth 15
+  effect DeleteProperty = search (each_check, plain, removed_same) depth 12
+  effect SetPropertyInfo = on_given _ (new_property_info values) _ (λ a e. search (each_check, plain, info_same) depth 15)
   effect ClearProperty = search (each_check, of_clear) depth 12
   effect AddVerb = search (each_check, of_verb) depth 15
-  effect DeleteVerb = search (each_check, of_verbs) depth 12
-  effect SetVerbInfo = search (each_check, of_verbs) depth 15
-  effect SetVerbArgs = search (each_check, of_verbs) depth 12
-  effect SetAccept = search (each_check, of_mine) depth 12
-  effect Petition = on_failed _ _
-  effect Petitions = on_failed _ _
-  effect Grant = on_failed _ _
-  effect Decline = on_failed _ _
+  effect DeleteVerb = search (each_check, plain, verbs_same) depth 12
+  effect SetVerbInfo = search (each_check, plain, verbs_same) depth 15
+  effect SetVerbArgs = search (each_check, plain, verbs_same) depth 12
+  effect SetAccept = search (each_check, plain, field_same) depth 12
+  effect name = search (each_check, asked) depth 9
 
 -- ---- one call
 
@@ -147,9 +98,8 @@ moved_by w next p owner quota call v wf formed none kept done = of_done (λ v le
 
     weaker : (o : Outcome World) (po : is_object w p ≡ true) → Holds (λ v left. Effect w p owner quota wf po none kept (cond (makes call.name) 1 0) (cond (ends call.name) 1 0) left) o
         → Holds (λ v left. IsWellFormed left → KeepsOwnership w left p (name_after w call) → KeepsObjectNumbers w left → QuotaMoves left owner quota (if same_object p owner then cond (makes call.name) 1 0 else 0) (if same_object p owner then cond (ends call.name) 1 0 else 0)) o
-    weaker (Failed failure) po h = tt
-    weaker Full po h = tt
     weaker (Done a left) po h = λ formed own numbers. (h.now, kept_now w left p owner quota h.now (still_gone w left p (name_after w call) own numbers) kept (same_chain w p owner quota wf po none kept left formed h.lines) h.lines h.faces h.own, (h.back, h.few, h.sum, λ small. exact (if same_object p owner then cond (ends call.name) 1 0 else 0) h.back h.few h.whole small))
+    weaker o po h = tt
 
 -- ---- calls in turn
 

@@ -1,5 +1,6 @@
 -- What who isn't a wizard may not change of a quota that wizards keep, and of the objects that it hangs on.
-use Rattle.moo_world.{proofs.Lemmas.{◌≡◌, ℤ, Bool, true, false, ◌||◌, List, [], ◌∷◌, arith, refl, sym, ap, ◌∙◌, Option, Some, None, unwrap_or, option_map, both_ways, or_right, false≢true, ObjNo, ObjRow, nothing, same_object, same_object-Decides, same_object-self, is_among, World, WorldObject, Slot, IsWellFormed, IsTree, Climbs, is_object, parent_of, owner_of, slot_of, chain, chain_is, Chain, Chain-chain, is_wizard, controls, may_write_object, may_write_slot, quota_name, slotted}}
+use Rattle.moo_world.{proofs.Lemmas.{◌≡◌, ℤ, Bool, true, false, ◌||◌, List, [], ◌∷◌, arith, refl, sym, ap, ◌∙◌, Option, Some, option_map, both_ways, or_right, false≢true, ObjNo, same_object, same_object-Decides, same_object-self, is_among, World, WorldObject, Slot, IsWellFormed, IsTree, Climbs, is_object, parent_of, slot_of, chain, chain_is, Chain, Chain-chain, is_wizard, controls, may_write_object, may_write_slot, quota_name, slotted}}
+use Rattle.std.proofs.lemmas.Bool.{false_from_ne_true}
 use Rattle.moo_laws.specs.KeptQuotas.{IsWizardOrGone, HasKeptQuota}
 
 -- what is followed of an object, and of a slot
@@ -32,27 +33,13 @@ module _ (w : World) (p owner : ObjNo) (quota : ℤ) (wf : IsWellFormed w) (po :
   own_chain = Chain-chain w wf.tree owner owner_there
 
   not_mine : (who : ObjNo) → IsWizardOrGone w who → same_object p who ≡ false
-  not_mine who g = by (same_object p who) refl
-    where
-      by : (b : Bool) → same_object p who ≡ b → same_object p who ≡ false
-      by false e = e
-      by true e = let same : p ≡ who = (same_object-Decides p who).0 e in absurd (both_ways (is_wizard w p) none (ap (is_wizard w) same ∙ g.1 (ap (is_object w) (sym same) ∙ po)))
+  not_mine who g = grind (arith, false_from_ne_true, same_object-Decides, both_ways)
 
   uncontrolled : (x : ObjNo) → hangs x ≡ true → controls w p x ≡ false
-  uncontrolled x h = by (w.object x) refl
-    where
-      by : (o : Option WorldObject) → w.object x ≡ o → controls w p x ≡ false
-      by None e = ap (λ (k : Option WorldObject). unwrap_or (option_map (λ (r : ObjRow). same_object p r.owner) (option_map (λ (r : WorldObject). r.row) k)) false || is_wizard w p) e ∙ none
-      by (Some r) e =
-          let mine : same_object p r.row.owner ≡ false = ap (λ (k : Option WorldObject). same_object p (unwrap_or (option_map (λ (r : WorldObject). r.row.owner) k) nothing)) (sym e) ∙ not_mine (owner_of w x) (kept.objects x h).0 in
-          ap (λ (k : Option WorldObject). unwrap_or (option_map (λ (r : ObjRow). same_object p r.owner) (option_map (λ (r : WorldObject). r.row) k)) false || is_wizard w p) e ∙ (λ i. mine i || none i)
+  uncontrolled x h = grind (arith, not_mine)
 
   apart_if : (x : ObjNo) (b : Bool) → b ≡ true → (hangs x ≡ true → b ≡ false) → hangs x ≡ false
-  apart_if x b e h = by (hangs x) refl
-    where
-      by : (c : Bool) → hangs x ≡ c → c ≡ false
-      by false f = refl
-      by true f = absurd (both_ways b (h f) e)
+  apart_if x b e h = false_from_ne_true (hangs x) (λ f. both_ways b (h f) e)
 
   -- what the programmer controls or may write isn't among them
   pub controlled_apart : (x : ObjNo) → controls w p x ≡ true → hangs x ≡ false
@@ -65,18 +52,10 @@ module _ (w : World) (p owner : ObjNo) (quota : ℤ) (wf : IsWellFormed w) (po :
   slot_unwritten x s h e = λ i. none i || (not_mine s.owner (kept.slots x s h e).0 i || (kept.slots x s h e).1 i)
 
   pub not_above : (x y : ObjNo) → hangs x ≡ false → hangs y ≡ true → is_among x (chain w y) ≡ false
-  not_above x y out h = by (is_among x (chain w y)) refl
-    where
-      by : (b : Bool) → is_among x (chain w y) ≡ b → b ≡ false
-      by false e = refl
-      by true e = absurd (both_ways (hangs x) out (chain_in_chain w wf.tree (chain w owner) owner y x own_chain h e))
+  not_above x y out h = false_from_ne_true (is_among x (chain w y)) (λ e. both_ways (hangs x) out (chain_in_chain w wf.tree (chain w owner) owner y x own_chain h e))
 
   pub not_itself : (x y : ObjNo) → hangs x ≡ false → hangs y ≡ true → same_object x y ≡ false
-  not_itself x y out h = by (same_object x y) refl
-    where
-      by : (b : Bool) → same_object x y ≡ b → b ≡ false
-      by false e = refl
-      by true e = absurd (both_ways (hangs x) out (ap hangs ((same_object-Decides x y).0 e) ∙ h))
+  not_itself x y out h = false_from_ne_true (same_object x y) (λ e. both_ways (hangs x) out (ap hangs ((same_object-Decides x y).0 e) ∙ h))
 
   -- ---- the same chain
 

@@ -1,5 +1,6 @@
 -- What each call of who isn't a wizard makes of a quota that wizards keep.
-use Rattle.moo_world.{proofs.Lemmas.{◌≡◌, ◌≤◌, ℕ, ℤ, pos, negsuc, ◌+ℤ◌, int_lt, Bool, true, false, ◌||◌, arith, refl, sym, ap, subst, ◌∙◌, inl, inr, Option, Some, None, is_some, unwrap_or, if◌then◌else◌, option_map, option_and_then, both_ways, or_cases, none-some, ObjNo, ObjRow, Int, Set, Clear, SlotState, nothing, same_object, same_object-Decides, same_object-self, same_text-Decides, World, WorldObject, Slot, IsWellFormed, is_object, owner_of, slot_of, chain, chain-step, read_in, read_along, is_wizard, controls, may_be_parent, may_make_owner, quota_name, quota_in, quota_of, quota_changed, set_slot, charged, quota_returned, created, owner_or_self, next_object, recycled, object_changed, slotted, nothing_is_no_object, object_numbered}, proofs.Ownership.Created.{formed}, proofs.Ownership.Counted.{parent_known}, proofs.Inheritance.Insertion.{some_record}}
+use Rattle.moo_world.{proofs.Lemmas.{◌≡◌, ◌≤◌, ℕ, ℤ, pos, negsuc, ◌+ℤ◌, int_lt, Bool, true, false, ◌||◌, arith, refl, sym, ap, subst, ◌∙◌, inl, inr, Some, unwrap_or, if◌then◌else◌, option_map, both_ways, or_cases, ObjNo, Int, Set, Clear, nothing, same_object, same_object-Decides, same_object-self, same_text-Decides, World, Slot, IsWellFormed, is_object, owner_of, slot_of, chain, chain-step, read_in, read_along, is_wizard, controls, may_be_parent, may_make_owner, quota_name, quota_in, quota_of, quota_changed, charged, quota_returned, created, owner_or_self, next_object, recycled, slotted, nothing_is_no_object, object_numbered}, proofs.Ownership.Created.{formed}, proofs.Ownership.Counted.{parent_known}, proofs.Inheritance.Insertion.{some_record}}
+use Rattle.std.proofs.lemmas.Bool.{false_from_ne_true}
 use Rattle.std.proofs.Math.IntN.{+ℤ_assoc}
 use Rattle.moo_world.proofs.Inheritance.Recycling.{IsWellFormed-recycled as recycled_formed}
 use Rattle.moo_laws.specs.KeptQuotas.{HasKeptQuota}
@@ -14,35 +15,13 @@ module _ (v : World) (o : ObjNo) (more : ℤ) where
   line_stays y = grind arith
 
   face_stays : (y : ObjNo) → option_map quota_face (slot_of (quota_changed v o more) y quota_name) ≡ option_map quota_face (slot_of v y quota_name)
-  face_stays y = by (quota_of v o)
-    where
-      inner : (state : SlotState) (b c : Bool) (k : Option WorldObject) → option_map quota_face (option_and_then (λ (r : WorldObject). r.slot quota_name) (option_map (λ (r : WorldObject). if b then set_slot quota_name state r else r) k)) ≡ option_map quota_face (option_and_then (λ (r : WorldObject). r.slot quota_name) k)
-      inner state b c k = grind arith
-
-      by : (q : Option ℤ) → option_map quota_face (slot_of (elim q [ None ↦ v | Some had ↦ object_changed v o (set_slot quota_name (Set (Int (had +ℤ more)))) ]) y quota_name) ≡ option_map quota_face (slot_of v y quota_name)
-      by None = refl
-      by (Some had) = inner (Set (Int (had +ℤ more))) (same_object o y) true (v.object y)
+  face_stays y = grind arith
 
   slot_beside : (y : ObjNo) → same_object o y ≡ false → slot_of (quota_changed v o more) y quota_name ≡ slot_of v y quota_name
-  slot_beside y e = by (quota_of v o)
-    where
-      same : (k : Option WorldObject) → option_and_then (λ (r : WorldObject). r.slot quota_name) (option_map (λ r. r) k) ≡ option_and_then (λ (r : WorldObject). r.slot quota_name) k
-      same None = refl
-      same (Some r) = refl
-
-      by : (q : Option ℤ) → slot_of (elim q [ None ↦ v | Some had ↦ object_changed v o (set_slot quota_name (Set (Int (had +ℤ more)))) ]) y quota_name ≡ slot_of v y quota_name
-      by None = refl
-      by (Some had) = ap (λ b. option_and_then (λ (r : WorldObject). r.slot quota_name) (option_map (λ (r : WorldObject). if b then set_slot quota_name (Set (Int (had +ℤ more))) r else r) (v.object y))) e ∙ same (v.object y)
+  slot_beside y e = grind arith
 
   slot_put : (had : ℤ) (s : Slot) → quota_of v o ≡ Some had → slot_of v o quota_name ≡ Some s → slot_of (quota_changed v o more) o quota_name ≡ Some (record s { state = Set (Int (had +ℤ more)) })
-  slot_put had s e f =
-      ap (λ q. slot_of (elim q [ None ↦ v | Some k ↦ object_changed v o (set_slot quota_name (Set (Int (k +ℤ more)))) ]) o quota_name) e
-      ∙ ap (λ b. option_and_then (λ (r : WorldObject). r.slot quota_name) (option_map (λ (r : WorldObject). if b then set_slot quota_name (Set (Int (had +ℤ more))) r else r) (v.object o))) (same_object-self o)
-      ∙ inner (v.object o) ∙ ap (option_map (λ (z : Slot). record z { state = Set (Int (had +ℤ more)) })) f
-    where
-      inner : (k : Option WorldObject) → option_and_then (λ (r : WorldObject). r.slot quota_name) (option_map (λ (r : WorldObject). set_slot quota_name (Set (Int (had +ℤ more))) r) k) ≡ option_map (λ (z : Slot). record z { state = Set (Int (had +ℤ more)) }) (option_and_then (λ (r : WorldObject). r.slot quota_name) k)
-      inner None = refl
-      inner (Some r) = ap (λ b. if b then option_map (λ (z : Slot). record z { state = Set (Int (had +ℤ more)) }) (r.slot quota_name) else r.slot quota_name) ((same_text-Decides quota_name quota_name).1 refl)
+  slot_put had s e f = grind (arith, same_object-self, same_text-Decides)
 
 -- a quota of one's own is read
 own_quota : (v : World) → IsWellFormed v → (o : ObjNo) (s : Slot) (q : ℤ) → slot_of v o quota_name ≡ Some s → s.state ≡ Set (Int q) → quota_of v o ≡ Some q
@@ -76,8 +55,7 @@ module _ (w : World) (p owner : ObjNo) (quota : ℤ) (wf : IsWellFormed w) (po :
   still_own next same = same.slots owner hangs_itself ∙ kept.set.1
 
   none_at : (b : Bool) → ◌≡◌ {A = ℕ} (if b then 0 else 0) 0
-  none_at true = refl
-  none_at false = refl
+  none_at b = grind arith
 
   pub plain : (next : World) → Same w p owner quota wf po none kept next → Effect 0 0 next
   plain next same = record {
@@ -158,11 +136,7 @@ module _ (w : World) (p owner : ObjNo) (quota : ℤ) (wf : IsWellFormed w) (po :
   no_other b e = elim (or_cases b (is_wizard w p) e) [ inl f ↦ f | inr f ↦ absurd (both_ways (is_wizard w p) none f) ]
 
   something : same_object nothing p ≡ false
-  something = by (same_object nothing p) refl
-    where
-      by : (b : Bool) → same_object nothing p ≡ b → b ≡ false
-      by false e = refl
-      by true e = absurd (both_ways (is_object w nothing) (nothing_is_no_object w wf.tree) (ap (is_object w) ((same_object-Decides nothing p).0 e) ∙ po))
+  something = false_from_ne_true (same_object nothing p) (λ e. both_ways (is_object w nothing) (nothing_is_no_object w wf.tree) (ap (is_object w) ((same_object-Decides nothing p).0 e) ∙ po))
 
   pub made : (x q o : ObjNo) → may_be_parent w p q ≡ true → may_make_owner w p o ≡ true → next_object w ≡ Some x → Effect 1 0 (charged (created w x q (owner_or_self x o)) o)
   made x q o parent mine is_next =
@@ -171,13 +145,7 @@ module _ (w : World) (p owner : ObjNo) (quota : ℤ) (wf : IsWellFormed w) (po :
       (charged_once (created w x q p) (formed w x q p wf is_next (parent_known w p q parent) (object_numbered w wf p po)) (created_same w p owner quota wf po none kept x q p is_next (parent_known w p q parent))))
 
   owned : (x : ObjNo) → is_object w x ≡ true → controls w p x ≡ true → owner_of w x ≡ p
-  owned x xo mine = by (w.object x) refl (no_other _ mine)
-    where
-      by : (k : Option WorldObject) → w.object x ≡ k → unwrap_or (option_map (λ (r : ObjRow). same_object p r.owner) (option_map (λ (r : WorldObject). r.row) (w.object x))) false ≡ true → owner_of w x ≡ p
-      by None e f = absurd (none-some true (ap (λ b. if b then Some true else None) (sym (ap is_some e) ∙ xo)))
-      by (Some r) e f =
-          ap (λ k. unwrap_or (option_map (λ (z : WorldObject). z.row.owner) k) nothing) e
-          ∙ sym ((same_object-Decides p r.row.owner).0 (sym (ap (λ k. unwrap_or (option_map (λ (z : ObjRow). same_object p z.owner) (option_map (λ (z : WorldObject). z.row) k)) false) e) ∙ f))
+  owned x xo mine = grind (arith, no_other, same_object-Decides)
 
   pub ended : (x : ObjNo) → is_object w x ≡ true → controls w p x ≡ true → Effect 0 1 (quota_returned (recycled w x) (owner_of w x))
   ended x xo mine = subst (λ k. Effect 0 1 (quota_returned (recycled w x) k)) (sym (owned x xo mine)) (returned_once (recycled w x) (recycled_formed w x wf xo) (recycled_same w p owner quota wf po none kept x xo mine))

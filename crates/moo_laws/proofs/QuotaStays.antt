@@ -1,8 +1,8 @@
 -- What a change by who isn't a wizard leaves as it was of the objects that a kept quota hangs on, and of the slots of the quota on them.
-use Rattle.moo_world.{proofs.Lemmas.{◌≡◌, ℤ, Bool, true, false, ◌&&◌, ◌||◌, List, [], ◌∷◌, not, filter, arith, refl, sym, ap, ◌∙◌, ◌⊎◌, inl, inr, Option, Some, None, is_some, unwrap_or, if◌then◌else◌, option_map, option_and_then, both_ways, and_parts, or_cases, none-some, same_Some, ObjNo, VerbRow, Bits, changed, field_changed, Name, Property, nothing, same_object, same_text, folded, is_among, same_object-Decides, same_text-Decides, World, WorldObject, Slot, IsWellFormed, is_object, parent_of, owner_of, row_passes, slot_of, chain, chain-step, Chain, Chain-chain, linked, is_wizard, controls, may_set, may_write_object, may_write_slot, may_define, may_rename, defines_name, clashes, quota_name, slotted, object_changed, with_slot_of, with_verbs, property_added, property_removed, property_renamed, renamed_to, info_set, rebuilt, reparented, manual_law, NoClash-from_meets, shares_property_name, recycled, object_removed, released, unless_defined_by, created, next_object, same_links, definer_among, named_owed, property_named, defined_by_any, gained, lost, fresh}, proofs.Form.Fields.{not_true}, proofs.Form.Slots.{slot_changed}, proofs.Ownership.Created.{chains_same, record_old, slot_old}, proofs.Inheritance.Insertion.{none_owed}, proofs.Inheritance.Recycling.{recycle_law}, proofs.Inheritance.Shorter.{undefined_law, kept_slot}}
+use Rattle.moo_world.{proofs.Lemmas.{◌≡◌, ℤ, Bool, true, false, ◌&&◌, ◌||◌, List, [], ◌∷◌, not, filter, arith, refl, sym, ap, ◌∙◌, ◌⊎◌, inl, inr, Option, Some, None, is_some, unwrap_or, if◌then◌else◌, option_map, option_and_then, both_ways, and_parts, or_cases, none-some, same_Some, ObjNo, VerbRow, Bits, changed, field_changed, Name, Property, nothing, same_object, same_text, folded, is_among, same_object-Decides, same_text-Decides, World, WorldObject, Slot, IsWellFormed, is_object, parent_of, owner_of, slot_of, chain, chain-step, Chain, Chain-chain, linked, is_wizard, controls, may_set, may_write_object, may_write_slot, may_define, may_rename, defines_name, clashes, quota_name, slotted, object_changed, with_slot_of, with_verbs, property_added, property_removed, property_renamed, renamed_to, info_set, rebuilt, reparented, manual_law, NoClash-from_meets, shares_property_name, recycled, object_removed, released, unless_defined_by, created, next_object, same_links, definer_among, named_owed, property_named, defined_by_any, gained, lost, fresh}, proofs.Form.Fields.{not_true}, proofs.Form.Slots.{slot_changed}, proofs.Ownership.Created.{chains_same, record_old, slot_old}, proofs.Inheritance.Insertion.{none_owed}, proofs.Inheritance.Recycling.{recycle_law}, proofs.Inheritance.Shorter.{undefined_law, kept_slot}}
+use Rattle.std.proofs.lemmas.Bool.{false_from_ne_true}
 use Rattle.moo_world.specs.declared.change.Change.{Change}
 use Rattle.moo_world.specs.declared.built_in.BuiltIn.{BuiltIn}
-use Rattle.moo_world.specs.declared.built_in.BuiltIn.TheVariants.{Name as NameField, Owner, Location, Contents, Programmer, Wizard, R, W, F}
 use Rattle.moo_laws.specs.KeptQuotas.{HasKeptQuota}
 use Rattle.moo_laws.proofs.QuotaChains.{line, line_in, hangs, owner_there, own_chain, controlled_apart, written_apart, slot_unwritten, not_above, not_itself, chain_in_chain}
 use Rattle.moo_laws.proofs.GuardedInfo.{in_own_chain}
@@ -22,8 +22,7 @@ in_chain_object w [] o y c h = absurd (none-some true (ap (λ b. if b then Some 
 in_chain_object w (z ∷ l) o y c h = by (same_object y z) refl h (in_chain_object w l c.1 y c.3)
   where
     by : (b : Bool) → same_object y z ≡ b → (b || is_among y l) ≡ true → (is_among y l ≡ true → is_object w y ≡ true) → is_object w y ≡ true
-    by true e g r = ap (is_object w) ((same_object-Decides y z).0 e ∙ sym c.0) ∙ linked (w.object o) (λ k. k.row.parent) c.1 c.2
-    by false e g r = r g
+    by b e f g = grind (arith, same_object-Decides, linked)
 
 rebuilt_line : (w s : World) (q y : ObjNo) → line (rebuilt w s q) y ≡ line s y
 unfolding rebuilt
@@ -47,8 +46,7 @@ module _ (w : World) (p owner : ObjNo) (quota : ℤ) (wf : IsWellFormed w) (po :
   }
     where
       same : (o : Option WorldObject) → option_map (λ r. r) o ≡ o
-      same None = refl
-      same (Some r) = refl
+      same o = grind arith
 
       beside : (y : ObjNo) → hangs w p owner quota wf po none kept y ≡ true → (object_changed w x c).object y ≡ w.object y
       beside y e = ap (λ b. option_map (λ r. if b then c r else r) (w.object y)) (not_itself w p owner quota wf po none kept x y out e) ∙ same (w.object y)
@@ -60,32 +58,16 @@ module _ (w : World) (p owner : ObjNo) (quota : ℤ) (wf : IsWellFormed w) (po :
   no_wizard e next = absurd (both_ways (is_wizard w p) none e)
 
   pub set_field : (x : ObjNo) (f : BuiltIn) (c : Change) → may_set w p x f ≡ true → Same (field_changed w x c)
-  set_field x R c e = field_same x c e
-  set_field x W c e = field_same x c e
-  set_field x F c e = field_same x c e
-  set_field x NameField c e = by (row_passes (λ row. row.player) w x) e
-    where
-      by : (b : Bool) → (if b then is_wizard w p else controls w p x) ≡ true → Same (field_changed w x c)
-      by true g = no_wizard g _
-      by false g = field_same x c g
-  set_field x Owner c e = no_wizard e _
-  set_field x Location c e = no_wizard e _
-  set_field x Contents c e = no_wizard e _
-  set_field x Programmer c e = no_wizard e _
-  set_field x Wizard c e = no_wizard e _
+  set_field x f c e = grind (arith, field_same, no_wizard)
 
   pub verbs_same : (x : ObjNo) (change : List VerbRow → List VerbRow) → Same (with_verbs w x change)
   verbs_same x change = record { lines = λ y e. lines (same_object x y) (w.object y); slots = λ y e. slots (same_object x y) (w.object y) }
     where
       lines : (b : Bool) (o : Option WorldObject) → option_map line_in (option_map (λ (r : WorldObject). if b then record r { verbs = change r.verbs } else r) o) ≡ option_map line_in o
-      lines b None = refl
-      lines true (Some r) = refl
-      lines false (Some r) = refl
+      lines b o = grind arith
 
       slots : (b : Bool) (o : Option WorldObject) → option_and_then (λ (r : WorldObject). r.slot quota_name) (option_map (λ (r : WorldObject). if b then record r { verbs = change r.verbs } else r) o) ≡ option_and_then (λ (r : WorldObject). r.slot quota_name) o
-      slots b None = refl
-      slots true (Some r) = refl
-      slots false (Some r) = refl
+      slots b o = grind arith
 
   -- ---- one slot
 
@@ -112,8 +94,7 @@ module _ (w : World) (p owner : ObjNo) (quota : ℤ) (wf : IsWellFormed w) (po :
       lines y = grind arith
 
       never : (a c : Bool) → (a && (false && c)) ≡ false
-      never true c = refl
-      never false c = refl
+      never a c = grind arith
 
       by : (y : ObjNo) → is_among x (chain w y) ≡ false → now x n s (here x n s w y quota_name) (same_object x y) quota_name (owner_of w y) (slot_of w y quota_name) ≡ slot_of w y quota_name
       by y out = ap (λ b. now x n s b (same_object x y) quota_name (owner_of w y) (slot_of w y quota_name)) (ap (λ b. is_object w y && (b && same_text (folded n) quota_name)) out ∙ never (is_object w y) (same_text (folded n) quota_name))
@@ -135,11 +116,7 @@ module _ (w : World) (p owner : ObjNo) (quota : ℤ) (wf : IsWellFormed w) (po :
       by y g (Some s) e = ap (λ b. if b && same_text quota_name (folded n) then None else Some s) (apart s.definer (chain_in_chain w wf.tree (chain w owner) owner y s.definer (own_chain w p owner quota wf po none kept) g (definer_above w wf y quota_name s e)))
         where
           apart : (d : ObjNo) → hangs w p owner quota wf po none kept d ≡ true → same_object d x ≡ false
-          apart d k = turned (same_object d x) refl
-            where
-              turned : (b : Bool) → same_object d x ≡ b → b ≡ false
-              turned false f = refl
-              turned true f = absurd (both_ways (hangs w p owner quota wf po none kept x) out (ap (hangs w p owner quota wf po none kept) (sym ((same_object-Decides d x).0 f)) ∙ k))
+          apart d k = false_from_ne_true (same_object d x) (λ f. both_ways (hangs w p owner quota wf po none kept x) out (ap (hangs w p owner quota wf po none kept) (sym ((same_object-Decides d x).0 f)) ∙ k))
 
   -- ---- another name, owner and bits
 
@@ -172,10 +149,9 @@ module _ (w : World) (p owner : ObjNo) (quota : ℤ) (wf : IsWellFormed w) (po :
 
       by : (y : ObjNo) → hangs w p owner quota wf po none kept y ≡ true → (under : Bool) → is_among x (chain (info_set w x n o bits) y) ≡ under → (is_new : Bool) → same_text (folded new) quota_name ≡ is_new → (was : Bool) → same_text (folded n) quota_name ≡ was
           → afterwards x n new under is_new was (slot_of (info_set w x n o bits) y (folded n)) (slot_of (info_set w x n o bits) y quota_name) ≡ slot_of (info_set w x n o bits) y quota_name
-      by y g false u is_new f was k = refl
       by y g true u true f was k = absurd (no_clash (hanging y g u) ((same_text-Decides (folded new) quota_name).0 f))
       by y g true u false f true k = absurd (both_ways (may_write_slot w p s) (slot_unwritten w p owner quota wf po none kept x s (hanging y g u) (ap (slot_of w x) (sym ((same_text-Decides (folded n) quota_name).0 k)) ∙ e)) may)
-      by y g true u false f false k = refl
+      by y g under u is_new f was k = refl
 
   -- ---- parents
 
@@ -199,13 +175,9 @@ module _ (w : World) (p owner : ObjNo) (quota : ℤ) (wf : IsWellFormed w) (po :
       out : hangs w p owner quota wf po none kept x ≡ false
       out = controlled_apart w p owner quota wf po none kept x mine
 
-      turned : (b : Bool) → (b ≡ true → ⊥) → b ≡ false
-      turned false k = refl
-      turned true k = absurd (k refl)
-
       -- it isn't a parent of them
       no_parent_of : (y : ObjNo) (r : WorldObject) → hangs w p owner quota wf po none kept y ≡ true → w.object y ≡ Some r → same_object x r.row.parent ≡ false
-      no_parent_of y r g e = turned (same_object x r.row.parent) (λ f.
+      no_parent_of y r g e = false_from_ne_true (same_object x r.row.parent) (λ f.
           both_ways (is_among x (chain w y)) (not_above w p owner quota wf po none kept x y out g)
           (ap (is_among x) (chain-step w wf.tree y r e) ∙ right (same_object x y) (is_among x (chain w r.row.parent)) (ap (λ q. is_among x (chain w q)) (sym ((same_object-Decides x r.row.parent).0 f)) ∙ in_own_chain w wf x xo)))
         where
@@ -224,12 +196,11 @@ module _ (w : World) (p owner : ObjNo) (quota : ℤ) (wf : IsWellFormed w) (po :
       stays y g = ap (λ b. is_some (if b then None else option_map (released x (unwrap_or (parent_of w x) nothing)) (w.object y))) (not_itself w p owner quota wf po none kept x y out g) ∙ mapped (w.object y) ∙ there y g
         where
           mapped : (o : Option WorldObject) → is_some (option_map (released x (unwrap_or (parent_of w x) nothing)) o) ≡ is_some o
-          mapped None = refl
-          mapped (Some r) = refl
+          mapped o = grind arith
 
       slots : (y : ObjNo) → hangs w p owner quota wf po none kept y ≡ true → (o : Option Slot) → slot_of w y quota_name ≡ o → unless_defined_by (x ∷ []) o ≡ o
       slots y g None e = refl
-      slots y g (Some s) e = ap (λ b. if b || false then None else Some s) (turned (same_object s.definer x) (λ f.
+      slots y g (Some s) e = ap (λ b. if b || false then None else Some s) (false_from_ne_true (same_object s.definer x) (λ f.
           both_ways (hangs w p owner quota wf po none kept x) out
           (ap (hangs w p owner quota wf po none kept) (sym ((same_object-Decides s.definer x).0 f)) ∙ chain_in_chain w wf.tree (chain w owner) owner y s.definer (own_chain w p owner quota wf po none kept) g (definer_above w wf y quota_name s e))))
 

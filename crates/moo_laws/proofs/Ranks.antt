@@ -1,6 +1,7 @@
 -- Over calls, batches and lists of batches of who isn't a wizard nobody rises.
-use Rattle.moo_world.{proofs.Lemmas.{◌≡◌, Bool, true, false, List, [], ◌∷◌, arith, refl, sym, subst, ◌∙◌, Option, Some, None, is_some, if◌then◌else◌, option_and_then, both_ways, false≢true, none-some, nat_lt, list_all, and_parts, ObjNo, ObjRow, Value, Name, same_object, same_object-Decides, Outcome, Done, Failed, Full, KeepsOwnership, IsFormed, in_world, petition_call, is_wizard, row_passes, option_map, unwrap_or, World, WorldObject, Slot, IsWellFormed, is_object, slot_of, State, same_owner, arguments_fit, new_property_info, name_by, name_after}, proofs.Form.Calls.{no_wizard_keeps_ownership}, proofs.Form.Petitions.{requests_keep_form}, proofs.Form.Runs.{runs_keep_form}, proofs.Ownership.Petitions.{petitions_leave_the_world}, proofs.Batches.Requested.{request_steps}, specs.declared.call.Call.{Call}, specs.declared.call.Batch.{Batch}, specs.declared.name.CallName.{CallName}, specs.declared.name.CallName.TheVariants.{SetPropertyInfo}}
-use Rattle.moo_world.specs.Judge.{Ran, Through, FailedAt, FullAt, Verdict, Accepted, Refused, NoRoom, Stale, after_one, run_calls, is_due, last_seq, verdict_of, judge, left_by, after, is_accepted, state_of}
+use Rattle.moo_world.{proofs.Lemmas.{◌≡◌, Bool, true, false, List, [], ◌∷◌, arith, refl, sym, subst, ◌∙◌, Option, Some, None, is_some, if◌then◌else◌, option_and_then, both_ways, none-some, nat_lt, list_all, and_parts, ObjNo, ObjRow, Value, Name, same_object-Decides, Outcome, Done, Failed, Full, KeepsOwnership, IsFormed, in_world, petition_call, is_wizard, row_passes, World, IsWellFormed, is_object, slot_of, State, same_owner, arguments_fit, name_after}, proofs.Form.Calls.{no_wizard_keeps_ownership}, proofs.Form.Petitions.{requests_keep_form}, proofs.Form.Runs.{runs_keep_form}, proofs.Ownership.Petitions.{petitions_leave_the_world}, proofs.Batches.Requested.{request_steps}, specs.declared.call.Call.{Call}, specs.declared.call.Batch.{Batch}}
+use Rattle.std.proofs.lemmas.Bool.{false_from_ne_true}
+use Rattle.moo_world.specs.Judge.{Ran, Through, FailedAt, FullAt, Verdict, Accepted, NoRoom, Stale, after_one, run_calls, is_due, last_seq, verdict_of, judge, left_by, after, is_accepted, state_of}
 use Rattle.moo_world.specs.Requests.{batch_call}
 use Rattle.moo_world.specs.Between.{CallsLead, BatchLeads}
 use Rattle.moo_world.specs.Rows.{IsGood, world_of}
@@ -57,35 +58,15 @@ kept_joins a b c first second formed f g = record {
 
 -- what holds of the row of an object is of an object
 passes_of_object : (test : ObjRow → Bool) (w : World) (x : ObjNo) → row_passes test w x ≡ true → is_object w x ≡ true
-passes_of_object test w x h = by (w.object x) h
-  where
-    by : (o : Option WorldObject) → unwrap_or (option_map test (option_map (λ (r : WorldObject). r.row) o)) false ≡ true → is_some o ≡ true
-    by None h = h
-    by (Some r) h = refl
+passes_of_object test w x h = grind arith
 
 -- who has a bit had it: an object that was there has its rights, and one that is made has none
 had_it : (test : ObjRow → Bool) (w v : World) (x : ObjNo) → (is_object w x ≡ true → is_object v x ≡ true → row_passes test v x ≡ row_passes test w x) → (is_object w x ≡ false → is_object v x ≡ true → row_passes test v x ≡ false)
     → row_passes test v x ≡ true → row_passes test w x ≡ true
-had_it test w v x stays made h = by (is_object w x) refl
-  where
-    there : is_object v x ≡ true
-    there = passes_of_object test v x h
-
-    by : (b : Bool) → is_object w x ≡ b → row_passes test w x ≡ true
-    by true e = sym (stays e there) ∙ h
-    by false e = absurd (both_ways (row_passes test v x) (made e there) h)
+had_it test w v x stays made h = grind (arith, passes_of_object)
 
 followed : (w v : World) (call : Call) (x : ObjNo) (was now : NamedSlot) → slot_behind_call w v call x was ≡ Some now → (slot_of v x now.0 ≡ Some now.1) × (now.0 ≡ name_after w call x was.0) × (was.1.definer ≡ now.1.definer)
-followed w v call x was now h = by (slot_of v x (name_after w call x was.0)) refl h
-  where
-    test : (t : Slot) → slot_of v x (name_after w call x was.0) ≡ Some t → (b : Bool) → same_object was.1.definer t.definer ≡ b → (if b then Some (name_after w call x was.0, t) else None) ≡ Some now → (slot_of v x now.0 ≡ Some now.1) × (now.0 ≡ name_after w call x was.0) × (was.1.definer ≡ now.1.definer)
-    test t e false f h = absurd (none-some now h)
-    test t e true f h = let same = (same_object-Decides was.1.definer t.definer).0 f in grind arith
-
-    by : (o : Option Slot) → slot_of v x (name_after w call x was.0) ≡ o → option_and_then (λ (t : Slot). if same_object was.1.definer t.definer then Some (name_after w call x was.0, t) else None) o ≡ Some now
-        → (slot_of v x now.0 ≡ Some now.1) × (now.0 ≡ name_after w call x was.0) × (was.1.definer ≡ now.1.definer)
-    by None e h = absurd (none-some now h)
-    by (Some t) e h = test t e (same_object was.1.definer t.definer) refl h
+followed w v call x was now h = grind (arith, none-some, same_object-Decides)
 
 kept_by : (w v : World) (p : ObjNo) (call : Call) → KeepsOwnership w v p (name_after w call) → KeepsObjectNumbers w v → Kept w v (λ x named. slot_behind_call w v call x named)
 kept_by w v p call k again = record {
@@ -105,10 +86,7 @@ done_in_world s next o v h = grind arith
 
 -- the calls of petitions give no new names
 same_name : (w : World) (call : Call) (x : ObjNo) (n : Name) → is_some (petition_call call.name) ≡ true → name_after w call x n ≡ n
-same_name w call x n h = by call.name h
-  where
-    by : (c : CallName) → is_some (petition_call c) ≡ true → (elim c [ SetPropertyInfo ↦ name_by w (new_property_info call.args) x n | _ ↦ n ]) ≡ n
-    by c h = grind arith
+same_name w call x n h = grind arith
 
 unchanged_by : (w : World) (p : ObjNo) (call : Call) → is_some (petition_call call.name) ≡ true → KeepsOwnership w w p (name_after w call)
 unchanged_by w p call h = record {
@@ -121,8 +99,7 @@ one_call : (s next : State) (p : ObjNo) (call : Call) (v : Value) → IsWellForm
 one_call s next p call v formed none done = by (is_some (petition_call call.name)) refl
   where
     no_petition : (o : Option PetitionCall) → is_some o ≡ false → o ≡ None
-    no_petition None e = refl
-    no_petition (Some c) e = absurd (false≢true (sym e))
+    no_petition o e = grind arith
 
     by : (b : Bool) → is_some (petition_call call.name) ≡ b → Kept s.world next.world (λ x named. slot_behind_call s.world next.world call x named)
     by false e =
@@ -140,28 +117,20 @@ FormedBy s p [] = IsWellFormed s.world
 FormedBy s p (call ∷ calls) = IsWellFormed s.world × ((v : Value) (next : State) → batch_call s p call ≡ Done v next → FormedBy next p calls)
 
 pub still_none : (w v : World) (p : ObjNo) → NobodyRises w v → is_wizard w p ≡ false → is_wizard v p ≡ false
-still_none w v p rises none = by (is_wizard v p) refl
-  where
-    by : (b : Bool) → is_wizard v p ≡ b → is_wizard v p ≡ false
-    by false e = e
-    by true e = absurd (both_ways (is_wizard w p) none (rises.wizards p e))
+still_none w v p rises none = false_from_ne_true (is_wizard v p) (λ e. both_ways (is_wizard w p) none (rises.wizards p e))
 
 -- and who isn't a wizard doesn't become one by a call
 pub none_after : (s next : State) (p : ObjNo) (call : Call) (v : Value) → IsWellFormed s.world → is_wizard s.world p ≡ false → batch_call s p call ≡ Done v next → is_wizard next.world p ≡ false
 none_after s next p call v formed none done = still_none s.world next.world p (one_call s next p call v formed none done).rises none
 
+pub through_end : (vs us : List Value) (s t : State) → Through vs s ≡ Through us t → s ≡ t
+through_end vs us s t h = cc
+
 pub ran_on : (v : Value) (r : Ran) (answers : List Value) (end : State) → after_one v r ≡ Through answers end → (rest : List Value) × (r ≡ Through rest end)
-ran_on v (Through rest s) answers end h = (rest, grind arith)
-ran_on v (FailedAt k e) answers end h = absurd (grind arith)
-ran_on v (FullAt k) answers end h = absurd (grind arith)
+ran_on v r answers end e = grind arith
 
 calls_keep : (s : State) (p : ObjNo) (calls : List Call) → FormedBy s p calls → is_wizard s.world p ≡ false → (answers : List Value) (end : State) → run_calls s p calls ≡ Through answers end → Kept s.world end.world (λ x named. slot_behind_calls s p calls x named)
-calls_keep s p [] formed none answers end h = subst (λ (r : Ran). IfThrough r) h (kept_itself s.world)
-  where
-    IfThrough : Ran → Type 0
-    IfThrough (Through answers end) = Kept s.world end.world (λ x named. Some named)
-    IfThrough (FailedAt k e) = Unit {0}
-    IfThrough (FullAt k) = Unit {0}
+calls_keep s p [] formed none answers end h = subst (λ (t : State). Kept s.world t.world (λ x named. Some named)) (through_end [] answers s end h) (kept_itself s.world)
 calls_keep s p (call ∷ calls) formed none answers end h = by (batch_call s p call) refl (λ next. calls_keep next p calls) h
   where
     by : (o : Outcome State) → batch_call s p call ≡ o
@@ -173,8 +142,7 @@ calls_keep s p (call ∷ calls) formed none answers end h = by (batch_call s p c
         let goes = ran_on v (run_calls next p calls) answers end h in
         kept_joins s.world next.world end.world (λ x named. slot_behind_call s.world next.world call x named) (λ x named. slot_behind_calls next p calls x named) formed.0 one
         (rest next (formed.1 v next e) (still_none s.world next.world p one.rises none) goes.0 end goes.1)
-    by (Failed failure) e rest h = absurd (grind arith)
-    by Full e rest h = absurd (grind arith)
+    by o e rest h = absurd (grind arith)
 
 -- ---- batches
 
@@ -185,10 +153,7 @@ accepted_ran s b answers next h = by (is_due b.at s.seq) (nat_lt s.seq last_seq)
     by : (due room : Bool) (r : Ran) → run_calls s b.programmer b.calls ≡ r → (if due then (if room then verdict_of s.seq r else NoRoom 0) else Stale s.seq) ≡ Accepted answers next
         → (end : State) × (run_calls s b.programmer b.calls ≡ Through answers end) × (next.world ≡ end.world)
     by true true (Through got end) e h = (end, grind arith, grind arith)
-    by true true (FailedAt k c) e h = absurd (grind arith)
-    by true true (FullAt k) e h = absurd (grind arith)
-    by true false r e h = absurd (grind arith)
-    by false room r e h = absurd (grind arith)
+    by due room r e h = absurd (grind arith)
 
 one_batch : (s : State) (b : Batch) → (is_accepted (judge s b) ≡ true → FormedBy s b.programmer b.calls) → (is_accepted (judge s b) ≡ true → is_wizard s.world b.programmer ≡ false)
     → Kept s.world (left_by s (judge s b)).world (λ x named. if is_accepted (judge s b) then slot_behind_calls s b.programmer b.calls x named else Some named)
@@ -199,9 +164,7 @@ one_batch s b formed none = by (judge s b) refl (formed) none
     by (Accepted answers next) e formed none =
         let ran = accepted_ran s b answers next e in
         subst (λ (w : World). Kept s.world w (λ x named. slot_behind_calls s b.programmer b.calls x named)) (sym ran.2) (calls_keep s b.programmer b.calls (formed refl) (none refl) answers ran.0 ran.1)
-    by (Refused place code) e formed none = kept_itself s.world
-    by (NoRoom place) e formed none = kept_itself s.world
-    by (Stale number) e formed none = kept_itself s.world
+    by v e formed none = kept_itself s.world
 
 abbrev pub FormedAll : State → List Batch → Type 0
 FormedAll s [] = Unit {0}

@@ -1,5 +1,5 @@
 -- A value, and petitions, that a programmer may not see may be any.
-use Rattle.moo_world.proofs.Lemmas.{◌≡◌, Bool, true, false, ◌||◌, refl, sym, ap, ◌∙◌, ◌⊎◌, inl, inr, Option, Some, None, if◌then◌else◌, option_and_then, get, ObjNo, Value, Name, PetitionId, PetitionRow, same_object, same_object-Decides, State, IsWellFormed, is_wizard}
+use Rattle.moo_world.proofs.Lemmas.{arith, ◌≡◌, false, ◌||◌, refl, sym, ap, ◌∙◌, ◌⊎◌, inl, inr, Option, Some, None, if◌then◌else◌, option_and_then, get, ObjNo, Value, Name, PetitionId, PetitionRow, same_object, same_object-Decides, State, IsWellFormed, is_wizard}
 use Rattle.std.specs.Prelude.{◌↔◌}
 use Rattle.moo_laws.specs.Reading.{LookAlike, IsHidden}
 use Rattle.moo_laws.specs.Agreeing.{AgreeFor, SameOwnPetitions, seen_petition, with_value}
@@ -22,12 +22,7 @@ module _ (p : ObjNo) where
   own o = option_and_then (λ row. if same_object row.who p then Some row else None) o
 
   own_or_none : (o : Option PetitionRow) → ((row : PetitionRow) × ((row.who ≡ p) × (o ≡ Some row))) ⊎ (own o ≡ None)
-  own_or_none None = inr refl
-  own_or_none (Some row) = by (same_object row.who p) refl
-    where
-      by : (b : Bool) → same_object row.who p ≡ b → ((r : PetitionRow) × ((r.who ≡ p) × (Some row ≡ Some r))) ⊎ ((if b then Some row else None) ≡ None)
-      by true e = inl (row, ((same_object-Decides row.who p).0 e, refl))
-      by false e = inr refl
+  own_or_none o = grind (arith, same_object-Decides)
 
   same_own : (o q : Option PetitionRow) → ((row : PetitionRow) → row.who ≡ p → q ≡ Some row ↔ o ≡ Some row) → own q ≡ own o
   same_own o q h = by (own_or_none o) (own_or_none q)

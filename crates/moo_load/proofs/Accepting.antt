@@ -1,5 +1,5 @@
 -- Accept lists as values.
-use Rattle.moo_load.proofs.Words.{◌≡◌, ◌≤◌, ◌<◌, ℕ, zero, suc, ◌+◌, List, [], ◌∷◌, ◌++◌, map, take, length, true, Option, Some, None, get_or, refl, sym, ap, subst, ◌∙◌, arith, and_parts, both_true, le-leb, leb-true, list_all, take_all, length-map, map-append, ObjNo, Value, Obj, a_list, gather, spread, Values, no_values, is_number, accept_value, accept_fits}
+use Rattle.moo_load.proofs.Words.{◌≡◌, ◌≤◌, ◌<◌, ℕ, zero, suc, ◌+◌, List, [], ◌∷◌, ◌++◌, map, take, length, true, Option, Some, None, get_or, refl, sym, ap, subst, ◌∙◌, arith, and_parts, both_true, le-leb, leb-true, list_all, take_all, length-map, map-append, ObjNo, Value, Obj, a_list, gather, spread, Values, is_number, accept_value, accept_fits}
 use Rattle.moo_load.proofs.One.Values.{values_in}
 use Rattle.std.{proofs.lemmas.List.{take_more}, proofs.lemmas.List.Folds.{list_all-append}}
 use Rattle.moo_world.specs.declared.values.TheConstants.{MOST_ACCEPTED}

@@ -13,6 +13,4 @@ end_from (c ∷ line) rest i one =
 
 -- the first end is after the line
 pub first_end : (bytes line rest : List ℕ) → IsOneLine line → bytes ≡ line ++ 10 ∷ rest → position_from is_end 0 bytes ≡ Some (length line)
-first_end bytes line rest one e =
-    let count : 0 + length line ≡ length line = omega arith in
-    ap (position_from is_end 0) e ∙ end_from line rest 0 one ∙ ap (λ (n : ℕ). Some n) count
+first_end bytes line rest one e = grind (arith, end_from)

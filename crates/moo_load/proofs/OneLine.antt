@@ -1,5 +1,5 @@
 -- What is printed has no line end.
-use Rattle.moo_load.proofs.Words.{◌≡◌, ℕ, ℤ, Bool, true, false, cond, List, [], ◌∷◌, ◌++◌, refl, sym, ap, ◌∙◌, ◌==◌, not, flat_map, list_all, false≢true, and_parts, Decides-eqb, Int, Obj, a_list, IsText, Values, no_values, HoldInside, InRange, print_items, print, spelled, IsOneLine, both_true, ◌||◌, IsTrue, signed_decimal, is_allowed, int, object, string, error, list, is_digit, is_blank, AreDigits, AreBlanks, Spaced, an_integer, SpellsNumber, SpellsObject, escape, name, print_string, print_comma}
+use Rattle.moo_load.proofs.Words.{arith, ◌≡◌, ℕ, ℤ, Bool, true, false, cond, List, [], ◌∷◌, ◌++◌, refl, sym, ap, ◌∙◌, ◌==◌, not, flat_map, list_all, false≢true, and_parts, Decides-eqb, Int, Obj, a_list, IsText, Values, no_values, HoldInside, InRange, print_items, print, spelled, IsOneLine, both_true, IsTrue, signed_decimal, is_allowed, int, object, string, error, list, is_digit, is_blank, AreDigits, AreBlanks, Spaced, an_integer, SpellsNumber, SpellsObject, escape, name, print_string, print_comma}
 use Rattle.std.proofs.lemmas.List.Folds.{list_all-append}
 use Rattle.moo_value.{specs.declared.code.Code.{Code}, specs.declared.code.Code.TheVariants.{None}, specs.Literal.{an_object}}
 
@@ -39,9 +39,7 @@ pub object_plain : (z : ℤ) → InRange an_object z → IsOneLine (35 ∷ signe
 object_plain z fits = spaced_plain (SpellsObject z) (λ t o. ap (list_all plain) o.1 ∙ spelled_plain z o.0 o.2) (35 ∷ signed_decimal z) (spelled (Obj (record { 0 = z })) fits)
 
 escaped_plain : (c : ℕ) → is_allowed c ≡ true → IsOneLine (escape c)
-escaped_plain c allowed =
-    let p = other c (λ e. false≢true (ap is_allowed (sym e) ∙ allowed)) in
-    elim ((c == 34) || (c == 92)) as (λ b. IsOneLine (cond b (92 ∷ c ∷ []) (c ∷ []))) [ true ↦ both_true _ _ p refl | false ↦ both_true _ _ p refl ]
+escaped_plain c allowed = grind (arith, other, false≢true, both_true)
 
 bytes_plain : (s : List ℕ) → list_all is_allowed s ≡ true → IsOneLine (flat_map escape s)
 bytes_plain [] a = refl

@@ -1,5 +1,5 @@
 -- The line of an entry, split into its word and its values.
-use Rattle.moo_load.{proofs.Words.{◌≡◌, ℕ, ◌+◌, List, [], ◌∷◌, ◌++◌, get_or, drop, refl, sym, ap, ◌∙◌, false≢true, Decides-eqb, ObjNo, Value, print, ObjRow, PetitionId, PetitionRow, PropId, VerbRow, Maps, Property, list_of, Object, PropertyWord, Verb, Petition, Entry, an_object, a_property, a_slot, a_verb, a_petition, entry_text, entry_values, EntryFits, ArePrinted, word_text, slot_line_put, LastSlot, Name, codes, append_cancel_right}, specs.declared.line.Word.{Word}, specs.declared.line.Word.TheVariants.{Slot}}
+use Rattle.moo_load.{proofs.Words.{arith, ◌≡◌, ℕ, ◌+◌, List, [], ◌∷◌, ◌++◌, get_or, refl, sym, ap, ◌∙◌, false≢true, Decides-eqb, ObjNo, Value, print, ObjRow, PetitionId, PetitionRow, PropId, VerbRow, Maps, Property, list_of, Object, PropertyWord, Verb, Petition, Entry, an_object, a_property, a_slot, a_verb, a_petition, entry_text, entry_values, EntryFits, ArePrinted, word_text, slot_line_put, LastSlot, Name, codes, append_cancel_right}, specs.declared.line.Word.{Word}, specs.declared.line.Word.TheVariants.{Slot}}
 use Rattle.moo_world.specs.World.{Slot as ASlot}
 
 abbrev pub word_of : Entry → Word
@@ -30,12 +30,7 @@ no_end e r same = false≢true ((Decides-eqb (mark (entry_text e ++ r)) 211).1 (
 
 -- the words of lines tell one another apart
 pub one_word : (v w : Word) (r q : List ℕ) → word_text v ++ 32 ∷ r ≡ word_text w ++ 32 ∷ q → (v ≡ w) × (r ≡ q)
-one_word Object Object r q e = (refl, ap (drop 7) e)
-one_word PropertyWord PropertyWord r q e = (refl, ap (drop 9) e)
-one_word Slot Slot r q e = (refl, ap (drop 5) e)
-one_word Verb Verb r q e = (refl, ap (drop 5) e)
-one_word Petition Petition r q e = (refl, ap (drop 9) e)
-one_word v w r q e = absurd (false≢true ((Decides-eqb (mark (word_text v ++ 32 ∷ r)) (mark (word_text w ++ 32 ∷ q))).1 (ap mark e)))
+one_word v w r q e = grind (arith, false≢true, Decides-eqb)
 
 -- the word and the literal of the line of an entry
 pub split_is : (line literal : List ℕ) (word : Word) (e : Entry) → EntryFits e → line ≡ word_text word ++ 32 ∷ literal → line ++ 10 ∷ [] ≡ entry_text e → (word ≡ word_of e) × ArePrinted (entry_values e) literal
@@ -66,12 +61,7 @@ EachOf Verb Q = (x : ObjNo) (v : VerbRow) → Q (a_verb x v)
 EachOf Petition Q = (e : PetitionId × PetitionRow) → Q (a_petition e)
 
 pub of_word : (word : Word) (Q : Entry → Type 0) → EachOf word Q → (e : Entry) → word ≡ word_of e → Q e
-of_word Object Q h (an_object x row) w = h x row
-of_word PropertyWord Q h (a_property x n) w = h x n
-of_word Slot Q h (a_slot x p k) w = h x p k
-of_word Verb Q h (a_verb x v) w = h x v
-of_word Petition Q h (a_petition e) w = h e
-of_word word Q h e w = absurd (false≢true ((Decides-eqb (kind word) (kind (word_of e))).1 (ap kind w)))
+of_word word Q f e g = grind (arith, false≢true, Decides-eqb)
 
 -- what holds of each entry of a word with the values that were read holds of the entry of the line
 pub of_line : (line literal : List ℕ) (word own : Word) (values given : List Value) (Q : Entry → Type 0) → line ≡ word_text word ++ 32 ∷ literal → word ≡ own → given ≡ values → ((v : Value) (vs : List Value) → ArePrinted (v ∷ vs) literal → values ≡ v ∷ vs)

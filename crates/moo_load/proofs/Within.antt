@@ -1,5 +1,5 @@
 -- Rows as far as they are read, with one row more.
-use Rattle.moo_load.proofs.Words.{◌≡◌, ◌+◌, ◌<◌, ◌≤◌, true, false, cond, ℕ, ℤ, Some, ap, refl, sym, subst, ◌∙◌, ◌&&◌, ◌^◌, pos, negsuc, ◌≤ℤ◌, arith, IsTotalOrder, CmpEqualImpliesEq, eq_by_cmp, Ordering, FinMap, get, insert, get-insert, get-empty, same_Some, none-some, ObjNo, Head, ObjRow, PetitionId, PetitionRow, PropId, PropRow, SlotRow, VerbRow, object_exact, prop_exact, slot_exact, verb_exact, petition_exact, Held, Maps, max, no_maps, object_cmp, prop_cmp, slot_cmp, verb_cmp, petition_cmp, object_total, prop_total, slot_total, verb_total, petition_total, key-Decides, is_number, petition_fits, row_fits, is_property_name, state_fits, verb_fits, AreRead, petition_taken, property_taken, verb_taken}
+use Rattle.moo_load.proofs.Words.{◌≡◌, ◌+◌, ◌<◌, ◌≤◌, true, false, cond, ℕ, ℤ, Some, refl, sym, subst, ◌∙◌, ◌&&◌, ◌^◌, pos, negsuc, ◌≤ℤ◌, arith, IsTotalOrder, CmpEqualImpliesEq, eq_by_cmp, Ordering, FinMap, get, insert, get-insert, get-empty, same_Some, none-some, ObjNo, Head, ObjRow, PetitionId, PetitionRow, PropId, PropRow, SlotRow, VerbRow, object_exact, prop_exact, slot_exact, verb_exact, petition_exact, Held, Maps, max, no_maps, object_cmp, prop_cmp, slot_cmp, verb_cmp, petition_cmp, object_total, prop_total, slot_total, verb_total, petition_total, key-Decides, is_number, petition_fits, row_fits, is_property_name, state_fits, verb_fits, AreRead, petition_taken, property_taken, verb_taken}
 use Rattle.moo_rows.specs.Maps.{with_prop, with_verb, with_petition}
 
 -- each row of a map passes, and so does one more
@@ -29,20 +29,13 @@ module _ (m : Maps) (read : AreRead m) where
 -- a row is put, and the head is set, with the next number of its kind
 module _ (old put new : Held) (head : Head) (own : head ≡ old.maps.head) where
   pub property_set : (row : PropRow) → put ≡ with_prop old (record { 0 = head.next_prop }) row → new ≡ record put { maps = record (put.maps) { head = record head { next_prop = head.next_prop + 1 } } } → new.maps ≡ property_taken old.maps row
-  property_set row is set =
-      ap (λ (h : Held). h.maps) set ∙ (λ i. record ((is i).maps) { head = record (own i) { next_prop = (own i).next_prop + 1 } })
-      ∙ (λ i. record (old.maps) { head = record (old.maps.head) { next_prop = old.maps.head.next_prop + 1 }; props = insert old.maps.props (record { 0 = (own i).next_prop }) row })
+  property_set row is set = grind arith
 
   pub verb_set : (x : ObjNo) (row : VerbRow) → put ≡ with_verb old (x, record { 0 = head.next_verb }) row → new ≡ record put { maps = record (put.maps) { head = record head { next_verb = head.next_verb + 1 } } } → new.maps ≡ verb_taken old.maps x row
-  verb_set x row is set =
-      ap (λ (h : Held). h.maps) set ∙ (λ i. record ((is i).maps) { head = record (own i) { next_verb = (own i).next_verb + 1 } })
-      ∙ (λ i. record (old.maps) { head = record (old.maps.head) { next_verb = old.maps.head.next_verb + 1 }; verbs = insert old.maps.verbs (x, record { 0 = (own i).next_verb }) row })
+  verb_set x row is set = grind arith
 
 pub petition_set : (old put new : Held) (head : Head) (next : ℕ) (id : PetitionId) (row : PetitionRow) → put ≡ with_petition old id row → head ≡ put.maps.head → next ≡ max head.next_petition (id.0 + 1) → new ≡ record put { maps = record (put.maps) { head = record head { next_petition = next } } } → new.maps ≡ petition_taken old.maps id row
-petition_set old put new head next id row is own above set =
-    let first : head ≡ old.maps.head = own ∙ ap (λ (h : Held). h.maps.head) is in
-    ap (λ (h : Held). h.maps) set ∙ (λ i. record (put.maps) { head = record head { next_petition = above i } })
-    ∙ (λ i. record ((is i).maps) { head = record (first i) { next_petition = max (first i).next_petition (id.0 + 1) } })
+petition_set old put new head next id row is own above set = grind arith
 
 -- the next number of a property, a verb or a petition
 abbrev IsNext : ℕ → Type 0

@@ -1,34 +1,15 @@
 -- The changes of a map are exact, and applied to it they give the new one.
-use Rattle.moo_memory.{proofs.Words.{◌≡◌, ◌≢◌, Bool, true, false, cond, T, ◌&&◌, Option, None, Some, List, [], ◌∷◌, ◌++◌, append_assoc, append-nil, Less, Equal, Greater, Ordering, unwrap_or, refl, sym, ap, ◌∙◌, subst, eq_by_cmp, is_lt, is_eq, FinMap, find, get, get-from_entries, same_map, is_sorted, contents, changed, row_over, IsChanges, changed_each}, specs.Without.{Without, no_more, kept, left_out}, proofs.Overlays.{get-changed}}
+use Rattle.moo_memory.{proofs.Words.{arith, ◌≡◌, Bool, true, false, cond, T, ◌&&◌, Option, None, Some, List, [], ◌∷◌, ◌++◌, append_assoc, append-nil, Less, Equal, Ordering, unwrap_or, refl, sym, ap, ◌∙◌, subst, eq_by_cmp, is_lt, is_eq, FinMap, find, get, get-from_entries, same_map, is_sorted, contents, changed, row_over, IsChanges, changed_each}, specs.Without.{Without, no_more, kept, left_out}, proofs.Overlays.{get-changed}}
+use Rattle.moo_rows.proofs.Walking.{first_of, second_of, less_of}
+use Rattle.std.proofs.lemmas.Option.{none-some, same_Some}
 use Rattle.std.{specs.Cmp.{IsTotalOrder}, specs.BTreeMap.{BTreeMap, IsOrdered}, specs.FinMap.Entries.{below_all, same_entries}, specs.List.{AllByRecursion}, specs.List.Sorted.{IsStrictlySortedBy}, specs.Map.{keys_of}, proofs.lemmas.Map.Lookups.{CmpEqualImpliesEq}}
 
-both : (a b : Bool) → T a → T b → T (a && b)
+pub both : (a b : Bool) → T a → T b → T (a && b)
 both true b p q = q
 both false b p q = p
 
-first_of : (a b : Bool) → T (a && b) → T a
-first_of true b p = tt
-first_of false b p = p
-
-second_of : (a b : Bool) → T (a && b) → T b
-second_of true b p = p
-second_of false b p = absurd p
-
-less_of : (o : Ordering) → T (is_lt o) → o ≡ Less
-less_of Less p = refl
-less_of Equal p = absurd p
-less_of Greater p = absurd p
-
 equal_of : (o : Ordering) → is_eq o ≡ true → o ≡ Equal
-equal_of Less p = cc
-equal_of Equal p = refl
-equal_of Greater p = cc
-
-some_same : {X : Type 0} {x y : X} → Some x ≡ Some y → x ≡ y
-some_same e = cc
-
-none_some : {X : Type 0} (x : X) → None ≢ Some x
-none_some x e = cc
+equal_of o e = grind arith
 
 -- ---- ordered maps have their entries in order
 
@@ -79,12 +60,12 @@ module _ {K X : Type 0} (cmp : K → K → Ordering) (P : K × X → Type 0) whe
   module _ (exact : CmpEqualImpliesEq cmp) where
     -- what is found in the rest is found in the whole, and hasn't the property
     pub without-found : {es rest : List (K × X)} → Without P es rest → T (is_sorted cmp es) → (q : K) (x : X) → find cmp q rest ≡ Some x → (find cmp q es ≡ Some x) × (¬ (P (q, x)))
-    without-found no_more h q x f = absurd (none_some x f)
+    without-found no_more h q x f = absurd (none-some x f)
     without-found (kept {x = e} {xs = es} {ys = rest} p more) h q x f =
         elim (eq_by_cmp cmp q e.0) as (λ b. eq_by_cmp cmp q e.0 ≡ b → cond b (Some e.1) (find cmp q rest) ≡ Some x → (cond b (Some e.1) (find cmp q es) ≡ Some x) × (¬ (P (q, x)))) [
           | true ↦ λ t f.
               let key = exact q e.0 (equal_of _ t) in
-              let same = some_same f in
+              let same = same_Some _ _ f in
               let entry : ◌≡◌ {A = K × X} (q, x) e = λ i. (key i, sym same i) in
               (f, λ has. p (subst P entry has))
           | false ↦ λ t f. without-found more (second_of _ _ h) q x f
@@ -92,23 +73,23 @@ module _ {K X : Type 0} (cmp : K → K → Ordering) (P : K × X → Type 0) whe
     without-found (left_out {x = e} {xs = es} {ys = rest} p more) h q x f =
         let later = without-found more (second_of _ _ h) q x f in
         elim (eq_by_cmp cmp q e.0) as (λ b. eq_by_cmp cmp q e.0 ≡ b → (cond b (Some e.1) (find cmp q es) ≡ Some x) × (¬ (P (q, x)))) [
-          | true ↦ λ t. absurd (none_some x (sym (subst (λ k. find cmp k es ≡ None) (sym (exact q e.0 (equal_of _ t))) (not_among e.0 es (first_of _ _ h))) ∙ later.0))
+          | true ↦ λ t. absurd (none-some x (sym (subst (λ k. find cmp k es ≡ None) (sym (exact q e.0 (equal_of _ t))) (not_among e.0 es (first_of _ _ h))) ∙ later.0))
           | false ↦ λ t. later
         ] refl
 
     -- what is found in the whole and not in the rest has the property
     pub without-missed : {es rest : List (K × X)} → Without P es rest → (q : K) (x : X) → find cmp q rest ≡ None → find cmp q es ≡ Some x → P (q, x)
-    without-missed no_more q x none f = absurd (none_some x f)
+    without-missed no_more q x none f = absurd (none-some x f)
     without-missed (kept {x = e} {xs = es} {ys = rest} p more) q x none f =
         elim (eq_by_cmp cmp q e.0) as (λ b. cond b (Some e.1) (find cmp q rest) ≡ None → cond b (Some e.1) (find cmp q es) ≡ Some x → P (q, x)) [
-          | true ↦ λ none f. absurd (none_some e.1 (sym none))
+          | true ↦ λ none f. absurd (none-some e.1 (sym none))
           | false ↦ λ none f. without-missed more q x none f
         ] none f
     without-missed (left_out {x = e} {xs = es} {ys = rest} p more) q x none f =
         elim (eq_by_cmp cmp q e.0) as (λ b. eq_by_cmp cmp q e.0 ≡ b → cond b (Some e.1) (find cmp q es) ≡ Some x → P (q, x)) [
           | true ↦ λ t f.
               let key = exact q e.0 (equal_of _ t) in
-              let same = some_same f in
+              let same = same_Some _ _ f in
               let entry : ◌≡◌ {A = K × X} e (q, x) = λ i. (sym key i, same i) in
               subst P entry p
           | false ↦ λ t f. without-missed more q x none f
@@ -170,13 +151,13 @@ module _ {K X : Type 0} {cmp : K → K → Ordering} (total : IsTotalOrder cmp) 
 
 -- look-ups that are equal have no changes
 pub no-changes : {K X : Type 0} {cmp : K → K → Ordering} (base new : K → Option X) → base ≡ new → IsChanges cmp base new []
-no-changes base new e = record { ascending = tt; listed = λ key row f. absurd (none_some row f); others = λ key f i. e i key }
+no-changes base new e = record { ascending = tt; listed = λ key row f. absurd (none-some row f); others = λ key f i. e i key }
 
 -- changes of nothing leave each row as it is
 pub nothing-changed : {K X : Type 0} {cmp : K → K → Ordering} → IsTotalOrder cmp → (row_at : K → Option X) (m : BTreeMap K (Option X)) → m.entries ≡ [] → IsChanges cmp row_at (row_over row_at (contents cmp m)) []
 nothing-changed {cmp = cmp} total row_at m e =
     record {
       ascending = tt;
-      listed = λ key row f. absurd (none_some row f);
+      listed = λ key row f. absurd (none-some row f);
       others = λ q none. sym (ap (λ o. unwrap_or o (row_at q)) (get-from_entries total m.entries q ∙ ap (find cmp q) e));
     }

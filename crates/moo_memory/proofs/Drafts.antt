@@ -1,5 +1,6 @@
 -- The links of a draft's objects, and the properties that its objects define.
-use Rattle.moo_memory.{proofs.Words.{◌≡◌, ◌≢◌, List, Bool, true, false, ◌||◌, ◌+◌, cond, Option, None, Some, Less, Equal, Greater, Ordering, unwrap_or, is_some, refl, sym, ap, ◌∙◌, subst, eq_by_cmp, is_eq, FinMap, get, insert, get-insert, ObjNo, PropId, Held, Maps, LinkSets, may_have, may-as-kept, kept-may, on_ok, has-insert, lacked-insert, slot_total, changed, object_exact, object_cmp, prop_cmp, slot_cmp, is_kept, is_own_candidate, is_to_nothing, has_link, ties_of, row_has, row_defined, AreOfDefiners, AreByName, Tag, tag_of, named_cmp, named_total, row_named, name_hash, kept-insert, named-covers, named-more, named-put, named-remove, or_first, or_second, object_total, prop_total, overlaid, of_changes, is_that, may_have_own, is_candidate_of_either, EitherCovers}, specs.declared.own_links.OwnLinks.{OwnLinks}, proofs.Overlays.{get-overlaid, overlaid-insert}}
+use Rattle.moo_memory.{proofs.Words.{arith, ◌≡◌, ◌≢◌, List, Bool, true, false, ◌||◌, ◌+◌, cond, Option, None, Some, Less, Equal, Greater, Ordering, unwrap_or, is_some, refl, sym, ap, ◌∙◌, subst, eq_by_cmp, is_eq, FinMap, get, insert, get-insert, ObjNo, PropId, Held, Maps, LinkSets, may_have, may-as-kept, kept-may, on_ok, has-insert, lacked-insert, slot_total, changed, object_exact, object_cmp, prop_cmp, slot_cmp, is_kept, is_own_candidate, is_to_nothing, has_link, ties_of, row_has, row_defined, AreOfDefiners, AreByName, Tag, tag_of, named_cmp, named_total, row_named, name_hash, kept-insert, named-covers, named-more, named-put, named-remove, or_first, or_second, object_total, prop_total, overlaid, of_changes, is_that, may_have_own, is_candidate_of_either, EitherCovers}, specs.declared.own_links.OwnLinks.{OwnLinks}, proofs.Overlays.{get-overlaid, overlaid-insert}}
+use Rattle.std.proofs.lemmas.Bool.{false_from_ne_true}
 use Rattle.std.{specs.Prelude.{⊤, ℕ, OnErr, OnOk}, proofs.Common.{Result, Ok, Err}, proofs.lemmas.Bool.{true≢false}, specs.Cmp.{IsTotalOrder}, proofs.lemmas.Map.Lookups.{CmpEqualImpliesEq}, proofs.lemmas.Result.{on_err_weaker, on_ok_weaker}}
 use Rattle.moo_rows.{specs.declared.row.ObjRow.{ObjRow}, specs.declared.row.PropRow.{PropRow}, specs.declared.row.Link.{Link}, proofs.Linking.{defined-put, defined-remove}}
 
@@ -25,14 +26,6 @@ module _ {K X T E : Type 0} {cmp : K → K → Ordering} (total : IsTotalOrder c
 
   pub seen-refused : OnErr r ((new ≡ old) × (count ≡ before.writes)) → OnErr r (record before { maps = put (overlaid below new) before.maps; writes = count } ≡ record now { maps = put (of now.maps) now.maps })
   seen-refused err = on_err_weaker r (λ (h : (new ≡ old) × (count ≡ before.writes)). seen-written of put (λ m. m) (λ n. n) same (ap (overlaid below) h.0 ∙ sym seen) h.1) err
-
--- the same after a change that there was memory for
-pub seen-done : {K X : Type 0} {cmp : K → K → Ordering} (total : IsTotalOrder cmp) (exact : CmpEqualImpliesEq cmp) (of : Maps → FinMap cmp X) (put : FinMap cmp X → Maps → Maps)
-    {before now : Held} (same : before ≡ now) (below : FinMap cmp X) (old new : FinMap cmp (Option X)) (count : ℕ) (seen : of before.maps ≡ overlaid below old) (key : K) (o : Option X)
-    → (new ≡ insert old key o) × (count ≡ before.writes + 1)
-    → record before { maps = put (overlaid below new) before.maps; writes = count } ≡ record now { maps = put (changed (of now.maps) key o) now.maps; writes = now.writes + 1 }
-seen-done total exact of put same below old new count seen key o h =
-    seen-written of put (λ m. changed m key o) (λ n. n + 1) same (ap (overlaid below) h.0 ∙ overlaid-insert total exact below old key o ∙ sym (ap (λ m. changed m key o) seen)) h.1
 
 -- ---- links
 
@@ -96,11 +89,7 @@ module _ (below : ObjNo → Option ObjRow) where
 
 -- a row whose links may be, or are below
 pub put-there : (l : Link) (row : ObjRow) (b : Bool) → (has_link l (ties_of row) ≡ true → b ≡ true) → b ≡ false → has_link l (ties_of row) ≡ false
-put-there l row b there e = by (has_link l (ties_of row)) refl
-  where
-    by : (h : Bool) → has_link l (ties_of row) ≡ h → h ≡ false
-    by true h = absurd (true≢false (sym (there h) ∙ e))
-    by false h = refl
+put-there l row b there e = false_from_ne_true (has_link l (ties_of row)) (λ h. true≢false (sym (there h) ∙ e))
 
 -- ---- properties
 
@@ -129,8 +118,7 @@ module _ (changes new : FinMap prop_cmp (Option PropRow)) (key : PropId) where
   read_change o is q = ap (λ m. of_changes m q) is ∙ ap (λ p. unwrap_or p None) (get-insert prop_total changes key o q) ∙ by (eq_by_cmp prop_cmp q key)
     where
       by : (b : Bool) → unwrap_or (cond b (Some o) (get changes q)) None ≡ cond b o (of_changes changes q)
-      by true = refl
-      by false = refl
+      by b = grind arith
 
   -- a property is put, and its definer with it; the definer alone if there is no memory for the row
   pub draft-put : {T E : Type 0} (V W : Type 0) (r : Result T E) (old definers : FinMap slot_cmp ⊤) (row : PropRow) → OnOk r ((new ≡ insert changes key (Some row)) × V) → OnErr r ((new ≡ changes) × W)

@@ -1,23 +1,19 @@
 -- Who is kept for a link after more are kept and some are forgotten: nobody but who has it.
-use Rattle.moo_memory.proofs.Words.{◌≡◌, ◌≢◌, Bool, true, false, cond, ◌||◌, Option, None, Some, Less, Equal, Greater, Ordering, is_some, refl, sym, ap, ◌∙◌, eq_by_cmp, is_eq, FinMap, get, insert, get-insert, get-remove, ObjNo, LinkSets, object_cmp, object_exact, object_total, tie_cmp, tie_total, AreCovered, is_kept, may_have, is_to_nothing, has_link, row_has, ties_have, ties_of, ⊤}
+use Rattle.moo_memory.proofs.Words.{arith, ◌≡◌, ◌≢◌, Bool, true, false, cond, ◌||◌, Option, None, Some, Less, Equal, Greater, Ordering, is_some, refl, sym, ap, ◌∙◌, eq_by_cmp, is_eq, FinMap, get, insert, get-insert, get-remove, ObjNo, LinkSets, object_cmp, object_exact, object_total, tie_cmp, tie_total, AreCovered, is_kept, may_have, is_to_nothing, has_link, row_has, ties_have, ties_of, ⊤}
 use Rattle.moo_memory.specs.Forgotten.{AddsOnly, Forgets, ForgetsOnly, KeepsNoOther}
 use Rattle.std.{specs.Prelude.{◌⊎◌, OnErr, OnOk}, specs.Option.{option_map}, specs.FinMap.{remove}, proofs.Common.{Result, Ok, Err, inl, inr}, specs.Cmp.{IsTotalOrder, tied_itself}, proofs.lemmas.Bool.{true≢false}, proofs.lemmas.Map.Lookups.{CmpEqualImpliesEq}}
 use Rattle.moo_rows.{specs.Exact.{tie_exact}, specs.declared.row.ObjRow.{ObjRow}, specs.declared.row.Ties.{Ties}, specs.declared.row.Link.{Link}, specs.declared.row.Link.TheVariants.{ChildOf, Within, Player}}
 
 -- ---- one map
 
+-- keys that aren't compared as equal differ
+pub differs : {K : Type 0} {cmp : K → K → Ordering} → IsTotalOrder cmp → (q k : K) → is_eq (cmp q k) ≡ false → q ≢ k
+differs {cmp = cmp} total q k other same = true≢false (sym (ap is_eq (ap (λ z. cmp z k) same ∙ tied_itself total k)) ∙ other)
+
 module _ {K X : Type 0} {cmp : K → K → Ordering} (total : IsTotalOrder cmp) (exact : CmpEqualImpliesEq cmp) where
   -- a key that is there was there, or was put
   pub had-insert : (m : FinMap cmp X) (k : K) (v : X) (q : K) → is_some (get (insert m k v) q) ≡ true → (is_some (get m q) ≡ true) ⊎ (q ≡ k)
-  had-insert m k v q h = by (cmp q k) refl
-    where
-      stays : (o : Ordering) → cmp q k ≡ o → is_eq o ≡ false → is_some (get m q) ≡ true
-      stays o is apart = sym (ap is_some (get-insert total m k v q) ∙ ap (λ b. is_some (cond b (Some v) (get m q))) (ap is_eq is ∙ apart)) ∙ h
-
-      by : (o : Ordering) → cmp q k ≡ o → (is_some (get m q) ≡ true) ⊎ (q ≡ k)
-      by Equal o = inr (exact q k o)
-      by Less o = inl (stays Less o refl)
-      by Greater o = inl (stays Greater o refl)
+  had-insert m k v q h = grind (arith, get-insert)
 
   -- the same if there may be no memory for it
   pub had-put : {U E : Type 0} (r : Result U E) (old new : FinMap cmp X) (k : K) (v : X) → OnOk r (new ≡ insert old k v) → OnErr r (new ≡ old)
@@ -27,18 +23,7 @@ module _ {K X : Type 0} {cmp : K → K → Ordering} (total : IsTotalOrder cmp) 
 
   -- a key that is there was there, and isn't the one that was removed
   pub had-removed : (m : FinMap cmp X) (k : K) (q : K) → is_some (get (remove m k) q) ≡ true → (is_some (get m q) ≡ true) × (q ≢ k)
-  had-removed m k q h = by (cmp q k) refl
-    where
-      now : (o : Ordering) → cmp q k ≡ o → is_some (cond (is_eq o) None (get m q)) ≡ true
-      now o is = sym (ap is_some (get-remove total m k q) ∙ ap (λ o. is_some (cond (is_eq o) None (get m q))) is) ∙ h
-
-      apart : (o : Ordering) → cmp q k ≡ o → is_eq o ≡ false → q ≢ k
-      apart o is other same = true≢false (sym (ap is_eq (ap (λ z. cmp z k) same ∙ tied_itself total k)) ∙ ap is_eq is ∙ other)
-
-      by : (o : Ordering) → cmp q k ≡ o → (is_some (get m q) ≡ true) × (q ≢ k)
-      by Equal o = absurd (true≢false (sym (now Equal o)))
-      by Less o = (now Less o, apart Less o refl)
-      by Greater o = (now Greater o, apart Greater o refl)
+  had-removed m k q h = grind (arith, get-remove, true≢false, differs)
 
 -- ---- one link
 
@@ -106,8 +91,7 @@ module _ (before s : LinkSets) (same : s ≡ before) (link : Link) (key : ObjNo)
 
 -- whether ties of a row have a link is whether the row has it
 ties-row : (l : Link) (o : Option ObjRow) → ties_have l (option_map ties_of o) ≡ row_has l o
-ties-row l None = refl
-ties-row l (Some r) = refl
+ties-row l o = grind arith
 
 module _ (row_at row_at' : ObjNo → Option ObjRow) (key : ObjNo) (old : LinkSets) (before : KeepsNoOther row_at old) where
   -- what an object has that was kept for a link
@@ -120,13 +104,10 @@ module _ (row_at row_at' : ObjNo → Option ObjRow) (key : ObjNo) (old : LinkSet
       → ((q : ObjNo) → row_at' q ≡ cond (eq_by_cmp object_cmp q key) o (row_at q)) → KeepsNoOther row_at' new
   other-row new o kept is l q e = ((kept l q e).0, ap (row_has l) (is q) ∙ by (object_cmp q key) refl)
     where
-      apart : (o : Ordering) → object_cmp q key ≡ o → is_eq o ≡ false → q ≢ key
-      apart o c other same = true≢false (sym (ap is_eq (ap (λ z. object_cmp z key) same ∙ tied_itself object_total key)) ∙ ap is_eq c ∙ other)
-
       by : (c : Ordering) → object_cmp q key ≡ c → row_has l (cond (is_eq c) o (row_at q)) ≡ true
       by Equal c = sym (ties-row l o) ∙ ((kept l q e).1).0 (object_exact q key c)
-      by Less c = (before l q (((kept l q e).1).1 (apart Less c refl))).1
-      by Greater c = (before l q (((kept l q e).1).1 (apart Greater c refl))).1
+      by Less c = (before l q (((kept l q e).1).1 (differs object_total q key (ap is_eq c)))).1
+      by Greater c = (before l q (((kept l q e).1).1 (differs object_total q key (ap is_eq c)))).1
 
   -- a row with the same ties is put
   pub same-other : (row : ObjRow) → option_map ties_of (row_at key) ≡ Some (ties_of row)
@@ -163,19 +144,7 @@ module _ (row_at row_at' : ObjNo → Option ObjRow) (key : ObjNo) (old : LinkSet
 -- the same: whoever has a link still may, once the row before is back and the links that were added are gone
 pub back-covered : (row_at : ObjNo → Option ObjRow) (key : ObjNo) (old mid new : LinkSets) → AreCovered row_at old
     → ((l : Link) (q : ObjNo) → may_have mid l q ≡ false → may_have old l q ≡ false) → ForgetsOnly key (option_map ties_of (row_at key)) mid new → AreCovered row_at new
-back-covered row_at key old mid new covered more forgets l q e = by (object_cmp q key) refl
-  where
-    own : q ≡ key → (b : Bool) → ties_have l (option_map ties_of (row_at key)) ≡ b → row_has l (row_at q) ≡ false
-    own here true h = covered l q (more l q (forgets l q (λ _. h) e))
-    own here false h = ap (λ x. row_has l (row_at x)) here ∙ sym (ties-row l (row_at key)) ∙ h
-
-    apart : (o : Ordering) → object_cmp q key ≡ o → is_eq o ≡ false → q ≡ key → ties_have l (option_map ties_of (row_at key)) ≡ true
-    apart o c other same = absurd (true≢false (sym (ap is_eq (ap (λ z. object_cmp z key) same ∙ tied_itself object_total key)) ∙ ap is_eq c ∙ other))
-
-    by : (o : Ordering) → object_cmp q key ≡ o → row_has l (row_at q) ≡ false
-    by Equal o = own (object_exact q key o) (ties_have l (option_map ties_of (row_at key))) refl
-    by Less o = covered l q (more l q (forgets l q (apart Less o refl) e))
-    by Greater o = covered l q (more l q (forgets l q (apart Greater o refl) e))
+back-covered row_at key old mid new covered more forgets l q e = grind (arith, ties-row, differs)
 
 -- an object is kept for a link exactly if it has it
 pub kept-exactly : (row_at : ObjNo → Option ObjRow) (sets : LinkSets) → AreCovered row_at sets → KeepsNoOther row_at sets

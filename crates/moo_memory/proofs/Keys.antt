@@ -1,6 +1,7 @@
 -- Properties, kept by a key of their rows: exactly those that have it, after more are kept and some are forgotten.
-use Rattle.moo_memory.{proofs.Words.{◌≡◌, ◌≢◌, Bool, true, false, cond, Option, None, Some, Less, Equal, Greater, Ordering, is_some, refl, sym, ap, ◌∙◌, eq_by_cmp, is_eq, FinMap, get, insert, get-remove, get-insert, PropId, prop_cmp, prop_exact, prop_total, slot_cmp, named_cmp, row_defined, AreOfDefiners, AreByName, tag_of, ⊤}, specs.Forgotten.{AddsAtMost, AreKeysOf, ForgetsKey}, proofs.Keeping.{had-insert, had-removed}}
-use Rattle.std.{specs.Prelude.{◌↔◌, OnErr, OnOk}, specs.FinMap.{remove}, specs.Option.{option_map}, proofs.Common.{Result, Ok, Err, inl, inr, int_eq}, specs.Cmp.{IsTotalOrder, tied_itself}, proofs.lemmas.Bool.{true≢false}, proofs.lemmas.Bool.Decides.{Decides-int_eq}, proofs.lemmas.Map.Lookups.{CmpEqualImpliesEq}, proofs.lemmas.Option.{none-some, same_Some}}
+use Rattle.moo_memory.{proofs.Words.{arith, ◌≡◌, ◌≢◌, true, false, cond, Option, None, Some, Ordering, is_some, sym, ap, ◌∙◌, eq_by_cmp, FinMap, get, insert, get-remove, get-insert, PropId, prop_cmp, slot_cmp, named_cmp, AreOfDefiners, AreByName, tag_of, ⊤}, specs.Forgotten.{AddsAtMost, AreKeysOf, ForgetsKey}, proofs.Keeping.{differs, had-insert, had-removed}}
+use Rattle.std.proofs.lemmas.Bool.{false_from_ne_true}
+use Rattle.std.{specs.Prelude.{◌↔◌, OnErr, OnOk}, specs.FinMap.{remove}, specs.Option.{option_map}, proofs.Common.{Result, inl, inr}, specs.Cmp.{IsTotalOrder}, proofs.lemmas.Bool.{true≢false}, proofs.lemmas.Bool.Decides.{Decides-int_eq}, proofs.lemmas.Map.Lookups.{CmpEqualImpliesEq}, proofs.lemmas.Option.{none-some, same_Some}}
 use Rattle.moo_rows.specs.declared.row.PropRow.{PropRow}
 use Rattle.moo_value.specs.declared.value.ObjNo.{ObjNo}
 
@@ -8,16 +9,10 @@ use Rattle.moo_value.specs.declared.value.ObjNo.{ObjNo}
 module _ {K : Type 0} {cmp : K → K → Ordering} (total : IsTotalOrder cmp) (exact : CmpEqualImpliesEq cmp) where
   -- an entry stays if another is put
   still-inserted : (m : FinMap cmp ⊤) (k q : K) → is_some (get m q) ≡ true → is_some (get (insert m k tt) q) ≡ true
-  still-inserted m k q h = ap is_some (get-insert total m k tt q) ∙ by (eq_by_cmp cmp q k)
-    where
-      by : (b : Bool) → is_some (cond b (Some tt) (get m q)) ≡ true
-      by true = refl
-      by false = h
+  still-inserted m k q h = grind (arith, get-insert)
 
   pub adds-put : {U E : Type 0} (r : Result U E) (old new : FinMap cmp ⊤) (k : K) → OnOk r (new ≡ insert old k tt) → OnErr r (new ≡ old) → AddsAtMost k old new
-  adds-put (Ok u) old new k ok err q =
-      ((λ h. had-insert total exact old k tt q (ap (λ m. is_some (get m q)) (sym ok) ∙ h)), λ h. ap (λ m. is_some (get m q)) ok ∙ still-inserted old k q h)
-  adds-put (Err e) old new k ok err q = ((λ h. inl (ap (λ m. is_some (get m q)) (sym err) ∙ h)), λ h. ap (λ m. is_some (get m q)) err ∙ h)
+  adds-put r old new k e f g = grind (arith, had-insert, still-inserted)
 
 -- ---- forgetting
 
@@ -25,12 +20,7 @@ module _ {K : Type 0} {cmp : K × PropId → K × PropId → Ordering} (old : Fi
   module _ (total : IsTotalOrder cmp) (exact : CmpEqualImpliesEq cmp) where
     -- an entry stays if another is removed
     still-removed : (k q : K × PropId) → q ≢ k → is_some (get old q) ≡ true → is_some (get (remove old k) q) ≡ true
-    still-removed k q apart h = ap is_some (get-remove total old k q) ∙ by (cmp q k) refl
-      where
-        by : (o : Ordering) → cmp q k ≡ o → is_some (cond (is_eq o) None (get old q)) ≡ true
-        by Equal o = absurd (apart (exact q k o))
-        by Less o = h
-        by Greater o = h
+    still-removed k q apart h = grind (arith, get-remove)
 
     pub forgets-one : (was : K) (new : FinMap cmp ⊤) → (stays ≡ Some was → ⊥) → new ≡ remove old (was, key) → ForgetsKey key (Some was) stays old new
     forgets-one was new goes is k id = (before, after)
@@ -47,47 +37,17 @@ module _ {K : Type 0} {cmp : K × PropId → K × PropId → Ordering} (old : Fi
 -- ---- rows
 
 module _ {K : Type 0} {cmp : K × PropId → K × PropId → Ordering} (of : PropRow → K) (row_at row_at' : PropId → Option PropRow) (key : PropId) (old : FinMap cmp ⊤) (before : AreKeysOf of row_at old) where
-  -- the row of another key is as before
-  apart : (q : PropId) (o : Ordering) → prop_cmp q key ≡ o → is_eq o ≡ false → q ≢ key
-  apart q o c other same = true≢false (sym (ap is_eq (ap (λ z. prop_cmp z key) same ∙ tied_itself prop_total key)) ∙ ap is_eq c ∙ other)
-
   -- a row is put in the place of another, or taken away: its key is kept, and that of the row before isn't unless it is the same
   keys-changed : (o : Option PropRow) (new : FinMap cmp ⊤)
       → ((k : K) (id : PropId) → id ≢ key → (is_some (get new (k, id)) ≡ true) ↔ (is_some (get old (k, id)) ≡ true))
       → ((k : K) → (is_some (get new (k, key)) ≡ true) ↔ (option_map of o ≡ Some k))
       → ((q : PropId) → row_at' q ≡ cond (eq_by_cmp prop_cmp q key) o (row_at q)) → AreKeysOf of row_at' new
-  keys-changed o new others own is k id = by (prop_cmp id key) refl
-    where
-      row_is : (c : Ordering) → prop_cmp id key ≡ c → option_map of (row_at' id) ≡ option_map of (cond (is_eq c) o (row_at id))
-      row_is c e = ap (option_map of) (is id ∙ ap (λ x. cond (is_eq x) o (row_at id)) e)
-
-      elsewhere : (c : Ordering) (e : prop_cmp id key ≡ c) → is_eq c ≡ false → option_map of (row_at' id) ≡ option_map of (row_at id) → (is_some (get new (k, id)) ≡ true) ↔ (option_map of (row_at' id) ≡ Some k)
-      elsewhere c e other same =
-          ((λ h. same ∙ (before k id).0 ((others k id (apart id c e other)).0 h)), λ h. (others k id (apart id c e other)).1 ((before k id).1 (sym same ∙ h)))
-
-      by : (c : Ordering) → prop_cmp id key ≡ c → (is_some (get new (k, id)) ≡ true) ↔ (option_map of (row_at' id) ≡ Some k)
-      by Equal e =
-          let here = prop_exact id key e in
-          ((λ h. row_is Equal e ∙ (own k).0 (ap (λ z. is_some (get new (k, z))) (sym here) ∙ h)), λ h. ap (λ z. is_some (get new (k, z))) here ∙ (own k).1 (sym (row_is Equal e) ∙ h))
-      by Less e = elsewhere Less e refl (row_is Less e)
-      by Greater e = elsewhere Greater e refl (row_is Greater e)
+  keys-changed o new others own is k id = grind (arith, others, own, before, differs)
 
   pub keys-put : (mid new : FinMap cmp ⊤) (row : PropRow) → AddsAtMost (of row, key) old mid → is_some (get mid (of row, key)) ≡ true
       → ForgetsKey key (option_map of (row_at key)) (Some (of row)) mid new
       → ((q : PropId) → row_at' q ≡ cond (eq_by_cmp prop_cmp q key) (Some row) (row_at q)) → AreKeysOf of row_at' new
-  keys-put mid new row adds there forgets = keys-changed (Some row) new others own
-    where
-      others : (k : K) (id : PropId) → id ≢ key → (is_some (get new (k, id)) ≡ true) ↔ (is_some (get old (k, id)) ≡ true)
-      others k id other = (
-        λ h. elim ((adds (k, id)).0 ((forgets k id).0 h).0) [ inl was ↦ was | inr same ↦ absurd (other (ap (λ p. p.1) same)) ],
-        λ h. (forgets k id).1 ((adds (k, id)).1 h, λ here _. absurd (other here)),
-      )
-
-      own : (k : K) → (is_some (get new (k, key)) ≡ true) ↔ (Some (of row) ≡ Some k)
-      own k = (
-        λ h. elim ((adds (k, key)).0 ((forgets k key).0 h).0) [ inl was ↦ ((forgets k key).0 h).1 refl ((before k key).0 was) | inr same ↦ ap (λ (p : K × PropId). Some p.0) (sym same) ],
-        λ h. (forgets k key).1 (ap (λ z. is_some (get mid (z, key))) (sym (same_Some (of row) k h)) ∙ there, λ _ _. h),
-      )
+  keys-put mid new row adds there forgets = grind (arith, keys-changed, before, same_Some)
 
   -- there was no memory to keep the property for all: the row before is put back, and what was added goes
   pub keys-back : (mid new : FinMap cmp ⊤) (k' : K) → AddsAtMost (k', key) old mid → ForgetsKey key (Some k') (option_map of (row_at key)) mid new → AreKeysOf of row_at new
@@ -101,24 +61,12 @@ module _ {K : Type 0} {cmp : K × PropId → K × PropId → Ordering} (of : Pro
 
   pub keys-removed : (new : FinMap cmp ⊤) → ForgetsKey key (option_map of (row_at key)) None old new
       → ((q : PropId) → row_at' q ≡ cond (eq_by_cmp prop_cmp q key) None (row_at q)) → AreKeysOf of row_at' new
-  keys-removed new forgets = keys-changed None new
-      (λ k id other. ((λ h. ((forgets k id).0 h).0), λ h. (forgets k id).1 (h, λ here _. absurd (other here))))
-      (λ k. ((λ h. absurd (none-some k (((forgets k key).0 h).1 refl ((before k key).0 ((forgets k key).0 h).0)))), λ h. absurd (none-some k h)))
+  keys-removed new forgets = grind (arith, keys-changed, none-some, before)
 
 -- ---- whoever has a key is among those that are kept for it
 
 pub keys-define : (row_at : PropId → Option PropRow) (definers : FinMap slot_cmp ⊤) → AreKeysOf (λ row. row.definer) row_at definers → AreOfDefiners row_at definers
-keys-define row_at definers keys x id lacks = by (row_at id) refl
-  where
-    by : (o : Option PropRow) → row_at id ≡ o → row_defined x o ≡ false
-    by None is = refl
-    by (Some row) is = own (int_eq row.definer.0 x.0) refl
-      where
-        own : (b : Bool) → int_eq row.definer.0 x.0 ≡ b → b ≡ false
-        own true same =
-            let number = (Decides-int_eq row.definer.0 x.0).0 same in
-            absurd (true≢false (sym ((keys x id).1 (ap (option_map (λ r. r.definer)) is ∙ (λ i. Some (record { 0 = number i })))) ∙ lacks))
-        own false other = refl
+keys-define row_at definers keys x id lacks = grind (arith, false_from_ne_true, Decides-int_eq, true≢false)
 
 pub keys-name : (row_at : PropId → Option PropRow) (names : FinMap named_cmp ⊤) → AreKeysOf tag_of row_at names → AreByName row_at names
 keys-name row_at names keys id row is = (keys (tag_of row) id).1 (ap (option_map tag_of) is)
@@ -132,8 +80,4 @@ keys-of-nothing of row_at kept rows none k id =
 -- what other properties are kept for stays, in both forms
 pub lost-none : {key : PropId} (old new : FinMap slot_cmp ⊤) → ((x : ObjNo) (id : PropId) → id ≢ key → is_some (get old (x, id)) ≡ true → is_some (get new (x, id)) ≡ true)
     → (x : ObjNo) (id : PropId) → id ≢ key → is_some (get new (x, id)) ≡ false → is_some (get old (x, id)) ≡ false
-lost-none old new stays x id other lacks = by (is_some (get old (x, id))) refl
-  where
-    by : (b : Bool) → is_some (get old (x, id)) ≡ b → b ≡ false
-    by true had = absurd (true≢false (sym (stays x id other had) ∙ lacks))
-    by false had = refl
+lost-none old new stays x id other lacks = false_from_ne_true (is_some (get old (x, id))) (λ had. true≢false (sym (stays x id other had) ∙ lacks))

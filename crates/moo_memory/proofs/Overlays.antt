@@ -1,11 +1,11 @@
 -- The next key of a map with changes over it.
-use Rattle.moo_memory.proofs.Words.{◌≡◌, ◌≢◌, ◌+◌, Bool, true, false, ◌||◌, Option, None, Some, List, [], ◌∷◌, cond, length, Less, Equal, Greater, Ordering, IsSome, IsTrue, unwrap_or, is_some, refl, sym, ap, ◌∙◌, subst, arith, ordering_reverse, match_ordering, lesser, eq_by_cmp, FinMap, get, entries, insert, empty, from_entries, find, get-entries, get-insert, get-remove, same_map, len-entries, len-empty, contents, IsNextAt, IsNext, changed, changed_all, overlaid, row_over, IsNextOfEither}
+use Rattle.moo_memory.proofs.Words.{◌≡◌, ◌≢◌, ◌+◌, Bool, false, ◌||◌, Option, None, Some, List, [], ◌∷◌, cond, length, Less, Ordering, IsSome, IsTrue, unwrap_or, is_some, refl, sym, ap, ◌∙◌, subst, arith, lesser, eq_by_cmp, FinMap, get, entries, insert, empty, from_entries, find, get-entries, get-insert, get-remove, same_map, len-entries, len-empty, contents, IsNextAt, IsNext, changed, changed_all, overlaid, row_over, IsNextOfEither}
+use Rattle.std.proofs.lemmas.List.{nil_from_length}
 use Rattle.std.{specs.Cmp.{IsTotalOrder}, specs.BTreeMap.{BTreeMap}, proofs.lemmas.Map.Lookups.{CmpEqualImpliesEq}}
 use Rattle.moo_rows.{specs.Walk.{entries_past}, proofs.Walking.{next-step, onward}}
 
 by_or : (b : Bool) → IsTrue (b || false) → IsTrue b
-by_or true h = refl
-by_or false h = h
+by_or b h = grind arith
 
 module _ {K X : Type 0} {cmp : K → K → Ordering} (row_at : K → Option X) (changes : FinMap cmp (Option X)) where
   -- no row where neither has the key
@@ -14,11 +14,7 @@ module _ {K X : Type 0} {cmp : K → K → Ordering} (row_at : K → Option X) (
 
   -- a row where one has the key and it isn't removed
   held_over : (q : K) → IsTrue (is_some (row_at q) || is_some (get changes q)) → get changes q ≢ Some None → IsSome (row_over row_at changes q)
-  held_over q h kept =
-      elim (get changes q) as (λ o. get changes q ≡ o → IsTrue (is_some (row_at q) || is_some o) → IsSome (unwrap_or o (row_at q))) [
-        | None ↦ λ is h. by_or (is_some (row_at q)) h
-        | Some o ↦ λ is h. elim o as (λ o. get changes q ≡ Some o → IsSome o) [ None ↦ λ is. absurd (kept is) | Some row ↦ λ _. refl ] is
-      ] refl h
+  held_over q h kept = grind arith
 
   pub next_held : (from : Option K) (key : K) → IsNextOfEither row_at changes from (Some key) → get changes key ≢ Some None → IsNextAt cmp (row_over row_at changes) from (Some key)
   next_held from key h kept = (held_over key h.0 kept, h.1, λ q past less. none_over q (h.2 q past less))
@@ -26,51 +22,25 @@ module _ {K X : Type 0} {cmp : K → K → Ordering} (row_at : K → Option X) (
   module _ (total : IsTotalOrder cmp) (exact : CmpEqualImpliesEq cmp) where
     split_at : (key q : K) → (cmp q key ≡ Less → row_over row_at changes q ≡ None) → row_over row_at changes key ≡ None
         → (cmp key q ≡ Less → row_over row_at changes q ≡ None) → row_over row_at changes q ≡ None
-    split_at key q below at above =
-        elim (cmp q key) as (λ o. cmp q key ≡ o → row_over row_at changes q ≡ None) [
-          | Less ↦ below
-          | Equal ↦ λ o. subst (λ k. row_over row_at changes k ≡ None) (sym (exact q key o)) at
-          | Greater ↦ λ o. above (total.antisymm key q ∙ ap ordering_reverse o)
-        ] refl
+    split_at key q below at above = grind arith
 
     -- what is next past a removed key is next past what it is past
     pub skipped : (from : Option K) (key : K) → IsNextOfEither row_at changes from (Some key) → get changes key ≡ Some None
         → (r : Option K) → IsNextAt cmp (row_over row_at changes) (Some key) r → IsNextAt cmp (row_over row_at changes) from r
-    skipped from key h removed None next =
-        λ q past. split_at key q (λ less. none_over q (h.2 q past less)) (ap (λ o. unwrap_or o (row_at key)) removed) (λ above. next q above)
-    skipped from key h removed (Some k) next = (
-      next.0,
-      onward cmp total from key k h.1 next.1,
-      λ q past less. split_at key q (λ below. none_over q (h.2 q past below)) (ap (λ o. unwrap_or o (row_at key)) removed) (λ above. next.2 q above less),
-    )
+    skipped from key e f r g = grind (arith, split_at, none_over, onward)
 
     -- a removed key leaves fewer changes
     pub fewer : (from : Option K) (key : K) → IsNextOfEither row_at changes from (Some key) → get changes key ≡ Some None
         → length (entries_past cmp from (entries changes)) ≡ length (entries_past cmp (Some key) (entries changes)) + 1
-    fewer from key h removed =
-        let e = next-step total exact changes from key None (ap is_some removed, h.1, λ q past less. (h.2 q past less).1) removed in
-        omega (arith, ap length e)
+    fewer from key h removed = grind (arith, next-step)
 
 -- the lesser of what is next in the base and what is next among the changes
 module _ {K X : Type 0} {cmp : K → K → Ordering} (total : IsTotalOrder cmp) (exact : CmpEqualImpliesEq cmp) (row_at : K → Option X) (changes : FinMap cmp (Option X)) where
   pub next-of-either : (from r s : Option K) → IsNextAt cmp row_at from r → IsNext changes from s → IsNextOfEither row_at changes from (lesser cmp r s)
-  next-of-either from None None h k = λ q past. (h q past, k q past)
-  next-of-either from None (Some y) h k = ((λ i. is_some (h y k.1 i) || k.0 i), k.1, λ q past less. (h q past, k.2 q past less))
-  next-of-either from (Some x) None h k = ((λ i. h.0 i || is_some (get changes x)), h.1, λ q past less. (h.2 q past less, k q past))
-  next-of-either from (Some x) (Some y) h k =
-      elim (cmp y x) as (λ o. cmp y x ≡ o → IsNextOfEither row_at changes from (match_ordering o (Some y) (Some x) (Some x))) [
-        | Less ↦ λ o. ((λ i. is_some (h.2 y k.1 o i) || k.0 i), k.1, λ q past less. (h.2 q past (total.trans q y x less o), k.2 q past less))
-        | Equal ↦ λ o. ((λ i. h.0 i || is_some (get changes x)), h.1, λ q past less. (h.2 q past less, k.2 q past (subst (λ z. cmp q z ≡ Less) (sym (exact y x o)) less)))
-        | Greater ↦ λ o. (
-          (λ i. h.0 i || is_some (get changes x)),
-          h.1,
-          λ q past less. (h.2 q past less, k.2 q past (total.trans q x y less (total.antisymm x y ∙ ap ordering_reverse o))),
-        )
-      ] refl
+  next-of-either from r s e f = grind arith
 
 unwrapped : {X : Type 0} (b : Bool) (o : Option X) (f : Option (Option X)) (d : Option X) → cond b o (unwrap_or f d) ≡ unwrap_or (cond b (Some o) f) d
-unwrapped true o f d = refl
-unwrapped false o f d = refl
+unwrapped b o f d = grind arith
 
 module _ {K X : Type 0} {cmp : K → K → Ordering} (total : IsTotalOrder cmp) where
   pub get-changed : (base : FinMap cmp X) (key : K) (o : Option X) (q : K) → get (changed base key o) q ≡ cond (eq_by_cmp cmp q key) o (get base q)
@@ -99,13 +69,9 @@ module _ {K X : Type 0} {cmp : K → K → Ordering} (total : IsTotalOrder cmp) 
       ∙ sym (get-changed (overlaid base changes) key o q ∙ ap (cond (eq_by_cmp cmp q key) o) (get-overlaid base changes q)
       ∙ unwrapped (eq_by_cmp cmp q key) o (get changes q) (get base q)))
 
-no_length : {A : Type 0} (es : List A) → length es ≡ 0 → es ≡ []
-no_length [] e = refl
-no_length (x ∷ es) e = absurd (omega arith)
-
 -- no changes
 pub overlaid-empty : {K X : Type 0} {cmp : K → K → Ordering} (base : FinMap cmp X) → overlaid base (empty {R = cmp}) ≡ base
-overlaid-empty {cmp = cmp} base = ap (changed_all base) (no_length (entries empty) (sym (len-entries empty) ∙ len-empty cmp _))
+overlaid-empty {cmp = cmp} base = ap (changed_all base) (nil_from_length (entries empty) (sym (len-entries empty) ∙ len-empty cmp _))
 
 pub overlaid-none : {K X : Type 0} {cmp : K → K → Ordering} (base : FinMap cmp X) (changes : BTreeMap K (Option X)) → changes.entries ≡ [] → overlaid base (contents cmp changes) ≡ base
 overlaid-none base changes e = ap (λ es. overlaid base (from_entries es)) e ∙ overlaid-empty base

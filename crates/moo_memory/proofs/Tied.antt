@@ -1,24 +1,13 @@
 -- The objects that have a link, found among pairs in order.
-use Rattle.moo_memory.proofs.Words.{◌≡◌, Bool, true, false, ◌&&◌, cond, T, List, [], ◌∷◌, Less, Equal, Greater, Ordering, is_some, None, refl, sym, ap, ◌∙◌, subst, ⊤, get-from_entries, find, is_sorted, has_key, ObjNo, Maps, object_cmp, object_total, object_exact, tie_cmp, tie_total, is_linked, is_lt, is_eq, ordering_reverse}
-use Rattle.std.{proofs.Common.{int_eq, map, not, BTreeMap}, specs.Cmp.{tied_itself}, specs.Ordering.{ordering_then}, specs.BTreeMap.{IsOrdered}, specs.BTreeMap.Range.{entries_between}, specs.List.{AllByRecursion}, specs.List.Sorted.{IsStrictlySortedBy}, specs.FinMap.Entries.{below_all, where_key, is_sorted-where_key, find-where_key}, specs.declared.ops.Bound.TheVariants.{Excluded, Unbounded}, proofs.lemmas.Bool.{true≢false}, proofs.lemmas.Bool.Decides.{Decides-int_eq}}
+use Rattle.moo_memory.proofs.Words.{arith, ◌≡◌, Bool, true, false, ◌&&◌, cond, T, List, [], ◌∷◌, Less, Equal, Greater, Ordering, is_some, None, refl, sym, ap, ◌∙◌, subst, ⊤, get-from_entries, find, is_sorted, has_key, ObjNo, Maps, object_cmp, object_total, object_exact, tie_cmp, tie_total, is_linked, is_lt, is_eq, ordering_reverse}
+use Rattle.moo_memory.proofs.Changing.{both, sorted_entries}
+use Rattle.std.proofs.lemmas.Bool.{not-false, not-true}
+use Rattle.std.{proofs.Common.{int_eq, map, not, BTreeMap}, specs.Cmp.{tied_itself}, specs.Ordering.{ordering_then}, specs.BTreeMap.{IsOrdered}, specs.BTreeMap.Range.{entries_between}, specs.FinMap.Entries.{below_all, where_key, is_sorted-where_key, find-where_key}, specs.declared.ops.Bound.TheVariants.{Excluded, Unbounded}, proofs.lemmas.Bool.{true≢false}, proofs.lemmas.Bool.Decides.{Decides-int_eq}}
 use Rattle.moo_rows.{specs.declared.row.Link.{Link}, specs.Exact.{tie_exact}, specs.Links.{linked_left}, proofs.Listing.{linked_first, linked_end}, proofs.Walking.{here, first_of, second_of, less_of, elsewhere, below}}
-
-both : (a b : Bool) → T a → T b → T (a && b)
-both true b p q = q
-both false b p q = absurd p
 
 -- ---- the entries of a map in order, and those past a key
 
 module _ {K X : Type 0} (cmp : K → K → Ordering) where
-  all_above : (k : K) (es : List (K × X)) → AllByRecursion (λ y. cmp k y ≡ Less) (map (λ e. e.0) es) → T (below_all cmp k es)
-  all_above k [] h = tt
-  all_above k (e ∷ es) h = both _ _ (subst (λ o. T (is_lt o)) (sym h.0) tt) (all_above k es h.1)
-
-  sorted_entries : (es : List (K × X)) → IsStrictlySortedBy cmp (map (λ e. e.0) es) → T (is_sorted cmp es)
-  unfolding IsStrictlySortedBy
-  sorted_entries [] h = tt
-  sorted_entries (e ∷ es) h = both _ _ (all_above e.0 es h.0) (sorted_entries es h.1)
-
   past_above : (k : K) (es : List (K × X)) → T (below_all cmp k (entries_between cmp (Excluded k) Unbounded es))
   past_above k [] = tt
   past_above k (e ∷ es) = by (is_lt (cmp k e.0)) refl (past_above k es)
@@ -38,22 +27,12 @@ tied_to x has [] = []
 tied_to x has (e ∷ es) = cond (int_eq e.0.0.0 x.0) (cond (has e.0.1) (e.0.1 ∷ tied_to x has es) (tied_to x has es)) []
 
 module _ (x : ObjNo) (has : ObjNo → Bool) (e : (ObjNo × ObjNo) × ⊤) (es : List ((ObjNo × ObjNo) × ⊤)) where
-  own_partner : (b : Bool) → false ≡ not b → b ≡ true
-  own_partner true h = refl
-  own_partner false h = absurd (true≢false (sym h))
-
-  others_partner : (b : Bool) → true ≡ not b → b ≡ false
-  others_partner true h = absurd (true≢false h)
-  others_partner false h = refl
-
   -- the first pair, by its partner
   pub tied-has : false ≡ not (int_eq e.0.0.0 x.0) → has e.0.1 ≡ true → tied_to x has (e ∷ es) ≡ e.0.1 ∷ tied_to x has es
-  tied-has own h =
-      ap (λ b. cond b (cond (has e.0.1) (e.0.1 ∷ tied_to x has es) (tied_to x has es)) []) (own_partner _ own)
-      ∙ ap (λ b. cond b (e.0.1 ∷ tied_to x has es) (tied_to x has es)) h
+  tied-has own h = grind (arith, own, not-false)
 
   pub tied-past : true ≡ not (int_eq e.0.0.0 x.0) → tied_to x has (e ∷ es) ≡ []
-  tied-past other = ap (λ b. cond b (cond (has e.0.1) (e.0.1 ∷ tied_to x has es) (tied_to x has es)) []) (others_partner _ other)
+  tied-past other = ap (λ b. cond b (cond (has e.0.1) (e.0.1 ∷ tied_to x has es) (tied_to x has es)) []) (not-true _ (sym other))
 
 module _ (x : ObjNo) where
   -- pairs of x are in the order of their partners
@@ -62,12 +41,7 @@ module _ (x : ObjNo) where
 
   -- a later pair of another object is past each of x
   past_all : (a q : ObjNo) (p : ObjNo × ObjNo) → tie_cmp (x, a) p ≡ Less → int_eq p.0.0 x.0 ≡ false → tie_cmp (x, q) p ≡ Less
-  past_all a q p less other = by (object_cmp x p.0) refl
-    where
-      by : (o : Ordering) → object_cmp x p.0 ≡ o → tie_cmp (x, q) p ≡ Less
-      by Less o = ap (λ o. ordering_then o (object_cmp q p.1)) o
-      by Equal o = absurd (true≢false (sym ((Decides-int_eq p.0.0 x.0).1 (ap (λ (y : ObjNo). y.0) (sym (object_exact x p.0 o)))) ∙ other))
-      by Greater o = absurd (let greater : Greater ≡ Less = sym (ap (λ o. ordering_then o (object_cmp a p.1)) o) ∙ less in cc)
+  past_all a q p less other = grind (arith, true≢false, Decides-int_eq)
 
   module _ (t : Maps) (link : Link) where
     pub tied_linked : (after : ObjNo) (es : List ((ObjNo × ObjNo) × ⊤)) → T (below_all tie_cmp (x, after) es) → T (is_sorted tie_cmp es)

@@ -1,5 +1,5 @@
 -- The lines of a dump, each with what it tells.
-use Rattle.moo_load.proofs.Words.{◌≡◌, ℕ, List, [], ◌∷◌, ◌++◌, map, Option, Some, None, refl, sym, ap, ◌∙◌, append_assoc, append-nil, codes, flat_map, entries, flat_map-append, ObjNo, State, objects_of, Property, folded, World, WorldObject, Slot, slot_of, chain, defined_by_any, Entry, an_object, a_property, a_slot, a_verb, a_petition, entry_text, heading, dump, object_line, property_line, slot_line, owed_line, verb_line, petition_line, record_lines, object_lines}
+use Rattle.moo_load.proofs.Words.{arith, ◌≡◌, ℕ, List, [], ◌∷◌, ◌++◌, map, Option, Some, None, refl, sym, ap, ◌∙◌, append_assoc, append-nil, codes, flat_map, entries, flat_map-append, ObjNo, State, objects_of, Property, folded, World, WorldObject, Slot, slot_of, chain, defined_by_any, Entry, an_object, a_property, a_slot, a_verb, a_petition, entry_text, heading, dump, object_line, property_line, slot_line, owed_line, verb_line, petition_line, record_lines, object_lines}
 use Rattle.moo_dump.proofs.FlatMaps.{flat_map-map, flat_map-flat_map}
 
 abbrev pub owed_entry : World → ObjNo → Property → List Entry
@@ -22,15 +22,7 @@ owed_text : (w : World) (x : ObjNo) (p : Property) → flat_map entry_text (owed
 owed_text w x p = elim (slot_of w x (folded p.1)) as (λ (o : Option Slot). flat_map entry_text (elim o [ None ↦ [] | Some s ↦ a_slot x p s ∷ [] ]) ≡ elim o [ None ↦ [] | Some s ↦ slot_line x p s ]) [ None ↦ refl | Some s ↦ append-nil (slot_line x p s) ]
 
 beside_text : (w : World) (x : ObjNo) (r : WorldObject) → flat_map entry_text (beside_row w x r) ≡ flat_map (property_line x) r.defines ++ (flat_map (owed_line w x) (defined_by_any w (chain w x)) ++ flat_map (verb_line x) r.verbs)
-beside_text w x r =
-    let owed = defined_by_any w (chain w x) in
-    let slots : flat_map entry_text (flat_map (owed_entry w x) owed) ≡ flat_map (owed_line w x) owed = flat_map-flat_map entry_text (owed_entry w x) owed ∙ ap (λ (f : Property → List ℕ). flat_map f owed) (λ i p. owed_text w x p i) in
-    flat_map-append entry_text (map (a_property x) r.defines) (flat_map (owed_entry w x) owed ++ map (a_verb x) r.verbs)
-    ∙ ap (λ (t : List ℕ). t ++ flat_map entry_text (flat_map (owed_entry w x) owed ++ map (a_verb x) r.verbs)) (flat_map-map entry_text (a_property x) r.defines)
-    ∙ ap (λ (t : List ℕ). flat_map (property_line x) r.defines ++ t)
-    (flat_map-append entry_text (flat_map (owed_entry w x) owed) (map (a_verb x) r.verbs)
-    ∙ ap (λ (t : List ℕ). t ++ flat_map entry_text (map (a_verb x) r.verbs)) slots
-    ∙ ap (λ (t : List ℕ). flat_map (owed_line w x) owed ++ t) (flat_map-map entry_text (a_verb x) r.verbs))
+beside_text w x r = grind (arith, flat_map-flat_map, owed_text, flat_map-append, flat_map-map)
 
 object_text : (w : World) (x : ObjNo) → flat_map entry_text (object_entries w x) ≡ object_lines w x
 object_text w x = elim (w.object x) as (λ (o : Option WorldObject). flat_map entry_text (elim o [ None ↦ [] | Some r ↦ record_entries w x r ]) ≡ elim o [ None ↦ [] | Some r ↦ record_lines w x r ]) [ None ↦ refl | Some r ↦ ap (λ (t : List ℕ). object_line x r.row ++ t) (beside_text w x r) ]

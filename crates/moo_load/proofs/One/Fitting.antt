@@ -1,6 +1,5 @@
 -- The values of what a well formed state is dumped as are within the limits.
-use Rattle.moo_load.{proofs.Words.{◌≡◌, ℕ, ◌+◌, ◌<◌, Bool, true, false, List, [], ◌∷◌, map, Option, Some, None, refl, sym, ap, subst, ◌∙◌, arith, ◌&&◌, pos, nat_le, is_some, length, option_map, list_all, AllByRecursion, false≢true, and_parts, leb-true, lt-ltb, same_Some, ObjNo, Value, Int, Obj, Str, a_list, Fits, gather, nesting, spread, Bits, ObjRow, PetitionId, PetitionRow, ObjectSpec, This, Preposition, SlotState, Clear, Set, VerbBits, VerbRow, letters_of, verb_letters_of, flag, is_number, fits, all_within_limits, accept_value, is_named, are_few, are_shallow, petition_fits, object_spec_text, prep_text, World, WorldObject, IsWellFormed, Climbs, is_object, verb_fits, accept_fits, row_fits, state_fits, linked, state_values, both_true, object_values, petition_values, verb_values, le-leb, levels, is_text, has_word, nothing_is_no_object, object_numbered, fits_tested}, proofs.One.Values.{three_bits}}
-use Rattle.moo_rows.{specs.declared.row.Preposition.TheVariants.{Set as a_set}, specs.declared.row.PrepositionSet.TheVariants.{With}}
+use Rattle.moo_load.{proofs.Words.{◌≡◌, ℕ, ◌+◌, ◌<◌, Bool, true, false, List, [], ◌∷◌, map, Option, Some, None, refl, sym, ap, subst, ◌∙◌, arith, ◌&&◌, pos, nat_le, is_some, length, option_map, list_all, AllByRecursion, false≢true, and_parts, leb-true, lt-ltb, same_Some, ObjNo, Value, Int, Obj, Str, a_list, Fits, gather, nesting, spread, Bits, ObjRow, PetitionId, PetitionRow, ObjectSpec, Preposition, SlotState, Clear, Set, VerbBits, VerbRow, letters_of, verb_letters_of, flag, is_number, fits, all_within_limits, accept_value, is_named, are_few, are_shallow, petition_fits, object_spec_text, prep_text, World, WorldObject, IsWellFormed, Climbs, is_object, verb_fits, accept_fits, row_fits, state_fits, linked, state_values, both_true, object_values, petition_values, verb_values, le-leb, levels, is_text, has_word, nothing_is_no_object, object_numbered, fits_tested}, proofs.One.Values.{three_bits}}
 use Rattle.moo_world.specs.declared.values.TheConstants.{MOST_ACCEPTED}
 use Rattle.moo_value.specs.declared.value.TheConstants.{MAX_NESTING}
 use Rattle.moo_world.specs.declared.petition.TheConstants.{MOST_NESTING}
@@ -32,13 +31,10 @@ verb_letters_fit true = three_bits (λ w x d. let b : VerbBits = record { r = tr
 verb_letters_fit false = three_bits (λ w x d. let b : VerbBits = record { r = false; w = w; x = x; d = d } in fits (Str (verb_letters_of b)) ≡ true) (((refl, refl), (refl, refl)), ((refl, refl), (refl, refl)))
 
 place_fit : (p : ObjectSpec) → fits (Str (object_spec_text p)) ≡ true
-place_fit This = refl
-place_fit _ = refl
+place_fit p = grind arith
 
 prep_fit : (p : Preposition) → fits (Str (prep_text p)) ≡ true
-prep_fit (a_set With) = refl
-prep_fit (a_set _) = refl
-prep_fit _ = refl
+prep_fit p = grind arith
 
 pub state_fit : (s : SlotState) → state_fits s ≡ true → AllByRecursion Fits (state_values s)
 state_fit Clear e = (fit (Int (pos 0)) refl, tt)

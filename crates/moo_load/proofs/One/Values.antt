@@ -1,5 +1,5 @@
 -- The values of a line tell the row that they are printed from.
-use Rattle.moo_load.proofs.Words.{◌≡◌, ℕ, ℤ, Bool, true, false, List, [], ◌∷◌, map, get_or, drop, Option, Some, None, refl, sym, ap, ◌∙◌, pos, not, ◌==◌, option_map, same_Some, ObjNo, Value, Int, Obj, Str, a_list, gather, spread, Values, no_values, Bits, ObjRow, PropRow, PetitionId, PetitionRow, ObjectSpec, This, Preposition, SlotState, Clear, Set, VerbBits, VerbRow, letters_of, verb_letters_of, flag, accept_value, Property, same_text, folded, prep_text, object_spec_text, Slot, object_values, state_values, verb_values, petition_values, bits_of, verb_bits_of, objects_among}
+use Rattle.moo_load.proofs.Words.{arith, ◌≡◌, ℕ, ℤ, Bool, true, false, List, [], ◌∷◌, map, get_or, Option, Some, None, refl, sym, ap, ◌∙◌, pos, not, ◌==◌, option_map, same_Some, ObjNo, Value, Int, Obj, Str, a_list, gather, spread, Values, no_values, Bits, ObjRow, PropRow, PetitionId, PetitionRow, ObjectSpec, Preposition, SlotState, Clear, Set, VerbBits, VerbRow, letters_of, verb_letters_of, flag, accept_value, Property, same_text, folded, prep_text, object_spec_text, Slot, object_values, state_values, verb_values, petition_values, bits_of, verb_bits_of, objects_among}
 use Rattle.moo_world.specs.VerbReading.{object_spec_of, prep_of}
 use Rattle.moo_verbs.proofs.TableLaw.{prep_read_again}
 
@@ -32,8 +32,7 @@ abbrev flag_in : Value → Bool
 flag_in v = not (size_in (integer_in v) == 0)
 
 flag_again : (b : Bool) → flag_in (flag b) ≡ b
-flag_again true = refl
-flag_again false = refl
+flag_again b = grind arith
 
 one_flag : (a b : Bool) → flag a ≡ flag b → a ≡ b
 one_flag a b e = sym (flag_again a) ∙ ap flag_in e ∙ flag_again b
@@ -76,8 +75,7 @@ one_verb_bits a b e = same_Some a b (sym (verb_letters_again a.r a.w a.x a.d) �
 
 place_again : (p : ObjectSpec) → object_spec_of (object_spec_text p) ≡ Some p
 unfolding same_text folded
-place_again This = refl
-place_again _ = refl
+place_again p = grind arith
 
 one_place : (p q : ObjectSpec) → object_spec_text p ≡ object_spec_text q → p ≡ q
 one_place p q e = same_Some p q (sym (place_again p) ∙ ap object_spec_of e ∙ place_again q)
@@ -90,8 +88,7 @@ state_in (a ∷ v ∷ vs) = Set v
 state_in vs = Clear
 
 state_again : (s : SlotState) → state_in (state_values s) ≡ s
-state_again Clear = refl
-state_again (Set v) = refl
+state_again s = grind arith
 
 -- ---- rows
 
@@ -106,23 +103,13 @@ pub one_object : (x y : ObjNo) (a b : ObjRow) → object_values x a ≡ object_v
 one_object x y a b e = (ap (λ (l : List Value). object_in (at 0 l)) e, sym (object_again x a) ∙ ap object_row e ∙ object_again y b)
 
 pub one_property : (p q : PropRow) → Obj p.definer ∷ Str p.name ∷ [] ≡ Obj q.definer ∷ Str q.name ∷ [] → p ≡ q
-one_property p q e =
-    let definer : p.definer ≡ q.definer = cc in
-    let name : p.name ≡ q.name = cc in
-    λ i. record { definer = definer i; name = name i }
+one_property p q e = grind arith
 
 abbrev pub slot_values : ObjNo → Property → Slot → List Value
 slot_values x p s = Obj x ∷ Obj p.0 ∷ Str p.1 ∷ Obj s.owner ∷ Str (letters_of s.bits) ∷ state_values s.state
 
 pub one_slot : (x y : ObjNo) (p q : Property) (s t : Slot) → s.definer ≡ p.0 → t.definer ≡ q.0 → slot_values x p s ≡ slot_values y q t → (x ≡ y) × (p ≡ q) × (s ≡ t)
-one_slot x y p q s t own_s own_t e =
-    let definer : p.0 ≡ q.0 = cc in
-    let name : p.1 ≡ q.1 = cc in
-    let own : s.definer ≡ t.definer = own_s ∙ definer ∙ sym own_t in
-    let owner : s.owner ≡ t.owner = cc in
-    let bits : s.bits ≡ t.bits = one_bits s.bits t.bits cc in
-    let state : s.state ≡ t.state = sym (state_again s.state) ∙ ap (λ (l : List Value). state_in (drop 5 l)) e ∙ state_again t.state in
-    (cc, λ i. (definer i, name i), λ i. record { definer = own i; owner = owner i; bits = bits i; state = state i })
+one_slot x y p q s t own_s own_t e = grind (arith, one_bits, state_again)
 
 pub one_verb : (x y : ObjNo) (a b : VerbRow) → verb_values x a ≡ verb_values y b → (x ≡ y) × (a ≡ b)
 one_verb x y a b e =
@@ -135,8 +122,4 @@ one_verb x y a b e =
     (cc, λ i. record { names = names i; owner = owner i; bits = bits i; args = record { dobj = dobj i; prep = prep i; iobj = iobj i } })
 
 pub one_petition : (e f : PetitionId × PetitionRow) → petition_values e.0 e.1 ≡ petition_values f.0 f.1 → e ≡ f
-one_petition e f same =
-    let id : e.0.0 ≡ f.0.0 = cc in
-    let who : e.1.who ≡ f.1.who = cc in
-    let calls : e.1.calls ≡ f.1.calls = cc in
-    λ i. (record { 0 = id i }, record { who = who i; calls = calls i })
+one_petition e f same = grind arith

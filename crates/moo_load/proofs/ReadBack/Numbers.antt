@@ -1,5 +1,6 @@
 -- Objects and properties stand once in their lists; the number of a property.
 use Rattle.moo_load.{proofs.Words.{AllByRecursion, Bool, Chain-chain, IsDistinct, IsWellFormed, Name, NamesDiffer, None, PropId, Some, World, all_properties, ap, arith, at_number, both_true, chain, chain-step, cond, cons_option, defined_by, distinct_append, distinct_numbers, false≢true, filter, filter_map, folded, is_object, map, property_names_of, none-some, numbers_below, numbers_to, object_at, objects_of, defined_by_any, refl, same_object, same_object-Decides, same_property, same_text, same_text-Decides, some_of, subst, sym, ℕ, ◌<◌, ◌≡◌, ◌++◌, ◌∷◌, ◌&&◌, ◌∙◌, ◌+◌, [], pos, List, ObjNo, Property, false, inl, inr, suc, true, zero, filter_passes, recursion_from_All, same_property-self, defined_by_any-append, pairs_left}, proofs.ReadBack.Lists.{Stands, before_differs, distinct_weaker, each_map, numbered_stands, of_all, of_holders, one_number, passed, split}}
+use Rattle.std.proofs.lemmas.Bool.{false_from_ne_true}
 use Rattle.moo_world.proofs.Inheritance.Keeping.{same_property-is}
 
 -- ---- objects
@@ -9,11 +10,8 @@ made_filter test f [] = refl
 made_filter test f (x ∷ l) = elim (test (f x)) as (λ b. cons_option (cond b (Some (f x)) None) (filter_map (λ a. cond (test (f a)) (Some (f a)) None) l) ≡ cond b (f x ∷ filter test (map f l)) (filter test (map f l))) [ true ↦ ap (λ k. f x ∷ k) (made_filter test f l) | false ↦ made_filter test f l ]
 
 apart : (i j : ℕ) → i < j → same_object (object_at i) (object_at j) ≡ false
-apart i j less =
-    elim (same_object (object_at i) (object_at j)) as (λ b. same_object (object_at i) (object_at j) ≡ b → b ≡ false) [
-      | true ↦ λ e. absurd (let same : pos i ≡ pos j = ap (λ (x : ObjNo). x.0) ((same_object-Decides (object_at i) (object_at j)).0 e) in let number : i ≡ j = cc in omega arith)
-      | false ↦ λ e. refl
-    ] refl
+apart i j less = false_from_ne_true (same_object (object_at i) (object_at j)) (λ e.
+    let same : pos i ≡ pos j = ap (λ (x : ObjNo). x.0) ((same_object-Decides (object_at i) (object_at j)).0 e) in let number : i ≡ j = cc in omega arith)
 
 pub objects_once : (w : World) → IsDistinct same_object (objects_of w)
 objects_once w =
@@ -34,11 +32,10 @@ alike_self : (p : Property) → alike p p ≡ true
 alike_self p = both_true _ _ ((same_object-Decides p.0 p.0).1 refl) ((same_text-Decides (folded p.1) (folded p.1)).1 refl)
 
 not_both : (a b : Bool) → b ≡ false → (a && b) ≡ false
-not_both true b e = e
-not_both false b e = refl
+not_both a b e = grind arith
 
 other_pair : (p q : Property) → alike p q ≡ false → same_property p q ≡ false
-other_pair p q e = elim (same_property p q) as (λ b. same_property p q ≡ b → b ≡ false) [ true ↦ λ h. absurd (false≢true (sym e ∙ ap (alike p) (sym (same_property-is p q h)) ∙ alike_self p)) | false ↦ λ h. refl ] refl
+other_pair p q e = false_from_ne_true (same_property p q) (λ h. false≢true (sym e ∙ ap (alike p) (sym (same_property-is p q h)) ∙ alike_self p))
 
 module _ (w : World) (wf : IsWellFormed w) where
   own_names : (x : ObjNo) → is_object w x ≡ true → IsDistinct alike (defined_by w x)

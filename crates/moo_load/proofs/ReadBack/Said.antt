@@ -44,10 +44,7 @@ owed_defined w os p s = of_all (λ (q : Property). Stands q (defined_by w q.0)) 
 
 -- the slot of a property is that of its name, with its definer
 pub of_property : (w : World) (x : ObjNo) (p : Property) (row : SlotRow) → slot_of_property w x p ≡ Some row → (k : Slot) × (slot_of w x (folded p.1) ≡ Some k) × (k.definer ≡ p.0) × (dumped_slot k ≡ row)
-of_property w x p row e =
-    let r = found_in (λ (k : Slot). cond (same_object k.definer p.0) (Some (dumped_slot k)) None) (slot_of w x (folded p.1)) row e in
-    let o = passed (same_object r.0.definer p.0) (dumped_slot r.0) row r.2 in
-    (r.0, r.1, (same_object-Decides r.0.definer p.0).0 o.0, o.1)
+of_property w x p row e = grind (arith, found_in, passed, same_object-Decides)
 
 -- and the other way
 pub slot_has_property : (w : World) (x : ObjNo) (p : Property) (k : Slot) → slot_of w x (folded p.1) ≡ Some k → k.definer ≡ p.0 → slot_of_property w x p ≡ Some (dumped_slot k)

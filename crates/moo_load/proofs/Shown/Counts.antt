@@ -1,5 +1,5 @@
 -- A dump has a line for each property and each verb.
-use Rattle.moo_load.{proofs.Words.{◌≡◌, ◌<◌, ◌≤◌, List, [], ◌∷◌, ◌++◌, length, Option, Some, None, ap, subst, arith, codes, cons_option, filter_map, flat_map, length-append, heading, dump, State, Entry, all_properties, all_verbs, an_object, entry_text, HasNumbers}, proofs.One.Entries.{entries_of, dump_is}, proofs.ReadBack.Fit.{properties_are, verbs_are}, proofs.ReadBack.Taken.{property_in, verb_in}}
+use Rattle.moo_load.{proofs.Words.{◌<◌, ◌≤◌, List, [], ◌∷◌, ◌++◌, length, Option, Some, None, ap, subst, arith, codes, cons_option, filter_map, flat_map, length-append, heading, dump, State, Entry, all_properties, all_verbs, an_object, entry_text, HasNumbers}, proofs.One.Entries.{entries_of, dump_is}, proofs.ReadBack.Fit.{properties_are, verbs_are}, proofs.ReadBack.Taken.{property_in, verb_in}}
 
 some_text : (e : Entry) → 0 < length (entry_text e)
 some_text (an_object x row) = omega arith

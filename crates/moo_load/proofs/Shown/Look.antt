@@ -1,11 +1,10 @@
 -- The rows of a state show its objects.
-use Rattle.moo_load.{proofs.Words.{◌≡◌, ℕ, true, false, cond, List, [], Option, Some, None, refl, sym, ap, ◌∙◌, is_some, unwrap_or, slice_get, option_map, option_and_then, get, filter_map, none-some, ObjNo, PropRow, VerbRow, Maps, State, objects_of, Name, Property, same_object, same_text, folded, same_text-Decides, world_of, world_shown, numbers_below, prop_id, verb_id, World, WorldObject, Slot, is_object, slot_of, chain, property_names_of, directory_of, all_properties, all_verbs, at_number, property_row, slot_of_property, verb_on, AreRowsOf, IsFormed, look_ups, object_shown, name_on, slot_on, slot_seen, object_listed}, proofs.Shown.Lists.{all_by_number, first_made, of_object, some_first}, proofs.ReadBack.Numbers.{objects_once}, proofs.ReadBack.Said.{among_all, slot_has_property, of_property, of_slot}, proofs.ReadBack.Lists.{made_of, stands_made}}
+use Rattle.moo_load.{proofs.Words.{arith, ◌≡◌, ℕ, true, cond, List, [], Option, Some, None, refl, sym, ap, ◌∙◌, is_some, unwrap_or, slice_get, option_map, option_and_then, get, filter_map, none-some, ObjNo, VerbRow, Maps, State, objects_of, Name, Property, same_object, same_text, folded, same_text-Decides, world_of, world_shown, numbers_below, verb_id, World, WorldObject, Slot, is_object, slot_of, chain, property_names_of, directory_of, all_properties, all_verbs, at_number, slot_of_property, verb_on, AreRowsOf, IsFormed, look_ups, object_shown, name_on, slot_on, slot_seen, object_listed}, proofs.Shown.Lists.{all_by_number, first_made, of_object, some_first}, proofs.ReadBack.Numbers.{objects_once}, proofs.ReadBack.Said.{among_all, slot_has_property, of_property, of_slot}, proofs.ReadBack.Lists.{made_of, stands_made}}
 use Rattle.moo_world.proofs.Shown.ObjectEntries.{same_object-symm}
 
 -- what is made of what is made
 then_made : {A B C : Type 0} (f : A → B) (g : B → Option C) (o : Option A) → option_and_then g (option_map f o) ≡ option_and_then (λ a. g (f a)) o
-then_made f g None = refl
-then_made f g (Some a) = refl
+then_made f g o = grind arith
 
 module _ (s : State) (formed : IsFormed s) (m : Maps) (rows : AreRowsOf s m) where
   abbrev w : World
@@ -20,9 +19,7 @@ module _ (s : State) (formed : IsFormed s) (m : Maps) (rows : AreRowsOf s m) whe
   name_of_pair x p = cond (same_object p.0 x) (Some p.1) None
 
   name_is : (x : ObjNo) (k : ℕ) → name_on (look_ups m) x k ≡ option_and_then (name_of_pair x) (at_number ps k)
-  name_is x k =
-      ap (option_and_then (λ (p : PropRow). cond (same_object p.definer x) (Some p.name) None)) (rows.props (prop_id k))
-      ∙ then_made property_row (λ (p : PropRow). cond (same_object p.definer x) (Some p.name) None) (at_number ps k)
+  name_is x k = grind (arith, then_made)
 
   defines_are : (x : ObjNo) → is_object w x ≡ true → filter_map (name_on (look_ups m) x) (numbers_below m.head.next_prop) ≡ property_names_of w x
   defines_are x there =
@@ -45,21 +42,11 @@ module _ (s : State) (formed : IsFormed s) (m : Maps) (rows : AreRowsOf s m) whe
   slot_of_pair x n p = cond (same_text (folded p.1) n) (option_map (slot_seen p.0) (slot_of_property w x p)) None
 
   slot_is : (x : ObjNo) (n : Name) (k : ℕ) → slot_on (look_ups m) x n k ≡ option_and_then (slot_of_pair x n) (at_number ps k)
-  slot_is x n k =
-      (λ i. option_and_then (λ (p : PropRow). cond (same_text (folded p.name) n) (option_map (slot_seen p.definer) (rows.slots x (prop_id k) i)) None) (rows.props (prop_id k) i))
-      ∙ elim (at_number ps k) as (λ (o : Option Property). option_and_then (λ (p : PropRow). cond (same_text (folded p.name) n) (option_map (slot_seen p.definer) (option_and_then (slot_of_property w x) o)) None) (option_map property_row o) ≡ option_and_then (slot_of_pair x n) o) [ None ↦ refl | Some p ↦ refl ]
+  slot_is x n k = grind (arith, same_text)
 
   -- what a property of the name gives is the slot of the name
   only_slot : (x : ObjNo) (n : Name) (p : Property) (k : Slot) → slot_of_pair x n p ≡ Some k → slot_of w x n ≡ Some k
-  only_slot x n p k e =
-      elim (same_text (folded p.1) n) as (λ b. same_text (folded p.1) n ≡ b → cond b (option_map (slot_seen p.0) (slot_of_property w x p)) None ≡ Some k → slot_of w x n ≡ Some k) [
-        | false ↦ λ g h. absurd (none-some k h)
-        | true ↦ λ g h.
-            let r = made_of (slot_seen p.0) (slot_of_property w x p) k h in
-            let q = of_property w x p r.0 r.1 in
-            let same : q.0 ≡ k = (λ i. record { definer = q.2 i; owner = q.0.owner; bits = q.0.bits; state = q.0.state }) ∙ ap (slot_seen p.0) q.3 ∙ r.2 in
-            ap (slot_of w x) (sym ((same_text-Decides (folded p.1) n).0 g)) ∙ q.1 ∙ ap (λ (j : Slot). Some j) same
-      ] refl e
+  only_slot x n p k e = grind (arith, same_text, none-some, made_of, of_property, same_text-Decides)
 
   slots_are : (x : ObjNo) (n : Name) → slice_get (filter_map (slot_on (look_ups m) x n) (numbers_below m.head.next_prop)) 0 ≡ slot_of w x n
   slots_are x n =

@@ -2,4 +2,4 @@ use Rattle.moo_laws.{proofs.GuardedBatches.{refused_alike}, proofs.ReadingBatche
 use Rattle.moo_laws.proofs.reasons.reasons_tell_no_more.Goals as goal
 
 pub returns : goal.returns
-returns c = record { alike = refused_alike; agree = λ p s t b agree reads. refused_reading p s t agree b reads }
+returns c = record { alike = refused_alike; agree = refused_reading }

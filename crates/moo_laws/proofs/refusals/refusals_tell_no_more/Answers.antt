@@ -14,6 +14,6 @@ returns c = record {
     clash_same p s.world t.world alike.worlds.rest alike.worlds.slots args reason,
   );
   alike_before = λ p s t batch place formed none alike h. before p batch.calls place s t formed none alike (and_parts (same_object batch.programmer p) _ h).1;
-  agree_before = λ p s t batch place agree h. reads_before p s t agree batch.calls place (and_parts (same_object batch.programmer p) _ h).1;
+  agree_before = λ p s t batch place agree h. reads_before p batch.calls place s t agree (and_parts (same_object batch.programmer p) _ h).1;
   listed = λ p w call args reason. (meant_listed w p call args reason, clash_listed w p args reason);
 }

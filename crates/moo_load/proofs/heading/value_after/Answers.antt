@@ -1,4 +1,4 @@
-use Rattle.moo_load.{proofs.Words.{◌≡◌, ℕ, List, ◌++◌, sym, ap, subst, ◌∙◌, append_cancel_left, from_err, Value, Fits, print, spelled, Spells}, proofs.Listed.{refused}}
+use Rattle.moo_load.{proofs.Words.{◌≡◌, ℕ, List, ◌++◌, sym, subst, ◌∙◌, append_cancel_left, from_err, Value, Fits, print, spelled, Spells}, proofs.Listed.{refused}}
 use Rattle.moo_value.proofs.Results.{is_ok}
 use Rattle.moo_load.proofs.heading.value_after.Goals as goal
 

@@ -1,4 +1,4 @@
-use Rattle.moo_load.{proofs.Words.{rules, ◌≡◌, ◌≢◌, sym, ◌∙◌, from_err, print, list_of, entry_values, IfErr-weaker, IfOk-weaker, SlotIsNext, slot_line_put}, specs.declared.line.Word.TheVariants.{Slot}, proofs.Taken.{word_of, line_is, split_is, no_slot_put, of_values, of_line}}
+use Rattle.moo_load.{proofs.Words.{rules, ◌≡◌, ◌≢◌, ◌∙◌, from_err, print, list_of, entry_values, IfErr-weaker, IfOk-weaker, SlotIsNext, slot_line_put}, specs.declared.line.Word.TheVariants.{Slot}, proofs.Taken.{word_of, line_is, split_is, no_slot_put, of_values, of_line}}
 use Rattle.moo_load.proofs.reading.take_slot_line.Goals as goal
 
 pub returns-in_err-word-clause-err : goal.returns-in_err-word-clause-err

@@ -1,4 +1,4 @@
-use Rattle.moo_load.{proofs.Words.{rules, ◌≡◌, ◌<◌, ◌++◌, [], ◌∷◌, length, arith, from_err, sym, ◌∙◌}, proofs.Accepting.{not_objects, objects_more, numbers_more, all_objects, few_objects, too_many}}
+use Rattle.moo_load.{proofs.Words.{rules, ◌≡◌, ◌<◌, ◌++◌, [], ◌∷◌, length, arith, from_err}, proofs.Accepting.{not_objects, objects_more, numbers_more, all_objects, few_objects, too_many}}
 use Rattle.moo_load.proofs.value.objects_of.Goals as goal
 
 pub returns-then-values-gt-MOST_ACCEPTED-clause-err : goal.returns-then-values-gt-MOST_ACCEPTED-clause-err
