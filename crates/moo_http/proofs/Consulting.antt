@@ -1,5 +1,5 @@
 -- What a batch that is run or asked, and a question, say of a World at whatever place.
-use Rattle.moo_http.{proofs.Words.{◌≡◌, ◌⊎◌, inl, inr, refl, ap, subst, arith, true, false, Result, Ok, Err, IsTrue, IfOk, IfErr, Ghosts, Batch, state_of, judge, World, state_of_world, Stands, MovesBy, RunsAt, VerdictLeads, StopsStore, Moment, rows_alone, state_of_moment, Place, Works, Failed, Between, Calls, Ask, RequestOutcome, MayAnswer, HasAdvanced, IsStillOrAdvanced}, specs.Settled.{came_of}}
+use Rattle.moo_http.{proofs.Words.{AdvancesBy, ◌≡◌, ◌⊎◌, inl, inr, refl, ap, subst, arith, true, false, Result, Ok, Err, IsTrue, IfOk, IfErr, Ghosts, Batch, state_of, judge, World, state_of_world, Stands, MovesBy, RunsAt, VerdictLeads, StopsStore, Moment, rows_alone, state_of_moment, Place, Works, Failed, Between, Calls, Ask, RequestOutcome, MayAnswer, HasAdvanced, IsStillOrAdvanced}, specs.Settled.{came_of}}
 use Rattle.std.specs.Result.{IsOkAnd}
 use Rattle.moo_rows.specs.Maps.{Maps}
 use Rattle.moo_world.specs.Judge as model
@@ -54,13 +54,16 @@ module _ {S : Type 0} (g : Ghosts S) (was new : World S) (batch : Batch) (m : Mo
   by_result (Err fault) to still (inr (error, is, why)) runs at = inr (stops_advances (judge (state_of_moment m) batch) to (rw is at runs) at)
 
 -- and unless the batch was accepted, or the store failed in it, it is the very World
-pub still_one : {S : Type 0} (g : Ghosts S) (was new : World S) (batch : Batch) (r : Result Reply StoreFault) → MovesBy g was new (λ from to. RunsAt from batch (answer_to r) to)
-    → IfOk r (λ reply. says_accepted (answered.Replied reply) ≡ false → new ≡ was) → IfErr r (FailsRun g was new) → IsStillOrAdvanced g was new
-still_one g was new batch r moves still fails (Works m) at =
-    let it = moves.goes (Works m) at in
-    by_result g was new batch m at.failed (at.rows at.failed) r it.0 still fails it.2 it.1
-still_one g was new batch r moves still fails (Failed m) at = inl (moves.closed at.failed)
-still_one g was new batch r moves still fails (Between m next) at = inl (moves.closed at.failed)
+module _ {S : Type 0} (g : Ghosts S) (was new : World S) (batch : Batch) (r : Result Reply StoreFault) (moves : MovesBy g was new (λ from to. RunsAt from batch (answer_to r) to))
+    (still : IfOk r (λ reply. says_accepted (answered.Replied reply) ≡ false → new ≡ was)) (fails : IfErr r (FailsRun g was new)) where
+  still_one : IsStillOrAdvanced g was new
+  still_one (Works m) at =
+      let it = moves.goes (Works m) at in
+      by_result g was new batch m at.failed (at.rows at.failed) r it.0 still fails it.2 it.1
+  still_one place at = inl (moves.closed at.failed)
+
+  pub advances_one : AdvancesBy g was new (λ from to. RunsAt from batch (answer_to r) to)
+  advances_one = record { moves = moves; still = still_one }
 
 -- ---- questions
 

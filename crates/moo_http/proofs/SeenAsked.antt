@@ -1,5 +1,5 @@
 -- What is seen of what was asked, by what came of it, and what one place more is told with.
-use Rattle.std.proofs.Common.{◌≡◌, List, [], ◌∷◌, ◌++◌, Option, Result, Ok, Err, IfOk, String, refl, subst}
+use Rattle.std.proofs.Common.{◌≡◌, List, [], ◌∷◌, ◌++◌, Option, Result, Ok, Err, MatchResult, String, refl, subst}
 use Rattle.std.specs.declared.alloc.Global.{Global}
 use Rattle.moo_rows.specs.Maps.{Maps}
 use Rattle.moo_world.specs.declared.call.Batch.{Batch}
@@ -21,10 +21,10 @@ lost_is P OutOfMemory memory closed failed = memory
 lost_is P Closed memory closed failed = closed
 
 module _ (maps : Maps) (kept next : Seen) where
-  pub seen_one : (mode : Mode) (batch : Batch) (r : Result Reply StoreFault) (o : RequestOutcome) → o ≡ came_of r → IfOk r (λ reply. HasSeenReply SeesRefusal maps batch reply kept next)
+  pub seen_one : (Lost : StoreFault → Type 0) (mode : Mode) (batch : Batch) (r : Result Reply StoreFault) (o : RequestOutcome) → o ≡ came_of r → MatchResult r (λ reply. HasSeenReply SeesRefusal maps batch reply kept next) Lost
       → HasSeenAsked maps (Calls mode batch) o kept next
-  seen_one mode batch (Ok reply) o is seen = rw is seen
-  seen_one mode batch (Err fault) o is seen = rw is (lost_is (λ o. HasSeenAsked maps (Calls mode batch) o kept next) fault tt tt tt)
+  seen_one Lost mode batch (Ok reply) o is seen = rw is seen
+  seen_one Lost mode batch (Err fault) o is seen = rw is (lost_is (λ o. HasSeenAsked maps (Calls mode batch) o kept next) fault tt tt tt)
 
   pub seen_lost : (each : AskedEach) (fault : StoreFault) (o : RequestOutcome) → o ≡ lost_by fault → HasSeenAsked maps (Each each) o kept next
   seen_lost each fault o is = rw is (lost_is (λ o. HasSeenAsked maps (Each each) o kept next) fault tt tt tt)

@@ -1,5 +1,5 @@
 -- The connections that a source hands out, served one after another.
-use Rattle.moo_http.{proofs.Words.{◌≡◌, ◌≢◌, ◌⊎◌, inl, inr, ℕ, zero, suc, ◌+◌, Bool, true, false, List, [], ◌∷◌, Option, Some, None, refl, subst, arith, ◌∙◌, Result, Ok, Err, is_ok, IfErr, Ghosts, World, MovesBy, Place, IsStillOrAdvanced, ServeFault, Read, ServiceFault, Exchanged, Visited, Visit, Attended, ServesFrom, attended_between, ServesOn, visit, settle, Loss, TellsLoss, TellsLosses, Traffic}, proofs.Going.{moves_then, still_then}}
+use Rattle.moo_http.{proofs.Words.{◌≡◌, ◌≢◌, ◌⊎◌, inl, inr, ℕ, zero, suc, ◌+◌, Bool, true, false, List, [], ◌∷◌, Option, Some, None, refl, subst, arith, ◌∙◌, Result, Ok, Err, is_ok, IfErr, Ghosts, World, AdvancesBy, Place, ServeFault, Read, ServiceFault, Exchanged, Visited, Visit, Attended, ServesFrom, attended_between, ServesOn, visit, settle, Loss, TellsLoss, TellsLosses, Traffic}, proofs.Going.{moves_then}}
 use Rattle.std.specs.declared.io.Read as Reading
 use Rattle.std.specs.declared.io.Write as Writing
 use Rattle.moo_arrivals.specs.declared.arrivals.Arrivals as Arrivals
@@ -81,19 +81,17 @@ module _ {A R W : Type 0} (source : Arrivals.Ghosts A R W) (reader : Reading.Gho
   attended_all (suc n) old from between new to answered failed left lost it (mid, some, more, earlier, last) =
       attended_on old from mid new to some more left lost (attended_all n old from between mid to answered failed some more it earlier) last
 
-  -- From a source to another, by how many of so many turns were answered and failed. Unless the World was led on by them, it is the very one.
+  -- From a source to another, by how many of so many turns were answered and failed.
   pub record Passed {S : Type 0} (g : Ghosts S) (was world : World S) (old new : A) (answered failed count : ℕ) : Type 0 where
     pub sum : answered + failed ≡ count
-    pub moves : MovesBy g was world (λ from to. Attended source reader fails writer answered failed old from new to)
-    pub still : IsStillOrAdvanced g was world
+    pub moves : AdvancesBy g was world (λ from to. Attended source reader fails writer answered failed old from new to)
 
   -- after so many turns one more, and then the source was asked once for a lost answer
   pub passed_on : {S : Type 0} (g : Ghosts S) (was mid world : World S) (first between next last : A) (result : Bool) (answered failed some more left lost count : ℕ) → Passed g was mid first between answered failed count
-      → MovesBy g mid world (λ from to. Visit source reader fails writer result between from next to) → IsStillOrAdvanced g mid world → CountsOne result answered failed some more
+      → AdvancesBy g mid world (λ from to. Visit source reader fails writer result between from next to) → CountsOne result answered failed some more
       → TellsLoss source.loses next some more last left lost → Passed g was world first last left lost (count + 1)
-  passed_on g was mid world first between next last result answered failed some more left lost count it visits still counts told = record {
+  passed_on g was mid world first between next last result answered failed some more left lost count it visits counts told = record {
     sum = omega (arith, settles_sum source.loses next last some more left lost told, counts_sum result answered failed some more counts, it.sum);
     moves = moves_then it.moves visits (λ from at to one turn.
         attended_on first from next last to some more left lost (one_more first from between at next to result answered failed some more counts one turn) told);
-    still = still_then g was mid world (λ from to. Attended source reader fails writer answered failed first from between to) it.moves it.still still;
   }

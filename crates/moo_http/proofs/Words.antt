@@ -17,7 +17,7 @@ pub use Rattle.moo_store.specs.Place.{Between, Failed, Place, Works}
 pub use Rattle.moo_world.specs.Judge.{State, judge, left_by, state_of}
 pub use Rattle.moo_world.specs.declared.call.Batch.{Batch}
 pub use Rattle.sqlite.specs.Store.{Ghosts}
-pub use Rattle.moo_http.specs.Advanced.{HasAdvanced, IsStillOrAdvanced}
+pub use Rattle.moo_http.specs.Advanced.{AdvancesBy, HasAdvanced, IsStillOrAdvanced}
 pub use Rattle.moo_http.specs.Answers.{MayAnswer, answer}
 pub use Rattle.moo_http.specs.Connections.{SaysByResult, WritesFront}
 pub use Rattle.moo_http.specs.Lines.{listening_line, served_line}

@@ -2,7 +2,7 @@
 use Rattle.std.specs.Prelude.{◌≡◌, ◌⊎◌, ◌<◌, true, false}
 use Rattle.sqlite.specs.Store.{Ghosts}
 use Rattle.moo_store.specs.Kept.{World}
-use Rattle.moo_store.specs.Moves.{Stands}
+use Rattle.moo_store.specs.Moves.{Stands, MovesBy}
 use Rattle.moo_store.specs.Place.{Place}
 
 -- a World that worked has failed, or its number is greater: its store failed, or it accepted a batch
@@ -12,3 +12,8 @@ HasAdvanced old new = (old.failed ≡ false) × ((new.failed ≡ true) ⊎ (old.
 -- It is the very World, with its store, unless it has advanced.
 abbrev pub IsStillOrAdvanced : {S : Type 0} → Ghosts S → World S → World S → Type 0
 IsStillOrAdvanced g old new = (place : Place) → Stands g old place → (new ≡ old) ⊎ HasAdvanced old new
+
+-- The World was moved so. Unless a batch was accepted, or the store failed in one, it is the very World.
+pub record AdvancesBy {S : Type 0} (g : Ghosts S) (old new : World S) (Way : Place → Place → Type 0) : Type 0 where
+  pub moves : MovesBy g old new Way
+  pub still : IsStillOrAdvanced g old new

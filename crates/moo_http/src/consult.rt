@@ -2,10 +2,10 @@
 
 ghost use Rattle.std.specs.Prelude.{◌≡◌};
 ghost use Rattle.moo_world.specs.Rows.{IsGood};
-ghost use Rattle.moo_store.specs.Moves.{Stands, MovesBy};
+ghost use Rattle.moo_store.specs.Moves.{Stands};
 ghost use Rattle.moo_store.specs.Moment.{Moment, state_of_moment, rows_alone};
 ghost use Rattle.moo_store.specs.Place.{Place, Works};
-ghost use Rattle.moo_http.specs.Advanced.{IsStillOrAdvanced};
+ghost use Rattle.moo_http.specs.Advanced.{AdvancesBy};
 ghost use Rattle.moo_http.specs.Answers.{MayAnswer};
 ghost use Rattle.moo_http.specs.Seen.{HasSeenAsked};
 ghost use Rattle.moo_http.specs.Settled.{lost_by, came_of};
@@ -51,9 +51,7 @@ fn run_batch<S: Alter + Drop>(
     whys: &mut Whys,
 ) -> RequestOutcome
     // Wherever the World was, what comes of it is what a run comes to there, and the World is where that leads.
-    ensures moves { MovesBy S.Store world.old world.new (λ from to. MayAnswer from (Asked.Calls Mode.Run batch.now) result to) }
-    // Unless the batch was accepted, or the store failed in it, it is the very World.
-    ensures still { IsStillOrAdvanced S.Store world.old world.new }
+    ensures moves { AdvancesBy S.Store world.old world.new (λ from to. MayAnswer from (Asked.Calls Mode.Run batch.now) result to) }
     // If it is refused its refusal is kept, and else none.
     ensures seen { HasSeenAsked world.old.rows.maps (Asked.Calls Mode.Run batch.now) result (seen_by whys.old) (seen_by whys.new) }
 {
@@ -128,7 +126,6 @@ fn ask_question<S: Alter + Drop>(
 }
 
 /// Runs or asks one batch. Why it is refused is kept, if that is wanted.
-#[tactic(auto, using(crate::proofs::Going::still_none))]
 fn take_batch<S: Alter + Drop>(
     world: &mut World<S>,
     mode: Mode,
@@ -136,9 +133,7 @@ fn take_batch<S: Alter + Drop>(
     whys: &mut Whys,
 ) -> RequestOutcome
     // Wherever the World was, what comes of it is what a run or an asking comes to there, and the World is where that leads.
-    ensures moves { MovesBy S.Store world.old world.new (λ from to. MayAnswer from (Asked.Calls mode batch.now) result to) }
-    // Unless the batch was accepted, or the store failed in it, it is the very World.
-    ensures still { IsStillOrAdvanced S.Store world.old world.new }
+    ensures moves { AdvancesBy S.Store world.old world.new (λ from to. MayAnswer from (Asked.Calls mode batch.now) result to) }
     // If it is refused its refusal is kept, and else none.
     ensures seen { HasSeenAsked world.old.rows.maps (Asked.Calls mode batch.now) result (seen_by whys.old) (seen_by whys.new) }
 {
@@ -150,7 +145,6 @@ fn take_batch<S: Alter + Drop>(
 
 /// Does what a request asks: runs or asks a batch, asks calls each alone, answers a question, or refuses it. Why a batch is refused, or
 /// each call that is asked alone, is kept in their order if that is wanted.
-#[tactic(auto, using(crate::proofs::Going::still_none))]
 pub(crate) fn consult<S: Alter + Drop>(
     alloc: Global,
     world: &mut World<S>,
@@ -159,9 +153,7 @@ pub(crate) fn consult<S: Alter + Drop>(
 ) -> RequestOutcome
     // Wherever the World was, what comes of it is what holds there. Only a batch that is run leads on: it keeps the cells of the rows that
     // it leaves as they are, and all numbers.
-    ensures moves { MovesBy S.Store world.old world.new (λ from to. MayAnswer from asked.now result to) }
-    // Unless a batch was accepted, or the store failed in it, it is the very World.
-    ensures still { IsStillOrAdvanced S.Store world.old world.new }
+    ensures moves { AdvancesBy S.Store world.old world.new (λ from to. MayAnswer from asked.now result to) }
     // Of a batch, or of each call that is asked alone, a refusal is kept if it is refused, and else none.
     ensures seen { HasSeenAsked world.old.rows.maps asked.now result (seen_by whys.old) (seen_by whys.new) }
 {

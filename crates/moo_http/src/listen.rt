@@ -1,9 +1,8 @@
 //! The connections of a source, served one after another.
 
 ghost use Rattle.std.specs.Prelude.{◌≡◌, ◌⊎◌, ◌+◌, ◌^◌, ◌<◌, ℕ, true, false};
-ghost use Rattle.moo_store.specs.Moves.{MovesBy};
 ghost use Rattle.moo_http_request.specs.Given.{HasFailed};
-ghost use Rattle.moo_http.specs.Advanced.{IsStillOrAdvanced};
+ghost use Rattle.moo_http.specs.Advanced.{AdvancesBy};
 ghost use Rattle.moo_http.specs.Traffic.{traffic_of};
 ghost use Rattle.moo_http.specs.Serves.{ClosesGently};
 ghost use Rattle.moo_http.specs.Turns.{Visited, Visit, Attended, AttendsAll};
@@ -27,7 +26,6 @@ pub struct Served {
 }
 
 /// Serves a connection; whether it was answered. If its waits aren't limited, nothing is read and nothing is written.
-#[tactic(auto, using(crate::proofs::Going::still_none))]
 pub fn serve_connection<S: Alter + Drop, R: Incoming, W: Write>(
     means: &Means<'_>,
     connection: &mut Connection<R, W>,
@@ -36,7 +34,7 @@ pub fn serve_connection<S: Alter + Drop, R: Incoming, W: Write>(
 ) -> bool
     // Wherever the World was: it is answered, and then all of its answer is written; or it met a fault of `serve_one`, and what was
     // written of the answer is by the fault. Just the batch that was asked led the World on, if that was run.
-    ensures visited { MovesBy S.Store world.old world.new (λ from to.
+    ensures visited { AdvancesBy S.Store world.old world.new (λ from to.
         Visited (HasFailed R.fails connection.new.reader ⊎ (connection.old.is_limited ≡ false)) result from to
         (traffic_of R.Read W.Write connection.old connection.new)) }
     // One whose waits aren't limited isn't read, nothing is written to it, and the World isn't asked.
@@ -45,8 +43,6 @@ pub fn serve_connection<S: Alter + Drop, R: Incoming, W: Write>(
     // If it was answered by a refusal, the note says that it is to be closed gently.
     ensures gentle { result ≡ true →
         ClosesGently (R.remaining connection.old.reader) (R.remaining connection.new.reader) note.new.closing }
-    // Unless a batch was accepted, or the store failed in it, it is the very World.
-    ensures still { IsStillOrAdvanced S.Store world.old world.new }
 {
     let is_limited = connection.is_limited;
     if !is_limited {
@@ -65,7 +61,6 @@ pub fn serve_connection<S: Alter + Drop, R: Incoming, W: Write>(
 
 /// Takes the next connection of a source, of which so many are still to come, serves it, and gives it back to be closed; whether it was
 /// answered. If none can be taken that is noted, and nothing is done.
-#[tactic(auto, using(crate::proofs::Going::still_none))]
 pub fn serve_next<S: Alter + Drop, A: Arrivals>(
     means: &Means<'_>,
     arrivals: &mut A,
@@ -74,10 +69,8 @@ pub fn serve_next<S: Alter + Drop, A: Arrivals>(
     note: &mut Note,
 ) -> bool
     // The source hands out one connection, which is served and taken back; or it hands out none, and the World isn't asked.
-    ensures turn { MovesBy S.Store world.old world.new (λ from to.
+    ensures turn { AdvancesBy S.Store world.old world.new (λ from to.
         Visit A.Arrivals A.Reader.Read A.Reader.fails A.Writer.Write result arrivals.old from arrivals.new to) }
-    // Unless a batch was accepted, or the store failed in it, it is the very World.
-    ensures still { IsStillOrAdvanced S.Store world.old world.new }
 {
     let Some(mut connection) = arrivals.accept(means.routes, left) else {
         note.fails(Trouble::NotTaken);
@@ -148,10 +141,8 @@ fn serve_each<'a, S: Alter + Drop, A: Arrivals, C: Clock + Eprint>(
 ) -> Served
     ensures count { result.answered + result.failed ≡ count }
     // The World was led on by what the connections asked, in their order, and by nothing else. So many were answered, and so many failed.
-    ensures serves { MovesBy S.Store world.old world.new (λ from to. Attended A.Arrivals A.Reader.Read A.Reader.fails
+    ensures serves { AdvancesBy S.Store world.old world.new (λ from to. Attended A.Arrivals A.Reader.Read A.Reader.fails
         A.Writer.Write result.answered result.failed arrivals.old from arrivals.new to) }
-    // Unless a batch was accepted, or the store failed in one, it is the very World.
-    ensures still { IsStillOrAdvanced S.Store world.old world.new }
 {
     let mut served = Served {
         answered: 0,
@@ -184,10 +175,8 @@ pub fn serve_on<'a, S: Alter + Drop, A: Arrivals, C: Clock + Eprint>(
     // failed, and by nothing else. So many of them were answered, and so many failed. Just the batches that they asked and that were run
     // wrote to the tables: each keeps the cells of what stays, and all numbers. At last the source told of no lost answer, unless none
     // counts as answered.
-    ensures serves { MovesBy S.Store world.old world.new (λ from to. AttendsAll A.Arrivals A.Reader.Read A.Reader.fails
+    ensures serves { AdvancesBy S.Store world.old world.new (λ from to. AttendsAll A.Arrivals A.Reader.Read A.Reader.fails
         A.Writer.Write result.answered result.failed arrivals.old from arrivals.new to) }
-    // Unless a batch was accepted, or the store failed in one, it is the very World.
-    ensures still { IsStillOrAdvanced S.Store world.old world.new }
 {
     let mut served = serve_each(means, arrivals, log, world, count);
     settle_rest(arrivals, log, &mut served);

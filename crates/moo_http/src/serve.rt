@@ -1,11 +1,10 @@
 //! One request of a connection, and its answer.
 
 ghost use Rattle.std.specs.Prelude.{◌≡◌, ◌≢◌, IfErr, OnOk};
-ghost use Rattle.moo_store.specs.Moves.{MovesBy};
 ghost use Rattle.moo_http_request.specs.Given.{HasFailed};
 ghost use Rattle.moo_http_request.specs.declared.asked.Refusal.{Refusal};
 ghost use Rattle.moo_arrivals.specs.declared.arrivals.Closing.{Closing};
-ghost use Rattle.moo_http.specs.Advanced.{IsStillOrAdvanced};
+ghost use Rattle.moo_http.specs.Advanced.{AdvancesBy};
 ghost use Rattle.moo_http.specs.Serves.{AnswersAsked, ClosesGently};
 ghost use Rattle.moo_http.specs.Turns.{Exchanged};
 
@@ -50,10 +49,8 @@ fn serve_asked<S: Alter + Drop, W: Write>(
     note: &mut Note,
 ) -> Result<(), ServeFault>
     // Wherever the World was, the answer that holds there is written, as far as the result says, and the World is where that leads.
-    ensures answered { MovesBy S.Store world.old world.new (λ from to. AnswersAsked inquiry.now.is_head inquiry.now.asks_why
+    ensures answered { AdvancesBy S.Store world.old world.new (λ from to. AnswersAsked inquiry.now.is_head inquiry.now.asks_why
         inquiry.now.asked result from to (W.contents writer.old) (W.contents writer.new)) }
-    // Unless a batch was accepted, or the store failed in it, it is the very World.
-    ensures still { IsStillOrAdvanced S.Store world.old world.new }
     // Nothing is written at another fault than Write.
     ensures unwritten { IfErr result (λ fault. fault ≢ ServeFault.Write → writer.new ≡ writer.old) }
     ensures fault { IfErr result (λ fault. fault ≢ ServeFault.Read) }
@@ -73,7 +70,6 @@ fn serve_asked<S: Alter + Drop, W: Write>(
 ///
 /// The faults: Read if the reader fails, and the World is as it was; Write if the writer fails or takes no bytes, and what was asked is
 /// done; OutOfMemory if memory runs out before the World is asked or after that. An answer 200 to a batch is written after its commit.
-#[tactic(auto, using(crate::proofs::Going::still_none))]
 pub fn serve_one<S: Alter + Drop, R: Incoming, W: Write>(
     means: &Means<'_>,
     reader: &mut R,
@@ -83,21 +79,17 @@ pub fn serve_one<S: Alter + Drop, R: Incoming, W: Write>(
 ) -> Result<(), ServeFault>
     // Wherever the World was, the answer to the bytes that the reader gave is written, and nothing else, and the World is where that leads;
     // by the result.
-    ensures served { MovesBy S.Store world.old world.new (λ from to.
+    ensures served { AdvancesBy S.Store world.old world.new (λ from to.
         Exchanged result from to (record {
           left = R.remaining reader.old;
           rest = R.remaining reader.new;
           before = W.contents writer.old;
           after = W.contents writer.new;
         })) }
-    // Unless a batch was accepted, or the store failed in it, it is the very World.
-    ensures still { IsStillOrAdvanced S.Store world.old world.new }
     // Nothing is written at another fault than Write.
     ensures unwritten { IfErr result (λ fault. fault ≢ ServeFault.Write → writer.new ≡ writer.old) }
-    // If the reader failed the World isn't asked.
-    ensures unread { IfErr result (λ fault. fault ≡ ServeFault.Read → world.new ≡ world.old) }
-    // The reader did fail, at the last read.
-    ensures cause { IfErr result (λ fault. fault ≡ ServeFault.Read → HasFailed R.fails reader.new) }
+    // If the reader failed the World isn't asked, and it did fail, at the last read.
+    ensures unread { IfErr result (λ fault. fault ≡ ServeFault.Read → (world.new ≡ world.old) × HasFailed R.fails reader.new) }
     // After a refusal the note says that the connection is to be closed gently.
     ensures gentle { OnOk result (ClosesGently (R.remaining reader.old) (R.remaining reader.new) note.new.closing) }
 {

@@ -1,8 +1,7 @@
 //! The service on a port of this machine, from binding to its last line.
 
 ghost use Rattle.std.specs.Prelude.{◌≡◌, ◌≢◌, IfOk, IfErr, OnOk, OnErr, string_bytes};
-ghost use Rattle.moo_store.specs.Moves.{MovesBy};
-ghost use Rattle.moo_http.specs.Advanced.{IsStillOrAdvanced};
+ghost use Rattle.moo_http.specs.Advanced.{AdvancesBy};
 ghost use Rattle.moo_http.specs.declared.service.ServiceFault.TheVariants.{OutOfMemory};
 ghost use Rattle.std.specs.Io.KnownBytes.{Appends};
 ghost use Rattle.moo_http.specs.Lines.{listening_line, served_line};
@@ -114,7 +113,6 @@ fn say_served<W: Write>(alloc: Global, output: &mut W, served: Served) -> Result
 ///
 /// The faults: Write if the output fails, and OutOfMemory, with a front of the two lines written: then no connection was taken, or all of
 /// them were. A connection that fails isn't a fault.
-#[tactic(auto, using(crate::proofs::Going::still_none))]
 pub fn serve_from<S: Alter + Drop, A: Arrivals, C: Clock + Eprint, W: Write>(
     tools: &Tools<'_, C>,
     arrivals: &mut A,
@@ -124,12 +122,10 @@ pub fn serve_from<S: Alter + Drop, A: Arrivals, C: Clock + Eprint, W: Write>(
 ) -> Result<(), ServiceFault>
     // The World was led on by what the connections asked that the source handed out, and by nothing else. The two lines tell the port and
     // how many were answered and failed; at a fault a front of them is written.
-    ensures serves { MovesBy S.Store world.old world.new (λ from to.
+    ensures serves { AdvancesBy S.Store world.old world.new (λ from to.
         ServesFrom A.Arrivals A.Reader.Read A.Reader.fails A.Writer.Write result duty.port duty.count
         arrivals.old from arrivals.new to (W.contents output.old) (W.contents output.new)) }
     ensures fault { IfErr result (λ fault. fault ≢ ServiceFault.Port) }
-    // Unless a batch was accepted, or the store failed in one, it is the very World.
-    ensures still { IsStillOrAdvanced S.Store world.old world.new }
 {
     let routes = Routes::new(tools.alloc)?;
     say_listening(tools.alloc, output, duty.port)?;
@@ -148,7 +144,6 @@ pub fn serve_from<S: Alter + Drop, A: Arrivals, C: Clock + Eprint, W: Write>(
 /// error has a line for each that failed and each answer of 503, at most ten in a second.
 ///
 /// The faults: Port if the port can't be bound, and nothing is written; else those of `serve_from`.
-#[tactic(auto, using(crate::proofs::Going::still_none))]
 pub fn serve_port<S: Alter + Drop, P: Ports, C: Clock + Eprint, W: Write>(
     tools: &Tools<'_, C>,
     ports: &mut P,
@@ -158,11 +153,9 @@ pub fn serve_port<S: Alter + Drop, P: Ports, C: Clock + Eprint, W: Write>(
 ) -> Result<(), ServiceFault>
     // The World was led on by what the connections asked that came to this port, as `serve_from` says it, and by nothing else: just the
     // batches that they asked wrote to the tables. No other port was listened on, and none was taken after the last of them.
-    ensures serves { MovesBy S.Store world.old world.new (λ from to. ServesOn
+    ensures serves { AdvancesBy S.Store world.old world.new (λ from to. ServesOn
         (attended_between P.Source.Arrivals P.Source.Reader.Read P.Source.Reader.fails P.Source.Writer.Write P.Ports ports.old ports.new)
         result duty.port duty.count from to (W.contents output.old) (W.contents output.new)) }
-    // Unless a batch was accepted, or the store failed in it, it is the very World.
-    ensures still { IsStillOrAdvanced S.Store world.old world.new }
 {
     let Some(mut source) = ports.listen(duty.port) else {
         return Err(ServiceFault::Port);

@@ -1,6 +1,6 @@
 //! What rows answer to a batch, before anything of it is kept.
 
-ghost use Rattle.std.specs.Prelude.{◌≡◌, IfOk, IfErr};
+ghost use Rattle.std.specs.Prelude.{◌≡◌, IfOk, IfErr, MatchResult};
 ghost use Rattle.moo_batch.specs.Judge.{IsVerdict};
 ghost use Rattle.moo_batch.specs.Ticks.{NoneComeBack};
 ghost use Rattle.moo_batch.specs.declared.judging.Verdict.TheVariants.{Accepted};
@@ -38,9 +38,8 @@ pub(crate) fn reply_or_changes<N: Witness>(
     // The witness has no more ticks left than before.
     ensures ticks { NoneComeBack (N.left witness.old) (N.left witness.new) }
     // Of a refused batch the witness has seen the refusal, and of any other nothing.
-    ensures seen { IfErr result (λ reply. HasSeenReply N.sees rows.now.maps batch.now reply (N.kept witness.old) (N.kept witness.new)) }
-    // Of an accepted batch it has seen nothing.
-    ensures unseen { IfOk result (λ _. N.kept witness.new ≡ N.kept witness.old) }
+    ensures seen { MatchResult result (λ _. N.kept witness.new ≡ N.kept witness.old)
+        (λ reply. HasSeenReply N.sees rows.now.maps batch.now reply (N.kept witness.old) (N.kept witness.new)) }
 {
     match judge(alloc, rows, batch, witness) {
         Verdict::Accepted { answers, changes } => Ok((answers, changes)),

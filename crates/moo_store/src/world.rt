@@ -42,7 +42,7 @@ impl<S: Alter> Model for World<S> {
 
 impl<S: Alter + Drop> World<S> {
     ghost use Rattle.std.specs.Prelude.{◌≡◌, ◌<◌, ◌^◌, false, IsTrue, length, Some, IfOk, IfErr};
-    ghost use Rattle.std.specs.Prelude.{IfSome, IfNone, IsErrOf, IsOkAnd, Ok};
+    ghost use Rattle.std.specs.Prelude.{IfSome, IfNone, IsErrOf, IsOkAnd, MatchResult, Ok};
     ghost use Rattle.sqlite.specs.State.{HasCleanDisk};
     ghost use Rattle.sqlite.specs.Held.{state};
     ghost use Rattle.moo_rows.specs.Maps.{Maps};
@@ -138,11 +138,10 @@ impl<S: Alter + Drop> World<S> {
         ensures fault { IfErr result (FailsRun S.Store self.old self.new) }
         // No failure of the disk is forgotten.
         ensures kept { KeepsFaults (store_of S.Store self.old) (store_of S.Store self.new) }
-        // Of a refused batch the witness has seen the refusal, and of any other nothing.
-        ensures seen { IfOk result (λ reply.
-            HasSeenReply N.sees self.old.rows.maps batch.now reply (N.kept witness.old) (N.kept witness.new)) }
-        // At a fault it has seen nothing.
-        ensures unseen { IfErr result (λ _. N.kept witness.new ≡ N.kept witness.old) }
+        // Of a refused batch the witness has seen the refusal; of any other, and at a fault, nothing.
+        ensures seen { MatchResult result
+            (λ reply. HasSeenReply N.sees self.old.rows.maps batch.now reply (N.kept witness.old) (N.kept witness.new))
+            (λ _. N.kept witness.new ≡ N.kept witness.old) }
     {
         if self.failed {
             return Err(StoreFault::Closed);

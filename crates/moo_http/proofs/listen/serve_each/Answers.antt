@@ -1,11 +1,10 @@
-use Rattle.moo_http.{proofs.Words.{[], ◌≡◌, ◌+◌, inl, inr, refl, subst, arith, rules}, proofs.Going.{moves_none, still_none}, proofs.Turns.{CountsOne, passed_on}, proofs.listen.serve_each.Goals.{then-serve_next, else-serve_next}}
+use Rattle.moo_http.{proofs.Words.{[], ◌≡◌, ◌+◌, inl, inr, refl, subst, arith, rules}, proofs.Going.{moves_none}, proofs.Turns.{CountsOne, passed_on}, proofs.listen.serve_each.Goals.{then-serve_next, else-serve_next}}
 use Rattle.moo_http.proofs.listen.serve_each.Goals as goal
 
 pub loop-turn-init : goal.loop-turn-init
 loop-turn-init g c = record {
   sum = refl;
   moves = moves_none (λ from at. ([], refl, refl, (refl, refl)));
-  still = still_none g.S.Store c.args.world.now;
 }
 
 -- no more were counted than had their turn
@@ -30,7 +29,7 @@ loop-turn-preserved g c =
     passed_on g.A.Arrivals g.A.Reader.Read g.A.Reader.Incoming.fails g.A.Writer.Write g.S.Store c.args.world.now c.loop-turn.world c.serve_next.new.world
     c.args.arrivals.now c.loop-turn.arrivals c.serve_next.new.arrivals settled.arrivals c.serve_next.result
     was.answered was.failed now.answered now.failed settled.served.answered settled.served.failed c.loop-turn.turn
-    c.loop-turn.invariant c.serve_next.ensures.turn c.serve_next.ensures.still counts c.settle_one-more.ensures.tells
+    c.loop-turn.invariant c.serve_next.ensures.turn counts c.settle_one-more.ensures.tells
 
 pub returns-clause-count : goal.returns-clause-count
 returns-clause-count g c =

@@ -16,8 +16,8 @@ returns-in-Request-clause-served g c =
     let takes = rw asks.is at c.in_ok-read_request.ensures.takes in
     moves_as c.serve_asked.ensures.answered (λ from to it. served c.serve_asked.result from to _ asks.is_head asks.asks_why asks.asked takes c.serve_asked.ensures.fault it)
 
-pub returns-in_err-read_request-clause-cause : goal.returns-in_err-read_request-clause-cause
-returns-in_err-read_request-clause-cause g c = unread_cause c.from_residual.result c.in_err-read_request.field-0.0 c.from_residual.ensures.1 c.in_err-read_request.ensures.cause
+pub returns-in_err-read_request-clause-unread : goal.returns-in_err-read_request-clause-unread
+returns-in_err-read_request-clause-unread g c = unread_cause c.from_residual.result c.in_err-read_request.field-0.0 c.from_residual.ensures.1 (λ is. (refl, c.in_err-read_request.ensures.cause is))
 
-pub returns-in-Request-clause-cause : goal.returns-in-Request-clause-cause
-returns-in-Request-clause-cause g c = IfErr-weaker c.serve_asked.result _ _ (λ fault other is. absurd (other is)) c.serve_asked.ensures.fault
+pub returns-in-Request-clause-unread : goal.returns-in-Request-clause-unread
+returns-in-Request-clause-unread g c = IfErr-weaker c.serve_asked.result _ _ (λ fault other is. absurd (other is)) c.serve_asked.ensures.fault
