@@ -103,6 +103,7 @@ fn put_accepted(
 }
 
 /// Appends the lines of a reply. The only error is out of memory; some of the bytes may be there then.
+#[tactic(auto, using(crate::proofs::Putting::put_first, crate::proofs::Putting::kept_first))]
 pub(crate) fn put_reply(alloc: Global, reply: &Reply, out: &mut Vec<u8>) -> Result<(), AllocError>
     ensures ok { OnOk result (out.new.items ≡ out.old.items ++ reply_text reply.now) }
     ensures kept { StartsWith out.new.items out.old.items }
@@ -117,6 +118,7 @@ pub(crate) fn put_reply(alloc: Global, reply: &Reply, out: &mut Vec<u8>) -> Resu
 }
 
 /// Appends the lines that answer a batch of a text. The only error is out of memory; some of the bytes may be there then.
+#[tactic(auto, using(crate::proofs::Putting::put_first, crate::proofs::Putting::kept_first))]
 fn put_answer(alloc: Global, answer: &Answer, out: &mut Vec<u8>) -> Result<(), AllocError>
     ensures ok { OnOk result (out.new.items ≡ out.old.items ++ answer_text answer.now) }
     ensures kept { StartsWith out.new.items out.old.items }
