@@ -41,6 +41,7 @@ pub enum Answer {
 }
 
 /// Appends a word, a number in decimal and an end. The only error is out of memory; some of the bytes may be there then.
+#[tactic(auto, using(crate::proofs::Putting::kept_last, moo_value::proofs::Printed::starts, moo_value::proofs::Printed::starts_alike, moo_value::proofs::Printed::starts_behind))]
 fn put_number(
     alloc: Global,
     word: &[u8],
@@ -66,6 +67,7 @@ fn put_line(alloc: Global, word: &[u8], number: u64, out: &mut Vec<u8>) -> Resul
 }
 
 /// Appends the line `refused N E_CODE`. The only error is out of memory; some of the bytes may be there then.
+#[tactic(auto, using(crate::proofs::Putting::kept_last, moo_value::proofs::Printed::starts, moo_value::proofs::Printed::starts_behind))]
 fn put_refused(alloc: Global, call: u32, code: Code, out: &mut Vec<u8>) -> Result<(), AllocError>
     ensures ok { OnOk result (out.new.items ≡ out.old.items ++ refused_text call code) }
     ensures kept { StartsWith out.new.items out.old.items }
