@@ -1,12 +1,14 @@
 -- What a witness is told of the rows if a batch is refused.
-use Rattle.std.specs.Prelude.{◌≡◌, ℕ, zero, suc, ◌-◌, true, List, [], ◌∷◌, Option, None, Some, is_some, slice_get, IfSome}
+use Rattle.std.specs.Prelude.{◌≡◌, ℕ, zero, suc, ◌-◌, true, List, [], ◌∷◌, Option, None, is_some, Ok, Err, if◌then◌else◌, slice_get, IfSome}
+use Rattle.std.specs.Option.{option_and_then, option_map}
 use Rattle.moo_value.specs.declared.value.ObjNo.{ObjNo}
+use Rattle.moo_value.specs.Values.{Values}
 use Rattle.moo_rows.specs.Maps.{Maps}
-use Rattle.moo_rows.specs.declared.row.PetitionId.{PetitionId}
 use Rattle.moo_world.specs.declared.call.Batch.{Batch}
 use Rattle.moo_world.specs.declared.call.Call.{Call}
+use Rattle.moo_world.specs.Names.{is_grant}
 use Rattle.moo_world.specs.Outcomes.{Done, Failed, Full}
-use Rattle.moo_world.specs.Requests.{State, batch_call, state_of}
+use Rattle.moo_world.specs.Requests.{State, batch_call, one_integer, petition_at, state_of}
 use Rattle.moo_world.specs.World.{World}
 use Rattle.moo_disclosure.specs.Disclosed.{calls_seen, clash_name, names_meant}
 use Rattle.moo_batch.specs.declared.witness.Facts.{Facts}
@@ -26,6 +28,13 @@ state_before_call state programmer (call ∷ calls) (suc place) = elim (batch_ca
 abbrev pub refused_call : Batch → Refusal → Option Call
 refused_call batch refusal = slice_get batch.calls (refusal.call - 1)
 
+-- what the petition asks for that a call grants, if the programmer may see it; of another call nothing
+abbrev pub petition_granted : Maps → ObjNo → Call → Option Values
+petition_granted maps programmer call = if is_grant call.name then elim (one_integer call.args) [
+  | Ok number ↦ option_and_then (λ found. calls_seen maps programmer found.0) (petition_at (state_of maps) number)
+  | Err code ↦ None
+] else None
+
 -- What is told of a refusal, in the world where its check failed; the batch was judged on the rows `base`.
 pub record AreFacts (world : World) (base : Maps) (batch : Batch) (refusal : Refusal) (facts : Facts) : Type 0 where
   -- names that the programmer may list
@@ -35,8 +44,9 @@ pub record AreFacts (world : World) (base : Maps) (batch : Batch) (refusal : Ref
       facts.names.clash ≡ clash_name world batch.programmer call.args refusal.reason)
   -- none of a call that a granted petition holds
   pub held : is_some refusal.held ≡ true → (facts.names.meant.items ≡ []) × (facts.names.clash ≡ None)
-  -- what a petition asks for that the programmer may see
-  pub petition : IfSome facts.petition (λ calls. (id : PetitionId) × (calls_seen base batch.programmer id ≡ Some calls.now))
+  -- what the petition asks for that the refused call grants, if the programmer may see it
+  pub petition : option_map (λ calls. calls.now) facts.petition
+      ≡ option_and_then (petition_granted base batch.programmer) (refused_call batch refusal)
   pub next : facts.next_petition ≡ base.head.next_petition
 
 -- what is told of the refusal of a batch that is judged on these rows: the check failed in the world after the calls before the refused one

@@ -1,16 +1,15 @@
 //! What a witness is told of a refusal.
 
-ghost use Rattle.std.specs.Prelude.{◌≡◌, None, Some, Option, IfOk, IfSome};
-ghost use Rattle.moo_rows.specs.declared.row.PetitionId.{PetitionId};
+ghost use Rattle.std.specs.Prelude.{◌≡◌, None, Option, IfOk, IfSome, option_map};
 ghost use Rattle.moo_world.specs.Rows.{IsGood, world_of};
-ghost use Rattle.moo_disclosure.specs.Disclosed.{calls_seen};
 ghost use Rattle.moo_batch.specs.declared.witness.Facts.{Facts};
-ghost use Rattle.moo_batch.specs.Facts.{AreFacts};
+ghost use Rattle.moo_batch.specs.Facts.{AreFacts, petition_granted};
 
 use crate::args::one_integer;
+use crate::looking::petition_at;
 use crate::witness::{Facts, Refusal, Witness};
 use moo_disclosure::{Disclosure, calls_seen, disclosure_of};
-use moo_rows::{PetitionId, Rows};
+use moo_rows::Rows;
 use moo_value::{ObjNo, ValueList};
 use moo_world::{Batch, Call, CallName};
 use std::alloc::{AllocError, Global};
@@ -22,18 +21,19 @@ fn petition_granted<'a, B: Rows>(
     programmer: ObjNo,
     call: &Call,
 ) -> Option<&'a ValueList>
-    // They are the calls of some petition that the programmer may see.
-    ensures { IfSome result (λ calls. (id : PetitionId) × (calls_seen (B.held base.now).maps programmer id ≡ Some calls.now)) }
+    requires { IsGood (B.held base.now).maps }
+    ensures { option_map (λ calls. calls.now) result ≡ petition_granted (B.held base.now).maps programmer call.now }
 {
     if !matches!(call.name, CallName::Grant) {
         return None;
     }
     let number = one_integer(call.args.items()).ok()?;
-    calls_seen(base, programmer, PetitionId(u32::try_from(number).ok()?))
+    let (id, _) = petition_at(base, number)?;
+    calls_seen(base, programmer, id)
 }
 
-/// What is told of a refusal besides its reason: names that the programmer may list, from `rows`, on which the check failed; and a petition
-/// that the programmer may see, from `base`, on which the batch was judged. The only error is out of memory.
+/// What is told of a refusal besides its reason: names that the programmer may list, from `rows`, on which the check failed; and what
+/// the petition that is granted asks for, from `base`, on which the batch was judged. The only error is out of memory.
 fn facts_of<'a, B: Rows, R: Rows>(
     alloc: Global,
     base: &'a B,
@@ -42,7 +42,8 @@ fn facts_of<'a, B: Rows, R: Rows>(
     refusal: Refusal,
 ) -> Result<Facts<'a>, AllocError>
     // The rows are good ones, unless a call of a granted petition failed.
-    requires { refusal.held ≡ None → IsGood (R.held rows.now).maps }
+    requires rows { refusal.held ≡ None → IsGood (R.held rows.now).maps }
+    requires base { IsGood (B.held base.now).maps }
     ensures { IfOk result (AreFacts (world_of (R.held rows.now).maps) (B.held base.now).maps batch.now refusal) }
 {
     let next_petition = base.head().next_petition;
@@ -85,7 +86,8 @@ pub(crate) fn show_refusal<B: Rows, R: Rows, W: Witness>(
     witness: &mut W,
 )
     // The rows are good ones, unless a call of a granted petition failed.
-    requires { refusal.held ≡ None → IsGood (R.held rows.now).maps }
+    requires rows { refusal.held ≡ None → IsGood (R.held rows.now).maps }
+    requires base { IsGood (B.held base.now).maps }
     // It takes no ticks.
     ensures ticks { W.left witness.new ≡ W.left witness.old }
     // The witness sees this refusal, once, with its facts or with none.

@@ -168,7 +168,8 @@ fn verdict_of_stop<B: Rows, R: Rows, W: Witness>(
     witness: &mut W,
 ) -> Verdict
     // At a check that failed the rows are good ones, unless a call of a granted petition failed.
-    requires { IsGoodAt (R.held rows.now).maps stop }
+    requires rows { IsGoodAt (R.held rows.now).maps stop }
+    requires base { IsGood (B.held base.now).maps }
     // The verdict is Refused, Full or OutOfMemory as the calls stopped, with the call and the error.
     ensures refused { (refusal : Refusal) → stop ≡ Stop.Refused refusal → result ≡ Verdict.Refused refusal.call (error_of refusal.reason) }
     ensures full { (call : ℕ) → stop ≡ Stop.Full call → result ≡ Verdict.Full call }

@@ -15,9 +15,10 @@ use Rattle.moo_desk.specs.declared.leaving.Leaving.{Leaving}
 use Rattle.moo_desk.specs.declared.slot.Slot.{Slot}
 use Rattle.moo_desk.specs.Each.{Each, TakesOut}
 use Rattle.moo_desk.specs.Later.{IsGathered, IsLater}
+use Rattle.moo_desk.specs.Rounds.{IsAnswerWokenFor, IsWokenFor}
 use Rattle.moo_desk.specs.Deeds.{Book, Deed, takes, steps, ends, count_taken, After, Keep, Admits, LetsGo, IsFresh}
 use Rattle.moo_desk.specs.Exchange.{with_back}
-use Rattle.moo_desk.proofs.Onward.{each_same, each_more, each_set, later_same, later_joined, gathered_same, gathered_joined}
+use Rattle.moo_desk.proofs.Onward.{each_same, each_mapped, each_more, each_set, follows_same, later_same, later_joined, later_kept, gathered_same, gathered_joined, gathered_untouched}
 
 -- a list is what stands before a place, what stands there, and what stands behind it
 pub taken_out : {A : Type 0} (xs : List A) (at : ℕ) (x : A) → at < length xs → get_or xs at x ≡ x → xs ≡ take at xs ++ x ∷ drop (suc at) xs
@@ -82,6 +83,12 @@ module _ {R W : Type 0} {inward : Inward.Ghosts R} {incoming : Incoming.Ghosts R
   -- more is gathered, and sent
   pub keeps_steps : (a b : Book (Slot R W inward incoming reader outward writer) R W) → Each IsGathered a.slots b.slots → Each (IsLater writer outward.peer) a.leaving b.leaving → b.losses ≡ a.losses → Keep 0 a b
   keeps_steps a b gathered later same = record { deeds = steps ∷ []; after = (a, refl, (gathered, later, same)); count = refl }
+
+  -- some are looked at in the next round
+  pub keeps_woken : (Told : ℕ → Type 0) (a b : Book (Slot R W inward incoming reader outward writer) R W) → Each (IsWokenFor Told) a.slots b.slots → Each (IsAnswerWokenFor Told) a.leaving b.leaving → b.losses ≡ a.losses → Keep 0 a b
+  keeps_woken Told a b slots leaving same =
+      keeps_steps a b (each_mapped (IsWokenFor Told) IsGathered (λ old new it. gathered_untouched old new it.0) a.slots b.slots slots)
+      (each_mapped (IsAnswerWokenFor Told) (IsLater writer outward.peer) (λ old new it. later_kept writer outward.peer old new it.halves.1 it.ends.0 (follows_same old.stage new.stage it.ends.2)) a.leaving b.leaving leaving) same
 
   pub same_slots : (xs ys : List (Slot R W inward incoming reader outward writer)) → ys ≡ xs → Each IsGathered xs ys
   same_slots xs ys same = subst (λ l. Each IsGathered xs l) (sym same) (each_same IsGathered gathered_same xs)

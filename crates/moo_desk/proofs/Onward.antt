@@ -70,6 +70,13 @@ each_all Holds (suc n) [] (y ∷ ys) few it = absurd it
 each_all Holds (suc n) (x ∷ xs) [] few it = absurd it
 each_all Holds (suc n) (x ∷ xs) (y ∷ ys) few it = (it.0, each_all Holds n xs ys (omega (arith, few)) it.1)
 
+-- what holds of each pair, so does what follows from it
+pub each_mapped : {A : Type 0} (Holds Then : A → A → Type 0) → ((x y : A) → Holds x y → Then x y) → (xs ys : List A) → Each Holds xs ys → Each Then xs ys
+each_mapped Holds Then so [] [] it = tt
+each_mapped Holds Then so (x ∷ xs) (y ∷ ys) it = (so x y it.0, each_mapped Holds Then so xs ys it.1)
+each_mapped Holds Then so [] (y ∷ ys) it = it
+each_mapped Holds Then so (x ∷ xs) [] it = it
+
 -- ---- the stages
 
 pub follows_same : (a b : Stage) → b ≡ a → MayFollow a b

@@ -10,8 +10,7 @@ use Rattle.moo_desk.specs.declared.gate.Outward as Outward
 use Rattle.moo_desk.specs.declared.slot.Slot.{Slot}
 use Rattle.std.proofs.lemmas.Bool.{leb-true}
 use Rattle.std.proofs.lemmas.List.Sums.{sum_by-drop_more}
-use Rattle.moo_desk.specs.Later.{IsOnlyWoken}
-use Rattle.moo_desk.specs.Rounds.{IsReadIfDue, IsTimed, IsWokenFor, ReadsDue, gathered_of}
+use Rattle.moo_desk.specs.Rounds.{IsReadIfDue, IsTimed, ReadsDue, gathered_of}
 
 pub saturated : (sum more rest left most : ℕ) → left ≡ more + rest → min (min (sum + more) most + rest) most ≡ min (sum + left) most
 saturated sum more rest left most is = omega (arith, is)
@@ -139,8 +138,3 @@ module _ {R W : Type 0} {inward : Inward.Ghosts R} {incoming : Incoming.Ghosts R
 
   pub timed_joined : (now : Duration) (a b c : Slot R W inward incoming reader outward writer) → IsTimed now a b → IsTimed now b c → IsTimed now a c
   timed_joined now a b c p q = record { since = q.since ∙ p.since; heard = timed_heard now a b c p q; looked = timed_looked now a b c p q }
-
-  -- ---- which are due
-
-  pub woken_by : (mark : ℕ) (old new : Slot R W inward incoming reader outward writer) → IsOnlyWoken old new → (old.mark ≡ mark → new.is_due ≡ true) → IsWokenFor (λ it. it ≡ mark) old new
-  woken_by mark old new it due = (it.due.0, λ is. elim is [ inl told ↦ due told | inr was ↦ it.due.1 was ])

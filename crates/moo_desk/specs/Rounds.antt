@@ -8,8 +8,19 @@ use Rattle.moo_http_request.specs.declared.incoming.Incoming as Incoming
 use Rattle.moo_desk.specs.declared.gate.Inward as Inward
 use Rattle.moo_desk.specs.declared.gate.Outward as Outward
 use Rattle.moo_desk.specs.declared.held.TheConstants.{GRACE}
+use Rattle.moo_desk.specs.declared.leaving.Leaving.{Leaving}
 use Rattle.moo_desk.specs.declared.slot.Slot.{Slot}
+use Rattle.moo_desk.specs.Later.{IsOnlyWoken}
 use Rattle.moo_desk.specs.Read.{Gave, IsLonger}
+
+-- Nothing changed of an answer but, at most, whether the next round looks at it. It does if this holds of the answer's mark, and if it was
+-- to be looked at before: so an answer is sent on once its peer may take more.
+pub record IsAnswerWokenFor {R W : Type 0} (Told : ℕ → Type 0) (old new : Leaving R W) : Type 0 where
+  pub halves : (new.reader ≡ old.reader) × (new.writer ≡ old.writer)
+  pub ends : (new.route ≡ old.route) × (new.closing ≡ old.closing) × (new.stage ≡ old.stage)
+  pub times : (new.since ≡ old.since) × (new.moved ≡ old.moved) × (new.drained ≡ old.drained)
+  pub due : (new.mark ≡ old.mark) × (old.is_due ≡ true → new.is_due ≡ true)
+  pub told : Told old.mark → new.is_due ≡ true
 
 module _ {R W : Type 0}
     {inward : Inward.Ghosts R} {incoming : Incoming.Ghosts R} {reader : Reading.Ghosts R} {outward : Outward.Ghosts W}
@@ -45,7 +56,8 @@ module _ {R W : Type 0}
   abbrev pub IsStale : Duration → Slot R W inward incoming reader outward writer → Type 0
   IsStale now slot = (slot.rests ≡ false) × IsLonger (GRACE * 1_000_000) slot.since now
 
-  -- a request with a mark of which this holds is due, and one that was due stays so
+  -- Nothing changed of a request but, at most, whether the next round looks at it. It does if this holds of the request's mark, and if it
+  -- was to be looked at before.
   abbrev pub IsWokenFor : (ℕ → Type 0) → Slot R W inward incoming reader outward writer
       → Slot R W inward incoming reader outward writer → Type 0
-  IsWokenFor Told old new = (new.mark ≡ old.mark) × (Told old.mark ⊎ (old.is_due ≡ true) → new.is_due ≡ true)
+  IsWokenFor Told old new = IsOnlyWoken old new × (Told old.mark → new.is_due ≡ true)

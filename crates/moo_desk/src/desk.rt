@@ -6,7 +6,7 @@ ghost use Rattle.moo_desk.specs.Deeds.{Admits, Goes, HoldsNone, Keep, book_of};
 ghost use Rattle.moo_desk.specs.Exchange.{GetsBack, Hands, TakesBack, TellsNext, with_back};
 ghost use Rattle.moo_desk.specs.declared.held.TheConstants.{MOST};
 ghost use Rattle.moo_desk.specs.Each.{Each};
-ghost use Rattle.moo_desk.specs.Rounds.{IsWokenFor};
+ghost use Rattle.moo_desk.specs.Rounds.{IsAnswerWokenFor, IsWokenFor};
 ghost use Rattle.moo_desk.specs.Turns.{ComesIn, EndsInTime, HasWaited, IsDueToAsk, MayTake, TakesIn, period_of};
 
 use crate::gate::{Gate, NEWS, Taken};
@@ -254,10 +254,12 @@ impl<'a, G: Gate + Drop, C: Clock> Desk<'a, G, C> {
     fn sweep(&mut self, now: Duration)
         ensures all { Goes self.old.held self.new.held }
         ensures gate { G.gave self.new.gate ≡ G.gave self.old.gate }
-        // After a period each request that is gathered is due, and one may be at the gate. Before that nothing changes.
+        // After a period each request that is gathered and each answer that is sent is due, and one may be at the gate. Before that
+        // nothing changes.
         ensures sweeps { period_of self.old.held.leaving.items ≤ as_nanos now - as_nanos self.old.swept →
             (self.new.swept ≡ now) × (self.new.has_news ≡ true)
-            × Each (IsWokenFor (λ _. ⊤)) self.old.held.slots.items self.new.held.slots.items }
+            × Each (IsWokenFor (λ _. ⊤)) self.old.held.slots.items self.new.held.slots.items
+            × Each (IsAnswerWokenFor (λ _. ⊤)) self.old.held.leaving.items self.new.held.leaving.items }
         ensures stays { as_nanos now - as_nanos self.old.swept < period_of self.old.held.leaving.items → self.new ≡ self.old }
     {
         if now.saturating_sub(self.swept) >= self.period() {

@@ -6,7 +6,7 @@ ghost use Rattle.moo_desk.specs.Deeds.{LetsGo, Goes, HoldsNone, book_of};
 ghost use Rattle.moo_desk.specs.Choices.{CutsAt, EndsOne, HasNoSpare, HasWhole, IsCrowdedOut, IsLingering, IsReady, IsSpared, IsUnfinished, Relieves, count_of};
 ghost use Rattle.moo_desk.specs.Each.{Each, IsFirstPlace, HoldsOfNone, OfFirst, TurnsFirst};
 ghost use Rattle.moo_desk.specs.Exchange.{TakesSlot};
-ghost use Rattle.moo_desk.specs.Rounds.{IsStale, IsTimed, IsWokenFor, ReadsDue, gathered_of};
+ghost use Rattle.moo_desk.specs.Rounds.{IsAnswerWokenFor, IsStale, IsTimed, IsWokenFor, ReadsDue, gathered_of};
 
 use crate::first::{Lingerer, Ready, Stale, Stuck, Unfinished, any, first};
 use crate::gate::{Inward, Outward};
@@ -260,8 +260,9 @@ impl<R: Inward + OpenStream + Drop, W: Outward + OpenStream + Drop> Held<R, W> {
     pub fn wake_at(&mut self, mark: usize)
         // No connection comes, and nothing happens to those that are held but deeds.
         ensures all { Goes self.old self.new }
-        // Each request with this mark is due, and those that were due stay so.
+        // Each request and each answer with this mark is due, and those that were due stay so.
         ensures wakes { Each (IsWokenFor (λ it. it ≡ mark)) self.old.slots.items self.new.slots.items }
+        ensures answers { Each (IsAnswerWokenFor (λ it. it ≡ mark)) self.old.leaving.items self.new.leaving.items }
     {
         wake_slots(&mut self.slots, mark);
         wake_leaving(&mut self.leaving, mark);
@@ -271,8 +272,9 @@ impl<R: Inward + OpenStream + Drop, W: Outward + OpenStream + Drop> Held<R, W> {
     pub fn wake_all(&mut self)
         // No connection comes, and nothing happens to those that are held but deeds.
         ensures all { Goes self.old self.new }
-        // Each request is due.
+        // Each request and each answer is due.
         ensures wakes { Each (IsWokenFor (λ _. ⊤)) self.old.slots.items self.new.slots.items }
+        ensures answers { Each (IsAnswerWokenFor (λ _. ⊤)) self.old.leaving.items self.new.leaving.items }
     {
         wake_all_slots(&mut self.slots);
         wake_all_leaving(&mut self.leaving);

@@ -1,6 +1,6 @@
 //! A connection after its request was judged.
 
-ghost use Rattle.std.specs.Prelude.{◌≡◌, ◌≢◌, ◌≤◌, ◌<◌, ◌+◌, ◌-◌, ◌*◌, ◌/◌, ◌⊎◌, ℕ, List, length, drop, true, false, IfSome, IfNone};
+ghost use Rattle.std.specs.Prelude.{◌≡◌, ◌≢◌, ◌≤◌, ◌<◌, ◌+◌, ◌-◌, ◌*◌, ◌/◌, ◌⊎◌, ⊤, ℕ, List, length, drop, true, false, IfSome, IfNone};
 ghost use Rattle.std.specs.Io.KnownBytes.{Consumes, Keeps, append_known};
 ghost use Rattle.moo_desk.specs.declared.leaving.Stage.TheVariants.{Lingering, Done, Lost};
 ghost use Rattle.moo_desk.specs.Read.{IsLonger};
@@ -67,16 +67,18 @@ pub struct Leaving<R, W> {
 }
 
 impl<R, W> Leaving<R, W> {
+    ghost use Rattle.moo_desk.specs.Rounds.{IsAnswerWokenFor};
+
     /// Has the next round look at this connection, if it has this mark.
     pub fn wake_at(&mut self, mark: usize)
-        ensures { (self.new.writer ≡ self.old.writer) × (self.new.route ≡ self.old.route) × (self.new.stage ≡ self.old.stage) }
+        ensures { IsAnswerWokenFor (λ it. it ≡ mark) self.old self.new }
     {
         self.is_due |= self.mark == mark;
     }
 
     /// Has the next round look at this connection, since something may have changed.
     pub fn wake(&mut self)
-        ensures { (self.new.writer ≡ self.old.writer) × (self.new.route ≡ self.old.route) × (self.new.stage ≡ self.old.stage) }
+        ensures { IsAnswerWokenFor (λ _. ⊤) self.old self.new }
     {
         self.is_due = true;
     }

@@ -4,7 +4,7 @@ ghost use Rattle.std.specs.Prelude.{◌≡◌, ◌<◌, ⊤, min};
 ghost use Rattle.moo_desk.specs.Choices.{answers_of};
 ghost use Rattle.moo_desk.specs.Each.{Each};
 ghost use Rattle.moo_desk.specs.Later.{IsGathered, IsLater};
-ghost use Rattle.moo_desk.specs.Rounds.{IsTimed, IsWokenFor, ReadsDue, gathered_of};
+ghost use Rattle.moo_desk.specs.Rounds.{IsAnswerWokenFor, IsTimed, IsWokenFor, ReadsDue, gathered_of};
 
 use crate::gate::{Gate, Inward, Outward};
 use crate::leaving::Leaving;
@@ -96,9 +96,8 @@ pub fn watch_all<G: Gate>(gate: &mut G, slots: &mut [Slot<G::Reader, G::Writer>]
 
 /// Has the next round look at each request that has this mark.
 pub fn wake_slots<R: Inward, W: Outward>(slots: &mut [Slot<R, W>], mark: usize)
-    ensures gathers { Each IsGathered slots.old slots.new }
-    // Each request with this mark is due, and those that were due stay so.
-    ensures wakes { Each (IsWokenFor (λ it. it ≡ mark)) slots.old slots.new }
+    // Each request with this mark is due, and those that were due stay so. Nothing else changes.
+    ensures { Each (IsWokenFor (λ it. it ≡ mark)) slots.old slots.new }
 {
     for slot in slots {
         slot.wake_at(mark);
@@ -106,8 +105,9 @@ pub fn wake_slots<R: Inward, W: Outward>(slots: &mut [Slot<R, W>], mark: usize)
 }
 
 /// Has the next round look at each answer that has this mark.
-pub fn wake_leaving<R, W: Outward>(leaving: &mut [Leaving<R, W>], mark: usize)
-    ensures { Each (IsLater W.Write W.peer) leaving.old leaving.new }
+pub fn wake_leaving<R, W>(leaving: &mut [Leaving<R, W>], mark: usize)
+    // Each answer with this mark is due, and those that were due stay so. Nothing else changes.
+    ensures { Each (IsAnswerWokenFor (λ it. it ≡ mark)) leaving.old leaving.new }
 {
     for connection in leaving {
         connection.wake_at(mark);
@@ -116,9 +116,8 @@ pub fn wake_leaving<R, W: Outward>(leaving: &mut [Leaving<R, W>], mark: usize)
 
 /// Has the next round look at each request.
 pub fn wake_all_slots<R: Inward, W: Outward>(slots: &mut [Slot<R, W>])
-    ensures gathers { Each IsGathered slots.old slots.new }
-    // Each request is due.
-    ensures wakes { Each (IsWokenFor (λ _. ⊤)) slots.old slots.new }
+    // Each request is due. Nothing else changes.
+    ensures { Each (IsWokenFor (λ _. ⊤)) slots.old slots.new }
 {
     for slot in slots {
         slot.wake();
@@ -126,8 +125,9 @@ pub fn wake_all_slots<R: Inward, W: Outward>(slots: &mut [Slot<R, W>])
 }
 
 /// Has the next round look at each answer.
-pub fn wake_all_leaving<R, W: Outward>(leaving: &mut [Leaving<R, W>])
-    ensures { Each (IsLater W.Write W.peer) leaving.old leaving.new }
+pub fn wake_all_leaving<R, W>(leaving: &mut [Leaving<R, W>])
+    // Each answer is due. Nothing else changes.
+    ensures { Each (IsAnswerWokenFor (λ _. ⊤)) leaving.old leaving.new }
 {
     for connection in leaving {
         connection.wake();

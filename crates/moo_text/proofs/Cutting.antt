@@ -143,10 +143,10 @@ next_line blanks header p front calls line rest cut =
     (subst (λ (t : List (List ℕ)). Cuts (blanks ++ header ∷ t) (within p calls (1 + length (front ++ line ∷ [])) rest)) (append_assoc front (line ∷ []) rest) cut)
 
 has_room : (calls : List Call) (call : Call) → nat_lt (length calls) MOST_CALLS ≡ true → length (calls ++ call ∷ []) ≤ MOST_CALLS
-has_room calls call room = let h : length calls < MOST_CALLS = grind (arith, room) in omega (arith, length-append calls (call ∷ []))
+has_room calls call room = grind (arith, length-append)
 
 is_full : (calls : List Call) → nat_lt (length calls) MOST_CALLS ≡ false → length calls ≤ MOST_CALLS → length calls ≡ MOST_CALLS
-is_full calls full few = let h : MOST_CALLS ≤ length calls = grind (arith, full) in omega arith
+is_full calls full few = grind arith
 
 mutual
   pub cut_between : (blanks lines : List (List ℕ)) → AreBlankLines blanks → Cuts (blanks ++ lines) (between lines)

@@ -41,6 +41,7 @@ pub enum Answer {
 }
 
 /// Appends a word, a number in decimal and an end. The only error is out of memory; some of the bytes may be there then.
+#[tactic(auto, using(crate::proofs::Putting::kept_last, moo_value::proofs::Printed::starts, moo_value::proofs::Printed::starts_alike, moo_value::proofs::Printed::starts_behind))]
 fn put_number(
     alloc: Global,
     word: &[u8],
@@ -66,6 +67,7 @@ fn put_line(alloc: Global, word: &[u8], number: u64, out: &mut Vec<u8>) -> Resul
 }
 
 /// Appends the line `refused N E_CODE`. The only error is out of memory; some of the bytes may be there then.
+#[tactic(auto, using(crate::proofs::Putting::kept_last, moo_value::proofs::Printed::starts, moo_value::proofs::Printed::starts_behind))]
 fn put_refused(alloc: Global, call: u32, code: Code, out: &mut Vec<u8>) -> Result<(), AllocError>
     ensures ok { OnOk result (out.new.items ≡ out.old.items ++ refused_text call code) }
     ensures kept { StartsWith out.new.items out.old.items }
@@ -103,6 +105,7 @@ fn put_accepted(
 }
 
 /// Appends the lines of a reply. The only error is out of memory; some of the bytes may be there then.
+#[tactic(auto, using(crate::proofs::Putting::put_first, crate::proofs::Putting::kept_first))]
 pub(crate) fn put_reply(alloc: Global, reply: &Reply, out: &mut Vec<u8>) -> Result<(), AllocError>
     ensures ok { OnOk result (out.new.items ≡ out.old.items ++ reply_text reply.now) }
     ensures kept { StartsWith out.new.items out.old.items }
@@ -117,6 +120,7 @@ pub(crate) fn put_reply(alloc: Global, reply: &Reply, out: &mut Vec<u8>) -> Resu
 }
 
 /// Appends the lines that answer a batch of a text. The only error is out of memory; some of the bytes may be there then.
+#[tactic(auto, using(crate::proofs::Putting::put_first, crate::proofs::Putting::kept_first))]
 fn put_answer(alloc: Global, answer: &Answer, out: &mut Vec<u8>) -> Result<(), AllocError>
     ensures ok { OnOk result (out.new.items ≡ out.old.items ++ answer_text answer.now) }
     ensures kept { StartsWith out.new.items out.old.items }

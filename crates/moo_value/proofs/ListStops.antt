@@ -1,5 +1,5 @@
 -- Where reading a list stops, and any value.
-use Rattle.moo_value.{proofs.Words.{◌≡◌, ℕ, zero, suc, ◌+◌, ◌-◌, ◌≤◌, Bool, true, false, inl, inr, List, [], ◌∷◌, ◌++◌, length, drop, Ok, Err, refl, sym, ap, subst, ◌∙◌, append_assoc, arith, ◌==◌, eqb-true, length-append, append-nil, drop_at, LiteralFault, NotALiteral, TooDeep, Value, Int, Obj, Error, a_list, IsText, Values, no_values, levels, prepend, nesting, is_blank, is_digit, is_word, AreBlanks, Comma, SpellsItems, SpellsToken, Spells, HoldInside, HoldIn, InRange, BeginsNo, Ends, NumberBut, TextBut, DepthBut, MayBreak, Read, ◌>>=◌, after_blanks, token_at, opened_at, items_at, value_at, chosen, is_err, no_err, bind_err}, proofs.ReadOrRefused.{all_deep, all_in, value_again}, proofs.Results.{bind_which}, proofs.Items.{item_at, no_blank, skipped}, proofs.Lists.{and_others, blanks_taken, blanks_skipped, items_more, item_spelled, item_holds, item_levels, value_taken, takes, item_front, step_at, item_view}, proofs.Stops.{Stop, SameHead, at_head, behind, behind_more, at_once, at_end}, proofs.Tokens.{Fine, Goes, flat, zero_fits, token_stop}}
+use Rattle.moo_value.{proofs.Words.{◌≡◌, ℕ, zero, suc, ◌+◌, ◌-◌, ◌≤◌, Bool, true, false, inl, inr, List, [], ◌∷◌, ◌++◌, length, drop, Ok, Err, refl, sym, ap, subst, ◌∙◌, append_assoc, arith, ◌==◌, eqb-true, length-append, append-nil, drop_at, LiteralFault, NotALiteral, TooDeep, Value, a_list, IsText, Values, no_values, levels, prepend, nesting, is_blank, AreBlanks, Comma, SpellsItems, SpellsToken, Spells, HoldInside, HoldIn, InRange, Ends, NumberBut, TextBut, DepthBut, MayBreak, Read, ◌>>=◌, after_blanks, token_at, opened_at, items_at, value_at, chosen, is_err, no_err, bind_err}, proofs.ReadOrRefused.{all_deep, all_in, value_again}, proofs.Results.{bind_which}, proofs.Items.{item_at, no_blank, skipped}, proofs.Lists.{and_others, blanks_taken, blanks_skipped, items_more, item_spelled, item_holds, item_levels, value_taken, takes, item_front, step_at, item_view}, proofs.Stops.{Stop, SameHead, at_head, behind, behind_more, at_once, at_end}, proofs.Tokens.{Fine, Goes, flat, zero_fits, token_stop}}
 
 abbrev pub FineItems : ℕ → Bool → List ℕ → Type 0
 FineItems l first t = (vs : Values) × HoldInside InRange IsText vs × (levels vs ≤ l) × SpellsItems first vs t
@@ -21,20 +21,10 @@ closed_item : (first : Bool) (v : Value) (comma t : List ℕ) → Comma first co
 closed_item first v comma t is s = item_spelled first v no_values (comma ++ (t ++ 125 ∷ [])) (comma, t, 125 ∷ [], is, s, end_spelled false, refl)
 
 pub item_deep : (f : LiteralFault) (v : Value) (vs : Values) (l : ℕ) → DepthBut f l (nesting v) → DepthBut f l (levels vs) → DepthBut f l (levels (prepend v vs))
-item_deep TooDeep v vs l d ds = tt
-item_deep _ v vs l d ds = item_levels v vs l d ds
+item_deep f v vs l d ds = grind (arith, item_levels)
 
 ends_on : (v : Value) (rest t : List ℕ) (d : ℕ) (ds : List ℕ) → rest ≡ d ∷ ds → SameHead rest t → Ends v rest → Ends v t
-ends_on v rest t d ds e same h = go v (same d ds e) h
-  where
-    one_byte : (test : ℕ → Bool) → ((us : List ℕ) × (t ≡ d ∷ us)) → BeginsNo test rest → BeginsNo test t
-    one_byte test s k = subst (BeginsNo test) (sym s.1) (let m : BeginsNo test (d ∷ ds) = subst (BeginsNo test) e k in m)
-
-    go : (w : Value) → ((us : List ℕ) × (t ≡ d ∷ us)) → Ends w rest → Ends w t
-    go (Int n) s k = one_byte is_digit s k
-    go (Obj n) s k = one_byte is_digit s k
-    go (Error n) s k = one_byte is_word s k
-    go _ s k = tt
+ends_on v rest t d ds e same h = let s = same d ds e in grind arith
 
 blank_stop : (l : ℕ) (first : Bool) (c : ℕ) (cs : List ℕ) (f : LiteralFault) → is_blank c ≡ true → Stop (items_at (value_at l) first zero) (FineItems l first) (GoesItems l first) cs f → Stop (items_at (value_at l) first zero) (FineItems l first) (GoesItems l first) (c ∷ cs) f
 blank_stop l first c cs f here s =
@@ -97,9 +87,7 @@ item_stop l stops first comma b cs f is suffix fronts rest_stops e =
     after x read bad =
         let t = value_taken l b x read in
         let pre = suffix x.0 x.1 read in
-        let len : length cs ≡ length pre.0 + length x.1 = ap length pre.1 ∙ length-append pre.0 x.1 in
-        let n : length pre.0 ≡ length cs - length x.1 = omega arith in
-        let left : drop (length cs - length x.1) cs ≡ x.1 = ap (drop (length cs - length x.1)) pre.1 ∙ drop_at pre.0 x.1 (length cs - length x.1) n in
+        let left : drop (length cs - length x.1) cs ≡ x.1 = grind (arith, pre.1, length-append pre.0 x.1, drop_at pre.0 x.1) in
         let s = rest_stops (length cs - length x.1) bad in
         let at_rest : items_at (value_at l) false zero x.1 ≡ Err f = ap (items_at (value_at l) false zero) (sym left) ∙ sym (skipped (value_at l) false (length cs - length x.1) cs) ∙ bad in
         subst (λ (u : List ℕ). Stop (items_at (value_at l) first zero) (FineItems l first) (GoesItems l first) (comma ++ u) f) (sym t.whole)
@@ -159,8 +147,7 @@ spaced_stop l items f stops b w (c ∷ cs) all whole after e =
     (stops (c ∷ cs) e))
 
 outer_deep : (f : LiteralFault) (a l : ℕ) → DepthBut f l a → DepthBut f (suc l) (a + 1)
-outer_deep TooDeep a l d = tt
-outer_deep _ a l d = omega (arith, d)
+outer_deep f a l d = grind arith
 
 pub value_stop : (l : ℕ) → ValueStops l
 value_stop zero b f e =

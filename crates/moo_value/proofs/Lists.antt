@@ -1,11 +1,11 @@
 -- Blanks, lists and values: what is read is spelled so.
-use Rattle.moo_value.{proofs.Words.{◌≡◌, ℕ, zero, suc, ◌+◌, ◌-◌, ◌<◌, ◌≤◌, ℤ, Bool, true, false, inl, inr, List, [], ◌∷◌, ◌++◌, length, drop, Ok, Err, refl, sym, ap, subst, ◌∙◌, append_assoc, arith, ◌⊎◌, ◌==◌, eqb-true, length-append, drop_at, NotALiteral, TooDeep, Value, Int, Obj, Error, a_list, IsText, Values, no_values, levels, prepend, nesting, is_blank, is_digit, is_word, AreBlanks, Comma, Item, SpellsItems, SpellsToken, Spells, HoldInside, HoldIn, NumberKind, InRange, BeginsNo, Ends, Read, ◌>>=◌, after_blanks, token_at, opened_at, items_at, value_at, chosen, is_ok, bind_ok, no_ok, either_way}, proofs.Stops.{SameHead}, specs.Literal.{Spaced}, proofs.Tokens.{token_taken, token_starts, TokenTaken}, proofs.Items.{TakesSome, behind_byte, first_is, comma_is, spaced_is, item_at}}
+use Rattle.moo_value.{proofs.Words.{◌≡◌, ℕ, zero, suc, ◌+◌, ◌-◌, ◌<◌, ◌≤◌, ℤ, Bool, true, false, inl, inr, List, [], ◌∷◌, ◌++◌, length, drop, Ok, Err, refl, sym, ap, subst, ◌∙◌, append_assoc, arith, ◌⊎◌, ◌==◌, eqb-true, length-append, drop_at, NotALiteral, TooDeep, Value, a_list, IsText, Values, no_values, levels, prepend, nesting, is_blank, is_digit, is_word, AreBlanks, Comma, Item, SpellsItems, SpellsToken, Spells, HoldInside, HoldIn, NumberKind, InRange, Ends, Read, ◌>>=◌, after_blanks, token_at, opened_at, items_at, value_at, chosen, is_ok, bind_ok, no_ok, cases_Bool}, proofs.Stops.{SameHead}, specs.Literal.{Spaced}, proofs.Tokens.{token_taken, token_starts, TokenTaken}, proofs.Items.{TakesSome, behind_byte, first_is, comma_is, spaced_is, item_at}}
 
 -- ---- blanks
 
 pub blanks_taken : (b : List ℕ) → (blanks : List ℕ) × AreBlanks blanks × (b ≡ blanks ++ after_blanks b)
 blanks_taken [] = ([], tt, refl)
-blanks_taken (c ∷ cs) = elim (either_way (is_blank c)) [
+blanks_taken (c ∷ cs) = elim (cases_Bool (is_blank c)) [
   | inl blank ↦ (let rest = blanks_taken cs in (c ∷ rest.0, (blank, rest.1), ap (λ (t : List ℕ). c ∷ t) rest.2 ∙ (rw blank refl)))
   | inr other ↦ ([], tt, rw other refl)
 ]
@@ -30,16 +30,13 @@ items_more first _ c t here s = item_more first _ _ c t here s
 -- ---- a value in front of the values of a list
 
 pub item_spelled : (first : Bool) (v : Value) (vs : Values) (t : List ℕ) → Item first (SpellsToken v) (SpellsItems false vs) t → SpellsItems first (prepend v vs) t
-item_spelled first (Int n) vs t s = s
-item_spelled first _ vs t s = s
+item_spelled first v vs t s = grind arith
 
 pub item_holds : (N : NumberKind → ℤ → Type 0) (T : List ℕ → Type 0) (v : Value) (vs : Values) → HoldIn N T v → HoldInside N T vs → HoldInside N T (prepend v vs)
-item_holds N T (Error e) vs h hs = hs
-item_holds N T _ vs h hs = (h, hs)
+item_holds N T v vs h hs = grind arith
 
 pub item_levels : (v : Value) (vs : Values) (l : ℕ) → nesting v ≤ l → levels vs ≤ l → levels (prepend v vs) ≤ l
-item_levels (a_list us) vs l h hs = omega (arith, h, hs)
-item_levels _ vs l h hs = hs
+item_levels v vs l h hs = grind arith
 
 -- ---- what is read is spelled so
 
@@ -104,9 +101,7 @@ item_taken l well first comma b cs x is suffix rest_taken e =
     let t = well b v.0 v.1 in
     let r = rest_taken (length cs - length v.0.1) vs.0 vs.1 in
     let pre = suffix v.0.0 v.0.1 v.1 in
-    let len : length cs ≡ length pre.0 + length v.0.1 = ap length pre.1 ∙ length-append pre.0 v.0.1 in
-    let n : length pre.0 ≡ length cs - length v.0.1 = omega arith in
-    let left : drop (length cs - length v.0.1) cs ≡ v.0.1 = ap (drop (length cs - length v.0.1)) pre.1 ∙ drop_at pre.0 v.0.1 (length cs - length v.0.1) n in
+    let left : drop (length cs - length v.0.1) cs ≡ v.0.1 = grind (arith, pre.1, length-append pre.0 v.0.1, drop_at pre.0 v.0.1) in
     let made : Values × List ℕ = (prepend v.0.0 vs.0.0, vs.0.1) in
     subst (ItemsTaken l first (comma ++ b)) (is_ok made x vs.2) (record {
       text = comma ++ (t.text ++ r.text);
@@ -125,8 +120,7 @@ end_taken l first c cs x here e =
     subst (ItemsTaken l first (c ∷ cs)) (is_ok made x e) (record { text = 125 ∷ []; whole = ap (λ (d : ℕ). d ∷ cs) here; spelled = ([], 125 ∷ [], tt, refl, refl); fits = tt; shallow = omega arith })
 
 items_taken : (l : ℕ) → ReadsWell l → (first : Bool) (k : ℕ) (b : List ℕ) (x : Values × List ℕ) → items_at (value_at l) first k b ≡ Ok x → ItemsTaken l first (drop k b) x
-items_taken l well first zero [] x e = absurd (no_ok NotALiteral x e)
-items_taken l well first (suc k) [] x e = absurd (no_ok NotALiteral x e)
+items_taken l well first k [] x e = absurd (no_ok NotALiteral x e)
 items_taken l well first (suc k) (c ∷ cs) x e = items_taken l well first k cs x e
 items_taken l well first zero (c ∷ cs) x e = elim (item_view l (takes_some l well) first c cs) [
   | inl blank ↦ blank_taken l first c cs x blank.0 (items_taken l well first zero cs x (sym blank.1 ∙ e))
@@ -189,22 +183,14 @@ items_byte no_values u p = spaced_byte (λ w. w ≡ 125 ∷ []) u (λ token h. (
 items_byte _ u p = item_byte _ _ u p
 
 pub items_end : (v : Value) (vs : Values) (t rest : List ℕ) → SpellsItems false vs t → Ends v (t ++ rest)
-items_end v vs t rest s = let f = items_byte vs t s in after v f.0 f.1 f.2 f.3
-  where
-    after : (w : Value) (c : ℕ) (cs : List ℕ) → t ≡ c ∷ cs → Between c → Ends w (t ++ rest)
-    after (Int n) c cs e h = subst (λ (u : List ℕ). BeginsNo is_digit (u ++ rest)) (sym e) h.0
-    after (Obj n) c cs e h = subst (λ (u : List ℕ). BeginsNo is_digit (u ++ rest)) (sym e) h.0
-    after (Error n) c cs e h = subst (λ (u : List ℕ). BeginsNo is_word (u ++ rest)) (sym e) h.1
-    after _ c cs e h = tt
+items_end v vs t rest s = let f = items_byte vs t s in grind arith
 
 -- a value's first byte that isn't blank closes no list
 pub value_starts : (v : Value) (t : List ℕ) → SpellsToken v t → (c : ℕ) × (cs : List ℕ) × (t ≡ c ∷ cs) × (is_blank c ≡ false) × ((c == 125) ≡ false)
-value_starts (a_list vs) t s = (123, s.0, s.1, refl, refl)
-value_starts v t s = let f = token_starts v t tt s in (f.0, f.1, f.2, f.3.no_blank, f.3.no_end)
+value_starts v t s = grind (arith, token_starts)
 
 pub value_spaced : (l : ℕ) (blanks b : List ℕ) → AreBlanks blanks → value_at l (blanks ++ b) ≡ value_at l b
-value_spaced zero blanks b all = ap (opened_at (λ _. Err TooDeep)) (blanks_skipped blanks b all)
-value_spaced (suc l) blanks b all = ap (opened_at (items_at (value_at l) true zero)) (blanks_skipped blanks b all)
+value_spaced l blanks b all = grind (arith, blanks_skipped)
 
 -- a value that r reads, and the values behind it
 abbrev pub and_others : ℕ → Read Value → Read Values

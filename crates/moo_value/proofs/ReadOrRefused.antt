@@ -6,17 +6,13 @@ use Rattle.moo_value.specs.declared.text.TheConstants.{MAX_LENGTH}
 -- ---- what is within the limits keeps every one
 
 all_number : (f : LiteralFault) (kind : NumberKind) (z : ℤ) → InRange kind z → NumberBut f kind z
-all_number OutOfRange kind z h = tt
-all_number _ kind z h = h
+all_number f kind z h = grind arith
 
 all_text : (f : LiteralFault) (s : List ℕ) → IsText s → TextBut f s
-all_text BadByte s h = tt
-all_text TooLong s h = h.allowed
-all_text _ s h = h
+all_text f s h = grind arith
 
 pub all_deep : (f : LiteralFault) (l d : ℕ) → d ≤ l → DepthBut f l d
-all_deep TooDeep l d h = tt
-all_deep _ l d h = h
+all_deep f l d h = grind arith
 
 all_inside : (f : LiteralFault) (vs : Values) → HoldInside InRange IsText vs → HoldInside (NumberBut f) (TextBut f) vs
 all_inside f no_values h = tt
@@ -84,8 +80,7 @@ string_either s (c ∷ u) body rest spelled =
 -- ---- tokens
 
 range_gave : (g : LiteralFault) (kind : NumberKind) (z : ℤ) → NumberBut g kind z → (g ≡ OutOfRange) ⊎ InRange kind z
-range_gave OutOfRange kind z n = inl refl
-range_gave _ kind z n = inr n
+range_gave g kind z n = grind arith
 
 text_gave : (g : LiteralFault) (u rest : List ℕ) (r : Read (List ℕ)) → TextBut g u → StringOr [] u rest r → Either (Gave g) r (u, rest)
 text_gave g u rest r t (inl ok) = inl ok
@@ -155,16 +150,13 @@ flat_deep : (g : LiteralFault) (l : ℕ) → DepthBut g l 0
 flat_deep g l = all_deep g l 0 (omega arith)
 
 left_deep : (g : LiteralFault) (a b l : ℕ) → DepthBut g l (max (a + 1) b) → DepthBut g l (a + 1) × DepthBut g l b
-left_deep TooDeep a b l d = (tt, tt)
-left_deep _ a b l d = (omega (arith, d), omega (arith, d))
+left_deep g a b l d = grind arith
 
 inner_deep : (g : LiteralFault) (a l : ℕ) → DepthBut g (suc l) (a + 1) → DepthBut g l a
-inner_deep TooDeep a l d = tt
-inner_deep _ a l d = omega (arith, d)
+inner_deep g a l d = grind arith
 
 too_deep : (g : LiteralFault) (a : ℕ) → DepthBut g 0 (a + 1) → Gave g TooDeep
-too_deep TooDeep a d = refl
-too_deep _ a d = absurd (omega (arith, d))
+too_deep g a d = grind arith
 
 items_either : (g : LiteralFault) (l : ℕ) → ReadsEither g l → (vs : Values) (first : Bool) (t rest : List ℕ) → SpellsItems first vs t → HoldInside (NumberBut g) (TextBut g) vs → DepthBut g l (levels vs) → Either (Gave g) (items_at (value_at l) first zero (t ++ rest)) (vs, rest)
 items_either g l either no_values first t rest s holds deep =

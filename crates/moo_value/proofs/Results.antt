@@ -1,14 +1,9 @@
 -- Which way a test went, and what a reading gave.
-use Rattle.std.proofs.Common.{◌≡◌, Bool, true, false, cond, ◌⊎◌, inl, inr, List, ℕ, Result, Ok, Err, refl, ap}
+use Rattle.std.proofs.Common.{arith, ◌≡◌, Bool, true, false, cond, ◌⊎◌, List, ℕ, Result, Ok, Err}
 use Rattle.moo_value.{specs.declared.fault.LiteralFault.{LiteralFault}, specs.Reading.{Read, ◌>>=◌}}
 
 pub chosen : {A : Type 0} (b : Bool) (x y z : A) → cond b x y ≡ z → ((b ≡ true) × (x ≡ z)) ⊎ ((b ≡ false) × (y ≡ z))
-chosen true x y z e = inl (refl, e)
-chosen false x y z e = inr (refl, e)
-
-pub either_way : (b : Bool) → (b ≡ true) ⊎ (b ≡ false)
-either_way true = inl refl
-either_way false = inr refl
+chosen b x y z e = grind arith
 
 pub is_ok : {A : Type 0} (x y : A) → (let P : A → Result A LiteralFault = λ a. Ok a in P x ≡ P y) → x ≡ y
 is_ok x y e = cc
@@ -25,13 +20,10 @@ no_err x f e = absurd cc
 -- ---- one reading after another
 
 pub bind_ok : {A B : Type 0} (r : Result A LiteralFault) (f : A → Result B LiteralFault) (y : B) → (r >>= f) ≡ Ok y → (x : A) × (r ≡ Ok x) × (f x ≡ Ok y)
-bind_ok (Ok x) f y e = (x, refl, e)
-bind_ok (Err d) f y e = absurd cc
+bind_ok r f y e = grind arith
 
 pub bind_err : {A B : Type 0} (r : Result A LiteralFault) (f : A → B × List ℕ) (g : LiteralFault) → (r >>= λ x. Ok (f x)) ≡ Err g → r ≡ Err g
-bind_err (Ok x) f g e = absurd (let h : Ok (f x) ≡ Err g = e in cc)
-bind_err (Err d) f g e = ap (λ (x : LiteralFault). Err x) (is_err d g e)
+bind_err r f g e = grind arith
 
 pub bind_which : {A B : Type 0} (r : Result A LiteralFault) (f : A → Result B LiteralFault) (g : LiteralFault) → (r >>= f) ≡ Err g → (r ≡ Err g) ⊎ ((x : A) × (r ≡ Ok x) × (f x ≡ Err g))
-bind_which (Ok x) f g e = inr (x, refl, e)
-bind_which (Err d) f g e = inl (ap (λ (y : LiteralFault). Err y) (is_err d g e))
+bind_which r f g e = grind arith

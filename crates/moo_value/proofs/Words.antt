@@ -6,7 +6,7 @@ pub use Rattle.std.specs.Io.{StartsWith}
 pub use Rattle.std.specs.List.{AllByRecursion, flat_map, list_all}
 pub use Rattle.std.specs.Prelude.{IsTrue, OnOk, nat_le, not, ◌-ℤ◌, ◌==◌, ◌||◌}
 pub use Rattle.std.specs.Str.{str_eq_ignore_ascii_case}
-pub use Rattle.std.proofs.lemmas.Bool.{cases_lt, eqb-true}
+pub use Rattle.std.proofs.lemmas.Bool.{cases_Bool, cases_lt, eqb-true}
 pub use Rattle.std.proofs.lemmas.Int.{to_z-of_z}
 pub use Rattle.std.proofs.lemmas.Iterator.{YieldsList-from_slice}
 pub use Rattle.std.proofs.lemmas.List.{append-nil, drop_at, length-append, take-append-drop, take_all, take_at}
@@ -26,5 +26,5 @@ pub use Rattle.moo_value.specs.declared.value.Value.{Value}
 pub use Rattle.moo_value.specs.declared.value.Value.TheVariants.{Error, Int, List as a_list, Obj, Str}
 pub use borrow.Author.Tests.{tests}
 pub use Rattle.moo_value.proofs.Gather.{spread-gathered}
-pub use Rattle.moo_value.proofs.Results.{bind_err, bind_ok, chosen, either_way, is_err, is_ok, no_err, no_ok}
+pub use Rattle.moo_value.proofs.Results.{bind_err, bind_ok, chosen, is_err, is_ok, no_err, no_ok}
 pub use Rattle.moo_value.proofs.Texts.{AreAllowed, all_allowed}

@@ -1,7 +1,9 @@
 //! Literals that are a whole text.
 
-ghost use Rattle.std.specs.Prelude.{Ok, IfOk};
+ghost use Rattle.std.specs.Prelude.{◌≢◌, Ok, IfErr, IfOk};
+ghost use Rattle.moo_value.specs.declared.fault.LiteralFault.TheVariants.{OutOfMemory};
 ghost use Rattle.moo_value.specs.declared.value.Value.{Value};
+ghost use Rattle.moo_value.specs.Fault.{HasWholeFault};
 ghost use Rattle.moo_value.specs.Literal.{Spells, Fits};
 ghost use Rattle.moo_value.specs.Reading.{Gives};
 
@@ -19,6 +21,8 @@ pub fn read_whole_literal(alloc: Global, bytes: &[u8]) -> Result<Value, LiteralF
     ensures spelled { IfOk result (λ v. Spells v bytes.now × Fits v) }
     // What is spelled so, within the limits, is read, unless memory runs out.
     ensures only { (v : Value) → Fits v → Spells v bytes.now → Gives (λ w. w) result (Ok v) }
+    // An error but a lack of memory is the first fault of the text, or NotALiteral if something follows the literal in front.
+    ensures fault { IfErr result (λ f. f ≢ OutOfMemory → HasWholeFault bytes.now f) }
 {
     let (value, used) = read_literal(alloc, bytes)?;
     if used == bytes.len() {

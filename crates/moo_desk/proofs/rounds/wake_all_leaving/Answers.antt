@@ -1,13 +1,12 @@
 use Rattle.std.proofs.Common.{arith}
-use Rattle.moo_desk.specs.Later.{IsLater}
-use Rattle.moo_desk.proofs.Onward.{each_same, each_set, later_same, later_joined, later_kept, follows_same}
+use Rattle.std.specs.Prelude.{⊤}
+use Rattle.moo_desk.specs.Rounds.{IsAnswerWokenFor}
+use Rattle.moo_desk.proofs.Onward.{each_then, each_all}
 use Rattle.moo_desk.proofs.rounds.wake_all_leaving.Goals as goal
-
-pub loop-connection-init : goal.loop-connection-init
-loop-connection-init g c = each_same (IsLater g.W.Write g.W.Outward.peer) (later_same g.W.Write g.W.Outward.peer) _
 
 pub loop-connection-preserved : goal.loop-connection-preserved
 loop-connection-preserved g c =
-    each_set (IsLater g.W.Write g.W.Outward.peer) (later_joined g.W.Write g.W.Outward.peer) c.args.leaving.now c.loop-connection.connection-items c.loop-connection.connection-index c.connection-item.result c.wake.new.self c.loop-connection.invariant
-    (omega (arith, c.loop-connection-test.true, c.loop-connection.auto.connection-items))
-    (later_kept g.W.Write g.W.Outward.peer _ _ c.wake.ensures.0 c.wake.ensures.1 (follows_same _ _ c.wake.ensures.2))
+    each_then (IsAnswerWokenFor (λ _. ⊤)) c.loop-connection.connection-index c.args.leaving.now c.loop-connection.connection-items c.connection-item.result c.wake.new.self (omega (arith, c.loop-connection-test.true, c.loop-connection.auto.connection-items)) c.loop-connection.invariant c.wake.ensures
+
+pub returns : goal.returns
+returns g c = each_all (IsAnswerWokenFor (λ _. ⊤)) c.loop-connection.connection-index c.args.leaving.now c.loop-connection.connection-items (omega (arith, c.loop-connection-test.false, c.loop-connection.auto.connection-items)) c.loop-connection.invariant

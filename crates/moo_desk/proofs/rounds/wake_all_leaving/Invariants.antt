@@ -1,6 +1,7 @@
-use Rattle.moo_desk.specs.Each.{Each}
-use Rattle.moo_desk.specs.Later.{IsLater}
+use Rattle.std.specs.Prelude.{⊤}
+use Rattle.moo_desk.specs.Rounds.{IsAnswerWokenFor}
+use Rattle.moo_desk.proofs.Onward.{EachSoFar}
 use Rattle.moo_desk.proofs.rounds.wake_all_leaving.Given as goal
 
 abbrev pub invariant-loop-connection : goal.invariant-loop-connection
-invariant-loop-connection g l = Each (IsLater g.W.Write g.W.Outward.peer) l.fn.leaving l.connection-items
+invariant-loop-connection g l = EachSoFar (IsAnswerWokenFor (λ _. ⊤)) l.connection-index l.fn.leaving l.connection-items

@@ -1,4 +1,4 @@
-use Rattle.moo_value.{proofs.Words.{ℕ, length, take_all, Ok, sym, ap, subst, arith, Spells, err_from_is_err_and, Value, is_ok}, proofs.Printed.{fails_again, whole}}
+use Rattle.moo_value.{proofs.Words.{ℕ, inl, inr, refl, length, take_all, Ok, sym, ap, subst, arith, Spells, err_from_is_err_and, Value, is_ok}, proofs.Printed.{fails_again, whole}}
 use Rattle.moo_value.proofs.whole.read_whole_literal.Goals as goal
 
 pub returns-in_err-value-clause-only : goal.returns-in_err-value-clause-only
@@ -18,3 +18,13 @@ pub returns-then-used-bytes-clause-spelled : goal.returns-then-used-bytes-clause
 returns-then-used-bytes-clause-spelled c =
     let front = c.in_ok-value.ensures.found in
     (subst (Spells c.in_ok-value.value) (take_all c.in_ok-value.used c.args.bytes.now (omega (arith, c.if-used-bytes.true))) front.spelled, front.fits)
+
+pub returns-in_err-value-clause-fault : goal.returns-in_err-value-clause-fault
+returns-in_err-value-clause-fault c =
+    let p = err_from_is_err_and c.from_residual.result c.from_residual.ensures.1 in
+    rw (p.1, p.2) (λ other. inl (c.in_err-value.ensures.fault other))
+
+pub returns-else-used-bytes-clause-fault : goal.returns-else-used-bytes-clause-fault
+returns-else-used-bytes-clause-fault c =
+    let front = c.in_ok-value.ensures.found in
+    λ other. inr (refl, c.in_ok-value.value, c.in_ok-value.used, front, omega (arith, front.within, c.if-used-bytes.false))

@@ -1,13 +1,11 @@
 use Rattle.std.proofs.Common.{refl}
 use Rattle.std.specs.Prelude.{⊤}
-use Rattle.moo_desk.specs.Later.{IsGathered, IsLater}
-use Rattle.moo_desk.specs.Rounds.{IsWokenFor}
-use Rattle.moo_desk.proofs.Ledgers.{keeps_steps, each_written}
+use Rattle.moo_desk.specs.Rounds.{IsAnswerWokenFor, IsWokenFor}
+use Rattle.moo_desk.proofs.Ledgers.{keeps_woken, each_written}
 use Rattle.moo_desk.proofs.held.Held.wake_all.Goals as goal
 
 pub returns : goal.returns
-returns g c = record {
-  all = keeps_steps _ _ (each_written IsGathered c.args.self.now.slots c.deref_mut.result.now c.wake_all_slots.new.slots c.deref_mut.ensures.value c.wake_all_slots.ensures.gathers)
-      (each_written (IsLater g.W.Write g.W.Outward.peer) c.args.self.now.leaving c.deref_mut-2.result.now c.wake_all_leaving.new.leaving c.deref_mut-2.ensures.value c.wake_all_leaving.ensures) refl;
-  wakes = each_written (IsWokenFor (λ _. ⊤)) c.args.self.now.slots c.deref_mut.result.now c.wake_all_slots.new.slots c.deref_mut.ensures.value c.wake_all_slots.ensures.wakes;
-}
+returns g c =
+    let slots = each_written (IsWokenFor (λ _. ⊤)) c.args.self.now.slots c.deref_mut.result.now c.wake_all_slots.new.slots c.deref_mut.ensures.value c.wake_all_slots.ensures in
+    let leaving = each_written (IsAnswerWokenFor (λ _. ⊤)) c.args.self.now.leaving c.deref_mut-2.result.now c.wake_all_leaving.new.leaving c.deref_mut-2.ensures.value c.wake_all_leaving.ensures in
+    record { all = keeps_woken (λ _. ⊤) _ _ slots leaving refl; wakes = slots; answers = leaving }

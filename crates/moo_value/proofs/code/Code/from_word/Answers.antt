@@ -1,4 +1,4 @@
-use Rattle.moo_value.proofs.Words.{◌≡◌, Bool, true, false, cond, Ok, Err, Option, Some, ℕ, List, [], ◌∷◌, map, refl, sym, ap, subst, ◌∙◌, rules, str_eq_ignore_ascii_case, YieldsList-from_slice, tests, Code, NotALiteral, name, named}
+use Rattle.moo_value.proofs.Words.{◌≡◌, Bool, Ok, Err, Option, Some, arith, ℕ, List, [], ◌∷◌, map, refl, sym, ap, subst, ◌∙◌, rules, str_eq_ignore_ascii_case, YieldsList-from_slice, tests, Code, NotALiteral, name, named}
 use Rattle.moo_value.proofs.code.Code.from_word.Goals as goal
 use Rattle.std.{proofs.Common.{None, option_map, Bor}, specs.List.{find}, specs.Option.{MatchOption}, proofs.lemmas.Iterator.Search.{find_from_yields_List}}
 
@@ -15,21 +15,13 @@ has_name w e = str_eq_ignore_ascii_case w e.1.now
 -- the first that has the name
 first : (w : List ℕ) (es : List Named) → AreNamed es → MatchOption (find (has_name w) es) (named (map (λ e. e.0) es) w ≡ Err NotALiteral) (λ e. named (map (λ e. e.0) es) w ≡ Ok e.0)
 first w [] h = refl
-first w (e ∷ es) h =
-    let named_in = named (map (λ (e : Named). e.0) es) w in
-    elim (has_name w e) as (λ b. b ≡ str_eq_ignore_ascii_case w (name e.0) → MatchOption (cond b (Some e) (find (has_name w) es))
-    (cond (str_eq_ignore_ascii_case w (name e.0)) (Ok e.0) named_in ≡ Err NotALiteral) (λ x. cond (str_eq_ignore_ascii_case w (name e.0)) (Ok e.0) named_in ≡ Ok x.0)) [
-      | true ↦ λ t. ap (λ b. cond b (Ok e.0) named_in) (sym t)
-      | false ↦ λ f. subst (λ b. MatchOption (find (has_name w) es) (cond b (Ok e.0) named_in ≡ Err NotALiteral) (λ x. cond b (Ok e.0) named_in ≡ Ok x.0)) f (first w es h.1)
-    ] (ap (str_eq_ignore_ascii_case w) h.0)
+first w (e ∷ es) h = grind (arith, first w es h.1)
 
 none_found : (w : List ℕ) (es : List Named) (r : Option (Bor Named)) → option_map (λ x. x.now) r ≡ find (has_name w) es → AreNamed es → r ≡ None → named (map (λ e. e.0) es) w ≡ Err NotALiteral
-none_found w es None found h is = rw (← found) at (first w es h)
-none_found w es (Some x) found h is = absurd cc
+none_found w es r found h is = grind (arith, first w es h)
 
 one_found : (w : List ℕ) (es : List Named) (r : Option (Bor Named)) (x : Bor Named) → option_map (λ x. x.now) r ≡ find (has_name w) es → AreNamed es → r ≡ Some x → named (map (λ e. e.0) es) w ≡ Ok x.now.0
-one_found w es None x found h is = absurd cc
-one_found w es (Some y) x found h is = let same : y ≡ x = cc in (rw (← found) at (first w es h)) ∙ ap (λ (z : Bor Named). Ok z.now.0) same
+one_found w es r x found h is = grind (arith, first w es h)
 
 pub returns-in_err-code-clause-none : goal.returns-in_err-code-clause-none
 returns-in_err-code-clause-none c =
