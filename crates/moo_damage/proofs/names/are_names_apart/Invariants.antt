@@ -1,5 +1,5 @@
 use Rattle.moo_damage.{proofs.Words.{entries, object_cmp, contents, props_left, AreApart, NamesApart}, proofs.Firsts.{FirstLeft}}
-use Rattle.moo_damage.proofs.names.names_apart.Given as goal
+use Rattle.moo_damage.proofs.names.are_names_apart.Given as goal
 
 -- what holds of those that are left holds of all
 abbrev pub invariant-loop-id : goal.invariant-loop-id

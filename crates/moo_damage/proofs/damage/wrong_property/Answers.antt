@@ -1,5 +1,5 @@
 use Rattle.moo_damage.{proofs.Words.{refl, subst, NoDefiner, InRows, IsLeast}, proofs.Searched.{of_prop, definer_least, told}}
-use Rattle.moo_damage.proofs.damage.wrong_prop.Goals as goal
+use Rattle.moo_damage.proofs.damage.wrong_property.Goals as goal
 
 pub returns-in-Some-clause-first : goal.returns-in-Some-clause-first
 returns-in-Some-clause-first g c =

@@ -1,5 +1,5 @@
 use Rattle.moo_damage.{proofs.Words.{◌≡◌, true, false, refl, subst, PastHead, is_object_past, is_prop_past, is_verb_past, is_petition_past, IsLeastBad}, proofs.Searched.{none_of_cells, object_past, prop_past, verb_past, petition_past, none_past, told}}
-use Rattle.moo_damage.proofs.damage.wrong_number.Goals as goal
+use Rattle.moo_damage.proofs.damage.ungiven_number.Goals as goal
 
 pub returns-in-Some-clause-first : goal.returns-in-Some-clause-first
 returns-in-Some-clause-first g c =

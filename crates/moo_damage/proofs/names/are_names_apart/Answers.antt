@@ -1,5 +1,5 @@
 use Rattle.moo_damage.{proofs.Words.{rules, ◌≡◌, sym, subst, ap, ◌∙◌, entries, from_entries, get, get-empty, none-some, PropId, PropRow, prop_exact, object_cmp, props_left, prop_total, NamesApart}, proofs.Firsts.{FirstIn, ended, went_on}}
-use Rattle.moo_damage.proofs.names.names_apart.Goals as goal
+use Rattle.moo_damage.proofs.names.are_names_apart.Goals as goal
 
 pub loop-id-init : goal.loop-id-init
 loop-id-init g c =

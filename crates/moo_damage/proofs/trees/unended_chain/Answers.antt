@@ -1,5 +1,5 @@
 use Rattle.moo_damage.{proofs.Words.{◌≡◌, true, Option, None, Some, refl, ◌⊎◌, sym, ap, ◌∙◌, subst, arith, is_some, option_map, AllByRecursion, get, object_cmp, contents, some_of, nothing, Climbs, next_of, HasEnd, all_then}, proofs.Ending.{ends_here, step_up, step_down, bound}}
-use Rattle.moo_damage.proofs.trees.climb.Goals as goal
+use Rattle.moo_damage.proofs.trees.unended_chain.Goals as goal
 
 some_still : {A B : Type 0} (o : Option A) (f : A → B) → is_some o ≡ true → is_some (option_map f o) ≡ true
 some_still None f e = e
@@ -16,15 +16,15 @@ loop-preserved g c =
     let row = c.in-Some.row.now in
     let there : get m.objects c.loop.at ≡ Some row = sym c.in-Some.ensures in
     record {
-      here = subst (λ z. (z ≡ nothing) ⊎ (is_some (get m.objects z) ≡ true)) (sym c.of-at.ensures) (c.requires.links.links c.loop.at row there);
+      here = subst (λ z. (z ≡ nothing) ⊎ (is_some (get m.objects z) ≡ true)) (sym c.link_of-at.ensures) (c.requires.links.links c.loop.at row there);
       up = λ e.
-          let ends = step_up link m c.requires.links c.loop.at row there (subst (HasEnd link m) c.of-at.ensures e) in
+          let ends = step_up link m c.requires.links c.loop.at row there (subst (HasEnd link m) c.link_of-at.ensures e) in
           let p = c.loop.invariant.up ends in
           (subst (AllByRecursion (HasEnd link m)) (sym c.in_ok-push.ensures.items) (all_then (HasEnd link m) c.loop.path.items c.loop.at p.0 ends), p.1);
       down = λ l p.
           let d = c.loop.invariant.down l p in
           let s = step_down link m c.requires.links c.loop.at row there d.0 d.1 in
-          (s.0, subst (λ z. Climbs (next_of link m) z s.0) (sym c.of-at.ensures) s.1, omega (arith, s.2, d.2));
+          (s.0, subst (λ z. Climbs (next_of link m) z s.0) (sym c.link_of-at.ensures) s.1, omega (arith, s.2, d.2));
     }
 
 pub returns-in-None-object-clause-ends : goal.returns-in-None-object-clause-ends
