@@ -1,6 +1,6 @@
 use Rattle.moo_tree.{proofs.Words.{◌≡◌, ◌≢◌, suc, ◌+◌, ◌<◌, ◌≤◌, [], ◌∷◌, ◌++◌, length, drop, sym, ap, ◌∙◌, subst, rules, slice_index_or, get, insert, get-empty, from_entries, object_cmp, contents, is_among, children_of, world_of, chain}, proofs.Searching.{Search, AreAt, begun, nothing_under, step, ended, is_there, rank-smaller, deeper, rest_of, in_list, alone, a_row, among-first, no_items}}
 use Rattle.std.proofs.lemmas.List.{drop_all}
-use Rattle.moo_tree.proofs.under.find_under.Goals as goal
+use Rattle.moo_tree.proofs.under.owner_map_under.Goals as goal
 
 pub returns-then-not-valid : goal.returns-then-not-valid
 returns-then-not-valid g c =

@@ -1,5 +1,5 @@
 use Rattle.moo_tree.{proofs.Words.{ℕ, suc, ◌++◌, drop, object_cmp, contents, world_of}, proofs.Searching.{Search, AreAt, rank}}
-use Rattle.moo_tree.proofs.under.find_under.Given as goal
+use Rattle.moo_tree.proofs.under.owner_map_under.Given as goal
 
 -- the search with this level pending, whose objects stand as deep
 abbrev pub invariant-loop-alloc : goal.invariant-loop-alloc
