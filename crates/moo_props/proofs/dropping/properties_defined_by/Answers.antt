@@ -1,5 +1,5 @@
 use Rattle.moo_props.{proofs.Words.{◌++◌, map, ap, ◌∙◌, defined_left}, proofs.Steps.{listed}, proofs.WholeWalks.{defined_keys}}
-use Rattle.moo_props.proofs.dropping.props_on.Goals as goal
+use Rattle.moo_props.proofs.dropping.properties_defined_by.Goals as goal
 
 pub loop-id-init : goal.loop-id-init
 loop-id-init g c =

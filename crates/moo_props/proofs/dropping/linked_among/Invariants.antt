@@ -1,5 +1,5 @@
 use Rattle.moo_props.proofs.Words.{◌≡◌, ◌++◌, Some, pos, entries, object_cmp, entries_past, linked_among}
-use Rattle.moo_props.proofs.dropping.linked_to.Given as goal
+use Rattle.moo_props.proofs.dropping.linked_among.Given as goal
 use Rattle.std.proofs.Common.{◌-ℤ◌, nat_abs}
 
 -- those so far, and those among the objects past the last

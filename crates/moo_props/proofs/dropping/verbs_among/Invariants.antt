@@ -1,5 +1,5 @@
 use Rattle.moo_props.proofs.Words.{◌≡◌, ◌++◌, map, verbs_of_left, entries, verbs_among}
-use Rattle.moo_props.proofs.dropping.verbs_on.Given as goal
+use Rattle.moo_props.proofs.dropping.verbs_among.Given as goal
 
 -- those so far, and those that are left
 abbrev pub invariant-loop-key : goal.invariant-loop-key

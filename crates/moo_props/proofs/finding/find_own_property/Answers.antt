@@ -1,5 +1,5 @@
 use Rattle.moo_props.proofs.NamedOnes.{first_own, first_named, first_exact}
-use Rattle.moo_props.proofs.finding.own_named.Goals as goal
+use Rattle.moo_props.proofs.finding.find_own_property.Goals as goal
 
 pub returns-clause-own : goal.returns-clause-own
 returns-clause-own g c = first_own (g.R.Rows.held c.args.rows.now).maps c.args.y c.args.name.now c.next_named.result c.next_named.ensures

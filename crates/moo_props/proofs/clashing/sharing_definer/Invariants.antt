@@ -1,5 +1,5 @@
 use Rattle.moo_props.proofs.Words.{◌≡◌, true, length, IfSome, find, walk_down, is_among, world_of, chain, meets_on, from_here}
-use Rattle.moo_props.proofs.clashing.shares_property_name.Given as goal
+use Rattle.moo_props.proofs.clashing.sharing_definer.Given as goal
 
 -- the first that defines a name of new's is still to come
 abbrev pub invariant-loop-at : goal.invariant-loop-at

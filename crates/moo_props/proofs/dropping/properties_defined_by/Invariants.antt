@@ -1,5 +1,5 @@
 use Rattle.moo_props.proofs.Words.{◌≡◌, ◌++◌, map, defined_left, ◌∷◌, [], props_of}
-use Rattle.moo_props.proofs.dropping.props_on.Given as goal
+use Rattle.moo_props.proofs.dropping.properties_defined_by.Given as goal
 
 -- those so far, and those that are left
 abbrev pub invariant-loop-id : goal.invariant-loop-id

@@ -1,5 +1,5 @@
 use Rattle.moo_props.{proofs.Words.{FitsSigned, w32, rules, ◌≡◌, refl, ap, ◌∙◌, Maps, Held, look_ups, world_of, world_shown, World, read_of, number_within, with_new_row, origins_among, with_fresh, numbers_same, beside_world}, proofs.Shared.{good_by, keeps-fresh, same_base, same_maps, walk}, proofs.NewSlots.{with_new, look_ups-new}, proofs.NewObject.{world_new, formed_new, sound_new, no_row}}
-use Rattle.moo_props.proofs.birth.make.Goals as goal
+use Rattle.moo_props.proofs.birth.make_object.Goals as goal
 use Rattle.moo_world.proofs.Ownership.Created.{read_old}
 
 abbrev t : (g : _) → goal.After-drop-inherited-2 g → Maps

@@ -1,5 +1,5 @@
 use Rattle.moo_props.proofs.Words.{◌≡◌, ◌++◌, slots_of_left, ids_among}
-use Rattle.moo_props.proofs.dropping.ids_on.Given as goal
+use Rattle.moo_props.proofs.dropping.property_ids_with_slot.Given as goal
 
 -- those so far, and those of the slots that are left
 abbrev pub invariant-loop-key : goal.invariant-loop-key

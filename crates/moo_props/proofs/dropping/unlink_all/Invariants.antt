@@ -1,5 +1,5 @@
 use Rattle.moo_props.proofs.Words.{◌≡◌, take, rows_released}
-use Rattle.moo_props.proofs.dropping.release_all.Given as goal
+use Rattle.moo_props.proofs.dropping.unlink_all.Given as goal
 
 -- with those so far released
 abbrev pub invariant-loop-y : goal.invariant-loop-y

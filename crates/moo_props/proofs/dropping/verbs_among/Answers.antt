@@ -1,5 +1,5 @@
 use Rattle.moo_props.{proofs.Words.{◌++◌, map, ap, ◌∙◌, verbs_of_left}, proofs.Steps.{listed}, proofs.WholeWalks.{verb_keys}}
-use Rattle.moo_props.proofs.dropping.verbs_on.Goals as goal
+use Rattle.moo_props.proofs.dropping.verbs_among.Goals as goal
 
 pub loop-key-init : goal.loop-key-init
 loop-key-init g c =

@@ -1,5 +1,5 @@
 use Rattle.moo_props.{proofs.Words.{◌++◌, negsuc, [], ◌∷◌, Some, List, sym, ap, ◌∙◌, append_assoc, append-nil, entries, ObjNo, Maps, object_cmp, entries_past, linked_among}, proofs.WholeWalks.{linked_all, linked-end, linked-step}}
-use Rattle.moo_props.proofs.dropping.linked_to.Goals as goal
+use Rattle.moo_props.proofs.dropping.linked_among.Goals as goal
 
 -- the objects past one whose parent or place is x
 abbrev left : Maps → ObjNo → ObjNo → List ObjNo

@@ -1,5 +1,5 @@
 use Rattle.moo_props.proofs.Words.{◌≡◌, true, length, list_any, ObjNo, is_among, chain, defines_name, world_of}
-use Rattle.moo_props.proofs.finding.find_named.Given as goal
+use Rattle.moo_props.proofs.finding.find_property_named.Given as goal
 
 -- one from here on defines the name just where one of all does, and who is from here on is one of all
 abbrev pub invariant-climb : goal.invariant-climb

@@ -1,6 +1,6 @@
 use Rattle.moo_props.{proofs.Words.{◌≡◌, false, sym, ap, ◌∙◌, arith, length, look_ups, defines_name, world_of}, proofs.NamedOnes.{none_left, some_left, rest_left, above_next, own_held, own_row}}
 use Rattle.moo_world.proofs.Shown.Seen.{chain_of_row}
-use Rattle.moo_props.proofs.finding.find_named.Goals as goal
+use Rattle.moo_props.proofs.finding.find_property_named.Goals as goal
 
 pub returns-in-Some-clause-held : goal.returns-in-Some-clause-held
 returns-in-Some-clause-held g c =
