@@ -1,5 +1,5 @@
 use Rattle.moo_http_response.{proofs.Words.{map, ap, ◌∙◌, string, view, print}, proofs.BodyLemmas.{one_more, view-String}}
-use Rattle.moo_http_response.proofs.bodies.literals.Goals as goal
+use Rattle.moo_http_response.proofs.bodies.literal_entries.Goals as goal
 use Rattle.serde_json.specs.declared.value.Value.TheVariants.{String as a_string}
 
 pub loop-answer-preserved : goal.loop-answer-preserved

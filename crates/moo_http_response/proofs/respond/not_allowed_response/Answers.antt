@@ -1,5 +1,5 @@
 use Rattle.moo_http_response.proofs.Words.{◌≡◌, ◌∙◌, ap, refl, rules, codes}
-use Rattle.moo_http_response.proofs.respond.not_allowed.Goals as goal
+use Rattle.moo_http_response.proofs.respond.not_allowed_response.Goals as goal
 use Rattle.moo_http_response.specs.Bodies.{error_body}
 use Rattle.serde_json.specs.Written.{compact_text}
 use Rattle.std.proofs.Common.{Some}

@@ -1,5 +1,5 @@
 use Rattle.moo_http_response.{proofs.Words.{sym, ◌∙◌, subst, IsUtf8}, proofs.Ascii.{text_utf8}}
-use Rattle.moo_http_response.proofs.look_body.name_in.Goals as goal
+use Rattle.moo_http_response.proofs.look_body.name_text.Goals as goal
 
 pub unwrap-requires : goal.unwrap-requires
 unwrap-requires c =
