@@ -42,8 +42,8 @@ module _ {R W : Type 0}
     pub looked : (new.looked ≡ now) ⊎ (new.looked ≡ old.looked)
 
   -- its request is unfinished, and old enough to be given up if another connection needs its place
-  abbrev pub IsStale : Duration → Slot R W inward incoming reader outward writer → Type 0
-  IsStale now slot = (slot.rests ≡ false) × IsLonger (GRACE * 1_000_000) slot.since now
+  abbrev pub IsEndable : Duration → Slot R W inward incoming reader outward writer → Type 0
+  IsEndable now slot = (slot.rests ≡ false) × IsLonger (GRACE * 1_000_000) slot.since now
 
   -- a request with a mark of which this holds is due, and one that was due stays so
   abbrev pub IsWokenFor : (ℕ → Type 0) → Slot R W inward incoming reader outward writer

@@ -1,5 +1,5 @@
 use Rattle.moo_text.{proofs.Shared.{◌≡◌, length, true, list_all, fits}, proofs.Reading.{GoesOn}}
-use Rattle.moo_text.proofs.call_text.values_before.Given as goal
+use Rattle.moo_text.proofs.call_text.values_at.Given as goal
 
 abbrev pub invariant-loop-values : goal.invariant-loop-values
 invariant-loop-values l = record {

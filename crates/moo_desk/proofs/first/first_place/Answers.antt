@@ -1,6 +1,6 @@
 use Rattle.std.proofs.Common.{sym, subst, arith}
 use Rattle.moo_desk.proofs.Firsts.{first_found, lacks_all, lacks_then}
-use Rattle.moo_desk.proofs.first.first.Goals as goal
+use Rattle.moo_desk.proofs.first.first_place.Goals as goal
 
 pub returns-then-holds-clause-first : goal.returns-then-holds-clause-first
 returns-then-holds-clause-first g c =

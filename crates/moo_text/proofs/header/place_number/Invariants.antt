@@ -1,5 +1,5 @@
 use Rattle.moo_text.proofs.Shared.{◌≡◌, ◌<◌, ◌^◌, drop, list_all, is_digit, value_after}
-use Rattle.moo_text.proofs.header.place_of.Given as goal
+use Rattle.moo_text.proofs.header.place_number.Given as goal
 
 abbrev pub invariant-loop-digit : goal.invariant-loop-digit
 invariant-loop-digit l = record {

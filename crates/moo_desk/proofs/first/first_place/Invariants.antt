@@ -1,6 +1,6 @@
 use Rattle.std.proofs.Common.{length, ◌-◌}
 use Rattle.moo_desk.proofs.Firsts.{LacksSoFar}
-use Rattle.moo_desk.proofs.first.first.Given as goal
+use Rattle.moo_desk.proofs.first.first_place.Given as goal
 
 abbrev pub invariant-loop-place : goal.invariant-loop-place
 invariant-loop-place g l = LacksSoFar (g.Q.Question.asks l.question) l.place l.items

@@ -1,7 +1,7 @@
 use Rattle.std.proofs.Common.{arith, refl, ◌∙◌}
 use Rattle.moo_value.proofs.Printed.{starts, starts_alike, starts_behind}
 use Rattle.moo_text.proofs.Putting.{kept_last}
-use Rattle.moo_text.proofs.reply.put_number.Goals as goal
+use Rattle.moo_text.proofs.reply.put_word_and_number.Goals as goal
 
 pub returns-in_err-digits-clause-kept : goal.returns-in_err-digits-clause-kept
 returns-in_err-digits-clause-kept c = starts_alike _ _ refl

@@ -1,7 +1,7 @@
 use Rattle.std.proofs.Common.{arith}
 use Rattle.moo_desk.specs.Later.{IsLater}
 use Rattle.moo_desk.proofs.Onward.{each_same, each_set, later_same, later_joined}
-use Rattle.moo_desk.proofs.rounds.step_all.Goals as goal
+use Rattle.moo_desk.proofs.rounds.turn_leaving.Goals as goal
 
 pub loop-connection-init : goal.loop-connection-init
 loop-connection-init g c = each_same (IsLater g.W.Write g.W.Outward.peer) (later_same g.W.Write g.W.Outward.peer) _

@@ -1,7 +1,7 @@
 use Rattle.std.specs.Prelude.{◌≡◌, ◌<◌, ◌+◌, ◌-◌, ◌^◌, min, max, drop}
 use Rattle.std.specs.List.{sum_by}
 use Rattle.moo_desk.specs.Choices.{held_of, largest_of}
-use Rattle.moo_desk.proofs.rounds.all_held_bytes.Given as goal
+use Rattle.moo_desk.proofs.rounds.all_unsent_bytes.Given as goal
 
 abbrev pub invariant-loop-connection : goal.invariant-loop-connection
 invariant-loop-connection g l =

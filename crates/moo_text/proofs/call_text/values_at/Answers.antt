@@ -1,5 +1,5 @@
 use Rattle.moo_text.{proofs.Shared.{◌≡◌, ◌++◌, [], ◌∷◌, Some, arith, rules, sym, ap, ◌∙◌, after_mark}, proofs.Reading.{one_read, closed_read, comma_read, front_shorter, mark_shorter, fits_push}, proofs.Giving.{handed_on}}
-use Rattle.moo_text.proofs.call_text.values_before.Goals as goal
+use Rattle.moo_text.proofs.call_text.values_at.Goals as goal
 
 pub returns-then-is_all_blank-clause-ok : goal.returns-then-is_all_blank-clause-ok
 returns-then-is_all_blank-clause-ok c =
