@@ -12,7 +12,7 @@ ghost use Rattle.moo_world.specs.Numbers.{IsSameButSlots};
 ghost use Rattle.moo_calls.specs.Quotas.{has_one_left, quota_given};
 
 use moo_calls_shared::{Fault, Reason, parent_and_owner, rights};
-use moo_props::{make, quota_of, take_quota};
+use moo_props::{make_object, quota_of, take_quota};
 use moo_rows::Rows;
 use moo_tree::{is_nothing, valid};
 use moo_value::{ObjNo, Value};
@@ -124,7 +124,7 @@ pub fn create<R: Rows>(
     let Some(x) = next_object(rows) else {
         return Err(Fault::Full);
     };
-    make(alloc, rows, x, parent, owner_or_self(x, owner))?;
+    make_object(alloc, rows, x, parent, owner_or_self(x, owner))?;
     charge(rows, owner, quota)?;
     Ok(Value::Obj(x))
 }

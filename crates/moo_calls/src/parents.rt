@@ -6,7 +6,7 @@ ghost use Rattle.moo_world.specs.Rows.{IsGood};
 ghost use Rattle.moo_calls_shared.specs.Outcomes.{world_in, Does};
 
 use moo_calls_shared::{Fault, Reason, rights, two_objects};
-use moo_props::{reparent, shares_property_name};
+use moo_props::{reparent, sharing_definer};
 use moo_rows::Rows;
 use moo_tree::{is_under, valid};
 use moo_value::{ObjNo, Value};
@@ -44,7 +44,7 @@ pub fn chparent<R: Rows>(
     if is_under(rows, new, x) {
         return Err(Fault::Moo(Reason::ParentBelow(new)));
     }
-    if let Some(definer) = shares_property_name(alloc, rows, x, new)? {
+    if let Some(definer) = sharing_definer(alloc, rows, x, new)? {
         return Err(Fault::Moo(Reason::NameShared(definer)));
     }
     reparent(alloc, rows, x, new)?;

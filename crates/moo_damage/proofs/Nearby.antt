@@ -1,5 +1,5 @@
 -- What the tests of all rows say of each.
-use Rattle.moo_damage.proofs.Words.{arith, and_parts, or_cases, nat_lt, nat_tests, inl, inr, is_double, share_name, world_of, chain, is_among, folded, same_text, same_text-Decides, ◌≡◌, ◌<◌, Bool, true, false, ◌&&◌, ◌||◌, Some, Ordering, Less, refl, sym, ap, ◌∙◌, not, IsTotalOrder, tied_itself, nat_cmp_is, int_eq, ordering_then, list_any, FinMap, get, entries, get-entries, both_ways, Decides-int_eq, CmpEqualImpliesEq, ObjNo, PropId, PropRow, SlotRow, object_exact, prop_exact, slot_exact, Maps, prop_cmp, slot_cmp, slots_of_left, is_past, object_total, prop_total, slot_total, some_of, any_held, DefinersApart, has_slot, comes_down, lacks_one_of, AreLocal, is_lt}
+use Rattle.moo_damage.proofs.Words.{arith, and_parts, or_cases, nat_lt, nat_tests, inl, inr, is_double, share_name, world_of, chain, is_among, folded, same_text, same_text-Decides, ◌≡◌, ◌<◌, Bool, true, false, ◌&&◌, ◌||◌, Some, Ordering, Less, refl, sym, ap, ◌∙◌, not, IsTotalOrder, tied_itself, nat_cmp_is, int_eq, ordering_then, list_any, FinMap, get, entries, get-entries, both_ways, Decides-int_eq, CmpEqualImpliesEq, ObjNo, PropId, PropRow, SlotRow, object_exact, prop_exact, slot_exact, Maps, prop_cmp, slot_cmp, slots_of_left, is_past, object_total, prop_total, slot_total, some_of, any_held, DefinersApart, has_slot, comes_down, lacks_slot_of, AreLocal, is_lt}
 use Rattle.moo_damage.proofs.Chained.{not_false}
 use Rattle.moo_props.proofs.Walked.{all_held, any_filter}
 use Rattle.std.proofs.lemmas.Bool.{false_from_ne_true, true_from_ne_false}
@@ -47,7 +47,7 @@ module _ (m : Maps) where
   pub local : ((id : PropId) (p : PropRow) → get m.props id ≡ Some p → 0 < id.0)
       → list_any (λ e. not (has_slot m e.1.definer e.0)) (entries m.props) ≡ false
       → list_any (λ e. not (comes_down m e.0)) (entries m.slots) ≡ false
-      → list_any (λ e. lacks_one_of m e.0 e.1.parent) (entries m.objects) ≡ false
+      → list_any (λ e. lacks_slot_of m e.0 e.1.parent) (entries m.objects) ≡ false
       → DefinersApart m
       → AreLocal m
   local ids a b c d = record {
@@ -58,7 +58,7 @@ module _ (m : Maps) where
         let s = some_of (get m.slots (row.parent, id)) u in
         not_false (has_slot m x id)
         (none_walked row.parent (λ e. not (has_slot m x e.0.1)) id s.0 low s.1
-        (none_held _ object_total object_exact m.objects (λ e. lacks_one_of m e.0 e.1.parent) x row e c));
+        (none_held _ object_total object_exact m.objects (λ e. lacks_slot_of m e.0 e.1.parent) x row e c));
     apart = λ i j p q e f u n. d i p e i j p q e f (ids i p e) (ids j q f) (has_own i p e) u n;
   }
     where

@@ -1,5 +1,5 @@
 -- Of good rows the tests of each row and its neighbours find nothing.
-use Rattle.moo_damage.{proofs.Words.{◌≡◌, Bool, true, false, ◌&&◌, Some, Ordering, refl, sym, ap, ◌∙◌, subst, not, is_some, IsTotalOrder, int_eq, list_any, FinMap, get, entries, both_ways, Decides-int_eq, CmpEqualImpliesEq, ObjNo, PropId, SlotRow, object_exact, prop_exact, slot_exact, Maps, slot_cmp, slots_of_left, is_past, object_total, prop_total, slot_total, IsGood, has_slot, comes_down, lacks_one_of, AreLocal}, proofs.Apart.{one_passing}, proofs.Clean.{clean}, proofs.Firsts.{held_entries}, proofs.HeldLocal.{are_local as held_local}}
+use Rattle.moo_damage.{proofs.Words.{◌≡◌, Bool, true, false, ◌&&◌, Some, Ordering, refl, sym, ap, ◌∙◌, subst, not, is_some, IsTotalOrder, int_eq, list_any, FinMap, get, entries, both_ways, Decides-int_eq, CmpEqualImpliesEq, ObjNo, PropId, SlotRow, object_exact, prop_exact, slot_exact, Maps, slot_cmp, slots_of_left, is_past, object_total, prop_total, slot_total, IsGood, has_slot, comes_down, lacks_slot_of, AreLocal}, proofs.Apart.{one_passing}, proofs.Clean.{clean}, proofs.Firsts.{held_entries}, proofs.HeldLocal.{are_local as held_local}}
 use Rattle.moo_props.proofs.Walked.{any_filter}
 use Rattle.std.proofs.lemmas.Bool.{false_from_ne_true}
 
@@ -38,7 +38,7 @@ module _ (m : Maps) (g : IsGood m) where
   pub each_comes_down : list_any (λ e. not (comes_down m e.0)) (entries m.slots) ≡ false
   each_comes_down = any_none slot_total slot_exact m.slots _ (λ key s e. ap not (are_local.from key s e))
 
-  pub none_lacks_one : list_any (λ e. lacks_one_of m e.0 e.1.parent) (entries m.objects) ≡ false
+  pub none_lacks_one : list_any (λ e. lacks_slot_of m e.0 e.1.parent) (entries m.objects) ≡ false
   none_lacks_one =
       any_none object_total object_exact m.objects _
       (λ x row e. walk_none m row.parent (λ e. not (has_slot m x e.0.1))

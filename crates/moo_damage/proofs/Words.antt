@@ -53,7 +53,7 @@ pub use Rattle.moo_damage.specs.Damage.{HasEnd, IsClean, LinksDescend, LinksEnd,
 pub use Rattle.moo_damage.specs.Differences.{AgreeAt, IsFirstDifference, IsFirstUnlike}
 pub use Rattle.moo_damage.specs.First.{IsLeastBad}
 pub use Rattle.moo_damage.specs.Kinds.{AtObject, AtPetition, AtProp, AtSlot, AtVerb, Has, InRows, IsBelow, IsFirstBefore, IsFirstMet, IsLeast, NoneBefore, loop_kind, lost_kind, rank}
-pub use Rattle.moo_damage.specs.Local.{AreLocal, SlotsHold, comes_down, has_slot, lacks_one_of}
+pub use Rattle.moo_damage.specs.Local.{AreLocal, SlotsHold, comes_down, has_slot, lacks_slot_of}
 pub use Rattle.moo_damage.specs.Missing.{IsFirstMissing, Misses}
 pub use Rattle.moo_damage.specs.Noted.{AllEnd, AreEnding, IsFirstLoop}
 pub use Rattle.moo_damage.specs.OwnClear.{has_clear}

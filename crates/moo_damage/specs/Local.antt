@@ -32,8 +32,8 @@ abbrev pub comes_down : Maps → ObjNo × PropId → Bool
 comes_down m key = unwrap_or (option_map (λ row. defines m key.0 key.1 || has_slot m row.parent key.1) (get m.objects key.0)) false
 
 -- y has a slot of a property that x has no slot of
-abbrev pub lacks_one_of : Maps → ObjNo → ObjNo → Bool
-lacks_one_of m x y = list_any (λ e. not (has_slot m x e.0.1)) (slots_of_left y (record { 0 = 0 }) m)
+abbrev pub lacks_slot_of : Maps → ObjNo → ObjNo → Bool
+lacks_slot_of m x y = list_any (λ e. not (has_slot m x e.0.1)) (slots_of_left y (record { 0 = 0 }) m)
 
 -- what holds of each row and its neighbours if the slots are just those that are owed
 pub record AreLocal (m : Maps) : Type 0 where

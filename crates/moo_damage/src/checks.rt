@@ -74,7 +74,7 @@ pub(crate) fn first_past<T: NumberedRow, R: Rows>(rows: &R) -> Option<T::Key>
 pub(crate) fn is_lost<R: Rows>(rows: &R, link: TreeLink, row: &ObjRow) -> bool
     ensures { result ≡ is_lost link (R.held rows.now).maps row.now }
 {
-    let next = link.of(row);
+    let next = link.link_of(row);
     if is_nothing(next) {
         return false;
     }

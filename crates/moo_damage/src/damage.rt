@@ -11,22 +11,22 @@ ghost use Rattle.moo_damage.specs.Plain.{ArePlain};
 
 use crate::checks::{first_clear, first_past, first_strange_verb, first_undefined};
 use crate::kind::{Key, Kind, object_key, petition_key, prop_key, slot_key, verb_key};
-use crate::local::{double_name, missing_slot, slots_hold, strange_slot};
+use crate::local::{double_name, missing_slot, slots_are_owed, strange_slot};
 use crate::plain::{are_plain, looping_object, lost_object, past_object};
 use crate::trees::TreeLink;
 use moo_rows::{PetitionRow, PropRow, Rows, VerbRow};
 use std::alloc::{AllocError, Global};
 
-/// The first row whose number was never given, of objects, properties, verbs and petitions in this order; `None` if each was. `plain` says
+/// The first row whose number was never given, of objects, properties, verbs and petitions in this order; `None` if each was. `are_plain` says
 /// that the objects are known to be right.
-fn wrong_number<R: Rows>(rows: &R, plain: bool) -> Option<(Kind, Key)>
-    // `plain` is true only if each object is right.
-    requires { plain ≡ true → ArePlain (R.held rows.now).maps }
+fn ungiven_number<R: Rows>(rows: &R, are_plain: bool) -> Option<(Kind, Key)>
+    // `are_plain` is true only if each object is right.
+    requires { are_plain ≡ true → ArePlain (R.held rows.now).maps }
     // It is the first damage of the kinds before the fourth: a number that was never given.
     ensures first { IsFirstBefore (InRows (R.held rows.now).maps) 4 result }
     ensures given { IfNone result (NumbersGiven (R.held rows.now).maps) }
 {
-    if let Some(x) = past_object(rows, plain) {
+    if let Some(x) = past_object(rows, are_plain) {
         return Some((Kind::PastHead, object_key(x)));
     }
     if let Some(id) = first_past::<PropRow, R>(rows) {
@@ -47,10 +47,10 @@ fn wrong_link<R: Rows>(
     alloc: Global,
     rows: &R,
     link: TreeLink,
-    plain: bool,
+    are_plain: bool,
 ) -> Result<Option<(Kind, Key)>, AllocError>
-    // `plain` is true only if each object is right.
-    requires plain { plain ≡ true → ArePlain (R.held rows.now).maps }
+    // `are_plain` is true only if each object is right.
+    requires plain { are_plain ≡ true → ArePlain (R.held rows.now).maps }
     requires numbers { NumbersGiven (R.held rows.now).maps }
     // No damage of a kind before that of a link that names no object is met.
     requires before { NoneBefore (InRows (R.held rows.now).maps) (rank (lost_kind link)) }
@@ -59,22 +59,22 @@ fn wrong_link<R: Rows>(
     // If there is none, each chain of these links ends.
     ensures ends { IfOk result (λ o. IfNone o (LinksEnd link (R.held rows.now).maps)) }
 {
-    if let Some(x) = lost_object(rows, link, plain) {
-        return Ok(Some((link.missing_kind(), object_key(x))));
+    if let Some(x) = lost_object(rows, link, are_plain) {
+        return Ok(Some((link.lost_kind(), object_key(x))));
     }
-    match looping_object(alloc, rows, link, plain)? {
-        Some(x) => Ok(Some((link.loops(), object_key(x)))),
+    match looping_object(alloc, rows, link, are_plain)? {
+        Some(x) => Ok(Some((link.loop_kind(), object_key(x)))),
         None => Ok(None),
     }
 }
 
-/// The first property whose definer isn't an object, or else whose name another one has; `None` if there is none. `hold` says that the
+/// The first property whose definer isn't an object, or else whose name another one has; `None` if there is none. `slots_are_owed` says that the
 /// slots are known to be just those that are owed.
-fn wrong_prop<R: Rows>(rows: &R, hold: bool) -> Option<(Kind, Key)>
+fn wrong_property<R: Rows>(rows: &R, slots_are_owed: bool) -> Option<(Kind, Key)>
     // Parents and locations are objects or `#-1`, without loops.
     requires tree { IsTree (world_of (R.held rows.now).maps) }
-    // `hold` is true only if the slots are just those that are owed.
-    requires hold { hold ≡ true → SlotsHold (R.held rows.now).maps }
+    // `slots_are_owed` is true only if the slots are just those that are owed.
+    requires hold { slots_are_owed ≡ true → SlotsHold (R.held rows.now).maps }
     // No damage of the kinds up to that of locations without an end is met.
     requires before { NoneBefore (InRows (R.held rows.now).maps) 8 }
     // It is the first damage of the kinds before the tenth: no definer, or a double name.
@@ -84,29 +84,30 @@ fn wrong_prop<R: Rows>(rows: &R, hold: bool) -> Option<(Kind, Key)>
     if let Some(id) = first_undefined(rows) {
         return Some((Kind::NoDefiner, prop_key(id)));
     }
-    if let Some(id) = double_name(rows, hold) {
+    if let Some(id) = double_name(rows, slots_are_owed) {
         return Some((Kind::DoubleName, prop_key(id)));
     }
     None
 }
 
-/// The first slot that is not owed, else that is missing, else that is clear on its definer, else the first verb of no object; `None` if
-/// there is none. `hold` says that the slots are known to be just those that are owed.
-fn wrong_slot<R: Rows>(rows: &R, hold: bool) -> Option<(Kind, Key)>
+/// The first damage of slots or verbs, with its least key, in this order: a slot that its object isn't owed, a slot that is owed and
+/// missing, a slot that is clear on the definer of its property, a verb of no object. `None` if there is none. If `slots_are_owed`, the
+/// first two aren't looked for: it says that the slots are known to be just those that objects are owed.
+fn wrong_slot_or_verb<R: Rows>(rows: &R, slots_are_owed: bool) -> Option<(Kind, Key)>
     // Parents and locations are objects or `#-1`, without loops.
     requires tree { IsTree (world_of (R.held rows.now).maps) }
-    // `hold` is true only if the slots are just those that are owed.
-    requires hold { hold ≡ true → SlotsHold (R.held rows.now).maps }
+    // `slots_are_owed` is true only if the slots are just those that are owed.
+    requires hold { slots_are_owed ≡ true → SlotsHold (R.held rows.now).maps }
     // No damage of the kinds up to that of a double name is met.
     requires before { NoneBefore (InRows (R.held rows.now).maps) 10 }
-    // It is the first damage of the kinds before the last: of slots, or of verbs.
+    // It is the first damage of the kinds before `Mismatch`: of slots, or of verbs.
     ensures first { IsFirstBefore (InRows (R.held rows.now).maps) 14 result }
     ensures right { IfNone result (SlotsRight (R.held rows.now).maps) }
 {
-    if let Some(key) = strange_slot(rows, hold) {
+    if let Some(key) = strange_slot(rows, slots_are_owed) {
         return Some((Kind::StrangeSlot, slot_key(key)));
     }
-    if let Some(key) = missing_slot(rows, hold) {
+    if let Some(key) = missing_slot(rows, slots_are_owed) {
         return Some((Kind::MissingSlot, slot_key(key)));
     }
     if let Some(key) = first_clear(rows) {
@@ -132,7 +133,7 @@ pub fn damage_of<R: Rows>(alloc: Global, rows: &R) -> Result<Option<(Kind, Key)>
     ensures first { IfOk result (λ o. IfSome o (λ d. IsFirstInRows (R.held rows.now).maps d.0 d.1)) }
 {
     let plain = are_plain(rows);
-    if let Some(damage) = wrong_number(rows, plain) {
+    if let Some(damage) = ungiven_number(rows, plain) {
         return Ok(Some(damage));
     }
     if let Some(damage) = wrong_link(alloc, rows, TreeLink::Parent, plain)? {
@@ -141,9 +142,9 @@ pub fn damage_of<R: Rows>(alloc: Global, rows: &R) -> Result<Option<(Kind, Key)>
     if let Some(damage) = wrong_link(alloc, rows, TreeLink::Location, plain)? {
         return Ok(Some(damage));
     }
-    let hold = slots_hold(alloc, rows)?;
-    if let Some(damage) = wrong_prop(rows, hold) {
+    let are_owed = slots_are_owed(alloc, rows)?;
+    if let Some(damage) = wrong_property(rows, are_owed) {
         return Ok(Some(damage));
     }
-    Ok(wrong_slot(rows, hold))
+    Ok(wrong_slot_or_verb(rows, are_owed))
 }

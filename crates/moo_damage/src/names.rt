@@ -93,7 +93,7 @@ fn seen_apart<R: Rows>(
 
 /// Whether no two properties that an object has slots of have one name, on each object that defines a property. The only error is out of
 /// memory.
-pub(crate) fn names_apart<R: Rows>(alloc: Global, rows: &R) -> Result<bool, AllocError>
+pub(crate) fn are_names_apart<R: Rows>(alloc: Global, rows: &R) -> Result<bool, AllocError>
     ensures apart { IfOk result (λ apart. apart ≡ true → DefinersApart (R.held rows.now).maps) }
     // Of sound rows it says so.
     ensures sound { IsSound (R.held rows.now).maps → IfOk result (λ apart. apart ≡ true) }

@@ -35,43 +35,43 @@ pub(crate) fn are_plain<R: Rows>(rows: &R) -> bool
 }
 
 /// The least object whose number was never given; `None` if there is none. It isn't looked for if the objects are known to be right
-/// (`plain`).
-pub(crate) fn past_object<R: Rows>(rows: &R, plain: bool) -> Option<ObjNo>
-    requires { plain ≡ true → ArePlain (R.held rows.now).maps }
+/// (`are_plain`).
+pub(crate) fn past_object<R: Rows>(rows: &R, are_plain: bool) -> Option<ObjNo>
+    requires { are_plain ≡ true → ArePlain (R.held rows.now).maps }
     ensures { IsLeastPassing (R.held rows.now).maps.objects (λ x _. is_object_past (R.held rows.now).maps.head x) result }
 {
-    if plain {
+    if are_plain {
         return None;
     }
     first_past::<ObjRow, R>(rows)
 }
 
 /// The least object whose link names neither an object nor `#-1`; `None` if there is none. It isn't looked for if the objects are known to
-/// be right (`plain`).
-pub(crate) fn lost_object<R: Rows>(rows: &R, link: TreeLink, plain: bool) -> Option<ObjNo>
-    requires { plain ≡ true → ArePlain (R.held rows.now).maps }
+/// be right (`are_plain`).
+pub(crate) fn lost_object<R: Rows>(rows: &R, link: TreeLink, are_plain: bool) -> Option<ObjNo>
+    requires { are_plain ≡ true → ArePlain (R.held rows.now).maps }
     ensures { IsLeastPassing (R.held rows.now).maps.objects (λ _ row. is_lost link (R.held rows.now).maps row) result }
 {
-    if plain {
+    if are_plain {
         return None;
     }
     first_lost(rows, link)
 }
 
 /// The least object whose chain of links doesn't end; `None` if there is none. It isn't looked for if the objects are known to be right
-/// (`plain`). The only error is out of memory.
+/// (`are_plain`). The only error is out of memory.
 pub(crate) fn looping_object<R: Rows>(
     alloc: Global,
     rows: &R,
     link: TreeLink,
-    plain: bool,
+    are_plain: bool,
 ) -> Result<Option<ObjNo>, AllocError>
     // Each link names an object or `#-1`.
     requires links { LinksHold link (R.held rows.now).maps }
-    requires plain { plain ≡ true → ArePlain (R.held rows.now).maps }
+    requires plain { are_plain ≡ true → ArePlain (R.held rows.now).maps }
     ensures { IfOk result (IsFirstLoop link (R.held rows.now).maps) }
 {
-    if plain {
+    if are_plain {
         return Ok(None);
     }
     first_loop(alloc, rows, link)

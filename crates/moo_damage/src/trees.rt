@@ -25,7 +25,7 @@ pub enum TreeLink {
 
 impl TreeLink {
     /// The object that the row links to, `#-1` for none.
-    pub(crate) fn of(self, row: &ObjRow) -> ObjNo
+    pub(crate) fn link_of(self, row: &ObjRow) -> ObjNo
         ensures { result ≡ link_of self row.now }
     {
         match self {
@@ -35,7 +35,7 @@ impl TreeLink {
     }
 
     /// The kind of damage of a link that names no object.
-    pub(crate) fn missing_kind(self) -> Kind
+    pub(crate) fn lost_kind(self) -> Kind
         ensures { result ≡ lost_kind self }
     {
         match self {
@@ -45,7 +45,7 @@ impl TreeLink {
     }
 
     /// The kind of damage of a chain of links without an end.
-    pub(crate) fn loops(self) -> Kind
+    pub(crate) fn loop_kind(self) -> Kind
         ensures { result ≡ loop_kind self }
     {
         match self {
@@ -59,13 +59,13 @@ impl TreeLink {
 pub(crate) fn goes_down<R: Rows>(rows: &R, link: TreeLink, x: ObjNo, row: &ObjRow) -> bool
     ensures { result ≡ goes_down link (R.held rows.now).maps x row.now }
 {
-    let next = link.of(row);
+    let next = link.link_of(row);
     if is_nothing(next) {
         return true;
     }
     match rows.object(next) {
         None => false,
-        Some(above) => next < x || is_nothing(link.of(above)),
+        Some(above) => next < x || is_nothing(link.link_of(above)),
     }
 }
 
@@ -78,7 +78,7 @@ fn links_descend<R: Rows>(rows: &R, link: TreeLink) -> bool
 
 /// The objects from x up its chain of links to one whose chain is known to end, or to the end; `None` if the chain doesn't end. The only
 /// error is out of memory.
-fn climb<R: Rows>(
+fn unended_chain<R: Rows>(
     alloc: Global,
     rows: &R,
     link: TreeLink,
@@ -111,7 +111,7 @@ fn climb<R: Rows>(
             return Ok(Some(path));
         }
         path.push(at)?;
-        at = link.of(row);
+        at = link.link_of(row);
     }
     match rows.object(at) {
         None => Ok(Some(path)),
@@ -149,7 +149,7 @@ pub fn first_loop<R: Rows>(
     let count = object_count(rows);
     let mut known = BTreeMap::new(alloc);
     for (x, _row) in each_object(rows) {
-        match climb(alloc, rows, link, &known, count, x)? {
+        match unended_chain(alloc, rows, link, &known, count, x)? {
             None => return Ok(Some(x)),
             Some(path) => note_path(&mut known, &path)?,
         }

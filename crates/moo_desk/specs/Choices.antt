@@ -19,7 +19,7 @@ use Rattle.moo_desk.specs.declared.rounds.TheConstants.{BUDGET}
 use Rattle.moo_desk.specs.declared.slot.Slot.{Slot}
 use Rattle.moo_desk.specs.Each.{HoldsOfNone, TurnsFirst}
 use Rattle.moo_desk.specs.Read.{IsLonger}
-use Rattle.moo_desk.specs.Rounds.{IsStale}
+use Rattle.moo_desk.specs.Rounds.{IsEndable}
 use Rattle.moo_desk.specs.Stages.{ended, patience_of, unsent_at}
 
 module _ {R W : Type 0} where
@@ -69,7 +69,7 @@ module _ {R W : Type 0}
 
   -- no connection can be ended to make room: none lingers, and no unfinished request is old enough
   abbrev pub HasNoSpare : Duration → Held R W inward incoming reader outward writer → Type 0
-  HasNoSpare now held = HoldsOfNone IsLingering held.leaving.items × HoldsOfNone (IsStale now) held.slots.items
+  HasNoSpare now held = HoldsOfNone IsLingering held.leaving.items × HoldsOfNone (IsEndable now) held.slots.items
 
   -- one is to be handed out: a request is whole, and not too much of answers is held
   abbrev pub HasWhole : Held R W inward incoming reader outward writer → Type 0
@@ -88,7 +88,7 @@ module _ {R W : Type 0}
   EndsOne now old new =
       (TurnsFirst IsLingering (λ _ it. it.stage ≡ Done) old.leaving.items new.leaving.items × (new.slots ≡ old.slots))
       ⊎ (HoldsOfNone IsLingering old.leaving.items × (new.leaving ≡ old.leaving)
-      × (TurnsFirst (IsStale now) IsCrowdedOut old.slots.items new.slots.items ⊎ (HoldsOfNone (IsStale now) old.slots.items × (new.slots ≡ old.slots))))
+      × (TurnsFirst (IsEndable now) IsCrowdedOut old.slots.items new.slots.items ⊎ (HoldsOfNone (IsEndable now) old.slots.items × (new.slots ≡ old.slots))))
 
   -- If too much of answers is held and a request is whole, the first answer that is stuck is given up, if one is. Else nothing changes.
   abbrev pub Relieves : Duration → Held R W inward incoming reader outward writer → Held R W inward incoming reader outward writer → Type 0

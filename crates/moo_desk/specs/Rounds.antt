@@ -53,8 +53,8 @@ module _ {R W : Type 0}
     pub looked : (new.looked ≡ now) ⊎ (new.looked ≡ old.looked)
 
   -- its request is unfinished, and old enough to be given up if another connection needs its place
-  abbrev pub IsStale : Duration → Slot R W inward incoming reader outward writer → Type 0
-  IsStale now slot = (slot.rests ≡ false) × IsLonger (GRACE * 1_000_000) slot.since now
+  abbrev pub IsEndable : Duration → Slot R W inward incoming reader outward writer → Type 0
+  IsEndable now slot = (slot.rests ≡ false) × IsLonger (GRACE * 1_000_000) slot.since now
 
   -- Nothing changed of a request but, at most, whether the next round looks at it. It does if this holds of the request's mark, and if it
   -- was to be looked at before.

@@ -3,7 +3,7 @@
 ghost use Rattle.std.specs.Prelude.{◌≡◌, ◌<◌, true, false, length, IfSome};
 ghost use Rattle.moo_desk.specs.Choices.{IsLingering, IsReady, IsStuck, IsUnfinished};
 ghost use Rattle.moo_desk.specs.Each.{IsFirstPlace, HoldsOfNone};
-ghost use Rattle.moo_desk.specs.Rounds.{IsStale};
+ghost use Rattle.moo_desk.specs.Rounds.{IsEndable};
 
 use crate::gate::{Inward, Outward};
 use crate::leaving::Leaving;
@@ -23,7 +23,7 @@ pub trait Question<T> {
 }
 
 /// The place of the first item for which the answer to a question is yes. None if no item has that answer.
-pub fn first<T, Q: Question<T>>(items: &[T], question: &Q) -> Option<usize>
+pub fn first_place<T, Q: Question<T>>(items: &[T], question: &Q) -> Option<usize>
     ensures first { IsFirstPlace (Q.asks question.now) items.now result }
     ensures bound { IfSome result (λ place. place < length items.now) }
 {
@@ -38,11 +38,11 @@ pub fn first<T, Q: Question<T>>(items: &[T], question: &Q) -> Option<usize>
 }
 
 /// Whether the answer to a question is yes for one of the items at least.
-pub fn any<T, Q: Question<T>>(items: &[T], question: &Q) -> bool
+pub fn any_item<T, Q: Question<T>>(items: &[T], question: &Q) -> bool
     ensures yes { result ≡ true → ¬ (HoldsOfNone (Q.asks question.now) items.now) }
     ensures no { result ≡ false → HoldsOfNone (Q.asks question.now) items.now }
 {
-    match first(items, question) {
+    match first_place(items, question) {
         Some(_) => true,
         None => false,
     }
@@ -50,15 +50,15 @@ pub fn any<T, Q: Question<T>>(items: &[T], question: &Q) -> bool
 
 /// Is its request unfinished, and may it be given up for another's place?
 #[derive(Clone, Copy, Drop)]
-pub struct Stale {
+pub struct Endable {
     pub now: Duration,
 }
 
-impl<R: Inward, W: Outward> Question<Slot<R, W>> for Stale {
-    ghost asks = { λ it slot. IsStale it.now slot };
+impl<R: Inward, W: Outward> Question<Slot<R, W>> for Endable {
+    ghost asks = { λ it slot. IsEndable it.now slot };
 
     fn holds(&self, slot: &Slot<R, W>) -> bool {
-        slot.is_stale(self.now)
+        slot.is_endable(self.now)
     }
 }
 

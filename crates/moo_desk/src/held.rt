@@ -6,15 +6,15 @@ ghost use Rattle.moo_desk.specs.Deeds.{LetsGo, Goes, HoldsNone, book_of};
 ghost use Rattle.moo_desk.specs.Choices.{CutsAt, EndsOne, HasNoSpare, HasWhole, IsCrowdedOut, IsLingering, IsReady, IsSpared, IsUnfinished, Relieves, count_of};
 ghost use Rattle.moo_desk.specs.Each.{Each, IsFirstPlace, HoldsOfNone, OfFirst, TurnsFirst};
 ghost use Rattle.moo_desk.specs.Exchange.{TakesSlot};
-ghost use Rattle.moo_desk.specs.Rounds.{IsAnswerWokenFor, IsStale, IsTimed, IsWokenFor, ReadsDue, gathered_of};
+ghost use Rattle.moo_desk.specs.Rounds.{IsAnswerWokenFor, IsEndable, IsTimed, IsWokenFor, ReadsDue, gathered_of};
 
-use crate::first::{Lingerer, Ready, Stale, Stuck, Unfinished, any, first};
+use crate::first::{Endable, Lingerer, Ready, Stuck, Unfinished, any_item, first_place};
 use crate::gate::{Inward, Outward};
 use crate::leaving::Leaving;
 use crate::losses::Losses;
 use crate::rounds::{
-    BUDGET, all_held_bytes, gather_all, step_all, wake_all_leaving, wake_all_slots, wake_leaving,
-    wake_slots,
+    BUDGET, all_unsent_bytes, gather_all, turn_leaving, wake_all_leaving, wake_all_slots,
+    wake_leaving, wake_slots,
 };
 use crate::slot::Slot;
 use moo_arrivals::Cause;
@@ -68,17 +68,17 @@ impl<R: Inward + OpenStream + Drop, W: Outward + OpenStream + Drop> Held<R, W> {
 
     /// The place of the oldest unfinished request that may be ended for another's place: it came over 200 milliseconds ago. None if none
     /// may.
-    fn first_stale(&self, now: Duration) -> Option<usize>
-        ensures { IsFirstPlace (IsStale now) self.now.slots.items result }
+    fn first_endable(&self, now: Duration) -> Option<usize>
+        ensures { IsFirstPlace (IsEndable now) self.now.slots.items result }
     {
-        first(&self.slots, &Stale { now })
+        first_place(&self.slots, &Endable { now })
     }
 
     /// The place of the first connection that only waits for its peer's last bytes. None if none does.
     fn first_lingering(&self) -> Option<usize>
         ensures { IsFirstPlace IsLingering self.now.leaving.items result }
     {
-        first(&self.leaving, &Lingerer)
+        first_place(&self.leaving, &Lingerer)
     }
 
     /// Whether a connection can be ended to make room for another.
@@ -86,7 +86,7 @@ impl<R: Inward + OpenStream + Drop, W: Outward + OpenStream + Drop> Held<R, W> {
         ensures yes { result ≡ true → ¬ (HasNoSpare now self.now) }
         ensures no { result ≡ false → HasNoSpare now self.now }
     {
-        any(&self.leaving, &Lingerer) || any(&self.slots, &Stale { now })
+        any_item(&self.leaving, &Lingerer) || any_item(&self.slots, &Endable { now })
     }
 
     /// If more are held than may be, ends the connection that can best be spared, if one can be: one that lingers, or else the oldest
@@ -106,7 +106,7 @@ impl<R: Inward + OpenStream + Drop, W: Outward + OpenStream + Drop> Held<R, W> {
         }
         if let Some(place) = self.first_lingering() {
             self.cut_answer(place);
-        } else if let Some(place) = self.first_stale(now) {
+        } else if let Some(place) = self.first_endable(now) {
             self.cut_request(place, now);
         }
     }
@@ -132,11 +132,11 @@ impl<R: Inward + OpenStream + Drop, W: Outward + OpenStream + Drop> Held<R, W> {
         // When each request came stays, and whether that is too long ago is seen by this time.
         ensures times { Each (IsTimed now) self.old.slots.items self.new.slots.items }
         // At the place of the oldest that may be ended, that one is given up, and the others stay.
-        ensures cuts { IsFirstPlace (IsStale now) self.old.slots.items (Some place) →
-            TurnsFirst (IsStale now) IsCrowdedOut self.old.slots.items self.new.slots.items }
+        ensures cuts { IsFirstPlace (IsEndable now) self.old.slots.items (Some place) →
+            TurnsFirst (IsEndable now) IsCrowdedOut self.old.slots.items self.new.slots.items }
         ensures answers { self.new.leaving ≡ self.old.leaving }
     {
-        if place < self.slots.len() && self.slots[place].is_stale(now) {
+        if place < self.slots.len() && self.slots[place].is_endable(now) {
             self.slots[place].give_up(Cause::Crowded, now);
         }
     }
@@ -147,7 +147,7 @@ impl<R: Inward + OpenStream + Drop, W: Outward + OpenStream + Drop> Held<R, W> {
         // No connection comes, and nothing happens to those that are held but deeds.
         ensures { Goes self.old self.new }
     {
-        let mut changed = step_all(&mut self.leaving, now);
+        let mut changed = turn_leaving(&mut self.leaving, now);
         for _ in 0..=MOST {
             if !self.end_one() {
                 return changed;
@@ -205,7 +205,7 @@ impl<R: Inward + OpenStream + Drop, W: Outward + OpenStream + Drop> Held<R, W> {
         ensures yes { result ≡ true → HasWhole self.now }
         ensures no { result ≡ false → ¬ (HasWhole self.now) }
     {
-        all_held_bytes(&self.leaving) < BUDGET && self.is_any_ready()
+        all_unsent_bytes(&self.leaving) < BUDGET && self.is_any_ready()
     }
 
     /// Whether the request of a connection that is held is whole, or nothing more of it comes.
@@ -213,7 +213,7 @@ impl<R: Inward + OpenStream + Drop, W: Outward + OpenStream + Drop> Held<R, W> {
         ensures yes { result ≡ true → ¬ (HoldsOfNone IsReady self.now.slots.items) }
         ensures no { result ≡ false → HoldsOfNone IsReady self.now.slots.items }
     {
-        any(&self.slots, &Ready)
+        any_item(&self.slots, &Ready)
     }
 
     /// Takes the connection that came first of those whose request is whole, or of which nothing more comes. None if there is none, and
@@ -221,10 +221,10 @@ impl<R: Inward + OpenStream + Drop, W: Outward + OpenStream + Drop> Held<R, W> {
     pub fn next_whole(&mut self) -> Option<Slot<R, W>>
         ensures { TakesSlot (book_of self.old) result (book_of self.new) }
     {
-        if all_held_bytes(&self.leaving) >= BUDGET {
+        if all_unsent_bytes(&self.leaving) >= BUDGET {
             return None;
         }
-        let place = first(&self.slots, &Ready)?;
+        let place = first_place(&self.slots, &Ready)?;
         Some(self.slots.remove(place))
     }
 
@@ -234,7 +234,7 @@ impl<R: Inward + OpenStream + Drop, W: Outward + OpenStream + Drop> Held<R, W> {
         ensures oldest { OfFirst IsUnfinished (IsSpared now result) self.now.slots.items }
         ensures none { HoldsOfNone IsUnfinished self.now.slots.items → result ≡ None }
     {
-        let Some(place) = first(&self.slots, &Unfinished) else {
+        let Some(place) = first_place(&self.slots, &Unfinished) else {
             return None;
         };
         let age = now.saturating_sub(self.slots[place].since);
@@ -289,10 +289,10 @@ impl<R: Inward + OpenStream + Drop, W: Outward + OpenStream + Drop> Held<R, W> {
         // none.
         ensures relieves { Relieves now self.old self.new }
     {
-        if all_held_bytes(&self.leaving) < BUDGET || !self.is_any_ready() {
+        if all_unsent_bytes(&self.leaving) < BUDGET || !self.is_any_ready() {
             return;
         }
-        if let Some(place) = first(&self.leaving, &Stuck { now }) {
+        if let Some(place) = first_place(&self.leaving, &Stuck { now }) {
             self.cut_answer(place);
         }
     }

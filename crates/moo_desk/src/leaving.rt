@@ -315,7 +315,7 @@ impl<R: Inward + OpenStream, W: Outward + OpenStream> Leaving<R, W> {
     }
 
     /// How many bytes of its answer are still to be sent: 0 if it is lost.
-    pub fn held_bytes(&self) -> usize
+    pub fn unsent_bytes(&self) -> usize
         ensures { result ≡ held_of self.now }
     {
         match self.stage {

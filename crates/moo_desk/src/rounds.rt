@@ -52,8 +52,9 @@ fn gathered_bytes<R: Inward, W: Outward>(slots: &[Slot<R, W>]) -> usize
     sum
 }
 
-/// Takes a step for each connection whose request was judged and that is due; whether anything went or came.
-pub fn step_all<R: Inward + OpenStream, W: Outward + OpenStream>(
+/// Lets each connection whose answer is sent, or was sent, take its turn: it sends what its peer takes now, or throws away what the
+/// peer still sends. Those that aren't due are left. Answers whether anything went or came.
+pub fn turn_leaving<R: Inward + OpenStream, W: Outward + OpenStream>(
     leaving: &mut [Leaving<R, W>],
     now: Duration,
 ) -> bool
@@ -68,7 +69,7 @@ pub fn step_all<R: Inward + OpenStream, W: Outward + OpenStream>(
 }
 
 /// How many bytes of answers are still to be sent, beside those of the largest.
-pub fn all_held_bytes<R: Inward + OpenStream, W: Outward + OpenStream>(
+pub fn all_unsent_bytes<R: Inward + OpenStream, W: Outward + OpenStream>(
     leaving: &[Leaving<R, W>],
 ) -> usize
     ensures { result ≡ answers_of leaving.now }
@@ -76,7 +77,7 @@ pub fn all_held_bytes<R: Inward + OpenStream, W: Outward + OpenStream>(
     let mut sum: usize = 0;
     let mut largest = 0;
     for connection in leaving {
-        let bytes = connection.held_bytes();
+        let bytes = connection.unsent_bytes();
         sum = sum.saturating_add(bytes);
         largest = bytes.max(largest);
     }

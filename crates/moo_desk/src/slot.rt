@@ -12,7 +12,7 @@ use crate::gathered::{Coming, Filled, Gathered};
 use crate::held::GRACE;
 use crate::outgoing::Outgoing;
 use moo_arrivals::Cause;
-use moo_http_request::{MAX_HEAD, Routes, Wanted, wants};
+use moo_http_request::{MAX_HEAD, Routes, Wanted, bytes_wanted};
 use std::alloc::Global;
 use std::time::Duration;
 
@@ -73,7 +73,7 @@ fn total_of(routes: &Routes, bytes: &[u8], known: Option<usize>) -> Option<usize
     if known.is_some() || count == 0 || count > MAX_HEAD {
         return known;
     }
-    match wants(routes, bytes) {
+    match bytes_wanted(routes, bytes) {
         Wanted::Total(total) => Some(total),
         Wanted::Head => None,
     }
@@ -96,7 +96,7 @@ fn is_whole(bytes: &[u8], total: Option<usize>) -> bool
 
 impl<R: Inward, W: Outward> Slot<R, W> {
     ghost use Rattle.moo_desk.specs.Later.{IsOnlyWoken};
-    ghost use Rattle.moo_desk.specs.Rounds.{IsStale};
+    ghost use Rattle.moo_desk.specs.Rounds.{IsEndable};
 
     /// A connection that came now, of which nothing was read yet. If its reads may wait, it isn't read here: it is to be handed out at
     /// once.
@@ -193,9 +193,9 @@ impl<R: Inward, W: Outward> Slot<R, W> {
 
     /// Whether its request is unfinished, and came over 200 milliseconds ago, so that it may be given up if another connection needs its
     /// place.
-    pub fn is_stale(&self, now: Duration) -> bool
-        ensures old { result ≡ true → IsStale now self.now }
-        ensures young { result ≡ false → ¬ (IsStale now self.now) }
+    pub fn is_endable(&self, now: Duration) -> bool
+        ensures old { result ≡ true → IsEndable now self.now }
+        ensures young { result ≡ false → ¬ (IsEndable now self.now) }
     {
         !self.rests && now.saturating_sub(self.since) > Duration::from_millis(GRACE)
     }

@@ -15,7 +15,7 @@ use std::net::OpenStream;
 use std::os::fd::RawFd;
 use std::time::Duration;
 
-/// The system's numbers for no more open files, of this program and of all.
+/// The system's errors for no more open files: EMFILE (24) of this program, and ENFILE (23) of all programs.
 const NO_FILES: [i32; 2] = [24, 23];
 
 /// A listener, what is watched, and what is asked of both: each function is one call of the system.
@@ -39,16 +39,16 @@ pub trait Sockets {
     /// What was asked, what came of it, and the sockets before and after that.
     ghost does: { Self → SocketCall Self.Socket Self.Reader Self.Writer → Self → Type 0 };
 
-    /// The system's number of the listener.
-    fn listener_number(&self) -> RawFd
+    /// The file descriptor of the listener.
+    fn listener_descriptor(&self) -> RawFd
         ensures { result ≡ listener self.now };
 
-    /// The system's number of the socket that a reader is of.
-    fn reader_number(&self, reader: &Self::Reader) -> RawFd
+    /// The file descriptor of the socket that a reader reads from.
+    fn reader_descriptor(&self, reader: &Self::Reader) -> RawFd
         ensures { result ≡ Self.Reader.peer reader.now };
 
-    /// The system's number of the socket that a writer is of.
-    fn writer_number(&self, writer: &Self::Writer) -> RawFd
+    /// The file descriptor of the socket that a writer writes to.
+    fn writer_descriptor(&self, writer: &Self::Writer) -> RawFd
         ensures { result ≡ Self.Writer.peer writer.now };
 
     /// Accepts the next connection. An error of the kind WouldBlock if none is there, and another if one can't be accepted.
@@ -64,15 +64,15 @@ pub trait Sockets {
         ensures does { does self.old (splits socket result) self.new }
         ensures pair { IfSome result (λ both. (Self.Reader.peer both.0 ≡ number socket) × (Self.Writer.peer both.1 ≡ number socket)) };
 
-    /// Has a change of this source end a wait, which then tells this mark. An error if the system can't watch it, as if it is registered
-    /// already.
-    fn register(&mut self, source: RawFd, mark: usize, interest: Interest) -> Result<()>
-        ensures { does self.old (registers source mark interest (is_ok result)) self.new };
+    /// Watches a descriptor that isn't watched yet: from then on a wait also ends when it can be read or written, as `interest` says, and tells
+    /// this mark. An error if the system can't watch it, for example since it is watched already.
+    fn register(&mut self, descriptor: RawFd, mark: usize, interest: Interest) -> Result<()>
+        ensures { does self.old (registers descriptor mark interest (is_ok result)) self.new };
 
-    /// Has a change of a source that is registered already end a wait, which then tells this mark in place of its earlier one. An error if
-    /// the system can't watch it, as if it isn't registered.
-    fn reregister(&mut self, source: RawFd, mark: usize, interest: Interest) -> Result<()>
-        ensures { does self.old (reregisters source mark interest (is_ok result)) self.new };
+    /// Watches a descriptor that is watched already, under this mark and with this interest in place of its earlier ones. An error if the
+    /// system can't, for example since it isn't watched yet.
+    fn reregister(&mut self, descriptor: RawFd, mark: usize, interest: Interest) -> Result<()>
+        ensures { does self.old (reregisters descriptor mark interest (is_ok result)) self.new };
 
     /// Waits until a source changes, but no longer than this.
     fn poll(&mut self, events: &mut Events, most: Duration)
@@ -149,7 +149,7 @@ impl<S: Sockets + Drop> SocketGate<S> {
             × Watches S.does (S.listener sockets) NEWS false true sockets gate.sockets) }
     {
         let events = Events::with_capacity(alloc, MOST)?;
-        let listener = sockets.listener_number();
+        let listener = sockets.listener_descriptor();
         sockets.register(listener, NEWS, Interest::READABLE)?;
         Ok(SocketGate {
             alloc,
@@ -172,7 +172,7 @@ impl<S: Sockets> SocketGate<S> {
         ensures asks { result ≡ false → Asks S.does (S.listener self.old.sockets) self.old.has_taken self.old.sockets self.new.sockets }
         ensures same { (self.new.has_taken ≡ self.old.has_taken) × (self.new.gave ≡ self.old.gave) }
     {
-        let listener = self.sockets.listener_number();
+        let listener = self.sockets.listener_descriptor();
         self.has_taken && watch_anew(&mut self.sockets, listener, NEWS, Interest::READABLE)
     }
 }
@@ -215,7 +215,7 @@ impl<S: Sockets + Drop> Gate for SocketGate<S> {
         ensures gave { self.new.gave ≡ self.old.gave }
         ensures watches { Watches S.does (S.Reader.peer reader.now) mark false result self.old.sockets self.new.sockets }
     {
-        let number = self.sockets.reader_number(reader);
+        let number = self.sockets.reader_descriptor(reader);
         self.sockets
             .register(number, mark, Interest::READABLE)
             .is_ok()
@@ -226,7 +226,7 @@ impl<S: Sockets + Drop> Gate for SocketGate<S> {
         ensures watches { WatchesAnew S.does (S.Writer.peer writer.now) mark true result self.old.sockets self.new.sockets }
     {
         let both = Interest::READABLE | Interest::WRITABLE;
-        let number = self.sockets.writer_number(writer);
+        let number = self.sockets.writer_descriptor(writer);
         watch_anew(&mut self.sockets, number, mark, both)
     }
 

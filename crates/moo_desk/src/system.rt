@@ -50,15 +50,15 @@ impl Sockets for SystemSockets {
 
     ghost does = { λ _ _ _. ⊤ };
 
-    fn listener_number(&self) -> RawFd {
+    fn listener_descriptor(&self) -> RawFd {
         self.listener.as_raw_fd()
     }
 
-    fn reader_number(&self, reader: &Half) -> RawFd {
+    fn reader_descriptor(&self, reader: &Half) -> RawFd {
         reader.as_raw_fd()
     }
 
-    fn writer_number(&self, writer: &Half) -> RawFd {
+    fn writer_descriptor(&self, writer: &Half) -> RawFd {
         writer.as_raw_fd()
     }
 
@@ -74,14 +74,14 @@ impl Sockets for SystemSockets {
         Half::both(alloc, socket)
     }
 
-    fn register(&mut self, source: RawFd, mark: usize, interest: Interest) -> Result<()> {
+    fn register(&mut self, descriptor: RawFd, mark: usize, interest: Interest) -> Result<()> {
         let registry = self.poll.registry();
-        registry.register(&mut SourceFd(&source), Token(mark), interest)
+        registry.register(&mut SourceFd(&descriptor), Token(mark), interest)
     }
 
-    fn reregister(&mut self, source: RawFd, mark: usize, interest: Interest) -> Result<()> {
+    fn reregister(&mut self, descriptor: RawFd, mark: usize, interest: Interest) -> Result<()> {
         let registry = self.poll.registry();
-        registry.reregister(&mut SourceFd(&source), Token(mark), interest)
+        registry.reregister(&mut SourceFd(&descriptor), Token(mark), interest)
     }
 
     fn poll(&mut self, events: &mut Events, most: Duration) {

@@ -24,7 +24,7 @@ use crate::plan::Plan;
 use crate::refused::Refused;
 use crate::shape::{Shape, ShapeRead, read_json, shape_in};
 use crate::wrong::{BodyFault, ShapeFault};
-use moo_text::call_in;
+use moo_text::call_of;
 use moo_world::{Batch, Calls};
 use serde_json::Value;
 use std::alloc::{AllocError, Global};
@@ -48,7 +48,7 @@ fn read_calls(alloc: Global, texts: &[&str]) -> Result<CallsRead, AllocError>
     let mut number = 0;
     for text in texts {
         number += 1;
-        match call_in(alloc, text.as_bytes())? {
+        match call_of(alloc, text.as_bytes())? {
             Some(call) => calls.push(call)?,
             None => return Ok(CallsRead::Bad(number)),
         }

@@ -3,7 +3,7 @@
 ghost use Rattle.std.specs.Prelude.{◌≡◌, map, IfOk};
 ghost use Rattle.moo_http_request.specs.Alone.{alone};
 
-use moo_text::call_in;
+use moo_text::call_of;
 use moo_value::ObjNo;
 use moo_world::{Batch, Calls};
 use std::alloc::{AllocError, Global};
@@ -55,7 +55,7 @@ pub struct Each {
 fn read_alone(alloc: Global, programmer: ObjNo, text: &str) -> Result<Option<Batch>, AllocError>
     ensures { IfOk result (λ batch. batch ≡ alone programmer text.now) }
 {
-    let Some(call) = call_in(alloc, text.as_bytes())? else {
+    let Some(call) = call_of(alloc, text.as_bytes())? else {
         return Ok(None);
     };
     let mut calls = Vec::new(alloc);

@@ -33,5 +33,5 @@ pub use question::{Question, Topic};
 pub use refused::Refused;
 pub use request::{Received, read_request};
 pub use routes::{Endpoint, Routes};
-pub use whole::{Wanted, wants};
+pub use whole::{Wanted, bytes_wanted};
 pub use wrong::{BodyFault, ShapeFault};

@@ -1,15 +1,9 @@
 //! Numbers in texts of a request.
 
-ghost use Rattle.std.specs.Prelude.{◌≡◌, ◌<◌, ◌≤◌, ◌^◌, ◌+◌, ◌*◌, ◌-◌, true, false, MatchOption, drop, pos, neg_ℤ, IfSome};
-ghost use Rattle.moo_value.specs.Literal.{is_digit};
+ghost use Rattle.std.specs.Prelude.{◌≡◌, ◌<◌, ◌≤◌, ◌^◌, ◌+◌, ◌*◌, drop, pos, neg_ℤ, IfSome};
 ghost use Rattle.moo_http_request.specs.Numbers.{bounded_of, number_of};
 
-/// The value of a digit, 0 to 9. None if the byte isn't one.
-fn digit_value(byte: u8) -> Option<u64>
-    ensures { MatchOption result (is_digit byte ≡ false) (λ value. (is_digit byte ≡ true) × (value ≡ byte - 48) × (value ≤ 9)) }
-{
-    byte.is_ascii_digit().then(|| u64::from(byte - b'0'))
-}
+use moo_text::digit_value;
 
 /// The number with one more digit at its end. One that is over the limit already stays, so that it can't overflow.
 fn with_digit(number: u64, digit: u64, most: u64) -> u64
@@ -60,7 +54,7 @@ fn to_signed(number: u64) -> i32
 }
 
 /// The number that an optional minus and one or more digits write, -2,147,483,648 to 2,147,483,647. None if a text writes no such number.
-pub(crate) fn number_in(text: &[u8]) -> Option<i32>
+pub(crate) fn number_of(text: &[u8]) -> Option<i32>
     ensures { result ≡ number_of text.now }
 {
     match text {

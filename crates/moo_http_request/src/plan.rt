@@ -29,7 +29,7 @@ pub enum Plan {
 }
 
 /// The path of a target: what is before its first question mark.
-fn path(target: &str) -> &str
+fn path_of(target: &str) -> &str
     ensures { result.now ≡ path_of target.now }
 {
     target.split_once('?').map_or(target, |(path, _)| path)
@@ -60,7 +60,7 @@ pub(crate) fn asks_why(target: &[u8]) -> bool
 }
 
 /// The method of a route: POST if batches or calls are sent to it, GET if it answers a question.
-fn method_for(endpoint: Endpoint) -> Method
+fn method_of(endpoint: Endpoint) -> Method
     ensures { result ≡ method_of endpoint }
 {
     match endpoint {
@@ -176,7 +176,7 @@ fn plan_allowed(
     ensures value { result ≡ allowed_plan endpoint method.now path.now (map (header_bytes bytes.now) lines.now) }
     ensures bound { IsBounded result }
 {
-    let wanted = method_for(endpoint);
+    let wanted = method_of(endpoint);
     if is_method(method, wanted) {
         plan_endpoint(endpoint, path, bytes, lines)
     } else {
@@ -234,7 +234,13 @@ fn plan_path(routes: &Routes, method: &[u8], path: &str, bytes: &[u8], lines: &[
     if is_from_page(bytes, lines) {
         return Plan::Decided(Asked::refuse(Refusal::Forbidden));
     }
-    plan_route(routes.find(path), method, path.as_bytes(), bytes, lines)
+    plan_route(
+        routes.endpoint_of(path),
+        method,
+        path.as_bytes(),
+        bytes,
+        lines,
+    )
 }
 
 /// What a head decides, by its method, its target, and its lines, which are at these places of the bytes.
@@ -253,7 +259,7 @@ pub(crate) fn make_plan(
     ensures bound { IsBounded result }
 {
     match str::from_utf8(target) {
-        Ok(target) => plan_path(routes, method, path(target), bytes, lines),
+        Ok(target) => plan_path(routes, method, path_of(target), bytes, lines),
         Err(_) => unreachable!(),
     }
 }

@@ -4,7 +4,7 @@ ghost use Rattle.std.specs.Prelude.{◌≡◌, drop};
 ghost use Rattle.moo_http_request.specs.Numbers.{number_of};
 ghost use Rattle.moo_http_request.specs.Questions.{all_topics, pattern as pattern_of, question_of};
 
-use crate::numbers::number_in;
+use crate::numbers::number_of;
 use moo_value::ObjNo;
 use std::fmt::{self, Display, Formatter};
 
@@ -41,7 +41,7 @@ const ALL: [Topic; 4] = [Topic::Seq, Topic::Object, Topic::Objects, Topic::Dump]
 fn number_after(path: &[u8], start: usize) -> Option<i32>
     ensures { result ≡ number_of (drop start path.now) }
 {
-    number_in(path.get(start..)?)
+    number_of(path.get(start..)?)
 }
 
 impl Topic {

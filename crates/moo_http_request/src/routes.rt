@@ -73,7 +73,7 @@ impl Routes {
     }
 
     /// The endpoint that a path names. None if it has no route.
-    pub(crate) fn find(&self, path: &str) -> Option<Endpoint>
+    pub(crate) fn endpoint_of(&self, path: &str) -> Option<Endpoint>
         ensures { result ≡ endpoint_of path.now }
     {
         Some(*self.router.at(path).ok()?.value)

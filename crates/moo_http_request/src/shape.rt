@@ -47,7 +47,7 @@ fn call_texts_in<'a>(alloc: Global, items: &'a [Value]) -> Result<Option<Vec<&'a
 }
 
 /// The number under the key `at`, 0 to 9,223,372,036,854,775,807; no number if the key is absent or null. None if it has another value.
-fn at_in(found: Option<&Value>) -> Option<Option<u64>>
+fn stated_at(found: Option<&Value>) -> Option<Option<u64>>
     ensures { result ≡ stated_at (option_map (λ value. view value.now) found.entry) }
 {
     match found {
@@ -124,7 +124,7 @@ pub(crate) fn shape_in(alloc: Global, value: &Value) -> Result<ShapeRead<'_>, Al
     let Some(calls) = call_texts_in(alloc, items)? else {
         return Ok(ShapeRead::Bad(ShapeFault::CallNoText));
     };
-    let Some(at) = at_in(value.get("at")) else {
+    let Some(at) = stated_at(value.get("at")) else {
         return Ok(ShapeRead::Bad(ShapeFault::NoNumber));
     };
     if !are_within_limits(&calls) {

@@ -48,7 +48,7 @@ pub(crate) fn call_text(alloc: Global, call: u32, word: &str) -> Result<String, 
 }
 
 /// The body with a word under `error`, and a sentence that says why under `why`, if that is told.
-pub(crate) fn told_error_text(
+pub(crate) fn error_text_with_why(
     alloc: Global,
     word: &str,
     why: Option<&str>,
@@ -65,7 +65,7 @@ pub(crate) fn told_error_text(
 }
 
 /// The body that tells of one call: its number under `call`, what befell it under `error`, and why under `why`, if that is told.
-pub(crate) fn told_call_text(
+pub(crate) fn call_text_with_why(
     alloc: Global,
     call: u32,
     word: &str,
@@ -113,7 +113,7 @@ pub(crate) fn literal_text(alloc: Global, value: &Literal) -> Result<String, All
 }
 
 /// The entries of an array of JSON: each answer as the text of its literal.
-fn literals(alloc: Global, answers: &[Literal]) -> Result<Vec<Value>, AllocError>
+fn literal_entries(alloc: Global, answers: &[Literal]) -> Result<Vec<Value>, AllocError>
     ensures { IfOk result (λ list. items_view list.items ≡ strings (map print answers.now)) }
 {
     let mut list = Vec::with_capacity(alloc, answers.len())?;
@@ -132,7 +132,7 @@ pub(crate) fn accepted_text(
 ) -> Result<String, AllocError>
     ensures { IfOk result (λ text. string_bytes text ≡ compact_text (accepted_body answers.now seq)) }
 {
-    let list = literals(alloc, answers)?;
+    let list = literal_entries(alloc, answers)?;
     let mut fields = Map::new(alloc);
     put(&mut fields, alloc, "answers", Value::Array(list))?;
     put(&mut fields, alloc, "seq", Value::from(seq))?;

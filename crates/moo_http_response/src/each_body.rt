@@ -17,7 +17,7 @@ use serde_json::{Map, Value, put};
 use std::alloc::{AllocError, Global};
 
 /// The entry of a call that is refused: a word under `error`, and why under `why`, if that is told.
-fn error_in(alloc: Global, word: &str, why: Option<&str>) -> Result<Value, AllocError>
+fn error_entry(alloc: Global, word: &str, why: Option<&str>) -> Result<Value, AllocError>
     ensures { IfOk result (λ value. view value ≡ error_body (option_map (λ w. w.now) why.entry) word.now) }
 {
     let mut fields = error_fields(alloc, word)?;
@@ -30,7 +30,7 @@ fn error_in(alloc: Global, word: &str, why: Option<&str>) -> Result<Value, Alloc
 }
 
 /// The first answer as the text of its literal, or null if there is none.
-fn first_in(alloc: Global, answers: &[Literal]) -> Result<Value, AllocError>
+fn first_answer(alloc: Global, answers: &[Literal]) -> Result<Value, AllocError>
     ensures { IfOk result (λ value. view value ≡ first_answer answers.now) }
 {
     match answers.split_first() {
@@ -40,40 +40,40 @@ fn first_in(alloc: Global, answers: &[Literal]) -> Result<Value, AllocError>
 }
 
 /// The entry of a call that is answered: its answer under `answer`.
-fn answer_in(alloc: Global, answers: &[Literal]) -> Result<Value, AllocError>
+fn answer_entry(alloc: Global, answers: &[Literal]) -> Result<Value, AllocError>
     ensures { IfOk result (λ value. view value ≡ object (member (codes "answer") (first_answer answers.now) no_members)) }
 {
-    let answer = first_in(alloc, answers)?;
+    let answer = first_answer(alloc, answers)?;
     let mut fields = Map::new(alloc);
     put(&mut fields, alloc, "answer", answer)?;
     Ok(Value::Object(fields))
 }
 
 /// The entry of a call by its reply: its answer, or an error and why the call is refused, if that is told.
-fn reply_in(alloc: Global, reply: &Reply, why: Option<&str>) -> Result<Value, AllocError>
+fn reply_entry(alloc: Global, reply: &Reply, why: Option<&str>) -> Result<Value, AllocError>
     ensures { IfOk result (λ value. view value ≡ reply_body (option_map (λ w. w.now) why.entry) reply.now) }
 {
     match reply {
-        Reply::Accepted { seq: _, answers } => answer_in(alloc, answers.items()),
-        Reply::Refused { call: _, code } => error_in(alloc, code.name(), why),
-        Reply::Full { call: _ } => error_in(alloc, "full", why),
-        Reply::Stale { seq: _ } => error_in(alloc, "stale", None),
-        Reply::NoMemory => error_in(alloc, "nomemory", None),
+        Reply::Accepted { seq: _, answers } => answer_entry(alloc, answers.items()),
+        Reply::Refused { call: _, code } => error_entry(alloc, code.name(), why),
+        Reply::Full { call: _ } => error_entry(alloc, "full", why),
+        Reply::Stale { seq: _ } => error_entry(alloc, "stale", None),
+        Reply::NoMemory => error_entry(alloc, "nomemory", None),
     }
 }
 
 /// The entry of a text by its reply, or that of a text that isn't a call.
-fn alone_in(alloc: Global, reply: &Option<Reply>, why: Option<&str>) -> Result<Value, AllocError>
+fn alone_entry(alloc: Global, reply: &Option<Reply>, why: Option<&str>) -> Result<Value, AllocError>
     ensures { IfOk result (λ value. view value ≡ alone_body (option_map (λ w. w.now) why.entry) reply.now) }
 {
     match reply {
-        Some(reply) => reply_in(alloc, reply, why),
-        None => error_in(alloc, "malformed", why),
+        Some(reply) => reply_entry(alloc, reply, why),
+        None => error_entry(alloc, "malformed", why),
     }
 }
 
 /// The entries of all texts, in their order, each with the sentence in its place.
-fn replies_in(
+fn each_entries(
     alloc: Global,
     replies: &[Option<Reply>],
     whys: &[Option<String>],
@@ -82,7 +82,7 @@ fn replies_in(
 {
     let mut list = Vec::with_capacity(alloc, replies.len())?;
     for (i, reply) in replies.iter().enumerate() {
-        list.push(alone_in(alloc, reply, why_of(whys, i))?)?;
+        list.push(alone_entry(alloc, reply, why_of(whys, i))?)?;
     }
     Ok(list)
 }
@@ -97,7 +97,7 @@ pub(crate) fn each_text(
 ) -> Result<String, AllocError>
     ensures { IfOk result (λ text. string_bytes text ≡ compact_text (each_body (whys_shown whys.now) replies.now seq)) }
 {
-    let list = replies_in(alloc, replies.items(), whys)?;
+    let list = each_entries(alloc, replies.items(), whys)?;
     let mut fields = Map::new(alloc);
     put(&mut fields, alloc, "each", Value::Array(list))?;
     put(&mut fields, alloc, "seq", Value::from(seq))?;

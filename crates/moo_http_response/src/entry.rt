@@ -61,7 +61,7 @@ impl Entries {
 
 /// An object as a list has it, or None if no object has the number. The only error is a lack of memory.
 #[tactic(auto, unfolding(moo_world::specs::Rows::world_shown))]
-fn find_entry<R: Rows>(alloc: Global, rows: &R, x: ObjNo) -> Result<Option<Entry>, AllocError>
+fn entry_of<R: Rows>(alloc: Global, rows: &R, x: ObjNo) -> Result<Option<Entry>, AllocError>
     ensures { IfOk result (λ entry. entry ≡ entry_of (world_of (R.held rows.now).maps) x) }
 {
     let Some(row) = rows.object(x) else {
@@ -91,7 +91,7 @@ pub(crate) fn list_object<R: Rows>(
 ) -> Result<(), AllocError>
     ensures { OnOk result (list.new.items ≡ list.old.items ++ filter_map (entry_of (world_of (R.held rows.now).maps)) (x ∷ [])) }
 {
-    if let Some(entry) = find_entry(alloc, rows, x)? {
+    if let Some(entry) = entry_of(alloc, rows, x)? {
         list.push(entry)?;
     }
     Ok(())

@@ -14,25 +14,25 @@ use serde_json::{Map, Value, put};
 use std::alloc::{AllocError, Global};
 
 /// The literal of an object, as `#3`. AllocError if memory runs out, as in each function of this file.
-fn object_in(alloc: Global, x: ObjNo) -> Result<String, AllocError>
+fn object_literal(alloc: Global, x: ObjNo) -> Result<String, AllocError>
     ensures { IfOk result (λ text. string_bytes text ≡ object_text x) }
 {
     literal_text(alloc, &Literal::Obj(x))
 }
 
 /// The entries of an array of JSON: each object as the text of its literal.
-fn objects_in(alloc: Global, objects: &[ObjNo]) -> Result<Vec<Value>, AllocError>
+fn object_literals(alloc: Global, objects: &[ObjNo]) -> Result<Vec<Value>, AllocError>
     ensures { IfOk result (λ list. items_view list.items ≡ strings (map object_text objects.now)) }
 {
     let mut list = Vec::with_capacity(alloc, objects.len())?;
     for x in objects {
-        list.push(Value::String(object_in(alloc, *x)?))?;
+        list.push(Value::String(object_literal(alloc, *x)?))?;
     }
     Ok(list)
 }
 
 /// The name of an object as text.
-fn name_in(alloc: Global, name: &MooStr) -> Result<String, AllocError>
+fn name_text(alloc: Global, name: &MooStr) -> Result<String, AllocError>
     ensures { IfOk result (λ text. string_bytes text ≡ name.now) }
 {
     let bytes = Vec::from_slice(alloc, name.bytes())?;
@@ -48,7 +48,7 @@ fn put_objects(
 ) -> Result<(), AllocError>
     ensures { OnOk result (members_view fields.new.entries ≡ insert key.now (objects_of objects.now) (members_view fields.old.entries)) }
 {
-    let list = objects_in(alloc, objects)?;
+    let list = object_literals(alloc, objects)?;
     put(fields, alloc, key, Value::Array(list))
 }
 
@@ -61,7 +61,7 @@ pub(crate) fn put_object(
 ) -> Result<(), AllocError>
     ensures { OnOk result (members_view fields.new.entries ≡ insert key.now (string (object_text x)) (members_view fields.old.entries)) }
 {
-    let text = object_in(alloc, x)?;
+    let text = object_literal(alloc, x)?;
     put(fields, alloc, key, Value::String(text))
 }
 
@@ -74,7 +74,7 @@ pub(crate) fn put_name(
 ) -> Result<(), AllocError>
     ensures { OnOk result (members_view fields.new.entries ≡ insert key.now (string name.now) (members_view fields.old.entries)) }
 {
-    let text = name_in(alloc, name)?;
+    let text = name_text(alloc, name)?;
     put(fields, alloc, key, Value::String(text))
 }
 

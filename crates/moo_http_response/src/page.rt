@@ -43,7 +43,7 @@ fn next_within<R: Rows>(rows: &R, last: ObjNo, count: u32) -> Option<ObjNo>
 
 /// The objects from a number on, ascending, at most 1,000 of them, and the number of the first that is left out. The only error is a lack
 /// of memory.
-pub(crate) fn list_page<R: Rows>(alloc: Global, rows: &R, from: ObjNo) -> Result<Page, AllocError>
+pub(crate) fn page_of<R: Rows>(alloc: Global, rows: &R, from: ObjNo) -> Result<Page, AllocError>
     // The objects of the rows are a tree of parents.
     requires { IsTree (world_of (R.held rows.now).maps) }
     ensures { IfOk result (λ page. page ≡ page_of (world_of (R.held rows.now).maps) from) }

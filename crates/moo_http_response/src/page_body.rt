@@ -48,7 +48,7 @@ fn put_flags(
 }
 
 /// The entry of an object in the list of a page.
-fn entry_in(alloc: Global, entry: &Entry) -> Result<Value, AllocError>
+fn entry_value(alloc: Global, entry: &Entry) -> Result<Value, AllocError>
     ensures { IfOk result (λ value. view value ≡ entry_body entry.now) }
 {
     let mut fields = Map::new(alloc);
@@ -58,12 +58,12 @@ fn entry_in(alloc: Global, entry: &Entry) -> Result<Value, AllocError>
 }
 
 /// The entries of all objects of a page, in their order.
-fn entries_in(alloc: Global, entries: &[Entry]) -> Result<Vec<Value>, AllocError>
+fn entry_values(alloc: Global, entries: &[Entry]) -> Result<Vec<Value>, AllocError>
     ensures { IfOk result (λ list. items_view list.items ≡ items_of (map entry_body entries.now)) }
 {
     let mut list = Vec::with_capacity(alloc, entries.len())?;
     for entry in entries {
-        list.push(entry_in(alloc, entry)?)?;
+        list.push(entry_value(alloc, entry)?)?;
     }
     Ok(list)
 }
@@ -87,7 +87,7 @@ fn put_next(
 pub(crate) fn page_text(alloc: Global, page: &Page, seq: u64) -> Result<String, AllocError>
     ensures { IfOk result (λ text. string_bytes text ≡ compact_text (page_body page.now seq)) }
 {
-    let list = entries_in(alloc, page.objects.items())?;
+    let list = entry_values(alloc, page.objects.items())?;
     let mut fields = Map::new(alloc);
     put_next(&mut fields, alloc, page.next)?;
     put(&mut fields, alloc, "objects", Value::Array(list))?;

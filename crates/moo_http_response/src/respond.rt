@@ -9,7 +9,9 @@ ghost use Rattle.moo_http_response.specs.HeadWhys.{head_told};
 ghost use Rattle.moo_http_response.specs.Whys.{whys_shown};
 ghost use Rattle.moo_http_response.specs.Shown.{Shows};
 
-use crate::bodies::{accepted_text, error_text, stale_text, told_call_text, told_error_text};
+use crate::bodies::{
+    accepted_text, call_text_with_why, error_text, error_text_with_why, stale_text,
+};
 use crate::each_body::each_text;
 use crate::head_whys::head_told;
 use crate::outcome::RequestOutcome;
@@ -34,7 +36,7 @@ fn method_name(endpoint: Endpoint) -> &'static str
 }
 
 /// The response with this status and this body of JSON, without a line `allow`.
-fn with_body(status: StatusCode, body: String) -> Response
+fn json_response(status: StatusCode, body: String) -> Response
     ensures status { result.status ≡ status }
     ensures allow { result.allow ≡ None }
     ensures kind { result.kind.now ≡ codes "application/json" }
@@ -49,15 +51,15 @@ fn with_body(status: StatusCode, body: String) -> Response
 }
 
 /// The response with this status and a word under `error`. AllocError if memory runs out, as in each function of this file.
-fn error(alloc: Global, status: StatusCode, word: &str) -> Result<Response, AllocError>
+fn error_response(alloc: Global, status: StatusCode, word: &str) -> Result<Response, AllocError>
     ensures { IfOk result (λ r. Shows r (plain status (error_body None word.now))) }
 {
     let body = error_text(alloc, word)?;
-    Ok(with_body(status, body))
+    Ok(json_response(status, body))
 }
 
 /// The response with this status, a word under `error`, and why under `why`, if that is told.
-fn told_error(
+fn error_response_with_why(
     alloc: Global,
     status: StatusCode,
     word: &str,
@@ -65,12 +67,12 @@ fn told_error(
 ) -> Result<Response, AllocError>
     ensures { IfOk result (λ r. Shows r (plain status (error_body (option_map (λ w. w.now) why.entry) word.now))) }
 {
-    let body = told_error_text(alloc, word, why)?;
-    Ok(with_body(status, body))
+    let body = error_text_with_why(alloc, word, why)?;
+    Ok(json_response(status, body))
 }
 
 /// The response with this status that tells of one call: its number, what befell it, and why, if that is told.
-fn call_error(
+fn call_response(
     alloc: Global,
     status: StatusCode,
     call: u32,
@@ -79,8 +81,8 @@ fn call_error(
 ) -> Result<Response, AllocError>
     ensures { IfOk result (λ r. Shows r (plain status (call_body (option_map (λ w. w.now) why.entry) call word.now))) }
 {
-    let body = told_call_text(alloc, call, word, why)?;
-    Ok(with_body(status, body))
+    let body = call_text_with_why(alloc, call, word, why)?;
+    Ok(json_response(status, body))
 }
 
 /// The response to a batch that named another number of accepted batches than the present one: 409.
@@ -88,7 +90,7 @@ fn stale_response(alloc: Global, seq: u64) -> Result<Response, AllocError>
     ensures { IfOk result (λ r. Shows r (plain 409 (stale_body seq))) }
 {
     let body = stale_text(alloc, seq)?;
-    Ok(with_body(StatusCode::CONFLICT, body))
+    Ok(json_response(StatusCode::CONFLICT, body))
 }
 
 /// The response to an accepted batch: 200, with its answers.
@@ -96,7 +98,7 @@ fn accepted_response(alloc: Global, answers: &Answers, seq: u64) -> Result<Respo
     ensures { IfOk result (λ r. Shows r (plain 200 (accepted_body answers.now seq))) }
 {
     let body = accepted_text(alloc, answers.items(), seq)?;
-    Ok(with_body(StatusCode::OK, body))
+    Ok(json_response(StatusCode::OK, body))
 }
 
 /// The response to calls that are asked each alone: 200, with the reply to each.
@@ -109,7 +111,7 @@ fn each_response(
     ensures { IfOk result (λ r. Shows r (plain 200 (each_body (whys_shown whys.now) replies.now seq))) }
 {
     let body = each_text(alloc, replies, seq, whys)?;
-    Ok(with_body(StatusCode::OK, body))
+    Ok(json_response(StatusCode::OK, body))
 }
 
 /// The response to a question, by what it is told: 404 if the object isn't there, else 200.
@@ -128,28 +130,40 @@ fn question_response(alloc: Global, told: Told) -> Result<Response, AllocError>
 }
 
 /// The response to a request whose body has no stated length: 400, and why, if the request asks.
-fn no_length(alloc: Global, asks_why: bool, refusal: Refusal) -> Result<Response, AllocError>
+fn no_length_response(
+    alloc: Global,
+    asks_why: bool,
+    refusal: Refusal,
+) -> Result<Response, AllocError>
     ensures { IfOk result (λ r. Shows r (plain 400 (error_body (head_told asks_why refusal) (codes "bad request")))) }
 {
     let why = head_told(asks_why, refusal);
-    told_error(alloc, StatusCode::BAD_REQUEST, "bad request", why)
+    error_response_with_why(alloc, StatusCode::BAD_REQUEST, "bad request", why)
 }
 
 /// The response to a path that asks nothing: 404, and why, if the request asks.
-fn not_found(alloc: Global, asks_why: bool, refusal: Refusal) -> Result<Response, AllocError>
+fn not_found_response(
+    alloc: Global,
+    asks_why: bool,
+    refusal: Refusal,
+) -> Result<Response, AllocError>
     ensures { IfOk result (λ r. Shows r (plain 404 (error_body (head_told asks_why refusal) (codes "not found")))) }
 {
     let why = head_told(asks_why, refusal);
-    told_error(alloc, StatusCode::NOT_FOUND, "not found", why)
+    error_response_with_why(alloc, StatusCode::NOT_FOUND, "not found", why)
 }
 
 /// The response to a request with another method than its route has: 405, with a line `allow`, and why, if the request asks.
-fn not_allowed(alloc: Global, asks_why: bool, endpoint: Endpoint) -> Result<Response, AllocError>
+fn not_allowed_response(
+    alloc: Global,
+    asks_why: bool,
+    endpoint: Endpoint,
+) -> Result<Response, AllocError>
     ensures { IfOk result (λ r. Shows r (json 405 (Some (method_text (method_of endpoint)))
         (error_body (head_told asks_why (Refusal.NotAllowed endpoint)) (codes "method not allowed")))) }
 {
     let why = head_told(asks_why, Refusal::NotAllowed(endpoint));
-    let body = told_error_text(alloc, "method not allowed", why)?;
+    let body = error_text_with_why(alloc, "method not allowed", why)?;
     Ok(Response {
         status: StatusCode::METHOD_NOT_ALLOWED,
         allow: Some(method_name(endpoint)),
@@ -158,8 +172,9 @@ fn not_allowed(alloc: Global, asks_why: bool, endpoint: Endpoint) -> Result<Resp
     })
 }
 
-/// The response to a request that is refused before the World is asked.
-fn refuse(
+/// The response to a request that is refused before the World is asked. `why` is the sentence about a body, of `BadRequest` and `Malformed`,
+/// if it is told; a refused head has a sentence of its own, told if the request asks why.
+fn refusal_response(
     alloc: Global,
     refusal: Refusal,
     asks_why: bool,
@@ -168,38 +183,43 @@ fn refuse(
     ensures { IfOk result (λ r. Shows r (told_refusal asks_why (option_map (λ w. w.now) why.entry) refusal)) }
 {
     match refusal {
-        Refusal::BadRequest => told_error(alloc, StatusCode::BAD_REQUEST, "bad request", why),
-        Refusal::Forbidden => error(alloc, StatusCode::FORBIDDEN, "forbidden"),
-        Refusal::Coded => no_length(alloc, asks_why, Refusal::Coded),
-        Refusal::NoLength => no_length(alloc, asks_why, Refusal::NoLength),
-        Refusal::NotFound => not_found(alloc, asks_why, Refusal::NotFound),
-        Refusal::NoNumber(topic) => not_found(alloc, asks_why, Refusal::NoNumber(topic)),
-        Refusal::NotAllowed(endpoint) => not_allowed(alloc, asks_why, endpoint),
-        Refusal::TooLarge => error(alloc, StatusCode::PAYLOAD_TOO_LARGE, "too large"),
+        Refusal::BadRequest => error_response_with_why(
+            alloc,
+            StatusCode::BAD_REQUEST,
+            "bad request",
+            why,
+        ),
+        Refusal::Forbidden => error_response(alloc, StatusCode::FORBIDDEN, "forbidden"),
+        Refusal::Coded => no_length_response(alloc, asks_why, Refusal::Coded),
+        Refusal::NoLength => no_length_response(alloc, asks_why, Refusal::NoLength),
+        Refusal::NotFound => not_found_response(alloc, asks_why, Refusal::NotFound),
+        Refusal::NoNumber(topic) => not_found_response(alloc, asks_why, Refusal::NoNumber(topic)),
+        Refusal::NotAllowed(endpoint) => not_allowed_response(alloc, asks_why, endpoint),
+        Refusal::TooLarge => error_response(alloc, StatusCode::PAYLOAD_TOO_LARGE, "too large"),
         Refusal::Malformed(call) => {
-            call_error(alloc, StatusCode::BAD_REQUEST, call, "malformed", why)
+            call_response(alloc, StatusCode::BAD_REQUEST, call, "malformed", why)
         }
     }
 }
 
 /// The response if memory or ticks ran out: 503, and which call spent the ticks, if that is told.
-fn no_memory(alloc: Global, why: Option<&str>) -> Result<Response, AllocError>
+fn no_memory_response(alloc: Global, why: Option<&str>) -> Result<Response, AllocError>
     ensures { IfOk result (λ r. Shows r (told_reply (option_map (λ w. w.now) why.entry) Reply.NoMemory)) }
 {
-    told_error(alloc, StatusCode::SERVICE_UNAVAILABLE, "nomemory", why)
+    error_response_with_why(alloc, StatusCode::SERVICE_UNAVAILABLE, "nomemory", why)
 }
 
 /// The response to a batch, by its reply, and why the batch is refused, if that is told.
-fn reply_to(alloc: Global, reply: &Reply, why: Option<&str>) -> Result<Response, AllocError>
+fn reply_response(alloc: Global, reply: &Reply, why: Option<&str>) -> Result<Response, AllocError>
     ensures { IfOk result (λ r. Shows r (told_reply (option_map (λ w. w.now) why.entry) reply.now)) }
 {
     match reply {
-        Reply::NoMemory => no_memory(alloc, why),
+        Reply::NoMemory => no_memory_response(alloc, why),
         Reply::Stale { seq } => stale_response(alloc, *seq),
         Reply::Refused { call, code } => {
-            call_error(alloc, StatusCode::CONFLICT, *call, code.name(), why)
+            call_response(alloc, StatusCode::CONFLICT, *call, code.name(), why)
         }
-        Reply::Full { call } => call_error(alloc, StatusCode::CONFLICT, *call, "full", why),
+        Reply::Full { call } => call_response(alloc, StatusCode::CONFLICT, *call, "full", why),
         Reply::Accepted { seq, answers } => accepted_response(alloc, answers, *seq),
     }
 }
@@ -215,11 +235,16 @@ pub(crate) fn respond(
     ensures { IfOk result (λ r. Shows r (response_with asks_why (whys_shown whys.now) outcome)) }
 {
     match outcome {
-        RequestOutcome::Refused(refusal) => refuse(alloc, refusal, asks_why, why_of(whys, 0)),
-        RequestOutcome::Closed => error(alloc, StatusCode::SERVICE_UNAVAILABLE, "closed"),
-        RequestOutcome::Fault => error(alloc, StatusCode::SERVICE_UNAVAILABLE, "fault"),
-        RequestOutcome::NoMemory => no_memory(alloc, why_of(whys, 0)),
-        RequestOutcome::Replied(reply) => reply_to(alloc, &reply, why_of(whys, 0)),
+        RequestOutcome::Refused(refusal) => refusal_response(
+            alloc,
+            refusal,
+            asks_why,
+            why_of(whys, 0),
+        ),
+        RequestOutcome::Closed => error_response(alloc, StatusCode::SERVICE_UNAVAILABLE, "closed"),
+        RequestOutcome::Fault => error_response(alloc, StatusCode::SERVICE_UNAVAILABLE, "fault"),
+        RequestOutcome::NoMemory => no_memory_response(alloc, why_of(whys, 0)),
+        RequestOutcome::Replied(reply) => reply_response(alloc, &reply, why_of(whys, 0)),
         RequestOutcome::Each(replies, seq) => each_response(alloc, &replies, seq, whys),
         RequestOutcome::Told(told) => question_response(alloc, told),
     }

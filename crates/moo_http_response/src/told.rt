@@ -10,7 +10,7 @@ ghost use Rattle.moo_http_response.specs.Responses.{told_response};
 
 use crate::bodies::{error_text, number_text};
 use crate::look_body::look_text;
-use crate::page::{Page, list_page};
+use crate::page::{Page, page_of};
 use crate::page_body::page_text;
 use crate::text::Text;
 use http::StatusCode;
@@ -68,7 +68,7 @@ pub fn tell<R: Rows>(alloc: Global, rows: &R, question: Question) -> Result<Told
         Question::Seq => Ok(Told::Seq(rows.head().seq)),
         Question::Object(number) => Ok(told_of_look(look(alloc, rows, number)?)),
         Question::Objects(number) => {
-            Ok(Told::Objects(list_page(alloc, rows, number)?, rows.head().seq))
+            Ok(Told::Objects(page_of(alloc, rows, number)?, rows.head().seq))
         }
         Question::Dump => Ok(Told::Dump(dump_with_room(alloc, rows)?)),
     }

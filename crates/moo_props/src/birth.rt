@@ -9,7 +9,7 @@ ghost use Rattle.moo_world.specs.World.{is_object, read_of};
 ghost use Rattle.moo_props.specs.Birth.{with_new_row};
 ghost use Rattle.moo_world.specs.Keeps.{Keeps};
 
-use crate::slots::{origins_on, put_fresh};
+use crate::slots::{origins_among, put_fresh};
 use moo_rows::{ObjRow, Rows};
 use moo_value::ObjNo;
 use std::alloc::{AllocError, Global};
@@ -37,7 +37,7 @@ fn put_new<R: Rows>(
 /// clear, has the bits of the parent's slot, and as owner its own if the bit c is set, else the owner of that slot.
 ///
 /// The only error is out of memory, after which the rows may be half changed.
-pub fn make<R: Rows>(
+pub fn make_object<R: Rows>(
     alloc: Global,
     rows: &mut R,
     x: ObjNo,
@@ -57,7 +57,7 @@ pub fn make<R: Rows>(
     ensures reads { OnOk result ((o : ObjNo) (n : Name) → is_object (world_of (R.held rows.old).maps) o ≡ true →
         read_of (world_of (R.held rows.new).maps) o n ≡ read_of (world_of (R.held rows.old).maps) o n) }
 {
-    let inherited = origins_on(alloc, rows, parent)?;
+    let inherited = origins_among(alloc, rows, parent)?;
     put_new(alloc, rows, x, parent, owner)?;
     put_fresh(rows, x, owner, inherited.as_slice())?;
     Ok(())

@@ -15,7 +15,7 @@ ghost use Rattle.moo_props.specs.Descent.{from_here};
 ghost use Rattle.moo_props.specs.Hashed.{HoldsNames, hashed_cmp};
 
 use crate::descent::{next_under, subtree_top};
-use crate::finding::{own_named, slot_of};
+use crate::finding::{find_own_property, slot_of};
 use crate::name_hashes::{has_name, names_of};
 use moo_rows::{PropId, Rows, each_defined, go_on, name_hash};
 use moo_value::{MooStr, ObjNo};
@@ -23,12 +23,12 @@ use std::alloc::{AllocError, Global};
 use std::collections::BTreeMap;
 
 /// Whether y itself defines a property of the name, whose hash is given. Names compare without ASCII case.
-fn defines_named<R: Rows>(rows: &R, y: ObjNo, name: &MooStr, hash: u64) -> bool
+fn defines_name<R: Rows>(rows: &R, y: ObjNo, name: &MooStr, hash: u64) -> bool
     requires sound { IsSound (R.held rows.now).maps }
     requires hash { hash ≡ name_hash name.now }
     ensures { result ≡ defines_name (world_of (R.held rows.now).maps) y name.now }
 {
-    own_named(rows, y, name.bytes(), hash).is_some()
+    find_own_property(rows, y, name.bytes(), hash).is_some()
 }
 
 /// The first of x and its descendants, each before its children, that itself defines a property of the name; `None` if none does.
@@ -39,7 +39,7 @@ fn first_to_define_under<R: Rows>(rows: &R, x: ObjNo, name: &MooStr) -> Option<O
     let hash = name_hash(name.bytes());
     let mut at = subtree_top(rows, x);
     while let Some(y) = at {
-        if defines_named(rows, y, name, hash) {
+        if defines_name(rows, y, name, hash) {
             return Some(y);
         }
         at = next_under(rows, x, y);
@@ -115,7 +115,7 @@ fn first_definer<R: Rows>(rows: &R, x: ObjNo) -> Result<Option<ObjNo>, AllocErro
 /// is looked up among the keys: (m + p + q) log n steps for m objects under x that define p properties, q of new, and n rows in the world.
 ///
 /// LambdaMOO Programmer's Manual, 'Fundamental Operations on Objects': `chparent`.
-pub fn shares_property_name<R: Rows>(
+pub fn sharing_definer<R: Rows>(
     alloc: Global,
     rows: &R,
     x: ObjNo,

@@ -87,7 +87,11 @@ pub struct Dropped {
 }
 
 /// The properties of which x has a slot, ascending. An `Err` is a lack of memory.
-fn ids_on<R: Rows>(alloc: Global, rows: &R, x: ObjNo) -> Result<Vec<PropId>, AllocError>
+fn property_ids_with_slot<R: Rows>(
+    alloc: Global,
+    rows: &R,
+    x: ObjNo,
+) -> Result<Vec<PropId>, AllocError>
     // They are those of all its slots, since no property has the number 0.
     ensures { IfOk result (λ v. v.items ≡ ids_among (slots_of_left x (record { 0 = 0 }) (R.held rows.now).maps)) }
 {
@@ -100,7 +104,11 @@ fn ids_on<R: Rows>(alloc: Global, rows: &R, x: ObjNo) -> Result<Vec<PropId>, All
 }
 
 /// The properties that x itself defines, ascending. An `Err` is a lack of memory.
-fn props_on<R: Rows>(alloc: Global, rows: &R, x: ObjNo) -> Result<Vec<PropId>, AllocError>
+fn properties_defined_by<R: Rows>(
+    alloc: Global,
+    rows: &R,
+    x: ObjNo,
+) -> Result<Vec<PropId>, AllocError>
     requires { IsGood (R.held rows.now).maps }
     ensures { IfOk result (λ v. v.items ≡ props_of (x ∷ []) (R.held rows.now).maps.props) }
 {
@@ -113,7 +121,11 @@ fn props_on<R: Rows>(alloc: Global, rows: &R, x: ObjNo) -> Result<Vec<PropId>, A
 }
 
 /// The keys of the verbs of x, ascending. An `Err` is a lack of memory.
-fn verbs_on<R: Rows>(alloc: Global, rows: &R, x: ObjNo) -> Result<Vec<(ObjNo, VerbId)>, AllocError>
+fn verbs_among<R: Rows>(
+    alloc: Global,
+    rows: &R,
+    x: ObjNo,
+) -> Result<Vec<(ObjNo, VerbId)>, AllocError>
     requires { IsGood (R.held rows.now).maps }
     ensures { IfOk result (λ v. v.items ≡ verbs_among x (entries (R.held rows.now).maps.verbs)) }
 {
@@ -136,7 +148,7 @@ fn next_linked_to<R: Rows>(rows: &R, x: ObjNo, last: ObjNo) -> Option<ObjNo>
 }
 
 /// The objects whose parent or place is x, ascending. An `Err` is a lack of memory.
-fn linked_to<R: Rows>(alloc: Global, rows: &R, x: ObjNo) -> Result<Vec<ObjNo>, AllocError>
+fn linked_among<R: Rows>(alloc: Global, rows: &R, x: ObjNo) -> Result<Vec<ObjNo>, AllocError>
     requires { IsGood (R.held rows.now).maps }
     ensures { IfOk result (λ v. v.items ≡ linked_among x (entries (R.held rows.now).maps.objects)) }
 {
@@ -152,7 +164,7 @@ fn linked_to<R: Rows>(alloc: Global, rows: &R, x: ObjNo) -> Result<Vec<ObjNo>, A
 
 /// Removes all slots of x, and from each object under it the slots of `own`, the properties that x defines. Answers the keys of the slots
 /// that went. An `Err` is a lack of memory.
-fn drop_under<R: Rows>(
+fn drop_slots_under<R: Rows>(
     alloc: Global,
     rows: &mut R,
     x: ObjNo,
@@ -167,7 +179,7 @@ fn drop_under<R: Rows>(
         ≡ keys_by (ids_for x (ids_among (slots_of_left x (record { 0 = 0 }) old)) own.now) (owners_under old x)) }
 {
     let under = owners_under(alloc, rows, x)?;
-    let all = ids_on(alloc, rows, x)?;
+    let all = property_ids_with_slot(alloc, rows, x)?;
     exchange_slots(rows, under.as_slice(), x, all.as_slice(), own, &[])?;
     let removed = keys_by(alloc, under.as_slice(), x, all.as_slice(), own)?;
     Ok(removed)
@@ -205,7 +217,7 @@ fn redirect(x: ObjNo, link: ObjNo, to: ObjNo) -> ObjNo
 
 /// Puts the row of y without x in it: if its parent was x, it gets the other parent, and if its place was x, it is nowhere. Nothing happens
 /// if y isn't an object. An `Err` is a lack of memory.
-fn release<R: Rows>(
+fn unlink<R: Rows>(
     alloc: Global,
     rows: &mut R,
     x: ObjNo,
@@ -226,7 +238,7 @@ fn release<R: Rows>(
 }
 
 /// Releases each of these objects from x, its parent or place, as `release` does. An `Err` is a lack of memory.
-fn release_all<R: Rows>(
+fn unlink_all<R: Rows>(
     alloc: Global,
     rows: &mut R,
     x: ObjNo,
@@ -238,7 +250,7 @@ fn release_all<R: Rows>(
 {
     for y in objects {
         go_on(rows)?;
-        release(alloc, rows, x, parent, *y)?;
+        unlink(alloc, rows, x, parent, *y)?;
     }
     Ok(())
 }
@@ -260,7 +272,7 @@ fn drop_rows<R: Rows>(
 {
     remove_props(rows, own)?;
     remove_verbs(rows, verbs)?;
-    release_all(alloc, rows, x, parent, relinked)?;
+    unlink_all(alloc, rows, x, parent, relinked)?;
     rows.remove_object(x)
 }
 
@@ -287,10 +299,10 @@ pub fn drop_object<R: Rows>(alloc: Global, rows: &mut R, x: ObjNo) -> Result<Dro
         None => unreachable!(),
         Some(row) => row.parent,
     };
-    let own = props_on(alloc, rows, x)?;
-    let verbs = verbs_on(alloc, rows, x)?;
-    let relinked = linked_to(alloc, rows, x)?;
-    let removed = drop_under(alloc, rows, x, own.as_slice())?;
+    let own = properties_defined_by(alloc, rows, x)?;
+    let verbs = verbs_among(alloc, rows, x)?;
+    let relinked = linked_among(alloc, rows, x)?;
+    let removed = drop_slots_under(alloc, rows, x, own.as_slice())?;
     drop_rows(
         alloc,
         rows,

@@ -22,7 +22,12 @@ pub struct FoundSlot<'a> {
 
 /// The property of a name, whose hash is given, that y itself defines; `None` if it defines none. Names compare without ASCII case. Takes
 /// no memory.
-pub(crate) fn own_named<R: Rows>(rows: &R, y: ObjNo, name: &[u8], hash: u64) -> Option<PropId>
+pub(crate) fn find_own_property<R: Rows>(
+    rows: &R,
+    y: ObjNo,
+    name: &[u8],
+    hash: u64,
+) -> Option<PropId>
     requires sound { IsSound (R.held rows.now).maps }
     requires hash { hash ≡ name_hash name.now }
     // y defines it.
@@ -37,7 +42,7 @@ pub(crate) fn own_named<R: Rows>(rows: &R, y: ObjNo, name: &[u8], hash: u64) -> 
 
 /// The property of a name that x has, or `None`. Names compare without ASCII case. It climbs from x to the one that defines it, and to the root if none does: a look-up of the name
 /// for each object on the way, however many properties they define, and one of its row only if the climb goes on.
-pub(crate) fn find_named<R: Rows>(rows: &R, x: ObjNo, name: &[u8]) -> Option<PropId>
+pub(crate) fn find_property_named<R: Rows>(rows: &R, x: ObjNo, name: &[u8]) -> Option<PropId>
     requires { IsGood (R.held rows.now).maps }
     // x has a slot of it.
     ensures held { IfSome result (λ id. is_some (get (R.held rows.now).maps.slots (x, id)) ≡ true) }
@@ -49,7 +54,7 @@ pub(crate) fn find_named<R: Rows>(rows: &R, x: ObjNo, name: &[u8]) -> Option<Pro
     let hash = name_hash(name);
     let mut at = x;
     'climb: loop {
-        if let Some(id) = own_named(rows, at, name, hash) {
+        if let Some(id) = find_own_property(rows, at, name, hash) {
             return Some(id);
         }
         at = match rows.object(at) {
@@ -70,7 +75,7 @@ pub fn find<R: Rows>(rows: &R, x: ObjNo, name: &MooStr) -> Option<PropId>
     // There is an answer exactly if x has a property of the name.
     ensures exact { is_some result ≡ is_some (slot_of (world_of (R.held rows.now).maps) x (folded name.now)) }
 {
-    find_named(rows, x, name.bytes())
+    find_property_named(rows, x, name.bytes())
 }
 
 /// The slot on x of the property of a name, with the number and the definer of the property; `None` if x has no such property. Names

@@ -10,7 +10,7 @@ ghost use Rattle.moo_world.specs.Numbers.{IsSameButSlots};
 ghost use Rattle.moo_props.specs.Names.{name_of};
 ghost use Rattle.moo_props.specs.Quotas.{HasRoom};
 
-use crate::finding::find_named;
+use crate::finding::find_property_named;
 use crate::state::put_state;
 use crate::value::value_of;
 use moo_rows::{PropId, Rows, SlotState};
@@ -27,7 +27,7 @@ fn quota_here<R: Rows>(rows: &R, o: ObjNo) -> Option<(PropId, i64)>
     // The name of the property is `ownership_quota`, ASCII case aside.
     ensures named { IfSome result (λ p. name_of (R.held rows.now).maps p.0 ≡ quota_name) }
 {
-    let id = match find_named(rows, o, b"ownership_quota") {
+    let id = match find_property_named(rows, o, b"ownership_quota") {
         None => return None,
         Some(id) => id,
     };

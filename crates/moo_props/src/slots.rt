@@ -45,7 +45,7 @@ pub struct Origin {
 impl Origin {
     /// The clear slot that is made from it on an object of this owner. Its owner is that of the object if the bit c is set, else that of
     /// the origin.
-    pub(crate) fn fresh(&self, owner: ObjNo) -> SlotRow
+    pub(crate) fn fresh_slot(&self, owner: ObjNo) -> SlotRow
         ensures { result ≡ fresh_of owner self.now }
     {
         SlotRow {
@@ -57,7 +57,7 @@ impl Origin {
 }
 
 /// An origin for each property that q has, with the owner and the bits of its slot there, ascending. An `Err` is a lack of memory.
-pub(crate) fn origins_on<R: Rows>(
+pub(crate) fn origins_among<R: Rows>(
     alloc: Global,
     rows: &R,
     q: ObjNo,
@@ -122,7 +122,7 @@ pub(crate) fn put_fresh<R: Rows>(
 {
     for origin in origins {
         go_on(rows)?;
-        rows.put_slot((y, origin.id), origin.fresh(owner))?;
+        rows.put_slot((y, origin.id), origin.fresh_slot(owner))?;
     }
     Ok(())
 }

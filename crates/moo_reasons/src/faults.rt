@@ -4,7 +4,7 @@ use crate::built_ins::is_built_in;
 use crate::names::nearest_name;
 use crate::said::{LONG_LINE, Said};
 use crate::values::{put_missing, put_value_reason};
-use moo_text::{LineFault, call_in, call_on_line, is_end_line, read_header};
+use moo_text::{LineFault, call_of, call_or_fault, is_end_line, read_header};
 use moo_value::{skip_blanks, split_word};
 use std::alloc::AllocError;
 
@@ -32,7 +32,7 @@ fn put_no_batch(said: &mut Said, line: &[u8]) -> Result<(), AllocError> {
     if is_end_line(line) {
         return said.put(b"`end` outside a batch");
     }
-    if call_in(said.alloc, line)?.is_some() {
+    if call_of(said.alloc, line)?.is_some() {
         said.put(b"a call outside a batch: ")?;
     }
     said.put(FORM)
@@ -124,7 +124,7 @@ pub(crate) fn put_header_reason(said: &mut Said, line: &[u8]) -> Result<(), Allo
 
 /// Says why a line isn't a call of a batch, or that it is a call too many. AllocError: memory ran out.
 pub(crate) fn put_call_reason(said: &mut Said, line: &[u8]) -> Result<(), AllocError> {
-    match call_on_line(said.alloc, line) {
+    match call_or_fault(said.alloc, line) {
         Ok(_) => said.put(b"a batch has at most 1000 calls"),
         Err(fault) => put_fault(said, line, fault),
     }

@@ -61,7 +61,7 @@ pub(crate) fn object_at(given: Given<'_>, position: Position) -> Option<ObjNo> {
 }
 
 /// Whether an object is the first value of a call.
-pub(crate) fn is_first(given: Given<'_>, object: ObjNo) -> bool {
+pub(crate) fn is_first_value(given: Given<'_>, object: ObjNo) -> bool {
     object_at(given, FIRST) == Some(object)
 }
 
@@ -74,7 +74,7 @@ pub(crate) fn text_at<'a>(given: Given<'a>, position: Position) -> Option<&'a Mo
 }
 
 /// The built-in property that the second value of a call names; `None` if it names none.
-pub(crate) fn built_in_at(given: Given<'_>) -> Option<BuiltIn> {
+pub(crate) fn second_built_in(given: Given<'_>) -> Option<BuiltIn> {
     BuiltIn::of_name(text_at(given, SECOND)?)
 }
 

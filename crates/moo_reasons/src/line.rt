@@ -14,7 +14,7 @@ const LONGEST: usize = 1000;
 const FRONT: usize = 998;
 
 /// The text of what is said; of a text over 1,000 bytes the first 998 and two dots. AllocError: memory ran out.
-pub(crate) fn line_of(mut said: Said) -> Result<String, AllocError>
+pub(crate) fn shortened_text(mut said: Said) -> Result<String, AllocError>
     ensures { IfOk result IsShort }
 {
     said.shorten(LONGEST, FRONT)?;
@@ -34,7 +34,7 @@ impl Why {
     pub(crate) fn new(refusal: Refusal, said: Said) -> Result<Why, AllocError>
         ensures { IfOk result (λ why. why.refusal ≡ refusal) }
     {
-        let text = line_of(said)?;
+        let text = shortened_text(said)?;
         Ok(Why { refusal, text })
     }
 

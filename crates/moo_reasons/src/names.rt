@@ -33,7 +33,7 @@ fn distance(word: &[u8], name: &[u8]) -> usize {
 
 /// How many bytes differ between a word and a name that it may have meant: at most two, and fewer than half of the word's. `None` if more
 /// differ.
-pub(crate) fn near(word: &[u8], name: &[u8]) -> Option<usize> {
+pub(crate) fn near_distance(word: &[u8], name: &[u8]) -> Option<usize> {
     let changed = distance(word, name);
     if changed <= MOST_CHANGED && changed.saturating_mul(2) < word.len() {
         Some(changed)

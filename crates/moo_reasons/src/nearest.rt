@@ -1,7 +1,7 @@
 //! Saying which property a call may have meant.
 
 use crate::given::{Given, SECOND, text_at};
-use crate::names::near;
+use crate::names::near_distance;
 use crate::said::Said;
 use moo_disclosure::Disclosure;
 use moo_value::MooStr;
@@ -13,7 +13,7 @@ fn nearest<'a>(word: &MooStr, names: &'a [MooStr]) -> Option<&'a MooStr> {
     let mut found = None;
     let mut least = word.bytes().len();
     for name in names {
-        let changed = near(word.bytes(), name.bytes()).unwrap_or(usize::MAX);
+        let changed = near_distance(word.bytes(), name.bytes()).unwrap_or(usize::MAX);
         if changed < least {
             found = Some(name);
             least = changed;

@@ -45,8 +45,9 @@ fn calls_granted<'a>(
     }
 }
 
-/// The value at a place, from 0, of the petition that a `grant` of a batch names; `None` if the petition or the place isn't known.
-pub(crate) fn held_value<'a>(
+/// The list that stands for a call at a place, from 0, of the petition that a `grant` of a batch names. `None` if the petition isn't
+/// disclosed and isn't of this batch, or if it has fewer calls.
+pub(crate) fn petitioned_value<'a>(
     batch: &'a Batch,
     grant: Given<'_>,
     facts: &Facts<'a>,
@@ -58,7 +59,7 @@ pub(crate) fn held_value<'a>(
 }
 
 /// The call that a value in a petition is, its name and its values; `None` if it isn't a call on the world.
-fn call_of<'a>(held: Option<&'a Value>) -> Option<(CallName, &'a [Value])> {
+fn petitioned_call<'a>(held: Option<&'a Value>) -> Option<(CallName, &'a [Value])> {
     held_call(held?)
 }
 
@@ -69,14 +70,14 @@ fn put_petition(said: &mut Said, grant: Given<'_>) -> Result<(), AllocError> {
 }
 
 /// Says after a comma which call of a petition fails, and why. AllocError: memory ran out.
-pub(crate) fn tell_held(
+pub(crate) fn tell_petitioned(
     said: &mut Said,
     grant: Given<'_>,
     held: Option<&Value>,
     reason: Reason,
     disclosed: &Disclosure,
 ) -> Result<(), AllocError> {
-    let Some((name, values)) = call_of(held) else {
+    let Some((name, values)) = petitioned_call(held) else {
         said.put(b", a call")?;
         put_petition(said, grant)?;
         return said.put(b" names no call on the world");

@@ -2,7 +2,7 @@
 
 use crate::given::given_by;
 use crate::nearest::tell_nearest;
-use crate::petitions::{held_value, tell_held};
+use crate::petitions::{petitioned_value, tell_petitioned};
 use crate::said::Said;
 use crate::telling::tell;
 use moo_batch::{Facts, Refusal};
@@ -32,8 +32,8 @@ fn put_sentence(
             tell_nearest(said, given, &facts.names)
         }
         Some(place) => {
-            let held = held_value(batch, given, facts, place);
-            tell_held(said, given, held, refusal.reason, &facts.names)
+            let held = petitioned_value(batch, given, facts, place);
+            tell_petitioned(said, given, held, refusal.reason, &facts.names)
         }
     }
 }

@@ -2,7 +2,8 @@
 
 use crate::forms::form_of;
 use crate::given::{
-    FIRST, Given, NEW_NAME, Position, SECOND, THIRD, built_in_at, is_first, list_at, value_at,
+    FIRST, Given, NEW_NAME, Position, SECOND, THIRD, is_first_value, list_at, second_built_in,
+    value_at,
 };
 use crate::lists::{first_unasked, first_unfit};
 use crate::said::Said;
@@ -21,13 +22,13 @@ fn about_object(object: ObjNo, words: &'static str) -> Option<Sentence> {
 }
 
 /// A sentence in which `$` stands for a value of the call, or that has no `$`.
-fn plain(words: &'static str) -> Option<Sentence> {
+fn about_value(words: &'static str) -> Option<Sentence> {
     Some((None, words))
 }
 
 /// Who may set the built-in property that the call names, or that a wizard alone may make the call.
 fn wizard_words(given: Given<'_>) -> &'static str {
-    match (given.name, built_in_at(given)) {
+    match (given.name, second_built_in(given)) {
         (CallName::Set, Some(BuiltIn::Owner)) => "only a wizard may set owner",
         (CallName::Set, Some(BuiltIn::Programmer)) => "only a wizard may set programmer",
         (CallName::Set, Some(BuiltIn::Wizard)) => "only a wizard may set wizard",
@@ -38,8 +39,8 @@ fn wizard_words(given: Given<'_>) -> &'static str {
 /// What is said of a reason about objects, quotas or rights on objects; `None` for another reason.
 fn of_objects(given: Given<'_>, reason: Reason) -> Option<Sentence> {
     match reason {
-        Reason::NoProgrammer => plain("the programmer @ isn't an object"),
-        Reason::NoWizard => plain(wizard_words(given)),
+        Reason::NoProgrammer => about_value("the programmer @ isn't an object"),
+        Reason::NoWizard => about_value(wizard_words(given)),
         Reason::NoObject(x) | Reason::NoTarget(x) => about_object(x, "$ isn't an object"),
         Reason::NoPlace(x) | Reason::NoParent(x) => about_object(
             x,
@@ -59,10 +60,14 @@ fn of_objects(given: Given<'_>, reason: Reason) -> Option<Sentence> {
             x,
             "w of $ is 0, and @ neither owns it nor is a wizard",
         ),
-        Reason::ParentBelow(x) if is_first(given, x) => plain("% can't be its own parent"),
+        Reason::ParentBelow(x) if is_first_value(given, x) => about_value(
+            "% can't be its own parent",
+        ),
         Reason::ParentBelow(x) => about_object(x, "$ is under %"),
         Reason::NotAccepted(x) => about_object(x, "$ doesn't accept %"),
-        Reason::PlaceInside(x) if is_first(given, x) => plain("% can't be inside itself"),
+        Reason::PlaceInside(x) if is_first_value(given, x) => about_value(
+            "% can't be inside itself",
+        ),
         Reason::PlaceInside(x) => about_object(x, "$ is inside %"),
         Reason::NamesPlayer(x) => about_object(x, "only a wizard may name a player, as $"),
         Reason::NoQuota(x) => about_object(x, "the ownership_quota of $ is used up"),
@@ -73,10 +78,10 @@ fn of_objects(given: Given<'_>, reason: Reason) -> Option<Sentence> {
 /// What is said of a reason about properties; `None` for another reason.
 fn of_properties(given: Given<'_>, reason: Reason) -> Option<Sentence> {
     match reason {
-        Reason::NeverSet => plain("nobody may set &: `move` changes it"),
-        Reason::NotTaken => plain("& can't be $"),
-        Reason::NoProperty(_) | Reason::NotDefined(_) if built_in_at(given).is_some() => {
-            plain("& is built in: `get` and `set` alone take it")
+        Reason::NeverSet => about_value("nobody may set &: `move` changes it"),
+        Reason::NotTaken => about_value("& can't be $"),
+        Reason::NoProperty(_) | Reason::NotDefined(_) if second_built_in(given).is_some() => {
+            about_value("& is built in: `get` and `set` alone take it")
         }
         Reason::NoProperty(x) => about_object(x, "$ has no property &"),
         Reason::NotDefined(x) | Reason::NotRenamed(x) => about_object(
@@ -85,7 +90,7 @@ fn of_properties(given: Given<'_>, reason: Reason) -> Option<Sentence> {
         ),
         Reason::NotInherited(x) => about_object(x, "$ itself defines &"),
         Reason::NoPropertyName => {
-            plain("$ can't name a property: it is built in, or hasn't 1 to 255 bytes")
+            about_value("$ can't name a property: it is built in, or hasn't 1 to 255 bytes")
         }
         Reason::NoPropertyR(x) => {
             about_object(
@@ -100,7 +105,7 @@ fn of_properties(given: Given<'_>, reason: Reason) -> Option<Sentence> {
             )
         }
         Reason::NotGiven(x) => about_object(x, "only a wizard may give & on % to $"),
-        Reason::PropertyPerms => plain("$ has other letters than r, w and c"),
+        Reason::PropertyPerms => about_value("$ has other letters than r, w and c"),
         _ => None,
     }
 }
@@ -117,18 +122,18 @@ fn of_verbs_and_lists(given: Given<'_>, reason: Reason) -> Option<Sentence> {
             x,
             "verb & of $ has no w, and @ neither owns it nor is a wizard",
         ),
-        Reason::VerbPerms => plain("$ has other letters than r, w, x and d"),
-        Reason::VerbNames => plain("$ names no verb"),
+        Reason::VerbPerms => about_value("$ has other letters than r, w, x and d"),
+        Reason::VerbNames => about_value("$ names no verb"),
         Reason::VerbArgs => match unfit_place(given) {
-            Some(1) => plain("$ isn't a preposition"),
-            _ => plain("$ isn't \"this\", \"any\" or \"none\""),
+            Some(1) => about_value("$ isn't a preposition"),
+            _ => about_value("$ isn't \"this\", \"any\" or \"none\""),
         },
-        Reason::LongList => plain("the list has over 1000 entries"),
-        Reason::NotFew => plain("a petition asks for 1 to 64 calls"),
-        Reason::Unasked => plain("$ is no call that a petition may ask for"),
-        Reason::Deep => plain("lists are over 30 deep in a petition"),
-        Reason::NoPetition => plain("there is no petition %"),
-        Reason::NotAsker => plain("@ neither made petition % nor is a wizard"),
+        Reason::LongList => about_value("the list has over 1000 entries"),
+        Reason::NotFew => about_value("a petition asks for 1 to 64 calls"),
+        Reason::Unasked => about_value("$ is no call that a petition may ask for"),
+        Reason::Deep => about_value("lists are over 30 deep in a petition"),
+        Reason::NoPetition => about_value("there is no petition %"),
+        Reason::NotAsker => about_value("@ neither made petition % nor is a wizard"),
         _ => None,
     }
 }

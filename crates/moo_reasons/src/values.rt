@@ -1,7 +1,7 @@
 //! Saying why bytes aren't a value.
 
 use crate::said::{LINE_ENDS, Said};
-use moo_text::{LineFault, next_word, values_before};
+use moo_text::{LineFault, next_word, values_at};
 use moo_value::{LiteralFault, MAX_NESTING, after_mark, skip_blanks};
 use std::alloc::AllocError;
 
@@ -51,7 +51,7 @@ fn put_no_value(said: &mut Said, bytes: &[u8]) -> Result<(), AllocError> {
         let Some(inside) = after_mark(b'{', item) else {
             break;
         };
-        match values_before(said.alloc, b'}', inside) {
+        match values_at(said.alloc, b'}', inside) {
             Err(LineFault::NoValue(rest, _)) => item = rest,
             Err(LineFault::NoMark(mark, rest)) => return put_missing(said, mark, rest),
             Err(LineFault::OutOfMemory) => return Err(AllocError),

@@ -6,7 +6,7 @@ ghost use Rattle.moo_reasons.specs.Seen.{Seen, SeesRefusal, seen_by};
 ghost use Rattle.moo_reasons.specs.Told.{IsFirstLine, TellsReply};
 
 use crate::faults::put_call_reason;
-use crate::line::{Why, line_of};
+use crate::line::{Why, shortened_text};
 use crate::said::Said;
 use crate::sentence::refusal_text;
 use moo_batch::{Facts, Refusal, Witness};
@@ -30,7 +30,7 @@ pub fn call_why(alloc: Global, text: &str) -> Result<String, AllocError>
 {
     let mut said = Said::new(alloc);
     put_call_reason(&mut said, text.as_bytes())?;
-    line_of(said)
+    shortened_text(said)
 }
 
 /// Why the batches of a request are refused, in their order, if that is wanted; and the ticks of the request, which its batches share.

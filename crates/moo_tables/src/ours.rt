@@ -120,8 +120,8 @@ fn is_paired(table: &Table, name: &[u8], tree: u32) -> bool
         && is_one_plain(table.orders.as_slice())
 }
 
-/// Whether a table without other rules is this one of ours, with its name, its tree, its key and its columns.
-fn is_table(table: &Table, ours: &OurTable) -> bool
+/// Whether a table that has no rule but its key is this one of ours: with its name, its tree, its key and its columns.
+fn is_our_table(table: &Table, ours: &OurTable) -> bool
     // The table has no rule but its key.
     requires { HasNoRules table.now }
     ensures { IsTrue result ↔ table.now ≡ our_table ours.now }
@@ -135,8 +135,8 @@ fn is_table(table: &Table, ours: &OurTable) -> bool
     is_keyed && are_required(table.columns.as_slice(), ours.columns)
 }
 
-/// Whether tables without other rules are these of ours, in this order.
-fn are_tables(tables: &[Table], ours: &[OurTable]) -> bool
+/// Whether tables that have no rule but their key are these of ours, in this order.
+fn are_our_tables(tables: &[Table], ours: &[OurTable]) -> bool
     // No table has a rule but its key.
     requires { AllByRecursion HasNoRules tables.now }
     ensures { IsTrue result ↔ tables.now ≡ map our_table ours.now }
@@ -144,14 +144,14 @@ fn are_tables(tables: &[Table], ours: &[OurTable]) -> bool
     match (tables, ours) {
         ([], []) => true,
         ([table, tables @ ..], [first, ours @ ..]) => {
-            is_table(table, first) && are_tables(tables, ours)
+            is_our_table(table, first) && are_our_tables(tables, ours)
         }
         _ => false,
     }
 }
 
 /// Whether an index is that of the key of a table whose key is its first two columns: with this name and tree, on this table.
-fn is_key(index: &Index, name: &[u8], tree: u32, table: u32) -> bool
+fn is_key_index(index: &Index, name: &[u8], tree: u32, table: u32) -> bool
     ensures { IsTrue result ↔ index.now ≡ key_index name.now tree table }
 {
     index.name.as_slice() == name
@@ -162,22 +162,22 @@ fn is_key(index: &Index, name: &[u8], tree: u32, table: u32) -> bool
         && index.is_unique
 }
 
-/// Whether tables without other rules are those of the first version, in their order.
+/// Whether tables that have no rule but their key are those of the first version, in their order.
 fn are_first_tables(tables: &[Table]) -> bool
     // No table has a rule but its key.
     requires { AllByRecursion HasNoRules tables.now }
     ensures { IsTrue result ↔ tables.now ≡ first_schema.tables }
 {
-    are_tables(tables, FIRST)
+    are_our_tables(tables, FIRST)
 }
 
-/// Whether tables without other rules are those of the second version, in their order.
+/// Whether tables that have no rule but their key are those of the second version, in their order.
 fn are_second_tables(tables: &[Table]) -> bool
     // No table has a rule but its key.
     requires { AllByRecursion HasNoRules tables.now }
     ensures { IsTrue result ↔ tables.now ≡ second_schema.tables }
 {
-    are_tables(tables, SECOND)
+    are_our_tables(tables, SECOND)
 }
 
 /// Whether the indexes of a database are those of the first version: of the keys of `slot` and `verb`.
@@ -186,8 +186,8 @@ fn are_first_keys(indexes: &[Index]) -> bool
 {
     match indexes {
         [slot, verb] => {
-            is_key(slot, b"sqlite_autoindex_slot_1", 4, 3)
-                && is_key(verb, b"sqlite_autoindex_verb_1", 6, 5)
+            is_key_index(slot, b"sqlite_autoindex_slot_1", 4, 3)
+                && is_key_index(verb, b"sqlite_autoindex_verb_1", 6, 5)
         }
         _ => false,
     }
@@ -199,16 +199,16 @@ fn are_second_keys(indexes: &[Index]) -> bool
 {
     match indexes {
         [slot, verb, slot2] => {
-            is_key(slot, b"sqlite_autoindex_slot_1", 4, 3)
-                && is_key(verb, b"sqlite_autoindex_verb_1", 6, 5)
-                && is_key(slot2, b"sqlite_autoindex_slot2_1", 8, 7)
+            is_key_index(slot, b"sqlite_autoindex_slot_1", 4, 3)
+                && is_key_index(verb, b"sqlite_autoindex_verb_1", 6, 5)
+                && is_key_index(slot2, b"sqlite_autoindex_slot2_1", 8, 7)
         }
         _ => false,
     }
 }
 
-/// Whether a database whose tables have no other rules has the tables and indexes of the first version, and no view.
-fn is_first(schema: &Schema) -> bool
+/// Whether a database whose tables have no rule but their key has the tables and indexes of the first version, and no view.
+fn is_first_schema(schema: &Schema) -> bool
     // No table has a rule but its key.
     requires { AllByRecursion HasNoRules schema.now.tables }
     ensures { IsTrue result ↔ schema.now ≡ first_schema }
@@ -218,8 +218,8 @@ fn is_first(schema: &Schema) -> bool
         && schema.views.is_empty()
 }
 
-/// Whether a database whose tables have no other rules has the tables and indexes of the second version, and no view.
-fn is_second(schema: &Schema) -> bool
+/// Whether a database whose tables have no rule but their key has the tables and indexes of the second version, and no view.
+fn is_second_schema(schema: &Schema) -> bool
     // No table has a rule but its key.
     requires { AllByRecursion HasNoRules schema.now.tables }
     ensures { IsTrue result ↔ schema.now ≡ second_schema }
@@ -241,10 +241,10 @@ pub fn version_of(alloc: Global, schema: &Schema) -> Result<Option<Version>, All
     if !plain {
         return Ok(None);
     }
-    if is_first(schema) {
+    if is_first_schema(schema) {
         return Ok(Some(Version::First));
     }
-    if is_second(schema) {
+    if is_second_schema(schema) {
         return Ok(Some(Version::Second));
     }
     Ok(None)

@@ -15,7 +15,7 @@ use std::alloc::{AllocError, Global};
 
 /// The values before a closing mark, which ends the line: one at least, with commas between them. The error is the first fault from left to
 /// right, or OutOfMemory.
-pub fn values_before(alloc: Global, mark: u8, bytes: &[u8]) -> Result<Args, LineFault<'_>>
+pub fn values_at(alloc: Global, mark: u8, bytes: &[u8]) -> Result<Args, LineFault<'_>>
     ensures ok { IfOk result (λ args. values_at mark (length bytes.now) bytes.now ≡ Some args) }
     // There is a fault, but for out of memory, only if there are no such values.
     ensures err { IfErr result (λ fault. fault ≢ OutOfMemory → values_at mark (length bytes.now) bytes.now ≡ None) }
@@ -49,12 +49,12 @@ fn arguments_of(alloc: Global, bytes: &[u8]) -> Result<Args, LineFault<'_>>
     match after_mark(b')', bytes) {
         Some(end) if is_all_blank(end) => Ok(Args::from_vec(Vec::new(alloc))),
         Some(end) => Err(LineFault::NoEnd(end)),
-        None => values_before(alloc, b')', bytes),
+        None => values_at(alloc, b')', bytes),
     }
 }
 
 /// The call that a word names, in any case; `None` if it names none.
-fn call_named(word: &[u8]) -> Option<CallName>
+fn call_name_of(word: &[u8]) -> Option<CallName>
     ensures { result ≡ call_name_of word.now }
 {
     CallName::read(word)
@@ -62,7 +62,7 @@ fn call_named(word: &[u8]) -> Option<CallName>
 
 /// The call that a line of at most 262,144 bytes spells, `name(value, ...)`. The error is why it spells none: the first fault from left to
 /// right; or OutOfMemory.
-pub fn call_on_line(alloc: Global, line: &[u8]) -> Result<Call, LineFault<'_>>
+pub fn call_or_fault(alloc: Global, line: &[u8]) -> Result<Call, LineFault<'_>>
     ensures ok { IfOk result (λ call. call_of line.now ≡ Some call) }
     // There is a fault, but for out of memory, only if the line spells no call.
     ensures err { IfErr result (λ fault. fault ≢ OutOfMemory → call_of line.now ≡ None) }
@@ -74,17 +74,17 @@ pub fn call_on_line(alloc: Global, line: &[u8]) -> Result<Call, LineFault<'_>>
     }
     let front = skip_blanks(line);
     let (word, rest) = split_word(front);
-    let name = call_named(word).ok_or(LineFault::NoName(front))?;
+    let name = call_name_of(word).ok_or(LineFault::NoName(front))?;
     let rest = after_mark(b'(', rest).ok_or(LineFault::NoBracket(word))?;
     let args = arguments_of(alloc, rest)?;
     Ok(Call { name, args })
 }
 
-/// The call that a line of at most 262,144 bytes spells; `None` for any other line. AllocError if memory runs out.
-pub fn call_in(alloc: Global, line: &[u8]) -> Result<Option<Call>, AllocError>
+/// The call that a line of at most 262,144 bytes spells. `None` for any other line: `call_or_fault` says why. AllocError if memory runs out.
+pub fn call_of(alloc: Global, line: &[u8]) -> Result<Option<Call>, AllocError>
     ensures { IfOk result (λ call. call ≡ call_of line.now) }
 {
-    match call_on_line(alloc, line) {
+    match call_or_fault(alloc, line) {
         Ok(call) => Ok(Some(call)),
         Err(LineFault::OutOfMemory) => Err(AllocError),
         Err(_) => Ok(None),

@@ -5,7 +5,7 @@ ghost use Rattle.moo_text.specs.Given.{GivesFirst, ReadsNext, LinesBreakOff};
 ghost use Rattle.moo_text.specs.Items.{within, skipping};
 ghost use Rattle.moo_text.specs.Side.{lines_side, lines_room, EndsAt};
 
-use crate::call_text::call_in;
+use crate::call_text::call_of;
 use crate::fault::TextFault;
 use crate::header::{Header, read_header};
 use crate::line::{is_blank_line, is_end_line};
@@ -81,7 +81,7 @@ fn rest_of_batch<R: Read>(
         if MOST_CALLS <= calls.len() {
             return skip_batch(number, line, lines);
         }
-        let Some(call) = call_in(alloc, &line)? else {
+        let Some(call) = call_of(alloc, &line)? else {
             return skip_batch(number, line, lines);
         };
         calls.push(call)?;

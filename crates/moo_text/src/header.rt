@@ -32,7 +32,7 @@ fn after_the_word<'a>(word: &[u8], bytes: &'a [u8]) -> Option<&'a [u8]>
 }
 
 /// Whether bytes begin with this one.
-fn begins_with(first: u8, bytes: &[u8]) -> bool
+fn begins_with_byte(first: u8, bytes: &[u8]) -> bool
     ensures { result ≡ begins_with_byte first bytes.now }
 {
     bytes.first() == Some(&first)
@@ -52,7 +52,7 @@ fn object_value(value: &Value) -> Option<ObjNo>
 pub fn object_of(alloc: Global, word: &[u8]) -> Result<Option<ObjNo>, AllocError>
     ensures { IfOk result (λ object. object ≡ object_of word.now) }
 {
-    if !begins_with(b'#', word) {
+    if !begins_with_byte(b'#', word) {
         return Ok(None);
     }
     match read_front(alloc, word) {
@@ -63,14 +63,14 @@ pub fn object_of(alloc: Global, word: &[u8]) -> Result<Option<ObjNo>, AllocError
 }
 
 /// The value of a digit, 0 to 9; `None` for another byte.
-fn digit_value(byte: u8) -> Option<u64>
+pub fn digit_value(byte: u8) -> Option<u64>
     ensures { MatchOption result (is_digit byte ≡ false) (λ value. (is_digit byte ≡ true) × (value ≡ byte - 48) × (value ≤ 9)) }
 {
     byte.is_ascii_digit().then(|| u64::from(byte - b'0'))
 }
 
 /// The number that 1 to 19 digits spell; `None` for other bytes, and above 9223372036854775807.
-fn place_of(digits: &[u8]) -> Option<u64>
+fn place_number(digits: &[u8]) -> Option<u64>
     ensures { result ≡ place_number digits.now }
 {
     if digits.is_empty() || 19 < digits.len() {
@@ -90,7 +90,7 @@ fn last_place(bytes: &[u8]) -> Option<u64>
     let (digits, rest) = next_word(bytes)?;
     match next_word(rest) {
         Some(_) => None,
-        None => place_of(digits),
+        None => place_number(digits),
     }
 }
 

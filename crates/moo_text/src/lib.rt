@@ -18,10 +18,10 @@ mod surface;
 pub mod text_laws;
 mod writing;
 
-pub use call_text::{call_in, call_on_line, values_before};
+pub use call_text::{call_of, call_or_fault, values_at};
 pub use fault::{TextFault, WriteFault};
 pub use feed::Feed;
-pub use header::{Header, object_of, read_header};
+pub use header::{Header, digit_value, object_of, read_header};
 pub use line::{LONGEST_LINE, is_end_line, is_within_line, next_word};
 pub use line_fault::LineFault;
 pub use lines::LONGEST_TEXT;

@@ -42,7 +42,7 @@ pub enum Answer {
 
 /// Appends a word, a number in decimal and an end. The only error is out of memory; some of the bytes may be there then.
 #[tactic(auto, using(crate::proofs::Putting::kept_last, moo_value::proofs::Printed::starts, moo_value::proofs::Printed::starts_alike, moo_value::proofs::Printed::starts_behind))]
-fn put_number(
+fn put_word_and_number(
     alloc: Global,
     word: &[u8],
     number: u64,
@@ -59,11 +59,16 @@ fn put_number(
 }
 
 /// Appends a line of a word and a number in decimal. The only error is out of memory; some of the bytes may be there then.
-fn put_line(alloc: Global, word: &[u8], number: u64, out: &mut Vec<u8>) -> Result<(), AllocError>
+fn put_number_line(
+    alloc: Global,
+    word: &[u8],
+    number: u64,
+    out: &mut Vec<u8>,
+) -> Result<(), AllocError>
     ensures ok { OnOk result (out.new.items ≡ out.old.items ++ (word.now ++ (decimal number ++ 10 ∷ []))) }
     ensures kept { StartsWith out.new.items out.old.items }
 {
-    put_number(alloc, word, number, b"\n", out)
+    put_word_and_number(alloc, word, number, b"\n", out)
 }
 
 /// Appends the line `refused N E_CODE`. The only error is out of memory; some of the bytes may be there then.
@@ -72,7 +77,7 @@ fn put_refused(alloc: Global, call: u32, code: Code, out: &mut Vec<u8>) -> Resul
     ensures ok { OnOk result (out.new.items ≡ out.old.items ++ refused_text call code) }
     ensures kept { StartsWith out.new.items out.old.items }
 {
-    put_number(alloc, b"refused ", u64::from(call), b" ", out)?;
+    put_word_and_number(alloc, b"refused ", u64::from(call), b" ", out)?;
     out.extend_from_slice(code.name().as_bytes())?;
     out.extend_from_slice(b"\n")
 }
@@ -99,7 +104,7 @@ fn put_accepted(
     ensures ok { OnOk result (out.new.items ≡ out.old.items ++ accepted_text seq answers.now) }
     ensures kept { StartsWith out.new.items out.old.items }
 {
-    put_line(alloc, b"accepted ", seq, out)?;
+    put_number_line(alloc, b"accepted ", seq, out)?;
     put_answers(alloc, answers.items(), out)?;
     out.extend_from_slice(b"end\n")
 }
@@ -113,8 +118,8 @@ pub(crate) fn put_reply(alloc: Global, reply: &Reply, out: &mut Vec<u8>) -> Resu
     match reply {
         Reply::Accepted { seq, answers } => put_accepted(alloc, *seq, answers, out),
         Reply::Refused { call, code } => put_refused(alloc, *call, *code, out),
-        Reply::Full { call } => put_line(alloc, b"full ", u64::from(*call), out),
-        Reply::Stale { seq } => put_line(alloc, b"stale ", *seq, out),
+        Reply::Full { call } => put_number_line(alloc, b"full ", u64::from(*call), out),
+        Reply::Stale { seq } => put_number_line(alloc, b"stale ", *seq, out),
         Reply::NoMemory => out.extend_from_slice(b"nomemory\n"),
     }
 }
@@ -127,7 +132,7 @@ fn put_answer(alloc: Global, answer: &Answer, out: &mut Vec<u8>) -> Result<(), A
 {
     match answer {
         Answer::Replied(reply) => put_reply(alloc, reply, out),
-        Answer::Malformed(number) => put_line(alloc, b"malformed ", u64::from(*number), out),
+        Answer::Malformed(number) => put_number_line(alloc, b"malformed ", u64::from(*number), out),
         Answer::Truncated => out.extend_from_slice(b"truncated\n"),
         Answer::Fault => out.extend_from_slice(b"fault\n"),
         Answer::Closed => out.extend_from_slice(b"closed\n"),

@@ -1,4 +1,4 @@
-//! The program doesn't come this way. The project's requirements name these calls. The program reads a call by `call_in`, and
+//! The program doesn't come this way. The project's requirements name these calls. The program reads a call by `call_of`, and
 //! prints a reply within an answer, by `print_answer`.
 
 ghost use Rattle.std.specs.Prelude.{◌≡◌, ◌++◌, IfOk, IfErr, OnOk, OnErr};
@@ -7,7 +7,7 @@ ghost use Rattle.moo_text.specs.Grammar.{SpellsCall};
 ghost use Rattle.moo_text.specs.Replies.{reply_text};
 ghost use Rattle.moo_text.specs.declared.surface.CallFault.TheVariants.{Malformed};
 
-use crate::call_text::call_in;
+use crate::call_text::call_of;
 use crate::reply::{Reply, put_reply};
 use moo_world::Call;
 use std::alloc::{AllocError, Global};
@@ -29,7 +29,7 @@ pub fn read_call(alloc: Global, line: &[u8]) -> Result<Call, CallFault>
     // Malformed is the line that spells no call.
     ensures err { IfErr result (λ fault. fault ≡ Malformed → (call : Call) → ¬ (SpellsCall call line.now)) }
 {
-    match call_in(alloc, line) {
+    match call_of(alloc, line) {
         Ok(Some(call)) => Ok(call),
         Ok(None) => Err(CallFault::Malformed),
         Err(_) => Err(CallFault::OutOfMemory),

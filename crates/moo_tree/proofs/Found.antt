@@ -1,5 +1,5 @@
 -- What is found under an object, as lists in the order of their keys.
-use Rattle.moo_tree.{proofs.Words.{arith, ◌≡◌, Bool, cond, T, ◌&&◌, Option, None, List, [], ◌∷◌, map, Ordering, Less, refl, sym, ap, ◌∙◌, subst, option_map, filter, AllByRecursion, is_lt, BTreeMap, IsOrdered, keys, get, get-entries, get-from_entries, is_sorted, entries, entries_sorted, ObjNo, object_exact, Maps, object_cmp, contents, object_total, is_among, subtree_of, world_of, IsTree, chain, IsFound, owner_if_under, owners_under}, proofs.Listing.{subtree_listed}}
+use Rattle.moo_tree.{proofs.Words.{arith, ◌≡◌, Bool, cond, T, ◌&&◌, Option, None, List, [], ◌∷◌, map, Ordering, Less, refl, sym, ap, ◌∙◌, subst, option_map, filter, AllByRecursion, is_lt, BTreeMap, IsOrdered, keys, get, get-entries, get-from_entries, is_sorted, entries, entries_sorted, ObjNo, object_exact, Maps, object_cmp, contents, object_total, is_among, subtree_of, world_of, IsTree, chain, IsOwnerMap, owner_if_under, owners_under}, proofs.Listing.{subtree_listed}}
 use Rattle.std.{specs.List.Sorted.{IsStrictlySortedBy}, specs.FinMap.{find}, specs.FinMap.Entries.{below_all, find-where_key, is_sorted-where_key, same_entries}}
 use Rattle.moo_rows.proofs.Walking.{first_of, second_of}
 
@@ -41,7 +41,7 @@ keys_read read (e ∷ es) = ap (λ l. e.0 ∷ l) (keys_read read es)
 read_if : {X Y : Type 0} (read : X → Y) (b : Bool) (o : Option X) → cond b (option_map read o) None ≡ option_map read (cond b o None)
 read_if read b o = grind arith
 
-module _ (t : Maps) (x : ObjNo) (found : BTreeMap ObjNo ObjNo) (ordered : IsOrdered object_cmp found) (is : IsFound t x (contents object_cmp found)) where
+module _ (t : Maps) (x : ObjNo) (found : BTreeMap ObjNo ObjNo) (ordered : IsOrdered object_cmp found) (is : IsOwnerMap t x (contents object_cmp found)) where
   abbrev is_under : ObjNo → Bool
   is_under q = is_among x (chain (world_of t) q)
 

@@ -1,5 +1,5 @@
 -- A search for the objects under one, as far as it has come.
-use Rattle.moo_tree.{proofs.Words.{◌≡◌, ℕ, zero, suc, ◌-◌, ◌<◌, ◌≤◌, ◌≢◌, Bool, true, false, cond, ◌||◌, Option, None, Some, List, [], ◌∷◌, ◌++◌, length, drop, Ordering, Less, Equal, Greater, refl, sym, ap, ◌∙◌, subst, arith, ◌⊎◌, inl, inr, is_some, if◌then◌else◌, slice_index_or, ◌+◌, option_map, eq_by_cmp, is_eq, tied_itself, FinMap, get, insert, get-insert, true≢false, or_right, or_cases, ObjNo, ObjRow, object_exact, Maps, object_cmp, object_total, same_object, is_among, same_object-Decides, children_of, objects_of, is_parent_of, look_ups, world_of, World, IsTree, is_object, parent_of, chain, climb, numbers_to, chain_of_none, chain_of_row, chain_of_no_row, is_object_seen, passes_seen, none_passes, IsFound}, proofs.Sharing.{among_drop}}
+use Rattle.moo_tree.{proofs.Words.{◌≡◌, ℕ, zero, suc, ◌-◌, ◌<◌, ◌≤◌, ◌≢◌, Bool, true, false, cond, ◌||◌, Option, None, Some, List, [], ◌∷◌, ◌++◌, length, drop, Ordering, Less, Equal, Greater, refl, sym, ap, ◌∙◌, subst, arith, ◌⊎◌, inl, inr, is_some, if◌then◌else◌, slice_index_or, ◌+◌, option_map, eq_by_cmp, is_eq, tied_itself, FinMap, get, insert, get-insert, true≢false, or_right, or_cases, ObjNo, ObjRow, object_exact, Maps, object_cmp, object_total, same_object, is_among, same_object-Decides, children_of, objects_of, is_parent_of, look_ups, world_of, World, IsTree, is_object, parent_of, chain, climb, numbers_to, chain_of_none, chain_of_row, chain_of_no_row, is_object_seen, passes_seen, none_passes, IsOwnerMap}, proofs.Sharing.{among_drop}}
 use Rattle.std.{proofs.Common.{add-one, drop-cons}, proofs.Math.Bool.{or-false}, proofs.lemmas.Bool.{or_left, true_from_ne_false}}
 use Rattle.moo_world.{proofs.Inheritance.Owed.{is_among-append}, proofs.Ancestry.Subtrees.{among_filter, object_listed}, proofs.Ancestry.Upward.{filter_passes}, proofs.Shown.PairLists.{some_of}}
 
@@ -129,7 +129,7 @@ module _ (t : Maps) (tree : IsTree (world_of t)) where
             ]
 
     -- nothing is under what is no object
-    pub nothing_under : (m : FinMap object_cmp ObjNo) → ((q : ObjNo) → get m q ≡ None) → is_object w x ≡ false → IsFound t x m
+    pub nothing_under : (m : FinMap object_cmp ObjNo) → ((q : ObjNo) → get m q ≡ None) → is_object w x ≡ false → IsOwnerMap t x m
     nothing_under m none lacking q = none q ∙ by (is_among x (chain w q)) refl
       where
         by : (b : Bool) → is_among x (chain w q) ≡ b → None ≡ (if b then option_map (λ r. r.owner) (get t.objects q) else None)
@@ -141,7 +141,7 @@ module _ (t : Maps) (tree : IsTree (world_of t)) where
       all : (z : ObjNo) → is_among x (chain w z) ≡ true → is_some (get m z) ≡ true
       all z h = along (λ q. is_some (get m q) ≡ true) (λ o. sym (or-false (is_some (get m x))) ∙ s.start) (λ q r g k. sym (or-false (is_some (get m q))) ∙ s.closed r.parent q r g refl k) (chain w z) z refl h
 
-      pub ended : IsFound t x m
+      pub ended : IsOwnerMap t x m
       ended q = grind (arith, true≢false, all)
 
 -- ---- depths

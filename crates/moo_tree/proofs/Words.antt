@@ -28,4 +28,4 @@ pub use Rattle.moo_world.specs.Objects.{is_among, nothing, same_object, same_obj
 pub use Rattle.moo_world.specs.Rows.{LookUps, look_ups, world_of, world_shown}
 pub use Rattle.moo_world.specs.World.{Chain, IsTree, World, climb, is_object, numbers_to, parent_of, location_chain, row_passes}
 unfoldable pub use Rattle.moo_world.specs.World.{chain}
-pub use Rattle.moo_tree.specs.Under.{IsFound, owner_if_under, owners_under}
+pub use Rattle.moo_tree.specs.Under.{IsOwnerMap, owner_if_under, owners_under}

@@ -23,5 +23,5 @@ abbrev pub owner_if_under : Maps → ObjNo → ObjNo → Option ObjNo
 owner_if_under t x q = if is_among x (chain (world_of t) q) then option_map (λ r. r.owner) (get t.objects q) else None
 
 -- the map holds the objects under x, each with its owner
-abbrev pub IsFound : Maps → ObjNo → FinMap object_cmp ObjNo → Type 0
-IsFound t x found = (q : ObjNo) → get found q ≡ owner_if_under t x q
+abbrev pub IsOwnerMap : Maps → ObjNo → FinMap object_cmp ObjNo → Type 0
+IsOwnerMap t x found = (q : ObjNo) → get found q ≡ owner_if_under t x q

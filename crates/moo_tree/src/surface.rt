@@ -8,7 +8,7 @@ ghost use Rattle.moo_world.specs.Rows.{world_of};
 ghost use Rattle.moo_world.specs.World.{IsTree, chain};
 
 use crate::numbers::nothing;
-use crate::under::find_under;
+use crate::under::owner_map_under;
 use moo_rows::Rows;
 use moo_value::ObjNo;
 use std::alloc::{AllocError, Global};
@@ -78,5 +78,5 @@ pub fn subtree<R: Rows>(alloc: Global, rows: &R, x: ObjNo) -> Result<Vec<ObjNo>,
     requires { IsTree (world_of (R.held rows.now).maps) }
     ensures { IfOk result (λ v. v.items ≡ subtree_of (world_of (R.held rows.now).maps) x) }
 {
-    find_under(alloc, rows, x)?.into_keys().collect(alloc)
+    owner_map_under(alloc, rows, x)?.into_keys().collect(alloc)
 }

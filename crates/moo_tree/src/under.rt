@@ -8,7 +8,7 @@ ghost use Rattle.moo_rows.specs.Ordered.{contents};
 ghost use Rattle.moo_world.specs.ObjectLists.{children_of};
 ghost use Rattle.moo_world.specs.Rows.{world_of};
 ghost use Rattle.moo_world.specs.World.{IsTree, is_object};
-ghost use Rattle.moo_tree.specs.Under.{IsFound, owners_under};
+ghost use Rattle.moo_tree.specs.Under.{IsOwnerMap, owners_under};
 
 use crate::lists::list_linked;
 use crate::numbers::valid;
@@ -43,13 +43,14 @@ fn visit<R: Rows>(
 
 /// x and its descendants, each with its owner; an empty map if x isn't an object. It goes down level by level, so that the work grows with
 /// what is found, and not with the world. An `Err` is a lack of memory.
-pub(crate) fn find_under<R: Rows>(
+pub(crate) fn owner_map_under<R: Rows>(
     alloc: Global,
     rows: &R,
     x: ObjNo,
 ) -> Result<BTreeMap<ObjNo, ObjNo>, AllocError>
     requires { IsTree (world_of (R.held rows.now).maps) }
-    ensures { IfOk result (λ found. IsFound (R.held rows.now).maps x (contents object_cmp found)) }
+    // It has x and each object under it, and nothing else, each with its owner.
+    ensures { IfOk result (λ found. IsOwnerMap (R.held rows.now).maps x (contents object_cmp found)) }
 {
     let mut found = BTreeMap::new(alloc);
     if !valid(rows, x) {
@@ -78,5 +79,5 @@ pub fn owners_under<R: Rows>(
     requires { IsTree (world_of (R.held rows.now).maps) }
     ensures { IfOk result (λ v. v.items ≡ owners_under (R.held rows.now).maps x) }
 {
-    find_under(alloc, rows, x)?.into_iter().collect(alloc)
+    owner_map_under(alloc, rows, x)?.into_iter().collect(alloc)
 }

@@ -7,8 +7,8 @@ ghost use Rattle.moo_world.specs.Rows.{world_of, IsGood};
 ghost use Rattle.moo_world.specs.World.{is_property_name};
 
 use moo_props::{
-    Dropped, Touched, clashes, define, drop_object, find, make, reparent, set_info, set_value,
-    shares_property_name, slot_of, value_of,
+    Dropped, Touched, clashes, define, drop_object, find, make_object, reparent, set_info,
+    set_value, sharing_definer, slot_of, value_of,
 };
 use moo_rows::{Bits, PropId, Rows, SlotState};
 use moo_tree::{is_under, valid};
@@ -53,7 +53,7 @@ pub(super) fn make_next<R: Rows>(
     let Some(x) = next_number(rows) else {
         panic!(rt; "no number is left");
     };
-    make(alloc, rows, x, ObjNo(parent), WIZARD)?;
+    make_object(alloc, rows, x, ObjNo(parent), WIZARD)?;
     Ok(x)
 }
 
@@ -197,7 +197,7 @@ pub(super) fn move_under<R: Rows>(
     assert!(rt; valid(rows, ObjNo(x)));
     assert!(rt; valid(rows, ObjNo(new)));
     assert!(rt; !is_under(rows, ObjNo(new), ObjNo(x)));
-    assert!(rt; shares_property_name(alloc, rows, ObjNo(x), ObjNo(new))?.is_none());
+    assert!(rt; sharing_definer(alloc, rows, ObjNo(x), ObjNo(new))?.is_none());
     Ok(reparent(alloc, rows, ObjNo(x), ObjNo(new))?)
 }
 

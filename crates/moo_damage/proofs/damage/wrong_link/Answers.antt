@@ -8,14 +8,14 @@ pub returns-in-Some-clause-first : goal.returns-in-Some-clause-first
 returns-in-Some-clause-first g c =
     let m = (g.R.Rows.held c.args.rows.now).maps in
     let link = c.args.link in
-    told m (lost_kind link) _ _ _ c.missing_kind.ensures c.object_key.ensures c.requires.before
+    told m (lost_kind link) _ _ _ c.lost_kind.ensures c.object_key.ensures c.requires.before
     (subst (λ o. IsLeast (InRows m (lost_kind link)) (of_object o)) c.in-Some.is (lost_least m link c.lost_object.result c.lost_object.ensures))
 
 pub returns-in-Some-2-clause-first : goal.returns-in-Some-2-clause-first
 returns-in-Some-2-clause-first g c =
     let m = (g.R.Rows.held c.args.rows.now).maps in
     let link = c.args.link in
-    told m (loop_kind link) _ _ _ c.loops.ensures c.object_key-in-Some-2.ensures (after_lost m link c.requires.before (lost_least m link None c.in_default.ensures))
+    told m (loop_kind link) _ _ _ c.loop_kind.ensures c.object_key-in-Some-2.ensures (after_lost m link c.requires.before (lost_least m link None c.in_default.ensures))
     (subst (λ o. IsLeast (InRows m (loop_kind link)) (of_object o)) c.in-Some-2.is (loops_least m link c.in_ok-x.field-0 c.in_ok-x.ensures))
 
 pub returns-in-None-clause-first : goal.returns-in-None-clause-first

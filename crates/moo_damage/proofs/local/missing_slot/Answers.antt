@@ -1,4 +1,4 @@
 use Rattle.moo_damage.proofs.local.missing_slot.Goals as goal
 
-pub returns-then-hold : goal.returns-then-hold
-returns-then-hold g c = (c.requires.hold c.if-hold.true).there
+pub returns-then-slots_are_owed : goal.returns-then-slots_are_owed
+returns-then-slots_are_owed g c = (c.requires.hold c.if-slots_are_owed.true).there

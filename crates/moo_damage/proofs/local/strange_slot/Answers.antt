@@ -1,8 +1,8 @@
 use Rattle.moo_damage.{proofs.Words.{◌≡◌, rules, is_strange}, proofs.Firsts.{least_so}}
 use Rattle.moo_damage.proofs.local.strange_slot.Goals as goal
 
-pub returns-then-hold : goal.returns-then-hold
-returns-then-hold g c = (c.requires.hold c.if-hold.true).owed
+pub returns-then-slots_are_owed : goal.returns-then-slots_are_owed
+returns-then-slots_are_owed g c = (c.requires.hold c.if-slots_are_owed.true).owed
 
 pub returns : goal.returns
 returns g c =

@@ -8,7 +8,7 @@ before g c = g.R.Rows.held c.args.rows.now
 here : (g : _) (c : goal.After-from_vec g) → get (before g c).maps.objects c.args.x ≡ Some c.in-Some.row.now
 here g c = sym c.in-Some.ensures
 
-first : (g : _) (c : goal.After-from_vec g) → g.R.Rows.held c.drop_under.new.rows ≡ held1 (before g c).maps c.requires.good c.args.x c.in-Some.row.now (here g c) (before g c) refl
+first : (g : _) (c : goal.After-from_vec g) → g.R.Rows.held c.drop_slots_under.new.rows ≡ held1 (before g c).maps c.requires.good c.args.x c.in-Some.row.now (here g c) (before g c) refl
 first g c =
     c.in_ok-removed.ensures.rows
     ∙ (λ i. slots_moved (ids_for c.args.x (ids_among (walk (before g c).maps c.args.x)) ((c.as_slice.ensures.value ∙ c.in_ok-own.ensures) i)) [] (owners_under (before g c).maps c.args.x) (before g c))

@@ -3,11 +3,11 @@ use Rattle.moo_value.{specs.declared.value.Value.{Value}, proofs.Printed.{kept_o
 use Rattle.moo_text.{specs.Replies.{answer_line, accepted_text}, proofs.Putting.{put_last, kept_last, line_and_two}}
 use Rattle.moo_text.proofs.reply.put_accepted.Goals as goal
 
-pub returns-in_err-put_line-clause-kept : goal.returns-in_err-put_line-clause-kept
-returns-in_err-put_line-clause-kept c = c.in_err-put_line.ensures.kept
+pub returns-in_err-put_number_line-clause-kept : goal.returns-in_err-put_number_line-clause-kept
+returns-in_err-put_number_line-clause-kept c = c.in_err-put_number_line.ensures.kept
 
 pub returns-in_err-put_answers-clause-kept : goal.returns-in_err-put_answers-clause-kept
-returns-in_err-put_answers-clause-kept c = kept_on _ _ _ c.in_err-put_answers.ensures.kept c.in_ok-put_line.ensures.kept
+returns-in_err-put_answers-clause-kept c = kept_on _ _ _ c.in_err-put_answers.ensures.kept c.in_ok-put_number_line.ensures.kept
 
 pub returns-clause-kept : goal.returns-clause-kept
 returns-clause-kept c = grind (arith, kept_last, kept_on)
@@ -15,5 +15,5 @@ returns-clause-kept c = grind (arith, kept_last, kept_on)
 pub returns-clause-ok : goal.returns-clause-ok
 returns-clause-ok c =
     put_last c.extend_from_slice.result _ c.put_answers.new.out.items (codes "end\n") (accepted_text c.args.seq c.args.answers.now) _ c.extend_from_slice.ensures.items
-    (line_and_two _ _ _ (codes "accepted ") (decimal c.args.seq) (10 ∷ []) (flat_map answer_line c.args.answers.now) (codes "end\n") c.in_ok-put_line.ensures.ok
-    (c.in_ok-put_answers.ensures.ok ∙ ap (λ (values : List Value). c.put_line.new.out.items ++ flat_map answer_line values) c.items.ensures))
+    (line_and_two _ _ _ (codes "accepted ") (decimal c.args.seq) (10 ∷ []) (flat_map answer_line c.args.answers.now) (codes "end\n") c.in_ok-put_number_line.ensures.ok
+    (c.in_ok-put_answers.ensures.ok ∙ ap (λ (values : List Value). c.put_number_line.new.out.items ++ flat_map answer_line values) c.items.ensures))

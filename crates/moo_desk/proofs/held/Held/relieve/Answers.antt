@@ -9,9 +9,9 @@ pub returns-in-Some-clause-relieves : goal.returns-in-Some-clause-relieves
 returns-in-Some-clause-relieves g c =
     let leaving = c.args.self.now.leaving.items in
     let first = subst (λ l. IsFirstPlace (IsStuck c.args.now) l (Some c.in-Some.place)) c.deref-2.ensures.value c.in-Some.ensures.first in
-    let answers = c.all_held_bytes.ensures ∙ ap (λ l. answers_of l) c.deref.ensures.value in
+    let answers = c.all_unsent_bytes.ensures ∙ ap (λ l. answers_of l) c.deref.ensures.value in
     inl (
-      (omega (arith, c.if-all_held_bytes-lt-BUDGET.false, answers), c.if-not-is_any_ready.ensures.yes refl),
+      (omega (arith, c.if-all_unsent_bytes-lt-BUDGET.false, answers), c.if-not-is_any_ready.ensures.yes refl),
       cut_stuck c.args.now c.in-Some.place leaving c.cut_answer.new.self.leaving.items first (c.cut_answer.ensures.cuts (first_below (IsStuck c.args.now) c.in-Some.place leaving first)),
     )
 

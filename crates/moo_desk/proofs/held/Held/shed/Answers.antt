@@ -14,8 +14,8 @@ pub returns-in-Some-clause-times : goal.returns-in-Some-clause-times
 returns-in-Some-clause-times g c =
     subst (λ slots. Each (IsTimed c.args.now) c.args.self.now.slots.items slots.items) (sym c.cut_answer.ensures.slots) (each_same (IsTimed c.args.now) (timed_same c.args.now) c.args.self.now.slots.items)
 
-pub returns-in_default-first_stale-clause-times : goal.returns-in_default-first_stale-clause-times
-returns-in_default-first_stale-clause-times g c = each_same (IsTimed c.args.now) (timed_same c.args.now) c.args.self.now.slots.items
+pub returns-in_default-first_endable-clause-times : goal.returns-in_default-first_endable-clause-times
+returns-in_default-first_endable-clause-times g c = each_same (IsTimed c.args.now) (timed_same c.args.now) c.args.self.now.slots.items
 
 pub returns-in-Some-clause-full : goal.returns-in-Some-clause-full
 returns-in-Some-clause-full g c _ =

@@ -1,0 +1,44 @@
+use Rattle.moo_damage.{proofs.Words.{◌≡◌, true, Option, None, Some, refl, ◌⊎◌, sym, ap, ◌∙◌, subst, arith, is_some, option_map, AllByRecursion, get, object_cmp, contents, some_of, nothing, Climbs, next_of, HasEnd, all_then}, proofs.Ending.{ends_here, step_up, step_down, bound}}
+use Rattle.moo_damage.proofs.trees.unended_chain.Goals as goal
+
+some_still : {A B : Type 0} (o : Option A) (f : A → B) → is_some o ≡ true → is_some (option_map f o) ≡ true
+some_still None f e = e
+some_still (Some a) f e = refl
+
+pub returns-in-None-clause-ends : goal.returns-in-None-clause-ends
+returns-in-None-clause-ends g c =
+    c.loop.invariant.up (ends_here c.args.link (g.R.Rows.held c.args.rows.now).maps c.requires.links c.loop.at c.loop.invariant.here (sym c.in-None.ensures))
+
+pub loop-preserved : goal.loop-preserved
+loop-preserved g c =
+    let m = (g.R.Rows.held c.args.rows.now).maps in
+    let link = c.args.link in
+    let row = c.in-Some.row.now in
+    let there : get m.objects c.loop.at ≡ Some row = sym c.in-Some.ensures in
+    record {
+      here = subst (λ z. (z ≡ nothing) ⊎ (is_some (get m.objects z) ≡ true)) (sym c.link_of-at.ensures) (c.requires.links.links c.loop.at row there);
+      up = λ e.
+          let ends = step_up link m c.requires.links c.loop.at row there (subst (HasEnd link m) c.link_of-at.ensures e) in
+          let p = c.loop.invariant.up ends in
+          (subst (AllByRecursion (HasEnd link m)) (sym c.in_ok-push.ensures.items) (all_then (HasEnd link m) c.loop.path.items c.loop.at p.0 ends), p.1);
+      down = λ l p.
+          let d = c.loop.invariant.down l p in
+          let s = step_down link m c.requires.links c.loop.at row there d.0 d.1 in
+          (s.0, subst (λ z. Climbs (next_of link m) z s.0) (sym c.link_of-at.ensures) s.1, omega (arith, s.2, d.2));
+    }
+
+pub returns-in-None-object-clause-ends : goal.returns-in-None-object-clause-ends
+returns-in-None-object-clause-ends g c =
+    c.loop.invariant.up (ends_here c.args.link (g.R.Rows.held c.args.rows.now).maps c.requires.links c.loop.at c.loop.invariant.here (sym c.in-None-object.ensures))
+
+pub returns-in-Some-object-clause-loops : goal.returns-in-Some-object-clause-loops
+returns-in-Some-object-clause-loops g c l p =
+    let m = (g.R.Rows.held c.args.rows.now).maps in
+    let d = c.loop.invariant.down l p in
+    let s = step_down c.args.link m c.requires.links c.loop.at c.in-Some-object.field-0.now (sym c.in-Some-object.ensures) d.0 d.1 in
+    omega (arith, s.2, d.2, bound c.args.link m c.requires.links l c.args.x p, c.requires.count, c.loop-test.false)
+
+pub returns-then-is_some-clause-ends : goal.returns-then-is_some-clause-ends
+returns-then-is_some-clause-ends g c =
+    let there : is_some (get (contents object_cmp c.args.known.now) c.loop.at) ≡ true = sym (ap is_some c.get.ensures) ∙ some_still _ _ (sym c.is_some.ensures ∙ c.if-is_some.true) in
+    c.loop.invariant.up (c.requires.known c.loop.at (some_of _ there).1)

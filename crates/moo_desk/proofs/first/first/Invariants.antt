@@ -1,9 +1,0 @@
-use Rattle.std.proofs.Common.{length, ◌-◌}
-use Rattle.moo_desk.proofs.Firsts.{LacksSoFar}
-use Rattle.moo_desk.proofs.first.first.Given as goal
-
-abbrev pub invariant-loop-place : goal.invariant-loop-place
-invariant-loop-place g l = LacksSoFar (g.Q.Question.asks l.question) l.place l.items
-
-abbrev pub decreases-loop-place : goal.decreases-loop-place
-decreases-loop-place g l = length l.items - l.place

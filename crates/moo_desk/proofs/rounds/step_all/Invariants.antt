@@ -1,6 +1,0 @@
-use Rattle.moo_desk.specs.Each.{Each}
-use Rattle.moo_desk.specs.Later.{IsLater}
-use Rattle.moo_desk.proofs.rounds.step_all.Given as goal
-
-abbrev pub invariant-loop-connection : goal.invariant-loop-connection
-invariant-loop-connection g l = Each (IsLater g.W.Write g.W.Outward.peer) l.fn.leaving l.connection-items

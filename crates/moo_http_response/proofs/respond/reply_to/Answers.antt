@@ -1,4 +1,0 @@
-use Rattle.moo_http_response.proofs.respond.reply_to.Goals as goal
-
-pub returns-in-NoMemory : goal.returns-in-NoMemory
-returns-in-NoMemory c = rw c.in-NoMemory.is c.no_memory.ensures
