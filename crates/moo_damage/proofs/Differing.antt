@@ -7,32 +7,16 @@ module _ (a b : Maps) where
       → ((id : PropId) → IsBelow (Prop (pos id.0)) key → get a.props id ≡ get b.props id) → ((k : ObjNo × PropId) → IsBelow (Slot k.0.0 (pos k.1.0)) key → get a.slots k ≡ get b.slots k)
       → ((k : ObjNo × VerbId) → IsBelow (Verb k.0.0 (pos k.1.0)) key → get a.verbs k ≡ get b.verbs k) → ((id : PetitionId) → IsBelow (Petition (pos id.0)) key → get a.petitions id ≡ get b.petitions id)
       → IsFirstDifference a b key
-  first_at key n head o p s v r = (n, by)
-    where
-      by : (other : Key) → IsBelow other key → AgreeAt a b other
-      by Head l = head l
-      by (Object n) l = o (record { 0 = n }) l
-      by (Prop (pos i)) l = p (record { 0 = i }) l
-      by (Prop (negsuc i)) l = tt
-      by (Slot n (pos i)) l = s (record { 0 = n }, record { 0 = i }) l
-      by (Slot n (negsuc i)) l = tt
-      by (Verb n (pos i)) l = v (record { 0 = n }, record { 0 = i }) l
-      by (Verb n (negsuc i)) l = tt
-      by (Petition (pos i)) l = r (record { 0 = i }) l
-      by (Petition (negsuc i)) l = tt
+  first_at key n head o p s v r = grind arith
 
   module _ (head : a.head ≡ b.head) where
     module _ (objects : IsFirstUnlike a.objects b.objects None) where
       pub in_props : (id : PropId) → IsFirstUnlike a.props b.props (Some id) → IsFirstDifference a b (Prop (pos id.0))
-      in_props id f =
-          first_at (Prop (pos id.0)) f.0 (λ l. head) (λ y l. objects y) (λ i l. f.1 i (number_less i.0 id.0 l))
-          (λ k l. absurd (omega (arith, l))) (λ k l. absurd (omega (arith, l))) (λ i l. absurd (omega (arith, l)))
+      in_props id f = grind (arith, first_at, number_less)
 
       module _ (props : IsFirstUnlike a.props b.props None) where
         pub in_slots : (key : ObjNo × PropId) → IsFirstUnlike a.slots b.slots (Some key) → IsFirstDifference a b (Slot key.0.0 (pos key.1.0))
-        in_slots key f =
-            first_at (Slot key.0.0 (pos key.1.0)) f.0 (λ l. head) (λ y l. objects y) (λ i l. props i) (λ k l. f.1 k (pair_less k.0.0 key.0.0 k.1.0 key.1.0 l))
-            (λ k l. absurd (omega (arith, l))) (λ i l. absurd (omega (arith, l)))
+        in_slots key f = grind (arith, first_at, pair_less)
 
         module _ (slots : IsFirstUnlike a.slots b.slots None) where
           module _ (verbs : IsFirstUnlike a.verbs b.verbs None) where

@@ -1,5 +1,5 @@
 -- The first bad row of a map, found by going through its entries in order.
-use Rattle.moo_damage.proofs.Words.{◌≡◌, Bool, true, false, cond, Option, None, Some, List, [], ◌∷◌, Ordering, Less, refl, sym, ap, ◌∙◌, subst, inl, inr, IsTotalOrder, tied_itself, eq_by_cmp, is_eq, ordering_reverse, AllByRecursion, FinMap, get, find, entries, get-entries, CmpEqualImpliesEq, none-some, same_Some, key-Decides, IsLeastBad, T, is_sorted, entries_sorted, own_entries, ◌⊎◌, is_some, list_any, both_ways, any_held}
+use Rattle.moo_damage.proofs.Words.{arith, ◌≡◌, Bool, true, false, cond, Option, None, Some, List, [], ◌∷◌, Ordering, Less, refl, sym, ap, ◌∙◌, subst, inl, inr, IsTotalOrder, tied_itself, eq_by_cmp, is_eq, ordering_reverse, AllByRecursion, FinMap, get, find, entries, get-entries, CmpEqualImpliesEq, none-some, same_Some, key-Decides, IsLeastBad, T, is_sorted, entries_sorted, own_entries, ◌⊎◌, is_some, list_any, both_ways, any_held}
 use Rattle.moo_damage.proofs.Apart.{one_passing}
 use Rattle.moo_damage.specs.First.{MaySay, SaysOfRow}
 use denote.Ref.{Bor}
@@ -23,47 +23,19 @@ module _ {K X : Type 0} (right bad : K → X → Type 0) where
     each_right : (es : List (K × X)) → FirstIn right bad es None → (k : K) (r : X) → find cmp k es ≡ Some r → right k r
     each_right [] f k r e = absurd (none-some r e)
     each_right (x ∷ es) (inr f) k r e = absurd (none-some x.0 f.1)
-    each_right (x ∷ es) (inl f) k r e = by (eq_by_cmp cmp k x.0) refl e (each_right es f.1 k r)
-      where
-        by : (b : Bool) → eq_by_cmp cmp k x.0 ≡ b → cond b (Some x.1) (find cmp k es) ≡ Some r → (find cmp k es ≡ Some r → right k r) → right k r
-        by true h g rec = subst (λ v. right k v) (same_Some x.1 r g) (subst (λ j. right j x.1) (sym ((key-Decides cmp total exact k x.0).0 h)) f.0)
-        by false h g rec = rec g
+    each_right (x ∷ es) (inl f) k r e = grind (arith, same_Some, key-Decides, each_right es)
 
     above_first : (x k : K) (r : X) (es : List (K × X)) → T (below_all cmp x es) → find cmp k es ≡ Some r → cmp x k ≡ Less
     above_first x k r [] h e = absurd (none-some r e)
-    above_first x k r (y ∷ es) h e = by (eq_by_cmp cmp k y.0) refl e (above_first x k r es (second_of _ _ h))
-      where
-        by : (b : Bool) → eq_by_cmp cmp k y.0 ≡ b → cond b (Some y.1) (find cmp k es) ≡ Some r → (find cmp k es ≡ Some r → cmp x k ≡ Less) → cmp x k ≡ Less
-        by true t g rec = subst (λ j. cmp x j ≡ Less) (sym ((key-Decides cmp total exact k y.0).0 t)) (less_of _ (first_of _ _ h))
-        by false t g rec = rec g
+    above_first x k r (y ∷ es) h e = grind (arith, second_of, key-Decides, less_of, first_of, above_first x k r es)
 
     abbrev Found : List (K × X) → K → Type 0
     Found es key = (row : X) × (find cmp key es ≡ Some row) × bad key row × ((k : K) (r : X) → cmp k key ≡ Less → find cmp k es ≡ Some r → right k r)
 
     found_at : (es : List (K × X)) → T (is_sorted cmp es) → (key : K) → FirstIn right bad es (Some key) → Found es key
     found_at [] s key f = absurd (none-some key (sym f))
-    found_at (x ∷ es) s key (inr f) =
-        let is : key ≡ x.0 = same_Some key x.0 f.1 in
-        subst (Found (x ∷ es)) (sym is) (
-          x.1,
-          here cmp x.0 x es (ap is_eq (tied_itself total x.0)),
-          f.0,
-          λ k r l e. absurd (none-some r (sym (elsewhere cmp k x es (ap is_eq l) ∙ below cmp total k x.0 es l (first_of _ _ s)) ∙ e)),
-        )
-    found_at (x ∷ es) s key (inl f) = more (found_at es (second_of _ _ s) key f.1)
-      where
-        more : Found es key → Found (x ∷ es) key
-        more g =
-            let less : cmp x.0 key ≡ Less = above_first x.0 key g.0 es (first_of _ _ s) g.1 in (
-              g.0,
-              elsewhere cmp key x es (ap is_eq (total.antisymm key x.0 ∙ ap ordering_reverse less)) ∙ g.1,
-              g.2,
-              λ k r l e. by k r l (eq_by_cmp cmp k x.0) refl e,
-            )
-          where
-            by : (k : K) (r : X) → cmp k key ≡ Less → (b : Bool) → eq_by_cmp cmp k x.0 ≡ b → cond b (Some x.1) (find cmp k es) ≡ Some r → right k r
-            by k r l true h e = subst (λ v. right k v) (same_Some x.1 r e) (subst (λ j. right j x.1) (sym ((key-Decides cmp total exact k x.0).0 h)) f.0)
-            by k r l false h e = g.3 k r l e
+    found_at (x ∷ es) s key (inr f) = grind (arith, same_Some, here, tied_itself, none-some, elsewhere, below, first_of)
+    found_at (x ∷ es) s key (inl f) = grind (arith, second_of, above_first, first_of, elsewhere, same_Some, key-Decides, found_at es)
 
 module _ {K X : Type 0} {cmp : K → K → Ordering} (right bad : K → X → Type 0) (total : IsTotalOrder cmp) (exact : CmpEqualImpliesEq cmp) (m : FinMap cmp X) where
   pub held_entries : AllByRecursion (λ e. get m e.0 ≡ Some e.1) (entries m)

@@ -1,9 +1,8 @@
 -- The first slot that is missing, as the least key at which one is.
-use Rattle.moo_damage.{proofs.Words.{◌≡◌, Bool, true, false, Option, None, Some, Less, sym, ap, subst, inl, inr, ◌<ℤ◌, not, pos, is_some, unwrap_or, ◌⊎◌, int_cmp_is, option_map, get, false≢true, and_parts, both_ways, ObjNo, PropId, PropRow, Maps, is_among, world_of, chain, some_of, MissingSlot, is_owed, is_missing, AtSlot, InRows, IsLeast, IsFirstMissing, Misses, Slot}, proofs.Least.{least_at, number_less}}
+use Rattle.moo_damage.{proofs.Words.{arith, ◌≡◌, Bool, true, false, Option, None, Some, Less, sym, ap, subst, inl, inr, ◌<ℤ◌, not, pos, is_some, unwrap_or, ◌⊎◌, int_cmp_is, option_map, get, false≢true, and_parts, both_ways, ObjNo, PropId, PropRow, Maps, is_among, world_of, chain, some_of, MissingSlot, is_owed, is_missing, AtSlot, InRows, IsLeast, IsFirstMissing, Misses, Slot}, proofs.Least.{least_at, number_less}}
 
 mapped_some : {A : Type 0} (o : Option A) (f : A → Bool) → unwrap_or (option_map f o) false ≡ true → is_some o ≡ true
-mapped_some None f e = absurd (false≢true e)
-mapped_some (Some a) f e = λ i. true
+mapped_some o f h1 = grind (arith, false≢true)
 
 module _ (m : Maps) where
   -- the property of a missing slot is there
@@ -17,13 +16,4 @@ module _ (m : Maps) where
   none_missing f key h = let row = some_of (get m.objects key.0) h.0 in none_of key.0 (f key.0 row.0 row.1) key.1 h.1
 
   pub missing_first : (key : ObjNo × PropId) → IsFirstMissing m (Some key) → IsLeast (InRows m MissingSlot) (Some (Slot key.0.0 (pos key.1.0)))
-  missing_first key f = least_at m MissingSlot (Slot key.0.0 (pos key.1.0)) (ap is_some f.1, f.2.2) (λ x l h. h) (λ id l h. h) by (λ k l h. h) (λ id l h. h)
-    where
-      by : (k : ObjNo × PropId) → (k.0.0 <ℤ key.0.0) ⊎ ((k.0.0 ≡ key.0.0) × (pos k.1.0 <ℤ pos key.1.0)) → ¬ (AtSlot m MissingSlot k)
-      by k (inl l) h =
-          let row = some_of (get m.objects k.0) h.0 in
-          none_of k.0 (f.3 k.0 row.0 (sym (int_cmp_is k.0.0 key.0.0 Less l)) row.1) k.1 h.1
-      by k (inr l) h =
-          let p = some_of (get m.props k.1) (owed_prop k h.1) in
-          let same : k.0 ≡ key.0 = λ i. record { 0 = l.0 i } in
-          both_ways (is_missing m (key.0, k.1)) (f.2.3 k.1 p.0 (number_less k.1.0 key.1.0 l.1) p.1) (subst (λ z. is_missing m (z, k.1) ≡ true) same h.1)
+  missing_first key f = grind (arith, least_at, some_of, none_of, int_cmp_is, owed_prop, both_ways, number_less)

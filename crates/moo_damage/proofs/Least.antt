@@ -5,8 +5,7 @@ pub number_less : (i j : ℕ) → pos i <ℤ pos j → nat_cmp i j ≡ Less
 number_less i j l = sym (nat_cmp_is i j Less (omega (arith, ints, l)))
 
 pub pair_less : (n k : ℤ) (i j : ℕ) → (n <ℤ k) ⊎ ((n ≡ k) × (pos i <ℤ pos j)) → ordering_then (int_cmp n k) (nat_cmp i j) ≡ Less
-pair_less n k i j (inl l) = ap (λ o. ordering_then o (nat_cmp i j)) (sym (int_cmp_is n k Less l))
-pair_less n k i j (inr l) = ap (λ o. ordering_then o (nat_cmp i j)) (sym (int_cmp_is n k Equal l.0)) ∙ number_less i j l.1
+pair_less n k i j h1 = grind (arith, int_cmp_is, number_less)
 
 -- where the search for a bad row ended, there is none
 pub no_bad : {K X : Type 0} {cmp : K → K → Ordering} (rows : FinMap cmp X) (right bad : K → X → Type 0) → ((k : K) (r : X) → right k r → ¬ (bad k r)) → IsLeastBad rows right bad None → (k : K) → ¬ (Has (get rows) bad k)
@@ -29,56 +28,30 @@ module _ (m : Maps) (kind : Kind) where
   pub least_at : (key : Key) → InRows m kind key → ((x : ObjNo) → IsBelow (Object x.0) key → ¬ (AtObject m kind x)) → ((id : PropId) → IsBelow (Prop (pos id.0)) key → ¬ (AtProp m kind id))
       → ((k : ObjNo × PropId) → IsBelow (Slot k.0.0 (pos k.1.0)) key → ¬ (AtSlot m kind k)) → ((k : ObjNo × VerbId) → IsBelow (Verb k.0.0 (pos k.1.0)) key → ¬ (AtVerb m kind k))
       → ((id : PetitionId) → IsBelow (Petition (pos id.0)) key → ¬ (AtPetition m kind id)) → IsLeast (InRows m kind) (Some key)
-  least_at key h a b c d e = (h, by)
-    where
-      by : (other : Key) → IsBelow other key → ¬ (InRows m kind other)
-      by Head l k = k
-      by (Object n) l k = a (record { 0 = n }) l k
-      by (Prop (pos i)) l k = b (record { 0 = i }) l k
-      by (Prop (negsuc i)) l k = k
-      by (Slot n (pos i)) l k = c (record { 0 = n }, record { 0 = i }) l k
-      by (Slot n (negsuc i)) l k = k
-      by (Verb n (pos i)) l k = d (record { 0 = n }, record { 0 = i }) l k
-      by (Verb n (negsuc i)) l k = k
-      by (Petition (pos i)) l k = e (record { 0 = i }) l k
-      by (Petition (negsuc i)) l k = k
+  least_at key h a b c d e = grind arith
 
 -- ---- the first bad row of a map, as the least key at which the kind is met
 
 module _ (m : Maps) where
   pub object_first : (kind : Kind) (right bad : ObjNo → ObjRow → Type 0) → ((x : ObjNo) → Has (get m.objects) bad x → AtObject m kind x) → ((x : ObjNo) → AtObject m kind x → Has (get m.objects) bad x)
       → ((x : ObjNo) (row : ObjRow) → right x row → ¬ (bad x row)) → (x : ObjNo) → IsLeastBad m.objects right bad (Some x) → IsLeast (InRows m kind) (Some (Object x.0))
-  object_first kind right bad to from apart x f =
-      least_at m kind (Object x.0) (to x (f.0, f.1, f.2))
-      (λ y l h. let b = from y h in apart y b.0 (f.3 y b.0 (sym (int_cmp_is y.0 x.0 Less l)) b.1) b.2)
-      (λ i l h. omega (arith, l)) (λ k l h. omega (arith, l)) (λ k l h. omega (arith, l)) (λ i l h. omega (arith, l))
+  object_first kind right bad to from apart x f = grind (arith, least_at, int_cmp_is)
 
   pub prop_first : (kind : Kind) (right bad : PropId → PropRow → Type 0) → ((id : PropId) → Has (get m.props) bad id → AtProp m kind id) → ((id : PropId) → AtProp m kind id → Has (get m.props) bad id)
       → ((id : PropId) (row : PropRow) → right id row → ¬ (bad id row)) → ((y : ObjNo) → ¬ (AtObject m kind y)) → (id : PropId) → IsLeastBad m.props right bad (Some id) → IsLeast (InRows m kind) (Some (Prop (pos id.0)))
-  prop_first kind right bad to from apart a id f =
-      least_at m kind (Prop (pos id.0)) (to id (f.0, f.1, f.2)) (λ y l. a y)
-      (λ i l h. let b = from i h in apart i b.0 (f.3 i b.0 (number_less i.0 id.0 l) b.1) b.2)
-      (λ k l h. omega (arith, l)) (λ k l h. omega (arith, l)) (λ i l h. omega (arith, l))
+  prop_first kind right bad to from apart a id f = grind (arith, least_at, number_less)
 
   pub slot_first : (kind : Kind) (right bad : ObjNo × PropId → SlotRow → Type 0) → ((key : ObjNo × PropId) → Has (get m.slots) bad key → AtSlot m kind key) → ((key : ObjNo × PropId) → AtSlot m kind key → Has (get m.slots) bad key)
       → ((key : ObjNo × PropId) (row : SlotRow) → right key row → ¬ (bad key row)) → ((y : ObjNo) → ¬ (AtObject m kind y)) → ((id : PropId) → ¬ (AtProp m kind id))
       → (key : ObjNo × PropId) → IsLeastBad m.slots right bad (Some key) → IsLeast (InRows m kind) (Some (Slot key.0.0 (pos key.1.0)))
-  slot_first kind right bad to from apart a b key f =
-      least_at m kind (Slot key.0.0 (pos key.1.0)) (to key (f.0, f.1, f.2)) (λ y l. a y) (λ i l. b i)
-      (λ k l h. let t = from k h in apart k t.0 (f.3 k t.0 (pair_less k.0.0 key.0.0 k.1.0 key.1.0 l) t.1) t.2)
-      (λ k l h. omega (arith, l)) (λ i l h. omega (arith, l))
+  slot_first kind right bad to from apart a b key f = grind (arith, least_at, pair_less)
 
   pub verb_first : (kind : Kind) (right bad : ObjNo × VerbId → VerbRow → Type 0) → ((key : ObjNo × VerbId) → Has (get m.verbs) bad key → AtVerb m kind key) → ((key : ObjNo × VerbId) → AtVerb m kind key → Has (get m.verbs) bad key)
       → ((key : ObjNo × VerbId) (row : VerbRow) → right key row → ¬ (bad key row)) → ((y : ObjNo) → ¬ (AtObject m kind y)) → ((id : PropId) → ¬ (AtProp m kind id)) → ((key : ObjNo × PropId) → ¬ (AtSlot m kind key))
       → (key : ObjNo × VerbId) → IsLeastBad m.verbs right bad (Some key) → IsLeast (InRows m kind) (Some (Verb key.0.0 (pos key.1.0)))
-  verb_first kind right bad to from apart a b c key f =
-      least_at m kind (Verb key.0.0 (pos key.1.0)) (to key (f.0, f.1, f.2)) (λ y l. a y) (λ i l. b i) (λ k l. c k)
-      (λ k l h. let t = from k h in apart k t.0 (f.3 k t.0 (pair_less k.0.0 key.0.0 k.1.0 key.1.0 l) t.1) t.2)
-      (λ i l h. omega (arith, l))
+  verb_first kind right bad to from apart a b c key f = grind (arith, least_at, pair_less)
 
   pub petition_first : (kind : Kind) (right bad : PetitionId → PetitionRow → Type 0) → ((id : PetitionId) → Has (get m.petitions) bad id → AtPetition m kind id) → ((id : PetitionId) → AtPetition m kind id → Has (get m.petitions) bad id)
       → ((id : PetitionId) (row : PetitionRow) → right id row → ¬ (bad id row)) → ((y : ObjNo) → ¬ (AtObject m kind y)) → ((id : PropId) → ¬ (AtProp m kind id)) → ((key : ObjNo × PropId) → ¬ (AtSlot m kind key)) → ((key : ObjNo × VerbId) → ¬ (AtVerb m kind key))
       → (id : PetitionId) → IsLeastBad m.petitions right bad (Some id) → IsLeast (InRows m kind) (Some (Petition (pos id.0)))
-  petition_first kind right bad to from apart a b c d id f =
-      least_at m kind (Petition (pos id.0)) (to id (f.0, f.1, f.2)) (λ y l. a y) (λ i l. b i) (λ k l. c k) (λ k l. d k)
-      (λ i l h. let t = from i h in apart i t.0 (f.3 i t.0 (number_less i.0 id.0 l) t.1) t.2)
+  petition_first kind right bad to from apart a b c d id f = grind (arith, least_at, number_less)

@@ -1,5 +1,5 @@
 -- Names that are noted as an object's slots are gone over.
-use Rattle.moo_damage.{proofs.Words.{◌≡◌, ◌<◌, ℕ, Bool, true, false, cond, Option, None, Some, List, [], ◌∷◌, map, Ordering, Less, Equal, Greater, refl, sym, ap, ◌∙◌, subst, ◌⊎◌, inl, inr, is_some, nat_eq, if◌then◌else◌, to_ascii_lowercase, FinMap, get, insert, get-insert, list_any, AllByRecursion, lookup, nat_cmp, int_eq, is_eq, eq_by_cmp, match_ordering, both_ways, or_cases, false≢true, Decides-int_eq, none-some, same_Some, ObjNo, PropId, PropRow, SlotRow, object_exact, Maps, object_cmp, object_total, Name, same_text, folded, same_text-Decides, key-Decides, some_of, walk, has_slot, AreApart, NamesApart, noted_as, is_alone, NotesProp, unsigned_Decides, IsSound, walk_held, Noted}, proofs.Nearby.{met}}
+use Rattle.moo_damage.{proofs.Words.{arith, ◌≡◌, ◌<◌, ℕ, Bool, true, false, cond, Option, None, Some, List, [], ◌∷◌, map, Ordering, Less, Equal, Greater, refl, sym, ap, ◌∙◌, subst, ◌⊎◌, inl, inr, is_some, nat_eq, if◌then◌else◌, to_ascii_lowercase, FinMap, get, insert, get-insert, list_any, AllByRecursion, lookup, nat_cmp, int_eq, is_eq, eq_by_cmp, match_ordering, both_ways, or_cases, false≢true, Decides-int_eq, none-some, same_Some, ObjNo, PropId, PropRow, SlotRow, object_exact, Maps, object_cmp, object_total, Name, same_text, folded, same_text-Decides, key-Decides, some_of, walk, has_slot, AreApart, NamesApart, noted_as, is_alone, NotesProp, unsigned_Decides, IsSound, walk_held, Noted}, proofs.Nearby.{met}}
 use Rattle.std.{specs.BTreeMap.{insert_entry, is_at}, specs.Cmp.Lexicographic.{slice_cmp, texts_ties}, specs.Global.{Vec}}
 
 -- ---- a map by name
@@ -72,8 +72,7 @@ module _ (m : Maps) (x : ObjNo) where
   number_same i j e = let k = (unsigned_Decides i.0 j.0).0 e in λ t. record { 0 = k t }
 
   alone_is : (o : Option PropId) (id other : PropId) → is_alone o id ≡ true → o ≡ Some other → id ≡ other
-  alone_is None id other a e = absurd (none-some other e)
-  alone_is (Some k) id other a e = sym (number_same k id a) ∙ same_Some k other e
+  alone_is o id other h1 h2 = grind (arith, none-some, number_same, same_Some)
 
   pub reached : (left rest : Slots) (e : (ObjNo × PropId) × SlotRow) (old new : Noted) → left ≡ e ∷ rest → NotesProp (get m.props e.0.1) e.0.1 old new true → Reached old left → Reached new rest
   reached left rest e old new is notes h id p there low slot = by (get m.props e.0.1) refl notes (h id p there low slot)
@@ -132,25 +131,11 @@ module _ (m : Maps) (x : ObjNo) where
 
   -- of sound rows no other property is noted
   pub always_alone : (e : (ObjNo × PropId) × SlotRow) (old new : Noted) (alone : Bool) → IsSound m → has_slot m x e.0.1 ≡ true → NotesProp (get m.props e.0.1) e.0.1 old new alone → Own old → alone ≡ true
-  always_alone e old new alone sound slot notes h = by (get m.props e.0.1) refl notes
-    where
-      by : (o : Option PropRow) → get m.props e.0.1 ≡ o → NotesProp o e.0.1 old new alone → alone ≡ true
-      by None g u = u.1
-      by (Some q) g u = u.1 ∙ at (noted_as old (folded q.name)) refl
-        where
-          at : (o : Option PropId) → noted_as old (folded q.name) ≡ o → is_alone o e.0.1 ≡ true
-          at None k = refl
-          at (Some other) k =
-              let there = h (folded q.name) other k in
-              (unsigned_Decides other.0 e.0.1.0).1 (sound.one_name x other.0 e.0.1.0 there.1 q there.0 slot there.2 g there.3)
+  always_alone e old new alone sound slot notes h = grind (arith, unsigned_Decides)
 
 -- one more of which it is known
 pub AreApart-noted : (m : Maps) (known : FinMap object_cmp (Unit {0})) (x : ObjNo) → NamesApart m x → AreApart m known → AreApart m (insert known x tt)
-AreApart-noted m known x apart are z e = by (eq_by_cmp object_cmp z x) refl (sym (get-insert object_total known x tt z) ∙ e)
-  where
-    by : (b : Bool) → eq_by_cmp object_cmp z x ≡ b → cond b (Some tt) (get known z) ≡ Some tt → NamesApart m z
-    by true k g = subst (NamesApart m) (sym ((key-Decides object_cmp object_total object_exact z x).0 k)) apart
-    by false k g = are z g
+AreApart-noted m known x apart are z e = grind (arith, get-insert, object_total, key-Decides)
 
 -- the walk goes over slots of x
 pub slots_walked : (m : Maps) (x : ObjNo) → AreSlots m x (walk m x)
@@ -164,6 +149,4 @@ slots_walked m x = all (walk m x) (walk_held m x)
 
 -- each slot of x is gone over
 pub all_walked : (m : Maps) (x : ObjNo) (id : PropId) → 0 < id.0 → has_slot m x id ≡ true → list_any (λ e. nat_eq e.0.1.0 id.0) (walk m x) ≡ true
-all_walked m x id low a =
-    let s = some_of (get m.slots (x, id)) a in
-    met m x (λ e. nat_eq e.0.1.0 id.0) id s.0 low s.1 ((unsigned_Decides id.0 id.0).1 refl)
+all_walked m x id low a = grind (arith, some_of, met, unsigned_Decides)

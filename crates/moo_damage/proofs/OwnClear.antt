@@ -1,9 +1,8 @@
 -- Where no property has a clear slot on its definer, no slot is one.
-use Rattle.moo_damage.{proofs.Words.{◌≡◌, Bool, true, false, ◌&&◌, Option, None, Some, refl, sym, ap, ◌∙◌, unwrap_or, option_map, list_any, get, entries, ObjNo, PropId, PropRow, SlotRow, prop_exact, Maps, prop_cmp, prop_total, same_object, same_object-Decides, is_clear, is_clear_definer, has_clear}, proofs.Nearby.{none_held}}
+use Rattle.moo_damage.{proofs.Words.{arith, ◌≡◌, Bool, true, false, ◌&&◌, Option, None, Some, refl, sym, ap, ◌∙◌, unwrap_or, option_map, list_any, get, entries, ObjNo, PropId, PropRow, SlotRow, prop_exact, Maps, prop_cmp, prop_total, same_object, same_object-Decides, is_clear, is_clear_definer, has_clear}, proofs.Nearby.{none_held}}
 
 and_none : (b : Bool) → (b && false) ≡ false
-and_none true = refl
-and_none false = refl
+and_none b = grind arith
 
 pub none_clear : (m : Maps) → list_any (λ e. has_clear m e.1.definer e.0) (entries m.props) ≡ false → (key : ObjNo × PropId) (s : SlotRow) → get m.slots key ≡ Some s → is_clear_definer m key s ≡ false
 none_clear m none key s held = by (get m.props key.1) refl

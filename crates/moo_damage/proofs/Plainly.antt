@@ -10,11 +10,7 @@ module _ (m : Maps) (plain : ArePlain m) where
   plain_given x row e = not_true _ (and_parts (not (is_object_past m.head x)) (goes_down Parent m x row && goes_down Location m x row) (plain x row e)).0
 
   pub plain_down : (link : TreeLink) → LinksDescend link m
-  plain_down link x row e = by link (and_parts (goes_down Parent m x row) (goes_down Location m x row) (and_parts (not (is_object_past m.head x)) (goes_down Parent m x row && goes_down Location m x row) (plain x row e)).1)
-    where
-      by : (link : TreeLink) → (goes_down Parent m x row ≡ true) × (goes_down Location m x row ≡ true) → goes_down link m x row ≡ true
-      by Parent both = both.0
-      by Location both = both.1
+  plain_down link x row e = grind (arith, and_parts)
 
   pub plain_found : (link : TreeLink) (x : ObjNo) (row : ObjRow) → get m.objects x ≡ Some row → is_lost link m row ≡ false
   plain_found link x row e = not_lost link m x row (plain_down link x row e)

@@ -1,4 +1,4 @@
-use Rattle.moo_damage.proofs.Words.{false, ap, ◌∙◌, unwrap_or, option_map, PropRow, same_object, same_object-eq}
+use Rattle.moo_damage.proofs.Words.{arith, false, ap, ◌∙◌, unwrap_or, option_map, PropRow, same_object, same_object-eq}
 use Rattle.moo_damage.proofs.checks.defines.Goals as goal
 
 pub returns-in-Some : goal.returns-in-Some

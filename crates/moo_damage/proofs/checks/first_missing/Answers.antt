@@ -1,4 +1,4 @@
-use Rattle.moo_damage.{proofs.Words.{None, Some, ObjNo, ObjRow, object_exact, object_total, Misses}, proofs.Firsts.{ended, stopped}}
+use Rattle.moo_damage.{proofs.Words.{arith, None, Some, ObjNo, ObjRow, object_exact, object_total, Misses}, proofs.Firsts.{ended, stopped}}
 use Rattle.moo_damage.proofs.checks.first_missing.Goals as goal
 
 pub returns-in-Some-first_missing_of : goal.returns-in-Some-first_missing_of

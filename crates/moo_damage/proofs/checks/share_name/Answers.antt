@@ -1,4 +1,4 @@
-use Rattle.moo_damage.{proofs.Words.{◌≡◌, true, false, ◌||◌, ◌&&◌, sym, ap, ◌∙◌, same_text, folded, is_among, world_of, chain}, proofs.Naming.{same_named}}
+use Rattle.moo_damage.{proofs.Words.{arith, ◌≡◌, true, false, ◌||◌, ◌&&◌, sym, ap, ◌∙◌, same_text, folded, is_among, world_of, chain}, proofs.Naming.{same_named}}
 use Rattle.moo_damage.proofs.checks.share_name.Goals as goal
 
 pub returns-then-not-same_name : goal.returns-then-not-same_name

@@ -1,4 +1,4 @@
-use Rattle.moo_damage.{proofs.Words.{None, subst, lost_kind, loop_kind, InRows, IsLeast}, proofs.Good.{links_hold}, proofs.InTurn.{none_more}, proofs.Searched.{of_object, lost_least, loops_least, told, after_lost}}
+use Rattle.moo_damage.{proofs.Words.{arith, None, subst, lost_kind, loop_kind, InRows, IsLeast}, proofs.Good.{links_hold}, proofs.InTurn.{none_more}, proofs.Searched.{of_object, lost_least, loops_least, told, after_lost}}
 use Rattle.moo_damage.proofs.damage.wrong_link.Goals as goal
 
 pub looping_object-requires-clause-links : goal.looping_object-requires-clause-links

@@ -1,4 +1,4 @@
-use Rattle.moo_damage.{proofs.Words.{refl, subst, NoDefiner, InRows, IsLeast}, proofs.Searched.{of_prop, definer_least, told}}
+use Rattle.moo_damage.{proofs.Words.{arith, refl, subst, NoDefiner, InRows, IsLeast}, proofs.Searched.{of_prop, definer_least, told}}
 use Rattle.moo_damage.proofs.damage.wrong_property.Goals as goal
 
 pub returns-in-Some-clause-first : goal.returns-in-Some-clause-first

@@ -1,4 +1,4 @@
-use Rattle.moo_damage.{proofs.Words.{None, refl, subst, Maps, StrangeSlot, MissingSlot, ClearDefiner, StrangeVerb, is_strange, IsLeastBad, InRows, IsLeast, NoneBefore, IsFirstMissing, ◌≡◌, true, false}, proofs.InTurn.{none_more}, proofs.Searched.{of_slot, of_verb, strange_least, missing_least, clear_least, verb_least, told}}
+use Rattle.moo_damage.{proofs.Words.{arith, None, refl, subst, Maps, StrangeSlot, MissingSlot, ClearDefiner, StrangeVerb, is_strange, IsLeastBad, InRows, IsLeast, NoneBefore, IsFirstMissing, ◌≡◌, true, false}, proofs.InTurn.{none_more}, proofs.Searched.{of_slot, of_verb, strange_least, missing_least, clear_least, verb_least, told}}
 use Rattle.moo_damage.proofs.damage.wrong_slot_or_verb.Goals as goal
 
 slots_owed : (m : Maps) → NoneBefore (InRows m) 10 → IsLeastBad m.slots (λ k r. is_strange m k ≡ false) (λ k r. is_strange m k ≡ true) None → IsFirstMissing m None → NoneBefore (InRows m) 12

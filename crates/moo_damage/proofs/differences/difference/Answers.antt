@@ -1,4 +1,4 @@
-use Rattle.moo_damage.{proofs.Words.{rules, ◌≡◌}, proofs.Differing.{nowhere}}
+use Rattle.moo_damage.{proofs.Words.{arith, rules, ◌≡◌}, proofs.Differing.{nowhere}}
 use Rattle.moo_damage.proofs.differences.difference.Goals as goal
 
 pub returns-clause-same : goal.returns-clause-same

@@ -1,4 +1,4 @@
-use Rattle.moo_damage.{proofs.Words.{IsTotalOrder, CmpEqualImpliesEq, sym, subst}, proofs.Unlike.{first_unlike}}
+use Rattle.moo_damage.{proofs.Words.{arith, IsTotalOrder, CmpEqualImpliesEq, sym, subst}, proofs.Unlike.{first_unlike}}
 use Rattle.moo_damage.proofs.differences.first_differing.Goals as goal
 
 pub returns : goal.returns

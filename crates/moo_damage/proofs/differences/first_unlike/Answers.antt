@@ -1,4 +1,4 @@
-use Rattle.moo_damage.{proofs.Words.{rules}, specs.Differences.{IsUnlike}, proofs.Firsts.{least_so}}
+use Rattle.moo_damage.{proofs.Words.{arith, rules}, specs.Differences.{IsUnlike}, proofs.Firsts.{least_so}}
 use Rattle.moo_damage.proofs.differences.first_unlike.Goals as goal
 
 pub returns : goal.returns

@@ -1,4 +1,4 @@
-use Rattle.moo_damage.{proofs.Words.{IsTotalOrder, CmpEqualImpliesEq, ◌≡◌, ◌∙◌, subst, sym}, proofs.Firsts.{any_found, least_so}}
+use Rattle.moo_damage.{proofs.Words.{arith, IsTotalOrder, CmpEqualImpliesEq, ◌≡◌, ◌∙◌, subst, sym}, proofs.Firsts.{any_found, least_so}}
 use Rattle.moo_damage.proofs.first.any_bad.Goals as goal
 
 pub returns : goal.returns

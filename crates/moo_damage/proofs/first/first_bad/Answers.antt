@@ -3,8 +3,7 @@ use Rattle.moo_rows.proofs.Walking.{past_none}
 use Rattle.moo_damage.proofs.first.first_bad.Goals as goal
 
 pub loop-next-init : goal.loop-next-init
-loop-next-init g c o =
-    subst (λ l. FirstIn (MaySay g.F.Fn c.args.is_bad false) (MaySay g.F.Fn c.args.is_bad true) l o) (past_none g.T.KeyedRow.order (entries (g.T.KeyedRow.map_of (g.R.Rows.held c.args.rows.now).maps)))
+loop-next-init g c o = grind (arith, past_none)
 
 pub returns-then-is_bad : goal.returns-then-is_bad
 returns-then-is_bad g c =

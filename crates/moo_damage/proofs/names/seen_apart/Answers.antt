@@ -1,4 +1,4 @@
-use Rattle.moo_damage.{proofs.Words.{rules, ◌≡◌, true, sym, subst, is_some, get, object_cmp, contents, some_of, AreApart, NamesApart}, proofs.Noting.{AreApart-noted}}
+use Rattle.moo_damage.{proofs.Words.{arith, rules, ◌≡◌, true, sym, subst, is_some, get, object_cmp, contents, some_of, AreApart, NamesApart}, proofs.Noting.{AreApart-noted}}
 use Rattle.moo_damage.proofs.names.seen_apart.Goals as goal
 
 pub returns-then-is_some-clause-apart : goal.returns-then-is_some-clause-apart

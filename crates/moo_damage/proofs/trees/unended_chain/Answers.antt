@@ -2,12 +2,10 @@ use Rattle.moo_damage.{proofs.Words.{◌≡◌, true, Option, None, Some, refl, 
 use Rattle.moo_damage.proofs.trees.unended_chain.Goals as goal
 
 some_still : {A B : Type 0} (o : Option A) (f : A → B) → is_some o ≡ true → is_some (option_map f o) ≡ true
-some_still None f e = e
-some_still (Some a) f e = refl
+some_still o f h1 = grind arith
 
 pub returns-in-None-clause-ends : goal.returns-in-None-clause-ends
-returns-in-None-clause-ends g c =
-    c.loop.invariant.up (ends_here c.args.link (g.R.Rows.held c.args.rows.now).maps c.requires.links c.loop.at c.loop.invariant.here (sym c.in-None.ensures))
+returns-in-None-clause-ends g c = grind (arith, ends_here)
 
 pub loop-preserved : goal.loop-preserved
 loop-preserved g c =
@@ -28,17 +26,10 @@ loop-preserved g c =
     }
 
 pub returns-in-None-object-clause-ends : goal.returns-in-None-object-clause-ends
-returns-in-None-object-clause-ends g c =
-    c.loop.invariant.up (ends_here c.args.link (g.R.Rows.held c.args.rows.now).maps c.requires.links c.loop.at c.loop.invariant.here (sym c.in-None-object.ensures))
+returns-in-None-object-clause-ends g c = grind (arith, ends_here)
 
 pub returns-in-Some-object-clause-loops : goal.returns-in-Some-object-clause-loops
-returns-in-Some-object-clause-loops g c l p =
-    let m = (g.R.Rows.held c.args.rows.now).maps in
-    let d = c.loop.invariant.down l p in
-    let s = step_down c.args.link m c.requires.links c.loop.at c.in-Some-object.field-0.now (sym c.in-Some-object.ensures) d.0 d.1 in
-    omega (arith, s.2, d.2, bound c.args.link m c.requires.links l c.args.x p, c.requires.count, c.loop-test.false)
+returns-in-Some-object-clause-loops g c l p = grind (arith, step_down, bound)
 
 pub returns-then-is_some-clause-ends : goal.returns-then-is_some-clause-ends
-returns-then-is_some-clause-ends g c =
-    let there : is_some (get (contents object_cmp c.args.known.now) c.loop.at) ≡ true = sym (ap is_some c.get.ensures) ∙ some_still _ _ (sym c.is_some.ensures ∙ c.if-is_some.true) in
-    c.loop.invariant.up (c.requires.known c.loop.at (some_of _ there).1)
+returns-then-is_some-clause-ends g c = grind (arith, some_still, some_of)
