@@ -23,7 +23,7 @@ fn first_text(values: &[Value]) -> Option<(&MooStr, &[Value])>
 }
 
 /// The call on the world that a name spells; `None` if it spells no call, or a call on petitions.
-fn name_of(name: &[u8]) -> Option<CallName>
+fn world_call_name(name: &[u8]) -> Option<CallName>
     ensures { result ≡ option_and_then (λ n. if is_some (petition_call n) then None else Some n) (call_name_of name.now) }
 {
     let name = CallName::read(name)?;
@@ -44,7 +44,7 @@ pub fn held_call(held: &Value) -> Option<(CallName, &[Value])>
         _ => return None,
     };
     let (name, args) = first_text(values.items())?;
-    let name = name_of(name.bytes())?;
+    let name = world_call_name(name.bytes())?;
     Some((name, args))
 }
 

@@ -82,7 +82,7 @@ fn charge<R: Rows>(rows: &mut R, owner: ObjNo, quota: Option<i64>) -> Result<(),
 }
 
 /// Why the programmer may not make an object under this parent: it is neither fertile nor the programmer's, or it isn't an object.
-fn parent_fault<R: Rows>(rows: &R, parent: ObjNo) -> Reason
+fn unfit_parent<R: Rows>(rows: &R, parent: ObjNo) -> Reason
     ensures { result ≡ unfit_parent (world_in (R.held rows.now)) parent }
 {
     if valid(rows, parent) {
@@ -108,7 +108,7 @@ pub fn create<R: Rows>(
     ensures { Does (create (world_in (R.held rows.old)) programmer parent owner) (R.held rows.old) (R.held rows.new) result }
 {
     if !rights::may_be_parent(rows, programmer, parent) {
-        return Err(Fault::Moo(parent_fault(rows, parent)));
+        return Err(Fault::Moo(unfit_parent(rows, parent)));
     }
     if !rights::may_make_owner(rows, programmer, owner) {
         return Err(Fault::Moo(Reason::NoOwner(owner)));

@@ -18,8 +18,8 @@ use moo_rows::Rows;
 use moo_value::{ObjNo, Value};
 use std::alloc::Global;
 
-/// Makes the call `get` with an object and a name. E_ARGS and E_TYPE if it is given others, and then the errors of `get`.
-pub(crate) fn get<R: Rows>(
+/// Makes the call `get` with an object and a name. E_ARGS and E_TYPE if it is given others, and then the errors of the call.
+pub(crate) fn get_given<R: Rows>(
     rows: &R,
     alloc: Global,
     programmer: ObjNo,
@@ -32,8 +32,8 @@ pub(crate) fn get<R: Rows>(
     values::get(rows, alloc, programmer, x, property)
 }
 
-/// Makes the call `properties` with an object. E_ARGS and E_TYPE if it is given others, and then the errors of `properties`.
-pub(crate) fn properties<R: Rows>(
+/// Makes the call `properties` with an object. E_ARGS and E_TYPE if it is given others, and then the errors of the call.
+pub(crate) fn properties_given<R: Rows>(
     rows: &R,
     alloc: Global,
     programmer: ObjNo,
@@ -46,8 +46,8 @@ pub(crate) fn properties<R: Rows>(
 }
 
 /// Makes the call `property_info` with an object and a name. E_ARGS and E_TYPE if it is given others, and then the errors of
-/// `property_info`.
-pub(crate) fn property_info<R: Rows>(
+/// the call.
+pub(crate) fn property_info_given<R: Rows>(
     rows: &R,
     alloc: Global,
     programmer: ObjNo,
@@ -61,8 +61,8 @@ pub(crate) fn property_info<R: Rows>(
 }
 
 /// Makes the call `is_clear_property` with an object and a name. E_ARGS and E_TYPE if it is given others, and then the errors of
-/// `is_clear_property`.
-pub(crate) fn is_clear_property<R: Rows>(
+/// the call.
+pub(crate) fn is_clear_property_given<R: Rows>(
     rows: &R,
     programmer: ObjNo,
     args: &[Value],
@@ -74,8 +74,8 @@ pub(crate) fn is_clear_property<R: Rows>(
     moo_calls_properties::is_clear_property(rows, programmer, x, property)
 }
 
-/// Makes the call `set` with an object, a name and a value. E_ARGS and E_TYPE if it is given others, and then the errors of `set`.
-pub(crate) fn set<R: Rows>(
+/// Makes the call `set` with an object, a name and a value. E_ARGS and E_TYPE if it is given others, and then the errors of the call.
+pub(crate) fn set_given<R: Rows>(
     rows: &mut R,
     alloc: Global,
     programmer: ObjNo,
@@ -91,8 +91,8 @@ pub(crate) fn set<R: Rows>(
 }
 
 /// Makes the call `add_property` with an object, a name, a value and `{owner, perms}`. E_ARGS and E_TYPE if it is given others, and then
-/// the errors of `add_property`.
-pub(crate) fn add_property<R: Rows>(
+/// the errors of the call.
+pub(crate) fn add_property_given<R: Rows>(
     rows: &mut R,
     alloc: Global,
     programmer: ObjNo,
@@ -110,8 +110,8 @@ pub(crate) fn add_property<R: Rows>(
 }
 
 /// Makes the call `delete_property` with an object and a name. E_ARGS and E_TYPE if it is given others, and then the errors of
-/// `delete_property`.
-pub(crate) fn delete_property<R: Rows>(
+/// the call.
+pub(crate) fn delete_property_given<R: Rows>(
     rows: &mut R,
     alloc: Global,
     programmer: ObjNo,
@@ -126,8 +126,8 @@ pub(crate) fn delete_property<R: Rows>(
 }
 
 /// Makes the call `set_property_info` with an object, a name, and `{owner, perms}` or `{owner, perms, new-name}`. E_ARGS and E_TYPE if it
-/// is given others, and then the errors of `set_property_info`.
-pub(crate) fn set_property_info<R: Rows>(
+/// is given others, and then the errors of the call.
+pub(crate) fn set_property_info_given<R: Rows>(
     rows: &mut R,
     alloc: Global,
     programmer: ObjNo,
@@ -150,8 +150,8 @@ pub(crate) fn set_property_info<R: Rows>(
 }
 
 /// Makes the call `clear_property` with an object and a name. E_ARGS and E_TYPE if it is given others, and then the errors of
-/// `clear_property`.
-pub(crate) fn clear_property<R: Rows>(
+/// the call.
+pub(crate) fn clear_property_given<R: Rows>(
     rows: &mut R,
     programmer: ObjNo,
     args: &[Value],

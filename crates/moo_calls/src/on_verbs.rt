@@ -14,8 +14,8 @@ use moo_rows::Rows;
 use moo_value::{ObjNo, Value};
 use std::alloc::Global;
 
-/// Makes the call `verbs` with an object. E_ARGS and E_TYPE if it is given others, and then the errors of `verbs`.
-pub(crate) fn verbs<R: Rows>(
+/// Makes the call `verbs` with an object. E_ARGS and E_TYPE if it is given others, and then the errors of the call.
+pub(crate) fn verbs_given<R: Rows>(
     rows: &R,
     alloc: Global,
     programmer: ObjNo,
@@ -28,8 +28,8 @@ pub(crate) fn verbs<R: Rows>(
 }
 
 /// Makes the call `verb_info` with an object and a descriptor. E_ARGS and E_TYPE if it is given others, and then the errors of
-/// `verb_info`.
-pub(crate) fn verb_info<R: Rows>(
+/// the call.
+pub(crate) fn verb_info_given<R: Rows>(
     rows: &R,
     alloc: Global,
     programmer: ObjNo,
@@ -43,8 +43,8 @@ pub(crate) fn verb_info<R: Rows>(
 }
 
 /// Makes the call `verb_args` with an object and a descriptor. E_ARGS and E_TYPE if it is given others, and then the errors of
-/// `verb_args`.
-pub(crate) fn verb_args<R: Rows>(
+/// the call.
+pub(crate) fn verb_args_given<R: Rows>(
     rows: &R,
     alloc: Global,
     programmer: ObjNo,
@@ -58,8 +58,8 @@ pub(crate) fn verb_args<R: Rows>(
 }
 
 /// Makes the call `add_verb` with an object, `{owner, perms, names}` and `{dobj, prep, iobj}`. E_ARGS and E_TYPE if it is given others, and
-/// then the errors of `add_verb`.
-pub(crate) fn add_verb<R: Rows>(
+/// then the errors of the call.
+pub(crate) fn add_verb_given<R: Rows>(
     rows: &mut R,
     alloc: Global,
     programmer: ObjNo,
@@ -73,8 +73,8 @@ pub(crate) fn add_verb<R: Rows>(
 }
 
 /// Makes the call `delete_verb` with an object and a descriptor. E_ARGS and E_TYPE if it is given others, and then the errors of
-/// `delete_verb`.
-pub(crate) fn delete_verb<R: Rows>(
+/// the call.
+pub(crate) fn delete_verb_given<R: Rows>(
     rows: &mut R,
     alloc: Global,
     programmer: ObjNo,
@@ -88,8 +88,8 @@ pub(crate) fn delete_verb<R: Rows>(
 }
 
 /// Makes the call `set_verb_info` with an object, a descriptor and `{owner, perms, names}`. E_ARGS and E_TYPE if it is given others, and
-/// then the errors of `set_verb_info`.
-pub(crate) fn set_verb_info<R: Rows>(
+/// then the errors of the call.
+pub(crate) fn set_verb_info_given<R: Rows>(
     rows: &mut R,
     alloc: Global,
     programmer: ObjNo,
@@ -103,8 +103,8 @@ pub(crate) fn set_verb_info<R: Rows>(
 }
 
 /// Makes the call `set_verb_args` with an object, a descriptor and `{dobj, prep, iobj}`. E_ARGS and E_TYPE if it is given others, and then
-/// the errors of `set_verb_args`.
-pub(crate) fn set_verb_args<R: Rows>(
+/// the errors of the call.
+pub(crate) fn set_verb_args_given<R: Rows>(
     rows: &mut R,
     alloc: Global,
     programmer: ObjNo,

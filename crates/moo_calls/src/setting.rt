@@ -47,7 +47,7 @@ fn may_set<R: Rows>(rows: &R, programmer: ObjNo, x: ObjNo, field: BuiltIn) -> bo
 }
 
 /// Why the programmer may not name the object: it is a player, whom only a wizard names, or the programmer doesn't control it.
-fn namer_fault<R: Rows>(rows: &R, x: ObjNo) -> Reason
+fn unset_reason_of_name<R: Rows>(rows: &R, x: ObjNo) -> Reason
     ensures { result ≡ unset_reason (world_in (R.held rows.now)) x Name }
 {
     match rows.object(x) {
@@ -58,11 +58,11 @@ fn namer_fault<R: Rows>(rows: &R, x: ObjNo) -> Reason
 
 /// Why the programmer may not set a built-in property of the object: it may not name the object, it doesn't control the object, or
 /// the property is one that only a wizard sets.
-fn setter_fault<R: Rows>(rows: &R, x: ObjNo, field: BuiltIn) -> Reason
+fn unset_reason<R: Rows>(rows: &R, x: ObjNo, field: BuiltIn) -> Reason
     ensures { result ≡ unset_reason (world_in (R.held rows.now)) x field }
 {
     match field {
-        BuiltIn::Name => namer_fault(rows, x),
+        BuiltIn::Name => unset_reason_of_name(rows, x),
         BuiltIn::R | BuiltIn::W | BuiltIn::F => Reason::NotControlled(x),
         _ => Reason::NoWizard,
     }
@@ -100,7 +100,7 @@ pub fn set_built_in<R: Rows>(
 {
     let change = change_of(alloc, field, value)?;
     if !may_set(rows, programmer, x, field) {
-        return Err(Fault::Moo(setter_fault(rows, x, field)));
+        return Err(Fault::Moo(unset_reason(rows, x, field)));
     }
     if let Some(owner) = missing_owner(rows, &change) {
         return Err(Fault::Moo(Reason::NoObject(owner)));

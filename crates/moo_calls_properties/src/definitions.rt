@@ -74,7 +74,7 @@ pub(crate) fn own_property<R: Rows>(rows: &R, x: ObjNo, name: &MooStr) -> Option
 }
 
 /// Whether x itself defines a property of the name.
-pub(crate) fn defines<R: Rows>(rows: &R, x: ObjNo, name: &MooStr) -> bool
+pub(crate) fn defines_name<R: Rows>(rows: &R, x: ObjNo, name: &MooStr) -> bool
     requires { IsGood (R.held rows.now).maps }
     ensures { result ≡ defines_name (world_in (R.held rows.now)) x name.now }
 {

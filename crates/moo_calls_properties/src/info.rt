@@ -14,8 +14,8 @@ ghost use Rattle.moo_props.specs.Names.{name_of, spelling_of};
 ghost use Rattle.moo_calls_shared.specs.Outcomes.{world_in, Answers, Does};
 ghost use Rattle.moo_calls_shared.specs.Shown.{info_shown};
 
-use crate::definitions::{bits_taken, defines, may_define};
-use crate::slots::may_write;
+use crate::definitions::{bits_taken, defines_name, may_define};
+use crate::slots::may_write_slot;
 use moo_calls_shared::{Fault, Info, Reason, rights};
 use moo_props::{rename, set_info, slot_of};
 use moo_rows::{Bits, PropId, Rows};
@@ -50,7 +50,7 @@ fn may_rename<R: Rows>(
     let Some(new) = new else {
         return Ok(());
     };
-    if !defines(rows, x, name) {
+    if !defines_name(rows, x, name) {
         return Err(Reason::NotRenamed(x));
     }
     may_define(rows, x, new)
@@ -127,7 +127,7 @@ fn property_to_change<R: Rows>(
         return Err(Fault::Moo(Reason::NoProperty(x)));
     };
     let bits = bits_taken(rows, info)?;
-    if !may_write(rows, programmer, found) {
+    if !may_write_slot(rows, programmer, found) {
         return Err(Fault::Moo(Reason::NoPropertyW(x)));
     }
     if !may_give(rows, programmer, info.owner, found.slot.owner) {

@@ -17,14 +17,14 @@ use moo_rows::Rows;
 use moo_value::{MooStr, ObjNo};
 
 /// Whether the programmer may read the property by this slot of it.
-fn may_read<R: Rows>(rows: &R, programmer: ObjNo, found: FoundSlot<'_>) -> bool
+fn may_read_slot<R: Rows>(rows: &R, programmer: ObjNo, found: FoundSlot<'_>) -> bool
     ensures { result ≡ may_read_slot (world_in (R.held rows.now)) programmer (slot_seen found.entry.definer found.entry.slot.now) }
 {
     rights::may_read_slot(rows, programmer, found.slot)
 }
 
 /// Whether the programmer may write the property by this slot of it.
-pub(crate) fn may_write<R: Rows>(rows: &R, programmer: ObjNo, found: FoundSlot<'_>) -> bool
+pub(crate) fn may_write_slot<R: Rows>(rows: &R, programmer: ObjNo, found: FoundSlot<'_>) -> bool
     ensures { result ≡ may_write_slot (world_in (R.held rows.now)) programmer (slot_seen found.entry.definer found.entry.slot.now) }
 {
     rights::may_write_slot(rows, programmer, found.slot)
@@ -53,7 +53,7 @@ pub(crate) fn readable_slot<'a, R: Rows>(
     let Some(found) = slot_of(rows, x, name) else {
         return Err(Reason::NoProperty(x));
     };
-    if !may_read(rows, programmer, found) {
+    if !may_read_slot(rows, programmer, found) {
         return Err(Reason::NoPropertyR(x));
     }
     Ok(found)
@@ -85,7 +85,7 @@ pub(crate) fn writable_slot<'a, R: Rows>(
     let Some(found) = slot_of(rows, x, name) else {
         return Err(Reason::NoProperty(x));
     };
-    if !may_write(rows, programmer, found) {
+    if !may_write_slot(rows, programmer, found) {
         return Err(Reason::NoPropertyW(x));
     }
     Ok(found)

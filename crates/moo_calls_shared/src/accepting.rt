@@ -14,7 +14,7 @@ use std::alloc::Global;
 
 /// Whether the list has the thing or an ancestor of it. The thing's ancestors are gathered once, and each entry of the list is looked up
 /// among them: (m + n) log m steps for n entries and m ancestors. If there is no memory for that, each entry is climbed for.
-fn takes<R: Rows>(alloc: Global, rows: &R, list: &[ObjNo], thing: ObjNo) -> bool
+fn lists_one_above<R: Rows>(alloc: Global, rows: &R, list: &[ObjNo], thing: ObjNo) -> bool
     // Parents and locations are objects or `#-1`, without loops.
     requires { IsTree (world_in (R.held rows.now)) }
     ensures { result ≡ list_any (λ a. is_among a (chain (world_in (R.held rows.now)) thing)) list.now }
@@ -55,7 +55,7 @@ pub fn accepts<R: Rows>(alloc: Global, rows: &R, to: ObjNo, thing: ObjNo) -> boo
         return true;
     }
     match list_that_counts(rows, to) {
-        Some(list) => takes(alloc, rows, list.items(), thing),
+        Some(list) => lists_one_above(alloc, rows, list.items(), thing),
         None => false,
     }
 }

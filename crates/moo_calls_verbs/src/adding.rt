@@ -54,7 +54,7 @@ pub(crate) fn bits_taken<R: Rows>(rows: &R, verb: VerbInfo<'_>) -> Result<VerbBi
 }
 
 /// The argument specifiers that three texts name; `None` if a text names none.
-pub(crate) fn args_of(args: ArgTexts<'_>) -> Option<ArgSpec>
+pub(crate) fn args_named(args: ArgTexts<'_>) -> Option<ArgSpec>
     ensures { result ≡ args_of args.entry.dobj.now args.entry.prep.now args.entry.iobj.now }
 {
     read_args(args.dobj, args.prep, args.iobj).ok()
@@ -90,7 +90,7 @@ fn verb_taken<R: Rows>(
         return Err(Fault::Moo(Reason::NoObject(x)));
     }
     let bits = bits_taken(rows, verb)?;
-    let Some(args) = args_of(args) else {
+    let Some(args) = args_named(args) else {
         return Err(Fault::Moo(Reason::VerbArgs));
     };
     if !rights::may_write_object(rows, programmer, x) {

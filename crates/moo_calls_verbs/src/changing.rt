@@ -10,7 +10,7 @@ ghost use Rattle.moo_calls_shared.specs.Outcomes.{world_in, Does};
 ghost use Rattle.moo_verbs.specs.Places.{verb_place};
 ghost use Rattle.moo_calls_shared.specs.Shown.{info_shown, args_shown};
 
-use crate::adding::{args_of, bits_taken};
+use crate::adding::{args_named, bits_taken};
 use moo_calls_shared::{ArgTexts, Fault, Reason, VerbInfo, rights};
 use moo_rows::Rows;
 use moo_tree::valid;
@@ -109,7 +109,7 @@ pub fn set_verb_args<R: Rows>(
     let Some(verb) = found_verb(rows, x, desc) else {
         return Err(Fault::Moo(Reason::NoVerb(x)));
     };
-    let Some(args) = args_of(args) else {
+    let Some(args) = args_named(args) else {
         return Err(Fault::Moo(Reason::VerbArgs));
     };
     if !rights::may_write_verb(rows, programmer, verb.row) {

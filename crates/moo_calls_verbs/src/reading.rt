@@ -112,7 +112,7 @@ pub fn verb_info<R: Rows>(
 }
 
 /// The answer of `verb_args`: `{dobj, prep, iobj}` of a verb. The only error is out of memory.
-fn args_of(alloc: Global, args: ArgSpec) -> Result<Value, AllocError>
+fn args_answer(alloc: Global, args: ArgSpec) -> Result<Value, AllocError>
     ensures { IfOk result (λ value. value
         ≡ list_of (Str (object_spec_text args.dobj) ∷ Str (prep_text args.prep) ∷ Str (object_spec_text args.iobj) ∷ [])) }
 {
@@ -137,6 +137,6 @@ pub fn verb_args<R: Rows>(
     ensures comes { Answers (verb_args (world_in (R.held rows.now)) programmer x desc.now) (R.held rows.now) result }
 {
     let verb = readable_verb(rows, programmer, x, desc)?;
-    let answer = args_of(alloc, verb.args)?;
+    let answer = args_answer(alloc, verb.args)?;
     Ok(answer)
 }

@@ -10,8 +10,8 @@ ghost use Rattle.moo_world.specs.Judge.{state_of};
 ghost use Rattle.moo_world.specs.Rows.{IsGood};
 
 use crate::dumping::heading_text;
-use crate::lines::petition_text;
-use crate::objects::object_text;
+use crate::lines::petition_line;
+use crate::objects::object_lines;
 use crate::outline::{Outline, outline_of};
 use moo_rows::{Rows, each_object, each_petition};
 use std::alloc::{AllocError, Global};
@@ -92,7 +92,7 @@ fn after_objects<R: Rows>(
 {
     let mut at = start;
     for (x, _) in each_object(rows) {
-        let piece = object_text(alloc, rows, outline, x)?;
+        let piece = object_lines(alloc, rows, outline, x)?;
         at = after_piece(text, at, &piece)?;
     }
     Ok(at)
@@ -117,7 +117,7 @@ fn after_petitions<R: Rows>(
 {
     let mut at = start;
     for (id, row) in each_petition(rows) {
-        let piece = petition_text(alloc, id, row)?;
+        let piece = petition_line(alloc, id, row)?;
         at = after_piece(text, at, &piece)?;
     }
     Ok(at)

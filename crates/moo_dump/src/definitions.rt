@@ -45,7 +45,7 @@ fn add_definition(
 }
 
 /// The properties that an object defines, in the order of definition.
-pub(crate) fn defined_by(definitions: &Definitions, definer: ObjNo) -> &[PropId]
+pub(crate) fn ids_listed(definitions: &Definitions, definer: ObjNo) -> &[PropId]
     ensures { result.now ≡ ids_listed definitions.now definer }
 {
     match definitions.get(&definer) {

@@ -10,8 +10,8 @@ ghost use Rattle.moo_world.specs.Judge.{state_of};
 ghost use Rattle.moo_world.specs.Rows.{IsGood};
 
 use crate::fault::RowsDumpFault;
-use crate::lines::petition_text;
-use crate::objects::object_text;
+use crate::lines::petition_line;
+use crate::objects::object_lines;
 use crate::outline::{Outline, outline_of};
 use moo_rows::{Rows, each_object, each_petition};
 use moo_text::put_all;
@@ -33,7 +33,7 @@ pub(crate) fn heading_text<R: Rows>(alloc: Global, rows: &R) -> Result<Vec<u8>, 
 
 /// Writes the lines of the objects, ascending. Write if the writer fails or takes no bytes, OutOfMemory if memory runs out; the beginning
 /// of the lines may be written then.
-fn put_objects<R: Rows, W: Write>(
+fn write_objects<R: Rows, W: Write>(
     alloc: Global,
     rows: &R,
     outline: &Outline,
@@ -47,7 +47,7 @@ fn put_objects<R: Rows, W: Write>(
     ensures err { OnErr result (AppendsFront (W.contents output.old) (W.contents output.new) (objects_text (R.held rows.now).maps)) }
 {
     for (x, _) in each_object(rows) {
-        let text = object_text(alloc, rows, outline, x)?;
+        let text = object_lines(alloc, rows, outline, x)?;
         put_all(output, &text)?;
     }
     Ok(())
@@ -65,7 +65,7 @@ fn put_petitions<R: Rows, W: Write>(
     ensures err { OnErr result (AppendsFront (W.contents output.old) (W.contents output.new) (petitions_text (R.held rows.now).maps)) }
 {
     for (id, row) in each_petition(rows) {
-        let text = petition_text(alloc, id, row)?;
+        let text = petition_line(alloc, id, row)?;
         put_all(output, &text)?;
     }
     Ok(())
@@ -91,7 +91,7 @@ pub fn dump<R: Rows, W: Write>(alloc: Global, rows: &R, output: &mut W) -> Resul
     let outline = outline_of(alloc, rows)?;
     let heading = heading_text(alloc, rows)?;
     put_all(output, &heading)?;
-    put_objects(alloc, rows, &outline, output)?;
+    write_objects(alloc, rows, &outline, output)?;
     put_petitions(alloc, rows, output)?;
     Ok(put_all(output, b"end\n")?)
 }

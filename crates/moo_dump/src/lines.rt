@@ -148,7 +148,7 @@ pub(crate) fn put_verb_line(
 }
 
 /// The line of a petition. The only error is out of memory.
-pub(crate) fn petition_text(
+pub(crate) fn petition_line(
     alloc: Global,
     id: PetitionId,
     row: &PetitionRow,

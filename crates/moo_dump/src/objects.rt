@@ -8,7 +8,7 @@ ghost use Rattle.moo_dump.specs.Outlined.{IsOutline};
 ghost use Rattle.moo_world.specs.Rows.{world_of, IsSound, IsGood};
 ghost use Rattle.moo_world.specs.World.{IsTree, chain, directory_of};
 
-use crate::definitions::defined_by;
+use crate::definitions::ids_listed;
 use crate::lines::{put_object_line, put_property_line, put_slot_line, put_verb_line};
 use crate::outline::Outline;
 use crate::skips::skip_up_from;
@@ -88,7 +88,7 @@ fn put_slots<R: Rows>(
 {
     let mut at = x;
     while let Some(row) = rows.object(at) {
-        put_slots_of(alloc, rows, x, defined_by(&outline.definitions, at), out)?;
+        put_slots_of(alloc, rows, x, ids_listed(&outline.definitions, at), out)?;
         at = skip_up_from(&outline.skips, row.parent);
     }
     Ok(())
@@ -113,7 +113,7 @@ fn put_verbs<R: Rows>(
 
 /// The lines of an object: its row, the names that it defines, its slots by definers up its chain, its verbs. No lines if no object has
 /// the number. The only error is out of memory.
-pub(crate) fn object_text<R: Rows>(
+pub(crate) fn object_lines<R: Rows>(
     alloc: Global,
     rows: &R,
     outline: &Outline,
@@ -131,7 +131,7 @@ pub(crate) fn object_text<R: Rows>(
             alloc,
             rows,
             x,
-            defined_by(&outline.definitions, x),
+            ids_listed(&outline.definitions, x),
             &mut text,
         )?;
         put_slots(alloc, rows, outline, x, &mut text)?;

@@ -7,7 +7,7 @@ ghost use Rattle.moo_rows.specs.Maps.{Maps};
 ghost use Rattle.moo_world.specs.Rows.{world_of};
 ghost use Rattle.moo_world.specs.World.{IsTree};
 
-use crate::definitions::{Definitions, defined_by};
+use crate::definitions::{Definitions, ids_listed};
 use moo_rows::{Rows, each_object};
 use moo_value::ObjNo;
 use std::alloc::{AllocError, Global};
@@ -48,7 +48,7 @@ fn way_up<R: Rows>(
     let mut way = Vec::new(alloc);
     let mut at = x;
     while let Some(row) = rows.object(at) {
-        if 0 < defined_by(definitions, at).len() {
+        if 0 < ids_listed(definitions, at).len() {
             return Ok((way, at));
         }
         if let Some(above) = skips.get(&at) {

@@ -55,8 +55,9 @@ fn probe_error(error: sqlite_wal::Error) -> Error
     }
 }
 
-/// Takes up the two files, before anything was read of them. They come back if memory is refused.
-fn new_unopened<D: Disk>(
+/// A store over the two files that isn't opened yet: nothing is read of them. Its pages have this size, and `options` go to its pager. If
+/// memory runs out, the files come back.
+fn unopened_over<D: Disk>(
     alloc: Global,
     files: Files<D>,
     size: PageSize,
@@ -65,11 +66,11 @@ fn new_unopened<D: Disk>(
     // The files that come back are these.
     ensures back { IfErr result (λ left. (left.log ≡ files.log) × (left.db ≡ files.db)) }
     // Those that were taken up are these.
-    ensures files { IfOk result (λ fresh. files_of fresh ≡ (files.log, files.db)) }
+    ensures files { IfOk result (λ unopened. files_of unopened ≡ (files.log, files.db)) }
     // Their pages have this size.
-    ensures size { IfOk result (λ fresh. (state_of fresh).page_size ≡ bytes_of size) }
+    ensures size { IfOk result (λ unopened. (state_of unopened).page_size ≡ bytes_of size) }
     // No table is expected in them.
-    ensures none { IfOk result (λ fresh. wanted_by fresh ≡ []) }
+    ensures none { IfOk result (λ unopened. wanted_by unopened ≡ []) }
 {
     let pager = match Pager::new(alloc, files, size, options) {
         Ok(pager) => pager,
@@ -106,7 +107,7 @@ fn connect_blank<D: Disk + Drop>(
     ensures left { IfErr result (λ e. IsCleanLeft e.1 → AreClean D.Disk files.log files.db
         × (IsBlank (image_of D.Disk files) → LeavesBlank files e.1 × IsRefused e.0 e.1)) }
 {
-    let fresh = match new_unopened(alloc, files, size, options) {
+    let fresh = match unopened_over(alloc, files, size, options) {
         Ok(fresh) => fresh,
         Err(left) => return Err((NO_MEMORY, Leftover::Files(left))),
     };

@@ -70,7 +70,7 @@ fn served_text(alloc: Global, answered: u32, failed: u32) -> Result<String, Allo
 }
 
 /// Writes a text, and flushes it so that it is seen at once. Write if the output fails.
-fn say<W: Write>(output: &mut W, text: &str) -> Result<(), ServiceFault>
+fn write_flushed<W: Write>(output: &mut W, text: &str) -> Result<(), ServiceFault>
     ensures ok { OnOk result (Appends (W.contents output.old) (W.contents output.new) text.now) }
     // At a fault a front of it is written.
     ensures err { OnErr result (WritesFront text.now (W.contents output.old) (W.contents output.new)) }
@@ -93,7 +93,7 @@ fn say_listening<W: Write>(alloc: Global, output: &mut W, port: u16) -> Result<(
     ensures fault { IfErr result (λ fault. fault ≢ ServiceFault.Port) }
 {
     let line = listening_text(alloc, port)?;
-    say(output, line.as_str())
+    write_flushed(output, line.as_str())
 }
 
 /// Writes the line that tells how many connections were answered and how many failed. Write if the output fails; OutOfMemory if memory runs
@@ -106,7 +106,7 @@ fn say_served<W: Write>(alloc: Global, output: &mut W, served: Served) -> Result
     ensures fault { IfErr result (λ fault. fault ≢ ServiceFault.Port) }
 {
     let line = served_text(alloc, served.answered, served.failed)?;
-    say(output, line.as_str())
+    write_flushed(output, line.as_str())
 }
 
 /// Says that it listens on this port, serves so many connections of a source, and says how many were answered and how many failed.

@@ -23,7 +23,7 @@ fn text_why(alloc: Global, text: &Option<String>) -> Result<Option<String>, Allo
 }
 
 /// The list with this one entry.
-fn one_of(alloc: Global, why: Option<String>) -> Result<Vec<Option<String>>, AllocError>
+fn one_why(alloc: Global, why: Option<String>) -> Result<Vec<Option<String>>, AllocError>
     ensures { IfOk result (λ whys. whys.items ≡ why ∷ []) }
 {
     let mut whys = Vec::new(alloc);
@@ -32,13 +32,13 @@ fn one_of(alloc: Global, why: Option<String>) -> Result<Vec<Option<String>>, All
 }
 
 /// The sentence that says what is wrong with a body, in a list. The list is empty if no body was refused, or that isn't known.
-fn body_why(alloc: Global, asked: &Asked) -> Result<Vec<Option<String>>, AllocError> {
+fn body_whys(alloc: Global, asked: &Asked) -> Result<Vec<Option<String>>, AllocError> {
     let Asked::Refused(refused) = asked else {
         return Ok(Vec::new(alloc));
     };
     match refused.wrong() {
-        Some(BodyFault::Shape(fault)) => one_of(alloc, Some(fault.to_string(alloc)?)),
-        Some(BodyFault::Call(text)) => one_of(alloc, Some(call_why(alloc, text)?)),
+        Some(BodyFault::Shape(fault)) => one_why(alloc, Some(fault.to_string(alloc)?)),
+        Some(BodyFault::Call(text)) => one_why(alloc, Some(call_why(alloc, text)?)),
         None => Ok(Vec::new(alloc)),
     }
 }
@@ -106,7 +106,7 @@ fn last_place(asked: &Asked, judged: u32) -> Option<u32> {
 
 /// The sentence that says which call spent the ticks of the request, in a list: None if none did. A call alone isn't judged if no tick was
 /// left for it, and then it is the one.
-fn spent_why(
+fn spent_whys(
     alloc: Global,
     seen: &mut Whys,
     asked: &Asked,
@@ -114,13 +114,13 @@ fn spent_why(
     let judged = seen.judged_batches();
     let why = seen.spent_why(last_place(asked, judged))?;
     if why.is_some() || seen.ticks() != Some(0) {
-        return one_of(alloc, why);
+        return one_why(alloc, why);
     }
     let Some(place) = last_place(asked, judged.saturating_add(1)) else {
-        return one_of(alloc, why);
+        return one_why(alloc, why);
     };
     seen.see_spent(place);
-    one_of(alloc, seen.spent_why(Some(place))?)
+    one_why(alloc, seen.spent_why(Some(place))?)
 }
 
 /// The sentences that say why what was asked is refused: of calls that are asked alone one for each, else the first. They say it of a body,
@@ -134,10 +134,10 @@ fn find_whys(
     ensures { IfOk result (λ lines. TellsOutcome seen.old.seen.items outcome.now lines.items seen.new.seen.items) }
 {
     match outcome {
-        RequestOutcome::Refused(_) => body_why(alloc, asked),
-        RequestOutcome::Replied(reply) => one_of(alloc, seen.next(reply)?),
+        RequestOutcome::Refused(_) => body_whys(alloc, asked),
+        RequestOutcome::Replied(reply) => one_why(alloc, seen.next(reply)?),
         RequestOutcome::Each(replies, _) => each_whys(alloc, seen, replies, bad_texts(asked)),
-        RequestOutcome::NoMemory => spent_why(alloc, seen, asked),
+        RequestOutcome::NoMemory => spent_whys(alloc, seen, asked),
         _ => Ok(Vec::new(alloc)),
     }
 }

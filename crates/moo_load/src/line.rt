@@ -23,7 +23,7 @@ pub(crate) enum Word {
 }
 
 /// The word that a line begins with, and the bytes after the space that follows it. NoRow if it begins with no such word and a space.
-pub(crate) fn split_word(line: &[u8]) -> LineResult<(Word, &[u8])>
+pub(crate) fn split_keyword(line: &[u8]) -> LineResult<(Word, &[u8])>
     ensures ok { IfOk result (λ r. line.now ≡ word_text r.0 ++ 32 ∷ r.1.now) }
     // There is a fault only if it doesn't begin with one of the five words and a space.
     ensures err { IfErr result (λ _. (word : Word) (rest : List ℕ) → line.now ≢ word_text word ++ 32 ∷ rest) }

@@ -12,7 +12,7 @@ ghost use Rattle.moo_load.specs.RowsOf.{HasNumbers, AreRowsOf};
 use crate::differing::difference_at;
 use crate::fault::LoadFault;
 use crate::place::line_at;
-use crate::reading::read_rows;
+use crate::reading::read_lines;
 use crate::reason::DumpReason;
 use moo_damage::damage_of;
 use moo_dump::{CompareFault, compare};
@@ -83,7 +83,7 @@ pub fn read_dump(alloc: Global, text: &[u8]) -> Result<Flat, LoadFault>
     ensures complete { IfErr result (λ fault. fault ≢ LoadFault.OutOfMemory → length text.now < 4294967295 → (s : State) → IsHeld s →
         dump s ≢ text.now) }
 {
-    let rows = read_rows(alloc, text)?;
+    let rows = read_lines(alloc, text)?;
     judge_rows(alloc, &rows, text)?;
     Ok(rows)
 }

@@ -20,7 +20,7 @@ use moo_world::{are_few, are_named, are_shallow};
 use std::alloc::Global;
 
 /// The number of a petition, 1 to 4,294,967,294: one below the greatest counter. NoPetition for any other value.
-fn number_of(value: &Value) -> LineResult<u32>
+fn petition_number(value: &Value) -> LineResult<u32>
     ensures shown { IfOk result (λ number. value.now ≡ Int (pos number)) }
     ensures some { IfOk result (λ number. 0 < number) }
     ensures below { IfOk result (λ number. number < 4294967295) }
@@ -84,7 +84,7 @@ pub(crate) fn read_petition(
     let [number, who, calls] = values else {
         return Err(LineFault::Unreadable(DumpReason::Count("a petition has 3 values")));
     };
-    let number = number_of(number)?;
+    let number = petition_number(number)?;
     let who = object_of(who, "asker")?;
     let calls = calls_of(alloc, calls)?;
     Ok((PetitionId(number), PetitionRow { who, calls }))

@@ -17,7 +17,7 @@ ghost use Rattle.moo_world.specs.Objects.{Property};
 
 use crate::fault::{LineFault, LineResult, LoadFault};
 use crate::heading::read_heading;
-use crate::line::{Word, is_end, next_line, split_word, values_of};
+use crate::line::{Word, is_end, next_line, split_keyword, values_of};
 use crate::taking::{LastSlot, take_object, take_petition, take_property, take_slot, take_verb};
 use moo_memory::Flat;
 use moo_rows::{PropId, Rows};
@@ -36,7 +36,7 @@ fn take_line(alloc: Global, line: &[u8], rows: &mut Flat) -> LineResult<()>
     ensures err { IfErr result (λ fault. fault ≢ LineFault.OutOfMemory → (e : Entry) → EntryFits e → NumberIsLeft e rows.old.maps →
         line.now ++ 10 ∷ [] ≢ entry_text e) }
 {
-    let (word, literal) = split_word(line)?;
+    let (word, literal) = split_keyword(line)?;
     if word == Word::Slot {
         return Ok(());
     }
@@ -70,7 +70,7 @@ fn take_slot_line(
         SlotIsNext number e (last, rows.old.maps)
         → line.now ++ 10 ∷ [] ≢ entry_text e) }
 {
-    let (word, literal) = split_word(line)?;
+    let (word, literal) = split_keyword(line)?;
     if word == Word::Slot {
         let values = values_of(alloc, literal)?;
         take_slot(alloc, &values, last, rows)
@@ -150,7 +150,7 @@ fn take_slots(alloc: Global, text: &[u8], start: usize, rows: &mut Flat) -> Resu
 
 /// The rows that the lines of a dump say, within the limits of their columns. NotADump with the first line that can't be read; OutOfMemory
 /// if memory runs out. Whether the rows show a world, and whether its dump is the text, isn't asked.
-pub(crate) fn read_rows(alloc: Global, text: &[u8]) -> Result<Flat, LoadFault>
+pub(crate) fn read_lines(alloc: Global, text: &[u8]) -> Result<Flat, LoadFault>
     // The rows are within their limits, and fewer than 2^63 batches were accepted.
     ensures read { IfOk result (λ rows. AreRead rows.maps) }
     // The dump of a state is read as the rows of the state, unless memory runs out.

@@ -8,7 +8,7 @@ use std::alloc::{AllocError, Global};
 
 /// The bytes of a line from the place on where reading its list stops: where a value can't be read, or after a value that isn't followed by
 /// `, `.
-fn unread(alloc: Global, line: &[u8]) -> &[u8] {
+fn unread_bytes(alloc: Global, line: &[u8]) -> &[u8] {
     let literal = literal_of(line);
     let mut rest = literal.strip_prefix(b"{").unwrap_or(literal);
     for _ in 0..line.len() {
@@ -57,7 +57,7 @@ pub(crate) fn put_broken(
         DumpReason::NoList => said.put("a list in braces is wanted after the word"),
         DumpReason::NoValue(fault) => put_value_fault(said, line, fault),
         _ => {
-            let rest = unread(said.alloc, line);
+            let rest = unread_bytes(said.alloc, line);
             said.put(separator_sentence(rest))
         }
     }
@@ -99,7 +99,7 @@ fn is_open_text(bytes: &[u8]) -> bool {
 
 /// Says why a value of a line's list can't be read. The only error is out of memory.
 fn put_value_fault(said: &mut Said, line: &[u8], fault: LiteralFault) -> Result<(), AllocError> {
-    let rest = unread(said.alloc, line);
+    let rest = unread_bytes(said.alloc, line);
     match fault {
         LiteralFault::OutOfRange => {
             said.put("a number out of range: an integer has 64 bits, an object 32")

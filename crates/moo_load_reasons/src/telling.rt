@@ -5,7 +5,7 @@ use crate::damage::put_damage;
 use crate::finding::line_numbered;
 use crate::order::put_order;
 use crate::said::Said;
-use crate::values::{put_kind, put_row};
+use crate::values::{put_kind, put_row_fault};
 use moo_load::{DumpReason, LoadFault};
 use std::alloc::{AllocError, Global};
 
@@ -59,6 +59,6 @@ fn put_reason(
         DumpReason::NoObject(what) | DumpReason::NoText(what) | DumpReason::NoFlag(what) => {
             put_kind(said, what, why)
         }
-        _ => put_row(said, line, why),
+        _ => put_row_fault(said, line, why),
     }
 }

@@ -40,7 +40,11 @@ fn put_for(said: &mut Said, line: &[u8], place: usize, right: &str) -> Result<()
 }
 
 /// Says why a row can't have a value of its line. The only error is out of memory.
-pub(crate) fn put_row(said: &mut Said, line: &[u8], why: DumpReason) -> Result<(), AllocError> {
+pub(crate) fn put_row_fault(
+    said: &mut Said,
+    line: &[u8],
+    why: DumpReason,
+) -> Result<(), AllocError> {
     match why {
         DumpReason::Letters(bits) => put_for(said, line, letters_place(line), bits.letters()),
         DumpReason::VerbLetters(bits) => put_for(said, line, letters_place(line), bits.letters()),

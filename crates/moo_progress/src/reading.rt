@@ -35,7 +35,7 @@ impl Run {
     }
 
     /// Whether a read now belongs to the run: nothing was changed since it began, and the clock was read a minute ago at most.
-    fn goes_on(self, now: Instant, changes: u64) -> bool
+    fn belongs_to_run(self, now: Instant, changes: u64) -> bool
         ensures { IsTrue result ↔ GoesOn self now changes }
     {
         changes == self.changes && now.duration_since(self.looked) <= Duration::from_secs(PAUSE)
@@ -91,7 +91,7 @@ impl Reading {
             → (result ≡ Some self.old.bytes) × (self.new ≡ record self.old { run = Some (record run { looked = now; told = now }) }) }
     {
         let run = match self.run {
-            Some(run) if run.goes_on(now, changes) => run,
+            Some(run) if run.belongs_to_run(now, changes) => run,
             _ => {
                 self.run = Some(Run::new(now, changes));
                 self.bytes = 0;

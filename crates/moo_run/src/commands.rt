@@ -15,7 +15,7 @@ use crate::session::{HasRun, Session, Streams};
 use crate::texts::{Manner, answer_batches};
 use moo_cli::{Action, Batches, Service, Task};
 use moo_http::{Duty, Tools, serve_port};
-use moo_run_lines::{Failure, checked_text, loaded_text};
+use moo_run_lines::{Failure, checked_line, loaded_line};
 use moo_store::World;
 use moo_text::put_all;
 use sqlite::Alter;
@@ -64,7 +64,7 @@ fn check<W: Write, B: Alter + Drop>(
 {
     let seq = world.seq()?;
     let objects = world.check()?;
-    match checked_text(alloc, seq, objects) {
+    match checked_line(alloc, seq, objects) {
         Ok(line) => put_text(line.as_str(), output),
         Err(_) => Err(Failure::OutOfMemory),
     }
@@ -83,7 +83,7 @@ fn put_loaded<W: Write>(
     ensures stops { let line = loaded_line seq objects in
         IfErr result (λ failure. StopsIn line failure (W.contents output.old) (W.contents output.new)) }
 {
-    match loaded_text(alloc, seq, objects) {
+    match loaded_line(alloc, seq, objects) {
         Ok(line) => put_text(line.as_str(), output),
         Err(_) => Err(Failure::OutOfMemory),
     }

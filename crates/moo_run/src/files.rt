@@ -16,7 +16,7 @@ ghost use Rattle.moo_run.specs.Ends.{RunsFile, EndsWith};
 use crate::ends::Ends;
 use crate::host::Advice;
 use crate::loading::find_rows;
-use crate::over::{run_in, run_over};
+use crate::over::{run_in_session, run_over};
 use crate::session::{HasRun, Session, Streams};
 use moo_cli::{Action, Task};
 use moo_files::{Remains, WorldFiles, make_from, open_from};
@@ -32,7 +32,7 @@ fn begins_anew(task: Task<'_>) -> bool
     matches!(task.action, Action::Init | Action::Load { .. }) || task.file == ":memory:"
 }
 
-/// `run_in` at the store in files, over any disk. What is known of that store weighs on each function that calls a generic one at it,
+/// `run_in_session` at the store in files, over any disk. What is known of that store weighs on each function that calls a generic one at it,
 /// so this call has a function of its own.
 fn run_in_files<'s, S: Streams, D: Disk + Drop>(
     session: &mut Session<'s, S>,
@@ -52,11 +52,11 @@ fn run_in_files<'s, S: Streams, D: Disk + Drop>(
     // Only a task whose text is `-` reads the input.
     ensures input { reads_input task.entry ≡ false → session.new.input ≡ session.old.input }
 {
-    run_in(session, world, task)
+    run_in_session(session, world, task)
 }
 
 /// The failure of a run whose world couldn't be made or opened, by that fault.
-fn refusal(fault: StoreFault) -> Failure
+fn store_failure(fault: StoreFault) -> Failure
     ensures { result ≡ store_failure fault }
 {
     Failure::from(fault)
@@ -69,7 +69,7 @@ fn refusal_of<T: Start, H: WorldFiles<T>>(host: &H, file: &str, fault: StoreFaul
     requires may { H.may_open host.now file.now }
     ensures { Tells fault result }
 {
-    let failure = refusal(fault);
+    let failure = store_failure(fault);
     let is_unopened = matches!(
         failure,
         Failure::Store(Error::SqliteFailure(ErrorCode::CannotOpen))
@@ -104,7 +104,7 @@ fn run_made<'s, S: Streams>(
     match make_from(session.alloc, &session.host, task.file, start, rows) {
         Ok(world) => Ends::Ran(run_in_files(session, world, task)),
         Err((fault, remains)) => {
-            session.fail_to_open(task.file, refusal(fault));
+            session.fail_to_open(task.file, store_failure(fault));
             Ends::Refused(remains)
         }
     }

@@ -14,6 +14,6 @@ mod texts;
 pub use ends::Ends;
 pub use files::run_from;
 pub use host::{Advice, BatchFiles};
-pub use over::{run_in, run_over};
+pub use over::{run_in_session, run_over};
 pub use run::{run_to_end, run_words};
 pub use session::{HasRun, Session, Streams};

@@ -34,7 +34,7 @@ fn dump_word<'a>(task: Task<'a>) -> Option<&'a str>
 }
 
 /// Says a sentence about a text on standard error. The path is that of the text, if it isn't standard input.
-fn say<C: Eprint>(console: &C, path: Option<&str>, why: &str) {
+fn say_of_text<C: Eprint>(console: &C, path: Option<&str>, why: &str) {
     match path {
         Some(path) => {
             let _said = eprintln!(console; "moo: {path}: {why}");
@@ -54,9 +54,9 @@ fn explain_dump<C: Eprint>(
     fault: LoadFault,
 ) {
     if is_lambdamoo(text) {
-        say(console, path, WHAT_TO_DO);
+        say_of_text(console, path, WHAT_TO_DO);
     } else if let Ok(Some(why)) = why_of_fault(alloc, text, fault) {
-        say(console, path, why.as_str());
+        say_of_text(console, path, why.as_str());
     }
 }
 
@@ -87,7 +87,7 @@ fn read_or_explain<C: Eprint>(
 
 /// The rows of the world that a text is the dump of. If it isn't one, standard error says why. A failure too if the text can't be read, is
 /// over 1,073,741,824 bytes, or memory runs out.
-fn rows_of<C: Eprint, R: Read + Drop>(
+fn rows_of_dump<C: Eprint, R: Read + Drop>(
     alloc: Global,
     console: &C,
     path: Option<&str>,
@@ -108,7 +108,7 @@ fn rows_of<C: Eprint, R: Read + Drop>(
 }
 
 /// The rows of the world that a file is the dump of, or the input for `-`. If it isn't a dump, standard error says why. NoBatches if the
-/// file can't be opened; else the failures of `rows_of`.
+/// file can't be opened; else the failures of `rows_of_dump`.
 pub(crate) fn read_world<C: Eprint, H: BatchFiles, R: Read + Drop>(
     alloc: Global,
     console: &C,
@@ -132,10 +132,10 @@ pub(crate) fn read_world<C: Eprint, H: BatchFiles, R: Read + Drop>(
     ensures input { bytes_eq dump.now (codes "-") ≡ false → input.new ≡ input.old }
 {
     if dump == "-" {
-        return rows_of(alloc, console, None, input);
+        return rows_of_dump(alloc, console, None, input);
     }
     match host.open(dump) {
-        Ok(text) => rows_of(alloc, console, Some(dump), text),
+        Ok(text) => rows_of_dump(alloc, console, Some(dump), text),
         Err(_) => Err(Failure::NoBatches),
     }
 }

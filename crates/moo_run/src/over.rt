@@ -26,7 +26,7 @@ use sqlite::{Alter, Connection};
 /// `run_words`.
 ///
 /// The World may be any: one whose tables are known to show its rows, or one of which only the rows are known.
-pub fn run_in<'s, S: Streams, B: Alter + Drop>(
+pub fn run_in_session<'s, S: Streams, B: Alter + Drop>(
     session: &mut Session<'s, S>,
     mut world: World<B>,
     task: Task<'_>,
@@ -69,7 +69,7 @@ fn run_new<'s, S: Streams, B: Alter + Drop>(
     ensures input { reads_input task.entry ≡ false → session.new.input ≡ session.old.input }
 {
     match make_in(session.alloc, conn, rows) {
-        Ok(world) => run_in(session, world, task),
+        Ok(world) => run_in_session(session, world, task),
         Err((fault, conn)) => {
             session.fail(Failure::from(fault));
             conn

@@ -77,7 +77,7 @@ fn answer_by<C: Eprint, R: Read + Drop, W: Write, B: Alter + Drop>(
 
 /// Runs, rehearses or asks the batches of a text, writes their replies, and answers the status. The notes say on standard error why a batch
 /// isn't accepted, and the console what to do if the store failed in one that was run.
-fn answer_text<C: Eprint, R: Read + Drop, W: Write, B: Alter + Drop>(
+fn answer_batches_text<C: Eprint, R: Read + Drop, W: Write, B: Alter + Drop>(
     world: &mut World<B>,
     text: R,
     manner: Manner,
@@ -130,7 +130,7 @@ pub(crate) fn answer_batches<'s, S: Streams, B: Alter + Drop>(
     let (console, alloc) = (session.console, session.alloc);
     if path == "-" {
         let notes = StandardNotes::new(console, alloc, None);
-        return answer_text(
+        return answer_batches_text(
             world,
             &mut session.input,
             manner,
@@ -142,7 +142,7 @@ pub(crate) fn answer_batches<'s, S: Streams, B: Alter + Drop>(
     match session.host.open(path) {
         Ok(file) => {
             let notes = StandardNotes::new(console, alloc, Some(path));
-            answer_text(world, file, manner, &mut session.output, console, notes)
+            answer_batches_text(world, file, manner, &mut session.output, console, notes)
         }
         Err(_) => Err(Failure::NoBatches),
     }

@@ -5,4 +5,4 @@ mod failure;
 mod output;
 
 pub use failure::Failure;
-pub use output::{checked_text, explain_lost, loaded_text, put_failure, put_line, report};
+pub use output::{checked_line, explain_lost, loaded_line, put_failure, put_line, report};

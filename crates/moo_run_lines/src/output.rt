@@ -15,7 +15,7 @@ use std::alloc::{AllocError, Global};
 use std::io::{Eprint, Write};
 
 /// The line that `moo check` writes of a whole world: its number, and how many objects it has. An `Err` means that memory ran out.
-pub fn checked_text(alloc: Global, seq: u64, objects: u64) -> Result<String, AllocError>
+pub fn checked_line(alloc: Global, seq: u64, objects: u64) -> Result<String, AllocError>
     ensures { IfOk result (λ text. text.bytes.items ≡ checked_line seq objects) }
 {
     format!(in alloc; "ok seq {seq} objects {objects}\n")
@@ -30,7 +30,7 @@ fn damaged_text(alloc: Global, kind: Kind, key: Key) -> Result<String, AllocErro
 }
 
 /// The line that `moo load` writes of the world that it made: its number, and how many objects it has. An `Err` means that memory ran out.
-pub fn loaded_text(alloc: Global, seq: u64, objects: u64) -> Result<String, AllocError>
+pub fn loaded_line(alloc: Global, seq: u64, objects: u64) -> Result<String, AllocError>
     ensures { IfOk result (λ text. text.bytes.items ≡ loaded_line seq objects) }
 {
     format!(in alloc; "loaded seq {seq} objects {objects}\n")

@@ -6,7 +6,7 @@ ghost use Rattle.moo_store.specs.OpeningRows.{Brings};
 
 use crate::fault::StoreFault;
 use crate::migrating::make_current;
-use crate::reading::read_rows;
+use crate::reading::read_version_and_rows;
 use moo_memory::Flat;
 use sqlite::{Alter, Connection};
 use std::alloc::Global;
@@ -24,7 +24,7 @@ pub(crate) fn open_rows<S: Alter>(
     // is met, and leaves the database as it was.
     ensures brings { Brings S.Store conn.old conn.new result }
 {
-    let (version, rows) = match read_rows(alloc, conn) {
+    let (version, rows) = match read_version_and_rows(alloc, conn) {
         Ok(read) => read,
         Err(fault) => return Err(fault),
     };

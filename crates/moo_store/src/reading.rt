@@ -24,7 +24,7 @@ use std::alloc::Global;
 /// The rows that the cells of the tables show, if they are those of a world. `Damaged`, `NewerVersion` and `OutOfMemory` as of
 /// `read_cells`; `Store` with `DatabaseCorrupt` if the rows of a table aren't in the order of their keys, as only a failing disk gives
 /// them.
-fn rows_of(alloc: Global, lists: CellLists) -> Result<Flat, StoreFault>
+fn rows_of_lists(alloc: Global, lists: CellLists) -> Result<Flat, StoreFault>
     // The tables show the rows that are read.
     ensures rows { IfOk result (λ rows. ShowsRows (tables_of lists) rows.maps) }
     // They are those of a world.
@@ -147,7 +147,7 @@ pub(crate) fn test_current<S: Alter>(alloc: Global, conn: &Connection<S>) -> Res
 }
 
 /// Reads the rows that the tables of this version show, all tables at once, so that it can tell what is wrong with them. The faults are
-/// those of `rows_of` and `read_lists`.
+/// those of `rows_of_lists` and `read_lists`.
 #[tactic(auto, using(crate::proofs::Causes::readings))]
 fn read_whole<S: Alter>(
     alloc: Global,
@@ -164,7 +164,7 @@ fn read_whole<S: Alter>(
         Ok(lists) => lists,
         Err(fault) => return Err(fault),
     };
-    match rows_of(alloc, lists) {
+    match rows_of_lists(alloc, lists) {
         Ok(rows) => Ok(rows),
         Err(fault) => Err(fault),
     }
@@ -196,7 +196,7 @@ fn read_each<S: Alter>(
 
 /// Reads the version of the tables of a connection, and the rows that they show. Nothing is written. The faults are those of `adopt`.
 #[tactic(auto, using(crate::proofs::Moments::version_is))]
-pub(crate) fn read_rows<S: Alter>(
+pub(crate) fn read_version_and_rows<S: Alter>(
     alloc: Global,
     conn: &mut Connection<S>,
 ) -> Result<(Version, Flat), StoreFault>

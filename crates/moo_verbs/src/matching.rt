@@ -13,7 +13,7 @@ pub(crate) fn same_name(a: &[u8], b: &[u8]) -> bool
 }
 
 /// The place, from 0, at which a byte is first in a text; `None` if the text is without it.
-pub(crate) fn first(text: &[u8], byte: u8) -> Option<usize>
+pub(crate) fn first_byte(text: &[u8], byte: u8) -> Option<usize>
     ensures place { result ≡ position (λ b. b == byte) text.now }
     ensures within { IfSome result (λ i. i < length text.now) }
 {
@@ -68,7 +68,7 @@ fn matches_around(front: &[u8], behind: &[u8], word: &[u8]) -> bool
 pub fn matches(name: &[u8], word: &[u8]) -> bool
     ensures { result ≡ matches name.now word.now }
 {
-    match first(name, b'*') {
+    match first_byte(name, b'*') {
         None => same_name(name, word),
         Some(star) => matches_around(&name[..star], &name[star + 1..], word),
     }

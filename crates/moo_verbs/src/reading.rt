@@ -8,7 +8,7 @@ ghost use Rattle.std.specs.List.{before_first};
 ghost use Rattle.moo_world.specs.VerbReading.{is_slash, has_phrase, first_with, prep_of, object_spec_of, args_of};
 
 use crate::fault::VerbFault;
-use crate::matching::{first, same_name};
+use crate::matching::{first_byte, same_name};
 use crate::prep::set_text;
 use moo_rows::{ArgSpec, ObjectSpec, Preposition, PrepositionSet, VerbBits};
 use moo_value::MooStr;
@@ -86,14 +86,14 @@ fn first_with(sets: &[PrepositionSet], phrase: &[u8]) -> Option<PrepositionSet>
 fn before_slash(text: &[u8]) -> &[u8]
     ensures { result.now ≡ before_first is_slash text.now }
 {
-    match first(text, b'/') {
+    match first_byte(text, b'/') {
         None => text,
         Some(slash) => &text[..slash],
     }
 }
 
 /// The preposition that a text names, as `read_prep` says; `None` if it names no preposition.
-fn prep_named(text: &[u8]) -> Option<Preposition>
+fn prep_of(text: &[u8]) -> Option<Preposition>
     ensures { result ≡ prep_of text.now }
 {
     if same_name(text, b"none") {
@@ -126,7 +126,7 @@ fn args_named(dobj: &[u8], prep: &[u8], iobj: &[u8]) -> Option<ArgSpec>
     ensures { result ≡ args_of dobj.now prep.now iobj.now }
 {
     let dobj = object_spec_named(dobj)?;
-    let prep = prep_named(prep)?;
+    let prep = prep_of(prep)?;
     let iobj = object_spec_named(iobj)?;
     Some(ArgSpec { dobj, prep, iobj })
 }
@@ -139,7 +139,7 @@ fn args_named(dobj: &[u8], prep: &[u8], iobj: &[u8]) -> Option<ArgSpec>
 pub fn read_prep(text: &MooStr) -> Result<Preposition, VerbFault>
     ensures { result ≡ ok_or (prep_of text.now) VerbFault.BadArgs }
 {
-    prep_named(text.bytes()).ok_or(VerbFault::BadArgs)
+    prep_of(text.bytes()).ok_or(VerbFault::BadArgs)
 }
 
 /// The arguments that three texts name, in any case: `this`, `any` or `none` for the direct and the indirect object, and

@@ -17,11 +17,11 @@ returns-in_default g c =
       kept = tt;
     }
 
-pub returns-in_default-args_of : goal.returns-in_default-args_of
-returns-in_default-args_of g c =
+pub returns-in_default-args_named : goal.returns-in_default-args_named
+returns-in_default-args_named g c =
     record {
       comes = (
-        check_passed _ _ _ (sym c.valid.ensures ∙ c.if-not-valid.false) ∙ found_passed _ _ _ _ (sym c.in-Some.ensures.verb) ∙ found_failed _ _ _ (sym c.in_default-args_of.ensures),
+        check_passed _ _ _ (sym c.valid.ensures ∙ c.if-not-valid.false) ∙ found_passed _ _ _ _ (sym c.in-Some.ensures.verb) ∙ found_failed _ _ _ (sym c.in_default-args_named.ensures),
         refl,
       );
       kept = tt;
@@ -32,7 +32,7 @@ returns-then-not-may_write_verb g c =
     record {
       comes = (
         check_passed _ _ _ (sym c.valid.ensures ∙ c.if-not-valid.false) ∙ found_passed _ _ _ _ (sym c.in-Some.ensures.verb)
-            ∙ found_passed _ _ _ _ (sym c.in-Some-args_of.ensures) ∙ check_failed _ _ _ (sym c.may_write_verb.ensures ∙ c.if-not-may_write_verb.true),
+            ∙ found_passed _ _ _ _ (sym c.in-Some-args_named.ensures) ∙ check_failed _ _ _ (sym c.may_write_verb.ensures ∙ c.if-not-may_write_verb.true),
         refl,
       );
       kept = tt;
@@ -41,7 +41,7 @@ returns-then-not-may_write_verb g c =
 pub returns : goal.returns
 returns g c =
     record {
-      comes = check_passed _ _ _ (sym c.valid.ensures ∙ c.if-not-valid.false) ∙ found_passed _ _ _ _ (sym c.in-Some.ensures.verb) ∙ found_passed _ _ _ _ (sym c.in-Some-args_of.ensures)
+      comes = check_passed _ _ _ (sym c.valid.ensures ∙ c.if-not-valid.false) ∙ found_passed _ _ _ _ (sym c.in-Some.ensures.verb) ∙ found_passed _ _ _ _ (sym c.in-Some-args_named.ensures)
           ∙ check_passed _ _ _ (sym c.may_write_verb.ensures ∙ c.if-not-may_write_verb.false) ∙ ap (Done zero) (sym c.in_ok-set_args.ensures.world);
       kept = c.in_ok-set_args.ensures.kept;
     }

@@ -28,7 +28,7 @@ returns-in-Err-make_from-clause-runs g c =
     let image = image_at g.S.File.Start in
     let run : Run = record { given = given_to g.S.Input.Read g.S.Host.BatchFiles g.S.Host.WorldFiles.denies g.S.Host.Ports g.S.Host.Source.Arrivals g.S.Host.Source.Reader.Read g.S.Host.Source.Reader.Incoming.fails g.S.Host.Source.Writer.Write was.input was.host last.host; before = g.S.Output.Write.contents was.output; after = g.S.Output.Write.contents last.output; status = last.status } in
     unmade_over c.args.task image run c.requires.anew fault rest (rows_made c.in-Ok.rows) c.in-Ok.ensures.finds (c.fail_to_open.ensures.host ∙ c.in-Ok.ensures.rests)
-    (tells_fault fault c.refusal.result run.before run.after last.status (inl c.refusal.ensures) (subst (λ output. Reports c.refusal.result (g.S.Output.Write.contents output) run.after last.status) c.in-Ok.ensures.unwritten c.fail_to_open.ensures.reports))
+    (tells_fault fault c.store_failure.result run.before run.after last.status (inl c.store_failure.ensures) (subst (λ output. Reports c.store_failure.result (g.S.Output.Write.contents output) run.after last.status) c.in-Ok.ensures.unwritten c.fail_to_open.ensures.reports))
     c.in-Err-make_from.ensures.makes
     (subst (λ host. IsOpenable image → IsCleanRemains rest → HasCauseOr (StopsMaking image fault) (IsDenied (g.S.Host.WorldFiles.denies host) c.args.task.file.now) fault rest) c.in-Ok.ensures.rests c.in-Err-make_from.ensures.cause)
 

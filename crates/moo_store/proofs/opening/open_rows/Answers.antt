@@ -9,25 +9,25 @@ pub returns-in-Err-clause-brings : goal.returns-in-Err-clause-brings
 returns-in-Err-clause-brings g c =
     let no = c.in-Err.ensures.reads in
     record {
-      outside = c.read_rows.ensures.outside;
+      outside = c.read_version_and_rows.ensures.outside;
       other = no.other;
       own = no.own;
       cause = λ tables rests clean.
           let old = state g.S.Store c.args.conn.now in
-          let new = state g.S.Store c.read_rows.new.conn in
+          let new = state g.S.Store c.read_version_and_rows.new.conn in
           let fault = c.in-Err.fault in
           says_more (StopsBy (StopsQuery old new) fault) (StopsOpening tables old new fault) tables fault
           (stops_more (StopsQuery old new) (λ error. StopsQuery old new error ⊎ (AreMigrated tables × StopsChange old new error)) fault (λ error h. inl h))
           (no.none tables (clean, rests));
-      undone = undone g.S.Store c.args.conn.now c.read_rows.new.conn no.failed c.read_rows.ensures.settled c.read_rows.ensures.outside;
-      crash = refused_survives g.S.Store c.args.conn.now c.read_rows.new.conn no.failed;
+      undone = undone g.S.Store c.args.conn.now c.read_version_and_rows.new.conn no.failed c.read_version_and_rows.ensures.settled c.read_version_and_rows.ensures.outside;
+      crash = refused_survives g.S.Store c.args.conn.now c.read_version_and_rows.new.conn no.failed;
     }
 
 -- they were read, and are of the present version now
 pub returns-in-Ok-make_current-clause-brings : goal.returns-in-Ok-make_current-clause-brings
 returns-in-Ok-make_current-clause-brings g c =
     let old = c.args.conn.now in
-    let mid = c.read_rows.new.conn in
+    let mid = c.read_version_and_rows.new.conn in
     let version = c.in-Ok.read.0 in
     let rows = c.in-Ok.read.1.maps in
     let read = c.in-Ok.ensures.reads in
@@ -49,7 +49,7 @@ returns-in-Ok-make_current-clause-brings g c =
 pub returns-in-Err-make_current-clause-brings : goal.returns-in-Err-make_current-clause-brings
 returns-in-Err-make_current-clause-brings g c =
     let old = c.args.conn.now in
-    let mid = c.read_rows.new.conn in
+    let mid = c.read_version_and_rows.new.conn in
     let version = c.in-Ok.read.0 in
     let rows = c.in-Ok.read.1.maps in
     let read = c.in-Ok.ensures.reads in
@@ -71,6 +71,6 @@ returns-in-Err-make_current-clause-brings g c =
           (stops_more (StopsChange then last) (λ error. StopsQuery first last error ⊎ (AreMigrated tables × StopsChange first last error)) c.in-Err-make_current.fault
           (λ error h. inr (migrated, stops_since first then last error was.counts was.limit same.0.is_open h)))
           (c.in-Err-make_current.ensures.cause clean tables (rests_still g.S.Store old mid version rows read.has read.read early tables rests) is);
-      undone = inr (undone_late g.S.Store old mid version rows read.has read.read c.make_current.new.conn c.read_rows.ensures.settled took c.make_current.ensures.outside c.in-Err-make_current.ensures.undone);
+      undone = inr (undone_late g.S.Store old mid version rows read.has read.read c.make_current.new.conn c.read_version_and_rows.ensures.settled took c.make_current.ensures.outside c.in-Err-make_current.ensures.undone);
       crash = crash g.S.Store old mid version rows read.has read.read c.make_current.new.conn took read.found.good (λ clean tables rests. read.found.shown tables (clean, rests)) (λ clean tables m rests. read.found.one tables m (clean, rests));
     }

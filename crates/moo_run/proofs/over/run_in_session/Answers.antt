@@ -1,5 +1,5 @@
 use Rattle.moo_run.{proofs.Words.{sym, subst, state, store_of, given_to, LeavesNothingNew, RunsIn, ShowsTables}, proofs.Connections.{runs_to, late_clean_of, done_if_none}}
-use Rattle.moo_run.proofs.over.run_in.Goals as goal
+use Rattle.moo_run.proofs.over.run_in_session.Goals as goal
 
 pub returns-clause-runs : goal.returns-clause-runs
 returns-clause-runs g c m stands =

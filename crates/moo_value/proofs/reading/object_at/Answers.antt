@@ -1,5 +1,5 @@
 use Rattle.moo_value.{proofs.Words.{◌≡◌, ℤ, FitsSigned, arith, w32, to_z, of_z, w64, to_z-of_z, an_object}, proofs.Numbers.{number_taken}}
-use Rattle.moo_value.proofs.reading.object_of.Goals as goal
+use Rattle.moo_value.proofs.reading.object_at.Goals as goal
 use Rattle.std.proofs.lemmas.Int.{ints}
 
 -- the number of an object is no other one in 64 bits

@@ -1,5 +1,5 @@
 use Rattle.moo_dump.{proofs.Words.{flat_map, objects_left, world_of, object_lines, objects_text}, proofs.Writing.{HasWritten}}
-use Rattle.moo_dump.proofs.dumping.put_objects.Given as goal
+use Rattle.moo_dump.proofs.dumping.write_objects.Given as goal
 
 -- the lines of the objects that are left are what is not written yet
 abbrev pub invariant-loop-x : goal.invariant-loop-x

@@ -1,7 +1,7 @@
 use Rattle.std.{proofs.Common.{◌≡◌, Option, None, Some, refl, ap, ◌∙◌}, specs.Option.{ok_or}, specs.Result.{result_ok}}
 use Rattle.moo_verbs.specs.declared.fault.VerbFault.TheVariants.{BadArgs}
 use Rattle.moo_world.specs.VerbReading.{args_of}
-use Rattle.moo_calls_verbs.proofs.adding.args_of.Goals as goal
+use Rattle.moo_calls_verbs.proofs.adding.args_named.Goals as goal
 
 ok_of : {A E : Type 0} (o : Option A) (e : E) → result_ok (ok_or o e) ≡ o
 ok_of None e = refl

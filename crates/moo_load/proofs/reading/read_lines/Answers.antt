@@ -1,5 +1,5 @@
 use Rattle.moo_load.{proofs.Words.{◌≡◌, ap, ◌∙◌, from_err, Held, Maps, no_maps}, proofs.One.Entries.{entries_of}, proofs.ReadBack.Dumped.{lines, text_is, fit, number_by, numbers_are, slots_are_next, all_read}}
-use Rattle.moo_load.proofs.reading.read_rows.Goals as goal
+use Rattle.moo_load.proofs.reading.read_lines.Goals as goal
 
 pub returns-in_err-head-clause-err : goal.returns-in_err-head-clause-err
 returns-in_err-head-clause-err c = from_err c.from_residual.result c.from_residual.ensures.1 (λ fault own some s held few same. c.in_err-head.ensures.err (λ e. some (own ∙ e)) s (lines s held) held (text_is s held c.args.text.now same))

@@ -1,6 +1,6 @@
 use Rattle.moo_store.{proofs.Words.{◌≡◌, ◌∙◌, inl, refl, sym, state, OutOfMemory}, specs.OpeningRows.{not_ours}, proofs.Causes.{ran_out, says_of_store}}
 use Rattle.moo_tables.specs.ReadCause.{StopsQuery}
-use Rattle.moo_store.proofs.reading.read_rows.Goals as goal
+use Rattle.moo_store.proofs.reading.read_version_and_rows.Goals as goal
 
 -- nothing was asked of the tables
 pub returns-in-Err-clause-reads : goal.returns-in-Err-clause-reads

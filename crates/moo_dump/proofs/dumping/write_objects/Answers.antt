@@ -1,5 +1,5 @@
 use Rattle.moo_dump.{proofs.Words.{arith, ◌≡◌, List, ℕ, sym, ap, subst, ◌∙◌, rules, entries, flat_map, ObjNo, ObjRow, objects_left, world_of, object_lines, objects_text}, proofs.ObjectLines.{objects_printed}, proofs.Writing.{HasWritten, written_none, on_err, next_part, next_written}}
-use Rattle.moo_dump.proofs.dumping.put_objects.Goals as goal
+use Rattle.moo_dump.proofs.dumping.write_objects.Goals as goal
 
 pub loop-x-init : goal.loop-x-init
 loop-x-init g c = grind (arith, objects_printed, written_none)

@@ -1,6 +1,6 @@
 use Rattle.moo_http.{proofs.Words.{Appends, length, subst}, proofs.Connections.{when_ok}}
 use Rattle.std.proofs.{KnownBytes.{Appends-kept}, Math.Seq.{take-length}}
-use Rattle.moo_http.proofs.service.say.Goals as goal
+use Rattle.moo_http.proofs.service.write_flushed.Goals as goal
 
 pub returns-then-is_err-2-clause-err : goal.returns-then-is_err-2-clause-err
 returns-then-is_err-2-clause-err g c =

@@ -1,5 +1,5 @@
 use Rattle.moo_run.{proofs.Words.{◌≢◌, ◌<◌, length, subst, State, IsHeld}, proofs.Beginning.{unread, no_dump, input_opened, dump_opened}}
-use Rattle.moo_run.proofs.loading.rows_of.Goals as goal
+use Rattle.moo_run.proofs.loading.rows_of_dump.Goals as goal
 use Rattle.std.proofs.lemmas.Result.{err_from_is_err_and}
 use Rattle.moo_dump.specs.Dump.{dump as dump_of}
 use Rattle.moo_load.specs.declared.fault.LoadFault.TheVariants.{OutOfMemory}

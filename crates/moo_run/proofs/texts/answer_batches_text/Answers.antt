@@ -1,5 +1,5 @@
 use Rattle.moo_run.{proofs.Words.{sym, subst, EndsTask, AnswersAs}, proofs.Tasks.{comes_done, comes_stops, ends_map, text_opened}}
-use Rattle.moo_run.proofs.texts.answer_text.Goals as goal
+use Rattle.moo_run.proofs.texts.answer_batches_text.Goals as goal
 
 pub returns-in-Ok-clause-answers : goal.returns-in-Ok-clause-answers
 returns-in-Ok-clause-answers g c m stands =
