@@ -38,7 +38,7 @@ fn verb_after<R: Rows>(rows: &R, x: ObjNo, count: usize) -> Option<VerbId>
 }
 
 /// Whether one of the names of a verb matches a word, as `matches` says.
-fn one_matches(row: &VerbRow, word: &[u8]) -> bool
+fn has_matching_name(row: &VerbRow, word: &[u8]) -> bool
     ensures { result ≡ one_matches row.now.names word.now }
 {
     one_matches(row.names.bytes(), word)
@@ -51,7 +51,7 @@ fn verb_named<R: Rows>(rows: &R, x: ObjNo, word: &[u8]) -> Option<VerbId>
         ≡ option_map (λ e. e.0.1)
         (find (λ e. one_matches e.1.names word.now) (verbs_of_left x (record { 0 = 0 }) (R.held rows.now).maps)) }
 {
-    match each_verb_of(rows, x, VerbId(0)).find(|(_key, row)| one_matches(row, word)) {
+    match each_verb_of(rows, x, VerbId(0)).find(|(_key, row)| has_matching_name(row, word)) {
         None => None,
         Some((key, _row)) => Some(key.1),
     }
