@@ -33,7 +33,7 @@ fn petition_granted<'a, B: Rows>(
 }
 
 /// What is told of a refusal besides its reason: names that the programmer may list, from `rows`, on which the check failed; and what
-/// the petition that is granted asks for, from `base`, on which the batch was judged. The only error is out of memory.
+/// the petition that is granted asks for, from `base`, on which the batch was judged. The only error is a lack of memory.
 fn facts_of<'a, B: Rows, R: Rows>(
     alloc: Global,
     base: &'a B,

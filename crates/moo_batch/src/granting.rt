@@ -30,11 +30,13 @@ fn run_petitioned_call<R: Rows>(
     wizard: ObjNo,
     held: &Value,
 ) -> Result<Value, Fault>
+    // The rows are those of a well formed world.
     requires good { IsGood (R.held rows.old).maps }
     // The call nests at most 32 deep, and its numbers and texts are within their limits.
     requires fit { fits held.now ≡ true }
     // No call is made once the rows have said that their ticks are spent.
     requires leave { (R.held rows.old).base.is_spent ≡ false }
+    // It does what the definition `held_step` says. At its errors nothing changes; out of memory the rows may be half changed.
     ensures { Does (held_step (world_in (R.held rows.old)) wizard held.now) (R.held rows.old) (R.held rows.new) result }
 {
     match held_call(held) {
@@ -61,6 +63,7 @@ fn run_petitioned_calls<R: Rows>(
     wizard: ObjNo,
     helds: &[Value],
 ) -> Result<Value, Fault>
+    // The rows are those of a well formed world.
     requires good { IsGood (R.held rows.old).maps }
     // Each call nests at most 32 deep, and its numbers and texts are within their limits.
     requires fit { list_all fits helds.now ≡ true }
@@ -96,6 +99,7 @@ pub(crate) fn grant<R: Rows>(
     programmer: ObjNo,
     args: &[Value],
 ) -> Result<Value, Fault>
+    // The rows are those of a well formed world.
     requires good { IsGood (R.held rows.old).maps }
     // The answer and the rows are those of `grant` in the model.
     ensures reaches { Reaches (given (one_integer args.now) (grant (state_in (R.held rows.old)) programmer)) (R.held rows.new) result }

@@ -62,6 +62,7 @@ fn step_on<R: Rows>(
     programmer: ObjNo,
     call: &Call,
 ) -> Result<Value, Fault>
+    // The rows are those of a well formed world.
     requires good { IsGood (R.held rows.old).maps }
     // No call is made once the rows have said that their ticks are spent.
     requires leave { (R.held rows.old).base.is_spent ≡ false }
@@ -86,16 +87,19 @@ fn spend_on_answer<R: Rows>(rows: &mut R, answer: &Value) -> bool
 }
 
 /// Makes the calls of a batch, one after another, up to the first that isn't done, or at which ticks are spent. The rows are then those
-/// after the calls before it, or changed or half changed by that call, and the caller drops them.
+/// after the calls before it, or changed or half changed by that call, and the caller drops them. A `Stop` says which call stopped it, and
+/// why.
 fn run_calls<R: Rows>(
     rows: &mut R,
     alloc: Global,
     programmer: ObjNo,
     calls: &[Call],
 ) -> Result<Answers, Stop>
+    // The rows are those of a well formed world.
     requires good { IsGood (R.held rows.old).maps }
     // There are at most 1,000, and ticks are left for the first.
     requires few { length calls.now ≤ MOST_CALLS }
+    // No call is made once the rows have said that their ticks are spent.
     requires leave { (R.held rows.old).base.is_spent ≡ false }
     // The answers and the rows are those of the calls in the model; or it stops at the first call that isn't done there.
     ensures comes { ComeTo (run_calls (state_in (R.held rows.old)) programmer calls.now) (state_in (R.held rows.new)) result }
@@ -228,6 +232,7 @@ pub fn judge<R: Rows, W: Witness>(
     batch: &Batch,
     witness: &mut W,
 ) -> Verdict
+    // The rows are those of a well formed world.
     requires good { IsGood (R.held rows.now).maps }
     // The verdict is that of the model on the state of these rows, and if it is accepted, the changes lead to the next state.
     ensures verdict { IsVerdict (R.held rows.now).maps batch.now result }

@@ -18,7 +18,7 @@ use moo_value::{ObjNo, Value};
 use moo_world::list_of;
 use std::alloc::{AllocError, Global};
 
-/// A petition as `petitions` lists it: `{number, who, calls}`. The only error is out of memory.
+/// A petition as `petitions` lists it: `{number, who, calls}`. The only error is a lack of memory.
 fn value_of_petition(alloc: Global, id: PetitionId, row: &PetitionRow) -> Result<Value, AllocError>
     ensures { IfOk result (λ v. v ≡ listed (id, row.now)) }
 {
@@ -62,6 +62,7 @@ pub(crate) fn petitions<R: Rows>(
     programmer: ObjNo,
     args: &[Value],
 ) -> Result<Value, Fault>
+    // The rows are those of a well formed world.
     requires good { IsGood (R.held rows.now).maps }
     // The answer is that of `petitions` in the model.
     ensures reaches { Reaches (given (no_values args.now) (λ _. petitions (state_in (R.held rows.now)) programmer))

@@ -26,7 +26,9 @@ pub fn set_player_flag<R: Rows>(
     x: ObjNo,
     value: &Value,
 ) -> Result<Value, Fault>
+    // The rows are those of a well formed world.
     requires { IsGood (R.held rows.old).maps }
+    // It does what the definition `set_player_flag` says. At its errors nothing changes; out of memory the rows may be half changed.
     ensures { Does (set_player_flag (world_in (R.held rows.old)) programmer x value.now) (R.held rows.old) (R.held rows.new) result }
 {
     if !valid(rows, x) {
@@ -61,9 +63,11 @@ pub fn set_accept<R: Rows>(
     x: ObjNo,
     list: Option<ObjList>,
 ) -> Result<Value, Fault>
+    // The rows are those of a well formed world.
     requires good { IsGood (R.held rows.old).maps }
     // The objects of the list have numbers of 32 bits.
     requires numbers { list_all is_number (unwrap_or list []) ≡ true }
+    // It does what the definition `set_accept` says. At its errors nothing changes; out of memory the rows may be half changed.
     ensures { Does (set_accept (world_in (R.held rows.old)) programmer x list) (R.held rows.old) (R.held rows.new) result }
 {
     if !valid(rows, x) {
@@ -87,7 +91,9 @@ pub(crate) fn set_player_flag_given<R: Rows>(
     programmer: ObjNo,
     args: &[Value],
 ) -> Result<Value, Fault>
+    // The rows are those of a well formed world.
     requires { IsGood (R.held rows.old).maps }
+    // It does what `named_call` says of `SetPlayerFlag`. At its errors nothing changes; out of memory the rows may be half changed.
     ensures { Does (named_call (world_in (R.held rows.old)) programmer SetPlayerFlag args.now) (R.held rows.old) (R.held rows.new) result }
 {
     let (x, value) = object_and_value(args)?;
@@ -102,9 +108,11 @@ pub(crate) fn set_accept_given<R: Rows>(
     programmer: ObjNo,
     args: &[Value],
 ) -> Result<Value, Fault>
+    // The rows are those of a well formed world.
     requires good { IsGood (R.held rows.old).maps }
     // Each argument nests at most 32 deep, and its numbers and texts are within their limits.
     requires fit { list_all fits args.now ≡ true }
+    // It does what `named_call` says of `SetAccept`. At its errors nothing changes; out of memory the rows may be half changed.
     ensures { Does (named_call (world_in (R.held rows.old)) programmer SetAccept args.now) (R.held rows.old) (R.held rows.new) result }
 {
     let (x, list) = object_and_accept(alloc, args)?;

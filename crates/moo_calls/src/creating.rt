@@ -39,6 +39,7 @@ fn owner_or_self(x: ObjNo, owner: ObjNo) -> ObjNo
 
 /// The quota of the owner given: how many objects may still be made for it. `None` if `#-1` was given, or if the owner has no quota.
 fn quota_given<R: Rows>(rows: &R, owner: ObjNo) -> Option<i64>
+    // The rows are those of a well formed world.
     requires { IsGood (R.held rows.now).maps }
     ensures quota { result ≡ quota_given (world_in (R.held rows.now)) owner }
     // It has one left if and only if the owner may afford one more object.
@@ -61,8 +62,9 @@ fn has_one_left(quota: Option<i64>) -> bool
     }
 }
 
-/// Takes one from the owner's quota, if there is one. The only error is out of memory.
+/// Takes one from the owner's quota, if there is one. The only error is a lack of memory.
 fn charge<R: Rows>(rows: &mut R, owner: ObjNo, quota: Option<i64>) -> Result<(), AllocError>
+    // The rows are those of a well formed world.
     requires good { IsGood (R.held rows.old).maps }
     // The quota is the owner's, and there is none if the owner is `#-1`.
     requires quota { quota ≡ quota_given (world_in (R.held rows.old)) owner }
@@ -104,7 +106,9 @@ pub fn create<R: Rows>(
     parent: ObjNo,
     owner: ObjNo,
 ) -> Result<Value, Fault>
+    // The rows are those of a well formed world.
     requires { IsGood (R.held rows.old).maps }
+    // It does what the definition `create` says. At its errors nothing changes; out of memory the rows may be half changed.
     ensures { Does (create (world_in (R.held rows.old)) programmer parent owner) (R.held rows.old) (R.held rows.new) result }
 {
     if !rights::may_be_parent(rows, programmer, parent) {
@@ -137,7 +141,9 @@ pub(crate) fn create_given<R: Rows>(
     programmer: ObjNo,
     args: &[Value],
 ) -> Result<Value, Fault>
+    // The rows are those of a well formed world.
     requires { IsGood (R.held rows.old).maps }
+    // It does what `named_call` says of `Create`. At its errors nothing changes; out of memory the rows may be half changed.
     ensures { Does (named_call (world_in (R.held rows.old)) programmer Create args.now) (R.held rows.old) (R.held rows.new) result }
 {
     let (parent, owner) = parent_and_owner(args, programmer)?;

@@ -14,9 +14,10 @@ use moo_world::{BuiltIn, flag, object_list};
 use std::alloc::Global;
 
 /// What a built-in property of an object reads as: the text, the object or the list of objects, and 1 or 0 for a bit.
-/// The only error is out of memory.
+/// The only error is a lack of memory.
 /// LambdaMOO Programmer's Manual, 'Properties on Objects' in the chapter on the database.
 pub fn field_of<R: Rows>(rows: &R, alloc: Global, x: ObjNo, field: BuiltIn) -> Result<Value, Fault>
+    // The rows are those of a well formed world.
     requires good { IsGood (R.held rows.now).maps }
     // x is an object.
     requires there { is_object (world_in (R.held rows.now)) x ≡ true }

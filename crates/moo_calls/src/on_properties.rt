@@ -25,7 +25,9 @@ pub(crate) fn get_given<R: Rows>(
     programmer: ObjNo,
     args: &[Value],
 ) -> Result<Value, Fault>
+    // The rows are those of a well formed world.
     requires { IsGood (R.held rows.now).maps }
+    // The answer, or the error, is what `named_call` says of `Get`.
     ensures comes { Answers (named_call (world_in (R.held rows.now)) programmer Get args.now) (R.held rows.now) result }
 {
     let (x, property) = object_and_text(args)?;
@@ -39,7 +41,9 @@ pub(crate) fn properties_given<R: Rows>(
     programmer: ObjNo,
     args: &[Value],
 ) -> Result<Value, Fault>
+    // The rows are those of a well formed world.
     requires { IsGood (R.held rows.now).maps }
+    // The answer, or the error, is what `named_call` says of `Properties`.
     ensures comes { Answers (named_call (world_in (R.held rows.now)) programmer Properties args.now) (R.held rows.now) result }
 {
     moo_calls_properties::properties(rows, alloc, programmer, one_object(args)?)
@@ -53,7 +57,9 @@ pub(crate) fn property_info_given<R: Rows>(
     programmer: ObjNo,
     args: &[Value],
 ) -> Result<Value, Fault>
+    // The rows are those of a well formed world.
     requires { IsGood (R.held rows.now).maps }
+    // The answer, or the error, is what `named_call` says of `PropertyInfo`.
     ensures comes { Answers (named_call (world_in (R.held rows.now)) programmer PropertyInfo args.now) (R.held rows.now) result }
 {
     let (x, property) = object_and_text(args)?;
@@ -67,7 +73,9 @@ pub(crate) fn is_clear_property_given<R: Rows>(
     programmer: ObjNo,
     args: &[Value],
 ) -> Result<Value, Fault>
+    // The rows are those of a well formed world.
     requires { IsGood (R.held rows.now).maps }
+    // The answer, or the error, is what `named_call` says of `IsClearProperty`.
     ensures comes { Answers (named_call (world_in (R.held rows.now)) programmer IsClearProperty args.now) (R.held rows.now) result }
 {
     let (x, property) = object_and_text(args)?;
@@ -81,9 +89,11 @@ pub(crate) fn set_given<R: Rows>(
     programmer: ObjNo,
     args: &[Value],
 ) -> Result<Value, Fault>
+    // The rows are those of a well formed world.
     requires good { IsGood (R.held rows.old).maps }
     // Each argument nests at most 32 deep, and its numbers and texts are within their limits.
     requires fit { list_all fits args.now ≡ true }
+    // It does what `named_call` says of `Set`. At its errors nothing changes; out of memory the rows may be half changed.
     ensures { Does (named_call (world_in (R.held rows.old)) programmer Set args.now) (R.held rows.old) (R.held rows.new) result }
 {
     let (x, property, value) = object_text_and_value(args)?;
@@ -98,9 +108,11 @@ pub(crate) fn add_property_given<R: Rows>(
     programmer: ObjNo,
     args: &[Value],
 ) -> Result<Value, Fault>
+    // The rows are those of a well formed world.
     requires good { IsGood (R.held rows.old).maps }
     // Each argument nests at most 32 deep, and its numbers and texts are within their limits.
     requires fit { list_all fits args.now ≡ true }
+    // It does what `named_call` says of `AddProperty`. At its errors nothing changes; out of memory the rows may be half changed.
     ensures { Does (named_call (world_in (R.held rows.old)) programmer AddProperty args.now) (R.held rows.old) (R.held rows.new) result }
 {
     let new = new_property(args)?;
@@ -117,7 +129,9 @@ pub(crate) fn delete_property_given<R: Rows>(
     programmer: ObjNo,
     args: &[Value],
 ) -> Result<Value, Fault>
+    // The rows are those of a well formed world.
     requires { IsGood (R.held rows.old).maps }
+    // It does what `named_call` says of `DeleteProperty`. At its errors nothing changes; out of memory the rows may be half changed.
     ensures { Does (named_call (world_in (R.held rows.old)) programmer DeleteProperty args.now)
         (R.held rows.old) (R.held rows.new) result }
 {
@@ -133,7 +147,9 @@ pub(crate) fn set_property_info_given<R: Rows>(
     programmer: ObjNo,
     args: &[Value],
 ) -> Result<Value, Fault>
+    // The rows are those of a well formed world.
     requires { IsGood (R.held rows.old).maps }
+    // It does what `named_call` says of `SetPropertyInfo`. At its errors nothing changes; out of memory the rows may be half changed.
     ensures { Does (named_call (world_in (R.held rows.old)) programmer SetPropertyInfo args.now)
         (R.held rows.old) (R.held rows.new) result }
 {
@@ -156,7 +172,9 @@ pub(crate) fn clear_property_given<R: Rows>(
     programmer: ObjNo,
     args: &[Value],
 ) -> Result<Value, Fault>
+    // The rows are those of a well formed world.
     requires { IsGood (R.held rows.old).maps }
+    // It does what `named_call` says of `ClearProperty`. At its errors nothing changes; out of memory the rows may be half changed.
     ensures { Does (named_call (world_in (R.held rows.old)) programmer ClearProperty args.now) (R.held rows.old) (R.held rows.new) result }
 {
     let (x, property) = object_and_text(args)?;

@@ -21,7 +21,9 @@ pub(crate) fn verbs_given<R: Rows>(
     programmer: ObjNo,
     args: &[Value],
 ) -> Result<Value, Fault>
+    // The rows are those of a well formed world.
     requires { IsGood (R.held rows.now).maps }
+    // The answer, or the error, is what `named_call` says of `Verbs`.
     ensures comes { Answers (named_call (world_in (R.held rows.now)) programmer Verbs args.now) (R.held rows.now) result }
 {
     moo_calls_verbs::verbs(rows, alloc, programmer, one_object(args)?)
@@ -35,7 +37,9 @@ pub(crate) fn verb_info_given<R: Rows>(
     programmer: ObjNo,
     args: &[Value],
 ) -> Result<Value, Fault>
+    // The rows are those of a well formed world.
     requires { IsGood (R.held rows.now).maps }
+    // The answer, or the error, is what `named_call` says of `VerbInfo`.
     ensures comes { Answers (named_call (world_in (R.held rows.now)) programmer VerbInfo args.now) (R.held rows.now) result }
 {
     let (x, desc) = object_and_desc(alloc, args)?;
@@ -50,7 +54,9 @@ pub(crate) fn verb_args_given<R: Rows>(
     programmer: ObjNo,
     args: &[Value],
 ) -> Result<Value, Fault>
+    // The rows are those of a well formed world.
     requires { IsGood (R.held rows.now).maps }
+    // The answer, or the error, is what `named_call` says of `VerbArgs`.
     ensures comes { Answers (named_call (world_in (R.held rows.now)) programmer VerbArgs args.now) (R.held rows.now) result }
 {
     let (x, desc) = object_and_desc(alloc, args)?;
@@ -65,7 +71,9 @@ pub(crate) fn add_verb_given<R: Rows>(
     programmer: ObjNo,
     args: &[Value],
 ) -> Result<Value, Fault>
+    // The rows are those of a well formed world.
     requires { IsGood (R.held rows.old).maps }
+    // It does what `named_call` says of `AddVerb`. At its errors nothing changes; out of memory the rows may be half changed.
     ensures { Does (named_call (world_in (R.held rows.old)) programmer AddVerb args.now) (R.held rows.old) (R.held rows.new) result }
 {
     let new = new_verb(args)?;
@@ -80,7 +88,9 @@ pub(crate) fn delete_verb_given<R: Rows>(
     programmer: ObjNo,
     args: &[Value],
 ) -> Result<Value, Fault>
+    // The rows are those of a well formed world.
     requires { IsGood (R.held rows.old).maps }
+    // It does what `named_call` says of `DeleteVerb`. At its errors nothing changes; out of memory the rows may be half changed.
     ensures { Does (named_call (world_in (R.held rows.old)) programmer DeleteVerb args.now) (R.held rows.old) (R.held rows.new) result }
 {
     let (x, desc) = object_and_desc(alloc, args)?;
@@ -95,7 +105,9 @@ pub(crate) fn set_verb_info_given<R: Rows>(
     programmer: ObjNo,
     args: &[Value],
 ) -> Result<Value, Fault>
+    // The rows are those of a well formed world.
     requires { IsGood (R.held rows.old).maps }
+    // It does what `named_call` says of `SetVerbInfo`. At its errors nothing changes; out of memory the rows may be half changed.
     ensures { Does (named_call (world_in (R.held rows.old)) programmer SetVerbInfo args.now) (R.held rows.old) (R.held rows.new) result }
 {
     let new = new_verb_info(alloc, args)?;
@@ -110,7 +122,9 @@ pub(crate) fn set_verb_args_given<R: Rows>(
     programmer: ObjNo,
     args: &[Value],
 ) -> Result<Value, Fault>
+    // The rows are those of a well formed world.
     requires { IsGood (R.held rows.old).maps }
+    // It does what `named_call` says of `SetVerbArgs`. At its errors nothing changes; out of memory the rows may be half changed.
     ensures { Does (named_call (world_in (R.held rows.old)) programmer SetVerbArgs args.now) (R.held rows.old) (R.held rows.new) result }
 {
     let new = new_verb_args(alloc, args)?;

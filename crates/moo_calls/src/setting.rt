@@ -91,11 +91,13 @@ pub fn set_built_in<R: Rows>(
     field: BuiltIn,
     value: &Value,
 ) -> Result<Value, Fault>
+    // The rows are those of a well formed world.
     requires good { IsGood (R.held rows.old).maps }
     // x is an object.
     requires there { is_object (world_in (R.held rows.old)) x ≡ true }
     // The value nests at most 32 deep, and its numbers and texts are within their limits.
     requires fit { fits value.now ≡ true }
+    // It does what the definition `set_built_in` says. At its errors nothing changes; out of memory the rows may be half changed.
     ensures { Does (set_built_in (world_in (R.held rows.old)) programmer x field value.now) (R.held rows.old) (R.held rows.new) result }
 {
     let change = change_of(alloc, field, value)?;

@@ -24,9 +24,11 @@ fn named_call<R: Rows>(
     name: CallName,
     args: &[Value],
 ) -> Result<Value, Fault>
+    // The rows are those of a well formed world.
     requires good { IsGood (R.held rows.old).maps }
     // Each argument nests at most 32 deep, and its numbers and texts are within their limits.
     requires fit { list_all fits args.now ≡ true }
+    // It does what `named_call` says of `name`. At its errors nothing changes; out of memory the rows may be half changed.
     ensures { Does (named_call (world_in (R.held rows.old)) programmer name args.now) (R.held rows.old) (R.held rows.new) result }
 {
     match name {
@@ -79,7 +81,9 @@ pub fn step<R: Rows>(
     programmer: ObjNo,
     call: &Call,
 ) -> Result<Value, Fault>
+    // The rows are those of a well formed world.
     requires good { IsGood (R.held rows.old).maps }
+    // It does what the definition `world_call` says. At its errors nothing changes; out of memory the rows may be half changed.
     ensures { Does (world_call (world_in (R.held rows.old)) programmer call.now) (R.held rows.old) (R.held rows.new) result }
 {
     step_named(rows, alloc, programmer, call.name, call.args.items())
@@ -94,9 +98,11 @@ pub fn step_named<R: Rows>(
     name: CallName,
     args: &[Value],
 ) -> Result<Value, Fault>
+    // The rows are those of a well formed world.
     requires good { IsGood (R.held rows.old).maps }
     // Each argument nests at most 32 deep, and its numbers and texts are within their limits.
     requires fit { list_all fits args.now ≡ true }
+    // It does what the definition `world_call` says. At its errors nothing changes; out of memory the rows may be half changed.
     ensures { Does (world_call (world_in (R.held rows.old)) programmer (record { name = name; args = args.now }))
         (R.held rows.old) (R.held rows.new) result }
 {

@@ -26,7 +26,9 @@ pub fn get<R: Rows>(
     x: ObjNo,
     name: &MooStr,
 ) -> Result<Value, Fault>
+    // The rows are those of a well formed world.
     requires { IsGood (R.held rows.now).maps }
+    // The answer, or the error, is that of the definition `get`.
     ensures comes { Answers (get (world_in (R.held rows.now)) programmer x name.now) (R.held rows.now) result }
 {
     if !valid(rows, x) {
@@ -49,9 +51,11 @@ pub fn set<R: Rows>(
     name: &MooStr,
     value: &Value,
 ) -> Result<Value, Fault>
+    // The rows are those of a well formed world.
     requires good { IsGood (R.held rows.old).maps }
     // The value nests at most 32 deep, and its numbers and texts are within their limits.
     requires fit { fits value.now ≡ true }
+    // It does what the definition `set` says. At its errors nothing changes; out of memory the rows may be half changed.
     ensures { Does (set (world_in (R.held rows.old)) programmer x name.now value.now) (R.held rows.old) (R.held rows.new) result }
 {
     if !valid(rows, x) {

@@ -37,6 +37,7 @@ fn is_property_name(name: &MooStr) -> bool
 /// Nothing if a new property of x may have the name, or E_INVARG: if no property may have it, then if x, an ancestor or a
 /// descendant defines one of that name.
 pub(crate) fn may_define<R: Rows>(rows: &R, x: ObjNo, name: &MooStr) -> Result<(), Reason>
+    // The rows are those of a well formed world.
     requires { IsGood (R.held rows.now).maps }
     // There is an error if and only if x may not define a property of the name.
     ensures ok { OnOk result (may_define (world_in (R.held rows.now)) x name.now ≡ true) }
@@ -55,6 +56,7 @@ pub(crate) fn may_define<R: Rows>(rows: &R, x: ObjNo, name: &MooStr) -> Result<(
 
 /// The property of a name that x itself defines; `None` if x defines no property of the name.
 pub(crate) fn own_property<R: Rows>(rows: &R, x: ObjNo, name: &MooStr) -> Option<PropId>
+    // The rows are those of a well formed world.
     requires { IsGood (R.held rows.now).maps }
     // There is one if and only if x itself defines a property of the name.
     ensures exact { is_some result ≡ defines_name (world_in (R.held rows.now)) x name.now }
@@ -75,6 +77,7 @@ pub(crate) fn own_property<R: Rows>(rows: &R, x: ObjNo, name: &MooStr) -> Option
 
 /// Whether x itself defines a property of the name.
 pub(crate) fn defines_name<R: Rows>(rows: &R, x: ObjNo, name: &MooStr) -> bool
+    // The rows are those of a well formed world.
     requires { IsGood (R.held rows.now).maps }
     ensures { result ≡ defines_name (world_in (R.held rows.now)) x name.now }
 {
@@ -115,6 +118,7 @@ fn bits_to_define<R: Rows>(
     name: &MooStr,
     info: Info<'_>,
 ) -> Result<Bits, Fault>
+    // The rows are those of a well formed world.
     requires { IsGood (R.held rows.now).maps }
     // With these rights, `add_property` of any value answers 0, and x defines the property: its slot on x holds the value.
     ensures ok { IfOk result (λ bits. (v : Value) →
@@ -162,9 +166,11 @@ pub fn add_property<R: Rows>(
     value: &Value,
     info: Info<'_>,
 ) -> Result<Value, Fault>
+    // The rows are those of a well formed world.
     requires good { IsGood (R.held rows.old).maps }
     // The value nests at most 32 deep, and its numbers and texts are within their limits.
     requires fit { fits value.now ≡ true }
+    // It does what the definition `add_property` says. At its errors nothing changes; out of memory the rows may be half changed.
     ensures { Does (add_property (world_in (R.held rows.old)) programmer x name.now value.now (info_shown info.entry))
         (R.held rows.old) (R.held rows.new) result }
 {

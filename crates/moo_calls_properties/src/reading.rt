@@ -28,15 +28,18 @@ pub fn get_property<R: Rows>(
     x: ObjNo,
     name: &MooStr,
 ) -> Result<Value, Fault>
+    // The rows are those of a well formed world.
     requires { IsGood (R.held rows.now).maps }
+    // The answer, or the error, is that of the definition `get_property`.
     ensures comes { Answers (get_property (world_in (R.held rows.now)) programmer x name.now) (R.held rows.now) result }
 {
     let found = readable_slot(rows, programmer, x, name)?;
     Ok(value_of(rows, x, found.id).copy(alloc)?)
 }
 
-/// The names of the properties that x defines, in the order of their definition. The only error is out of memory.
+/// The names of the properties that x defines, in the order of their definition. The only error is a lack of memory.
 fn property_names_of<R: Rows>(rows: &R, alloc: Global, x: ObjNo) -> Result<Vec<MooStr>, AllocError>
+    // The rows are those of a well formed world.
     requires { IsGood (R.held rows.now).maps }
     ensures { IfOk result (λ names. names.items ≡ property_names_of (world_in (R.held rows.now)) x) }
 {
@@ -56,7 +59,9 @@ pub fn properties<R: Rows>(
     programmer: ObjNo,
     x: ObjNo,
 ) -> Result<Value, Fault>
+    // The rows are those of a well formed world.
     requires { IsGood (R.held rows.now).maps }
+    // The answer, or the error, is that of the definition `properties`.
     ensures comes { Answers (properties (world_in (R.held rows.now)) programmer x) (R.held rows.now) result }
 {
     if !valid(rows, x) {
@@ -68,7 +73,7 @@ pub fn properties<R: Rows>(
     Ok(text_list(alloc, property_names_of(rows, alloc, x)?)?)
 }
 
-/// The letters of rights as a string. The only error is out of memory.
+/// The letters of rights as a string. The only error is a lack of memory.
 fn letters(alloc: Global, bits: Bits) -> Result<MooStr, AllocError>
     ensures { IfOk result (λ text. text ≡ letters_of bits) }
 {
@@ -76,7 +81,7 @@ fn letters(alloc: Global, bits: Bits) -> Result<MooStr, AllocError>
     Ok(MooStr::from_vec(bytes))
 }
 
-/// The owner and the rights of a slot. The only error is out of memory.
+/// The owner and the rights of a slot. The only error is a lack of memory.
 fn info_list(alloc: Global, slot: &SlotRow) -> Result<Value, AllocError>
     ensures { IfOk result (λ info. info ≡ list_of (Obj slot.now.owner ∷ Str (letters_of slot.now.bits) ∷ [])) }
 {
@@ -96,7 +101,9 @@ pub fn property_info<R: Rows>(
     x: ObjNo,
     name: &MooStr,
 ) -> Result<Value, Fault>
+    // The rows are those of a well formed world.
     requires { IsGood (R.held rows.now).maps }
+    // The answer, or the error, is that of the definition `property_info`.
     ensures comes { Answers (property_info (world_in (R.held rows.now)) programmer x name.now) (R.held rows.now) result }
 {
     if !valid(rows, x) {

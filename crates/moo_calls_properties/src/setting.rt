@@ -26,9 +26,11 @@ pub fn set_property<R: Rows>(
     name: &MooStr,
     value: &Value,
 ) -> Result<Value, Fault>
+    // The rows are those of a well formed world.
     requires good { IsGood (R.held rows.old).maps }
     // The value nests at most 32 deep, and its numbers and texts are within their limits.
     requires fit { fits value.now ≡ true }
+    // It does what the definition `set_property` says. At its errors nothing changes; out of memory the rows may be half changed.
     ensures { Does (set_property (world_in (R.held rows.old)) programmer x name.now value.now) (R.held rows.old) (R.held rows.new) result }
 {
     let found = writable_slot(rows, programmer, x, name)?;

@@ -38,6 +38,7 @@ pub(crate) fn readable_slot<'a, R: Rows>(
     x: ObjNo,
     name: &MooStr,
 ) -> Result<FoundSlot<'a>, Reason>
+    // The rows are those of a well formed world.
     requires { IsGood (R.held rows.now).maps }
     // A call that reads the slot goes on with it, whatever it does then.
     ensures ok { IfOk result (λ found. (then : Slot → Outcome World) →
@@ -67,6 +68,7 @@ pub(crate) fn writable_slot<'a, R: Rows>(
     x: ObjNo,
     name: &MooStr,
 ) -> Result<FoundSlot<'a>, Reason>
+    // The rows are those of a well formed world.
     requires { IsGood (R.held rows.now).maps }
     // It is the slot on x of the property of the name.
     ensures slot { IfOk result (λ found.

@@ -10,7 +10,7 @@ use moo_value::{Code, ObjNo, Value};
 use moo_world::Reason;
 use std::alloc::{AllocError, Global};
 
-/// The objects of a list of values, in order; `None` if a value isn't an object. The only error is out of memory.
+/// The objects of a list of values, in order; `None` if a value isn't an object. The only error is a lack of memory.
 fn objects_among(alloc: Global, values: &[Value]) -> Result<Option<ObjList>, AllocError>
     ensures { IfOk result (λ found. found ≡ objects_among values.now) }
 {

@@ -12,7 +12,7 @@ use moo_value::ObjNo;
 use moo_world::Change;
 use std::alloc::{AllocError, Global};
 
-/// Changes one field of an object, and nothing else. The only error is out of memory.
+/// Changes one field of an object, and nothing else. The only error is a lack of memory.
 ///
 /// A new location has to be `#-1`, or an object that isn't x and isn't in x; an accept list has 1,000 entries at most. Names,
 /// the numbers of owners and the numbers on an accept list keep the limits of their types.
@@ -22,6 +22,7 @@ pub fn change_row<R: Rows>(
     x: ObjNo,
     change: Change,
 ) -> Result<(), AllocError>
+    // The rows are those of a well formed world.
     requires good { IsGood (R.held rows.old).maps }
     // x is an object.
     requires there { is_object (world_in (R.held rows.old)) x ≡ true }

@@ -13,7 +13,7 @@ use moo_value::{Code, MooStr, ObjNo, Value};
 use moo_world::{Desc, Reason};
 use std::alloc::{AllocError, Global};
 
-/// The descriptor that a value is: a number or a word. `None` for any other value. The only error is out of memory.
+/// The descriptor that a value is: a number or a word. `None` for any other value. The only error is a lack of memory.
 fn desc_of(alloc: Global, value: &Value) -> Result<Option<Desc>, AllocError>
     ensures { IfOk result (λ desc. desc ≡ desc_of value.now) }
 {

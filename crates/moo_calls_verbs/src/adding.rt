@@ -118,7 +118,9 @@ pub fn add_verb<R: Rows>(
     verb: VerbInfo<'_>,
     args: ArgTexts<'_>,
 ) -> Result<Value, Fault>
+    // The rows are those of a well formed world.
     requires { IsGood (R.held rows.old).maps }
+    // It does what the definition `add_verb` says. At its errors nothing changes; out of memory the rows may be half changed.
     ensures { Does
         (add_verb (world_in (R.held rows.old)) programmer x (info_shown verb.entry.info) verb.entry.names.now (args_shown args.entry))
         (R.held rows.old) (R.held rows.new) result }

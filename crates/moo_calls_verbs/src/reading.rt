@@ -26,7 +26,9 @@ use std::alloc::{AllocError, Global};
 /// E_INVARG if x isn't an object; E_PERM if the programmer may not read it.
 /// LambdaMOO Programmer's Manual, 'Operations on Verbs'.
 pub fn verbs<R: Rows>(rows: &R, alloc: Global, programmer: ObjNo, x: ObjNo) -> Result<Value, Fault>
+    // The rows are those of a well formed world.
     requires { IsGood (R.held rows.now).maps }
+    // The answer, or the error, is that of the definition `verbs`.
     ensures comes { Answers (verbs (world_in (R.held rows.now)) programmer x) (R.held rows.now) result }
 {
     if !valid(rows, x) {
@@ -40,7 +42,7 @@ pub fn verbs<R: Rows>(rows: &R, alloc: Global, programmer: ObjNo, x: ObjNo) -> R
     Ok(answer)
 }
 
-/// A string of a text that the server itself writes. The only error is out of memory.
+/// A string of a text that the server itself writes. The only error is a lack of memory.
 fn text(alloc: Global, text: &'static str) -> Result<MooStr, AllocError>
     // The text has only characters that a string may have.
     requires { IsText text.now }
@@ -58,6 +60,7 @@ fn readable_verb<'a, R: Rows>(
     x: ObjNo,
     desc: &Desc,
 ) -> Result<&'a VerbRow, Reason>
+    // The rows are those of a well formed world.
     requires { IsGood (R.held rows.now).maps }
     // A call that reads the verb goes on with it, whatever it does then.
     ensures ok { IfOk result (λ verb. (then : VerbRow → Outcome World) →
@@ -78,7 +81,7 @@ fn readable_verb<'a, R: Rows>(
     Ok(found.row)
 }
 
-/// The answer of `verb_info`: `{owner, perms, names}` of a verb. The only error is out of memory.
+/// The answer of `verb_info`: `{owner, perms, names}` of a verb. The only error is a lack of memory.
 fn info_of(alloc: Global, verb: &VerbRow) -> Result<Value, AllocError>
     ensures { IfOk result (λ value. value
         ≡ list_of (Obj verb.now.owner ∷ Str (verb_letters_of verb.now.bits) ∷ Str verb.now.names ∷ [])) }
@@ -103,7 +106,9 @@ pub fn verb_info<R: Rows>(
     x: ObjNo,
     desc: &Desc,
 ) -> Result<Value, Fault>
+    // The rows are those of a well formed world.
     requires { IsGood (R.held rows.now).maps }
+    // The answer, or the error, is that of the definition `verb_info`.
     ensures comes { Answers (verb_info (world_in (R.held rows.now)) programmer x desc.now) (R.held rows.now) result }
 {
     let verb = readable_verb(rows, programmer, x, desc)?;
@@ -111,7 +116,7 @@ pub fn verb_info<R: Rows>(
     Ok(answer)
 }
 
-/// The answer of `verb_args`: `{dobj, prep, iobj}` of a verb. The only error is out of memory.
+/// The answer of `verb_args`: `{dobj, prep, iobj}` of a verb. The only error is a lack of memory.
 fn args_answer(alloc: Global, args: ArgSpec) -> Result<Value, AllocError>
     ensures { IfOk result (λ value. value
         ≡ list_of (Str (object_spec_text args.dobj) ∷ Str (prep_text args.prep) ∷ Str (object_spec_text args.iobj) ∷ [])) }
@@ -133,7 +138,9 @@ pub fn verb_args<R: Rows>(
     x: ObjNo,
     desc: &Desc,
 ) -> Result<Value, Fault>
+    // The rows are those of a well formed world.
     requires { IsGood (R.held rows.now).maps }
+    // The answer, or the error, is that of the definition `verb_args`.
     ensures comes { Answers (verb_args (world_in (R.held rows.now)) programmer x desc.now) (R.held rows.now) result }
 {
     let verb = readable_verb(rows, programmer, x, desc)?;

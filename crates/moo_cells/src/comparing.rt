@@ -37,7 +37,7 @@ pub(crate) fn shows_head(version: Version, rows: &[Row], counters: &[Row], head:
     }
 }
 
-/// Whether the tables are seen to show these rows, by comparing each row of a table with its own. An `Err` means that memory ran out.
+/// Whether the tables are seen to show these rows, by comparing each row of a table with its own. The only error is a lack of memory.
 fn show_rows(alloc: Global, lists: &CellLists, rows: &Flat) -> Result<bool, AllocError>
     // In each table the keys are whole numbers, and each is above the one before.
     requires { AreListed lists.now }

@@ -112,6 +112,7 @@ fn head_within(numbers: HeadCells) -> Option<Head>
 fn head_of(version: Version, cells: &Row) -> Result<Head, CellFault>
     // The cells are those of the head, in this version.
     ensures ok { IfOk result (λ head. ReadsHead (version_number version) head cells.now) }
+    // The number of the last batch is that of a cell, and so is below 2^63.
     ensures limit { IfOk result (λ head. head.seq < 2 ^ 63) }
     // Damaged: they are those of no head of this version, nor of a later one. NewerVersion: they are those of a later one.
     ensures err { IfErr result (SaysOfHead (ReadsKnown (version_number version) cells.now) (ReadsNewer greatest_version cells.now)) }
@@ -140,6 +141,7 @@ fn head_in(version: Version, rows: &[Row]) -> Result<Head, CellFault>
     requires { AreKeyed rows.now }
     // The table has this head, in this version.
     ensures ok { IfOk result (HoldsHead version rows.now) }
+    // The number of the last batch is that of a cell, and so is below 2^63.
     ensures limit { IfOk result (λ head. head.seq < 2 ^ 63) }
     // Damaged: the table has no head of this version, nor of a later one. NewerVersion: it has one of a later version.
     ensures err { IfErr result (SaysOfHead

@@ -17,7 +17,9 @@ pub fn one_set_of_rows()
 
 /// Tables that show the rows of a world aren't of a newer version, and no kind of damage is met in them.
 pub fn shown_without_damage()
+    // Such tables aren't of a newer version.
     ensures newer { (t : Tables) (m : Maps) → ShowsRows t m → IsGood m → ¬ (IsNewer t) }
+    // No kind of damage is met in them.
     ensures damage { (t : Tables) (m : Maps) → ShowsRows t m → IsGood m → (kind : Kind) (key : Key) → ¬ (IsMet t kind key) }
 {}
 

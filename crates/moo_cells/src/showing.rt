@@ -12,7 +12,7 @@ use moo_tables::Version;
 use sqlite::Row;
 use std::alloc::{AllocError, Global};
 
-/// Whether the cells of a row show this row, under this key. An `Err` means that memory ran out.
+/// Whether the cells of a row show this row, under this key. The only error is a lack of memory.
 fn shows<R: ReadRow>(
     alloc: Global,
     version: Version,

@@ -22,7 +22,7 @@ impl SpentCells {
         }
     }
 
-    /// Keeps the cells of one row more. If those of `BLOCK` rows are held, these are let go first. An `Err` means that memory ran out.
+    /// Keeps the cells of one row more. If those of `BLOCK` rows are held, these are let go first. The only error is a lack of memory.
     pub(crate) fn add(&mut self, cells: Row) -> Result<(), AllocError> {
         if self.cells.len() >= BLOCK {
             self.cells.clear();

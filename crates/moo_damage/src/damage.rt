@@ -121,7 +121,7 @@ fn wrong_slot_or_verb<R: Rows>(rows: &R, slots_are_owed: bool) -> Option<(Kind, 
 
 /// What is wrong with rows: the first of the kinds of damage from `PastHead` to `StrangeVerb` that is met, with its least key: objects
 /// come before properties, and these before slots, verbs and petitions, in this order. None if no kind is met: the rows then show
-/// a well formed world, and petitions as they may be beside it. The only error is out of memory.
+/// a well formed world, and petitions as they may be beside it. The only error is a lack of memory.
 ///
 /// Its time is that of going over the rows and of looking up each one's neighbours. Only rows of which a slot is wrong take longer.
 pub fn damage_of<R: Rows>(alloc: Global, rows: &R) -> Result<Option<(Kind, Key)>, AllocError>

@@ -13,7 +13,7 @@ use moo_value::{MooStr, ObjNo};
 use std::alloc::{AllocError, Global};
 use std::collections::BTreeMap;
 
-/// Notes a property under its name, and answers whether no other property was noted under it. The only error is out of memory.
+/// Notes a property under its name, and answers whether no other property was noted under it. The only error is a lack of memory.
 fn note_name(
     alloc: Global,
     noted: &mut BTreeMap<Vec<u8>, PropId>,
@@ -48,7 +48,7 @@ fn note_prop<R: Rows>(
     }
 }
 
-/// Whether no two properties that x has slots of have one name. The only error is out of memory.
+/// Whether no two properties that x has slots of have one name. The only error is a lack of memory.
 fn names_apart_on<R: Rows>(alloc: Global, rows: &R, x: ObjNo) -> Result<bool, AllocError>
     ensures apart { IfOk result (λ apart. apart ≡ true → NamesApart (R.held rows.now).maps x) }
     // Of sound rows it says so.
@@ -65,7 +65,7 @@ fn names_apart_on<R: Rows>(alloc: Global, rows: &R, x: ObjNo) -> Result<bool, Al
 }
 
 /// Whether no two properties that x has slots of have one name. Each object is looked at once: `known` has the objects of which it is
-/// known. The only error is out of memory.
+/// known. The only error is a lack of memory.
 fn seen_apart<R: Rows>(
     alloc: Global,
     rows: &R,

@@ -59,7 +59,7 @@ pub(crate) fn lost_object<R: Rows>(rows: &R, link: TreeLink, are_plain: bool) ->
 }
 
 /// The least object whose chain of links doesn't end; `None` if there is none. It isn't looked for if the objects are known to be right
-/// (`are_plain`). The only error is out of memory.
+/// (`are_plain`). The only error is a lack of memory.
 pub(crate) fn looping_object<R: Rows>(
     alloc: Global,
     rows: &R,

@@ -64,7 +64,7 @@ pub struct Desk<'a, G: Gate, C> {
 }
 
 impl<'a, G: Gate + Drop, C: Clock> Desk<'a, G, C> {
-    /// A desk with no connections, and room for the 64 that it may hold. The error: memory ran out.
+    /// A desk with no connections, and room for the 64 that it may hold. The only error is a lack of memory.
     pub fn new(alloc: Global, clock: &'a C, gate: G) -> Result<Desk<'a, G, C>, AllocError>
         ensures { IfOk result (λ desk. HoldsNone desk.held × (desk.gate ≡ gate)) }
     {
@@ -185,8 +185,10 @@ impl<'a, G: Gate + Drop, C: Clock> Desk<'a, G, C> {
 
     /// Waits until the gate tells of a change, but no longer than `patience` says.
     fn pause(&mut self, now: Duration)
-        // No connection comes, and nothing happens to those that are held but deeds.
+        // No connection comes. More may be gathered and sent of those that are here; one goes only once its answer was sent, or the loss of
+        // it is noted, once.
         ensures all { Goes self.old.held self.new.held }
+        // The gate gives no connection.
         ensures gate { G.gave self.new.gate ≡ G.gave self.old.gate }
         // The wait ends before anything is due: within a period, and once a place may be had.
         ensures waits { HasWaited G.waits (EndsInTime now self.old.held) self.new.told.items self.new.gate }
@@ -197,7 +199,10 @@ impl<'a, G: Gate + Drop, C: Clock> Desk<'a, G, C> {
 
     /// Waits as `pause` does, unless something changed in this round.
     fn pause_unless(&mut self, changed: bool, now: Duration)
+        // No connection comes. More may be gathered and sent of those that are here; one goes only once its answer was sent, or the loss of
+        // it is noted, once.
         ensures all { Goes self.old.held self.new.held }
+        // The gate gives no connection.
         ensures gate { G.gave self.new.gate ≡ G.gave self.old.gate }
         ensures waits { changed ≡ false → HasWaited G.waits (EndsInTime now self.old.held) self.new.told.items self.new.gate }
     {
@@ -208,7 +213,10 @@ impl<'a, G: Gate + Drop, C: Clock> Desk<'a, G, C> {
 
     /// Waits for `most` at most until the gate tells of a change. The next round looks at the connections whose marks it told.
     fn wait(&mut self, most: Duration)
+        // No connection comes. More may be gathered and sent of those that are here; one goes only once its answer was sent, or the loss of
+        // it is noted, once.
         ensures all { Goes self.old.held self.new.held }
+        // The gate gives no connection.
         ensures gate { G.gave self.new.gate ≡ G.gave self.old.gate }
         // The gate was waited for, for this time at most, and its marks are kept.
         ensures waits { HasWaited G.waits (λ it. it ≡ most) self.new.told.items self.new.gate }
@@ -223,6 +231,8 @@ impl<'a, G: Gate + Drop, C: Clock> Desk<'a, G, C> {
 
     /// Has the next round look at the connections whose marks the last wait told, and ask the gate for a connection if it told `NEWS`.
     fn wake_told(&mut self)
+        // No connection comes. More may be gathered and sent of those that are here; one goes only once its answer was sent, or the loss of
+        // it is noted, once.
         ensures all { Goes self.old.held self.new.held }
         ensures gate { self.new.gate ≡ self.old.gate }
         ensures told { self.new.told ≡ self.old.told }
@@ -236,7 +246,10 @@ impl<'a, G: Gate + Drop, C: Clock> Desk<'a, G, C> {
     /// Asks the gate what may have changed, without waiting, if it was asked over 1 millisecond ago or 8 connections were handed out since.
     /// So nobody waits for long though some requests are always whole.
     fn ask_if_due(&mut self, now: Duration)
+        // No connection comes. More may be gathered and sent of those that are here; one goes only once its answer was sent, or the loss of
+        // it is noted, once.
         ensures all { Goes self.old.held self.new.held }
+        // The gate gives no connection.
         ensures gate { G.gave self.new.gate ≡ G.gave self.old.gate }
         // If it is due, the gate is asked by a wait of no time; else nothing changes.
         ensures asks { IsDueToAsk now self.old.asked self.old.turns →
@@ -252,7 +265,10 @@ impl<'a, G: Gate + Drop, C: Clock> Desk<'a, G, C> {
     /// Has the next round look at each connection, though nothing was told of it, and ask the gate for one, if the last time is a period
     /// ago.
     fn sweep(&mut self, now: Duration)
+        // No connection comes. More may be gathered and sent of those that are here; one goes only once its answer was sent, or the loss of
+        // it is noted, once.
         ensures all { Goes self.old.held self.new.held }
+        // The gate gives no connection.
         ensures gate { G.gave self.new.gate ≡ G.gave self.old.gate }
         // After a period each request that is gathered and each answer that is sent is due, and one may be at the gate. Before that
         // nothing changes.
@@ -271,7 +287,10 @@ impl<'a, G: Gate + Drop, C: Clock> Desk<'a, G, C> {
 
     /// Asks the gate what may have changed, and has the next round look at each connection, if either is due.
     fn listen(&mut self, now: Duration)
+        // No connection comes. More may be gathered and sent of those that are here; one goes only once its answer was sent, or the loss of
+        // it is noted, once.
         ensures all { Goes self.old.held self.new.held }
+        // The gate gives no connection.
         ensures gate { G.gave self.new.gate ≡ G.gave self.old.gate }
     {
         self.ask_if_due(now);
@@ -299,6 +318,7 @@ impl<'a, G: Gate + Drop, C: Clock> Desk<'a, G, C> {
     fn hold(&mut self, mut leaving: Leaving<G::Reader, G::Writer>, now: Duration)
         // From a desk that holds this connection too only deeds lead on.
         ensures all { Keep 0 (with_back (book_of self.old.held) leaving) (book_of self.new.held) }
+        // The gate gives no connection.
         ensures gate { G.gave self.new.gate ≡ G.gave self.old.gate }
     {
         leaving.begin(now);
@@ -321,7 +341,10 @@ impl<'a, G: Gate + Drop, C: Clock> Desk<'a, G, C> {
     /// Sends until each answer that is held is sent or lost. After 2^64 - 1 rounds, which no system gets to, the answers that are still
     /// held are given up.
     fn send_out(&mut self)
+        // No connection comes. More may be gathered and sent of those that are here; one goes only once its answer was sent, or the loss of
+        // it is noted, once.
         ensures all { Goes self.old.held self.new.held }
+        // The gate gives no connection.
         ensures gate { G.gave self.new.gate ≡ G.gave self.old.gate }
         ensures none { self.new.held.leaving.items ≡ [] }
     {

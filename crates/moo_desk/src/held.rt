@@ -40,7 +40,7 @@ pub struct Held<R: Inward, W: Outward> {
 }
 
 impl<R: Inward + OpenStream + Drop, W: Outward + OpenStream + Drop> Held<R, W> {
-    /// No connections, and room for the 64 that may be held and one more. The error: memory ran out.
+    /// No connections, and room for the 64 that may be held and one more. The only error is a lack of memory.
     pub fn new(alloc: Global) -> Result<Held<R, W>, AllocError>
         ensures { IfOk result (λ held. HoldsNone held) }
     {
@@ -190,6 +190,7 @@ impl<R: Inward + OpenStream + Drop, W: Outward + OpenStream + Drop> Held<R, W> {
     pub fn give_up_all(&mut self)
         // No connection comes, and nothing happens to those that are held but deeds.
         ensures all { Goes self.old self.new }
+        // No answer is held any more.
         ensures none { self.new.leaving.items ≡ [] }
     {
         while let Some(last) = self.leaving.pop() {

@@ -140,10 +140,12 @@ impl<R: Inward + OpenStream, W: Outward + OpenStream> Leaving<R, W> {
     /// answer is lost if its writer failed, or if the peer takes nothing and the patience is over.
     fn send(&mut self, now: Duration) -> bool
         requires { self.old.stage ≡ Stage.Sending }
+        // Its answer and its route stay.
         ensures answer { (self.new.writer.text.items ≡ self.old.writer.text.items) × (self.new.route ≡ self.old.route) }
         // What the writer has and what is still unsent, joined, is as before.
         ensures invisible { Keeps (append_known (W.contents self.old.writer.writer) (drop self.old.writer.sent self.old.writer.text.items))
             (append_known (W.contents self.new.writer.writer) (drop self.new.writer.sent self.new.writer.text.items)) }
+        // Its peer is sent nothing.
         ensures peer { W.peer self.new.writer.writer ≡ W.peer self.old.writer.writer }
         // One that is to be closed gently isn't let go before its peer was listened to.
         ensures gentle { self.old.closing ≡ Closing.Gently → self.new.stage ≢ Done }
@@ -211,9 +213,11 @@ impl<R: Inward + OpenStream, W: Outward + OpenStream> Leaving<R, W> {
         // What the writer has and what is still unsent, joined, is as before.
         ensures invisible { Keeps (append_known (W.contents self.old.writer.writer) (drop self.old.writer.sent self.old.writer.text.items))
             (append_known (W.contents self.new.writer.writer) (drop self.new.writer.sent self.new.writer.text.items)) }
+        // Its peer is sent nothing.
         ensures peer { W.peer self.new.writer.writer ≡ W.peer self.old.writer.writer }
         // Its peer is listened to, or it is let go, only once all of its answer was sent; or it is lost, and that is told.
         ensures whole { IsSentAt self.new.stage → self.new.writer.sent ≡ length self.new.writer.text.items }
+        // Its stage stays, or is one that may follow.
         ensures stage { MayFollow self.old.stage self.new.stage }
         // After a refusal, which is closed gently, its peer is listened to first.
         ensures gentle { self.old.closing ≡ Closing.Gently → self.old.stage ≡ Stage.Sending → self.new.stage ≢ Done }
@@ -237,11 +241,14 @@ impl<R: Inward + OpenStream, W: Outward + OpenStream> Leaving<R, W> {
     /// Begins to send the answer: takes one step, and a second one if anything went in the first. A short answer is sent and its connection
     /// closed so, without a wait.
     pub fn begin(&mut self, now: Duration)
+        // Its answer and its route stay.
         ensures answer { (self.new.writer.text.items ≡ self.old.writer.text.items) × (self.new.route ≡ self.old.route) }
         // What the writer has and what is still unsent, joined, is as before.
         ensures invisible { Keeps (append_known (W.contents self.old.writer.writer) (drop self.old.writer.sent self.old.writer.text.items))
             (append_known (W.contents self.new.writer.writer) (drop self.new.writer.sent self.new.writer.text.items)) }
+        // Its peer is sent nothing.
         ensures peer { W.peer self.new.writer.writer ≡ W.peer self.old.writer.writer }
+        // Its stage stays, or is one that may follow.
         ensures stage { MayFollow self.old.stage self.new.stage }
     {
         let _went = self.step(now) && self.step(now);
@@ -249,11 +256,14 @@ impl<R: Inward + OpenStream, W: Outward + OpenStream> Leaving<R, W> {
 
     /// Takes a step if the connection is due; whether anything went or came.
     pub fn turn(&mut self, now: Duration) -> bool
+        // Its answer and its route stay.
         ensures answer { (self.new.writer.text.items ≡ self.old.writer.text.items) × (self.new.route ≡ self.old.route) }
         // What the writer has and what is still unsent, joined, is as before.
         ensures invisible { Keeps (append_known (W.contents self.old.writer.writer) (drop self.old.writer.sent self.old.writer.text.items))
             (append_known (W.contents self.new.writer.writer) (drop self.new.writer.sent self.new.writer.text.items)) }
+        // Its peer is sent nothing.
         ensures peer { W.peer self.new.writer.writer ≡ W.peer self.old.writer.writer }
+        // Its stage stays, or is one that may follow.
         ensures stage { MayFollow self.old.stage self.new.stage }
     {
         self.is_due && self.step(now)
@@ -262,6 +272,7 @@ impl<R: Inward + OpenStream, W: Outward + OpenStream> Leaving<R, W> {
     /// Gives the connection up for this cause: an answer that is still being sent is lost, and a peer isn't listened to any more.
     pub fn give_up(&mut self, cause: Cause)
         ensures same { (self.new.writer ≡ self.old.writer) × (self.new.route ≡ self.old.route) }
+        // Its stage stays, or is one that may follow.
         ensures stage { MayFollow self.old.stage self.new.stage }
         // Nothing more is done with it.
         ensures over { (self.new.stage ≡ Done) ⊎ ((cause : _) × (self.new.stage ≡ Lost cause)) }

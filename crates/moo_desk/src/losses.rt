@@ -15,7 +15,7 @@ pub struct Losses {
 }
 
 impl Losses {
-    /// No losses, with room for so many. The error: memory ran out.
+    /// No losses, with room for so many. The only error is a lack of memory.
     pub fn new(alloc: Global, room: usize) -> Result<Losses, AllocError>
         ensures { IfOk result (λ losses. (losses.all.items ≡ []) × (losses.more ≡ 0)) }
     {

@@ -15,6 +15,7 @@ use std::alloc::{AllocError, Global};
 /// The first of the names of the properties which an object defines that the new parent has a property of. `None` if there is none among
 /// the first 200 names.
 fn name_shared<R: Rows>(rows: &R, definer: ObjNo, new: ObjNo) -> Option<&MooStr>
+    // The rows are those of a well formed world.
     requires { IsGood (R.held rows.now).maps }
     ensures { option_map (λ name. name.now) result ≡ name_shared (world_of (R.held rows.now).maps) definer new }
 {
@@ -42,7 +43,7 @@ fn new_parent_given(args: &[Value]) -> Option<ObjNo>
 }
 
 /// The name of the property that keeps an object from its new parent. `None` if the call was refused for another reason, if the programmer
-/// may not list the properties of its definer, or if it isn't among the definer's first 200. The only error is out of memory.
+/// may not list the properties of its definer, or if it isn't among the definer's first 200. The only error is a lack of memory.
 pub(crate) fn clash_name<R: Rows>(
     alloc: Global,
     rows: &R,
@@ -50,6 +51,7 @@ pub(crate) fn clash_name<R: Rows>(
     args: &[Value],
     reason: Reason,
 ) -> Result<Option<MooStr>, AllocError>
+    // The rows are those of a well formed world.
     requires { IsGood (R.held rows.now).maps }
     ensures { IfOk result (λ name. name ≡ clash_name (world_of (R.held rows.now).maps) programmer args.now reason) }
 {

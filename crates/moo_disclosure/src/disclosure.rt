@@ -21,7 +21,7 @@ pub struct Disclosure {
 }
 
 /// What the refusal of a call tells in the world of the rows. The refusal of a call that a granted petition holds (`is_held`) tells no
-/// name: the rows may be half changed. The only error is out of memory.
+/// name: the rows may be half changed. The only error is a lack of memory.
 pub fn disclosure_of<R: Rows>(
     alloc: Global,
     rows: &R,

@@ -18,13 +18,14 @@ use std::alloc::{AllocError, Global};
 /// however many properties there are.
 pub(crate) const MOST_LOOKED_AT: usize = 200;
 
-/// Adds the names of the properties that an object defines, in their order, until there are 200. The only error is out of memory.
+/// Adds the names of the properties that an object defines, in their order, until there are 200. The only error is a lack of memory.
 fn add_names<R: Rows>(
     alloc: Global,
     rows: &R,
     x: ObjNo,
     names: &mut Vec<MooStr>,
 ) -> Result<(), AllocError>
+    // The rows are those of a well formed world.
     requires good { IsGood (R.held rows.now).maps }
     // There are at most 200 names yet.
     requires room { length names.old.items ≤ 200 }
@@ -40,7 +41,7 @@ fn add_names<R: Rows>(
     Ok(())
 }
 
-/// Adds the names that the programmer may list on an object, in their order, until there are 200. The only error is out of memory.
+/// Adds the names that the programmer may list on an object, in their order, until there are 200. The only error is a lack of memory.
 fn add_listed<R: Rows>(
     alloc: Global,
     rows: &R,
@@ -48,6 +49,7 @@ fn add_listed<R: Rows>(
     x: ObjNo,
     names: &mut Vec<MooStr>,
 ) -> Result<(), AllocError>
+    // The rows are those of a well formed world.
     requires good { IsGood (R.held rows.now).maps }
     // There are at most 200 names yet.
     requires room { length names.old.items ≤ 200 }
@@ -60,13 +62,14 @@ fn add_listed<R: Rows>(
     Ok(())
 }
 
-/// The first 200 names that the programmer may list on a list of objects, in order. The only error is out of memory.
+/// The first 200 names that the programmer may list on a list of objects, in order. The only error is a lack of memory.
 fn names_on<R: Rows>(
     alloc: Global,
     rows: &R,
     programmer: ObjNo,
     objects: &[ObjNo],
 ) -> Result<Vec<MooStr>, AllocError>
+    // The rows are those of a well formed world.
     requires { IsGood (R.held rows.now).maps }
     ensures { IfOk result (λ names. names.items
         ≡ take 200 (flat_map (names_listed (world_of (R.held rows.now).maps) programmer) objects.now)) }
@@ -79,13 +82,14 @@ fn names_on<R: Rows>(
 }
 
 /// The objects on which the property of a call may be defined: the object and its ancestors for a call that reads, sets or clears a
-/// property, the object alone for `delete_property` and `set_property_info`, and none for another call. The only error is out of memory.
+/// property, the object alone for `delete_property` and `set_property_info`, and none for another call. The only error is a lack of memory.
 fn objects_searched<R: Rows>(
     alloc: Global,
     rows: &R,
     call: CallName,
     x: ObjNo,
 ) -> Result<Vec<ObjNo>, AllocError>
+    // The rows are those of a well formed world.
     requires { IsGood (R.held rows.now).maps }
     ensures { IfOk result (λ objects. objects.items ≡ objects_searched call (chain (world_of (R.held rows.now).maps) x)) }
 {
@@ -125,7 +129,7 @@ fn lacks_property(reason: Reason) -> bool
 }
 
 /// The names among which a refused call may have meant one: the first 200 that its programmer may list. None if the call isn't refused for
-/// the want of a property, or if the object has a property of the name that is given. The only error is out of memory.
+/// the want of a property, or if the object has a property of the name that is given. The only error is a lack of memory.
 pub(crate) fn names_meant<R: Rows>(
     alloc: Global,
     rows: &R,
@@ -134,6 +138,7 @@ pub(crate) fn names_meant<R: Rows>(
     args: &[Value],
     reason: Reason,
 ) -> Result<Vec<MooStr>, AllocError>
+    // The rows are those of a well formed world.
     requires { IsGood (R.held rows.now).maps }
     ensures { IfOk result (λ names. names.items ≡ names_meant (world_of (R.held rows.now).maps) programmer call args.now reason) }
 {

@@ -78,6 +78,7 @@ fn after_objects<R: Rows>(
     text: &[u8],
     start: usize,
 ) -> Result<usize, CompareFault>
+    // The rows are those of a well formed world.
     requires good { IsGood (R.held rows.now).maps }
     // The outline is of these rows.
     requires outline { IsOutline (R.held rows.now).maps outline.now }
@@ -129,6 +130,7 @@ fn after_petitions<R: Rows>(
 ///
 /// It takes the look-ups that a dump takes.
 pub fn compare<R: Rows>(alloc: Global, rows: &R, text: &[u8]) -> Result<(), CompareFault>
+    // The rows are those of a well formed world.
     requires { IsGood (R.held rows.now).maps }
     ensures ok { OnOk result (dump (state_of (R.held rows.now).maps) ≡ text.now) }
     // A fault names the first difference, unless memory ran out.

@@ -13,7 +13,7 @@ use std::collections::BTreeMap;
 /// The properties that each object defines, in the order of definition. An object that defines none needn't be there.
 pub(crate) type Definitions = BTreeMap<ObjNo, Vec<PropId>>;
 
-/// The properties that each object defines, by one walk over all properties. The only error is out of memory.
+/// The properties that each object defines, by one walk over all properties. The only error is a lack of memory.
 pub(crate) fn all_definitions<R: Rows>(alloc: Global, rows: &R) -> Result<Definitions, AllocError>
     ensures { IfOk result (ListsDefinitions (R.held rows.now).maps) }
 {
@@ -24,7 +24,7 @@ pub(crate) fn all_definitions<R: Rows>(alloc: Global, rows: &R) -> Result<Defini
     Ok(definitions)
 }
 
-/// Adds a property that an object defines as the last one of its list. The only error is out of memory.
+/// Adds a property that an object defines as the last one of its list. The only error is a lack of memory.
 fn add_definition(
     alloc: Global,
     definitions: &mut Definitions,

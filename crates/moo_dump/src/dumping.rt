@@ -19,7 +19,7 @@ use std::alloc::{AllocError, Global};
 use std::io::Write;
 
 /// The first two lines of a dump: `seq` with how many batches were accepted, and `top` with the greatest number that an object was given.
-/// The only error is out of memory.
+/// The only error is a lack of memory.
 #[tactic(auto, unfolding(moo_world::specs::Rows::world_shown))]
 pub(crate) fn heading_text<R: Rows>(alloc: Global, rows: &R) -> Result<Vec<u8>, AllocError>
     ensures { IfOk result (λ text. text.items ≡ heading (state_of (R.held rows.now).maps)) }
@@ -39,6 +39,7 @@ fn write_objects<R: Rows, W: Write>(
     outline: &Outline,
     output: &mut W,
 ) -> Result<(), RowsDumpFault>
+    // The rows are those of a well formed world.
     requires good { IsGood (R.held rows.now).maps }
     // The outline is of these rows.
     requires outline { IsOutline (R.held rows.now).maps outline.now }
@@ -82,6 +83,7 @@ fn put_petitions<R: Rows, W: Write>(
 /// All properties and all objects are gone over once, and then each object takes as many look-ups as it has lines. How long its chain
 /// is doesn't count.
 pub fn dump<R: Rows, W: Write>(alloc: Global, rows: &R, output: &mut W) -> Result<(), RowsDumpFault>
+    // The rows are those of a well formed world.
     requires { IsGood (R.held rows.now).maps }
     ensures ok { OnOk result (Appends (W.contents output.old) (W.contents output.new) (dump (state_of (R.held rows.now).maps))) }
     // At a fault the first bytes are written, some number of them.

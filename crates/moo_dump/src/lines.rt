@@ -12,7 +12,7 @@ use moo_verbs::{bits_letters, print_object_spec, print_prep};
 use moo_world::{accept_value, flag, list_of};
 use std::alloc::{AllocError, Global};
 
-/// Appends a line of a word and a literal list of values. The only error is out of memory; some of the bytes may be there then.
+/// Appends a line of a word and a literal list of values. The only error is a lack of memory; some of the bytes may be there then.
 fn put_line(
     alloc: Global,
     word: &[u8],
@@ -28,7 +28,7 @@ fn put_line(
     out.extend_from_slice(b"\n")
 }
 
-/// The string of a text that the server itself writes. The only error is out of memory.
+/// The string of a text that the server itself writes. The only error is a lack of memory.
 fn string(alloc: Global, text: &str) -> Result<Value, AllocError>
     // The text has only characters that a string may have.
     requires { IsText text.now }
@@ -38,7 +38,7 @@ fn string(alloc: Global, text: &str) -> Result<Value, AllocError>
     Ok(Value::Str(MooStr::from_vec(bytes)))
 }
 
-/// Appends the line of an object. The only error is out of memory; some of the bytes may be there then.
+/// Appends the line of an object. The only error is a lack of memory; some of the bytes may be there then.
 pub(crate) fn put_object_line(
     alloc: Global,
     x: ObjNo,
@@ -66,7 +66,7 @@ pub(crate) fn put_object_line(
     put_line(alloc, b"object", values, out)
 }
 
-/// Appends the line of a property that x defines. The only error is out of memory.
+/// Appends the line of a property that x defines. The only error is a lack of memory.
 pub(crate) fn put_property_line(
     alloc: Global,
     x: ObjNo,
@@ -80,7 +80,7 @@ pub(crate) fn put_property_line(
     put_line(alloc, b"property", values, out)
 }
 
-/// Appends the line of the slot of a property on x. The only error is out of memory.
+/// Appends the line of the slot of a property on x. The only error is a lack of memory.
 pub(crate) fn put_slot_line(
     alloc: Global,
     x: ObjNo,
@@ -123,7 +123,7 @@ fn arg_strings(alloc: Global, args: ArgSpec) -> Result<(Value, Value, Value), Al
     Ok((dobj, prep, iobj))
 }
 
-/// Appends the line of a verb of x. The only error is out of memory.
+/// Appends the line of a verb of x. The only error is a lack of memory.
 pub(crate) fn put_verb_line(
     alloc: Global,
     x: ObjNo,
@@ -147,7 +147,7 @@ pub(crate) fn put_verb_line(
     put_line(alloc, b"verb", values, out)
 }
 
-/// The line of a petition. The only error is out of memory.
+/// The line of a petition. The only error is a lack of memory.
 pub(crate) fn petition_line(
     alloc: Global,
     id: PetitionId,

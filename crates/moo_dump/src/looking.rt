@@ -11,7 +11,7 @@ use moo_tree::{children, contents};
 use moo_value::ObjNo;
 use std::alloc::{AllocError, Global};
 
-/// What an object looks like; `None` if no object has the number. The only error is out of memory.
+/// What an object looks like; `None` if no object has the number. The only error is a lack of memory.
 #[tactic(auto, unfolding(moo_world::specs::Rows::world_shown))]
 pub fn look<R: Rows>(alloc: Global, rows: &R, x: ObjNo) -> Result<Option<Look>, AllocError>
     // Parents and locations are objects or `#-1`, without loops.

@@ -16,7 +16,7 @@ use moo_rows::{PropId, Rows, VerbId, each_verb_of};
 use moo_value::ObjNo;
 use std::alloc::{AllocError, Global};
 
-/// Appends the lines of the properties that x defines. The only error is out of memory; some of the bytes may be there then.
+/// Appends the lines of the properties that x defines. The only error is a lack of memory; some of the bytes may be there then.
 fn put_properties<R: Rows>(
     alloc: Global,
     rows: &R,
@@ -34,7 +34,7 @@ fn put_properties<R: Rows>(
     Ok(())
 }
 
-/// Appends the line of the slot of a property on x; nothing if x has no such slot. The only error is out of memory.
+/// Appends the line of the slot of a property on x; nothing if x has no such slot. The only error is a lack of memory.
 fn put_slot<R: Rows>(
     alloc: Global,
     rows: &R,
@@ -53,7 +53,7 @@ fn put_slot<R: Rows>(
     }
 }
 
-/// Appends the lines of the slots of some properties on x, in order. The only error is out of memory.
+/// Appends the lines of the slots of some properties on x, in order. The only error is a lack of memory.
 fn put_slots_of<R: Rows>(
     alloc: Global,
     rows: &R,
@@ -70,7 +70,7 @@ fn put_slots_of<R: Rows>(
 }
 
 /// Appends the lines of the slots of x, by definers from x up its chain. The way up skips the objects that define nothing: they have no
-/// lines here. The only error is out of memory.
+/// lines here. The only error is a lack of memory.
 fn put_slots<R: Rows>(
     alloc: Global,
     rows: &R,
@@ -94,7 +94,7 @@ fn put_slots<R: Rows>(
     Ok(())
 }
 
-/// Appends the lines of the verbs of x, in the order of the directory. The only error is out of memory.
+/// Appends the lines of the verbs of x, in the order of the directory. The only error is a lack of memory.
 fn put_verbs<R: Rows>(
     alloc: Global,
     rows: &R,
@@ -112,13 +112,14 @@ fn put_verbs<R: Rows>(
 }
 
 /// The lines of an object: its row, the names that it defines, its slots by definers up its chain, its verbs. No lines if no object has
-/// the number. The only error is out of memory.
+/// the number. The only error is a lack of memory.
 pub(crate) fn object_lines<R: Rows>(
     alloc: Global,
     rows: &R,
     outline: &Outline,
     x: ObjNo,
 ) -> Result<Vec<u8>, AllocError>
+    // The rows are those of a well formed world.
     requires good { IsGood (R.held rows.now).maps }
     // The outline is of these rows.
     requires outline { IsOutline (R.held rows.now).maps outline.now }

@@ -18,7 +18,7 @@ pub(crate) struct Outline {
     pub(crate) skips: Skips,
 }
 
-/// The outline of all objects. The only error is out of memory.
+/// The outline of all objects. The only error is a lack of memory.
 pub(crate) fn outline_of<R: Rows>(alloc: Global, rows: &R) -> Result<Outline, AllocError>
     // Parents and locations are objects or `#-1`, without loops.
     requires { IsTree (world_of (R.held rows.now).maps) }

@@ -28,7 +28,7 @@ pub(crate) fn skip_up_from(skips: &Skips, x: ObjNo) -> ObjNo
 }
 
 /// The objects from x up its chain that define nothing and have no entry yet, and the object at which the way up goes on after them: one
-/// that defines something, one that an entry leads to, or `#-1`. The only error is out of memory.
+/// that defines something, one that an entry leads to, or `#-1`. The only error is a lack of memory.
 fn way_up<R: Rows>(
     alloc: Global,
     rows: &R,
@@ -60,7 +60,7 @@ fn way_up<R: Rows>(
     Ok((way, at))
 }
 
-/// Adds an entry for each object of a way, which leads to the object `above`. The only error is out of memory.
+/// Adds an entry for each object of a way, which leads to the object `above`. The only error is a lack of memory.
 fn add_way(skips: &mut Skips, way: &[ObjNo], above: ObjNo) -> Result<(), AllocError>
     // If each entry led up, and the new ones do, each entry does.
     ensures { OnOk result ((t : Maps) → SkipUp t skips.old → AllByRecursion (λ y. LeadsUp t y above) way.now → SkipUp t skips.new) }
@@ -71,7 +71,7 @@ fn add_way(skips: &mut Skips, way: &[ObjNo], above: ObjNo) -> Result<(), AllocEr
     Ok(())
 }
 
-/// An entry for each object that has children and defines nothing. The only error is out of memory.
+/// An entry for each object that has children and defines nothing. The only error is a lack of memory.
 ///
 /// Each object is passed once, and once more from each of its children.
 pub(crate) fn all_skips<R: Rows>(

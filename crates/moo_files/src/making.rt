@@ -20,7 +20,8 @@ use sqlite::{Alter, Connection, FileStore, Start};
 use sqlite_disk::Disk;
 use std::alloc::Global;
 
-/// Makes the world of these rows, or without any the opening one, in a database that has no tables: as `load_in`, or as `create_in`.
+/// Makes the world of these rows, or without any the opening one, in a database that has no tables: as `load_in`, or as `create_in`. The
+/// errors are those of `load_in` and `create_in`, each with the connection.
 pub fn make_in<S: Alter + Drop>(
     alloc: Global,
     conn: Connection<S>,
@@ -42,7 +43,7 @@ pub fn make_in<S: Alter + Drop>(
 }
 
 /// `make_in` at the store in files, over any disk. What is known of that store weighs on each function that calls a generic one at it, so
-/// this call has a function of its own.
+/// this call has a function of its own. The errors are those of `load_in` and `create_in`, each with the connection.
 pub(crate) fn make_files<D: Disk + Drop>(
     alloc: Global,
     conn: Connection<FileStore<D>>,

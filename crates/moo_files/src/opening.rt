@@ -52,7 +52,7 @@ fn refusal_of_metadata(found: io::Result<Metadata>) -> Option<StoreFault>
 }
 
 /// `adopt` at the store in files, over any disk. What is known of that store weighs on each function that calls a generic one at it, so
-/// this call has a function of its own.
+/// this call has a function of its own. The errors are those of `adopt`, each with the connection.
 pub fn adopt_files<D: Disk + Drop>(
     alloc: Global,
     conn: Connection<FileStore<D>>,
@@ -91,17 +91,17 @@ pub fn open_from<T: Start, H: WorldFiles<T>>(
     // Files that are refused are spared. If they weren't opened, the fault is CannotOpen, NotADatabase of an empty file, DatabaseBusy or
     // OutOfMemory.
     ensures refused { IfErr result (λ e. IsRefusedFrom (image_at T.Start) e.0 e.1) }
-    // By what the files hold: no damage is told of a state or of other tables, and they hold what they held, or what that was migrated
-    // to.
+    // No damage is told of files that hold a whole world, nothing, or tables that aren't ours; and the files still hold what they held, or
+    // what that was migrated to.
     ensures refuses { (held : Contents) → Hold (image_at T.Start) held →
         IfErr result (λ e. IsCleanRemains e.1 → Refuses held (image_at T.Start) e.0 e.1) }
     // If the files couldn't be opened, the host said so.
     ensures by_host { IfErr result (λ e. IfNotOpened e.1 ((error : OpenError) × H.refuses host.now path.now error)) }
-    // Before a connection is open a database is refused only if the host denied it, the disk refused, or memory ran out.
+    // A database is refused before its tables are looked at only if the host denied the path, the disk refused, or memory ran out.
     ensures cause { (trees : Trees) → HoldsTrees (image_at T.Start) trees →
         IfErr result (λ e. IsCleanRemains e.1 → HasCause (IsDenied (H.denies host.now) path.now) e.0 e.1) }
-    // Tables are refused for what is wrong with them: the first damage, or a later version. Else for no other cause than these, and once a
-    // connection is open only if the disk failed or memory ran out. Those that are migrated may be refused because that can't be done.
+    // If the files hold tables of ours, the fault tells their first damage or their later version. If they have neither, the host denied the
+    // path, the disk refused or failed, or memory ran out; of tables that are migrated also that a row is too big, or no number is left.
     ensures stopped { (tables : Tables) → HoldsTables (image_at T.Start) tables → IfErr result (λ e. IsCleanRemains e.1 →
         SaysOr (HasCauseOr (StopsOver (AreMigrated tables) e.0) (IsDenied (H.denies host.now) path.now) e.0 e.1) tables e.0) }
 {

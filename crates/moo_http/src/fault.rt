@@ -14,7 +14,7 @@ pub enum ServeFault {
     /// The reader failed; nothing is written, and nothing changed.
     #[error("the request can't be read")]
     Read,
-    /// The writer failed or took no bytes; a front of the answer is written, and what was asked is done.
+    /// The writer failed or took no bytes; the beginning of the answer is written, and what was asked is done.
     #[error("the answer can't be written")]
     Write,
     /// Memory ran out; nothing is written, and what was asked may be done.

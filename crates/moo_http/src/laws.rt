@@ -20,10 +20,11 @@ pub fn answers_are_defined()
         (o ≡ (answer (state_of_moment m) asked).0) × (state_of_moment (moment_of to) ≡ (answer (state_of_moment m) asked).1) }
 {}
 
-/// What is exchanged through a desk is what the peer sees: all of its answer once nothing is left to be sent, else a front of it.
+/// What is exchanged through a desk is what the peer sees: all of its answer once nothing is left to be sent, else the beginning of it.
 pub fn exchanges_pass_through()
-    // If nothing is left to be sent of an answer, the peer got all of it; if something is left, a front of it.
+    // If nothing is left to be sent of an answer, the peer got all of it; if something is left, the beginning of it.
     ensures sent { AnswersPass }
+    // If a part of an answer isn't sent, the peer got the beginning of it.
     ensures lost { FrontsPass }
     // If the connection met a fault, the peer sees what belongs to that fault.
     ensures failed { FaultsPass }

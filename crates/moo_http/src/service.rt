@@ -72,8 +72,9 @@ fn served_text(alloc: Global, answered: u32, failed: u32) -> Result<String, Allo
 /// Writes a text, and flushes it so that it is seen at once. Write if the output fails.
 fn write_flushed<W: Write>(output: &mut W, text: &str) -> Result<(), ServiceFault>
     ensures ok { OnOk result (Appends (W.contents output.old) (W.contents output.new) text.now) }
-    // At a fault a front of it is written.
+    // At a fault the beginning of it is written.
     ensures err { OnErr result (WritesFront text.now (W.contents output.old) (W.contents output.new)) }
+    // The port could be listened on.
     ensures fault { IfErr result (λ fault. fault ≢ ServiceFault.Port) }
 {
     if put_all(output, text.as_bytes()).is_err() {
@@ -88,8 +89,9 @@ fn write_flushed<W: Write>(output: &mut W, text: &str) -> Result<(), ServiceFaul
 /// Writes the line that tells the port. Write if the output fails; OutOfMemory if memory runs out.
 fn say_listening<W: Write>(alloc: Global, output: &mut W, port: u16) -> Result<(), ServiceFault>
     ensures ok { OnOk result (Appends (W.contents output.old) (W.contents output.new) (listening_line port)) }
-    // At a fault a front of it is written.
+    // At a fault the beginning of it is written.
     ensures err { OnErr result (WritesFront (listening_line port) (W.contents output.old) (W.contents output.new)) }
+    // The port could be listened on.
     ensures fault { IfErr result (λ fault. fault ≢ ServiceFault.Port) }
 {
     let line = listening_text(alloc, port)?;
@@ -100,9 +102,10 @@ fn say_listening<W: Write>(alloc: Global, output: &mut W, port: u16) -> Result<(
 /// out.
 fn say_served<W: Write>(alloc: Global, output: &mut W, served: Served) -> Result<(), ServiceFault>
     ensures ok { OnOk result (Appends (W.contents output.old) (W.contents output.new) (served_line served.answered served.failed)) }
-    // At a fault a front of it is written.
+    // At a fault the beginning of it is written.
     ensures err { OnErr result (WritesFront (served_line served.answered served.failed)
         (W.contents output.old) (W.contents output.new)) }
+    // The port could be listened on.
     ensures fault { IfErr result (λ fault. fault ≢ ServiceFault.Port) }
 {
     let line = served_text(alloc, served.answered, served.failed)?;
@@ -111,7 +114,7 @@ fn say_served<W: Write>(alloc: Global, output: &mut W, served: Served) -> Result
 
 /// Says that it listens on this port, serves so many connections of a source, and says how many were answered and how many failed.
 ///
-/// The faults: Write if the output fails, and OutOfMemory, with a front of the two lines written: then no connection was taken, or all of
+/// The faults: Write if the output fails, and OutOfMemory, with the beginning of the two lines written: then no connection was taken, or all of
 /// them were. A connection that fails isn't a fault.
 pub fn serve_from<S: Alter + Drop, A: Arrivals, C: Clock + Eprint, W: Write>(
     tools: &Tools<'_, C>,
@@ -121,10 +124,11 @@ pub fn serve_from<S: Alter + Drop, A: Arrivals, C: Clock + Eprint, W: Write>(
     output: &mut W,
 ) -> Result<(), ServiceFault>
     // The World was led on by what the connections asked that the source handed out, and by nothing else. The two lines tell the port and
-    // how many were answered and failed; at a fault a front of them is written.
+    // how many were answered and failed; at a fault the beginning of them is written.
     ensures serves { AdvancesBy S.Store world.old world.new (λ from to.
         ServesFrom A.Arrivals A.Reader.Read A.Reader.fails A.Writer.Write result duty.port duty.count
         arrivals.old from arrivals.new to (W.contents output.old) (W.contents output.new)) }
+    // The port could be listened on.
     ensures fault { IfErr result (λ fault. fault ≢ ServiceFault.Port) }
 {
     let routes = Routes::new(tools.alloc)?;
@@ -151,8 +155,9 @@ pub fn serve_port<S: Alter + Drop, P: Ports, C: Clock + Eprint, W: Write>(
     duty: Duty,
     output: &mut W,
 ) -> Result<(), ServiceFault>
-    // The World was led on by what the connections asked that came to this port, as `serve_from` says it, and by nothing else: just the
-    // batches that they asked wrote to the tables. No other port was listened on, and none was taken after the last of them.
+    // The World was led on by what the connections to this port asked, as `serve_from` says it, and by nothing else: only the batches of
+    // these connections wrote to the tables. If the port can't be listened on, the World and the output are as they were. No other port was
+    // listened on, and no connection is taken after the last that is counted.
     ensures serves { AdvancesBy S.Store world.old world.new (λ from to. ServesOn
         (attended_between P.Source.Arrivals P.Source.Reader.Read P.Source.Reader.fails P.Source.Writer.Write P.Ports ports.old ports.new)
         result duty.port duty.count from to (W.contents output.old) (W.contents output.new)) }

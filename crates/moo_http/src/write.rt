@@ -7,7 +7,7 @@ use crate::fault::ServeFault;
 use moo_text::put_all;
 use std::io::Write;
 
-/// Writes the bytes of an answer. Write if the writer fails or takes none: a front of them is written then.
+/// Writes the bytes of an answer. Write if the writer fails or takes none: the beginning of them is written then.
 pub(crate) fn write_out<W: Write>(writer: &mut W, bytes: &[u8]) -> Result<(), ServeFault>
     ensures written { Written result (W.contents writer.old) (W.contents writer.new) bytes.now }
     ensures fault { IfErr result (λ fault. fault ≡ ServeFault.Write) }

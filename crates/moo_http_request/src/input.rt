@@ -17,6 +17,7 @@ pub(crate) fn read_more<R: Incoming>(
     bytes: &mut Vec<u8>,
     limit: usize,
 ) -> Result<bool, ReadFault>
+    // There is room below the limit.
     requires { length bytes.old.items < limit }
     // What the reader gave follows the bytes that were there.
     ensures grows { OnOk result (Grows (R.remaining reader.old) (R.remaining reader.new) bytes.old.items bytes.new.items) }

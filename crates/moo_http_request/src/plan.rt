@@ -111,6 +111,7 @@ fn plan_body(form: Form, bytes: &[u8], lines: &[HeaderSpan]) -> Plan
     // The places of the lines are inside the bytes.
     requires within { All (IsHeaderWithin (length bytes.now)) lines.now }
     ensures value { let head = map (header_bytes bytes.now) lines.now in result ≡ body_plan form head (length_of head) }
+    // A body that is to be read has at most 1,048,576 bytes.
     ensures bound { IsBounded result }
 {
     match body_length(bytes, lines) {
@@ -129,6 +130,7 @@ fn plan_body(form: Form, bytes: &[u8], lines: &[HeaderSpan]) -> Plan
 /// one.
 fn plan_question(topic: Topic, question: Option<Question>) -> Plan
     ensures value { result ≡ question_plan topic question }
+    // A body that is to be read has at most 1,048,576 bytes.
     ensures bound { IsBounded result }
 {
     match question {
@@ -142,6 +144,7 @@ fn plan_endpoint(endpoint: Endpoint, path: &[u8], bytes: &[u8], lines: &[HeaderS
     // The places of the lines are inside the bytes.
     requires within { All (IsHeaderWithin (length bytes.now)) lines.now }
     ensures value { result ≡ endpoint_plan endpoint path.now (map (header_bytes bytes.now) lines.now) }
+    // A body that is to be read has at most 1,048,576 bytes.
     ensures bound { IsBounded result }
 {
     match endpoint {
@@ -174,6 +177,7 @@ fn plan_allowed(
     // The places of the lines are inside the bytes.
     requires within { All (IsHeaderWithin (length bytes.now)) lines.now }
     ensures value { result ≡ allowed_plan endpoint method.now path.now (map (header_bytes bytes.now) lines.now) }
+    // A body that is to be read has at most 1,048,576 bytes.
     ensures bound { IsBounded result }
 {
     let wanted = method_of(endpoint);
@@ -209,6 +213,7 @@ fn plan_route(
     // The places of the lines are inside the bytes.
     requires within { All (IsHeaderWithin (length bytes.now)) lines.now }
     ensures value { result ≡ routed_plan endpoint method.now path.now (map (header_bytes bytes.now) lines.now) }
+    // A body that is to be read has at most 1,048,576 bytes.
     ensures bound { IsBounded result }
 {
     match endpoint {
@@ -229,6 +234,7 @@ fn plan_path(routes: &Routes, method: &[u8], path: &str, bytes: &[u8], lines: &[
     ensures value { let head = map (header_bytes bytes.now) lines.now in
         result ≡ (if is_from_page head then Plan.Decided (Asked.Refused Refusal.Forbidden)
         else routed_plan (endpoint_of path.now) method.now path.now head) }
+    // A body that is to be read has at most 1,048,576 bytes.
     ensures bound { IsBounded result }
 {
     if is_from_page(bytes, lines) {

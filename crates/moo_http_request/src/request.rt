@@ -55,6 +55,7 @@ pub(crate) fn plan_head(routes: &Routes, bytes: &[u8], head: &HeadSpans) -> Plan
     requires within { IsRequestWithin bytes.now head.now.headers head.now.spans }
     requires found { IsRequestOf bytes.now head.now.headers head.now.spans }
     ensures value { (parts : RequestHead) → IsRequestAt bytes.now head.now.headers head.now.spans parts → result ≡ plan_by parts }
+    // A body that is to be read has at most 1,048,576 bytes.
     ensures bound { IsBounded result }
 {
     make_plan(

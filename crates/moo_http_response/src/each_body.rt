@@ -16,7 +16,7 @@ use moo_value::Value as Literal;
 use serde_json::{Map, Value, put};
 use std::alloc::{AllocError, Global};
 
-/// The entry of a call that is refused: a word under `error`, and why under `why`, if that is told.
+/// The entry of a call that is refused: a word under `error`, and why under `why`, if that is told. The only error is a lack of memory.
 fn error_entry(alloc: Global, word: &str, why: Option<&str>) -> Result<Value, AllocError>
     ensures { IfOk result (λ value. view value ≡ error_body (option_map (λ w. w.now) why.entry) word.now) }
 {
@@ -29,7 +29,7 @@ fn error_entry(alloc: Global, word: &str, why: Option<&str>) -> Result<Value, Al
     Ok(Value::Object(fields))
 }
 
-/// The first answer as the text of its literal, or null if there is none.
+/// The first answer as the text of its literal, or null if there is none. The only error is a lack of memory.
 fn first_answer(alloc: Global, answers: &[Literal]) -> Result<Value, AllocError>
     ensures { IfOk result (λ value. view value ≡ first_answer answers.now) }
 {
@@ -39,7 +39,7 @@ fn first_answer(alloc: Global, answers: &[Literal]) -> Result<Value, AllocError>
     }
 }
 
-/// The entry of a call that is answered: its answer under `answer`.
+/// The entry of a call that is answered: its answer under `answer`. The only error is a lack of memory.
 fn answer_entry(alloc: Global, answers: &[Literal]) -> Result<Value, AllocError>
     ensures { IfOk result (λ value. view value ≡ object (member (codes "answer") (first_answer answers.now) no_members)) }
 {
@@ -49,7 +49,8 @@ fn answer_entry(alloc: Global, answers: &[Literal]) -> Result<Value, AllocError>
     Ok(Value::Object(fields))
 }
 
-/// The entry of a call by its reply: its answer, or an error and why the call is refused, if that is told.
+/// The entry of a call by its reply: its answer, or an error and why the call is refused, if that is told. The only error is a lack of
+/// memory.
 fn reply_entry(alloc: Global, reply: &Reply, why: Option<&str>) -> Result<Value, AllocError>
     ensures { IfOk result (λ value. view value ≡ reply_body (option_map (λ w. w.now) why.entry) reply.now) }
 {
@@ -62,7 +63,7 @@ fn reply_entry(alloc: Global, reply: &Reply, why: Option<&str>) -> Result<Value,
     }
 }
 
-/// The entry of a text by its reply, or that of a text that isn't a call.
+/// The entry of a text by its reply, or that of a text that isn't a call. The only error is a lack of memory.
 fn alone_entry(alloc: Global, reply: &Option<Reply>, why: Option<&str>) -> Result<Value, AllocError>
     ensures { IfOk result (λ value. view value ≡ alone_body (option_map (λ w. w.now) why.entry) reply.now) }
 {
@@ -72,7 +73,7 @@ fn alone_entry(alloc: Global, reply: &Option<Reply>, why: Option<&str>) -> Resul
     }
 }
 
-/// The entries of all texts, in their order, each with the sentence in its place.
+/// The entries of all texts, in their order, each with the sentence in its place. The only error is a lack of memory.
 fn each_entries(
     alloc: Global,
     replies: &[Option<Reply>],

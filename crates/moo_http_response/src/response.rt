@@ -26,7 +26,7 @@ fn reason(status: StatusCode) -> &'static str
     }
 }
 
-/// The line that names the method of the route, or nothing.
+/// The line that names the method of the route, or nothing. The only error is a lack of memory.
 fn allow_line(alloc: Global, allow: Option<&str>) -> Result<String, AllocError>
     ensures { IfOk result (λ line. string_bytes line ≡ allow_line (option_map (λ method. method.now) allow.entry)) }
 {

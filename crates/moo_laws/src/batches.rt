@@ -13,12 +13,13 @@ ghost use Rattle.moo_laws.specs.Agreeing.{AgreeFor, SameVerdict, TellTheSame, Sa
 ghost use Rattle.moo_laws.specs.Reading.{IsHidden, LookAlike};
 
 /// What batches of calls that only read tell their programmer depends on no value and on no petition that the programmer may not see: from
-/// two states that agree for the programmer they have the same verdicts, one after another. `batches_tell_no_more` is about batches that
-/// change something, too.
+/// two states that agree for the programmer they have the same verdicts, one after another. Two states agree for a programmer if their
+/// worlds are the same but for values that the programmer may not read, if the programmer may see the same petitions in both, and if as
+/// many batches were accepted. `batches_tell_no_more` is about batches that change something, too.
 ///
 /// LambdaMOO Programmer's Manual, 'Properties on Objects' in the chapter on the database. Petitions are this server's own.
 pub fn reading_batches_tell_no_more()
-    // A batch that only reads has the same verdict in both states.
+    // A batch whose calls only read, and list petitions, has the same verdict in both states.
     ensures batch { (programmer : ObjNo) (state other : State) (batch : Batch) → AgreeFor programmer state other →
         only_asks programmer batch ≡ true → SameVerdict (judge state batch) (judge other batch) }
     // The two states agree after the batch too.

@@ -26,6 +26,7 @@ use std::alloc::Global;
 
 /// Puts the row of a line into the rows, unless it is a slot. The error is why the line can't be read, or NoNumber; or OutOfMemory.
 fn take_line(alloc: Global, line: &[u8], rows: &mut Flat) -> LineResult<()>
+    // The rows are within their limits, and fewer than 2^63 batches were accepted.
     requires { AreRead rows.old.maps }
     // The rows are within their limits, and fewer than 2^63 batches were accepted.
     ensures read { OnOk result (AreRead rows.new.maps) }
@@ -58,6 +59,7 @@ fn take_slot_line(
     last: LastSlot,
     rows: &mut Flat,
 ) -> LineResult<LastSlot>
+    // The rows are within their limits, and fewer than 2^63 batches were accepted.
     requires { AreRead rows.old.maps }
     // The rows are within their limits, and fewer than 2^63 batches were accepted.
     ensures read { OnOk result (AreRead rows.new.maps) }
@@ -84,6 +86,7 @@ fn take_slot_line(
 fn take_lines(alloc: Global, text: &[u8], start: usize, rows: &mut Flat) -> Result<(), LoadFault>
     // The text has the place.
     requires start { start ≤ length text.now }
+    // The rows are within their limits, and fewer than 2^63 batches were accepted.
     requires read { AreRead rows.old.maps }
     // The rows are within their limits, and fewer than 2^63 batches were accepted.
     ensures read { OnOk result (AreRead rows.new.maps) }
@@ -115,6 +118,7 @@ fn take_lines(alloc: Global, text: &[u8], start: usize, rows: &mut Flat) -> Resu
 fn take_slots(alloc: Global, text: &[u8], start: usize, rows: &mut Flat) -> Result<(), LoadFault>
     // The text has the place.
     requires start { start ≤ length text.now }
+    // The rows are within their limits, and fewer than 2^63 batches were accepted.
     requires read { AreRead rows.old.maps }
     // The rows are within their limits, and fewer than 2^63 batches were accepted.
     ensures read { OnOk result (AreRead rows.new.maps) }

@@ -33,7 +33,9 @@ use std::alloc::Global;
 
 /// Puts an object into the rows. The error is why the values can't be read; or OutOfMemory.
 pub(crate) fn take_object(alloc: Global, values: &[Value], rows: &mut Flat) -> LineResult<()>
+    // The rows are within their limits, and fewer than 2^63 batches were accepted.
     requires { AreRead rows.old.maps }
+    // So are the rows afterwards.
     ensures read { OnOk result (AreRead rows.new.maps) }
     // If the values are those of an object's line, that object is put.
     ensures put { OnOk result ((x : ObjNo) (row : ObjRow) → values.now ≡ object_values x row → rows.new ≡ with_object rows.old x row) }
@@ -48,7 +50,9 @@ pub(crate) fn take_object(alloc: Global, values: &[Value], rows: &mut Flat) -> L
 
 /// Puts a property into the rows, under the next number. The error is why the values can't be read, or NoNumber; or OutOfMemory.
 pub(crate) fn take_property(alloc: Global, values: &[Value], rows: &mut Flat) -> LineResult<()>
+    // The rows are within their limits, and fewer than 2^63 batches were accepted.
     requires { AreRead rows.old.maps }
+    // So are the rows afterwards.
     ensures read { OnOk result (AreRead rows.new.maps) }
     // If the values are those of a property's line, that property is put under the next number.
     ensures put { OnOk result ((row : PropRow) → values.now ≡ Obj row.definer ∷ Str row.name ∷ [] →
@@ -72,7 +76,9 @@ pub(crate) fn take_property(alloc: Global, values: &[Value], rows: &mut Flat) ->
 
 /// Puts a verb into the rows, under the next number. The error is why the values can't be read, or NoNumber; or OutOfMemory.
 pub(crate) fn take_verb(alloc: Global, values: &[Value], rows: &mut Flat) -> LineResult<()>
+    // The rows are within their limits, and fewer than 2^63 batches were accepted.
     requires { AreRead rows.old.maps }
+    // So are the rows afterwards.
     ensures read { OnOk result (AreRead rows.new.maps) }
     // If the values are those of a verb's line, that verb is put under the next number.
     ensures put { OnOk result ((x : ObjNo) (row : VerbRow) → values.now ≡ verb_values x row →
@@ -96,7 +102,9 @@ pub(crate) fn take_verb(alloc: Global, values: &[Value], rows: &mut Flat) -> Lin
 
 /// Puts a petition into the rows; the number of the next petition is above it. The error is why the values can't be read; or OutOfMemory.
 pub(crate) fn take_petition(alloc: Global, values: &[Value], rows: &mut Flat) -> LineResult<()>
+    // The rows are within their limits, and fewer than 2^63 batches were accepted.
     requires { AreRead rows.old.maps }
+    // So are the rows afterwards.
     ensures read { OnOk result (AreRead rows.new.maps) }
     // If the values are those of a petition's line, that petition is put under its number.
     ensures put { OnOk result ((id : PetitionId) (row : PetitionRow) → values.now ≡ petition_values id row →
@@ -171,7 +179,9 @@ pub(crate) fn take_slot(
     last: LastSlot,
     rows: &mut Flat,
 ) -> LineResult<LastSlot>
+    // The rows are within their limits, and fewer than 2^63 batches were accepted.
     requires { AreRead rows.old.maps }
+    // So are the rows afterwards.
     ensures read { OnOk result (AreRead rows.new.maps) }
     // The slot of the next property is put under its number.
     ensures put { IfOk result (λ put. (x : ObjNo) (p : Property) (k : Slot) (id : PropId) →

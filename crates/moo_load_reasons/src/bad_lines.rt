@@ -97,7 +97,7 @@ fn is_open_text(bytes: &[u8]) -> bool {
     is_open
 }
 
-/// Says why a value of a line's list can't be read. The only error is out of memory.
+/// Says why a value of a line's list can't be read. The only error is a lack of memory.
 fn put_value_fault(said: &mut Said, line: &[u8], fault: LiteralFault) -> Result<(), AllocError> {
     let rest = unread_bytes(said.alloc, line);
     match fault {

@@ -12,7 +12,7 @@ fn object_numbered(number: i64) -> ObjNo {
     ObjNo(i32::try_from(number).unwrap_or(-1))
 }
 
-/// Says which damage the rows of a text have, with the line that shows it, if there is one. The only error is out of memory.
+/// Says which damage the rows of a text have, with the line that shows it, if there is one. The only error is a lack of memory.
 pub(crate) fn put_damage(
     said: &mut Said,
     text: &[u8],
@@ -38,7 +38,7 @@ pub(crate) fn put_damage(
     }
 }
 
-/// Says that the link of an object, the value at this place of its line's list, names no object. The only error is out of memory.
+/// Says that the link of an object, the value at this place of its line's list, names no object. The only error is a lack of memory.
 fn put_link(said: &mut Said, found: &Option<Found>, place: usize) -> Result<(), AllocError> {
     if let Some(line) = found {
         if let Some(other) = line.values.get(place) {
@@ -50,7 +50,7 @@ fn put_link(said: &mut Said, found: &Option<Found>, place: usize) -> Result<(), 
     said.put(" isn't an object of the dump")
 }
 
-/// Says what is wrong with an object: its parent, its location, a circle of them, or its number. The only error is out of memory.
+/// Says what is wrong with an object: its parent, its location, a circle of them, or its number. The only error is a lack of memory.
 fn put_object_damage(
     said: &mut Said,
     text: &[u8],

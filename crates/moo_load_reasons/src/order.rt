@@ -7,7 +7,7 @@ use moo_load::DumpReason;
 use moo_rows::PropId;
 use std::alloc::AllocError;
 
-/// Says that the slot of the property of a count, from 1, in the text is wanted. The only error is out of memory.
+/// Says that the slot of the property of a count, from 1, in the text is wanted. The only error is a lack of memory.
 pub(crate) fn put_slot_wanted(said: &mut Said, text: &[u8], count: i64) -> Result<(), AllocError> {
     said.put("the slot of ")?;
     if let Some(found) = counted_line(said.alloc, text, b"property", count)? {
@@ -21,7 +21,7 @@ pub(crate) fn put_slot_wanted(said: &mut Said, text: &[u8], count: i64) -> Resul
     said.put("another property is wanted here")
 }
 
-/// Says why a line is out of its place, or that a dump writes it in another way. The only error is out of memory.
+/// Says why a line is out of its place, or that a dump writes it in another way. The only error is a lack of memory.
 pub(crate) fn put_order(
     said: &mut Said,
     text: &[u8],

@@ -25,7 +25,7 @@ fn slot_front(
     Ok(front)
 }
 
-/// Says what is wrong with the slot on an object of the property of this count, from 1, in the text. The only error is out of memory.
+/// Says what is wrong with the slot on an object of the property of this count, from 1, in the text. The only error is a lack of memory.
 pub(crate) fn put_slot_damage(
     said: &mut Said,
     text: &[u8],

@@ -30,7 +30,7 @@ pub fn why_of_fault(
     Ok(Some(said.into_text()))
 }
 
-/// Says what is wrong with the line of a number, by the reason for which loading refused it. The only error is out of memory.
+/// Says what is wrong with the line of a number, by the reason for which loading refused it. The only error is a lack of memory.
 fn put_reason(
     said: &mut Said,
     text: &[u8],

@@ -6,7 +6,7 @@ use moo_load::DumpReason;
 use moo_verbs::print_prep;
 use std::alloc::AllocError;
 
-/// Says that the value of this name isn't an object, a text or a flag. The only error is out of memory.
+/// Says that the value of this name isn't an object, a text or a flag. The only error is a lack of memory.
 pub(crate) fn put_kind(said: &mut Said, what: &str, why: DumpReason) -> Result<(), AllocError> {
     said.put("the ")?;
     said.put(what)?;
@@ -17,7 +17,7 @@ pub(crate) fn put_kind(said: &mut Said, what: &str, why: DumpReason) -> Result<(
     })
 }
 
-/// Says the value at a place, from 0, of a line's list; nothing if it has none there. The only error is out of memory.
+/// Says the value at a place, from 0, of a line's list; nothing if it has none there. The only error is a lack of memory.
 pub(crate) fn put_value_at(said: &mut Said, line: &[u8], place: usize) -> Result<(), AllocError> {
     let values = values_in(said.alloc, line)?;
     match values.get(place) {
@@ -31,7 +31,7 @@ fn letters_place(line: &[u8]) -> usize {
     if has_word(line, b"verb") { 3 } else { 4 }
 }
 
-/// Says what a dump writes in place of the value at a place of a line's list. The only error is out of memory.
+/// Says what a dump writes in place of the value at a place of a line's list. The only error is a lack of memory.
 fn put_for(said: &mut Said, line: &[u8], place: usize, right: &str) -> Result<(), AllocError> {
     said.put("a dump writes \"")?;
     said.put(right)?;
@@ -39,7 +39,7 @@ fn put_for(said: &mut Said, line: &[u8], place: usize, right: &str) -> Result<()
     put_value_at(said, line, place)
 }
 
-/// Says why a row can't have a value of its line. The only error is out of memory.
+/// Says why a row can't have a value of its line. The only error is a lack of memory.
 pub(crate) fn put_row_fault(
     said: &mut Said,
     line: &[u8],

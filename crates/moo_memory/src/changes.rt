@@ -113,7 +113,7 @@ pub(crate) fn changed_rows<R: Rows, V: KeyedRow>(
     differing_rows(alloc, base, changes)
 }
 
-/// Puts and removes the rows of one kind as a list of changes says, in its order. An `Err` is a lack of memory, and then some are made.
+/// Puts and removes the rows of one kind as a list of changes says, in its order. The only error is a lack of memory, and then some are made.
 fn apply_each<R: Rows, V: KeyedRow>(
     rows: &mut R,
     changes: ChangeList<V::Key, V>,
@@ -131,7 +131,7 @@ fn apply_each<R: Rows, V: KeyedRow>(
     Ok(())
 }
 
-/// Sets the head, and makes the changes of all five maps. An `Err` is a lack of memory, and then some are made.
+/// Sets the head, and makes the changes of all five maps. The only error is a lack of memory, and then some are made.
 fn apply_all<R: Rows>(rows: &mut R, changes: Changes) -> Result<(), AllocError>
     // If these are the changes from the old rows to others, the rows are those others.
     ensures { OnOk result ((new : Maps) → AreChanges (R.held rows.old).maps new changes → (R.held rows.new).maps ≡ new) }

@@ -60,6 +60,7 @@ pub(crate) fn next_named_of_either<R: Rows>(
     hash: u64,
     after: PropId,
 ) -> Option<PropId>
+    // The hash is that of the name.
     requires { hash ≡ name_hash name.now }
     ensures { IsFirst prop_cmp
         (λ q. is_named_by (R.held base.now).maps x name.now q || has_key named_cmp names.now ((x, name_hash name.now), q))

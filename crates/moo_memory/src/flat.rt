@@ -91,7 +91,7 @@ impl Flat {
         }
     }
 
-    /// Rows that equal these, whose count of writes begins anew. An `Err` is a lack of memory.
+    /// Rows that equal these, whose count of writes begins anew. The only error is a lack of memory.
     pub fn copy(&self, _alloc: Global) -> Result<Flat, AllocError>
         ensures { IfOk result (λ copy. copy.maps ≡ self.now.maps) }
     {

@@ -163,7 +163,7 @@ impl Links {
         }
     }
 
-    /// Equal links. An `Err` is a lack of memory.
+    /// Equal links. The only error is a lack of memory.
     pub fn copy(&self) -> Result<Links, AllocError>
         ensures { IfOk result (λ copy. copy ≡ self.now) }
     {
@@ -213,7 +213,7 @@ impl Links {
         }
     }
 
-    /// Keeps an object for a link; for one to `#-1` nothing is kept. An `Err` is a lack of memory.
+    /// Keeps an object for a link; for one to `#-1` nothing is kept. The only error is a lack of memory.
     fn add_one(&mut self, link: Link, key: ObjNo) -> Result<(), AllocError>
         // Each object that might have a link still may.
         ensures others { (l : Link) (q : ObjNo) → may_have self.new l q ≡ false → may_have self.old l q ≡ false }
@@ -233,7 +233,7 @@ impl Links {
         }
     }
 
-    /// Keeps an object for the links that go with these ties. An `Err` is a lack of memory, after which it may be kept for some of them.
+    /// Keeps an object for the links that go with these ties. The only error is a lack of memory, after which it may be kept for some of them.
     pub fn add(&mut self, key: ObjNo, ties: Ties) -> Result<(), AllocError>
         // Each object that might have a link still may.
         ensures others { (l : Link) (q : ObjNo) → may_have self.new l q ≡ false → may_have self.old l q ≡ false }

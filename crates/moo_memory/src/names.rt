@@ -97,7 +97,7 @@ pub fn forget_tagged(
     ordered::remove(names, (was, key));
 }
 
-/// Keeps a property for its definer and for its tag, which has the definer too. An `Err` is a lack of memory, after which it may be kept
+/// Keeps a property for its definer and for its tag, which has the definer too. The only error is a lack of memory, after which it may be kept
 /// for one of them.
 pub fn keep_property(
     definers: &mut BTreeMap<(ObjNo, PropId), ()>,

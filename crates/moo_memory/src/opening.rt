@@ -14,7 +14,7 @@ const ROOT: ObjNo = ObjNo(1);
 
 const WIZARD: ObjNo = ObjNo(3);
 
-/// The row of the root class, #1, which is fertile. An `Err` is a lack of memory.
+/// The row of the root class, #1, which is fertile. The only error is a lack of memory.
 fn root_class(alloc: Global) -> Result<ObjRow, AllocError>
     ensures { IfOk result (λ row. row ≡ root_class) }
 {
@@ -23,7 +23,7 @@ fn root_class(alloc: Global) -> Result<ObjRow, AllocError>
     Ok(row)
 }
 
-/// The row of the first room, #2, which takes in each descendant of #1. An `Err` is a lack of memory.
+/// The row of the first room, #2, which takes in each descendant of #1. The only error is a lack of memory.
 fn first_room(alloc: Global) -> Result<ObjRow, AllocError>
     ensures { IfOk result (λ row. row ≡ first_room) }
 {
@@ -32,7 +32,7 @@ fn first_room(alloc: Global) -> Result<ObjRow, AllocError>
     Ok(row)
 }
 
-/// The row of the wizard, #3, who is in #2. An `Err` is a lack of memory.
+/// The row of the wizard, #3, who is in #2. The only error is a lack of memory.
 fn wizard(alloc: Global) -> Result<ObjRow, AllocError>
     ensures { IfOk result (λ row. row ≡ wizard) }
 {
@@ -44,7 +44,7 @@ fn wizard(alloc: Global) -> Result<ObjRow, AllocError>
     Ok(row)
 }
 
-/// Puts the row of an object, if there was memory to make it. An `Err` is a lack of memory, for the row or for putting it.
+/// Puts the row of an object, if there was memory to make it. The only error is a lack of memory, for the row or for putting it.
 fn put_row<R: Rows>(
     rows: &mut R,
     key: ObjNo,
@@ -58,7 +58,7 @@ fn put_row<R: Rows>(
 }
 
 /// Puts the rows that a new world begins with if there are none: the system object, the root class, the first room and the
-/// wizard. An `Err` is a lack of memory, and some of them may be there then.
+/// wizard. The only error is a lack of memory, and some of them may be there then.
 pub fn put_opening<R: Rows>(rows: &mut R, alloc: Global) -> Result<(), AllocError>
     // If there were no rows, the rows are those that a new world begins with.
     ensures maps { OnOk result ((R.held rows.old).maps ≡ no_maps → (R.held rows.new).maps ≡ opening_maps) }
@@ -76,7 +76,7 @@ pub fn put_opening<R: Rows>(rows: &mut R, alloc: Global) -> Result<(), AllocErro
     Ok(())
 }
 
-/// The rows that a new world begins with. An `Err` is a lack of memory.
+/// The rows that a new world begins with. The only error is a lack of memory.
 pub fn opening_world(alloc: Global) -> Result<Flat, AllocError>
     ensures { IfOk result (λ rows. rows.maps ≡ opening_maps) }
 {

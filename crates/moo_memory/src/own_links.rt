@@ -43,7 +43,7 @@ impl OwnLinks {
         }
     }
 
-    /// Keeps a changed object for the links that go with these ties, except those that it has in the base. An `Err` is a lack of memory.
+    /// Keeps a changed object for the links that go with these ties, except those that it has in the base. The only error is a lack of memory.
     pub(crate) fn add<R: Rows>(
         &mut self,
         base: &R,

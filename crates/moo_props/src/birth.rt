@@ -36,7 +36,7 @@ fn put_new<R: Rows>(
 /// Makes the object of the next number under a parent. It inherits all properties of the parent: each of its slots is
 /// clear, has the bits of the parent's slot, and as owner its own if the bit c is set, else the owner of that slot.
 ///
-/// The only error is out of memory, after which the rows may be half changed.
+/// The only error is a lack of memory, after which the rows may be half changed.
 pub fn make_object<R: Rows>(
     alloc: Global,
     rows: &mut R,
@@ -44,6 +44,7 @@ pub fn make_object<R: Rows>(
     parent: ObjNo,
     owner: ObjNo,
 ) -> Result<(), AllocError>
+    // The rows are those of a well formed world.
     requires good { IsGood (R.held rows.old).maps }
     // x has the number that a new object gets.
     requires next { next_object (world_of (R.held rows.old).maps) ≡ Some x }

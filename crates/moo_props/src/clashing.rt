@@ -25,6 +25,7 @@ use std::collections::BTreeMap;
 /// Whether y itself defines a property of the name, whose hash is given. Names compare without ASCII case.
 fn defines_name<R: Rows>(rows: &R, y: ObjNo, name: &MooStr, hash: u64) -> bool
     requires sound { IsSound (R.held rows.now).maps }
+    // The hash is that of the name.
     requires hash { hash ≡ name_hash name.now }
     ensures { result ≡ defines_name (world_of (R.held rows.now).maps) y name.now }
 {
@@ -33,6 +34,7 @@ fn defines_name<R: Rows>(rows: &R, y: ObjNo, name: &MooStr, hash: u64) -> bool
 
 /// The first of x and its descendants, each before its children, that itself defines a property of the name; `None` if none does.
 fn first_to_define_under<R: Rows>(rows: &R, x: ObjNo, name: &MooStr) -> Option<ObjNo>
+    // The rows are those of a well formed world.
     requires { IsGood (R.held rows.now).maps }
     ensures { let w = world_of (R.held rows.now).maps in result ≡ find (λ y. defines_name w y name.now) (walk_down w x) }
 {
@@ -54,6 +56,7 @@ fn first_to_define_under<R: Rows>(rows: &R, x: ObjNo, name: &MooStr) -> Option<O
 ///
 /// LambdaMOO Programmer's Manual, 'Operations on Properties': `add_property`.
 pub fn clashes<R: Rows>(rows: &R, x: ObjNo, name: &MooStr) -> Option<ObjNo>
+    // The rows are those of a well formed world.
     requires { IsGood (R.held rows.now).maps }
     ensures { let w = world_of (R.held rows.now).maps in
         result ≡ (if clashes w x name.now then Some (first_to_define w x name.now) else None) }
@@ -65,13 +68,14 @@ pub fn clashes<R: Rows>(rows: &R, x: ObjNo, name: &MooStr) -> Option<ObjNo>
 }
 
 /// Whether y itself defines a property of a name that new or an ancestor of new defines. `names` holds the properties that new has, by the
-/// hashes of their names. An `Err` is a lack of memory.
+/// hashes of their names. The only error is a lack of memory.
 fn meets_on<R: Rows>(
     rows: &R,
     new: ObjNo,
     names: &BTreeMap<(u64, PropId), ()>,
     y: ObjNo,
 ) -> Result<bool, AllocError>
+    // The rows are those of a well formed world.
     requires good { IsGood (R.held rows.now).maps }
     // `names` holds each property of which new has a slot, by the hash of its name.
     requires names { HoldsNames (R.held rows.now).maps new (contents hashed_cmp names.now) }
@@ -87,8 +91,9 @@ fn meets_on<R: Rows>(
 }
 
 /// The first of x and its descendants, each before its children, that itself defines a property, whatever its name; `None` if none does.
-/// The objects before it define nothing, and so share no name with a new parent. An `Err` is a lack of memory.
+/// The objects before it define nothing, and so share no name with a new parent. The only error is a lack of memory.
 fn first_definer<R: Rows>(rows: &R, x: ObjNo) -> Result<Option<ObjNo>, AllocError>
+    // The rows are those of a well formed world.
     requires { IsGood (R.held rows.now).maps }
     // Whichever the new parent is: the walk from that object on finds what the whole walk down from x finds.
     ensures rest { IfOk result (λ first. (new : ObjNo) → let maps = (R.held rows.now).maps in
@@ -121,6 +126,7 @@ pub fn sharing_definer<R: Rows>(
     x: ObjNo,
     new: ObjNo,
 ) -> Result<Option<ObjNo>, AllocError>
+    // The rows are those of a well formed world.
     requires { IsGood (R.held rows.now).maps }
     ensures { let w = world_of (R.held rows.now).maps in
         IfOk result (λ found. found ≡ (if shares_property_name w x new then Some (first_to_meet w x new) else None)) }

@@ -37,7 +37,7 @@ fn put_definition<R: Rows>(rows: &mut R, x: ObjNo, name: MooStr) -> Result<PropI
 /// each descendant of x gets a clear slot with the bits, and as owner its own if the bit c is set, else the owner. The
 /// answer is the number of the property, which is never given again. No other property changes.
 ///
-/// The only error is out of memory, after which the rows may be half changed.
+/// The only error is a lack of memory, after which the rows may be half changed.
 ///
 /// LambdaMOO Programmer's Manual, 'Operations on Properties': `add_property`.
 pub fn define<R: Rows>(
@@ -49,7 +49,9 @@ pub fn define<R: Rows>(
     owner: ObjNo,
     bits: Bits,
 ) -> Result<PropId, AllocError>
+    // The rows are those of a well formed world.
     requires good { IsGood (R.held rows.old).maps }
+    // x is an object.
     requires object { is_object (world_of (R.held rows.old).maps) x ≡ true }
     // The name is one that a property may have.
     requires name { is_property_name name ≡ true }

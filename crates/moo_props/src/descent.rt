@@ -14,6 +14,7 @@ use moo_value::ObjNo;
 /// The object of x's subtree that comes after y and all that is below y: the next sibling of y, or of its nearest ancestor under x that has
 /// a next sibling. `None` at the end of the subtree. Takes no memory.
 fn next_beside<R: Rows>(rows: &R, x: ObjNo, y: ObjNo) -> Option<ObjNo>
+    // Parents and locations are objects or `#-1`, without loops.
     requires tree { IsTree (world_of (R.held rows.now).maps) }
     // y is x or under x.
     requires under { is_among x (chain (world_of (R.held rows.now).maps) y) ≡ true }
@@ -41,6 +42,7 @@ fn next_beside<R: Rows>(rows: &R, x: ObjNo, y: ObjNo) -> Option<ObjNo>
 ///
 /// From x on it meets the m objects of the subtree, among n of the world, in m log n steps.
 pub(crate) fn next_under<R: Rows>(rows: &R, x: ObjNo, y: ObjNo) -> Option<ObjNo>
+    // Parents and locations are objects or `#-1`, without loops.
     requires tree { IsTree (world_of (R.held rows.now).maps) }
     // y is x or under x.
     requires under { is_among x (chain (world_of (R.held rows.now).maps) y) ≡ true }
@@ -57,6 +59,7 @@ pub(crate) fn next_under<R: Rows>(rows: &R, x: ObjNo, y: ObjNo) -> Option<ObjNo>
 
 /// The object at which the walk down from x begins: x, or `None` if x isn't an object.
 pub(crate) fn subtree_top<R: Rows>(rows: &R, x: ObjNo) -> Option<ObjNo>
+    // Parents and locations are objects or `#-1`, without loops.
     requires tree { IsTree (world_of (R.held rows.now).maps) }
     // The walk from that object on is the whole walk down from x.
     ensures top { from_here (R.held rows.now).maps x result ≡ walk_down (world_of (R.held rows.now).maps) x }

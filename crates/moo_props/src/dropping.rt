@@ -86,7 +86,7 @@ pub struct Dropped {
     pub relinked: ObjList,
 }
 
-/// The properties of which x has a slot, ascending. An `Err` is a lack of memory.
+/// The properties of which x has a slot, ascending. The only error is a lack of memory.
 fn property_ids_with_slot<R: Rows>(
     alloc: Global,
     rows: &R,
@@ -103,12 +103,13 @@ fn property_ids_with_slot<R: Rows>(
     Ok(found)
 }
 
-/// The properties that x itself defines, ascending. An `Err` is a lack of memory.
+/// The properties that x itself defines, ascending. The only error is a lack of memory.
 fn properties_defined_by<R: Rows>(
     alloc: Global,
     rows: &R,
     x: ObjNo,
 ) -> Result<Vec<PropId>, AllocError>
+    // The rows are those of a well formed world.
     requires { IsGood (R.held rows.now).maps }
     ensures { IfOk result (λ v. v.items ≡ props_of (x ∷ []) (R.held rows.now).maps.props) }
 {
@@ -120,12 +121,13 @@ fn properties_defined_by<R: Rows>(
     Ok(found)
 }
 
-/// The keys of the verbs of x, ascending. An `Err` is a lack of memory.
+/// The keys of the verbs of x, ascending. The only error is a lack of memory.
 fn verbs_among<R: Rows>(
     alloc: Global,
     rows: &R,
     x: ObjNo,
 ) -> Result<Vec<(ObjNo, VerbId)>, AllocError>
+    // The rows are those of a well formed world.
     requires { IsGood (R.held rows.now).maps }
     ensures { IfOk result (λ v. v.items ≡ verbs_among x (entries (R.held rows.now).maps.verbs)) }
 {
@@ -147,8 +149,9 @@ fn next_linked_to<R: Rows>(rows: &R, x: ObjNo, last: ObjNo) -> Option<ObjNo>
     )
 }
 
-/// The objects whose parent or place is x, ascending. An `Err` is a lack of memory.
+/// The objects whose parent or place is x, ascending. The only error is a lack of memory.
 fn linked_among<R: Rows>(alloc: Global, rows: &R, x: ObjNo) -> Result<Vec<ObjNo>, AllocError>
+    // The rows are those of a well formed world.
     requires { IsGood (R.held rows.now).maps }
     ensures { IfOk result (λ v. v.items ≡ linked_among x (entries (R.held rows.now).maps.objects)) }
 {
@@ -163,13 +166,14 @@ fn linked_among<R: Rows>(alloc: Global, rows: &R, x: ObjNo) -> Result<Vec<ObjNo>
 }
 
 /// Removes all slots of x, and from each object under it the slots of `own`, the properties that x defines. Answers the keys of the slots
-/// that went. An `Err` is a lack of memory.
+/// that went. The only error is a lack of memory.
 fn drop_slots_under<R: Rows>(
     alloc: Global,
     rows: &mut R,
     x: ObjNo,
     own: &[PropId],
 ) -> Result<SlotKeys, AllocError>
+    // The rows are those of a well formed world.
     requires { IsGood (R.held rows.old).maps }
     // From x all its slots are gone, and from each object under it those of the properties that x defines.
     ensures rows { OnOk result (let old = (R.held rows.old).maps in R.held rows.new
@@ -185,7 +189,7 @@ fn drop_slots_under<R: Rows>(
     Ok(removed)
 }
 
-/// Removes the rows of these properties, one after another. An `Err` is a lack of memory.
+/// Removes the rows of these properties, one after another. The only error is a lack of memory.
 fn remove_props<R: Rows>(rows: &mut R, ids: &[PropId]) -> Result<(), AllocError>
     ensures { OnOk result (R.held rows.new ≡ props_removed ids.now (R.held rows.old)) }
 {
@@ -196,7 +200,7 @@ fn remove_props<R: Rows>(rows: &mut R, ids: &[PropId]) -> Result<(), AllocError>
     Ok(())
 }
 
-/// Removes the rows of these verbs, one after another. An `Err` is a lack of memory.
+/// Removes the rows of these verbs, one after another. The only error is a lack of memory.
 fn remove_verbs<R: Rows>(rows: &mut R, keys: &[(ObjNo, VerbId)]) -> Result<(), AllocError>
     ensures { OnOk result (R.held rows.new ≡ verbs_removed keys.now (R.held rows.old)) }
 {
@@ -216,7 +220,7 @@ fn redirect(x: ObjNo, link: ObjNo, to: ObjNo) -> ObjNo
 }
 
 /// Puts the row of y without x in it: if its parent was x, it gets the other parent, and if its place was x, it is nowhere. Nothing happens
-/// if y isn't an object. An `Err` is a lack of memory.
+/// if y isn't an object. The only error is a lack of memory.
 fn unlink<R: Rows>(
     alloc: Global,
     rows: &mut R,
@@ -237,7 +241,7 @@ fn unlink<R: Rows>(
     Ok(())
 }
 
-/// Releases each of these objects from x, its parent or place, as `release` does. An `Err` is a lack of memory.
+/// Releases each of these objects from x, its parent or place, as `release` does. The only error is a lack of memory.
 fn unlink_all<R: Rows>(
     alloc: Global,
     rows: &mut R,
@@ -280,9 +284,11 @@ fn drop_rows<R: Rows>(
 /// children go to its parent, and what is in it to `#-1`; these are listed as relinked, and are still there. What is
 /// listed is ascending.
 ///
-/// The only error is out of memory, after which the rows may be half changed.
+/// The only error is a lack of memory, after which the rows may be half changed.
 pub fn drop_object<R: Rows>(alloc: Global, rows: &mut R, x: ObjNo) -> Result<Dropped, AllocError>
+    // The rows are those of a well formed world.
     requires good { IsGood (R.held rows.old).maps }
+    // x is an object.
     requires object { is_object (world_of (R.held rows.old).maps) x ≡ true }
     // The answer lists what goes with the object, and the objects whose parent or place it was.
     ensures lists { IfOk result (ListsDropped (R.held rows.old).maps x) }

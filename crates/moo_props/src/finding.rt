@@ -29,6 +29,7 @@ pub(crate) fn find_own_property<R: Rows>(
     hash: u64,
 ) -> Option<PropId>
     requires sound { IsSound (R.held rows.now).maps }
+    // The hash is that of the name.
     requires hash { hash ≡ name_hash name.now }
     // y defines it.
     ensures own { IfSome result (λ id. defines (R.held rows.now).maps y id ≡ true) }
@@ -43,6 +44,7 @@ pub(crate) fn find_own_property<R: Rows>(
 /// The property of a name that x has, or `None`. Names compare without ASCII case. It climbs from x to the one that defines it, and to the root if none does: a look-up of the name
 /// for each object on the way, however many properties they define, and one of its row only if the climb goes on.
 pub(crate) fn find_property_named<R: Rows>(rows: &R, x: ObjNo, name: &[u8]) -> Option<PropId>
+    // The rows are those of a well formed world.
     requires { IsGood (R.held rows.now).maps }
     // x has a slot of it.
     ensures held { IfSome result (λ id. is_some (get (R.held rows.now).maps.slots (x, id)) ≡ true) }
@@ -67,6 +69,7 @@ pub(crate) fn find_property_named<R: Rows>(rows: &R, x: ObjNo, name: &[u8]) -> O
 /// The property of a name that x has: one that x or an ancestor of x defines. `None` if neither defines one, or if x isn't an object.
 /// Names compare without ASCII case.
 pub fn find<R: Rows>(rows: &R, x: ObjNo, name: &MooStr) -> Option<PropId>
+    // The rows are those of a well formed world.
     requires { IsGood (R.held rows.now).maps }
     // x has a slot of it.
     ensures held { IfSome result (λ id. is_some (get (R.held rows.now).maps.slots (x, id)) ≡ true) }
@@ -81,6 +84,7 @@ pub fn find<R: Rows>(rows: &R, x: ObjNo, name: &MooStr) -> Option<PropId>
 /// The slot on x of the property of a name, with the number and the definer of the property; `None` if x has no such property. Names
 /// compare without ASCII case.
 pub fn slot_of<'a, R: Rows>(rows: &'a R, x: ObjNo, name: &MooStr) -> Option<FoundSlot<'a>>
+    // The rows are those of a well formed world.
     requires { IsGood (R.held rows.now).maps }
     // The slot and its definer are those that the world has under the name.
     ensures slot { option_map (λ f. slot_seen f.definer f.slot.now) result

@@ -18,7 +18,7 @@ use moo_value::{MooStr, ObjNo};
 use std::alloc::{AllocError, Global};
 use std::collections::BTreeMap;
 
-/// Keeps a property for the hash of its name; nothing is kept if there is no such property. An `Err` is a lack of memory.
+/// Keeps a property for the hash of its name; nothing is kept if there is no such property. The only error is a lack of memory.
 fn keep_name<R: Rows>(
     rows: &R,
     id: PropId,
@@ -37,12 +37,13 @@ fn keep_name<R: Rows>(
     }
 }
 
-/// The properties that x has, by the hashes of their names: m log m steps for m properties. An `Err` is a lack of memory.
+/// The properties that x has, by the hashes of their names: m log m steps for m properties. The only error is a lack of memory.
 pub(crate) fn names_of<R: Rows>(
     alloc: Global,
     rows: &R,
     x: ObjNo,
 ) -> Result<BTreeMap<(u64, PropId), ()>, AllocError>
+    // The rows are those of a well formed world.
     requires { IsGood (R.held rows.now).maps }
     ensures { IfOk result (λ names. HoldsNames (R.held rows.now).maps x (contents hashed_cmp names)) }
 {
@@ -79,6 +80,7 @@ pub(crate) fn has_name<R: Rows>(
     names: &BTreeMap<(u64, PropId), ()>,
     name: &MooStr,
 ) -> bool
+    // The rows are those of a well formed world.
     requires good { IsGood (R.held rows.now).maps }
     // `names` holds each property of which x has a slot, by the hash of its name.
     requires names { HoldsNames (R.held rows.now).maps x (contents hashed_cmp names.now) }

@@ -16,10 +16,11 @@ use std::alloc::AllocError;
 /// (so none that differs from the old one in case alone). The name takes the old one's place among those that x defines,
 /// and x and its descendants have the property under it. All else stays.
 ///
-/// The only error is out of memory, after which the rows are as they were.
+/// The only error is a lack of memory, after which the rows are as they were.
 ///
 /// LambdaMOO Programmer's Manual, 'Operations on Properties': `set_property_info`.
 pub fn rename<R: Rows>(rows: &mut R, x: ObjNo, id: PropId, name: MooStr) -> Result<(), AllocError>
+    // The rows are those of a well formed world.
     requires good { IsGood (R.held rows.old).maps }
     // x defines the property.
     requires own { defines (R.held rows.old).maps x id ≡ true }

@@ -50,7 +50,7 @@ fn is_defined_only<R: Rows>(
 }
 
 /// The properties, ascending, that are defined by a key of `these` that isn't a key of `others`. The keys of `these` are y or ancestors of
-/// y, so that y has a slot of each such property: only its slots are gone over, and each definer is looked up. An `Err` is a lack of memory.
+/// y, so that y has a slot of each such property: only its slots are gone over, and each definer is looked up. The only error is a lack of memory.
 fn props_among<R: Rows>(
     alloc: Global,
     rows: &R,
@@ -58,6 +58,7 @@ fn props_among<R: Rows>(
     these: &BTreeMap<ObjNo, ()>,
     others: &BTreeMap<ObjNo, ()>,
 ) -> Result<Vec<PropId>, AllocError>
+    // The rows are those of a well formed world.
     requires good { IsGood (R.held rows.now).maps }
     // Each key of `these` is y or an ancestor of y.
     requires within { (d : ObjNo) → is_key these.now d ≡ true → is_among d (chain (world_of (R.held rows.now).maps) y) ≡ true }
@@ -82,6 +83,7 @@ fn lost_and_gained<R: Rows>(
     parent: ObjNo,
     new: ObjNo,
 ) -> Result<(Vec<PropId>, Vec<PropId>), AllocError>
+    // The rows are those of a well formed world.
     requires good { IsGood (R.held rows.now).maps }
     // The parent and its ancestors are ancestors of x.
     requires above { (d : ObjNo) → is_among d (chain (world_of (R.held rows.now).maps) parent) ≡ true →
@@ -101,7 +103,7 @@ fn lost_and_gained<R: Rows>(
 }
 
 /// Removes from x and from each object under it the slots of the lost properties, and puts fresh slots of those that are gained, made from
-/// the slots of the new parent. Answers the keys of the slots that went and of those that came. An `Err` is a lack of memory.
+/// the slots of the new parent. Answers the keys of the slots that went and of those that came. The only error is a lack of memory.
 fn exchange_under<R: Rows>(
     alloc: Global,
     rows: &mut R,
@@ -110,6 +112,7 @@ fn exchange_under<R: Rows>(
     lost: &[PropId],
     gained: &[PropId],
 ) -> Result<(SlotKeys, SlotKeys), AllocError>
+    // The rows are those of a well formed world.
     requires { IsGood (R.held rows.old).maps }
     // On x and on each object under it the lost slots have gone, and fresh ones have come.
     ensures rows { OnOk result (let old = (R.held rows.old).maps in
@@ -128,7 +131,7 @@ fn exchange_under<R: Rows>(
 }
 
 /// Puts the row of x, which is given, with the new parent, and answers a list of x alone; nothing is put and the list is empty if that is
-/// its parent already. An `Err` is a lack of memory.
+/// its parent already. The only error is a lack of memory.
 #[tactic(auto, unfolding(moo_world::specs::Objects::same_object))]
 fn relink<R: Rows>(
     alloc: Global,
@@ -154,7 +157,7 @@ fn relink<R: Rows>(
 /// that they are under now. Listed are the slots that went, those that came, and x if it has another parent; the slots ascend. Under
 /// the present parent nothing is written.
 ///
-/// The only error is out of memory, after which the rows may be half changed.
+/// The only error is a lack of memory, after which the rows may be half changed.
 ///
 /// LambdaMOO Programmer's Manual, 'Fundamental Operations on Objects': `chparent`.
 pub fn reparent<R: Rows>(
@@ -163,6 +166,7 @@ pub fn reparent<R: Rows>(
     x: ObjNo,
     new: ObjNo,
 ) -> Result<Touched, AllocError>
+    // The rows are those of a well formed world.
     requires good { IsGood (R.held rows.old).maps }
     // x is an object, the new parent is `#-1` or an object that is neither x nor under x, and no property name is on both sides.
     requires may { MayReparent (world_of (R.held rows.old).maps) x new }

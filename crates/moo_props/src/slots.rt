@@ -56,7 +56,7 @@ impl Origin {
     }
 }
 
-/// An origin for each property that q has, with the owner and the bits of its slot there, ascending. An `Err` is a lack of memory.
+/// An origin for each property that q has, with the owner and the bits of its slot there, ascending. The only error is a lack of memory.
 pub(crate) fn origins_among<R: Rows>(
     alloc: Global,
     rows: &R,
@@ -77,7 +77,7 @@ pub(crate) fn origins_among<R: Rows>(
     Ok(found)
 }
 
-/// An origin for each of these properties that q has, with the owner and the bits of its slot there. An `Err` is a lack of memory.
+/// An origin for each of these properties that q has, with the owner and the bits of its slot there. The only error is a lack of memory.
 pub(crate) fn origins<R: Rows>(
     alloc: Global,
     rows: &R,
@@ -100,7 +100,7 @@ pub(crate) fn origins<R: Rows>(
     Ok(found)
 }
 
-/// Removes the slots of these properties from y, one after another. An `Err` is a lack of memory.
+/// Removes the slots of these properties from y, one after another. The only error is a lack of memory.
 fn remove_on<R: Rows>(rows: &mut R, y: ObjNo, ids: &[PropId]) -> Result<(), AllocError>
     ensures { OnOk result (R.held rows.new ≡ without_on y ids.now (R.held rows.old)) }
 {
@@ -111,7 +111,7 @@ fn remove_on<R: Rows>(rows: &mut R, y: ObjNo, ids: &[PropId]) -> Result<(), Allo
     Ok(())
 }
 
-/// Puts on y, which has this owner, a fresh slot for each origin. An `Err` is a lack of memory.
+/// Puts on y, which has this owner, a fresh slot for each origin. The only error is a lack of memory.
 pub(crate) fn put_fresh<R: Rows>(
     rows: &mut R,
     y: ObjNo,
@@ -127,7 +127,7 @@ pub(crate) fn put_fresh<R: Rows>(
     Ok(())
 }
 
-/// Appends the keys of the slots of these properties on y to a list. An `Err` is a lack of memory.
+/// Appends the keys of the slots of these properties on y to a list. The only error is a lack of memory.
 fn list_on(y: ObjNo, ids: &[PropId], keys: &mut Vec<(ObjNo, PropId)>) -> Result<(), AllocError>
     ensures { OnOk result (keys.new.items ≡ keys.old.items ++ keys_on y ids.now) }
 {
@@ -146,7 +146,7 @@ fn ids_for<'a>(x: ObjNo, all: &'a [PropId], own: &'a [PropId], y: ObjNo) -> &'a 
 }
 
 /// Exchanges slots on each of these objects, which come with their owners: slots go, and then a fresh one comes for each origin. From x go
-/// those of the properties `all`, and from another object those of `own`. An `Err` is a lack of memory.
+/// those of the properties `all`, and from another object those of `own`. The only error is a lack of memory.
 pub(crate) fn exchange_slots<R: Rows>(
     rows: &mut R,
     under: &[(ObjNo, ObjNo)],

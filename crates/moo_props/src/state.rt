@@ -14,13 +14,14 @@ use moo_rows::{Bits, PropId, Row, Rows, SlotRow, SlotState};
 use moo_value::{ObjNo, Value};
 use std::alloc::{AllocError, Global};
 
-/// Sets the state of the slot that x has of a property: clear, or a value. The owner and the bits stay. An `Err` is a lack of memory.
+/// Sets the state of the slot that x has of a property: clear, or a value. The owner and the bits stay. The only error is a lack of memory.
 pub(crate) fn put_state<R: Rows>(
     rows: &mut R,
     x: ObjNo,
     id: PropId,
     state: SlotState,
 ) -> Result<(), AllocError>
+    // The rows are those of a well formed world.
     requires good { IsGood (R.held rows.old).maps }
     // x has a slot of the property.
     requires has { is_some (get (R.held rows.old).maps.slots (x, id)) ≡ true }
@@ -44,7 +45,7 @@ pub(crate) fn put_state<R: Rows>(
     Ok(())
 }
 
-/// Sets the value of a property that x has, in which lists nest at most 32 deep. The owner and the bits stay. An `Err` is a lack of memory.
+/// Sets the value of a property that x has, in which lists nest at most 32 deep. The owner and the bits stay. The only error is a lack of memory.
 ///
 /// LambdaMOO Programmer's Manual, 'Getting and Setting the Values of Properties'.
 pub fn set_value<R: Rows>(
@@ -53,6 +54,7 @@ pub fn set_value<R: Rows>(
     id: PropId,
     value: Value,
 ) -> Result<(), AllocError>
+    // The rows are those of a well formed world.
     requires good { IsGood (R.held rows.old).maps }
     // Lists nest at most 32 deep in the value.
     requires fit { fits value ≡ true }
@@ -67,10 +69,11 @@ pub fn set_value<R: Rows>(
     put_state(rows, x, id, SlotState::Set(value))
 }
 
-/// Clears a property that x has and doesn't define, so that x reads what its parent reads. An `Err` is a lack of memory.
+/// Clears a property that x has and doesn't define, so that x reads what its parent reads. The only error is a lack of memory.
 ///
 /// LambdaMOO Programmer's Manual, 'Operations on Properties': `clear_property`.
 pub fn clear<R: Rows>(rows: &mut R, x: ObjNo, id: PropId) -> Result<(), AllocError>
+    // The rows are those of a well formed world.
     requires good { IsGood (R.held rows.old).maps }
     // x has a slot of the property.
     requires has { is_some (get (R.held rows.old).maps.slots (x, id)) ≡ true }
@@ -97,6 +100,7 @@ pub fn set_info<R: Rows>(
     owner: ObjNo,
     bits: Bits,
 ) -> Result<(), AllocError>
+    // The rows are those of a well formed world.
     requires good { IsGood (R.held rows.old).maps }
     // x has a slot of the property.
     requires has { is_some (get (R.held rows.old).maps.slots (x, id)) ≡ true }

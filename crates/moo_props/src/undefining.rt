@@ -15,7 +15,7 @@ use std::alloc::{AllocError, Global};
 
 /// Removes a property that x defines, from x and all its descendants. Each other property keeps its number.
 ///
-/// The only error is out of memory, after which the rows may be half changed.
+/// The only error is a lack of memory, after which the rows may be half changed.
 ///
 /// LambdaMOO Programmer's Manual, 'Operations on Properties': `delete_property`.
 pub fn undefine<R: Rows>(
@@ -24,6 +24,7 @@ pub fn undefine<R: Rows>(
     x: ObjNo,
     id: PropId,
 ) -> Result<(), AllocError>
+    // The rows are those of a well formed world.
     requires good { IsGood (R.held rows.old).maps }
     // x defines the property.
     requires own { defines (R.held rows.old).maps x id ≡ true }

@@ -27,7 +27,7 @@ fn foreign_reason(line: &[u8]) -> Option<&'static [u8]> {
     None
 }
 
-/// Says what is wrong with a header that doesn't begin with `batch`. The only error is out of memory.
+/// Says what is wrong with a header that doesn't begin with `batch`. The only error is a lack of memory.
 fn put_no_batch(said: &mut Said, line: &[u8]) -> Result<(), AllocError> {
     if is_end_line(line) {
         return said.put(b"`end` outside a batch");
@@ -53,7 +53,7 @@ fn put_name_reason(said: &mut Said, word: &[u8]) -> Result<(), AllocError> {
     Ok(())
 }
 
-/// Says what is wrong where the name of a call is wanted. The only error is out of memory.
+/// Says what is wrong where the name of a call is wanted. The only error is a lack of memory.
 fn put_no_name(said: &mut Said, rest: &[u8]) -> Result<(), AllocError> {
     let (word, _) = split_word(rest);
     if word.is_empty() {
@@ -74,7 +74,7 @@ fn put_no_name(said: &mut Said, rest: &[u8]) -> Result<(), AllocError> {
     put_name_reason(said, word)
 }
 
-/// Says what is wrong with a line, by the fault with which reading it stopped. The only error is out of memory.
+/// Says what is wrong with a line, by the fault with which reading it stopped. The only error is a lack of memory.
 fn put_fault(said: &mut Said, line: &[u8], fault: LineFault<'_>) -> Result<(), AllocError> {
     match fault {
         LineFault::Long => said.put(LONG_LINE),

@@ -28,7 +28,7 @@ pub struct StandardNotes<'a, C> {
     refusal: Option<String>,
 }
 
-/// Says where a line is: its number, and its file if the text isn't standard input. The only error is out of memory.
+/// Says where a line is: its number, and its file if the text isn't standard input. The only error is a lack of memory.
 fn put_line_place(
     said: &mut Said,
     path: Option<&str>,
@@ -48,7 +48,7 @@ fn put_line_place(
 }
 
 /// Says why the first bad line of a batch is malformed, whether it is the header or not, and that it keeps a batch after it from being run.
-/// The only error is out of memory.
+/// The only error is a lack of memory.
 fn put_bad_line(said: &mut Said, is_header: bool, marks: &Marks) -> Result<(), AllocError> {
     if is_header {
         put_header_reason(said, marks.bad())?;
@@ -61,7 +61,7 @@ fn put_bad_line(said: &mut Said, is_header: bool, marks: &Marks) -> Result<(), A
     Ok(())
 }
 
-/// Says that the text ends inside a batch, and why a line of it is malformed, if one is. The only error is out of memory.
+/// Says that the text ends inside a batch, and why a line of it is malformed, if one is. The only error is a lack of memory.
 fn put_truncated(said: &mut Said, marks: &Marks) -> Result<(), AllocError> {
     said.put(b"truncated: the text ends inside the batch that begins here")?;
     let Some(line) = marks.bad_line() else {

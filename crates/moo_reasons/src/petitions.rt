@@ -63,7 +63,7 @@ fn petitioned_call<'a>(held: Option<&'a Value>) -> Option<(CallName, &'a [Value]
     held_call(held?)
 }
 
-/// Says the number of the petition that a `grant` names. The only error is out of memory.
+/// Says the number of the petition that a `grant` names. The only error is a lack of memory.
 fn put_petition(said: &mut Said, grant: Given<'_>) -> Result<(), AllocError> {
     said.put(b" of petition ")?;
     put_some(said, value_at(grant, FIRST))

@@ -44,7 +44,7 @@ impl Said {
         }
     }
 
-    /// Cuts a text of more than `longest` bytes to the first `front` bytes and two dots. The only error is out of memory.
+    /// Cuts a text of more than `longest` bytes to the first `front` bytes and two dots. The only error is a lack of memory.
     pub(crate) fn shorten(&mut self, longest: usize, front: usize) -> Result<(), AllocError>
         // If these bytes and the dots are within the limit, so is the text then.
         ensures { front + 2 ≤ longest → OnOk result (length self.new.text.items ≤ longest) }

@@ -184,7 +184,7 @@ fn checked_value<'a>(given: Given<'a>, reason: Reason) -> Option<&'a Value> {
     }
 }
 
-/// Says a value; nothing if there is none. The only error is out of memory.
+/// Says a value; nothing if there is none. The only error is a lack of memory.
 pub(crate) fn put_some(said: &mut Said, value: Option<&Value>) -> Result<(), AllocError> {
     match value {
         Some(value) => said.put_value(value),
@@ -192,7 +192,7 @@ pub(crate) fn put_some(said: &mut Said, value: Option<&Value>) -> Result<(), All
     }
 }
 
-/// Says the words of a sentence: each letter, or what it stands for. The only error is out of memory.
+/// Says the words of a sentence: each letter, or what it stands for. The only error is a lack of memory.
 fn put_sentence(
     said: &mut Said,
     given: Given<'_>,
@@ -212,7 +212,7 @@ fn put_sentence(
     Ok(())
 }
 
-/// Says that an object defines a property of the name already. The only error is out of memory.
+/// Says that an object defines a property of the name already. The only error is a lack of memory.
 fn put_taken(said: &mut Said, definer: ObjNo, name: Option<&Value>) -> Result<(), AllocError> {
     said.put_object(definer)?;
     said.put(b" defines ")?;
@@ -242,7 +242,7 @@ fn put_shared(
     said.put(b" has too")
 }
 
-/// Says after the lead which check of a call failed, or how the call is written. The only error is out of memory.
+/// Says after the lead which check of a call failed, or how the call is written. The only error is a lack of memory.
 pub(crate) fn tell(
     said: &mut Said,
     lead: &[u8],

@@ -33,7 +33,7 @@ fn unclosed_reason(bytes: &[u8]) -> Option<&'static [u8]> {
     }
 }
 
-/// Says that a comma or the closing mark is missing before some bytes. The only error is out of memory.
+/// Says that a comma or the closing mark is missing before some bytes. The only error is a lack of memory.
 pub(crate) fn put_missing(said: &mut Said, mark: u8, rest: &[u8]) -> Result<(), AllocError> {
     said.put(b"a comma or `")?;
     said.put(&[mark])?;
@@ -41,7 +41,7 @@ pub(crate) fn put_missing(said: &mut Said, mark: u8, rest: &[u8]) -> Result<(), 
     said.put_of(skip_blanks(rest), b"")
 }
 
-/// Says what is wrong where a value is wanted: in the innermost list that begins there. The only error is out of memory.
+/// Says what is wrong where a value is wanted: in the innermost list that begins there. The only error is a lack of memory.
 fn put_no_value(said: &mut Said, bytes: &[u8]) -> Result<(), AllocError> {
     if let Some(reason) = unclosed_reason(bytes) {
         return said.put(reason);
@@ -67,7 +67,7 @@ fn put_no_value(said: &mut Said, bytes: &[u8]) -> Result<(), AllocError> {
     }
 }
 
-/// Says which is the first byte that no text may hold. The only error is out of memory.
+/// Says which is the first byte that no text may hold. The only error is a lack of memory.
 fn put_bad_byte(said: &mut Said, bytes: &[u8]) -> Result<(), AllocError> {
     let bad = bytes.iter().find(|byte| !matches!(**byte, 9 | 32..=126));
     let Some(byte) = bad else {
@@ -78,7 +78,7 @@ fn put_bad_byte(said: &mut Said, bytes: &[u8]) -> Result<(), AllocError> {
     said.put(b" in a text: only tabs, spaces and printing ASCII")
 }
 
-/// Says why the bytes begin with no value. The only error is out of memory.
+/// Says why the bytes begin with no value. The only error is a lack of memory.
 pub(crate) fn put_value_reason(
     said: &mut Said,
     bytes: &[u8],

@@ -24,7 +24,7 @@ pub trait Row: PartialEq + Clone + Drop {
         self == other
     }
 
-    /// A row that equals this one. An `Err` is a lack of memory.
+    /// A row that equals this one. The only error is a lack of memory.
     final fn copy(&self, _alloc: Global) -> Result<Self, AllocError>
         ensures { IfOk result (λ copy. copy ≡ self.now) }
     {
@@ -57,18 +57,20 @@ pub trait KeyedRow: Row {
     fn next<R: Rows>(rows: &R, from: Option<Self::Key>) -> Option<Self::Key>
         ensures { IsNext (map_of (R.held rows.now).maps) from result };
 
-    /// Sets the row of a key, in place of the one that it has, if any. An `Err` is a lack of memory.
+    /// Sets the row of a key, in place of the one that it has, if any. The only error is a lack of memory.
     fn put<R: Rows>(rows: &mut R, key: Self::Key, row: Self) -> Result<(), AllocError>
         // In the map of this kind the key has the row, and one write more is counted.
         ensures ok { OnOk result (R.held rows.new ≡ wrote (R.held rows.old)
             (with_map (R.held rows.old).maps (map.insert (map_of (R.held rows.old).maps) key row))) }
+        // After an error nothing has changed.
         ensures err { OnErr result (R.held rows.new ≡ R.held rows.old) };
 
-    /// Takes the row of a key away; it need not have one. An `Err` is a lack of memory.
+    /// Takes the row of a key away; it need not have one. The only error is a lack of memory.
     fn remove<R: Rows>(rows: &mut R, key: Self::Key) -> Result<(), AllocError>
         // In the map of this kind the key has no row, and one write more is counted.
         ensures ok { OnOk result (R.held rows.new ≡ wrote (R.held rows.old)
             (with_map (R.held rows.old).maps (map.remove (map_of (R.held rows.old).maps) key))) }
+        // After an error nothing has changed.
         ensures err { OnErr result (R.held rows.new ≡ R.held rows.old) };
 
     /// The row of the least key past `from`, with the key, or of the least of all if no `from` is given; `None` if there is no such row.

@@ -105,7 +105,7 @@ impl Clone for ObjRow {
 }
 
 impl ObjRow {
-    /// An object with this name, owner and parent that has no rights, no location and no accept list. An `Err` is a lack of memory.
+    /// An object with this name, owner and parent that has no rights, no location and no accept list. The only error is a lack of memory.
     pub fn plain(
         alloc: Global,
         name: &[u8],

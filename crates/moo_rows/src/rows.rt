@@ -64,7 +64,7 @@ pub trait Rows {
     fn next_linked(&self, link: Link, after: ObjNo) -> Option<ObjNo>
         ensures { IsFirst object_cmp (is_linked (held self.now).maps link) after result };
 
-    /// Appends to a list the objects past `after` that have the link, ascending. An `Err` is a lack of memory, after which some may be
+    /// Appends to a list the objects past `after` that have the link, ascending. The only error is a lack of memory, after which some may be
     /// listed.
     fn list_linked(&self, link: Link, after: ObjNo, list: &mut Vec<ObjNo>) -> Result<(), AllocError>
         ensures { OnOk result (list.new.items ≡ list.old.items ++ map_list (λ e. e.0) (linked_left link after (held self.now).maps)) }
@@ -77,14 +77,16 @@ pub trait Rows {
         Ok(())
     }
 
-    /// Sets the row of an object, in place of the one that it has, if any. An `Err` is a lack of memory.
+    /// Sets the row of an object, in place of the one that it has, if any. The only error is a lack of memory.
     fn put_object(&mut self, key: ObjNo, row: ObjRow) -> Result<(), AllocError>
         ensures ok { OnOk result (held self.new ≡ with_object (held self.old) key row) }
+        // After an error nothing has changed.
         ensures err { OnErr result (held self.new ≡ held self.old) };
 
-    /// Takes the row of an object away; it need not have one. An `Err` is a lack of memory.
+    /// Takes the row of an object away; it need not have one. The only error is a lack of memory.
     fn remove_object(&mut self, key: ObjNo) -> Result<(), AllocError>
         ensures ok { OnOk result (held self.new ≡ without_object (held self.old) key) }
+        // After an error nothing has changed.
         ensures err { OnErr result (held self.new ≡ held self.old) };
 
     /// The row of a property, or `None` if the map doesn't hold it.
@@ -106,14 +108,16 @@ pub trait Rows {
         requires { hash ≡ name_hash name.now }
         ensures { IsFirst prop_cmp (is_named_by (held self.now).maps x name.now) after result };
 
-    /// Sets the row of a property, in place of the one that it has, if any. An `Err` is a lack of memory.
+    /// Sets the row of a property, in place of the one that it has, if any. The only error is a lack of memory.
     fn put_prop(&mut self, key: PropId, row: PropRow) -> Result<(), AllocError>
         ensures ok { OnOk result (held self.new ≡ with_prop (held self.old) key row) }
+        // After an error nothing has changed.
         ensures err { OnErr result (held self.new ≡ held self.old) };
 
-    /// Takes the row of a property away; it need not have one. An `Err` is a lack of memory.
+    /// Takes the row of a property away; it need not have one. The only error is a lack of memory.
     fn remove_prop(&mut self, key: PropId) -> Result<(), AllocError>
         ensures ok { OnOk result (held self.new ≡ without_prop (held self.old) key) }
+        // After an error nothing has changed.
         ensures err { OnErr result (held self.new ≡ held self.old) };
 
     /// The row of a slot, or `None` if the map doesn't hold it.
@@ -124,14 +128,16 @@ pub trait Rows {
     fn next_slot(&self, from: Option<(ObjNo, PropId)>) -> Option<(ObjNo, PropId)>
         ensures { IsNext (held self.now).maps.slots from result };
 
-    /// Sets the row of a slot, in place of the one that it has, if any. An `Err` is a lack of memory.
+    /// Sets the row of a slot, in place of the one that it has, if any. The only error is a lack of memory.
     fn put_slot(&mut self, key: (ObjNo, PropId), row: SlotRow) -> Result<(), AllocError>
         ensures ok { OnOk result (held self.new ≡ with_slot (held self.old) key row) }
+        // After an error nothing has changed.
         ensures err { OnErr result (held self.new ≡ held self.old) };
 
-    /// Takes the row of a slot away; it need not have one. An `Err` is a lack of memory.
+    /// Takes the row of a slot away; it need not have one. The only error is a lack of memory.
     fn remove_slot(&mut self, key: (ObjNo, PropId)) -> Result<(), AllocError>
         ensures ok { OnOk result (held self.new ≡ without_slot (held self.old) key) }
+        // After an error nothing has changed.
         ensures err { OnErr result (held self.new ≡ held self.old) };
 
     /// The row of a verb, or `None` if the map doesn't hold it.
@@ -142,14 +148,16 @@ pub trait Rows {
     fn next_verb(&self, from: Option<(ObjNo, VerbId)>) -> Option<(ObjNo, VerbId)>
         ensures { IsNext (held self.now).maps.verbs from result };
 
-    /// Sets the row of a verb, in place of the one that it has, if any. An `Err` is a lack of memory.
+    /// Sets the row of a verb, in place of the one that it has, if any. The only error is a lack of memory.
     fn put_verb(&mut self, key: (ObjNo, VerbId), row: VerbRow) -> Result<(), AllocError>
         ensures ok { OnOk result (held self.new ≡ with_verb (held self.old) key row) }
+        // After an error nothing has changed.
         ensures err { OnErr result (held self.new ≡ held self.old) };
 
-    /// Takes the row of a verb away; it need not have one. An `Err` is a lack of memory.
+    /// Takes the row of a verb away; it need not have one. The only error is a lack of memory.
     fn remove_verb(&mut self, key: (ObjNo, VerbId)) -> Result<(), AllocError>
         ensures ok { OnOk result (held self.new ≡ without_verb (held self.old) key) }
+        // After an error nothing has changed.
         ensures err { OnErr result (held self.new ≡ held self.old) };
 
     /// The row of a petition, or `None` if the map doesn't hold it.
@@ -160,13 +168,15 @@ pub trait Rows {
     fn next_petition(&self, from: Option<PetitionId>) -> Option<PetitionId>
         ensures { IsNext (held self.now).maps.petitions from result };
 
-    /// Sets the row of a petition, in place of the one that it has, if any. An `Err` is a lack of memory.
+    /// Sets the row of a petition, in place of the one that it has, if any. The only error is a lack of memory.
     fn put_petition(&mut self, key: PetitionId, row: PetitionRow) -> Result<(), AllocError>
         ensures ok { OnOk result (held self.new ≡ with_petition (held self.old) key row) }
+        // After an error nothing has changed.
         ensures err { OnErr result (held self.new ≡ held self.old) };
 
-    /// Takes the row of a petition away; it need not have one. An `Err` is a lack of memory.
+    /// Takes the row of a petition away; it need not have one. The only error is a lack of memory.
     fn remove_petition(&mut self, key: PetitionId) -> Result<(), AllocError>
         ensures ok { OnOk result (held self.new ≡ without_petition (held self.old) key) }
+        // After an error nothing has changed.
         ensures err { OnErr result (held self.new ≡ held self.old) };
 }

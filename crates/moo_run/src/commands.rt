@@ -27,7 +27,7 @@ fn write_dump<W: Write, B: Alter + Drop>(world: &World<B>, output: &mut W) -> Re
     // All of the dump is written.
     ensures done { world.now.failed ≡ false →
         IfOk result (λ status. Appends (W.contents output.old) (W.contents output.new) (dump (state_of_world world.now)) × (status ≡ 0)) }
-    // At a failure a front of it is written.
+    // At a failure the beginning of it is written.
     ensures stops { world.now.failed ≡ false →
         IfErr result (λ failure. StopsIn (dump (state_of_world world.now)) failure (W.contents output.old) (W.contents output.new)) }
 {
@@ -35,7 +35,7 @@ fn write_dump<W: Write, B: Alter + Drop>(world: &World<B>, output: &mut W) -> Re
     Ok(0)
 }
 
-/// Writes a line, and answers the status 0. Write if the writer fails: a front of the line is written then.
+/// Writes a line, and answers the status 0. Write if the writer fails: the beginning of the line is written then.
 fn put_text<W: Write>(line: &str, output: &mut W) -> Result<u8, Failure>
     ensures done { IfOk result (λ status. Appends (W.contents output.old) (W.contents output.new) line.now × (status ≡ 0)) }
     ensures stops { IfErr result (λ failure. StopsIn line.now failure (W.contents output.old) (W.contents output.new)) }
@@ -119,6 +119,7 @@ fn serve<'s, S: Streams, B: Alter + Drop>(
     ensures serves { (m : Moment) → Stands B.Store world.old (Works m) →
         let run = ⟦<Session<'s, S> as HasRun>⟧.run session.old session.new in
         RunsAction B.Store world.old world.new (Action.Serve service) m run result }
+    // Nothing is read of the input.
     ensures input { session.new.input ≡ session.old.input }
 {
     let Service { port, count, ticks } = service;
@@ -133,7 +134,7 @@ fn serve<'s, S: Streams, B: Alter + Drop>(
     }
 }
 
-/// Does over a World what a task says, and answers the status, or why it stopped.
+/// Does over a World what a task says, and answers the status, or why it stopped. A failure is that of its command.
 pub(crate) fn do_task<'s, S: Streams, B: Alter + Drop>(
     session: &mut Session<'s, S>,
     world: &mut World<B>,

@@ -88,10 +88,12 @@ fn run_made<'s, S: Streams>(
 ) -> Ends<S::File, <S::Host as WorldFiles<S::File>>::Disk>
     // The file of the task may be looked at and opened, and the dump that it names may be read.
     requires may { S.Host.may_open session.old.host task.file.now }
+    // The file of batches or the dump that the task names may be read.
     requires read { (path : List ℕ) → ReadsFile task path → S.Host.may_read session.old.host path }
     requires anew { begins_anew task ≡ true }
     // By what the file held: the task ran from the world that was made in it, or none was made.
     ensures runs { RunsFile task.entry (image_at S.File.Start) result (⟦<Session<'s, S> as HasRun>⟧.run session.old session.new) }
+    // Only a task whose text is `-` reads the input.
     ensures input { reads_input task.entry ≡ false → session.new.input ≡ session.old.input }
 {
     let rows = match find_rows(session, task) {
@@ -125,10 +127,12 @@ fn run_found<'s, S: Streams>(
 ) -> Ends<S::File, <S::Host as WorldFiles<S::File>>::Disk>
     // The file of the task may be looked at and opened, and the file of batches that it names may be read.
     requires may { S.Host.may_open session.old.host task.file.now }
+    // The file of batches or the dump that the task names may be read.
     requires read { (path : List ℕ) → ReadsFile task path → S.Host.may_read session.old.host path }
     requires other { begins_anew task ≡ false }
     // By what the file held: the task ran over its world, or the file was refused.
     ensures runs { RunsFile task.entry (image_at S.File.Start) result (⟦<Session<'s, S> as HasRun>⟧.run session.old session.new) }
+    // Only a task whose text is `-` reads the input.
     ensures input { reads_input task.entry ≡ false → session.new.input ≡ session.old.input }
 {
     match open_from(session.alloc, &session.host, task.file, start) {
@@ -158,6 +162,7 @@ pub fn run_from<'s, S: Streams>(
 ) -> Ends<S::File, <S::Host as WorldFiles<S::File>>::Disk>
     // The file of the task may be looked at and opened, and the file of batches or the dump that it names may be read.
     requires may { S.Host.may_open session.old.host task.file.now }
+    // The file of batches or the dump that the task names may be read.
     requires read { (path : List ℕ) → ReadsFile task path → S.Host.may_read session.old.host path }
     // By what the file held: the task ran over its world or a new one, or no world was opened or made.
     ensures runs { RunsFile task.entry (image_at S.File.Start) result (⟦<Session<'s, S> as HasRun>⟧.run session.old session.new) }
@@ -178,6 +183,7 @@ fn run_in_memory<'s, S: Streams>(session: &mut Session<'s, S>, task: Task<'_>)
     requires anew { begins_anew task ≡ true }
     // The task runs from the new world that it begins with, or that can't be made and a line tells why.
     ensures runs { RunsTask task.entry (⟦<Session<'s, S> as HasRun>⟧.run session.old session.new) }
+    // Only a task whose text is `-` reads the input.
     ensures input { reads_input task.entry ≡ false → session.new.input ≡ session.old.input }
 {
     let Ok(conn) = Connection::open_in_memory(session.alloc) else {
@@ -195,6 +201,7 @@ pub(crate) fn run_task<'s, S: Streams>(
 ) -> Ends<S::File, <S::Host as WorldFiles<S::File>>::Disk>
     // The file of the task may be looked at and opened, and the file of batches or the dump that it names may be read.
     requires may { S.Host.may_open session.old.host task.file.now }
+    // The file of batches or the dump that the task names may be read.
     requires read { (path : List ℕ) → ReadsFile task path → S.Host.may_read session.old.host path }
     // Whatever the file holds, the task runs from the world that it begins with or that was found, or none is made or found and a line
     // tells why.

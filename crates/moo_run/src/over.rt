@@ -60,12 +60,16 @@ fn run_new<'s, S: Streams, B: Alter + Drop>(
 ) -> Connection<B>
     // The file of batches or the dump that the task names may be read.
     requires read { (path : List ℕ) → ReadsFile task path → S.Host.may_read session.old.host path }
+    // The connection is in no transaction.
     requires outside { conn.in_transaction ≡ false }
+    // The rows are those of a world.
     requires good { IfSome rows (λ r. IsGood r.maps) }
+    // A cell holds the number of the last batch as a signed number of 64 bits.
     requires limit { IfSome rows (λ r. r.maps.head.seq < 2 ^ 63) }
     // It can't be made, and nothing is asked of the ports; or the task runs from it.
     ensures runs { let run = ⟦<Session<'s, S> as HasRun>⟧.run session.old session.new in
         (run.given.ports.rests × FailsAtOnce run) ⊎ RunsMade (state B.Store result) task.entry (rows_made rows) run }
+    // Only a task whose text is `-` reads the input.
     ensures input { reads_input task.entry ≡ false → session.new.input ≡ session.old.input }
 {
     match make_in(session.alloc, conn, rows) {
@@ -88,6 +92,7 @@ pub fn run_over<'s, S: Streams, B: Alter + Drop>(
 ) -> Connection<B>
     // The file of batches or the dump that the task names may be read.
     requires read { (path : List ℕ) → ReadsFile task path → S.Host.may_read session.old.host path }
+    // The connection is in no transaction.
     requires outside { conn.in_transaction ≡ false }
     // The new world can't be made, and nothing is asked of the ports; or the task runs from it, and leaves what the store then holds.
     ensures runs { RunsAnew task.entry (⟦<Session<'s, S> as HasRun>⟧.run session.old session.new) (state B.Store result) }

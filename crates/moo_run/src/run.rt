@@ -32,7 +32,9 @@ fn put_mistake<'s, S: Streams>(session: &mut Session<'s, S>, error: &clap::Error
     // If the words have this mistake, a text of its reader is written with the status of the mistake, or a line says that memory ran out.
     ensures usage { (words : List (List ℕ)) → HasKind (mistakes words) error.now →
         EndsUsage words (S.Output.contents session.old.output) (S.Output.contents session.new.output) session.new.status }
+    // Nothing is asked of the ports, and nothing is written.
     ensures host { session.new.host ≡ session.old.host }
+    // Nothing is read of the input.
     ensures input { session.new.input ≡ session.old.input }
 {
     let kind = error.kind();
@@ -50,7 +52,9 @@ fn report_usage<'s, S: Streams>(session: &mut Session<'s, S>, usage: &Usage)
     // If the words are refused so, what is written and the status are those of words that have a mistake, or name no task.
     ensures usage { (words : List (List ℕ)) → IsRefusal words usage.now →
         EndsUsage words (S.Output.contents session.old.output) (S.Output.contents session.new.output) session.new.status }
+    // Nothing is asked of the ports, and nothing is written.
     ensures host { session.new.host ≡ session.old.host }
+    // Nothing is read of the input.
     ensures input { session.new.input ≡ session.old.input }
 {
     match usage {

@@ -54,6 +54,7 @@ impl<'s, S: Streams> Session<'s, S> {
     pub(crate) fn fail(&mut self, failure: Failure)
         ensures reports { Reports failure (S.Output.contents self.old.output) (S.Output.contents self.new.output) self.new.status }
         ensures host { self.new.host ≡ self.old.host }
+        // Nothing is read of the input.
         ensures input { self.new.input ≡ self.old.input }
     {
         self.status = report(self.alloc, self.console, failure, &mut self.output);
@@ -64,6 +65,7 @@ impl<'s, S: Streams> Session<'s, S> {
     pub(crate) fn fail_to_open(&mut self, file: &str, failure: Failure)
         ensures reports { Reports failure (S.Output.contents self.old.output) (S.Output.contents self.new.output) self.new.status }
         ensures host { self.new.host ≡ self.old.host }
+        // Nothing is read of the input.
         ensures input { self.new.input ≡ self.old.input }
     {
         if may_be_explained(failure) && self.host.explains(file) {
@@ -80,6 +82,7 @@ impl<'s, S: Streams> Session<'s, S> {
             (λ status. (self.new.status ≡ status) × (S.Output.contents self.new.output ≡ S.Output.contents self.old.output))
             (λ failure. Reports failure (S.Output.contents self.old.output) (S.Output.contents self.new.output) self.new.status) }
         ensures host { self.new.host ≡ self.old.host }
+        // Nothing is read of the input.
         ensures input { self.new.input ≡ self.old.input }
     {
         match done {

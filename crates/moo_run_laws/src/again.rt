@@ -28,21 +28,25 @@ pub fn run_and_run_again<'s, 'n, S: Streams, N: Streams>(
     Remains<S::File, <S::Host as WorldFiles<S::File>>::Disk>,
     Remains<N::File, <N::Host as WorldFiles<N::File>>::Disk>,
 )
-    // The files that the first words name may be looked at and read.
+    // The world's file that the first words name may be looked at and opened.
     requires may { (task : Task) → NamesTask (map (λ word. word.now) words.now) task →
         S.Host.may_open session.old.host task.file.now }
+    // The file of batches or the dump that they name may be read.
     requires read { (task : Task) (path : List ℕ) → NamesTask (map (λ word. word.now) words.now) task → ReadsFile task path →
         S.Host.may_read session.old.host path }
-    // So may those that the second words name.
+    // So may the world's file that the next words name.
     requires next_may { (task : Task) → NamesTask (map (λ word. word.now) next_words.now) task →
         N.Host.may_open next.old.host task.file.now }
+    // So may the file of batches or the dump that the next words name.
     requires next_read { (task : Task) (path : List ℕ) → NamesTask (map (λ word. word.now) next_words.now) task →
         ReadsFile task path → N.Host.may_read next.old.host path }
     // The second run goes on where the first left off: from the moment after the accepted batches whose answers were written, or with one
     // more. The first run started from the moment that its file held, or from a new world. If it ran no task over the file, the second goes
     // on from what the file held, or, of version 1, from some moment of the same rows. What stays keeps its number and its cells, and no
     // number is given again. After a service everything counts that its connections asked, also if the answer couldn't be sent. `FileRuns`
-    // has the words for this: `HandsOver` says it of two runs, by `GoesTo` of the first and `GoesOnFrom` of the second.
+    // has the words for this: `HandsOver` says it of two runs, by `GoesTo` of the first and `GoesOnFrom` of the second. The first record is
+    // the first run, the second the next one: the words, what the files held, the session before and after, how the words ended, and what
+    // was left once the file was closed. How they ended isn't handed out: there is an `ends` that fits.
     ensures again { RunsTwice ⟦<Session<'s, S> as HasRun>⟧ ⟦<Session<'n, N> as HasRun>⟧
         (λ ends. record {
           words = map (λ word. word.now) words.now;
@@ -81,14 +85,16 @@ pub fn stop_and_run_again<'s, 'n, S: Streams, N: Streams>(
     Ends<S::File, <S::Host as WorldFiles<S::File>>::Disk>,
     Remains<N::File, <N::Host as WorldFiles<N::File>>::Disk>,
 )
-    // The files that the first words name may be looked at and read.
+    // The world's file that the first words name may be looked at and opened.
     requires may { (task : Task) → NamesTask (map (λ word. word.now) words.now) task →
         S.Host.may_open session.old.host task.file.now }
+    // The file of batches or the dump that they name may be read.
     requires read { (task : Task) (path : List ℕ) → NamesTask (map (λ word. word.now) words.now) task → ReadsFile task path →
         S.Host.may_read session.old.host path }
-    // So may those that the second words name.
+    // So may the world's file that the next words name.
     requires next_may { (task : Task) → NamesTask (map (λ word. word.now) next_words.now) task →
         N.Host.may_open next.old.host task.file.now }
+    // So may the file of batches or the dump that the next words name.
     requires next_read { (task : Task) (path : List ℕ) → NamesTask (map (λ word. word.now) next_words.now) task →
         ReadsFile task path → N.Host.may_read next.old.host path }
     // The second run goes on where the first left off, whatever bytes the disk leaves of the two files, or a crash leaves of the database.

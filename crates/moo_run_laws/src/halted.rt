@@ -32,17 +32,20 @@ pub fn run_halted<'s, 'n, S: Streams, N: Streams>(
     Remains<S::File, Fuse<<S::Host as WorldFiles<S::File>>::Disk>>,
     Remains<N::File, <N::Host as WorldFiles<N::File>>::Disk>,
 )
-    // The files that the first words name may be looked at and read.
+    // The world's file that the first words name may be looked at and opened.
     requires may { (task : Task) → NamesTask (map (λ word. word.now) words.now) task → S.Host.may_open session.host task.file.now }
+    // The file of batches or the dump that they name may be read.
     requires read { (task : Task) (path : List ℕ) → NamesTask (map (λ word. word.now) words.now) task → ReadsFile task path →
         S.Host.may_read session.host path }
-    // So may those that the second words name.
+    // So may the world's file that the next words name.
     requires next_may { (task : Task) → NamesTask (map (λ word. word.now) next_words.now) task →
         N.Host.may_open next.old.host task.file.now }
+    // So may the file of batches or the dump that the next words name.
     requires next_read { (task : Task) (path : List ℕ) → NamesTask (map (λ word. word.now) next_words.now) task →
         ReadsFile task path → N.Host.may_read next.old.host path }
-    // The second run goes on where the first left off: from any bytes that the disk may leave (`EndLeaves`) it starts after the
-    // acknowledged batches (of a service, all that ran), or one more.
+    // The first run begins with this session, whose files, output and connections stop after what `halt` grants. The second goes on where
+    // the first left off: from any bytes that the disk may leave (`EndLeaves`) it starts after the batches that were answered `accepted` (of
+    // a service, after all that were accepted), or after one more. The records are as in `run_and_run_again`.
     ensures halted { HaltsBefore ⟦<Session<'s, HaltingStreams<S>> as HasRun>⟧ ⟦<Session<'n, N> as HasRun>⟧
         (λ began. (began.host ≡ record { inner = session.entry.host; halt = halt }) × (began.input ≡ session.entry.input)
         × (began.output ≡ record { inner = session.entry.output; bytes_left = halt.bytes }))

@@ -14,14 +14,14 @@ use sqlite::{Error, ErrorCode};
 use std::alloc::{AllocError, Global};
 use std::io::{Eprint, Write};
 
-/// The line that `moo check` writes of a whole world: its number, and how many objects it has. An `Err` means that memory ran out.
+/// The line that `moo check` writes of a whole world: its number, and how many objects it has. The only error is a lack of memory.
 pub fn checked_line(alloc: Global, seq: u64, objects: u64) -> Result<String, AllocError>
     ensures { IfOk result (λ text. text.bytes.items ≡ checked_line seq objects) }
 {
     format!(in alloc; "ok seq {seq} objects {objects}\n")
 }
 
-/// The line of a damage, with its kind and its place. An `Err` means that memory ran out.
+/// The line of a damage, with its kind and its place. The only error is a lack of memory.
 fn damaged_text(alloc: Global, kind: Kind, key: Key) -> Result<String, AllocError>
     ensures { IfOk result (λ text. text.bytes.items ≡
         codes "moo: damaged " ++ (kind_text kind ++ (codes " " ++ (key_text key ++ codes "\n")))) }
@@ -29,14 +29,14 @@ fn damaged_text(alloc: Global, kind: Kind, key: Key) -> Result<String, AllocErro
     format!(in alloc; "moo: damaged {kind} {key}\n")
 }
 
-/// The line that `moo load` writes of the world that it made: its number, and how many objects it has. An `Err` means that memory ran out.
+/// The line that `moo load` writes of the world that it made: its number, and how many objects it has. The only error is a lack of memory.
 pub fn loaded_line(alloc: Global, seq: u64, objects: u64) -> Result<String, AllocError>
     ensures { IfOk result (λ text. text.bytes.items ≡ loaded_line seq objects) }
 {
     format!(in alloc; "loaded seq {seq} objects {objects}\n")
 }
 
-/// The line of a text that isn't a dump, with the number of the line, from 1, that no dump has there. An `Err` means that memory ran out.
+/// The line of a text that isn't a dump, with the number of the line, from 1, that no dump has there. The only error is a lack of memory.
 fn not_a_dump_text(alloc: Global, line: u64) -> Result<String, AllocError>
     ensures { IfOk result (λ text. text.bytes.items ≡ codes "moo: not a dump, line " ++ (decimal line ++ codes "\n")) }
 {

@@ -36,7 +36,7 @@ pub(crate) trait Column: PartialEq {
     fn of(row: &Self::Row) -> &Self
         ensures { result.now ≡ part row.now };
 
-    /// The printed text of the value. The only error is out of memory.
+    /// The printed text of the value. The only error is a lack of memory.
     fn cell(&self, alloc: Global) -> Result<Vec<u8>, AllocError>
         // The text spells the value, and is the one that is always printed of it.
         ensures { IfOk result (λ cell. spells cell.items self.now × (cell.items ≡ text self.now)) };
@@ -45,7 +45,7 @@ pub(crate) trait Column: PartialEq {
     ghost exact: { IsExact Self.PartialEq.eq };
 }
 
-/// The printed literal of a value, as a cell. The only error is out of memory.
+/// The printed literal of a value, as a cell. The only error is a lack of memory.
 fn literal_cell(alloc: Global, value: &Value) -> Result<Vec<u8>, AllocError>
     // It spells the value, and is the one text that is printed of it.
     ensures { IfOk result (λ cell. Spells value.now cell.items × (cell.items ≡ print value.now)) }

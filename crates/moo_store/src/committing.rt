@@ -16,6 +16,7 @@ pub(crate) fn commit_cells<S: Alter>(
     requires limit { cells.now.head.seq < 2 ^ 63 }
     // The connection is in no transaction, and in none after the call.
     requires outside { (state S.Store conn.old).in_transaction ≡ false }
+    // The connection is in no transaction afterwards.
     ensures outside { (state S.Store conn.new).in_transaction ≡ false }
     // The changes are in the tables of the present version, committed; or none is, and there is a cause. So it is after a crash.
     ensures commits { CommitsCells cells.now (state S.Store conn.old) (state S.Store conn.new) result }

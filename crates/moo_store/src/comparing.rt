@@ -62,6 +62,7 @@ pub(crate) fn check_rows<S: Alter>(
     requires outside { (state S.Store conn.old).in_transaction ≡ false }
     // The known rows are those of a world.
     requires good { IsGood own.now.maps }
+    // The connection is in no transaction afterwards.
     ensures outside { (state S.Store conn.new).in_transaction ≡ false }
     // If a number is answered, the tables show the known rows. A damage is told only if it is met, and any other fault has a cause.
     ensures checks { Checks own.now.maps (state S.Store conn.old) (state S.Store conn.new) result }

@@ -25,7 +25,7 @@ fn reply_with_memory(reply: Reply) -> Result<Reply, AllocError>
     }
 }
 
-/// What a batch would be answered at present. An `Err` means that memory ran out, or that the World had failed.
+/// What a batch would be answered at present. It fails if memory runs out, or if the World had failed.
 #[tactic(auto, using(crate::proofs::Texts::judged_alone))]
 fn ask_one<S: Alter + Drop, N: Witness>(
     world: &World<S>,
@@ -47,7 +47,7 @@ fn ask_one<S: Alter + Drop, N: Witness>(
     }
 }
 
-/// What a batch would be answered at present, if there is one; nothing in the place of none. An `Err` means that memory ran out, or that
+/// What a batch would be answered at present, if there is one; nothing in the place of none. It fails if memory runs out, or if
 /// the World had failed.
 #[tactic(auto, using(moo_batch::proofs::Ticking::as_before))]
 fn ask_alone<S: Alter + Drop, N: Witness>(
@@ -71,7 +71,7 @@ fn ask_alone<S: Alter + Drop, N: Witness>(
     }
 }
 
-/// What each of these batches would be answered at present, if it alone were asked. An `Err` means that memory ran out, or that the World
+/// What each of these batches would be answered at present, if it alone were asked. It fails if memory runs out, or if the World
 /// had failed.
 fn ask_all<S: Alter + Drop, N: Witness>(
     world: &World<S>,

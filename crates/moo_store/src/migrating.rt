@@ -24,7 +24,7 @@ use moo_value::ObjNo;
 use sqlite::{Alter, Connection};
 use std::alloc::{AllocError, Global};
 
-/// The cells of all slots, in the order of their keys, as those of new rows. The only error is out of memory.
+/// The cells of all slots, in the order of their keys, as those of new rows. The only error is a lack of memory.
 fn print_slots(
     alloc: Global,
     rows: &Flat,
@@ -47,6 +47,7 @@ fn migrate_rows<S: Alter>(
     requires limit { rows.now.maps.head.seq < 2 ^ 63 }
     // The connection is in no transaction, and in none after the call.
     requires outside { (state S.Store conn.old).in_transaction ≡ false }
+    // The connection is in no transaction afterwards.
     ensures outside { (state S.Store conn.new).in_transaction ≡ false }
     // A fault never tells of damage: memory ran out, or the store failed.
     ensures fault { IfErr result IsOfStore }
@@ -97,6 +98,7 @@ pub(crate) fn make_current<S: Alter>(
     requires limit { rows.now.maps.head.seq < 2 ^ 63 }
     // The connection is in no transaction, and in none after the call.
     requires outside { (state S.Store conn.old).in_transaction ≡ false }
+    // The connection is in no transaction afterwards.
     ensures outside { (state S.Store conn.new).in_transaction ≡ false }
     // A fault never tells of damage: memory ran out, or the store failed.
     ensures fault { IfErr result IsOfStore }

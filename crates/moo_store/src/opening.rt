@@ -19,6 +19,7 @@ pub(crate) fn open_rows<S: Alter>(
 ) -> Result<Flat, StoreFault>
     // The connection is in no transaction, and in none after the call.
     requires outside { (state S.Store conn.old).in_transaction ≡ false }
+    // The connection is in no transaction afterwards.
     ensures outside { (state S.Store conn.new).in_transaction ≡ false }
     // The rows are good and those that the tables show, which were brought to the present version. A fault tells of a damage only if it
     // is met, and leaves the database as it was.

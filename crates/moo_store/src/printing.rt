@@ -24,7 +24,7 @@ trait Print<K, C>: KeyedRow<Key = K> {
     ghost prints: { Option Self → C → Self → Type 0 };
 
     /// The cells of a row, to be written over those of the row before, if there is one. A column with several spellings of one value is
-    /// printed only if its value changes. The only error is out of memory.
+    /// printed only if its value changes. The only error is a lack of memory.
     fn cells(&self, alloc: Global, old: Option<&Self>) -> Result<C, AllocError>
         ensures { IfOk result (λ cells. prints (option_map (λ row. row.now) old.entry) cells self.now) };
 }
@@ -96,7 +96,7 @@ impl Print<PetitionId, PetitionCells> for PetitionRow {
     }
 }
 
-/// The cells of the new row of a key, over the row before; None if the row is removed. The only error is out of memory.
+/// The cells of the new row of a key, over the row before; None if the row is removed. The only error is a lack of memory.
 fn print_row<K, C, V: Print<K, C>>(
     alloc: Global,
     old: Option<&V>,
@@ -110,7 +110,7 @@ fn print_row<K, C, V: Print<K, C>>(
     }
 }
 
-/// The cells of each change of rows of one kind, with its key, over the rows before. The only error is out of memory.
+/// The cells of each change of rows of one kind, with its key, over the rows before. The only error is a lack of memory.
 fn print_each<K: Copy + Drop, C: Drop, V: Print<K, C>>(
     alloc: Global,
     rows: &Flat,
@@ -135,7 +135,7 @@ fn has_first<V: KeyedRow>(rows: &Flat, changes: &ChangeList<V::Key, V>) -> bool 
     }
 }
 
-/// The cells of a row that wasn't there before. The only error is out of memory.
+/// The cells of a row that wasn't there before. The only error is a lack of memory.
 fn new_cells<'a, K, C, V: Print<K, C>>(alloc: Global, row: &'a V) -> Result<C, AllocError>
     ensures { IfOk result (λ cells. V.prints None cells row.now) }
 {
@@ -143,7 +143,7 @@ fn new_cells<'a, K, C, V: Print<K, C>>(alloc: Global, row: &'a V) -> Result<C, A
     row.cells(alloc, none)
 }
 
-/// The cells of all rows of one kind, each with its key, in the order of the keys, as those of new rows. The only error is out of memory.
+/// The cells of all rows of one kind, each with its key, in the order of the keys, as those of new rows. The only error is a lack of memory.
 #[tactic(auto, using(crate::proofs::AllRows::none_printed))]
 pub(crate) fn print_all_of<K: Copy + Drop, C: Drop, V: Print<K, C>>(
     alloc: Global,
@@ -161,7 +161,7 @@ pub(crate) fn print_all_of<K: Copy + Drop, C: Drop, V: Print<K, C>>(
     Ok(cells)
 }
 
-/// The cells of all rows, as changes from no rows. The only error is out of memory.
+/// The cells of all rows, as changes from no rows. The only error is a lack of memory.
 pub(crate) fn print_all(alloc: Global, rows: &Flat) -> Result<CellChanges, AllocError>
     ensures { IfOk result (λ cells. PrintsAll cells rows.now.maps) }
 {

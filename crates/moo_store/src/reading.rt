@@ -76,6 +76,7 @@ pub(crate) fn read_lists<S: Alter>(
 ) -> Result<CellLists, StoreFault>
     // The connection is in no transaction, and in none after the call.
     requires outside { (state S.Store conn.old).in_transaction ≡ false }
+    // The connection is in no transaction afterwards.
     ensures outside { (state S.Store conn.new).in_transaction ≡ false }
     // If it succeeds, nothing changed.
     ensures read { OnOk result (ReadsTables (schema_of version) (state S.Store conn.old) (state S.Store conn.new)) }
@@ -156,6 +157,7 @@ fn read_whole<S: Alter>(
 ) -> Result<Flat, StoreFault>
     // The connection is in no transaction, and in none after the call.
     requires outside { (state S.Store conn.old).in_transaction ≡ false }
+    // The connection is in no transaction afterwards.
     ensures outside { (state S.Store conn.new).in_transaction ≡ false }
     // The rows are good and those that the tables show. A fault tells of a damage only if it is met. Nothing is written.
     ensures reads { ReadsRowsAs version (state S.Store conn.old) (state S.Store conn.new) result }
@@ -180,6 +182,7 @@ fn read_each<S: Alter>(
 ) -> Result<Flat, StoreFault>
     // The connection is in no transaction, and in none after the call.
     requires outside { (state S.Store conn.old).in_transaction ≡ false }
+    // The connection is in no transaction afterwards.
     ensures outside { (state S.Store conn.new).in_transaction ≡ false }
     // The rows are good and those that the tables show. A fault tells of a damage only if it is met. Nothing is written.
     ensures reads { ReadsRowsAs version (state S.Store conn.old) (state S.Store conn.new) result }
@@ -202,6 +205,7 @@ pub(crate) fn read_version_and_rows<S: Alter>(
 ) -> Result<(Version, Flat), StoreFault>
     // The connection is in no transaction, and in none after the call.
     requires outside { (state S.Store conn.old).in_transaction ≡ false }
+    // The connection is in no transaction afterwards.
     ensures outside { (state S.Store conn.new).in_transaction ≡ false }
     // Outside a transaction an open connection shows what is committed.
     ensures settled { IsTrue (state S.Store conn.old).is_open → (state S.Store conn.old).now ≡ (state S.Store conn.old).committed }

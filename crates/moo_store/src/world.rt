@@ -192,6 +192,7 @@ impl<S: Alter + Drop> World<S> {
     /// The number of the batches that were accepted, 0 to 9,223,372,036,854,775,807. The only fault is Closed.
     pub fn seq(&self) -> Result<u64, StoreFault>
         ensures number { self.now.failed ≡ false → result ≡ Ok (state_of_world self.now).seq }
+        // If the World had failed, the fault is Closed.
         ensures closed { IsTrue self.now.failed → IsErrOf result StoreFault.Closed }
     {
         if self.failed {
@@ -203,6 +204,7 @@ impl<S: Alter + Drop> World<S> {
     /// The number of objects. Takes no memory. The only fault is Closed.
     pub fn object_count(&self) -> Result<u64, StoreFault>
         ensures count { self.now.failed ≡ false → result ≡ Ok (length (objects_of (state_of_world self.now).world)) }
+        // If the World had failed, the fault is Closed.
         ensures closed { IsTrue self.now.failed → IsErrOf result StoreFault.Closed }
     {
         if self.failed {

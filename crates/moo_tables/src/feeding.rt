@@ -34,7 +34,8 @@ pub trait TakeRows {
             took first (rows ++ block.items) self.new };
 }
 
-/// Adds a row to the block, and hands the block on if it is full. Answers false if the taker can't take the block.
+/// Adds a row to the block, and hands the block on if it is full. Answers false if the taker can't take the block. The only error is a lack
+/// of memory.
 fn add_row<T: TakeRows>(
     alloc: Global,
     taker: &mut T,
@@ -56,7 +57,8 @@ fn add_row<T: TakeRows>(
 /// Hands all rows that a query without parameters answers on to a taker, in their order, a block after another. Answers false if the
 /// taker can't take them.
 ///
-/// The store hands them out some at a time. `query_all` of a connection would hold all values at once, and keep the room for them.
+/// The store hands them out some at a time. `query_all` of a connection would hold all values at once, and keep the room for them. It fails
+/// only if the query does, or if memory runs out.
 fn feed_rows<S: Alter, T: TakeRows>(
     alloc: Global,
     conn: &mut Connection<S>,

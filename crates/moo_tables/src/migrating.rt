@@ -15,7 +15,7 @@ use moo_value::ObjNo;
 use sqlite::{Alter, Connection, Error};
 
 /// Makes the tables that the second version added to the first, `slot2`, `petition` and `petition_head`, empty. The other tables stay as
-/// they are.
+/// they are. It fails only if the store does, at the limit on steps, or if a table has no number left for a row.
 #[tactic(auto, using(moo_tables_rows::proofs::InsideLemmas::stays_then))]
 pub(crate) fn create_added_tables<T: Run>(tx: &mut T) -> Result<usize, Error>
     // The transaction is on the connection that it was on.
@@ -34,7 +34,8 @@ pub(crate) fn create_added_tables<T: Run>(tx: &mut T) -> Result<usize, Error>
 
 /// Makes the tables of the present version with this head and these slots, within a transaction.
 ///
-/// The first petition has the number 1. Every row of the table `slot` is deleted, which only the first version reads.
+/// The first petition has the number 1. Every row of the table `slot` is deleted, which only the first version reads. It fails only if the
+/// store does, at the limit on steps, or if a table has no number left for a row.
 #[tactic(auto, using(moo_tables_rows::proofs::InsideLemmas::stays_then))]
 fn write_migrated<T: Run>(
     tx: &mut T,
@@ -78,6 +79,7 @@ pub fn migrate<S: Alter>(
     requires limit { head.now.seq < 2 ^ 63 }
     // The connection is in no transaction, and in none after the call.
     requires outside { (state S.Store conn.old).in_transaction ≡ false }
+    // The connection is in no transaction afterwards.
     ensures outside { (state S.Store conn.new).in_transaction ≡ false }
     // Tables of an earlier version became those of the present one, committed; or nothing changed, and there is a cause. So it is after a
     // crash.

@@ -31,7 +31,7 @@ const SECOND: &[OurTable] = &[
     PETITION_HEAD,
 ];
 
-/// Whether a list of terms is empty, as that of the checks of a table. An `Err` means that memory ran out.
+/// Whether a list of terms is empty, as that of the checks of a table. The only error is a lack of memory.
 fn has_no_terms(alloc: Global, terms: &Terms) -> Result<bool, AllocError>
     ensures { IfOk result (λ none. IsTrue none ↔ terms.now ≡ []) }
 {
@@ -39,7 +39,7 @@ fn has_no_terms(alloc: Global, terms: &Terms) -> Result<bool, AllocError>
     Ok(lent.roots.is_empty())
 }
 
-/// Whether a table has no constraint but its key, and computes no column. An `Err` means that memory ran out.
+/// Whether a table has no constraint but its key, and computes no column. The only error is a lack of memory.
 fn has_no_rules(alloc: Global, table: &Table) -> Result<bool, AllocError>
     ensures { IfOk result (λ none. IsTrue none ↔ HasNoRules table.now) }
 {
@@ -56,7 +56,7 @@ fn has_no_rules(alloc: Global, table: &Table) -> Result<bool, AllocError>
     )
 }
 
-/// Whether none of these tables has a constraint but its key, or computes a column. An `Err` means that memory ran out.
+/// Whether none of these tables has a constraint but its key, or computes a column. The only error is a lack of memory.
 fn have_no_rules(alloc: Global, tables: &[Table]) -> Result<bool, AllocError>
     ensures { IfOk result (λ none. IsTrue none ↔ AllByRecursion HasNoRules tables.now) }
 {

@@ -49,7 +49,8 @@ fn head_values(row: &Head) -> [ValueRef<'static>; 6]
     ]
 }
 
-/// Puts the row of `head`, in place of the one that is there. A new table has no row yet, and then it is inserted.
+/// Puts the row of `head`, in place of the one that is there. A new table has no row yet, and then it is inserted. It fails only if the
+/// store does, at the limit on steps, or if a table has no number left for a row.
 #[tactic(auto, using(crate::proofs::InsideLemmas::stays_then))]
 pub fn put_head<T: Run>(tx: &mut T, row: &Head) -> Result<(), Error>
     // A cell holds the number of the last batch as a signed number of 64 bits.

@@ -33,8 +33,8 @@ pub trait TableRow {
     fn text_of_put() -> &'static str
         ensures { result.now ≡ put_text table };
 
-    /// Runs the statement with one of these texts, and answers how many rows it wrote. If a cell of the row stays, it runs one instead
-    /// that writes over the other cells.
+    /// Runs the statement with one of these texts, and answers how many rows it wrote. If a cell of the row stays, it runs one instead that
+    /// writes over the other cells. It fails only if the store does, at the limit on steps, or if a table has no number left for a row.
     fn write<T: Run>(&self, tx: &mut T, key: Self::Key, text: &str) -> Result<usize, Error>
         // The transaction is on the connection that it was on.
         ensures same_reference { T.lender tx.new ≡ T.lender tx.old }
@@ -43,7 +43,8 @@ pub trait TableRow {
         // Whichever of the three texts it is, the tables change as that statement changes them.
         ensures wrote { WritesRow table (with_row key (Some self.now)) text.now (T.state tx.old) (T.state tx.new) result };
 
-    /// Deletes the row with a key, if there is one. Answers how many rows it deleted: one or none.
+    /// Deletes the row with a key, if there is one. Answers how many rows it deleted: one or none. It fails only if the store does, at the
+    /// limit on steps, or if a table has no number left for a row.
     fn remove<T: Run>(tx: &mut T, key: Self::Key) -> Result<usize, Error>
         // The transaction is on the connection that it was on.
         ensures same_reference { T.lender tx.new ≡ T.lender tx.old }
@@ -54,7 +55,8 @@ pub trait TableRow {
         // It fails only if the store does, if it takes more steps than the connection allows, or if a table has no number left for a row.
         ensures cause { HasCauseIn (T.state tx.old) (T.state tx.new) result };
 
-    /// Writes over the row with a key, if there is one. Answers how many rows it wrote over: one or none.
+    /// Writes over the row with a key, if there is one. Answers how many rows it wrote over: one or none. It fails only if the store does,
+    /// at the limit on steps, or if a table has no number left for a row.
     final fn update<T: Run>(&self, tx: &mut T, key: Self::Key) -> Result<usize, Error>
         // The transaction is on the connection that it was on.
         ensures same_reference { T.lender tx.new ≡ T.lender tx.old }
@@ -84,7 +86,8 @@ pub trait TableRow {
         self.write(tx, key, Self::text_of_insert())
     }
 
-    /// Puts a row, in place of the one with its key if there is one.
+    /// Puts a row, in place of the one with its key if there is one. It fails only if the store does, at the limit on steps, or if a table
+    /// has no number left for a row.
     final fn put<T: Run>(&self, tx: &mut T, key: Self::Key) -> Result<usize, Error>
         // The transaction is on the connection that it was on.
         ensures same_reference { T.lender tx.new ≡ T.lender tx.old }

@@ -94,6 +94,7 @@ fn next_item<R: Read>(alloc: Global, lines: &mut LineReader<R>) -> Result<Next, 
     ensures item { IfOk result (λ item. ReadsNext (lines_side R.remaining lines.old) (lines_side R.remaining lines.new) item) }
     // Each item but the end takes some of the room, and after the end nothing is left.
     ensures falls { IfOk result (λ item. item ≢ Next.End → lines_room lines.new < lines_room lines.old) }
+    // If the text ends inside the batch, nothing is left.
     ensures ends { IfOk result (λ item. EndsAt item (lines_side R.remaining lines.new)) }
     // A fault is Long only if one byte more was given than there was room for, and never Write.
     ensures cause { IfErr result (LinesBreakOff R.remaining lines.old lines.new) }

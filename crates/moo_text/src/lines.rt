@@ -26,7 +26,7 @@ fn newline_at(text: &[u8]) -> Option<usize>
     text.iter().position(|byte| *byte == b'\n')
 }
 
-/// Appends bytes to a line, as far as it is kept: 262,146 bytes. The only error is out of memory.
+/// Appends bytes to a line, as far as it is kept: 262,146 bytes. The only error is a lack of memory.
 fn put_kept(line: &mut Vec<u8>, bytes: &[u8]) -> Result<(), AllocError>
     requires { length line.old.items ≤ MOST_KEPT }
     ensures { OnOk result (line.new.items ≡ take MOST_KEPT (line.old.items ++ bytes.now)) }
@@ -116,10 +116,12 @@ impl<R: Read> LineReader<R> {
     /// Reads the next line, without its end; `None` at the end of the text. A line over 262,144 bytes is cut after that many and at least
     /// one more. The errors are those of `read_piece`.
     fn read_line(&mut self) -> Result<Option<Vec<u8>>, TextFault>
-        // The text loses its first line: that line, or the beginning of it by which it is seen to be too long.
+        // The answer is the first line that the text still had, or the beginning of it by which it is seen to be too long. What follows is
+        // still to be read. `None` if the text had no line.
         ensures line { IfOk result (GivesLine R.remaining self.old self.new) }
-        // A line takes some of the room, and at the end of the text nothing is left.
+        // A line takes some of the room, and the end of the text gives none back.
         ensures falls { IfOk result (TakesRoom self.old self.new) }
+        // At the end the reader has ended, and no byte that it gave is left.
         ensures ends { IfOk result (λ line. IfNone line (IsOver (lines_side R.remaining self.new))) }
         // A fault is Long only if one byte more was given than there was room for, and never Write.
         ensures cause { IfErr result (LinesBreakOff R.remaining self.old self.new) }
@@ -151,10 +153,12 @@ impl<R: Read> LineReader<R> {
     /// after that many and at least one more. Read if the reader fails, Long if the text is longer than its room, OutOfMemory if memory
     /// runs out.
     pub fn next_line(&mut self) -> Result<Option<Vec<u8>>, TextFault>
-        // The text loses its first line: that line, or the beginning of it by which it is seen to be too long.
+        // The answer is the first line that the text still had, or the beginning of it by which it is seen to be too long. What follows is
+        // still to be read. `None` if the text had no line.
         ensures line { IfOk result (GivesLine R.remaining self.old self.new) }
-        // A line takes some of the room, and at the end of the text nothing is left.
+        // A line takes some of the room, and the end of the text gives none back.
         ensures falls { IfOk result (TakesRoom self.old self.new) }
+        // At the end the reader has ended, and no byte that it gave is left.
         ensures ends { IfOk result (λ line. IfNone line (IsOver (lines_side R.remaining self.new))) }
         // A fault is Long only if one byte more was given than there was room for, and never Write.
         ensures cause { IfErr result (LinesBreakOff R.remaining self.old self.new) }

@@ -40,7 +40,7 @@ pub enum Answer {
     Closed,
 }
 
-/// Appends a word, a number in decimal and an end. The only error is out of memory; some of the bytes may be there then.
+/// Appends a word, a number in decimal and an end. The only error is a lack of memory; some of the bytes may be there then.
 #[tactic(auto, using(crate::proofs::Putting::kept_last, moo_value::proofs::Printed::starts, moo_value::proofs::Printed::starts_alike, moo_value::proofs::Printed::starts_behind))]
 fn put_word_and_number(
     alloc: Global,
@@ -50,6 +50,7 @@ fn put_word_and_number(
     out: &mut Vec<u8>,
 ) -> Result<(), AllocError>
     ensures ok { OnOk result (out.new.items ≡ out.old.items ++ (word.now ++ (decimal number ++ end.now))) }
+    // The bytes begin with those from before, after an error too.
     ensures kept { StartsWith out.new.items out.old.items }
 {
     let digits = number.to_string(alloc)?;
@@ -58,7 +59,7 @@ fn put_word_and_number(
     out.extend_from_slice(end)
 }
 
-/// Appends a line of a word and a number in decimal. The only error is out of memory; some of the bytes may be there then.
+/// Appends a line of a word and a number in decimal. The only error is a lack of memory; some of the bytes may be there then.
 fn put_number_line(
     alloc: Global,
     word: &[u8],
@@ -66,15 +67,17 @@ fn put_number_line(
     out: &mut Vec<u8>,
 ) -> Result<(), AllocError>
     ensures ok { OnOk result (out.new.items ≡ out.old.items ++ (word.now ++ (decimal number ++ 10 ∷ []))) }
+    // The bytes begin with those from before, after an error too.
     ensures kept { StartsWith out.new.items out.old.items }
 {
     put_word_and_number(alloc, word, number, b"\n", out)
 }
 
-/// Appends the line `refused N E_CODE`. The only error is out of memory; some of the bytes may be there then.
+/// Appends the line `refused N E_CODE`. The only error is a lack of memory; some of the bytes may be there then.
 #[tactic(auto, using(crate::proofs::Putting::kept_last, moo_value::proofs::Printed::starts, moo_value::proofs::Printed::starts_behind))]
 fn put_refused(alloc: Global, call: u32, code: Code, out: &mut Vec<u8>) -> Result<(), AllocError>
     ensures ok { OnOk result (out.new.items ≡ out.old.items ++ refused_text call code) }
+    // The bytes begin with those from before, after an error too.
     ensures kept { StartsWith out.new.items out.old.items }
 {
     put_word_and_number(alloc, b"refused ", u64::from(call), b" ", out)?;
@@ -82,9 +85,10 @@ fn put_refused(alloc: Global, call: u32, code: Code, out: &mut Vec<u8>) -> Resul
     out.extend_from_slice(b"\n")
 }
 
-/// Appends a line for each answer, its literal. The only error is out of memory; some of the bytes may be there then.
+/// Appends a line for each answer, its literal. The only error is a lack of memory; some of the bytes may be there then.
 fn put_answers(alloc: Global, values: &[Value], out: &mut Vec<u8>) -> Result<(), AllocError>
     ensures ok { OnOk result (out.new.items ≡ out.old.items ++ flat_map answer_line values.now) }
+    // The bytes begin with those from before, after an error too.
     ensures kept { StartsWith out.new.items out.old.items }
 {
     for value in values {
@@ -94,7 +98,7 @@ fn put_answers(alloc: Global, values: &[Value], out: &mut Vec<u8>) -> Result<(),
     Ok(())
 }
 
-/// Appends the line `accepted N`, the answers, and the line `end`. The only error is out of memory; some of the bytes may be there then.
+/// Appends the line `accepted N`, the answers, and the line `end`. The only error is a lack of memory; some of the bytes may be there then.
 fn put_accepted(
     alloc: Global,
     seq: u64,
@@ -102,6 +106,7 @@ fn put_accepted(
     out: &mut Vec<u8>,
 ) -> Result<(), AllocError>
     ensures ok { OnOk result (out.new.items ≡ out.old.items ++ accepted_text seq answers.now) }
+    // The bytes begin with those from before, after an error too.
     ensures kept { StartsWith out.new.items out.old.items }
 {
     put_number_line(alloc, b"accepted ", seq, out)?;
@@ -109,10 +114,11 @@ fn put_accepted(
     out.extend_from_slice(b"end\n")
 }
 
-/// Appends the lines of a reply. The only error is out of memory; some of the bytes may be there then.
+/// Appends the lines of a reply. The only error is a lack of memory; some of the bytes may be there then.
 #[tactic(auto, using(crate::proofs::Putting::put_first, crate::proofs::Putting::kept_first))]
 pub(crate) fn put_reply(alloc: Global, reply: &Reply, out: &mut Vec<u8>) -> Result<(), AllocError>
     ensures ok { OnOk result (out.new.items ≡ out.old.items ++ reply_text reply.now) }
+    // The bytes begin with those from before, after an error too.
     ensures kept { StartsWith out.new.items out.old.items }
 {
     match reply {
@@ -124,10 +130,11 @@ pub(crate) fn put_reply(alloc: Global, reply: &Reply, out: &mut Vec<u8>) -> Resu
     }
 }
 
-/// Appends the lines that answer a batch of a text. The only error is out of memory; some of the bytes may be there then.
+/// Appends the lines that answer a batch of a text. The only error is a lack of memory; some of the bytes may be there then.
 #[tactic(auto, using(crate::proofs::Putting::put_first, crate::proofs::Putting::kept_first))]
 fn put_answer(alloc: Global, answer: &Answer, out: &mut Vec<u8>) -> Result<(), AllocError>
     ensures ok { OnOk result (out.new.items ≡ out.old.items ++ answer_text answer.now) }
+    // The bytes begin with those from before, after an error too.
     ensures kept { StartsWith out.new.items out.old.items }
 {
     match answer {
@@ -139,9 +146,10 @@ fn put_answer(alloc: Global, answer: &Answer, out: &mut Vec<u8>) -> Result<(), A
     }
 }
 
-/// Appends the lines that answer a batch of a text. The only error is out of memory, and it leaves the bytes as they were.
+/// Appends the lines that answer a batch of a text. The only error is a lack of memory, and it leaves the bytes as they were.
 pub fn print_answer(alloc: Global, answer: &Answer, out: &mut Vec<u8>) -> Result<(), AllocError>
     ensures ok { OnOk result (out.new.items ≡ out.old.items ++ answer_text answer.now) }
+    // After an error the bytes are as they were.
     ensures err { OnErr result (out.new.items ≡ out.old.items) }
 {
     let start = out.len();

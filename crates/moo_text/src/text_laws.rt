@@ -34,7 +34,9 @@ pub fn calls_are_spelled()
 
 /// Every text is cut into its items, and into no others.
 pub fn one_cut()
+    // The items that are read are cut from the text by its rule.
     ensures cut { (text : List ℕ) → Cuts (lines text) (items text) }
+    // No other items are.
     ensures only { (text : List ℕ) (others : List Next) → Cuts (lines text) others → items text ≡ others }
 {}
 

@@ -14,8 +14,9 @@ use moo_value::ObjNo;
 use std::alloc::{AllocError, Global};
 use std::collections::BTreeMap;
 
-/// x and its ancestors, the root last; an empty list if x isn't an object. An `Err` is a lack of memory.
+/// x and its ancestors, the root last; an empty list if x isn't an object. The only error is a lack of memory.
 pub fn chain<R: Rows>(alloc: Global, rows: &R, x: ObjNo) -> Result<Vec<ObjNo>, AllocError>
+    // Parents and locations are objects or `#-1`, without loops.
     requires { IsTree (world_of (R.held rows.now).maps) }
     ensures { IfOk result (λ v. v.items ≡ chain (world_of (R.held rows.now).maps) x) }
 {
@@ -30,12 +31,13 @@ pub fn chain<R: Rows>(alloc: Global, rows: &R, x: ObjNo) -> Result<Vec<ObjNo>, A
 }
 
 /// x and its ancestors as the keys of a map, in which objects are looked up; an empty map if x isn't an object. The chain is climbed
-/// once: m log m steps for a chain of m objects. An `Err` is a lack of memory. As any single climb it goes on when the ticks are spent.
+/// once: m log m steps for a chain of m objects. The only error is a lack of memory. As any single climb it goes on when the ticks are spent.
 pub fn chain_keys<R: Rows>(
     alloc: Global,
     rows: &R,
     x: ObjNo,
 ) -> Result<BTreeMap<ObjNo, ()>, AllocError>
+    // Parents and locations are objects or `#-1`, without loops.
     requires { IsTree (world_of (R.held rows.now).maps) }
     // The keys are the objects of the chain of x.
     ensures { IfOk result (λ found. (y : ObjNo) →
@@ -53,6 +55,7 @@ pub fn chain_keys<R: Rows>(
 /// Whether x is an object that is `ancestor` or has it as an ancestor. Takes no memory. It climbs from x to the root at most: if many
 /// are asked for of one x, take its `chain_keys`, and if of one ancestor, what is under that by `owners_under`.
 pub fn is_under<R: Rows>(rows: &R, x: ObjNo, ancestor: ObjNo) -> bool
+    // Parents and locations are objects or `#-1`, without loops.
     requires { IsTree (world_of (R.held rows.now).maps) }
     ensures { result ≡ is_among ancestor (chain (world_of (R.held rows.now).maps) x) }
 {

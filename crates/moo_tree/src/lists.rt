@@ -12,7 +12,7 @@ use moo_rows::{Link, Rows};
 use moo_value::ObjNo;
 use std::alloc::{AllocError, Global};
 
-/// Appends to a list the objects past `#-1` that have the link, ascending. An `Err` is a lack of memory, after which some may be listed.
+/// Appends to a list the objects past `#-1` that have the link, ascending. The only error is a lack of memory, after which some may be listed.
 pub(crate) fn list_linked<R: Rows>(
     rows: &R,
     link: Link,
@@ -23,7 +23,7 @@ pub(crate) fn list_linked<R: Rows>(
     rows.list_linked(link, nothing(), list)
 }
 
-/// The objects past `#-1` that have the link, ascending. An `Err` is a lack of memory.
+/// The objects past `#-1` that have the link, ascending. The only error is a lack of memory.
 fn collect_linked<R: Rows>(alloc: Global, rows: &R, link: Link) -> Result<Vec<ObjNo>, AllocError>
     ensures { IfOk result (λ v. v.items ≡ map (λ e. e.0) (linked_left link nothing (R.held rows.now).maps)) }
 {
@@ -32,27 +32,30 @@ fn collect_linked<R: Rows>(alloc: Global, rows: &R, link: Link) -> Result<Vec<Ob
     Ok(found)
 }
 
-/// The objects whose parent is x, ascending; the roots for `#-1`. An `Err` is a lack of memory.
+/// The objects whose parent is x, ascending; the roots for `#-1`. The only error is a lack of memory.
 /// LambdaMOO Programmer's Manual, 'Fundamental Operations on Objects': `children`.
 pub fn children<R: Rows>(alloc: Global, rows: &R, x: ObjNo) -> Result<Vec<ObjNo>, AllocError>
+    // Parents and locations are objects or `#-1`, without loops.
     requires { IsTree (world_of (R.held rows.now).maps) }
     ensures { IfOk result (λ v. v.items ≡ children_of (world_of (R.held rows.now).maps) x) }
 {
     collect_linked(alloc, rows, Link::ChildOf(x))
 }
 
-/// The objects that are in x itself, ascending; those that are nowhere for `#-1`. An `Err` is a lack of memory.
+/// The objects that are in x itself, ascending; those that are nowhere for `#-1`. The only error is a lack of memory.
 /// LambdaMOO Programmer's Manual, 'Properties on Objects'.
 pub fn contents<R: Rows>(alloc: Global, rows: &R, x: ObjNo) -> Result<Vec<ObjNo>, AllocError>
+    // Parents and locations are objects or `#-1`, without loops.
     requires { IsTree (world_of (R.held rows.now).maps) }
     ensures { IfOk result (λ v. v.items ≡ contents_of (world_of (R.held rows.now).maps) x) }
 {
     collect_linked(alloc, rows, Link::Within(x))
 }
 
-/// The objects with the player flag, ascending. An `Err` is a lack of memory.
+/// The objects with the player flag, ascending. The only error is a lack of memory.
 /// LambdaMOO Programmer's Manual, 'Operations on Player Objects': `players`.
 pub fn players<R: Rows>(alloc: Global, rows: &R) -> Result<Vec<ObjNo>, AllocError>
+    // Parents and locations are objects or `#-1`, without loops.
     requires { IsTree (world_of (R.held rows.now).maps) }
     ensures { IfOk result (λ v. v.items ≡ players_of (world_of (R.held rows.now).maps)) }
 {

@@ -25,6 +25,7 @@ fn visit<R: Rows>(
     found: &mut BTreeMap<ObjNo, ObjNo>,
     below: &mut Vec<ObjNo>,
 ) -> Result<(), AllocError>
+    // Parents and locations are objects or `#-1`, without loops.
     requires tree { IsTree (world_of (R.held rows.now).maps) }
     requires object { is_object (world_of (R.held rows.now).maps) y ≡ true }
     // Found is y too, with its owner.
@@ -42,12 +43,13 @@ fn visit<R: Rows>(
 }
 
 /// x and its descendants, each with its owner; an empty map if x isn't an object. It goes down level by level, so that the work grows with
-/// what is found, and not with the world. An `Err` is a lack of memory.
+/// what is found, and not with the world. The only error is a lack of memory.
 pub(crate) fn owner_map_under<R: Rows>(
     alloc: Global,
     rows: &R,
     x: ObjNo,
 ) -> Result<BTreeMap<ObjNo, ObjNo>, AllocError>
+    // Parents and locations are objects or `#-1`, without loops.
     requires { IsTree (world_of (R.held rows.now).maps) }
     // It has x and each object under it, and nothing else, each with its owner.
     ensures { IfOk result (λ found. IsOwnerMap (R.held rows.now).maps x (contents object_cmp found)) }
@@ -76,6 +78,7 @@ pub fn owners_under<R: Rows>(
     rows: &R,
     x: ObjNo,
 ) -> Result<Vec<(ObjNo, ObjNo)>, AllocError>
+    // Parents and locations are objects or `#-1`, without loops.
     requires { IsTree (world_of (R.held rows.now).maps) }
     ensures { IfOk result (λ v. v.items ≡ owners_under (R.held rows.now).maps x) }
 {

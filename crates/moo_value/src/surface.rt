@@ -6,7 +6,7 @@ ghost use Rattle.std.specs.Char.{to_ascii_lowercase};
 use crate::text::MooStr;
 use std::alloc::{AllocError, Global};
 
-/// The name with its ASCII letters in lower case. The error is a lack of memory.
+/// The name with its ASCII letters in lower case. The only error is a lack of memory.
 pub fn fold_name(alloc: Global, name: &MooStr) -> Result<MooStr, AllocError>
     ensures { IfOk result (λ folded. folded ≡ map to_ascii_lowercase name.now) }
 {

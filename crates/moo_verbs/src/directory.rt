@@ -31,7 +31,9 @@ pub fn list<R: Rows>(alloc: Global, rows: &R, x: ObjNo) -> Result<Vec<MooStr>, A
 ///
 /// LambdaMOO Programmer's Manual, 'Operations on Verbs': `add_verb`.
 pub fn add<R: Rows>(rows: &mut R, x: ObjNo, verb: VerbRow) -> Result<VerbId, AllocError>
+    // The rows are those of a well formed world.
     requires good { IsGood (R.held rows.old).maps }
+    // x is an object.
     requires object { is_object (world_of (R.held rows.old).maps) x ≡ true }
     // A number is left for it.
     requires left { (R.held rows.old).maps.head.next_verb < 4294967295 }
@@ -63,6 +65,7 @@ pub fn add<R: Rows>(rows: &mut R, x: ObjNo, verb: VerbRow) -> Result<VerbId, All
 ///
 /// LambdaMOO Programmer's Manual, 'Operations on Verbs': `delete_verb`.
 pub fn delete<R: Rows>(rows: &mut R, x: ObjNo, id: VerbId) -> Result<(), AllocError>
+    // The rows are those of a well formed world.
     requires good { IsGood (R.held rows.old).maps }
     // x has the verb.
     requires held { has_verb (R.held rows.old).maps x id ≡ true }
@@ -90,6 +93,7 @@ pub fn set_info<R: Rows>(
     bits: VerbBits,
     names: MooStr,
 ) -> Result<(), AllocError>
+    // The rows are those of a well formed world.
     requires good { IsGood (R.held rows.old).maps }
     // x has the verb.
     requires held { has_verb (R.held rows.old).maps x id ≡ true }
@@ -129,6 +133,7 @@ pub fn set_args<R: Rows>(
     id: VerbId,
     args: ArgSpec,
 ) -> Result<(), AllocError>
+    // The rows are those of a well formed world.
     requires good { IsGood (R.held rows.old).maps }
     // x has the verb.
     requires held { has_verb (R.held rows.old).maps x id ≡ true }

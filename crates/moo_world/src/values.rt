@@ -28,7 +28,7 @@ pub fn list_of(values: Vec<Value>) -> Value
     Value::List(ValueList::from_vec(values))
 }
 
-/// The value that is the list of these objects. The only error is out of memory.
+/// The value that is the list of these objects. The only error is a lack of memory.
 pub fn object_list(alloc: Global, objects: &[ObjNo]) -> Result<Value, AllocError>
     ensures { IfOk result (λ v. v ≡ object_list objects.now) }
 {
@@ -39,7 +39,7 @@ pub fn object_list(alloc: Global, objects: &[ObjNo]) -> Result<Value, AllocError
     Ok(list_of(values))
 }
 
-/// The value that is the list of these strings. The only error is out of memory.
+/// The value that is the list of these strings. The only error is a lack of memory.
 pub fn text_list(alloc: Global, texts: Vec<MooStr>) -> Result<Value, AllocError>
     ensures { IfOk result (λ v. v ≡ text_list texts.items) }
 {
