@@ -18,7 +18,8 @@ use moo_tree::{is_nothing, valid};
 use moo_value::{ObjNo, Value};
 use std::alloc::{AllocError, Global};
 
-/// The number of the next object; `None` if 2,147,483,647 has been given.
+/// The number that the next new object gets, one more than the greatest that was ever given; `None` if 2,147,483,647 has been given.
+/// (`Rows::next_object` is the next one that is there.)
 fn next_object<R: Rows>(rows: &R) -> Option<ObjNo>
     ensures { result ≡ next_object (world_in (R.held rows.now)) }
 {

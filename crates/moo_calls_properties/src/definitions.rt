@@ -54,7 +54,8 @@ pub(crate) fn may_define<R: Rows>(rows: &R, x: ObjNo, name: &MooStr) -> Result<(
     }
 }
 
-/// The property of a name that x itself defines; `None` if x defines no property of the name.
+/// The property of a name that x itself defines; `None` if x defines no property of the name. Names compare without ASCII case. It is the
+/// one that `slot_of` finds, if x is its definer: where x defines none, that search goes on to its ancestors.
 pub(crate) fn own_property<R: Rows>(rows: &R, x: ObjNo, name: &MooStr) -> Option<PropId>
     // The rows are those of a well formed world.
     requires { IsGood (R.held rows.now).maps }

@@ -26,7 +26,8 @@ const COLUMNS: usize = 12;
 /// The number that stands for no object.
 const NOTHING: ObjNo = ObjNo(-1);
 
-/// An object that has the six flags in these cells, and nothing else yet. `Unreadable` if one of the cells is neither 0 nor 1.
+/// The row of an object with the flags of these cells (player, programmer, wizard, r, w, f), and nothing else yet. `Unreadable` if one of
+/// the cells is neither 0 nor 1.
 fn flags_of(alloc: Global, cells: &Row) -> Result<ObjRow, RowFault>
     ensures ok { IfOk result (λ row. HasFlags cells.now row) }
     ensures err { IfErr result (λ _. (row : ObjRow) → ¬ (HasFlags cells.now row)) }

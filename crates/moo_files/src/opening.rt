@@ -82,15 +82,18 @@ pub fn open_from<T: Start, H: WorldFiles<T>>(
 ) -> Result<World<FileStore<H::Disk>>, (StoreFault, Remains<T, H::Disk>)>
     // The caller may look at this path and open it.
     requires may { H.may_open host.now path.now }
-    // A World that is opened works at its own rows, which are good, and the files read as a sound database with tables of ours.
+    // A World that is opened works, and its rows are good. If the disk returned what was written, the files read as a sound database with
+    // tables of ours.
     ensures opened { IfOk result (IsOpenedOver (image_at T.Start)) }
     // It works at the moment that their database shows, brought to the present version; a crash leaves the database, or what that was
     // migrated to.
     ensures opens { (held : Contents) → Hold (image_at T.Start) held →
         IfOk result (λ world. HasCleanDisk (store_of over_files world) → Opens held world) }
-    // Files that are refused are spared. If they weren't opened, the fault is CannotOpen, NotADatabase of an empty file, DatabaseBusy or
-    // OutOfMemory.
+    // Files that held anything are spared, whatever it was: what a crash leaves of them is what they held, at most with new checksums of its
+    // pages; and a connection comes back only if they read as a sound database. If they weren't opened, the fault is CannotOpen,
+    // NotADatabase of an empty file, DatabaseBusy or OutOfMemory.
     ensures refused { IfErr result (λ e. IsRefusedFrom (image_at T.Start) e.0 e.1) }
+    // `IsCleanRemains`, here and below: as long as the files were open the disk returned what was written. Calls of it may have failed.
     // No damage is told of files that hold a whole world, nothing, or tables that aren't ours; and the files still hold what they held, or
     // what that was migrated to.
     ensures refuses { (held : Contents) → Hold (image_at T.Start) held →

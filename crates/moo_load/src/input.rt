@@ -38,6 +38,7 @@ pub fn read_text<R: Read>(alloc: Global, reader: &mut R) -> Result<Vec<u8>, Inpu
     // The text is what the reader gave, and nothing is left in it.
     ensures given { IfOk result (λ text. Consumes (R.remaining reader.old) (R.remaining reader.new) text.items) }
     ensures end { OnOk result (IsAtEnd (R.remaining reader.new)) }
+    // If it is known what the reader had left to give, the text is all of that.
     ensures whole { IfOk result (λ text. IfSome (R.remaining reader.old) (λ bytes. text.items ≡ bytes)) }
     // It is within the limit, and only a longer one is too long.
     ensures limit { IfOk result (λ text. length text.items ≤ LONGEST_TEXT) }

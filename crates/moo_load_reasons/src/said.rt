@@ -6,7 +6,8 @@ use std::alloc::{AllocError, Global};
 /// The most bytes of a value or of a line that are shown.
 const MOST_SHOWN: usize = 60;
 
-/// What is said so far. Each `put` adds to its end, and fails only if memory runs out.
+/// What is said so far. Each `put` adds to its end, and fails only if memory runs out. These words go to standard error, and nothing is
+/// proved of them. `Said` of `moo_reasons`, of which lengths are proved, is another type.
 #[derive(Drop)]
 pub(crate) struct Said {
     pub(crate) alloc: Global,

@@ -21,7 +21,8 @@ pub struct FoundSlot<'a> {
 }
 
 /// The property of a name, whose hash is given, that y itself defines; `None` if it defines none. Names compare without ASCII case. Takes
-/// no memory.
+/// no memory. It is for searches that ask one object after another for a name; `own_property` of `moo_calls_properties` asks one object
+/// by the name alone.
 pub(crate) fn find_own_property<R: Rows>(
     rows: &R,
     y: ObjNo,

@@ -40,8 +40,9 @@ pub fn run_and_run_again<'s, 'n, S: Streams, N: Streams>(
     // So may the file of batches or the dump that the next words name.
     requires next_read { (task : Task) (path : List ℕ) → NamesTask (map (λ word. word.now) next_words.now) task →
         ReadsFile task path → N.Host.may_read next.old.host path }
-    // The second run goes on where the first left off: from the moment after the accepted batches whose answers were written, or with one
-    // more. The first run started from the moment that its file held, or from a new world. If it ran no task over the file, the second goes
+    // Each run tells how it ended. The second goes on where the first left off: from the moment after the accepted batches whose answers
+    // were written, or with one more. If it takes up its file, it runs from there, or fails for a cause and tells no damage. The first run
+    // started from the moment that its file held, or from a new world. If it ran no task over the file, the second goes
     // on from what the file held, or, of version 1, from some moment of the same rows. What stays keeps its number and its cells, and no
     // number is given again. After a service everything counts that its connections asked, also if the answer couldn't be sent. `FileRuns`
     // has the words for this: `HandsOver` says it of two runs, by `GoesTo` of the first and `GoesOnFrom` of the second. The first record is

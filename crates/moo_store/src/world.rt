@@ -92,7 +92,7 @@ impl<S: Alter + Drop> World<S> {
     ) -> Result<Reply, StoreFault>
         // The World works.
         requires works { self.old.failed ≡ false }
-        // The cells are those of the changes.
+        // The cells are those of the changes of the World's rows. The number of the next petition is among them only if it changed.
         requires printed { Prints (Some self.old.rows.maps.head.next_petition) self.old.rows.maps cells.now changes }
         // A cell holds the number of the last batch as a signed number of 64 bits.
         requires limit { cells.now.head.seq < 2 ^ 63 }
@@ -105,7 +105,7 @@ impl<S: Alter + Drop> World<S> {
         ensures commits { CommitsInto cells.now (store_of S.Store self.old) (store_of S.Store self.new) result }
         // A fault has a cause in the store.
         ensures fault { IfErr result (FailsRun S.Store self.old self.new) }
-        // No failure of the disk is forgotten.
+        // The count of the disk's calls that failed gets no lower, and the limit on steps stays.
         ensures kept { KeepsFaults (store_of S.Store self.old) (store_of S.Store self.new) }
         // A reply says that the batch is accepted.
         ensures accepted { IfOk result (λ reply. reply ≡ Reply.Accepted changes.head.seq answers) }
@@ -129,14 +129,14 @@ impl<S: Alter + Drop> World<S> {
         batch: &Batch,
         witness: &mut N,
     ) -> Result<Reply, StoreFault>
-        // A reply is that of the moment where the World was, and only an accepted batch leads on from it. If the store failed, the World is
-        // between two moments.
+        // A reply is that of the verdict at the moment where the World was, or `NoMemory` if its calls are run. Only an accepted batch leads
+        // on from the moment. If the store failed, the World is between two moments.
         ensures moves { MovesBy S.Store self.old self.new (λ from to. RunsAt from batch.now (answer_to result) to) }
         // A reply that isn't `accepted` leaves the World as it was.
         ensures still { IfOk result (λ reply. says_accepted (answer.Replied reply) ≡ false → self.new ≡ self.old) }
         // A fault is that the World had failed, or has a cause in the store.
         ensures fault { IfErr result (FailsRun S.Store self.old self.new) }
-        // No failure of the disk is forgotten.
+        // The count of the disk's calls that failed gets no lower, and the limit on steps stays.
         ensures kept { KeepsFaults (store_of S.Store self.old) (store_of S.Store self.new) }
         // Of a refused batch the witness has seen the refusal; of any other, and at a fault, nothing.
         ensures seen { MatchResult result

@@ -39,7 +39,8 @@ fn has_no_terms(alloc: Global, terms: &Terms) -> Result<bool, AllocError>
     Ok(lent.roots.is_empty())
 }
 
-/// Whether a table has no constraint but its key, and computes no column. The only error is a lack of memory.
+/// Whether a table has no rule, which is a constraint but its key, a column that is computed, or counted row numbers. The only error is a
+/// lack of memory.
 fn has_no_rules(alloc: Global, table: &Table) -> Result<bool, AllocError>
     ensures { IfOk result (λ none. IsTrue none ↔ HasNoRules table.now) }
 {
@@ -56,7 +57,8 @@ fn has_no_rules(alloc: Global, table: &Table) -> Result<bool, AllocError>
     )
 }
 
-/// Whether none of these tables has a constraint but its key, or computes a column. The only error is a lack of memory.
+/// Whether none of these tables has a rule, which is a constraint but its key, a column that is computed, or counted row numbers. The
+/// only error is a lack of memory.
 fn have_no_rules(alloc: Global, tables: &[Table]) -> Result<bool, AllocError>
     ensures { IfOk result (λ none. IsTrue none ↔ AllByRecursion HasNoRules tables.now) }
 {

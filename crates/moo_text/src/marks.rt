@@ -60,7 +60,7 @@ impl Marks {
         self.is_over = is_end_line(line);
     }
 
-    /// Notes that the line read last is the first bad line of the batch.
+    /// Notes that the batch is bad: the line read last is its first bad line, and is given without its end.
     pub(crate) fn spoil(&mut self, line: Vec<u8>) {
         self.bad = line;
         self.bad_line = Some(self.count);

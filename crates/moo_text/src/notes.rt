@@ -5,6 +5,7 @@ use crate::reply::Answer;
 
 /// Notes are told how the items of a text were answered, for messages. What they do then, no contract says.
 pub trait Notes {
-    /// Tells of an item of a text: on which lines it is, and its answer.
+    /// Takes note of an item of a text, once its answer is written: on which lines it is, and its answer. It isn't called of an item whose
+    /// answer can't be written.
     fn note(&mut self, marks: &Marks, answer: &Answer);
 }
