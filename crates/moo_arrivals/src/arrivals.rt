@@ -49,8 +49,8 @@ pub trait Arrivals {
     /// The source before it tells of a connection whose answer was lost, or of none, and after that.
     ghost loses: { Self → Option Loss → Self → Type 0 } = { λ _ _ _. ⊤ };
 
-    /// Waits for the next connection and hands it out. `left` connections are still to be handed out. None if one came and can't be taken.
-    /// By the routes the source may tell whether a request is whole.
+    /// Waits for the next connection and hands it out. `left` connections are still to be handed out, this one among them. None if one
+    /// came and can't be taken. By the routes the source may tell whether a request is whole.
     fn accept(
         &mut self,
         routes: &Routes,

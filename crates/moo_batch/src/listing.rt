@@ -35,7 +35,7 @@ fn is_listed(row: &PetitionRow, all: bool, programmer: ObjNo) -> bool
 }
 
 /// The petitions that the programmer sees, all of them or its own, as `petitions` lists them, in the order of their numbers. The only error
-/// is out of memory.
+/// is a lack of memory.
 fn values_of_petitions<R: Rows>(
     rows: &R,
     alloc: Global,

@@ -67,7 +67,7 @@ fn copy_of(alloc: Global, name: Option<&MooStr>) -> Result<Option<MooStr>, Alloc
     }
 }
 
-/// Gives a property that x has an owner and rights on x, and another name, if there is one. The only error is out of
+/// Gives a property that x has an owner and rights on x, and another name, if there is one. The only error is a lack of
 /// memory, after which the rows may be half changed.
 fn change_info<R: Rows>(
     rows: &mut R,

@@ -26,11 +26,11 @@ pub fn change_row<R: Rows>(
     requires good { IsGood (R.held rows.old).maps }
     // x is an object.
     requires there { is_object (world_in (R.held rows.old)) x ≡ true }
-    // The new content of the field is within its limits, and a new location closes no ring.
+    // The new content of the field is within its limits, and a new location makes no loop.
     requires allowed { is_allowed_change (world_in (R.held rows.old)) x change ≡ true }
     // The world is the old one but for that field of x.
     ensures world { OnOk result (world_in (R.held rows.new) ≡ field_changed (world_in (R.held rows.old)) x change) }
-    // The rows are good ones again; the sequence number and the petitions are as they were.
+    // The rows are good ones again, what stays keeps its number, and the sequence number and the petitions are as they were.
     ensures kept { OnOk result (Keeps (R.held rows.old) (R.held rows.new)) }
 {
     let row = match rows.object(x) {

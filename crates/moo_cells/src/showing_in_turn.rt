@@ -102,7 +102,8 @@ pub fn show_in_turn<S: Alter>(
 ) -> Result<bool, Error>
     // Nothing is written, and it fails only if the store does, or at the limit on steps.
     ensures reads { OnlyReads version (state S.Store conn.old) (state S.Store conn.new) result }
-    // If the answer is true, the tables show these rows. Nothing is promised of false.
+    // If the disk is clean, the connection is in no transaction, its tables are of this version and the answer is true, they show
+    // these rows. Nothing is promised of false.
     ensures shown { HasCleanDisk (state S.Store conn.new) → IfOk result (λ show. show ≡ true → (tables : Tables) →
         Rests (state S.Store conn.old) tables → tables.version ≡ version → ShowsRows tables rows.now.maps) }
 {

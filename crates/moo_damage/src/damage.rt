@@ -41,7 +41,7 @@ fn ungiven_number<R: Rows>(rows: &R, are_plain: bool) -> Option<(Kind, Key)>
     None
 }
 
-/// The first object whose link names no object, or else whose chain of links has no end; `None` if there is none. The only error is out of
+/// The first object whose link names no object, or else whose chain of links has no end; `None` if there is none. The only error is a lack of
 /// memory.
 fn wrong_link<R: Rows>(
     alloc: Global,

@@ -32,8 +32,8 @@ fn note_name(
     }
 }
 
-/// Notes the property of a number, if there is one, and answers whether no other property was noted under its name. The only error is out
-/// of memory.
+/// Notes the property of a number, if there is one, and answers whether no other property was noted under its name. The only error is a
+/// lack of memory.
 fn note_prop<R: Rows>(
     alloc: Global,
     rows: &R,
@@ -91,7 +91,7 @@ fn seen_apart<R: Rows>(
     Ok(true)
 }
 
-/// Whether no two properties that an object has slots of have one name, on each object that defines a property. The only error is out of
+/// Whether no two properties that an object has slots of have one name, on each object that defines a property. The only error is a lack of
 /// memory.
 pub(crate) fn are_names_apart<R: Rows>(alloc: Global, rows: &R) -> Result<bool, AllocError>
     ensures apart { IfOk result (λ apart. apart ≡ true → DefinersApart (R.held rows.now).maps) }

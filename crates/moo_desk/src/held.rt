@@ -92,7 +92,8 @@ impl<R: Inward + OpenStream + Drop, W: Outward + OpenStream + Drop> Held<R, W> {
     /// If more are held than may be, ends the connection that can best be spared, if one can be: one that lingers, or else the oldest
     /// unfinished request.
     pub fn shed(&mut self, now: Duration)
-        // No connection comes, and nothing happens to those that are held but deeds.
+        // No connection comes. More may be gathered and sent of those that are here; one goes only once its answer was sent, or the loss of
+        // it is noted, once.
         ensures all { Goes self.old self.new }
         // While 64 at most are held none is ended.
         ensures few { count_of self.old ≤ MOST → self.new ≡ self.old }
@@ -113,7 +114,8 @@ impl<R: Inward + OpenStream + Drop, W: Outward + OpenStream + Drop> Held<R, W> {
 
     /// Gives up the answer at this place, since another connection needs it.
     fn cut_answer(&mut self, place: usize)
-        // No connection comes, and nothing happens to those that are held but deeds.
+        // No connection comes. More may be gathered and sent of those that are here; one goes only once its answer was sent, or the loss of
+        // it is noted, once.
         ensures all { Goes self.old self.new }
         ensures slots { self.new.slots ≡ self.old.slots }
         // The answer at this place is given up as crowded out, and the others stay.
@@ -127,7 +129,8 @@ impl<R: Inward + OpenStream + Drop, W: Outward + OpenStream + Drop> Held<R, W> {
     /// Gives up the request at this place, since another connection needs it, if it may be ended. It isn't read any more, and handed out
     /// so.
     fn cut_request(&mut self, place: usize, now: Duration)
-        // No connection comes, and nothing happens to those that are held but deeds.
+        // No connection comes. More may be gathered and sent of those that are here; one goes only once its answer was sent, or the loss of
+        // it is noted, once.
         ensures all { Goes self.old self.new }
         // When each request came stays, and whether that is too long ago is seen by this time.
         ensures times { Each (IsTimed now) self.old.slots.items self.new.slots.items }
@@ -141,10 +144,11 @@ impl<R: Inward + OpenStream + Drop, W: Outward + OpenStream + Drop> Held<R, W> {
         }
     }
 
-    /// Steps each connection whose request was judged and that is due, and lets go of those that are over; whether anything went, came or
-    /// was let go.
+    /// Steps each connection whose request was judged and that is due, and lets go of those that are over; whether anything went, came or was
+    /// let go. `now` is the time of the monotonic clock.
     pub fn send_all(&mut self, now: Duration) -> bool
-        // No connection comes, and nothing happens to those that are held but deeds.
+        // No connection comes. More may be gathered and sent of those that are here; one goes only once its answer was sent, or the loss of
+        // it is noted, once.
         ensures { Goes self.old self.new }
     {
         let mut changed = turn_leaving(&mut self.leaving, now);
@@ -159,7 +163,8 @@ impl<R: Inward + OpenStream + Drop, W: Outward + OpenStream + Drop> Held<R, W> {
 
     /// Lets go of the first connection that is over, and notes the loss of its answer if it was lost; whether one was over.
     fn end_one(&mut self) -> bool
-        // No connection comes, and nothing happens to those that are held but deeds.
+        // No connection comes. More may be gathered and sent of those that are here; one goes only once its answer was sent, or the loss of
+        // it is noted, once.
         ensures { Goes self.old self.new }
     {
         let Some(place) = self.leaving.iter().position(|it| it.is_over()) else {
@@ -188,7 +193,8 @@ impl<R: Inward + OpenStream + Drop, W: Outward + OpenStream + Drop> Held<R, W> {
     /// Gives up each connection whose request was judged, and holds none of them after that. What its peer hasn't got of its answer is
     /// lost, for the cause Late.
     pub fn give_up_all(&mut self)
-        // No connection comes, and nothing happens to those that are held but deeds.
+        // No connection comes. More may be gathered and sent of those that are here; one goes only once its answer was sent, or the loss of
+        // it is noted, once.
         ensures all { Goes self.old self.new }
         // No answer is held any more.
         ensures none { self.new.leaving.items ≡ [] }
@@ -246,7 +252,8 @@ impl<R: Inward + OpenStream + Drop, W: Outward + OpenStream + Drop> Held<R, W> {
     /// Gathers what is there of each request that is due, or of the first unfinished one alone while 32 MiB of requests or more are
     /// gathered; whether anything changed.
     pub fn gather(&mut self, routes: &Routes, now: Duration) -> bool
-        // No connection comes, and nothing happens to those that are held but deeds.
+        // No connection comes. More may be gathered and sent of those that are here; one goes only once its answer was sent, or the loss of
+        // it is noted, once.
         ensures all { Goes self.old self.new }
 
         // Each that is due is read, or is to be handed out after this; while 32 MiB are gathered, the first unfinished one.
@@ -259,7 +266,8 @@ impl<R: Inward + OpenStream + Drop, W: Outward + OpenStream + Drop> Held<R, W> {
 
     /// Has the next round look at each connection that has this mark.
     pub fn wake_at(&mut self, mark: usize)
-        // No connection comes, and nothing happens to those that are held but deeds.
+        // No connection comes. More may be gathered and sent of those that are here; one goes only once its answer was sent, or the loss of
+        // it is noted, once.
         ensures all { Goes self.old self.new }
         // Each request and each answer with this mark is due, and those that were due stay so.
         ensures wakes { Each (IsWokenFor (λ it. it ≡ mark)) self.old.slots.items self.new.slots.items }
@@ -271,7 +279,8 @@ impl<R: Inward + OpenStream + Drop, W: Outward + OpenStream + Drop> Held<R, W> {
 
     /// Has the next round look at each connection.
     pub fn wake_all(&mut self)
-        // No connection comes, and nothing happens to those that are held but deeds.
+        // No connection comes. More may be gathered and sent of those that are here; one goes only once its answer was sent, or the loss of
+        // it is noted, once.
         ensures all { Goes self.old self.new }
         // Each request and each answer is due.
         ensures wakes { Each (IsWokenFor (λ _. ⊤)) self.old.slots.items self.new.slots.items }
@@ -283,7 +292,8 @@ impl<R: Inward + OpenStream + Drop, W: Outward + OpenStream + Drop> Held<R, W> {
 
     /// If too much of answers is held and a request is whole, gives up an answer of which its peer took nothing for a while.
     pub fn relieve(&mut self, now: Duration)
-        // No connection comes, and nothing happens to those that are held but deeds.
+        // No connection comes. More may be gathered and sent of those that are here; one goes only once its answer was sent, or the loss of
+        // it is noted, once.
         ensures all { Goes self.old self.new }
         ensures slots { self.new.slots ≡ self.old.slots }
         // While 32 MiB of answers are held beside the largest and a request is whole, the first answer that is stuck is given up; else

@@ -145,7 +145,7 @@ impl<R: Inward + OpenStream, W: Outward + OpenStream> Leaving<R, W> {
         // What the writer has and what is still unsent, joined, is as before.
         ensures invisible { Keeps (append_known (W.contents self.old.writer.writer) (drop self.old.writer.sent self.old.writer.text.items))
             (append_known (W.contents self.new.writer.writer) (drop self.new.writer.sent self.new.writer.text.items)) }
-        // Its peer is sent nothing.
+        // The writer stays that of the same peer.
         ensures peer { W.peer self.new.writer.writer ≡ W.peer self.old.writer.writer }
         // One that is to be closed gently isn't let go before its peer was listened to.
         ensures gentle { self.old.closing ≡ Closing.Gently → self.new.stage ≢ Done }
@@ -213,7 +213,7 @@ impl<R: Inward + OpenStream, W: Outward + OpenStream> Leaving<R, W> {
         // What the writer has and what is still unsent, joined, is as before.
         ensures invisible { Keeps (append_known (W.contents self.old.writer.writer) (drop self.old.writer.sent self.old.writer.text.items))
             (append_known (W.contents self.new.writer.writer) (drop self.new.writer.sent self.new.writer.text.items)) }
-        // Its peer is sent nothing.
+        // The writer stays that of the same peer.
         ensures peer { W.peer self.new.writer.writer ≡ W.peer self.old.writer.writer }
         // Its peer is listened to, or it is let go, only once all of its answer was sent; or it is lost, and that is told.
         ensures whole { IsSentAt self.new.stage → self.new.writer.sent ≡ length self.new.writer.text.items }
@@ -246,7 +246,7 @@ impl<R: Inward + OpenStream, W: Outward + OpenStream> Leaving<R, W> {
         // What the writer has and what is still unsent, joined, is as before.
         ensures invisible { Keeps (append_known (W.contents self.old.writer.writer) (drop self.old.writer.sent self.old.writer.text.items))
             (append_known (W.contents self.new.writer.writer) (drop self.new.writer.sent self.new.writer.text.items)) }
-        // Its peer is sent nothing.
+        // The writer stays that of the same peer.
         ensures peer { W.peer self.new.writer.writer ≡ W.peer self.old.writer.writer }
         // Its stage stays, or is one that may follow.
         ensures stage { MayFollow self.old.stage self.new.stage }
@@ -261,7 +261,7 @@ impl<R: Inward + OpenStream, W: Outward + OpenStream> Leaving<R, W> {
         // What the writer has and what is still unsent, joined, is as before.
         ensures invisible { Keeps (append_known (W.contents self.old.writer.writer) (drop self.old.writer.sent self.old.writer.text.items))
             (append_known (W.contents self.new.writer.writer) (drop self.new.writer.sent self.new.writer.text.items)) }
-        // Its peer is sent nothing.
+        // The writer stays that of the same peer.
         ensures peer { W.peer self.new.writer.writer ≡ W.peer self.old.writer.writer }
         // Its stage stays, or is one that may follow.
         ensures stage { MayFollow self.old.stage self.new.stage }

@@ -84,10 +84,11 @@ pub fn all_unsent_bytes<R: Inward + OpenStream, W: Outward + OpenStream>(
     sum.saturating_sub(largest)
 }
 
-/// Has the next wait end when bytes come of a request that isn't whole.
+/// Has each later wait of the gate end when bytes come of a request that isn't whole, if the gate can watch it.
 pub fn watch_all<G: Gate>(gate: &mut G, slots: &mut [Slot<G::Reader, G::Writer>])
-    // Nothing is read of a request, or given up.
+    // Each connection is as it was, but for what was gathered of its request.
     ensures all { Each IsGathered slots.old slots.new }
+    // The gate gives no connection.
     ensures gate { G.gave gate.new ≡ G.gave gate.old }
 {
     for slot in slots {

@@ -228,14 +228,17 @@ impl<R: Inward, W: Outward> Slot<R, W> {
         // What was gathered and not read yet and what the reader still has, joined, is as before.
         ensures invisible { Keeps (prepend_known (drop self.old.reader.at self.old.reader.bytes.items) (R.remaining self.old.reader.reader))
             (prepend_known (drop self.new.reader.at self.new.reader.bytes.items) (R.remaining self.new.reader.reader)) }
+        // It is of the same peer.
         ensures peer { R.peer self.new.reader.reader ≡ R.peer self.old.reader.reader }
+        // Its writer stays, and so does whether its reader and writer never wait.
         ensures writer { (self.new.writer ≡ self.old.writer) × (self.new.is_limited ≡ self.old.is_limited) }
         // Once it is to be handed out nothing more is read of it, and it isn't given up.
         ensures rests { self.old.rests ≡ true →
             (self.new.rests ≡ true) × (self.new.reader ≡ self.old.reader) × (self.new.cause ≡ self.old.cause) }
         // If it is unfinished and due it is read, or it is to be handed out after this.
         ensures read { IsReadIfDue self.old self.new }
-        // When it came stays, bytes that come are heard at this time, and whether either is too long ago is seen by this time.
+        // When the request came stays. If bytes come, `now` is when bytes came last. `looked`, when lateness was last looked at, stays or
+        // becomes `now`.
         ensures times { IsTimed now self.old self.new }
     {
         if self.rests {
@@ -273,14 +276,17 @@ impl<R: Inward, W: Outward> Slot<R, W> {
         // What was gathered and not read yet and what the reader still has, joined, is as before.
         ensures invisible { Keeps (prepend_known (drop self.old.reader.at self.old.reader.bytes.items) (R.remaining self.old.reader.reader))
             (prepend_known (drop self.new.reader.at self.new.reader.bytes.items) (R.remaining self.new.reader.reader)) }
+        // It is of the same peer.
         ensures peer { R.peer self.new.reader.reader ≡ R.peer self.old.reader.reader }
+        // Its writer stays, and so does whether its reader and writer never wait.
         ensures writer { (self.new.writer ≡ self.old.writer) × (self.new.is_limited ≡ self.old.is_limited) }
         // Once it is to be handed out nothing more is read of it, and it isn't given up.
         ensures rests { self.old.rests ≡ true →
             (self.new.rests ≡ true) × (self.new.reader ≡ self.old.reader) × (self.new.cause ≡ self.old.cause) }
         // If it may be read, is unfinished and due, it is read, or it is to be handed out after this.
         ensures read { may ≡ true → IsReadIfDue self.old self.new }
-        // When it came stays, bytes that come are heard at this time, and whether either is too long ago is seen by this time.
+        // When the request came stays. If bytes come, `now` is when bytes came last. `looked`, when lateness was last looked at, stays or
+        // becomes `now`.
         ensures times { IsTimed now self.old self.new }
     {
         may && self.is_due && self.step(routes, now)

@@ -30,7 +30,8 @@ pub fn open_again<C: Disk, T, D: Disk>()
         IsLeftBy (store_of over_files crashed) image → OpensHeld image opened →
         (m : Moment) × MayBeLeft place m × HoldsMoment image m
         × IfOk opened (λ world. HasCleanDisk (store_of over_files world) → OpensAt m world) }
-    // If no World is opened, the files aren't called damaged: the store failed or memory ran out.
+    // If no World is opened, and the disk returned what was written (`IsCleanRemains`), the files aren't called damaged: the store
+    // failed or memory ran out.
     ensures refused { (crashed : World (FileStore C C.Disk)) (place : Place) (image : Image) (opened : Attempt T D D.Disk) →
         Stands over_files crashed place → IsSome (moment_of place).cells → HasCleanDisk (store_of over_files crashed) →
         IsLeftBy (store_of over_files crashed) image → RefusesHeld image opened →

@@ -59,8 +59,8 @@ pub fn serve_connection<S: Alter + Drop, R: Incoming, W: Write>(
     note.ends(served)
 }
 
-/// Takes the next connection of a source, of which so many are still to come, serves it, and gives it back to be closed; whether it was
-/// answered. If none can be taken that is noted, and nothing is done.
+/// Takes the next connection of a source, serves it, and gives it back to be closed; whether it was answered. `left` connections are
+/// still to come, this one among them. If none can be taken the note says so, and nothing is done.
 pub fn serve_next<S: Alter + Drop, A: Arrivals>(
     means: &Means<'_>,
     arrivals: &mut A,

@@ -102,7 +102,8 @@ fn put_links(fields: &mut Map<String, Value>, alloc: Global, look: &Look) -> Res
     put_object(fields, alloc, "parent", look.parent)
 }
 
-/// Puts the flags of an object, each under its key.
+/// Puts the flags of an object under the keys `f`, `player`, `programmer`, `r`, `w` and `wizard`: 1 for one that is set, and else 0. The
+/// only error is a lack of memory. `put_flags` of `page_body.rt` does the same for an entry of a page.
 fn put_flags(fields: &mut Map<String, Value>, alloc: Global, look: &Look) -> Result<(), AllocError>
     ensures { OnOk result (members_view fields.new.entries ≡ with_flags look.now (members_view fields.old.entries)) }
 {

@@ -31,7 +31,8 @@ fn put_links(
     put_object(fields, alloc, "parent", entry.parent)
 }
 
-/// Puts the flags of an object, each under its key.
+/// Puts the flags of an entry under the keys `f`, `player`, `programmer`, `r`, `w` and `wizard`: 1 for one that is set, and else 0. The
+/// only error is a lack of memory. `put_flags` of `look_body.rt` does the same for an object that is looked at.
 fn put_flags(
     fields: &mut Map<String, Value>,
     alloc: Global,

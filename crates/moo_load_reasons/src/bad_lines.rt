@@ -25,7 +25,7 @@ fn unread_bytes(alloc: Global, line: &[u8]) -> &[u8] {
 }
 
 /// Says what is wrong with a line that isn't a word and a list, by its number in the text and the reason for which loading refused it. The
-/// only error is out of memory.
+/// only error is a lack of memory.
 pub(crate) fn put_broken(
     said: &mut Said,
     line: &[u8],
@@ -117,7 +117,7 @@ fn put_value_fault(said: &mut Said, line: &[u8], fault: LiteralFault) -> Result<
     }
 }
 
-/// Says what is found where a value is wanted: the end of the line, a bad list, or a word that isn't a value. The only error is out of
+/// Says what is found where a value is wanted: the end of the line, a bad list, or a word that isn't a value. The only error is a lack of
 /// memory.
 fn put_no_value(said: &mut Said, rest: &[u8]) -> Result<(), AllocError> {
     match rest {

@@ -77,7 +77,7 @@ fn put_object_damage(
 }
 
 /// Says what is wrong with the property of a count, from 1, in the text: its definer isn't an object, or another property has its name. The
-/// only error is out of memory.
+/// only error is a lack of memory.
 fn put_property_damage(
     said: &mut Said,
     text: &[u8],

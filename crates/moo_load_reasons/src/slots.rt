@@ -25,7 +25,10 @@ fn slot_front(
     Ok(front)
 }
 
-/// Says what is wrong with the slot on an object of the property of this count, from 1, in the text. The only error is a lack of memory.
+/// Says what is wrong with the slot on an object of the property whose line is the one of this count, from 1, among the lines `property`
+/// of the dump `text`: first the line that shows it, if one does. MissingSlot: this slot is wanted there. ClearDefiner: the object
+/// defines the property, so its slot can't be clear. StrangeSlot: the object has no such property, or isn't an object. The only error is
+/// a lack of memory.
 pub(crate) fn put_slot_damage(
     said: &mut Said,
     text: &[u8],
@@ -48,7 +51,7 @@ pub(crate) fn put_slot_damage(
     put_strange_slot(said, text, object, &front)
 }
 
-/// Says that an object has no property of a slot, whose line begins with the values `front`, or isn't an object. The only error is out of
+/// Says that an object has no property of a slot, whose line begins with the values `front`, or isn't an object. The only error is a lack of
 /// memory.
 fn put_strange_slot(
     said: &mut Said,

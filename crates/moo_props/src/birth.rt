@@ -14,8 +14,9 @@ use moo_rows::{ObjRow, Rows};
 use moo_value::ObjNo;
 use std::alloc::{AllocError, Global};
 
-/// Puts the row of a new object, which has no name, no place and no rights, and makes its number the greatest that was given. An `Err` is
-/// a lack of memory.
+/// Puts the row of a new object x with this parent and owner, an empty name, no location, no accept list, and no flag or bit set, and
+/// makes x the greatest number that was given. It has no slots yet. The only error is a lack of memory, after which the rows may be half
+/// changed.
 fn put_new<R: Rows>(
     alloc: Global,
     rows: &mut R,

@@ -60,7 +60,7 @@ fn set_to(quota: i64, by: i64) -> SlotState
 }
 
 /// Adds `by` to the quota of o; nothing happens if o has none. The sum is set on o itself, and the owner and the bits of its slot stay. The
-/// only error is out of memory.
+/// only error is a lack of memory.
 pub fn change_quota<R: Rows>(rows: &mut R, o: ObjNo, by: i64) -> Result<(), AllocError>
     // The rows are those of a well formed world.
     requires good { IsGood (R.held rows.old).maps }
@@ -97,8 +97,8 @@ pub fn take_quota<R: Rows>(rows: &mut R, o: ObjNo) -> Result<(), AllocError>
     change_quota(rows, o, -1)
 }
 
-/// Gives one back to the quota of o, if it has one. A quota at the greatest integer, 9,223,372,036,854,775,807, stays. The
-/// only error is out of memory.
+/// Gives one back to the quota of o, if it has one. A quota at the greatest integer, 9,223,372,036,854,775,807, stays. The only error is
+/// a lack of memory.
 pub fn return_quota<R: Rows>(rows: &mut R, o: ObjNo) -> Result<(), AllocError>
     // The rows are those of a well formed world.
     requires { IsGood (R.held rows.old).maps }

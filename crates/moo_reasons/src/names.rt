@@ -31,8 +31,8 @@ fn distance(word: &[u8], name: &[u8]) -> usize {
     longer.saturating_sub(front.saturating_add(back))
 }
 
-/// How many bytes differ between a word and a name that it may have meant: at most two, and fewer than half of the word's. `None` if more
-/// differ.
+/// The `distance` between a word and a name, if the word may have meant it: at most two bytes, and fewer than half of the word's length.
+/// `None` if it is more.
 pub(crate) fn near_distance(word: &[u8], name: &[u8]) -> Option<usize> {
     let changed = distance(word, name);
     if changed <= MOST_CHANGED && changed.saturating_mul(2) < word.len() {

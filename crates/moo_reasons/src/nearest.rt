@@ -23,7 +23,7 @@ fn nearest<'a>(word: &MooStr, names: &'a [MooStr]) -> Option<&'a MooStr> {
 }
 
 /// Says which property a call may have meant, if it fails since there is none of the name that it gives: one whose name is disclosed. The
-/// only error is out of memory.
+/// only error is a lack of memory.
 pub(crate) fn tell_nearest(
     said: &mut Said,
     given: Given<'_>,

@@ -45,8 +45,8 @@ fn calls_granted<'a>(
     }
 }
 
-/// The list that stands for a call at a place, from 0, of the petition that a `grant` of a batch names. `None` if the petition isn't
-/// disclosed and isn't of this batch, or if it has fewer calls.
+/// The value that stands for the call at a place, from 0, of the petition that a `grant` of a batch names: for a sound call the list
+/// `{name, argument, ..}`. `None` if the petition isn't disclosed and isn't of this batch, or if it has no call at this place.
 pub(crate) fn petitioned_value<'a>(
     batch: &'a Batch,
     grant: Given<'_>,

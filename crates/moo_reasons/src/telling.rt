@@ -223,7 +223,7 @@ fn put_taken(said: &mut Said, definer: ObjNo, name: Option<&Value>) -> Result<()
     said.put(b" already")
 }
 
-/// Says that an object defines a property of the name that is disclosed, and that the new parent has one too. The only error is out of
+/// Says that an object defines a property of the name that is disclosed, and that the new parent has one too. The only error is a lack of
 /// memory.
 fn put_shared(
     said: &mut Said,

@@ -98,8 +98,9 @@ impl Whys {
         }
     }
 
-    /// Why the next batch got this reply: the call that failed, its error and the check, what there is no room for, or which call spent the
-    /// ticks. `None` for any other reply. AllocError: memory ran out.
+    /// Why the next batch, in the order of the batches, got this reply: the call that failed, its error and the check, if lines are wanted;
+    /// what there is no room for; or which call spent the ticks. `None` for any other reply, and for a refused batch if lines aren't wanted.
+    /// AllocError: memory ran out, now or for a line before.
     pub fn next(&mut self, reply: &Reply) -> Result<Option<String>, AllocError>
         ensures { IfOk result (λ line. TellsReply self.old.seen.items reply.now line self.new.seen.items) }
     {

@@ -155,8 +155,9 @@ pub(crate) fn find_rows<'s, S: Streams>(
     ensures finds { FindsRows task.entry.action (⟦<Session<'s, S> as HasRun>⟧.run session.old session.new).given result }
     ensures limit { IfOk result (λ rows. IfSome rows (λ r. r.maps.head.seq < 2 ^ 63)) }
     ensures good { IfOk result (λ rows. IfSome rows (λ r. IsGood r.maps)) }
-    // Nothing is asked of the ports, and nothing is written.
+    // The host, with its files and its ports, is as it was.
     ensures rests { session.new.host ≡ session.old.host }
+    // Nothing is written to the output.
     ensures unwritten { session.new.output ≡ session.old.output }
     // Only a dump that is `-` is read from the input.
     ensures other { is_load task.entry.action ≡ false → session.new.input ≡ session.old.input }

@@ -16,7 +16,8 @@ use moo_cli::{Usage, read_words};
 use moo_files::{Remains, WorldFiles};
 use moo_run_lines::{Failure, put_line};
 
-/// The status of what the reader of the words says: 0 for help and the version, 2 for a mistake.
+/// The exit status for what clap, which reads the words, gives as an error: 0 if it is help or the version, which clap gives as errors
+/// too, and 2 if it is a mistake in the words. A lack of memory isn't among them: `put_mistake` takes it out before.
 fn mistake_status(kind: ErrorKind) -> u8
     ensures { result ≡ mistake_status kind }
 {
@@ -26,13 +27,13 @@ fn mistake_status(kind: ErrorKind) -> u8
     }
 }
 
-/// Writes what the reader of the words says of their mistake, and takes its status: 0 for help and the version, 2 for a mistake, 4 if
-/// memory ran out.
+/// Writes what the reader of the words says of their mistake, and takes its status: 0 for help and the version, 2 for a mistake. The
+/// status is 1 if the writer fails, and 4 if memory ran out.
 fn put_mistake<'s, S: Streams>(session: &mut Session<'s, S>, error: &clap::Error)
     // If the words have this mistake, a text of its reader is written with the status of the mistake, or a line says that memory ran out.
     ensures usage { (words : List (List ℕ)) → HasKind (mistakes words) error.now →
         EndsUsage words (S.Output.contents session.old.output) (S.Output.contents session.new.output) session.new.status }
-    // Nothing is asked of the ports, and nothing is written.
+    // The host, with its files and its ports, is as it was.
     ensures host { session.new.host ≡ session.old.host }
     // Nothing is read of the input.
     ensures input { session.new.input ≡ session.old.input }
@@ -52,7 +53,7 @@ fn report_usage<'s, S: Streams>(session: &mut Session<'s, S>, usage: &Usage)
     // If the words are refused so, what is written and the status are those of words that have a mistake, or name no task.
     ensures usage { (words : List (List ℕ)) → IsRefusal words usage.now →
         EndsUsage words (S.Output.contents session.old.output) (S.Output.contents session.new.output) session.new.status }
-    // Nothing is asked of the ports, and nothing is written.
+    // The host, with its files and its ports, is as it was.
     ensures host { session.new.host ≡ session.old.host }
     // Nothing is read of the input.
     ensures input { session.new.input ≡ session.old.input }

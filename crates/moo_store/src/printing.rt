@@ -110,7 +110,8 @@ fn print_row<K, C, V: Print<K, C>>(
     }
 }
 
-/// The cells of each change of rows of one kind, with its key, over the rows before. The only error is a lack of memory.
+/// Each changed key of one kind of row, in the order of the changes, with the cells of its new row; None if the row is removed. `rows`
+/// are those before the changes. The only error is a lack of memory.
 fn print_each<K: Copy + Drop, C: Drop, V: Print<K, C>>(
     alloc: Global,
     rows: &Flat,

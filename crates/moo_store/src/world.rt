@@ -191,6 +191,7 @@ impl<S: Alter + Drop> World<S> {
 
     /// The number of the batches that were accepted, 0 to 9,223,372,036,854,775,807. The only fault is Closed.
     pub fn seq(&self) -> Result<u64, StoreFault>
+        // If the World hasn't failed, it is the number of the world's state.
         ensures number { self.now.failed ≡ false → result ≡ Ok (state_of_world self.now).seq }
         // If the World had failed, the fault is Closed.
         ensures closed { IsTrue self.now.failed → IsErrOf result StoreFault.Closed }

@@ -83,7 +83,7 @@ fn is_numbered(table: &Table, name: &[u8], tree: u32) -> bool
         && table.orders.is_empty()
 }
 
-/// Whether a key is the first two columns: in a row of the tree they come after the row's number.
+/// Whether a key is the first two columns: at the places 1 and 2, from 0, of a row of the tree, which begins with the row's number.
 fn is_pair(places: &[usize]) -> bool
     ensures { IsTrue result ↔ places.now ≡ 1 ∷ 2 ∷ [] }
 {

@@ -54,9 +54,10 @@ pub fn cells_of<S: Alter>(
 ) -> Result<Vec<Row>, Error>
     // The version has this table: one without petitions has no table of them.
     requires { HasTable version table }
-    // Nothing is written, and it fails only if the store does, or at the limit on steps.
+    // Nothing is written. If the disk is clean and the tables are of the version, it fails only if the store does, a lack of memory
+    // included, or at the limit on steps.
     ensures reads { OnlyReads version (state S.Store conn.old) (state S.Store conn.new) result }
-    // The rows are those of the table, in the order of their keys.
+    // If the disk is clean and the connection is in no transaction, the rows are those of the table, in the order of their keys.
     ensures listed { Lists version (state S.Store conn.old) (state S.Store conn.new) result
         (λ rows tables. ListsTable table rows.items tables) }
 {

@@ -42,6 +42,9 @@ pub fn one_cut()
 
 /// The items that are read one after another are those of all bytes that were given meanwhile; if the reader tells its bytes, these are
 /// all of them once it has ended. After a fault the items that were read stay the first ones.
+///
+/// A `Side` says how far a text was read: the bytes that its reader will still give, if it tells them (`left`), how many may still be
+/// read (`room`), whether the reader has ended, and the bytes that it gave and that aren't used yet. `untouched`: nothing is read yet.
 pub fn items_are_joined()
     // If nothing is read, no item is.
     ensures none { (a : Side) → ReadsItems a a [] }

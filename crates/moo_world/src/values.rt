@@ -50,7 +50,7 @@ pub fn text_list(alloc: Global, texts: Vec<MooStr>) -> Result<Value, AllocError>
     Ok(list_of(values))
 }
 
-/// An accept list, as `accept_list` answers it: the list of its objects, or 0 if there is no such list. The only error is out of
+/// An accept list, as `accept_list` answers it: the list of its objects, or 0 if there is no such list. The only error is a lack of
 /// memory.
 pub fn accept_value(alloc: Global, list: &Option<ObjList>) -> Result<Value, AllocError>
     ensures { IfOk result (λ v. v ≡ accept_value list.now) }
