@@ -54,7 +54,9 @@ impl<W: Outward> Outgoing<W> {
     /// Hands the writer the next bytes of the text, up to 262,144. Stuck if the writer takes none now; Broken if it failed, or takes
     /// no more.
     pub fn send(&mut self) -> Sending
+        // The text stays; only how much of it was sent may change.
         ensures text { self.new.text ≡ self.old.text }
+        // The peer is the same.
         ensures peer { W.peer self.new.writer ≡ W.peer self.old.writer }
         // What the writer has and what is still unsent, joined, is as before.
         ensures invisible { Keeps (append_known (W.contents self.old.writer) (drop self.old.sent self.old.text.items))

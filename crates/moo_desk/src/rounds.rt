@@ -88,6 +88,7 @@ pub fn all_unsent_bytes<R: Inward + OpenStream, W: Outward + OpenStream>(
 pub fn watch_all<G: Gate>(gate: &mut G, slots: &mut [Slot<G::Reader, G::Writer>])
     // Nothing is read of a request, or given up.
     ensures all { Each IsGathered slots.old slots.new }
+    // The gate hands out no connection by that.
     ensures gate { G.gave gate.new ≡ G.gave gate.old }
 {
     for slot in slots {

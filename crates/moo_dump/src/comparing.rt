@@ -132,6 +132,7 @@ fn after_petitions<R: Rows>(
 pub fn compare<R: Rows>(alloc: Global, rows: &R, text: &[u8]) -> Result<(), CompareFault>
     // The rows are those of a well formed world.
     requires { IsGood (R.held rows.now).maps }
+    // Without a fault the text is the dump of the rows, byte for byte.
     ensures ok { OnOk result (dump (state_of (R.held rows.now).maps) ≡ text.now) }
     // A fault names the first difference, unless memory ran out.
     ensures err { IfErr result (TellsDifference (dump (state_of (R.held rows.now).maps)) text.now) }

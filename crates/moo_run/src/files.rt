@@ -86,7 +86,7 @@ fn run_made<'s, S: Streams>(
     start: S::File,
     task: Task<'_>,
 ) -> Ends<S::File, <S::Host as WorldFiles<S::File>>::Disk>
-    // The file of the task may be looked at and opened, and the dump that it names may be read.
+    // The file of the task may be looked at and opened.
     requires may { S.Host.may_open session.old.host task.file.now }
     // The file of batches or the dump that the task names may be read.
     requires read { (path : List ℕ) → ReadsFile task path → S.Host.may_read session.old.host path }
@@ -125,7 +125,7 @@ fn run_found<'s, S: Streams>(
     start: S::File,
     task: Task<'_>,
 ) -> Ends<S::File, <S::Host as WorldFiles<S::File>>::Disk>
-    // The file of the task may be looked at and opened, and the file of batches that it names may be read.
+    // The file of the task may be looked at and opened.
     requires may { S.Host.may_open session.old.host task.file.now }
     // The file of batches or the dump that the task names may be read.
     requires read { (path : List ℕ) → ReadsFile task path → S.Host.may_read session.old.host path }
@@ -160,7 +160,7 @@ pub fn run_from<'s, S: Streams>(
     start: S::File,
     task: Task<'_>,
 ) -> Ends<S::File, <S::Host as WorldFiles<S::File>>::Disk>
-    // The file of the task may be looked at and opened, and the file of batches or the dump that it names may be read.
+    // The file of the task may be looked at and opened.
     requires may { S.Host.may_open session.old.host task.file.now }
     // The file of batches or the dump that the task names may be read.
     requires read { (path : List ℕ) → ReadsFile task path → S.Host.may_read session.old.host path }
@@ -199,7 +199,7 @@ pub(crate) fn run_task<'s, S: Streams>(
     task: Task<'_>,
     start: S::File,
 ) -> Ends<S::File, <S::Host as WorldFiles<S::File>>::Disk>
-    // The file of the task may be looked at and opened, and the file of batches or the dump that it names may be read.
+    // The file of the task may be looked at and opened.
     requires may { S.Host.may_open session.old.host task.file.now }
     // The file of batches or the dump that the task names may be read.
     requires read { (path : List ℕ) → ReadsFile task path → S.Host.may_read session.old.host path }

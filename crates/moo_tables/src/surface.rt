@@ -17,6 +17,7 @@ pub fn crash_and_open<S: Alter + Reopen + Drop>(
 ) -> Option<Connection<S>>
     // The new connection has one of the contents that a crash of the old one may leave.
     ensures opened { IfSome result (λ again. HasCleanDisk (state S.Store again) → MayOpenAs (state S.Store conn) (state S.Store again)) }
+    // The new connection is in no transaction.
     ensures outside { IfSome result (λ again. (state S.Store again).in_transaction ≡ false) }
 {
     let mut store = conn.into_store();
