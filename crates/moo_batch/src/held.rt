@@ -36,7 +36,9 @@ fn world_call_name(name: &[u8]) -> Option<CallName>
 /// The call that a value in a petition is: its name and its arguments. `None` if the value isn't a list that begins with the name of a call
 /// on the world. The arguments may still nest too deep for a call.
 pub fn held_call(held: &Value) -> Option<(CallName, &[Value])>
+    // The value spells this call: a list of its name and of its arguments.
     ensures some { IfSome result (λ call. held_call held.now ≡ Some (record { name = call.0; args = call.1.now })) }
+    // The value spells no call.
     ensures none { IfNone result (held_call held.now ≡ None) }
 {
     let values = match held {

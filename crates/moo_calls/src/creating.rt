@@ -73,7 +73,7 @@ fn charge<R: Rows>(rows: &mut R, owner: ObjNo, quota: Option<i64>) -> Result<(),
     requires left { has_one_left quota ≡ true }
     // The owner's quota is one lower, and the world is as it was otherwise.
     ensures world { OnOk result (world_in (R.held rows.new) ≡ charged (world_in (R.held rows.old)) owner) }
-    // The rows are good ones again; the sequence number and the petitions are as they were.
+    // The rows are good, what stays keeps its number, and the petitions and the count of batches are as they were.
     ensures kept { OnOk result (Keeps (R.held rows.old) (R.held rows.new)) }
     // Slots alone were written.
     ensures rest { OnOk result (IsSameButSlots (R.held rows.old).maps (R.held rows.new).maps) }

@@ -87,7 +87,7 @@ fn change_info<R: Rows>(
     // The slot on x has the owner and the rights, and the property has the new name everywhere.
     ensures world { OnOk result (let name = spelling_of (R.held rows.old).maps id in
         world_of (R.held rows.new).maps ≡ renamed_to (info_set (world_of (R.held rows.old).maps) x name owner bits) x name new) }
-    // The rows are good ones again; the sequence number and the petitions are as they were.
+    // The rows are good, what stays keeps its number, and the petitions and the count of batches are as they were.
     ensures kept { OnOk result (Keeps (R.held rows.old) (R.held rows.new)) }
 {
     set_info(alloc, rows, x, id, owner, bits)?;

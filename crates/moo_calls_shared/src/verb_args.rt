@@ -93,7 +93,9 @@ pub struct NewVerb<'a> {
 /// What `add_verb` takes. E_ARGS unless there are three arguments; E_TYPE if they aren't an object, `{owner, perms, names}` and
 /// `{dobj, prep, iobj}`.
 pub fn new_verb(args: &[Value]) -> Result<NewVerb<'_>, Code>
+    // The object; the owner, the letters and the names of the verb; and the three texts of its arguments.
     ensures ok { IfOk result (λ p. new_verb args.now ≡ Ok (p.object, (verb_info_shown p.verb, args_shown p.args))) }
+    // The error is the one of such arguments: E_ARGS for their number, else E_TYPE.
     ensures err { IfErr result (λ code. new_verb args.now ≡ Err code) }
 {
     match args {

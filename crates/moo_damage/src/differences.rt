@@ -68,6 +68,7 @@ fn difference<R: Rows>(own: &R, found: &R) -> Option<Key>
 pub fn first_difference(own: &Flat, found: &Flat) -> Option<Key>
     // They differ at that key, and agree at each one before it.
     ensures differs { IfSome result (λ key. IsFirstDifference own.now.maps found.now.maps key) }
+    // None only if both have the same rows.
     ensures same { IfNone result (own.now.maps ≡ found.now.maps) }
 {
     difference(own, found)

@@ -24,7 +24,9 @@ pub trait Question<T> {
 
 /// The place of the first item for which the answer to a question is yes. None if no item has that answer.
 pub fn first_place<T, Q: Question<T>>(items: &[T], question: &Q) -> Option<usize>
+    // The answer is yes at this place and at none before it; or, without a place, at none.
     ensures first { IsFirstPlace (Q.asks question.now) items.now result }
+    // The place is inside the list.
     ensures bound { IfSome result (λ place. place < length items.now) }
 {
     let mut place = 0;
@@ -39,7 +41,9 @@ pub fn first_place<T, Q: Question<T>>(items: &[T], question: &Q) -> Option<usize
 
 /// Whether the answer to a question is yes for one of the items at least.
 pub fn any_item<T, Q: Question<T>>(items: &[T], question: &Q) -> bool
+    // The answer isn't no for all of them.
     ensures yes { result ≡ true → ¬ (HoldsOfNone (Q.asks question.now) items.now) }
+    // The answer isn't yes for any of them.
     ensures no { result ≡ false → HoldsOfNone (Q.asks question.now) items.now }
 {
     match first_place(items, question) {

@@ -66,13 +66,16 @@ impl<R: Inward> Gathered<R> {
     /// Gathers up to 4,096 bytes of what the reader has now, and no more than `limit` in all. Whoever reads sees no difference. If none
     /// came it tells why: none are there now, the peer has ended, the reader failed, or memory ran out.
     pub fn fill(&mut self, limit: usize) -> Filled
+        // There is room for one byte at least.
         requires { length self.old.bytes.items < limit }
         // What was gathered and not read yet and what the reader still has, joined, is as before.
         ensures invisible { Keeps (prepend_known (drop self.old.at self.old.bytes.items) (R.remaining self.old.reader))
             (prepend_known (drop self.new.at self.new.bytes.items) (R.remaining self.new.reader)) }
+        // No more than `limit` bytes are gathered in all.
         ensures bound { length self.new.bytes.items ≤ limit }
         // What was gathered stays, and more may follow it.
         ensures grows { (more : List ℕ) × (self.new.bytes.items ≡ self.old.bytes.items ++ more) }
+        // Whether more may come isn't decided here, and the peer is the same.
         ensures same { (self.new.coming ≡ self.old.coming) × (R.peer self.new.reader ≡ R.peer self.old.reader) }
         // The reader was read once, unless memory ran out, and what it gave is what is told.
         ensures fills { Fills R.reads self.old self.new result }

@@ -60,7 +60,9 @@ impl<R: Inward + OpenStream + Drop, W: Outward + OpenStream + Drop> Held<R, W> {
 
     /// Whether 64 connections or more are held, so that another has no place.
     pub fn is_full(&self) -> bool
+        // Full: requests and answers together are 64 or more.
         ensures full { result ≡ true → MOST ≤ length self.now.slots.items + length self.now.leaving.items }
+        // Else they are fewer than 64.
         ensures room { result ≡ false → length self.now.slots.items + length self.now.leaving.items < MOST }
     {
         self.count() >= MOST
@@ -83,7 +85,9 @@ impl<R: Inward + OpenStream + Drop, W: Outward + OpenStream + Drop> Held<R, W> {
 
     /// Whether a connection can be ended to make room for another.
     pub fn has_spare(&self, now: Duration) -> bool
+        // One lingers, or an unfinished request came over 200 milliseconds ago.
         ensures yes { result ≡ true → ¬ (HasNoSpare now self.now) }
+        // None lingers, and no unfinished request came that long ago.
         ensures no { result ≡ false → HasNoSpare now self.now }
     {
         any_item(&self.leaving, &Lingerer) || any_item(&self.slots, &Endable { now })
@@ -183,6 +187,7 @@ impl<R: Inward + OpenStream + Drop, W: Outward + OpenStream + Drop> Held<R, W> {
         // It is let go: all of its answer was sent, or its loss is noted, once.
         ensures ends { (over.stage ≡ Done) ⊎ ((cause : Cause) × (over.stage ≡ Lost cause)) →
             LetsGo over self.old.losses self.new.losses }
+        // The requests and the answers that are held stay.
         ensures same { (self.new.leaving ≡ self.old.leaving) × (self.new.slots ≡ self.old.slots) }
     {
         if let Some(loss) = over.loss() {
@@ -209,7 +214,9 @@ impl<R: Inward + OpenStream + Drop, W: Outward + OpenStream + Drop> Held<R, W> {
     /// Whether a connection is to be handed out: its request is whole, or nothing more of it comes, and less than 32 MiB of answers are
     /// held beside the largest.
     pub fn has_whole(&self) -> bool
+        // A request is to be handed out, and less than 32 MiB of answers are held beside the largest.
         ensures yes { result ≡ true → HasWhole self.now }
+        // No request is to be handed out, or 32 MiB of answers or more are held beside the largest.
         ensures no { result ≡ false → ¬ (HasWhole self.now) }
     {
         all_unsent_bytes(&self.leaving) < BUDGET && self.is_any_ready()
@@ -239,6 +246,7 @@ impl<R: Inward + OpenStream + Drop, W: Outward + OpenStream + Drop> Held<R, W> {
     pub fn spared_time(&self, now: Duration) -> Option<Duration>
         // The result is that of the oldest one: 201 milliseconds from when it came.
         ensures oldest { OfFirst IsUnfinished (IsSpared now result) self.now.slots.items }
+        // Without an unfinished request there is none.
         ensures none { HoldsOfNone IsUnfinished self.now.slots.items → result ≡ None }
     {
         let Some(place) = first_place(&self.slots, &Unfinished) else {
@@ -269,8 +277,9 @@ impl<R: Inward + OpenStream + Drop, W: Outward + OpenStream + Drop> Held<R, W> {
         // No connection comes. More may be gathered and sent of those that are here; one goes only once its answer was sent, or the loss of
         // it is noted, once.
         ensures all { Goes self.old self.new }
-        // Each request and each answer with this mark is due, and those that were due stay so.
+        // Each request with this mark is due, and those that were due stay so.
         ensures wakes { Each (IsWokenFor (λ it. it ≡ mark)) self.old.slots.items self.new.slots.items }
+        // Each answer with this mark is due, and those that were due stay so. Nothing else of an answer changes.
         ensures answers { Each (IsAnswerWokenFor (λ it. it ≡ mark)) self.old.leaving.items self.new.leaving.items }
     {
         wake_slots(&mut self.slots, mark);
@@ -282,8 +291,9 @@ impl<R: Inward + OpenStream + Drop, W: Outward + OpenStream + Drop> Held<R, W> {
         // No connection comes. More may be gathered and sent of those that are here; one goes only once its answer was sent, or the loss of
         // it is noted, once.
         ensures all { Goes self.old self.new }
-        // Each request and each answer is due.
+        // Each request is due.
         ensures wakes { Each (IsWokenFor (λ _. ⊤)) self.old.slots.items self.new.slots.items }
+        // Each answer is due. Nothing else of an answer changes.
         ensures answers { Each (IsAnswerWokenFor (λ _. ⊤)) self.old.leaving.items self.new.leaving.items }
     {
         wake_all_slots(&mut self.slots);
@@ -295,6 +305,7 @@ impl<R: Inward + OpenStream + Drop, W: Outward + OpenStream + Drop> Held<R, W> {
         // No connection comes. More may be gathered and sent of those that are here; one goes only once its answer was sent, or the loss of
         // it is noted, once.
         ensures all { Goes self.old self.new }
+        // No request changes.
         ensures slots { self.new.slots ≡ self.old.slots }
         // While 32 MiB of answers are held beside the largest and a request is whole, the first answer that is stuck is given up; else
         // none.

@@ -271,6 +271,7 @@ impl<R: Inward + OpenStream, W: Outward + OpenStream> Leaving<R, W> {
 
     /// Gives the connection up for this cause: an answer that is still being sent is lost, and a peer isn't listened to any more.
     pub fn give_up(&mut self, cause: Cause)
+        // What was sent, what is still unsent and the route stay.
         ensures same { (self.new.writer ≡ self.old.writer) × (self.new.route ≡ self.old.route) }
         // Its stage stays, or is one that may follow.
         ensures stage { MayFollow self.old.stage self.new.stage }
@@ -288,7 +289,9 @@ impl<R: Inward + OpenStream, W: Outward + OpenStream> Leaving<R, W> {
 
     /// Whether its answer is held, and its peer took nothing of it for over 1 second.
     pub fn is_stuck(&self, now: Duration) -> bool
+        // Its answer is still being sent, and its peer took nothing of it for over 1 second.
         ensures yes { result ≡ true → IsStuck now self.now }
+        // Its answer isn't being sent, or it isn't waited for that long yet.
         ensures no { result ≡ false → ¬ (IsStuck now self.now) }
     {
         matches!(self.stage, Stage::Sending)
@@ -297,7 +300,9 @@ impl<R: Inward + OpenStream, W: Outward + OpenStream> Leaving<R, W> {
 
     /// Whether nothing more is done with the connection: it was closed, or its answer was lost.
     pub fn is_over(&self) -> bool
+        // Its answer is still being sent, or it only waits for its peer's last bytes.
         ensures holds { result ≡ false → (self.now.stage ≡ Stage.Sending) ⊎ (self.now.stage ≡ Lingering) }
+        // It was closed, or its answer was lost for some cause.
         ensures over { result ≡ true → (self.now.stage ≡ Done) ⊎ ((cause : _) × (self.now.stage ≡ Lost cause)) }
     {
         matches!(self.stage, Stage::Done | Stage::Lost(_))
@@ -313,7 +318,9 @@ impl<R: Inward + OpenStream, W: Outward + OpenStream> Leaving<R, W> {
 
     /// The route and the cause of its loss, if its answer was lost. None if it wasn't.
     pub fn loss(&self) -> Option<Loss>
+        // The route is that of the request, and the cause the one for which the answer was lost.
         ensures told { IfSome result (λ loss. (loss.route ≡ self.now.route) × (self.now.stage ≡ Lost loss.cause)) }
+        // Its answer wasn't lost for any cause.
         ensures none { IfNone result ((cause : _) → self.now.stage ≢ Lost cause) }
     {
         match self.stage {

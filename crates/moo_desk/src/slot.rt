@@ -110,7 +110,9 @@ impl<R: Inward, W: Outward> Slot<R, W> {
     ) -> Slot<R, W>
         // The reader and the writer are of one peer.
         requires { R.peer reader ≡ W.peer writer }
+        // Nothing was gathered of its request.
         ensures reader { (result.reader.reader ≡ reader) × (result.reader.bytes.items ≡ []) }
+        // Nothing is to be sent.
         ensures writer { (result.writer.writer ≡ writer) × (result.writer.sent ≡ 0) × (result.writer.text.items ≡ []) }
         // The first round after this looks at it, and it came now.
         ensures due { (result.is_due ≡ true) × (result.mark ≡ mark) × (result.since ≡ now) × (result.heard ≡ now) }
@@ -135,6 +137,7 @@ impl<R: Inward, W: Outward> Slot<R, W> {
 
     /// Has the next round look at this request, since bytes may have come.
     pub fn wake(&mut self)
+        // Nothing of the request changes but, at most, whether the next round looks at it.
         ensures same { IsOnlyWoken self.old self.new }
         ensures due { self.new.is_due ≡ true }
     {
@@ -143,7 +146,9 @@ impl<R: Inward, W: Outward> Slot<R, W> {
 
     /// Has the next round look at this request, if it has this mark.
     pub fn wake_at(&mut self, mark: usize)
+        // Nothing of the request changes but, at most, whether the next round looks at it.
         ensures same { IsOnlyWoken self.old self.new }
+        // With this mark the next round looks at it.
         ensures due { self.old.mark ≡ mark → self.new.is_due ≡ true }
     {
         self.is_due |= self.mark == mark;
@@ -151,7 +156,9 @@ impl<R: Inward, W: Outward> Slot<R, W> {
 
     /// Has each later wait of the gate end when bytes of this request come, if more are waited for, and if the gate can watch it.
     pub fn watch<G: Gate<Reader = R, Writer = W>>(&mut self, gate: &mut G)
+        // Nothing of the request changes but, at most, whether the next round looks at it.
         ensures same { IsOnlyWoken self.old self.new }
+        // The gate hands out no connection by that.
         ensures gate { G.gave gate.new ≡ G.gave gate.old }
     {
         if !self.rests && !self.is_watched {
@@ -164,9 +171,11 @@ impl<R: Inward, W: Outward> Slot<R, W> {
     pub fn give_up(&mut self, cause: Cause, now: Duration)
         // The cause holds: a read failed, its peer was silent or slow for too long, another connection needs its place, or memory ran out.
         requires { ∥ MayGiveUp R.reads self.old.reader.reader self.old.since self.old.heard now cause ∥₁ }
+        // What was gathered stays, as do the reader, the writer and whether its waits are limited.
         ensures stays { (self.new.reader.bytes ≡ self.old.reader.bytes) × (self.new.reader.at ≡ self.old.reader.at)
             × (self.new.reader.reader ≡ self.old.reader.reader) × (self.new.writer ≡ self.old.writer)
             × (self.new.is_limited ≡ self.old.is_limited) }
+        // Nothing more of it is read, it is to be handed out, and the cause is noted.
         ensures ends { (self.new.reader.coming ≡ Unread) × (self.new.rests ≡ true) × (self.new.cause ≡ cause) }
         // When it came and when bytes came last stays, so that its type can keep why it was given up.
         ensures times { (self.new.since ≡ self.old.since) × (self.new.heard ≡ self.old.heard) × (self.new.looked ≡ now) }
@@ -194,7 +203,9 @@ impl<R: Inward, W: Outward> Slot<R, W> {
     /// Whether its request is unfinished, and came over 200 milliseconds ago, so that it may be given up if another connection needs its
     /// place.
     pub fn is_endable(&self, now: Duration) -> bool
+        // It is unfinished, and came over 200 milliseconds ago.
         ensures old { result ≡ true → IsEndable now self.now }
+        // It isn't unfinished, or came later than that.
         ensures young { result ≡ false → ¬ (IsEndable now self.now) }
     {
         !self.rests && now.saturating_sub(self.since) > Duration::from_millis(GRACE)

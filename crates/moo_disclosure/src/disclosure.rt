@@ -33,9 +33,10 @@ pub fn disclosure_of<R: Rows>(
 ) -> Result<Disclosure, AllocError>
     // The rows of a call that a granted petition holds may be half changed; those of others are good ones.
     requires { is_held ≡ false → IsGood (R.held rows.now).maps }
-    // It tells the names that the call may have meant, and the name that keeps the object from its new parent.
+    // It tells the names that the call may have meant.
     ensures meant { IfOk result (λ told. is_held ≡ false →
         told.meant.items ≡ names_meant (world_of (R.held rows.now).maps) programmer call args.now reason) }
+    // It tells the name that keeps the object from its new parent.
     ensures clash { IfOk result (λ told. is_held ≡ false →
         told.clash ≡ clash_name (world_of (R.held rows.now).maps) programmer args.now reason) }
     // Of a call that a granted petition holds it tells no name.

@@ -85,6 +85,7 @@ fn put_petitions<R: Rows, W: Write>(
 pub fn dump<R: Rows, W: Write>(alloc: Global, rows: &R, output: &mut W) -> Result<(), RowsDumpFault>
     // The rows are those of a well formed world.
     requires { IsGood (R.held rows.now).maps }
+    // The dump of the rows is written after what the writer had, and nothing else.
     ensures ok { OnOk result (Appends (W.contents output.old) (W.contents output.new) (dump (state_of (R.held rows.now).maps))) }
     // At a fault the first bytes are written, some number of them.
     ensures err { OnErr result ((count : ℕ)

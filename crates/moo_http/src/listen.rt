@@ -170,6 +170,7 @@ pub fn serve_on<'a, S: Alter + Drop, A: Arrivals, C: Clock + Eprint>(
     world: &mut World<S>,
     count: u32,
 ) -> Served
+    // Each connection is counted, as answered or as failed.
     ensures count { result.answered + result.failed ≡ count }
     // The World was led on by what the connections asked that the source handed out, in their order, each of which got its answer or
     // failed, and by nothing else. So many of them were answered, and so many failed. Just the batches that they asked and that were run

@@ -74,7 +74,7 @@ fn write_flushed<W: Write>(output: &mut W, text: &str) -> Result<(), ServiceFaul
     ensures ok { OnOk result (Appends (W.contents output.old) (W.contents output.new) text.now) }
     // At a fault the beginning of it is written.
     ensures err { OnErr result (WritesFront text.now (W.contents output.old) (W.contents output.new)) }
-    // The port could be listened on.
+    // No fault is that the port can't be listened on.
     ensures fault { IfErr result (λ fault. fault ≢ ServiceFault.Port) }
 {
     if put_all(output, text.as_bytes()).is_err() {
@@ -91,7 +91,7 @@ fn say_listening<W: Write>(alloc: Global, output: &mut W, port: u16) -> Result<(
     ensures ok { OnOk result (Appends (W.contents output.old) (W.contents output.new) (listening_line port)) }
     // At a fault the beginning of it is written.
     ensures err { OnErr result (WritesFront (listening_line port) (W.contents output.old) (W.contents output.new)) }
-    // The port could be listened on.
+    // No fault is that the port can't be listened on.
     ensures fault { IfErr result (λ fault. fault ≢ ServiceFault.Port) }
 {
     let line = listening_text(alloc, port)?;
@@ -105,7 +105,7 @@ fn say_served<W: Write>(alloc: Global, output: &mut W, served: Served) -> Result
     // At a fault the beginning of it is written.
     ensures err { OnErr result (WritesFront (served_line served.answered served.failed)
         (W.contents output.old) (W.contents output.new)) }
-    // The port could be listened on.
+    // No fault is that the port can't be listened on.
     ensures fault { IfErr result (λ fault. fault ≢ ServiceFault.Port) }
 {
     let line = served_text(alloc, served.answered, served.failed)?;
@@ -128,7 +128,7 @@ pub fn serve_from<S: Alter + Drop, A: Arrivals, C: Clock + Eprint, W: Write>(
     ensures serves { AdvancesBy S.Store world.old world.new (λ from to.
         ServesFrom A.Arrivals A.Reader.Read A.Reader.fails A.Writer.Write result duty.port duty.count
         arrivals.old from arrivals.new to (W.contents output.old) (W.contents output.new)) }
-    // The port could be listened on.
+    // No fault is that the port can't be listened on.
     ensures fault { IfErr result (λ fault. fault ≢ ServiceFault.Port) }
 {
     let routes = Routes::new(tools.alloc)?;

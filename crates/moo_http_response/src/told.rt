@@ -64,6 +64,7 @@ pub fn tell<R: Rows>(alloc: Global, rows: &R, question: Question) -> Result<Told
     requires { IsGood (R.held rows.now).maps }
     // It tells what the state of the rows does.
     ensures told { IfOk result (λ told. told ≡ told_of question (state_of (R.held rows.now).maps)) }
+    // Memory can't run out for the number of accepted batches.
     ensures memory { OnErr result (TellingTakesMemory question) }
 {
     match question {

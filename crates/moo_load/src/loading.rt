@@ -72,7 +72,9 @@ fn judge_rows<R: Rows>(alloc: Global, rows: &R, text: &[u8]) -> Result<(), LoadF
 ///
 /// Its time grows in step with the text, but for the look-ups in ordered maps. The rows are held in memory once, beside the text.
 pub fn read_dump(alloc: Global, text: &[u8]) -> Result<Flat, LoadFault>
+    // The dump of the rows is the text, byte for byte.
     ensures loaded { IfOk result (λ rows. dump (state_of rows.maps) ≡ text.now) }
+    // The rows are those of a world.
     ensures good { IfOk result (λ rows. IsGood rows.maps) }
     // Fewer than 2^63 batches were accepted.
     ensures limit { IfOk result (λ rows. rows.maps.head.seq < 2 ^ 63) }

@@ -83,6 +83,7 @@ impl<'a, R: Rows> Draft<'a, R> {
         ensures maps { result.maps ≡ (R.held base.now).maps }
         // It is over these rows, has so many ticks, and calls may be made on it.
         ensures base { result.base ≡ record { maps = (R.held base.now).maps; most = ticks; is_spent = false } }
+        // No row was put or removed yet.
         ensures writes { result.writes ≡ 0 }
     {
         Draft {

@@ -274,7 +274,9 @@ impl Links {
     /// Keeps an object no longer for the links that went with its old ties, but for those that go with the ties that stay. `None` stands for
     /// no ties. Takes no memory.
     pub fn forget(&mut self, key: ObjNo, old: Option<Ties>, stays: Option<Ties>)
+        // Only this object may lose links, and none that goes with the ties that stay.
         ensures only { ForgetsOnly key stays self.old self.new }
+        // No object gets a link; and this one loses each that went with its old ties, unless it goes with those that stay.
         ensures gone { Forgets key old stays self.old self.new }
     {
         let old = match old {

@@ -109,7 +109,7 @@ pub fn keep_property(
     ensures definers { AddsAtMost (tag.0, key) (contents slot_cmp definers.old) (contents slot_cmp definers.new) }
     // Among the names nothing is lost, and at most this property is new.
     ensures names { AddsAtMost (tag, key) (contents named_cmp names.old) (contents named_cmp names.new) }
-    // The property is kept for both.
+    // The property is among both afterwards.
     ensures both { OnOk result ((has_key slot_cmp definers.new (tag.0, key) ≡ true) × (has_key named_cmp names.new (tag, key) ≡ true)) }
 {
     ordered::put(definers, (tag.0, key), ())?;

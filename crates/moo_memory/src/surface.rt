@@ -14,6 +14,7 @@ impl<'a, R: Rows> Draft<'a, R> {
         ensures maps { result.maps ≡ (R.held base.now).maps }
         // It is over these rows.
         ensures base { result.base.maps ≡ (R.held base.now).maps }
+        // No row was put or removed yet.
         ensures writes { result.writes ≡ 0 }
     {
         Draft::within(alloc, base, ENDLESS)

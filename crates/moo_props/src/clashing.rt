@@ -49,7 +49,8 @@ fn first_to_define_under<R: Rows>(rows: &R, x: ObjNo, name: &MooStr) -> Option<O
     None
 }
 
-/// The first of x, its ancestors and its descendants that defines a property of a name, if one does. Names compare without ASCII case.
+/// The first of x, its ancestors and its descendants that defines a property of a name; `None` if none does. Names compare without ASCII
+/// case.
 ///
 /// It takes no memory. The name is looked up among what x defines itself, each ancestor of it and each descendant: m log n steps for m
 /// such objects, in a world of n rows.

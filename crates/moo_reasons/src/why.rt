@@ -55,9 +55,10 @@ pub struct Whys {
 impl Whys {
     /// A request with so many ticks, of which no batch is judged yet.
     pub fn new(alloc: Global, is_wanted: bool, ticks: u32) -> Whys
-        // No batch is refused yet, and memory didn't run out.
         ensures wanted { result.is_wanted ≡ is_wanted }
+        // No refusal was seen yet.
         ensures none { result.seen.items ≡ [] }
+        // Memory hasn't run out for one.
         ensures kept { result.is_lost ≡ false }
     {
         Whys {

@@ -28,7 +28,9 @@ pub struct Halt {
 
 /// The two files of a world, of which each takes so many calls from now on, and refuses each further one.
 pub fn halting_files<D: Disk>(files: Files<D>, halt: Halt) -> Files<Fuse<D>>
+    // The log is the one given; no call on it failed yet, and it takes so many calls.
     ensures log { (inner_of result.log ≡ files.log) × IsFresh result.log × (calls_left result.log ≡ halt.log_calls) }
+    // So is the database file.
     ensures db { (inner_of result.db ≡ files.db) × IsFresh result.db × (calls_left result.db ≡ halt.db_calls) }
 {
     Files {

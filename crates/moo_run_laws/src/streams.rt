@@ -29,7 +29,9 @@ pub fn halting<'s, S: Streams>(
     session: Session<'s, S>,
     halt: Halt,
 ) -> Session<'s, HaltingStreams<S>>
+    // The host is the one given, with what it may still do.
     ensures host { result.host ≡ record { inner = session.entry.host; halt = halt } }
+    // The output is the one given, and takes so many bytes.
     ensures output { result.output ≡ record { inner = session.entry.output; bytes_left = halt.bytes } }
     ensures input { result.input ≡ session.entry.input }
 {

@@ -75,11 +75,13 @@ pub fn run_given<'s, S: Streams>(
         ⊎ RunsClosed (map string_bytes words.items) (image_at S.File.Start) result run) }
     // Only words of a task that reads the input change it.
     ensures input { IfOk words (λ words. KeepsInput (map string_bytes words.items) session.old.input session.new.input) }
-    // If they can't be read, the line says whether memory ran out, no file is opened, and nothing is asked of the ports or read.
+    // If memory runs out while they are read, the line says so.
     ensures memory { IfErr words (λ error. error_kind error ≡ ErrorKind.OutOfMemory →
         Reports Failure.OutOfMemory (S.Output.contents session.old.output) (S.Output.contents session.new.output) session.new.status) }
+    // If they can't be read for another cause, the line is that of a mistake in the words.
     ensures unread { IfErr words (λ error. error_kind error ≢ ErrorKind.OutOfMemory →
         Reports Failure.Usage (S.Output.contents session.old.output) (S.Output.contents session.new.output) session.new.status) }
+    // In both cases no file is opened, and nothing is asked of the host or read from the input.
     ensures unopened { IfErr words (λ _.
         IsUntouched result × (session.new.host ≡ session.old.host) × (session.new.input ≡ session.old.input)) }
 {

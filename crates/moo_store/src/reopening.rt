@@ -20,10 +20,12 @@ use sqlite::Alter;
 /// `crashed` is at `place` by the clause of the call that moved it (`moves` of `run_one` and `run`, that of `apply_until`), `found` is a
 /// connection that was opened on one of the contents that the crash may have left, and `opened` is what `adopt` made of that.
 pub fn a_crash_is_taken_up<S: Alter, T: Alter>()
+    // A World that is opened works at a moment that the place may leave, each cell of it, brought to the present version; if the disk
+    // returns what was written.
     ensures stands { (crashed : World S) (place : Place) (found : Held T) (opened : Adoption T) →
         IsOpenedAgain S.Store T.Store crashed place found opened → IfOk opened (λ world. HasCleanDisk (store_of T.Store world) →
         (m now : Moment) × MayBeLeft place m × IsSome m.cells × BecomesPresent m now × Stands T.Store world (Works now)) }
-    // if none is opened, the store failed or memory ran out
+    // If none is opened, the store failed or memory ran out.
     ensures refused { (crashed : World S) (place : Place) (found : Held T) (opened : Adoption T) →
         IsOpenedAgain S.Store T.Store crashed place found opened →
         IfErr opened (λ e. HasCleanDisk (state T.Store e.1) → IsOfStore e.0) }

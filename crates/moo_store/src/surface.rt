@@ -43,7 +43,7 @@ impl<S: Alter + Drop> World<S> {
         // A fault is that there was no room for the replies, and none was added; or one of a run of a batch.
         ensures fault { IfErr result (λ fault. ((fault ≡ StoreFault.OutOfMemory) × (replies.new.items ≡ replies.old.items))
             ⊎ FailsRun S.Store self.old self.new fault) }
-        // No failure of the disk is forgotten.
+        // The count of the disk's calls that failed gets no lower, and the limit on steps stays.
         ensures kept { KeepsFaults (store_of S.Store self.old) (store_of S.Store self.new) }
     {
         if self.failed {

@@ -183,7 +183,9 @@ impl<S: Alter + Drop> World<S> {
 
     /// The rows; None if the World has failed.
     pub fn good_rows(&self) -> Option<&Flat>
+        // They are those of the World, which hasn't failed, and they show a world.
         ensures rows { IfSome result (λ rows. (rows.now ≡ self.now.rows) × IsGood rows.now.maps × (self.now.failed ≡ false)) }
+        // There are none only if the World has failed.
         ensures failed { IfNone result (IsTrue self.now.failed) }
     {
         if self.failed { None } else { Some(&self.rows) }
@@ -204,6 +206,7 @@ impl<S: Alter + Drop> World<S> {
 
     /// The number of objects. Takes no memory. The only fault is Closed.
     pub fn object_count(&self) -> Result<u64, StoreFault>
+        // While the World works, it is how many objects its state has.
         ensures count { self.now.failed ≡ false → result ≡ Ok (length (objects_of (state_of_world self.now).world)) }
         // If the World had failed, the fault is Closed.
         ensures closed { IsTrue self.now.failed → IsErrOf result StoreFault.Closed }
@@ -217,6 +220,7 @@ impl<S: Alter + Drop> World<S> {
     /// The connection, with its tables.
     pub fn into_connection(self) -> Connection<S>
         ensures is { result ≡ self.connection }
+        // It is in no transaction.
         ensures outside { (state S.Store result).in_transaction ≡ false }
     {
         let World { connection, .. } = self;

@@ -77,7 +77,7 @@ pub fn migrate<S: Alter>(
 ) -> Result<(), Error>
     // A cell holds the number of the last batch as a signed number of 64 bits.
     requires limit { head.now.seq < 2 ^ 63 }
-    // The connection is in no transaction, and in none after the call.
+    // The connection is in no transaction.
     requires outside { (state S.Store conn.old).in_transaction ≡ false }
     // The connection is in no transaction afterwards.
     ensures outside { (state S.Store conn.new).in_transaction ≡ false }

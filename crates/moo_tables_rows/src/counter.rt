@@ -55,7 +55,7 @@ pub fn put_next_petition<T: Run>(tx: &mut T, next: Option<u32>) -> Result<usize,
     ensures same_reference { T.lender tx.new ≡ T.lender tx.old }
     // Nothing is committed: a crash leaves what it could leave before.
     ensures inside { StaysInside (T.state tx.old) (T.state tx.new) }
-    // If it succeeds, the table has the number that is given, or the one that it had.
+    // If it succeeds, the table has the number that is given, or the one that it had, and the other tables are as they were.
     ensures put { OnOk result (Changes (with_next_petition next) (T.state tx.old) (T.state tx.new)) }
     // It fails only if the store does, if it takes more steps than the connection allows, or if a table has no number left for a row.
     ensures cause { HasCauseIn (T.state tx.old) (T.state tx.new) result }

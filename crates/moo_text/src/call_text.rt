@@ -16,6 +16,7 @@ use std::alloc::{AllocError, Global};
 /// The values before a closing mark, which ends the line: one at least, with commas between them. The error is the first fault from left to
 /// right, or OutOfMemory.
 pub fn values_at(alloc: Global, mark: u8, bytes: &[u8]) -> Result<Args, LineFault<'_>>
+    // The bytes spell these values, up to the mark that ends the line.
     ensures ok { IfOk result (λ args. values_at mark (length bytes.now) bytes.now ≡ Some args) }
     // There is a fault, but for out of memory, only if there are no such values.
     ensures err { IfErr result (λ fault. fault ≢ OutOfMemory → values_at mark (length bytes.now) bytes.now ≡ None) }
@@ -63,6 +64,7 @@ fn call_name_of(word: &[u8]) -> Option<CallName>
 /// The call that a line of at most 262,144 bytes spells, `name(value, ...)`. The error is why it spells none: the first fault from left to
 /// right; or OutOfMemory.
 pub fn call_or_fault(alloc: Global, line: &[u8]) -> Result<Call, LineFault<'_>>
+    // The line spells this call.
     ensures ok { IfOk result (λ call. call_of line.now ≡ Some call) }
     // There is a fault, but for out of memory, only if the line spells no call.
     ensures err { IfErr result (λ fault. fault ≢ OutOfMemory → call_of line.now ≡ None) }

@@ -28,7 +28,7 @@ fn skip_batch<R: Read>(
     ensures item { IfOk result (GivesFirst (skipping number) R.remaining lines.old lines.new) }
     // No more may still be read than before.
     ensures falls { OnOk result (lines_room lines.new ≤ lines_room lines.old) }
-    // If the text ends inside the batch, nothing is left.
+    // After the end of the text, and after a batch that the end cuts off, nothing is left.
     ensures ends { IfOk result (λ item. EndsAt item (lines_side R.remaining lines.new)) }
     // A fault is Long only if one byte more was given than there was room for, and never Write.
     ensures cause { IfErr result (LinesBreakOff R.remaining lines.old lines.new) }
@@ -56,7 +56,7 @@ fn rest_of_batch<R: Read>(
     ensures item { IfOk result (GivesFirst (within header [] 1) R.remaining lines.old lines.new) }
     // No more may still be read than before.
     ensures falls { OnOk result (lines_room lines.new ≤ lines_room lines.old) }
-    // If the text ends inside the batch, nothing is left.
+    // After the end of the text, and after a batch that the end cuts off, nothing is left.
     ensures ends { IfOk result (λ item. EndsAt item (lines_side R.remaining lines.new)) }
     // A fault is Long only if one byte more was given than there was room for, and never Write.
     ensures cause { IfErr result (LinesBreakOff R.remaining lines.old lines.new) }
@@ -92,9 +92,9 @@ fn rest_of_batch<R: Read>(
 /// `next_batch`.
 fn next_item<R: Read>(alloc: Global, lines: &mut LineReader<R>) -> Result<Next, TextFault>
     ensures item { IfOk result (λ item. ReadsNext (lines_side R.remaining lines.old) (lines_side R.remaining lines.new) item) }
-    // Each item but the end takes some of the room, and after the end nothing is left.
+    // Each item but the end takes some of the room.
     ensures falls { IfOk result (λ item. item ≢ Next.End → lines_room lines.new < lines_room lines.old) }
-    // If the text ends inside the batch, nothing is left.
+    // After the end of the text, and after a batch that the end cuts off, nothing is left.
     ensures ends { IfOk result (λ item. EndsAt item (lines_side R.remaining lines.new)) }
     // A fault is Long only if one byte more was given than there was room for, and never Write.
     ensures cause { IfErr result (LinesBreakOff R.remaining lines.old lines.new) }
@@ -135,6 +135,7 @@ impl<R: Read> Feed<R> {
     pub fn new(alloc: Global, reader: R) -> Self
         // Nothing is read yet, and so many bytes may be.
         ensures side { feed_side R.remaining result ≡ untouched (R.remaining reader) LONGEST_TEXT }
+        // At most 1,073,741,824 bytes may be taken.
         ensures room { feed_room result ≡ LONGEST_TEXT }
         // There was no fault.
         ensures fresh { result.fault ≡ None }
@@ -164,14 +165,17 @@ impl<R: Read> Feed<R> {
     pub fn next_batch(&mut self) -> Result<Next, TextFault>
         // As many bytes were given as were taken of the room, and these lead from the text before to its next item and the text after.
         ensures next { IfOk result (λ item. ReadsNext (feed_side R.remaining self.old) (feed_side R.remaining self.new) item) }
-        // A fault is kept, and without one there was none before.
+        // A fault is kept.
         ensures fault { IfErr result (λ fault. self.new.fault ≡ Some fault) }
+        // Without a fault none is kept.
         ensures works { OnOk result (self.new.fault ≡ None) }
-        // After a fault it is that fault again, and nothing changes.
+        // After a fault it is that fault again.
         ensures repeats { IfSome self.old.fault (λ fault. result ≡ Err fault) }
+        // After a fault nothing is read or changed.
         ensures rests { IfSome self.old.fault (λ _. self.new ≡ self.old) }
-        // Each item but the end takes some of the room, and after the end nothing is left.
+        // Each item but the end takes some of the room.
         ensures falls { IfOk result (λ item. item ≢ Next.End → feed_room self.new < feed_room self.old) }
+        // After the end of the text, and after a batch that the end cuts off, nothing is left.
         ensures ends { IfOk result (λ item. EndsAt item (feed_side R.remaining self.new)) }
         // A first fault is Long only if one byte more was given than there was room for, and never Write.
         ensures cause { IfNone self.old.fault (IfErr result (λ fault.

@@ -112,6 +112,7 @@ fn at_of(bytes: &[u8]) -> Result<Option<u64>, LineFault<'_>>
 /// The header that a line of at most 262,144 bytes is: `batch as #N`, or `batch as #N at M`. The error is why it isn't one: the first fault
 /// from left to right; or OutOfMemory.
 pub fn read_header(alloc: Global, line: &[u8]) -> Result<Header, LineFault<'_>>
+    // The line spells this header.
     ensures ok { IfOk result (λ header. header_of line.now ≡ Some header) }
     // There is a fault, but for out of memory, only if the line isn't a header.
     ensures err { IfErr result (λ fault. fault ≢ OutOfMemory → header_of line.now ≡ None) }

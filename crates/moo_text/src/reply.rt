@@ -148,6 +148,7 @@ fn put_answer(alloc: Global, answer: &Answer, out: &mut Vec<u8>) -> Result<(), A
 
 /// Appends the lines that answer a batch of a text. The only error is a lack of memory, and it leaves the bytes as they were.
 pub fn print_answer(alloc: Global, answer: &Answer, out: &mut Vec<u8>) -> Result<(), AllocError>
+    // Just the lines of the answer are appended.
     ensures ok { OnOk result (out.new.items ≡ out.old.items ++ answer_text answer.now) }
     // After an error the bytes are as they were.
     ensures err { OnErr result (out.new.items ≡ out.old.items) }

@@ -38,6 +38,7 @@ pub fn read_call(alloc: Global, line: &[u8]) -> Result<Call, CallFault>
 
 /// Appends the lines of a reply. The only error is a lack of memory, and it leaves the bytes as they were.
 pub fn print_reply(alloc: Global, reply: &Reply, out: &mut Vec<u8>) -> Result<(), AllocError>
+    // Just the lines of the reply are appended.
     ensures ok { OnOk result (out.new.items ≡ out.old.items ++ reply_text reply.now) }
     // After an error the bytes are as they were.
     ensures err { OnErr result (out.new.items ≡ out.old.items) }

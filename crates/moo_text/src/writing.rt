@@ -11,6 +11,7 @@ use std::io::Write;
 
 /// Writes all of the bytes. An error of the writer, or a count of 0, is a fault; the first of the bytes may be written then.
 pub fn put_all<W: Write>(writer: &mut W, bytes: &[u8]) -> Result<(), WriteFault>
+    // All of the bytes are written after what the writer had, and nothing else.
     ensures ok { OnOk result (Appends (W.contents writer.old) (W.contents writer.new) bytes.now) }
     // At a fault the first bytes are written, some number of them.
     ensures err { OnErr result ((count : ℕ) × Appends (W.contents writer.old) (W.contents writer.new) (take count bytes.now)) }
@@ -28,11 +29,13 @@ pub fn put_all<W: Write>(writer: &mut W, bytes: &[u8]) -> Result<(), WriteFault>
 /// Writes the lines of an answer whole. Write if the writer fails or takes no bytes: the beginning of the lines may be written then.
 /// OutOfMemory if memory runs out: nothing is written then.
 pub fn put_answer<W: Write>(alloc: Global, writer: &mut W, answer: &Answer) -> Result<(), TextFault>
+    // All lines of the answer are written after what the writer had, and nothing else.
     ensures ok { OnOk result (Appends (W.contents writer.old) (W.contents writer.new) (answer_text answer.now)) }
     // At a fault the first bytes are written, some number of them, and none but at Write.
     ensures err { IfErr result (λ fault. (count : ℕ)
         × Appends (W.contents writer.old) (W.contents writer.new) (take count (answer_text answer.now))
         × (fault ≢ TextFault.Write → count ≡ 0)) }
+    // There are no faults but these two.
     ensures fault { IfErr result (λ fault. (fault ≡ TextFault.Write) ⊎ (fault ≡ TextFault.OutOfMemory)) }
 {
     let mut text = Vec::new(alloc);

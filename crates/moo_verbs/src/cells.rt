@@ -13,6 +13,7 @@ use moo_rows::{ObjectSpec, Preposition, PrepositionSet};
 
 /// The object specifier that the bytes spell in lower case: `this`, `any` or `none`; `None` for anything else. Takes no memory.
 pub fn read_place_cell(bytes: &[u8]) -> Option<ObjectSpec>
+    // The bytes are the text of the object specifier found.
     ensures found { IfSome result (λ place. bytes.now ≡ object_spec_text place) }
     // Each of these texts is read.
     ensures only { (place : ObjectSpec) → bytes.now ≡ object_spec_text place → result ≡ Some place }
@@ -44,6 +45,7 @@ fn set_spelled(sets: &[PrepositionSet], bytes: &[u8]) -> Option<PrepositionSet>
 /// The preposition that the bytes spell in lower case: `none`, `any`, or all phrases of a set with slashes between them;
 /// `None` for anything else, as one phrase of a set that has more. Takes no memory.
 pub fn read_prep_cell(bytes: &[u8]) -> Option<Preposition>
+    // The bytes are the text of the preposition found.
     ensures found { IfSome result (λ prep. bytes.now ≡ prep_text prep) }
     // Each of these texts is read.
     ensures only { (prep : Preposition) → bytes.now ≡ prep_text prep → result ≡ Some prep }

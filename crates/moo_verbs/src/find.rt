@@ -62,6 +62,7 @@ fn verb_named<R: Rows>(rows: &R, x: ObjNo, word: &[u8]) -> Option<VerbId>
 ///
 /// LambdaMOO Programmer's Manual, 'Operations on Verbs'.
 pub fn find_verb<R: Rows>(rows: &R, x: ObjNo, desc: &Desc) -> Option<VerbId>
+    // The rows are sound.
     requires { IsSound (R.held rows.now).maps }
     // Its place in the directory is the one that the descriptor means.
     ensures place { option_map (verb_place (R.held rows.now).maps x) result
@@ -102,6 +103,7 @@ pub struct FoundVerb<'a> {
 ///
 /// LambdaMOO Programmer's Manual, 'Operations on Verbs'.
 pub fn found_verb<'a, R: Rows>(rows: &'a R, x: ObjNo, desc: &Desc) -> Option<FoundVerb<'a>>
+    // The rows are sound.
     requires { IsSound (R.held rows.now).maps }
     // Its place and its row are those that the descriptor means.
     ensures verb { option_map (λ f. (verb_place (R.held rows.now).maps x f.id, f.row.now)) result
