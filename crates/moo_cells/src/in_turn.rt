@@ -130,7 +130,8 @@ fn take_rows<S: Alter>(
 
 /// The rows that the tables of a connection show, if they are those of a world; None if they show no world, or if memory ran out.
 ///
-/// Nothing is written. After a fault of the store the tables are as they were, unless the fault shut the connection.
+/// Nothing is written. If the tables are of the version, it fails only if the store does, or at the limit on steps. After a fault of the
+/// store the tables are as they were, unless the fault shut the connection.
 #[tactic(auto, using(moo_tables::proofs::ReadLemmas::hands_on, moo_tables::proofs::ReadLemmas::answers, moo_tables::proofs::ReadLemmas::read_then))]
 pub fn read_in_turn<S: Alter>(
     alloc: Global,

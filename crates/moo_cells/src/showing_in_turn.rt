@@ -92,7 +92,8 @@ fn show_tables<S: Alter>(
 
 /// Whether the tables of a connection are seen to show these rows; false too if memory ran out.
 ///
-/// Nothing is written. After a fault of the store the tables are as they were, unless the fault shut the connection.
+/// Nothing is written. If the tables are of the version, it fails only if the store does, or at the limit on steps. After a fault of the
+/// store the tables are as they were, unless the fault shut the connection.
 #[tactic(auto, using(moo_tables::proofs::ReadLemmas::hands_on, moo_tables::proofs::ReadLemmas::answers, moo_tables::proofs::ReadLemmas::read_then))]
 pub fn show_in_turn<S: Alter>(
     alloc: Global,

@@ -19,8 +19,8 @@ use moo_store::{StoreFault, World};
 use sqlite::{FileStore, Unknown};
 use std::alloc::Global;
 
-/// Opens the world that a file holds, as `open_from` does, for a file that nobody has read. At each refusal the file is closed; a log
-/// that an earlier run left is copied into it first.
+/// Opens the world that a file holds, as `open_from` does, for a file that nobody has read. The faults are those of `open_from`, and at
+/// each the file is closed; a log that an earlier run left is copied into it first.
 pub fn open_at<H: WorldFiles<Unknown>>(
     alloc: Global,
     host: &H,
@@ -40,7 +40,8 @@ pub fn open_at<H: WorldFiles<Unknown>>(
     }
 }
 
-/// Makes the opening world in a file, as `make_from` does, for a file that nobody has read. At each refusal the file is closed.
+/// Makes the opening world in a file, as `make_from` does, for a file that nobody has read. The faults are those of `make_from`, and at
+/// each the file is closed.
 pub fn create_at<H: WorldFiles<Unknown>>(
     alloc: Global,
     host: &H,

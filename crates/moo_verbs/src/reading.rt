@@ -20,7 +20,7 @@ fn has_word(names: &[u8]) -> bool
     names.iter().any(|byte| *byte != b' ')
 }
 
-/// Refuses the names of a verb that are empty or all spaces. Any other text is taken; a tab isn't a space.
+/// Refuses the names of a verb that are empty or all spaces, by BadNames. Any other text is taken; a tab isn't a space.
 ///
 /// LambdaMOO Programmer's Manual, 'Operations on Verbs': `add_verb`.
 pub fn check_names(names: &MooStr) -> Result<(), VerbFault>
