@@ -743,7 +743,7 @@ class Package(InFolder):
         self.assertEqual(self.web.name, f"moo-web_{ran(MOO, '--version').split()[1]}_all.deb")
         said = ran("dpkg-deb", "--field", self.web, "Depends").strip().split(", ")
         self.assertEqual(
-            said[1:], [f"moo (>= {ran(MOO, '--version').split()[1]})", "python3 (>= 3.11)", "python3-jinja2", "python3-waitress"]
+            said[1:], [f"moo (= {ran(MOO, '--version').split()[1]})", "python3 (>= 3.11)", "python3-jinja2", "python3-waitress"]
         )
         ran("dpkg-deb", "-x", self.web, self.room / "top")
         held = modes(self.room / "top")
@@ -757,7 +757,7 @@ class Package(InFolder):
         version = ran(MOO, "--version").split()[1]
         self.assertEqual(self.package.name, f"moo_{version}_{ran('dpkg', '--print-architecture').strip()}.deb")
         said = ran("dpkg-deb", "--info", self.package)
-        for line in ("Package: moo", f"Version: {version}", "Depends: libc6 (>= 2.34), adduser, python3 (>= 3.9)"):
+        for line in ("Package: moo", f"Version: {version}", "Depends: libc6 (>= 2.34), adduser, python3 (>= 3.9)", f"Breaks: moo-web (<< {version})"):
             self.assertIn(f" {line}\n", said)
         self.assertNotIn("@", re.sub(r"Maintainer: .*", "", said))
 
