@@ -736,7 +736,9 @@ class Package(InFolder):
     @staticmethod
     def make_package(folder):
         moment = {"SOURCE_DATE_EPOCH": "1700000000"}
-        return [pathlib.Path(line) for line in ran(TOP / "packaging/deb", folder, env={**os.environ, **moment, "MOO": MOO}).splitlines()]
+        lines = ran(TOP / "packaging/deb", folder, env={**os.environ, **moment, "MOO": MOO}).splitlines()
+        # Another program than the shipped one is told of.
+        return [pathlib.Path(line) for line in lines if line.endswith(".deb")]
 
     def test_the_package_of_the_front(self):
         """It has whole folders of the modules, and what it needs is said."""
