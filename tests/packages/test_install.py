@@ -751,7 +751,7 @@ class Package(InFolder):
         held = modes(self.room / "top")
         for name, mode in INSTALLED_WEB.items():
             self.assertEqual(held.pop(f"usr/{name}"), mode, name)
-        self.assertEqual({name.rpartition("/")[0] for name in held}, {"usr/share/doc/moo-web"})
+        self.assertEqual({name.rpartition("/")[0] for name in held}, {"usr/share/doc/moo-web", "usr/share/lintian/overrides"})
         self.assertEqual(os.readlink(self.room / "top/usr/lib/moo-web/moo_client.py"), "../../share/moo/moo_client.py")
         self.assertEqual(os.readlink(self.room / "top/usr/lib/moo-web/moolib"), "../../share/moo/moolib")
 
@@ -761,7 +761,7 @@ class Package(InFolder):
         said = ran("dpkg-deb", "--info", self.package)
         for line in ("Package: moo", f"Version: {version}", "Depends: libc6 (>= 2.34), adduser, python3 (>= 3.9)", f"Breaks: moo-web (<< {version})"):
             self.assertIn(f" {line}\n", said)
-        self.assertNotIn("@", re.sub(r"Maintainer: .*", "", said))
+        self.assertNotIn("@", said)
 
     def test_what_it_holds(self):
         ran("dpkg-deb", "-x", self.package, self.room / "top")
