@@ -6,8 +6,8 @@ from pathlib import Path
 from typing import Iterator
 
 TOP = Path(__file__).resolve().parents[2]
-# Who wants a file of this version says so by its name.
-PACKAGES = r"out/moo(?:-web)?_(\d[\d.]*\d)_"
+# A package is installed by the name of its file, which has the version.
+PACKAGES = r"install \./out/moo(?:-web)?_(\d[\d.]*\d)_"
 
 
 def found(file: str, pattern: str) -> list[str]:

@@ -578,6 +578,20 @@ class Rehearsal(unittest.TestCase):
         with self.assertRaises(SystemExit), unittest.mock.patch.dict(page.BLOCKS, another=("Run", "apt-get")):
             page.block("another")
 
+    def test_an_upgrade_names_its_packages(self):
+        page = sys.modules["rehearsing.page"]
+        both = "apt-get install --reinstall ./out/moo_2.0_amd64.deb ./out/moo-web_2.0_all.deb"
+        self.assertIn(both, page.of_version(page.block("upgrade both"), "2.0"))
+        self.assertEqual(page.of_version(page.block("install")[-1:], "2.0"), ["apt-get install ./out/moo_2.0_amd64.deb"])
+
+    def test_an_upgrade_on_a_debian_by_its_name(self):
+        upgrade = tool("rehearse-upgrade", TOP / "packaging")
+        self.assertEqual(upgrade.read_words(["machines"]).releases, [])
+        self.assertEqual(upgrade.read_words(["machines", "trixie"]).releases, ["trixie"])
+        with self.assertRaises(SystemExit) as raised, contextlib.redirect_stderr(io.StringIO()):
+            upgrade.read_words(["machines", "sid"])
+        self.assertEqual(raised.exception.code, 2)
+
     def test_a_drill_by_its_name(self):
         said = self.rehearse.read_words(["machines", "--from", "the clock was ahead"])
         self.assertEqual((said.folder, said.first, said.only), (pathlib.Path("machines"), "the clock was ahead", None))
