@@ -5,8 +5,7 @@ ghost use Rattle.std.specs.Str.{bytes_eq};
 ghost use Rattle.moo_store.specs.Moment.{Moment};
 ghost use Rattle.moo_store.specs.Place.{Works};
 ghost use Rattle.moo_store.specs.Moves.{Stands};
-ghost use Rattle.moo_store.specs.World.{store_of};
-ghost use Rattle.moo_run.specs.Run.{course_status, changes_world, ComesOf, EndsTask, EndsText, LeavesNothingNew};
+ghost use Rattle.moo_run.specs.Run.{course_status, changes_world, ComesOf, EndsTask, EndsText};
 
 use crate::host::BatchFiles;
 use crate::session::{HasRun, Session, Streams};
@@ -59,8 +58,8 @@ fn answer_by<C: Eprint, R: Read + Drop, W: Write, B: Alter + Drop>(
     // From the moment at which the World works, the text is answered in this manner, to its end or until it stops.
     ensures answers { (m : Moment) → Stands B.Store world.old (Works m) → EndsTask B.Store world.old world.new m (λ end.
         ComesOf manner m end (R.remaining text) (W.contents output.old) (W.contents output.new) result) }
-    // If the batches aren't run, a crash leaves nothing that it couldn't leave before.
-    ensures still { changes_world manner ≡ false → LeavesNothingNew (store_of B.Store world.old) (store_of B.Store world.new) }
+    // If the batches aren't run, nothing is asked of the store.
+    ensures still { changes_world manner ≡ false → world.new.connection ≡ world.old.connection }
 {
     match manner {
         Manner::Apply(options) => apply_until(text, output, world, options.stop, notes),
@@ -88,8 +87,8 @@ fn answer_text<C: Eprint, R: Read + Drop, W: Write, B: Alter + Drop>(
     // From the moment at which the World works, the text is answered in this manner, to its end or until it stops.
     ensures answers { (m : Moment) → Stands B.Store world.old (Works m) → EndsText B.Store world.old world.new
         ⊥ manner m (R.remaining text) (W.contents output.old) (W.contents output.new) result }
-    // If the batches aren't run, a crash leaves nothing that it couldn't leave before.
-    ensures still { changes_world manner ≡ false → LeavesNothingNew (store_of B.Store world.old) (store_of B.Store world.new) }
+    // If the batches aren't run, nothing is asked of the store.
+    ensures still { changes_world manner ≡ false → world.new.connection ≡ world.old.connection }
 {
     let done = answer_by(world, text, manner, output, &mut notes);
     notes.finish();
@@ -120,8 +119,8 @@ pub(crate) fn answer_batches<'s, S: Streams, B: Alter + Drop>(
     ensures answers { (m : Moment) → Stands B.Store world.old (Works m) →
         let run = ⟦<Session<'s, S> as HasRun>⟧.run session.old session.new in
         EndsText B.Store world.old world.new (run.given.lacks path.now) manner m (run.given.text path.now) run.before run.after result }
-    // If the batches aren't run, a crash leaves nothing that it couldn't leave before.
-    ensures still { changes_world manner ≡ false → LeavesNothingNew (store_of B.Store world.old) (store_of B.Store world.new) }
+    // If the batches aren't run, nothing is asked of the store.
+    ensures still { changes_world manner ≡ false → world.new.connection ≡ world.old.connection }
     // Nothing is asked of the ports.
     ensures rests { session.new.host ≡ session.old.host }
     // Only the text `-` is read from the input.

@@ -1,4 +1,4 @@
-use Rattle.moo_run.{proofs.Words.{codes, line_of, loaded_line}, proofs.Tasks.{says}}
+use Rattle.moo_run.{proofs.Words.{refl, sym, subst, codes, state, store_of, LeavesNothingNew, line_of, loaded_line}, proofs.Tasks.{says}}
 use Rattle.moo_dump.specs.Dump.{dump as dump_of}
 use Rattle.moo_run.proofs.commands.do_task.Goals as goal
 
@@ -12,8 +12,14 @@ returns-in-Apply-clause-ends g c m stands = rw c.in-Apply.is (rw c.in-Apply.is a
 pub returns-in-Rehearse-clause-ends : goal.returns-in-Rehearse-clause-ends
 returns-in-Rehearse-clause-ends g c m stands = rw c.in-Rehearse.is (rw c.in-Rehearse.is at (c.answer_batches-in-Rehearse.ensures.answers m stands))
 
+pub returns-in-Rehearse-clause-still : goal.returns-in-Rehearse-clause-still
+returns-in-Rehearse-clause-still g c reads = subst (λ conn. LeavesNothingNew (store_of g.B.Store c.args.world.now) (state g.B.Store conn)) (sym (c.answer_batches-in-Rehearse.ensures.still refl)) (λ clean trees may. may)
+
 pub returns-in-Ask-clause-ends : goal.returns-in-Ask-clause-ends
 returns-in-Ask-clause-ends g c m stands = rw c.in-Ask.is (c.answer_batches-in-Ask.ensures.answers m stands)
+
+pub returns-in-Ask-clause-still : goal.returns-in-Ask-clause-still
+returns-in-Ask-clause-still g c reads = subst (λ conn. LeavesNothingNew (store_of g.B.Store c.args.world.now) (state g.B.Store conn)) (sym (c.answer_batches-in-Ask.ensures.still refl)) (λ clean trees may. may)
 
 pub returns-in-Dump-clause-ends : goal.returns-in-Dump-clause-ends
 returns-in-Dump-clause-ends g c m stands =
