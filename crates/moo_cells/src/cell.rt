@@ -22,7 +22,7 @@ use crate::fault::RowFault;
 use moo_rows::{Bits, ObjectSpec, Preposition, VerbBits};
 use moo_tables::Version;
 use moo_value::{MooStr, ObjNo};
-use moo_verbs::{read_place_cell, read_prep_cell};
+use moo_verbs::{read_object_spec_cell, read_prep_cell};
 use sqlite::Row;
 use sqlite::types::ValueRef;
 use std::alloc::Global;
@@ -174,7 +174,7 @@ pub(crate) fn object_spec_at(cells: &Row, at: usize) -> Result<ObjectSpec, RowFa
     ensures ok { IfOk result (λ place. column cells.now at ≡ Text (object_spec_text place)) }
     ensures err { IfErr result (λ _. (place : ObjectSpec) → column cells.now at ≢ Text (object_spec_text place)) }
 {
-    match read_place_cell(text_at(cells, at)?) {
+    match read_object_spec_cell(text_at(cells, at)?) {
         Some(place) => Ok(place),
         None => Err(RowFault::Unreadable),
     }

@@ -41,7 +41,7 @@ pub enum DumpReason {
     /// A dump writes the letters of these rights on a verb in another way.
     VerbLetters(VerbBits),
     /// The text of this name isn't `this`, `any` or `none`.
-    NoPlace(&'static str),
+    NoObjectSpec(&'static str),
     /// The text isn't a preposition.
     NoPreposition,
     /// A dump writes this preposition in another way.

@@ -17,18 +17,18 @@ use crate::reason::DumpReason;
 use crate::value::{object_of, text_of};
 use moo_rows::{ArgSpec, ObjectSpec, Preposition, VerbBits, VerbRow};
 use moo_value::{MooStr, ObjNo, Value};
-use moo_verbs::{check_names, read_place_cell, read_prep, read_prep_cell};
+use moo_verbs::{check_names, read_object_spec_cell, read_prep, read_prep_cell};
 use std::alloc::Global;
 
-/// The specifier of a direct or an indirect object that a string spells: `this`, `any` or `none`. NoText or NoPlace, with the word `what`
-/// for the value, if it spells none.
+/// The specifier of a direct or an indirect object that a string spells: `this`, `any` or `none`. NoText or NoObjectSpec, with the word
+/// `what` for the value, if it spells none.
 fn object_spec_of(value: &Value, what: &'static str) -> LineResult<ObjectSpec>
     ensures shown { IfOk result (λ place. value.now ≡ Str (object_spec_text place)) }
     // There is a fault only if the value spells none.
     ensures err { IfErr result (λ _. (place : ObjectSpec) → value.now ≢ Str (object_spec_text place)) }
 {
-    let place = read_place_cell(text_of(value, what)?.bytes());
-    place.ok_or(LineFault::Unreadable(DumpReason::NoPlace(what)))
+    let spec = read_object_spec_cell(text_of(value, what)?.bytes());
+    spec.ok_or(LineFault::Unreadable(DumpReason::NoObjectSpec(what)))
 }
 
 /// Why a text isn't a preposition as a dump writes it: it isn't a preposition, or a dump writes the whole set.

@@ -61,7 +61,7 @@ pub(crate) fn put_row_fault(
             put_value_at(said, line, 5)?;
             said.put(" isn't a preposition")
         }
-        DumpReason::NoPlace(what) => {
+        DumpReason::NoObjectSpec(what) => {
             said.put("the ")?;
             said.put(what)?;
             said.put(" isn't \"this\", \"any\" or \"none\"")

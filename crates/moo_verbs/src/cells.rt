@@ -12,11 +12,11 @@ use crate::reading::ALL_SETS;
 use moo_rows::{ObjectSpec, Preposition, PrepositionSet};
 
 /// The object specifier that the bytes spell in lower case: `this`, `any` or `none`; `None` for anything else. Takes no memory.
-pub fn read_place_cell(bytes: &[u8]) -> Option<ObjectSpec>
+pub fn read_object_spec_cell(bytes: &[u8]) -> Option<ObjectSpec>
     // The bytes are the text of the object specifier found.
-    ensures found { IfSome result (λ place. bytes.now ≡ object_spec_text place) }
-    // Each of these texts is read.
-    ensures only { (place : ObjectSpec) → bytes.now ≡ object_spec_text place → result ≡ Some place }
+    ensures found { IfSome result (λ it. bytes.now ≡ object_spec_text it) }
+    // The text of each object specifier is read as it.
+    ensures only { (it : ObjectSpec) → bytes.now ≡ object_spec_text it → result ≡ Some it }
 {
     if bytes == b"this".as_slice() {
         return Some(ObjectSpec::This);
@@ -32,9 +32,9 @@ pub fn read_place_cell(bytes: &[u8]) -> Option<ObjectSpec>
 
 /// The first of these sets whose phrases, with slashes between them, are the bytes; `None` if no set is written so. Takes no memory.
 fn set_spelled(sets: &[PrepositionSet], bytes: &[u8]) -> Option<PrepositionSet>
-    // It is the first of them that has this text.
+    // The answer is the first of the sets whose text the bytes are.
     ensures first { result ≡ find (λ set. bytes_eq (set_text set) bytes.now) sets.now }
-    // The bytes are its text.
+    // The bytes are the text of the set found.
     ensures found { IfSome result (λ set. bytes.now ≡ set_text set) }
 {
     sets.iter()
@@ -43,11 +43,11 @@ fn set_spelled(sets: &[PrepositionSet], bytes: &[u8]) -> Option<PrepositionSet>
 }
 
 /// The preposition that the bytes spell in lower case: `none`, `any`, or all phrases of a set with slashes between them;
-/// `None` for anything else, as one phrase of a set that has more. Takes no memory.
+/// `None` for anything else, such as one phrase of a set that has more. Takes no memory.
 pub fn read_prep_cell(bytes: &[u8]) -> Option<Preposition>
     // The bytes are the text of the preposition found.
     ensures found { IfSome result (λ prep. bytes.now ≡ prep_text prep) }
-    // Each of these texts is read.
+    // The text of each preposition is read as it.
     ensures only { (prep : Preposition) → bytes.now ≡ prep_text prep → result ≡ Some prep }
 {
     if bytes == b"none".as_slice() {

@@ -11,7 +11,7 @@ mod prep;
 mod reading;
 mod surface;
 
-pub use cells::{read_place_cell, read_prep_cell};
+pub use cells::{read_object_spec_cell, read_prep_cell};
 pub use directory::{add, delete, list, set_args, set_info};
 pub use fault::VerbFault;
 pub use find::{find_verb, found_verb, verb};
