@@ -17,9 +17,9 @@ use std::alloc::Global;
 ///
 /// Errors: those of `read_literal`, and `NotALiteral` where something follows the literal in front.
 pub fn read_whole_literal(alloc: Global, bytes: &[u8]) -> Result<Value, LiteralFault>
-    // What is read is spelled so, and within the limits.
+    // The bytes are a spelling of the value that is read, and the value is within the limits.
     ensures spelled { IfOk result (λ v. Spells v bytes.now × Fits v) }
-    // What is spelled so, within the limits, is read, unless memory runs out.
+    // A value within the limits is read from each of its spellings, unless memory runs out.
     ensures only { (v : Value) → Fits v → Spells v bytes.now → Gives (λ w. w) result (Ok v) }
     // An error but a lack of memory is the first fault of the text, or NotALiteral if something follows the literal in front.
     ensures fault { IfErr result (λ f. f ≢ OutOfMemory → HasWholeFault bytes.now f) }
