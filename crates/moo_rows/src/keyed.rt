@@ -76,9 +76,10 @@ pub trait KeyedRow: Row {
     /// The row of the least key past `from`, with the key, or of the least of all if no `from` is given; `None` if there is no such row.
     /// Takes no memory.
     final fn next_row<R: Rows>(rows: &R, from: Option<Self::Key>) -> Option<(Self::Key, &Self)>
-        // The rows past `from` begin with this one, and the others are those past its key.
+        // The rows past `from` begin with the answer, and the other ones are the rows past its key.
         ensures some { IfSome result (λ r. rows_left from (map_of (R.held rows.now).maps)
             ≡ (r.0, r.1.now) ∷ rows_left (Some r.0) (map_of (R.held rows.now).maps)) }
+        // If there is no answer, no row is past `from`.
         ensures none { IfNone result (rows_left from (map_of (R.held rows.now).maps) ≡ []) }
     {
         let key = Self::next(rows, from)?;

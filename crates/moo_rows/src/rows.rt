@@ -18,20 +18,20 @@ use std::alloc::AllocError;
 ///
 /// A look-up, a next key and the head take no memory. A put or a removal that is refused, for a lack of memory alone, changes nothing.
 /// Each other one changes the row of its key and nothing else, and raises the count of writes, which only contracts see, by one.
+/// Keys are in the order of their numbers: slots and verbs by the number of the object, and on one object by their own.
 ///
-/// What judges a call of somebody's may look rows up and change them only so often: whoever goes over many rows asks between two of them
-/// whether it may go on, and answers a lack of memory if not.
+/// A call of somebody's may look rows up and change them only so often: code that goes over many rows asks between two of them whether it
+/// may go on (`go_on`), and answers a lack of memory if not.
 pub trait Rows {
     /// The head and what the maps hold, how many rows were put or removed so far, and what the rows are over.
     ghost held: { Self → Held };
 
-    /// Whether more rows may be looked up and changed: in a draft not once more ticks are spent than it has. No contract says
-    /// when not.
+    /// Whether more rows may be looked up and changed. A draft says no once more ticks are spent than it has; no contract says it.
     fn may_go_on(&self) -> bool {
         true
     }
 
-    /// Counts so many look-ups more, in a draft as ticks that are spent. No contract sees it.
+    /// Counts so many look-ups more. A draft counts them as ticks that are spent. No contract sees it.
     fn spend(&self, _ticks: u64) {}
 
     /// Whether one more call may be made on the rows. Once it is said that none may, that is never taken back.
@@ -64,8 +64,8 @@ pub trait Rows {
     fn next_linked(&self, link: Link, after: ObjNo) -> Option<ObjNo>
         ensures { IsFirst object_cmp (is_linked (held self.now).maps link) after result };
 
-    /// Appends to a list the objects past `after` that have the link, ascending. The only error is a lack of memory, after which some may be
-    /// listed.
+    /// Appends to a list the objects past `after` that have the link, ascending. The only error is a lack of memory, after which some of
+    /// them may be listed.
     fn list_linked(&self, link: Link, after: ObjNo, list: &mut Vec<ObjNo>) -> Result<(), AllocError>
         ensures { OnOk result (list.new.items ≡ list.old.items ++ map_list (λ e. e.0) (linked_left link after (held self.now).maps)) }
     {
@@ -104,7 +104,7 @@ pub trait Rows {
     /// The least property past `after` that x defines under a name, whose hash is given, or `None` if it defines no such property past it.
     /// Names compare without ASCII case.
     fn next_named(&self, x: ObjNo, name: &[u8], hash: u64, after: PropId) -> Option<PropId>
-        // Only the property whose row has the name counts: other names may have the same hash.
+        // The hash is that of the name. Other names may have it too; a property of such a name doesn't count.
         requires { hash ≡ name_hash name.now }
         ensures { IsFirst prop_cmp (is_named_by (held self.now).maps x name.now) after result };
 

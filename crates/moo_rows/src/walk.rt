@@ -102,8 +102,7 @@ impl<'a, R: Rows> Iterator for WalkOf<'a, R, PropId> {
     }
 }
 
-/// The slots of an object whose property has a greater number than `last`, with their rows, in order: from 0 on all of them. Takes no
-/// memory.
+/// The slots of an object whose property has a greater number than `last`, with their rows, in order; past 0 all slots. Takes no memory.
 pub fn each_slot_of<R: Rows>(rows: &R, object: ObjNo, last: PropId) -> WalkOf<'_, R, PropId>
     // What the walk is still to give is the slots of the object past `last`.
     ensures { slots_of_left result.object result.last (R.held result.rows.now).maps ≡ slots_of_left object last (R.held rows.now).maps }
@@ -128,7 +127,7 @@ impl<'a, R: Rows> Iterator for WalkOf<'a, R, VerbId> {
     }
 }
 
-/// The verbs of an object that have a greater number than `last`, with their rows, in order: from 0 on all of them. Takes no memory.
+/// The verbs of an object that have a greater number than `last`, with their rows, in order; past 0 all verbs. Takes no memory.
 pub fn each_verb_of<R: Rows>(rows: &R, object: ObjNo, last: VerbId) -> WalkOf<'_, R, VerbId>
     // What the walk is still to give is the verbs of the object past `last`.
     ensures { verbs_of_left result.object result.last (R.held result.rows.now).maps ≡ verbs_of_left object last (R.held rows.now).maps }
@@ -158,7 +157,7 @@ impl<'a, R: Rows> Iterator for WalkDefined<'a, R> {
     }
 }
 
-/// The properties past a number that x defines, with their rows, in order: from 0 on all of them. Takes no memory.
+/// The properties that x defines, past the number `last`, with their rows, in order; past 0 all of them. Takes no memory.
 pub fn each_defined<R: Rows>(rows: &R, x: ObjNo, last: PropId) -> WalkDefined<'_, R>
     // What the walk is still to give is the properties past `last` that x defines.
     ensures { defined_left result.definer result.last (R.held result.rows.now).maps ≡ defined_left x last (R.held rows.now).maps }
