@@ -26,13 +26,13 @@ abbrev pub KeepsNoOther : (ObjNo → Option ObjRow) → LinkSets → Type 0
 KeepsNoOther row_at sets =
     (link : Link) (x : ObjNo) → is_kept sets link x ≡ true → (is_to_nothing link ≡ false) × (row_has link (row_at x) ≡ true)
 
--- no object is kept for a link that wasn't, but for this object and the links that go with these ties, those to nothing aside
+-- no object is kept for a link that wasn't, but for this object and the links that go with its ties, those to nothing aside
 abbrev pub AddsOnly : ObjNo → Ties → LinkSets → LinkSets → Type 0
 AddsOnly key ties old new =
     (link : Link) (x : ObjNo) → is_kept new link x ≡ true →
     (is_kept old link x ≡ true) ⊎ ((x ≡ key) × ((is_to_nothing link ≡ false) × (has_link link ties ≡ true)))
 
--- no object is kept for a link that wasn't; and this object is kept for no link that went with its old ties, unless it goes with those that stay
+-- no object is kept for a link that wasn't; and this one for no link that went with its old ties, unless it goes with those that stay
 abbrev pub Forgets : ObjNo → (was stays : Option Ties) → LinkSets → LinkSets → Type 0
 Forgets key was stays old new =
     (link : Link) (x : ObjNo) → is_kept new link x ≡ true →

@@ -4,7 +4,7 @@ use Rattle.moo_rows.specs.Maps.{Maps}
 use Rattle.moo_memory.specs.declared.changes.Changes.{Changes}
 use Rattle.moo_memory.specs.Changes.{AreChanges, only_head}
 
--- from some rows to others there are no two lists of changes
+-- from some rows to others there are no two sets of changes
 abbrev pub ChangesAreUnique : Type 0
 ChangesAreUnique = (base new : Maps) (a b : Changes) → AreChanges base new a → AreChanges base new b → a ≡ b
 

@@ -96,8 +96,8 @@ fn differing_rows<R: Rows, V: KeyedRow>(
     Ok(ChangeList::from_vec(changed))
 }
 
-/// Of the changed keys those whose rows differ from the base, as `differing_rows` lists them. The only error is that memory runs out. Most
-/// drafts change rows of one map or two, so that a map without changes isn't gone over.
+/// As `differing_rows`, which it doesn't call for a map without changes: most drafts change rows of one map or two. The only error is that
+/// memory runs out.
 pub(crate) fn changed_rows<R: Rows, V: KeyedRow>(
     alloc: Global,
     base: &R,
@@ -113,7 +113,7 @@ pub(crate) fn changed_rows<R: Rows, V: KeyedRow>(
     differing_rows(alloc, base, changes)
 }
 
-/// Puts and removes the rows of one kind as a list of changes says, in its order. The only error is a lack of memory, and then some are made.
+/// Puts and removes rows of one kind as a list of changes says, in its order. After an `Err`, a lack of memory, some changes are made.
 fn apply_each<R: Rows, V: KeyedRow>(
     rows: &mut R,
     changes: ChangeList<V::Key, V>,
@@ -131,9 +131,9 @@ fn apply_each<R: Rows, V: KeyedRow>(
     Ok(())
 }
 
-/// Sets the head, and makes the changes of all five maps. The only error is a lack of memory, and then some are made.
+/// Sets the head, and makes the changes of all five maps. After an `Err`, a lack of memory, some changes are made.
 fn apply_all<R: Rows>(rows: &mut R, changes: Changes) -> Result<(), AllocError>
-    // If these are the changes from the old rows to others, the rows are those others.
+    // If `changes` are the changes from the old rows to others, the rows are those others.
     ensures { OnOk result ((new : Maps) → AreChanges (R.held rows.old).maps new changes → (R.held rows.new).maps ≡ new) }
 {
     rows.set_head(changes.head);
@@ -144,10 +144,9 @@ fn apply_all<R: Rows>(rows: &mut R, changes: Changes) -> Result<(), AllocError>
     apply_each(rows, changes.petitions)
 }
 
-/// Makes the changes in the rows that they are changes of. The only error is that memory runs out, and then some are made
-/// and some are not.
+/// Makes the changes in the rows that they are changes of. After an `Err`, a lack of memory, some changes are made.
 pub fn apply_changes(rows: &mut Flat, changes: Changes) -> Result<(), AllocError>
-    // If these are the changes from the old rows to others, the rows are those others.
+    // If `changes` are the changes from the old rows to others, the rows are those others.
     ensures { OnOk result ((new : Maps) → AreChanges rows.old.maps new changes → rows.new.maps ≡ new) }
 {
     apply_all(rows, changes)

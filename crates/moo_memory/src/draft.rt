@@ -21,7 +21,7 @@ use std::marker::Model;
 
 /// Changes over rows that stay as they are: for each changed key a new row, or `None` if it is removed.
 ///
-/// The links, definers and names are those of changed rows; those that a later change removed may still be among them.
+/// The links, definers and names are those of changed rows. Links, definers and names that a later change took away may be among them.
 #[derive(Drop)]
 pub struct Draft<'a, R: Rows> {
     alloc: Global,
@@ -79,9 +79,9 @@ impl<'a, R: Rows> Draft<'a, R> {
     /// A draft without changes, whose rows may be looked up, put and removed as often as there are ticks. Past that each put and each
     /// removal is refused.
     pub fn within(alloc: Global, base: &'a R, ticks: u64) -> Draft<'a, R>
-        // Its rows are those of the base.
+        // Its head and rows are those of the base.
         ensures maps { result.maps ≡ (R.held base.now).maps }
-        // It is over these rows, has so many ticks, and calls may be made on it.
+        // It is over the rows of the base, has so many ticks, and calls may be made on it.
         ensures base { result.base ≡ record { maps = (R.held base.now).maps; most = ticks; is_spent = false } }
         // No row was put or removed yet.
         ensures writes { result.writes ≡ 0 }
@@ -104,9 +104,9 @@ impl<'a, R: Rows> Draft<'a, R> {
         }
     }
 
-    /// How many ticks are left. No more rows were put and removed than there were ticks.
+    /// How many ticks are left, after look-ups, puts and removals; 0 once more are spent than there were.
     pub fn ticks_left(&self) -> u64
-        // What is left and what was written make no more than the draft was given.
+        // The ticks left and the puts and removals made are together no more than the ticks that the draft was given.
         ensures { result + self.now.writes ≤ self.now.base.most }
     {
         self.ticks.left_after(self.writes)

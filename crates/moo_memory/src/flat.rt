@@ -68,7 +68,7 @@ impl Model for Flat {
 impl Flat {
     /// No rows: the greatest object number is -1, the next property, verb and petition are 1, and no batch was accepted.
     pub fn new(alloc: Global) -> Flat
-        // There are no rows.
+        // There are no rows, and the head is as said above.
         ensures maps { result.maps ≡ no_maps }
         // No row was put or removed yet.
         ensures writes { result.writes ≡ 0 }

@@ -2,12 +2,12 @@
 
 ghost use Rattle.moo_memory.specs.Laws.{ChangesAreUnique, ChangesGiveTheRows, UndoneIsNoChange};
 
-/// The changes from some rows to others are one list, they determine the rows that they lead to, and rows that are as
-/// they were have none.
+/// Two sets of rows determine the changes from one to the other, and one set and the changes determine the other. A row that is as it was
+/// isn't among the changes.
 pub fn changes_are_exact()
-    // From some rows to others there is one list of changes.
+    // From some rows to others there are no two sets of changes.
     ensures unique { ChangesAreUnique }
-    // From some rows a list of changes leads to one set of rows.
+    // From some rows the same changes lead to no two sets of rows.
     ensures rows { ChangesGiveTheRows }
     // If only the head differs, no row is in the changes.
     ensures undone { UndoneIsNoChange }

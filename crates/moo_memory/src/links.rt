@@ -1,4 +1,4 @@
-//! Objects by their links, and properties by who defines them: those that may have one, whose rows are still to be looked at.
+//! Objects that may have a link, and properties that an object may define; their rows are still to be looked at.
 
 ghost use Rattle.std.specs.Prelude.{◌≡◌, ◌≢◌, ◌⊎◌, ◌↔◌, true, false, Some, option_map, IfOk, IfSome, IsTrue, OnOk};
 ghost use Rattle.moo_value.specs.declared.value.ObjNo.{ObjNo};
@@ -15,8 +15,8 @@ use std::alloc::{AllocError, Global};
 use std::collections::BTreeMap;
 use std::marker::Model;
 
-/// Which objects may have a link. Those that have it are among them, whoever keeps this; others may be too. A link to `#-1` each
-/// object may have: hardly anybody asks for those, and most objects have one, so that none is kept for it.
+/// Which objects may have a link: each that has it, and maybe others. A link to `#-1` any object may have: most objects have one, and
+/// hardly anybody asks for it, so no object is kept for it.
 #[derive(Drop)]
 pub struct Links {
     parents: BTreeMap<(ObjNo, ObjNo), ()>,
@@ -50,7 +50,7 @@ pub fn ties_of(row: Option<&ObjRow>) -> Option<Ties>
     }
 }
 
-/// Whether the old ties are these too: they aren't if there was no row.
+/// Whether there were old ties, and `ties` equals them.
 pub fn same_ties(old: Option<Ties>, ties: Ties) -> bool
     ensures { IsTrue result ↔ (old ≡ Some ties) }
 {
@@ -163,7 +163,7 @@ impl Links {
         }
     }
 
-    /// Equal links. The only error is a lack of memory.
+    /// Links that keep the same objects. The only error is a lack of memory.
     pub fn copy(&self) -> Result<Links, AllocError>
         ensures { IfOk result (λ copy. copy ≡ self.now) }
     {
@@ -185,8 +185,8 @@ impl Links {
         }
     }
 
-    /// The least object past `after` that is to be looked at for the link, or `None` if there is none: of all that are held if the link is to
-    /// `#-1`, else of those that are kept for it. Takes no memory.
+    /// The least object past `after` that is to be looked at for the link, or `None` if there is none: of all held objects if the link is
+    /// to `#-1`, else of those that are kept for it. Takes no memory.
     pub fn next<V>(&self, held: &BTreeMap<ObjNo, V>, link: Link, after: ObjNo) -> Option<ObjNo>
         ensures { IsFirst object_cmp (is_candidate self.now (contents object_cmp held.now) link) after result }
     {
@@ -197,9 +197,9 @@ impl Links {
         }
     }
 
-    /// The pairs that tell who is kept for a link to an object, and that object; `None` for one to `#-1`, and for that of players.
+    /// The pairs that tell who is kept for a link to an object, and that object; `None` for a link to `#-1`, and for that of players.
     pub fn pairs_of(&self, link: Link) -> Option<(&BTreeMap<(ObjNo, ObjNo), ()>, ObjNo)>
-        // An object is paired with the one that is answered exactly if it is kept for the link.
+        // If there are pairs, the link isn't to `#-1`, and an object is paired with the one that is answered exactly if it is kept for it.
         ensures { IfSome result (λ p. (is_to_nothing link ≡ false)
             × ((key : ObjNo) → has_key tie_cmp p.0.now (p.1, key) ≡ is_kept self.now link key)) }
     {
@@ -213,13 +213,13 @@ impl Links {
         }
     }
 
-    /// Keeps an object for a link; for one to `#-1` nothing is kept. The only error is a lack of memory.
+    /// Keeps an object for a link; for a link to `#-1` nothing is kept. The only error is a lack of memory.
     fn add_one(&mut self, link: Link, key: ObjNo) -> Result<(), AllocError>
         // Each object that might have a link still may.
         ensures others { (l : Link) (q : ObjNo) → may_have self.new l q ≡ false → may_have self.old l q ≡ false }
-        // The object may have the link.
+        // Without an error, the object may have the link.
         ensures there { OnOk result (may_have self.new link key ≡ true) }
-        // No object is kept for a link that wasn't, but for this object and this link.
+        // No object is kept for a link that wasn't, but for this object and this link, if that isn't to `#-1`.
         ensures only { (l : Link) (q : ObjNo) → is_kept self.new l q ≡ true →
             (is_kept self.old l q ≡ true) ⊎ ((q ≡ key) × ((l ≡ link) × (is_to_nothing l ≡ false))) }
     {
@@ -233,13 +233,13 @@ impl Links {
         }
     }
 
-    /// Keeps an object for the links that go with these ties. The only error is a lack of memory, after which it may be kept for some of them.
+    /// Keeps an object for the links that go with these ties. After an `Err`, a lack of memory, it may be kept for some of the links.
     pub fn add(&mut self, key: ObjNo, ties: Ties) -> Result<(), AllocError>
         // Each object that might have a link still may.
         ensures others { (l : Link) (q : ObjNo) → may_have self.new l q ≡ false → may_have self.old l q ≡ false }
-        // The object may have each link that goes with the ties.
+        // Without an error, the object may have each link that goes with the ties.
         ensures there { OnOk result ((l : Link) → has_link l ties ≡ true → may_have self.new l key ≡ true) }
-        // No object is kept for a link that wasn't, but for this object and the links that go with the ties.
+        // No object is kept for a link that wasn't, but for this object and the links of the ties, those to `#-1` aside.
         ensures only { AddsOnly key ties self.old self.new }
     {
         self.add_one(Link::ChildOf(ties.parent), key)?;
@@ -252,7 +252,7 @@ impl Links {
 
     /// Keeps an object for a link no longer, unless the link goes with the ties that stay. Takes no memory.
     fn forget_one(&mut self, link: Link, key: ObjNo, stays: Option<Ties>)
-        // Nothing else is lost: each object that might have a link still may.
+        // Only this object may lose links, and none that goes with the ties that stay.
         ensures only { ForgetsOnly key stays self.old self.new }
         // No object is kept for a link that wasn't; and this object is kept for this link only if that goes with the ties that stay.
         ensures gone { (l : Link) (q : ObjNo) → is_kept self.new l q ≡ true →
@@ -271,12 +271,12 @@ impl Links {
         }
     }
 
-    /// Keeps an object no longer for the links that went with its old ties, but for those that go with the ties that stay. `None` stands for
-    /// no ties. Takes no memory.
+    /// Keeps an object no longer for the links that went with its old ties, unless they go with the ties that stay. `None` stands for no
+    /// ties. Takes no memory.
     pub fn forget(&mut self, key: ObjNo, old: Option<Ties>, stays: Option<Ties>)
         // Only this object may lose links, and none that goes with the ties that stay.
         ensures only { ForgetsOnly key stays self.old self.new }
-        // No object gets a link; and this one loses each that went with its old ties, unless it goes with those that stay.
+        // No object is kept for a link that wasn't; and this one for none that went with its old ties, unless it goes with those that stay.
         ensures gone { Forgets key old stays self.old self.new }
     {
         let old = match old {

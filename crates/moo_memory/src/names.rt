@@ -1,5 +1,4 @@
-//! Properties by their names: those that may have one, whose rows are still to be looked at. They are kept by tag, a definer and the
-//! hash of a name.
+//! Properties that may have a name, and whose rows are still to be looked at. They are kept by tag: a definer, and the hash of a name.
 
 ghost use Rattle.std.specs.Prelude.{◌≡◌, ◌↔◌, true, Some, option_map, IsTrue, OnOk};
 ghost use Rattle.moo_rows.specs.declared.row.PropId.{PropId};
@@ -97,8 +96,8 @@ pub fn forget_tagged(
     ordered::remove(names, (was, key));
 }
 
-/// Keeps a property for its definer and for its tag, which has the definer too. The only error is a lack of memory, after which it may be kept
-/// for one of them.
+/// Keeps a property for its definer and for its tag, which has the definer too. The only error is a lack of memory, after which it may be
+/// kept for its definer alone.
 pub fn keep_property(
     definers: &mut BTreeMap<(ObjNo, PropId), ()>,
     names: &mut BTreeMap<((ObjNo, u64), PropId), ()>,
@@ -109,7 +108,7 @@ pub fn keep_property(
     ensures definers { AddsAtMost (tag.0, key) (contents slot_cmp definers.old) (contents slot_cmp definers.new) }
     // Among the names nothing is lost, and at most this property is new.
     ensures names { AddsAtMost (tag, key) (contents named_cmp names.old) (contents named_cmp names.new) }
-    // The property is among both afterwards.
+    // Without an error, the property is among both.
     ensures both { OnOk result ((has_key slot_cmp definers.new (tag.0, key) ≡ true) × (has_key named_cmp names.new (tag, key) ≡ true)) }
 {
     ordered::put(definers, (tag.0, key), ())?;

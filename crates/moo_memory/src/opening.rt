@@ -50,7 +50,7 @@ fn put_row<R: Rows>(
     key: ObjNo,
     row: Result<ObjRow, AllocError>,
 ) -> Result<(), AllocError>
-    // The row that was made is put.
+    // A row that was made is put.
     ensures { OnOk result ((wanted : ObjRow) → IfOk row (λ row. row ≡ wanted) →
         R.held rows.new ≡ with_object (R.held rows.old) key wanted) }
 {
@@ -60,9 +60,9 @@ fn put_row<R: Rows>(
 /// Puts the rows that a new world begins with if there are none: the system object, the root class, the first room and the
 /// wizard. The only error is a lack of memory, and some of them may be there then.
 pub fn put_opening<R: Rows>(rows: &mut R, alloc: Global) -> Result<(), AllocError>
-    // If there were no rows, the rows are those that a new world begins with.
+    // If there were no rows, and the head was that of no rows, the rows are those that a new world begins with.
     ensures maps { OnOk result ((R.held rows.old).maps ≡ no_maps → (R.held rows.new).maps ≡ opening_maps) }
-    // What the rows are over stays.
+    // The base stays: what the rows are over, how many may be put or removed, and whether it was said that no more calls are to be made.
     ensures base { OnOk result ((R.held rows.new).base ≡ (R.held rows.old).base) }
 {
     let mut head = rows.head();

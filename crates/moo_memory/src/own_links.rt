@@ -43,7 +43,8 @@ impl OwnLinks {
         }
     }
 
-    /// Keeps a changed object for the links that go with these ties, except those that it has in the base. The only error is a lack of memory.
+    /// Keeps a changed object for the links that go with these ties. Nothing is kept for the object that was changed first, nor if the ties
+    /// are as in the base. The only error is a lack of memory.
     pub(crate) fn add<R: Rows>(
         &mut self,
         base: &R,
@@ -52,7 +53,7 @@ impl OwnLinks {
     ) -> Result<(), AllocError>
         // Each object that might have a link still may.
         ensures others { (l : Link) (q : ObjNo) → may_have_own self.new l q ≡ false → may_have_own self.old l q ≡ false }
-        // The object may have each link that goes with the ties, unless it has that link in the base.
+        // Without an error, the object may have each link that goes with the ties, unless it has that link in the base.
         ensures there { OnOk result ((l : Link) → has_link l ties ≡ true → is_linked (R.held base.now).maps l key ≡ false →
             may_have_own self.new l key ≡ true) }
     {

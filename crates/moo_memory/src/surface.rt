@@ -10,9 +10,9 @@ use std::alloc::Global;
 impl<'a, R: Rows> Draft<'a, R> {
     /// A draft without changes, whose rows may be looked up, put and removed without a bound.
     pub fn new(alloc: Global, base: &'a R) -> Draft<'a, R>
-        // Its rows are those of the base.
+        // Its head and rows are those of the base.
         ensures maps { result.maps ≡ (R.held base.now).maps }
-        // It is over these rows.
+        // It is over the rows of the base.
         ensures base { result.base.maps ≡ (R.held base.now).maps }
         // No row was put or removed yet.
         ensures writes { result.writes ≡ 0 }

@@ -8,7 +8,7 @@ use std::cell::Cell;
 pub const ENDLESS: u64 = u64::MAX;
 
 /// So many rows may be looked up, put or removed: a tick each. Contracts see how many rows are put and removed, of which there are no more
-/// than ticks. What is spent on look-ups too is in a cell, which no contract sees.
+/// than ticks. How many ticks are spent in all is in a cell, which no contract sees.
 #[derive(Drop)]
 pub struct Ticks {
     pub(crate) most: u64,
@@ -36,7 +36,7 @@ impl Ticks {
         self.spent.get() <= self.most
     }
 
-    /// Spends a tick on a put or a removal, after so many of them, and tells whether it may be made.
+    /// Spends a tick on a put or a removal, of which `writes` were made before, and tells whether it may be made.
     pub(crate) fn may_put(&self, writes: u64) -> bool
         ensures { IsTrue result → writes < self.now.most }
     {
@@ -44,7 +44,7 @@ impl Ticks {
         self.are_enough() && writes < self.most
     }
 
-    /// How many ticks are left after so many puts and removals, and after all that was spent on look-ups too.
+    /// How many ticks are left: the lesser of those that are unspent, and of those that aren't needed for `writes` puts and removals.
     pub(crate) fn left_after(&self, writes: u64) -> u64
         ensures { writes ≤ self.now.most → result + writes ≤ self.now.most }
     {
