@@ -40,13 +40,13 @@ CallsLead programmer (call ∷ calls) old new =
     (answer : Value) × (mid : Maps) × (batch_call (state_of old) programmer call ≡ Done answer (state_of mid)) × IsGood mid
     × CallKeepsNumbers (is_grant call.name) programmer call.args old mid × CallsLead programmer calls mid new
 
--- the calls of the batch do, and the batch is counted
+-- the calls of the batch lead from rows to rows, and the batch is counted
 abbrev pub BatchLeads : Batch → Maps → Maps → Type 0
 BatchLeads batch old new =
     (last : Maps) × CallsLead batch.programmer batch.calls old last
     × (new ≡ record last { head = record (last.head) { seq = old.head.seq + 1 } })
 
--- no batch gives a number again
+-- no batch gives a number again: numbers of properties and verbs stay, and those of petitions
 abbrev pub BatchesKeepNumbers : Type 0
 BatchesKeepNumbers =
     (batch : Batch) (old new : Maps) → BatchLeads batch old new → NumbersStay old new × PetitionsStay (state_of old) (state_of new)

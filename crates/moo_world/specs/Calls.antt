@@ -5,25 +5,25 @@
 -- order of the checks: it is that of the lines here. Accept lists are this server's own.
 --
 -- How to read a definition:
---   `f : A → B → C`     a function of an A and a B that gives a C. `f a b` is its value. Of several lines for it the first that fits counts; a
+--   `f : A → B → C`     a function of an A and a B that gives a C. `f a b` is its value. Of several lines the first that fits counts; a
 --                       plain name or `_` fits anything. `λ x. e` is the function that gives e for x.
---   `Type 0`            a kind of thing, such as `Slot` or `Name`; or a statement, such as `Chain world object list`. A `Bool` is true or false
+--   `Type 0`            a kind of thing, as `Slot` or `Name`; or a statement, as `Chain world object list`. A `Bool` is true or false
 --                       by computation. `abbrev`, `unfoldable` and `pub` matter to proofs and other files only.
---   `record T`, `data T`  the fields of a T, or the forms that it may have. `record { a = x; .. }` has these fields, `record r { a = x }` is r
+--   `record T`, `data T`  the fields of a T, or its forms. `record { a = x; .. }` has these fields, `record r { a = x }` is r
 --                       with x in its field a, and `r.a` is the field. `p.0` and `p.1` are the parts of a pair.
 --   `object.0`          the number of an object, `id.0` that of a petition; `record { 0 = n }` is the object number n.
 --   `ℕ`, `ℤ`            numbers from 0, and all integers: `pos n` is n, `negsuc n` is -1 - n. `suc n` is n + 1.
---   `x ∷ xs`, `[]`, `++`  the list with x first and then xs, the empty list, one list after another. `map` changes each, `filter` keeps those
---                       that pass, `find` gives the first that passes, `list_any` and `list_all` say whether one or all pass, `flat_map` joins
---                       the lists of each, `filter_map` keeps what is found of each.
+--   `x ∷ xs`, `[]`, `++`  the list with x first and then xs, the empty list, one list after another. `map` changes each, `filter` keeps
+--                       those that pass, `find` gives the first that passes, `list_any` and `list_all` say whether one or all pass,
+--                       `flat_map` joins the lists of each, `filter_map` keeps what is found of each.
 --   `if c then a else b`, `cond c a b`  a if c is true, else b. `elim e [ P ↦ a | .. ]` is a if e has the form P, and so on.
 --   `a ≡ b`, `a ≢ b`, `¬ P`, `P ⊎ Q`  a is b, a isn't b, not P, P or Q. `A × B` is both of two statements, and the pairs of two kinds.
---   `P → Q`, `P ↔ Q`    if P then Q; if and only if. `(x : A) → P` says P of each x of A, `(x : A) × P` of some x of A. `{x : A}` is left to be
---                       found. `Decides t P`: the test t is true if P holds, else false.
---   `do`                the lines are steps. `require c else R`: if c isn't true the call fails for the reason R, whose error is `error_of R`
+--   `P → Q`, `P ↔ Q`    if P then Q; if and only if. `(x : A) → P` says P of each x of A, `(x : A) × P` of some x of A. `{x : A}` is left
+--                       to be found. `Decides t P`: the test t is true if P holds, else false.
+--   `do`                the lines are steps. `require c else R`: if c isn't true, the call fails for R, whose error is `error_of R`
 --                       (Reasons). `x ← found or_else R`: x is what was found, or the call fails for R if it is `None`. `x ← given r` and
 --                       `x ← taken_for r`: x is what r holds, or the call fails with its error or for its reason.
---                       `x ← with_next n` and `require_room c`: if no number is left the outcome is `Full`. `Done a w` answers a and leaves w.
+--                       `x ← with_next n` and `require_room c`: `Full` if no number is left. `Done a w` answers a and leaves w.
 use Rattle.std.specs.Prelude.{nat_le, not, ◌||◌, List, [], length, Option, None, Some, unwrap_or, if◌then◌else◌}
 use Rattle.std.specs.Option.{option_and_then}
 use Rattle.moo_value.specs.declared.value.ObjNo.{ObjNo}

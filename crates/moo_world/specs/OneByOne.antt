@@ -53,12 +53,12 @@ abbrev pub MoveAsRecycled : World → ObjNo → ObjNo → List ObjNo → Type 0
 MoveAsRecycled world object parent children =
     MayMoveOneByOne world children parent × (taken_out (moved_one_by_one world children parent) object ≡ recycled world object)
 
--- in any order the children may be moved so
+-- in any order the children may be moved one by one, as `MoveAsRecycled` says
 abbrev pub ChildrenMoveOneByOne : Type 0
 ChildrenMoveOneByOne = (world : World) (object parent : ObjNo) (children : List ObjNo) → IsWellFormed world →
     parent_of world object ≡ Some parent → AreChildren world object children → MoveAsRecycled world object parent children
 
--- in ascending order the children may be moved so
+-- in ascending order the children may be moved one by one, as `MoveAsRecycled` says
 abbrev pub ChildrenMoveAscending : Type 0
 ChildrenMoveAscending = (world : World) (object parent : ObjNo) → IsWellFormed world → parent_of world object ≡ Some parent →
     MoveAsRecycled world object parent (children_of world object)

@@ -10,6 +10,7 @@ use Rattle.moo_world.specs.declared.reason.Reason.TheVariants.{NoPropertyName, N
 use Rattle.moo_world.specs.declared.reason.Reason.TheVariants.{PropertyPerms, NoVerb, NoVerbR, NoVerbW, VerbPerms, VerbNames, VerbArgs}
 use Rattle.moo_world.specs.declared.reason.Reason.TheVariants.{LongList, Unnamed, NotFew, Unasked, Deep, NoPetition, NotAsker}
 
+-- the error with which a call fails for a reason
 abbrev pub error_of : Reason → Code
 error_of (Given code) = code
 error_of NoProgrammer = E_PERM

@@ -92,12 +92,12 @@ abbrev pub held_call : Value → Option Call
 held_call (a_list values) = call_in (spread values)
 held_call other = None
 
--- One of them, made by the wizard who grants the petition. `petition` lets in calls on the world alone. E_INVARG comes only if another tool
--- wrote something else into the file.
+-- A call that a petition holds, made by the wizard who grants the petition. `petition` lets in calls on the world alone. E_INVARG comes
+-- only if another tool wrote something else into the file.
 abbrev pub held_step : World → ObjNo → Value → Outcome World
 held_step world programmer held = elim (held_call held) [ None ↦ fails Unasked | Some call ↦ world_call world programmer call ]
 
--- all of them from this place on, one after another, up to the first that fails
+-- the calls that a petition holds, from this place on, one after another, up to the first that fails
 abbrev pub held_steps : ℕ → World → ObjNo → List Value → Outcome World
 held_steps place world programmer [] = Done zero world
 held_steps place world programmer (held ∷ rest) = elim (held_step world programmer held) [
@@ -116,7 +116,7 @@ asked state programmer calls = record state {
   next_petition = state.next_petition + 1;
 }
 
--- each of them is a call on the world
+-- each of the values is a call on the world
 abbrev pub are_on_world : Values → Bool
 are_on_world calls = list_all (λ held. is_some (held_call held)) (spread calls)
 
@@ -139,7 +139,7 @@ petition state programmer calls = do
 abbrev pub listed : PetitionId × PetitionRow → Value
 listed (id, row) = list_of (Int (pos id.0) ∷ Obj row.who ∷ a_list row.calls ∷ [])
 
--- all of them for a wizard, else the programmer's own, in the order of their numbers
+-- all petitions for a wizard, else the programmer's own, in the order of their numbers
 abbrev pub petitions : State → ObjNo → Outcome State
 petitions state programmer = Done (list_of (map listed (filter
     (λ (id, row). is_wizard state.world programmer || same_object row.who programmer) (entries state.petitions)))) state

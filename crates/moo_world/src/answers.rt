@@ -25,7 +25,7 @@ impl Model for Answers {
 }
 
 impl Answers {
-    /// The answers that these values are, in the order of the calls. Takes no memory.
+    /// The answers, given in the order of the calls. Takes no memory.
     pub fn from_vec(items: Vec<Value>) -> Answers
         ensures { result ≡ items.items }
     {

@@ -93,7 +93,7 @@ impl CallName {
     /// Every call once, in the order of the enum.
     pub fn all() -> &'static [CallName]
         ensures all { result.now ≡ all_names }
-        // No other call has the name of one of them.
+        // For each call, the list has exactly one call of its name: itself.
         ensures once { (name : CallName) → filter (λ other. same_text (spelling name) (spelling other)) result.now ≡ name ∷ [] }
     {
         &ALL
@@ -171,7 +171,7 @@ impl CallName {
     /// The call that the bytes name, in any case; `None` if they name no call.
     pub fn read(bytes: &[u8]) -> Option<CallName>
         ensures call_name_of { result ≡ call_name_of bytes.now }
-        // It is a call exactly if the bytes in lower case are its name.
+        // The answer is a call exactly if the bytes in lower case are its name.
         ensures one { (name : CallName) → (result ≡ Some name) ↔ (folded bytes.now ≡ spelling name) }
     {
         CallName::first_spelled(bytes)

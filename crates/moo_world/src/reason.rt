@@ -5,8 +5,8 @@ ghost use Rattle.moo_world.specs.Reasons.{error_of};
 
 use moo_value::{Code, ObjNo};
 
-/// Which check of a call failed, with the numbers that it failed for. What it says of a name, a verb, a text or a petition is said of
-/// that which the call was given.
+/// Which check of a call failed, with the numbers of the objects for which it failed. The name, the verb, the text or the petition is the
+/// one that the call was given.
 #[derive(Clone, Copy)]
 pub enum Reason {
     /// E_ARGS, or E_TYPE: the call isn't given so many values, or values of another type.
@@ -15,7 +15,7 @@ pub enum Reason {
     NoProgrammer,
     /// E_PERM: the programmer isn't a wizard.
     NoWizard,
-    /// E_INVARG.
+    /// E_INVARG: there is no such object.
     NoObject(ObjNo),
     /// E_INVIND: the object of `get` or `set` isn't one.
     NoTarget(ObjNo),
@@ -27,7 +27,7 @@ pub enum Reason {
     NotControlled(ObjNo),
     /// E_PERM: it isn't fertile, and not controlled.
     NotFertile(ObjNo),
-    /// E_PERM: only a wizard makes another one the owner.
+    /// E_PERM: only a wizard makes somebody else the owner.
     NoOwner(ObjNo),
     /// E_PERM: r of the object is 0, and it isn't controlled.
     NoObjectR(ObjNo),
@@ -93,7 +93,7 @@ pub enum Reason {
     Deep,
     /// E_INVARG: there is no such petition.
     NoPetition,
-    /// E_PERM: another one asks for the petition.
+    /// E_PERM: another programmer asks for the petition.
     NotAsker,
 }
 
