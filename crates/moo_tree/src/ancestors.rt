@@ -14,9 +14,9 @@ use moo_value::ObjNo;
 use std::alloc::{AllocError, Global};
 use std::collections::BTreeMap;
 
-/// x and its ancestors, the root last; an empty list if x isn't an object. The only error is a lack of memory.
+/// x and its ancestors, the root last; an empty list if x isn't an object. The only error is a lack of memory, or of ticks (`go_on`).
 pub fn chain<R: Rows>(alloc: Global, rows: &R, x: ObjNo) -> Result<Vec<ObjNo>, AllocError>
-    // Parents and locations are objects or `#-1`, without loops.
+    // Parents and locations are objects or `#-1`, without loops, and each object has a number that was given.
     requires { IsTree (world_of (R.held rows.now).maps) }
     ensures { IfOk result (λ v. v.items ≡ chain (world_of (R.held rows.now).maps) x) }
 {
@@ -31,13 +31,14 @@ pub fn chain<R: Rows>(alloc: Global, rows: &R, x: ObjNo) -> Result<Vec<ObjNo>, A
 }
 
 /// x and its ancestors as the keys of a map, in which objects are looked up; an empty map if x isn't an object. The chain is climbed
-/// once: m log m steps for a chain of m objects. The only error is a lack of memory. As any single climb it goes on when the ticks are spent.
+/// once: m log m steps for a chain of m objects. The only error is a lack of memory. As `is_under`, and not as `chain`, it goes on when
+/// the ticks are spent.
 pub fn chain_keys<R: Rows>(
     alloc: Global,
     rows: &R,
     x: ObjNo,
 ) -> Result<BTreeMap<ObjNo, ()>, AllocError>
-    // Parents and locations are objects or `#-1`, without loops.
+    // Parents and locations are objects or `#-1`, without loops, and each object has a number that was given.
     requires { IsTree (world_of (R.held rows.now).maps) }
     // The keys are the objects of the chain of x.
     ensures { IfOk result (λ found. (y : ObjNo) →
@@ -52,10 +53,10 @@ pub fn chain_keys<R: Rows>(
     Ok(keys)
 }
 
-/// Whether x is an object that is `ancestor` or has it as an ancestor. Takes no memory. It climbs from x to the root at most: if many
-/// are asked for of one x, take its `chain_keys`, and if of one ancestor, what is under that by `owners_under`.
+/// Whether x is an object that is `ancestor` or has it as an ancestor. Takes no memory. It climbs from x to the root at most. To ask of
+/// many ancestors of one x, take its `chain_keys`; to ask of many objects under one ancestor, take `owners_under`.
 pub fn is_under<R: Rows>(rows: &R, x: ObjNo, ancestor: ObjNo) -> bool
-    // Parents and locations are objects or `#-1`, without loops.
+    // Parents and locations are objects or `#-1`, without loops, and each object has a number that was given.
     requires { IsTree (world_of (R.held rows.now).maps) }
     ensures { result ≡ is_among ancestor (chain (world_of (R.held rows.now).maps) x) }
 {

@@ -13,12 +13,12 @@ use moo_rows::Rows;
 use moo_value::ObjNo;
 use std::alloc::{AllocError, Global};
 
-/// The object that is as many steps above x as there are objects in the chain of other, or the number that ends the chain of x if that chain
-/// is shorter. Takes no memory.
+/// The object that is as many steps above x as there are objects in the chain of other, or the number that ends the chain of x if that
+/// chain is shorter. Takes no memory.
 fn up_along<R: Rows>(rows: &R, x: ObjNo, other: ObjNo) -> ObjNo
-    // Parents and locations are objects or `#-1`, without loops.
+    // Parents and locations are objects or `#-1`, without loops, and each object has a number that was given.
     requires { IsTree (world_of (R.held rows.now).maps) }
-    // Its chain is that of x without as many objects as the chain of other has.
+    // The chain of the answer is that of x without its first objects, as many as the chain of other has.
     ensures { chain (world_of (R.held rows.now).maps) result
         ≡ drop (length (chain (world_of (R.held rows.now).maps) other)) (chain (world_of (R.held rows.now).maps) x) }
 {
@@ -34,12 +34,12 @@ fn up_along<R: Rows>(rows: &R, x: ObjNo, other: ObjNo) -> ObjNo
     at
 }
 
-/// Climbs from x to the depth of other: x itself if its chain is no longer than that of other, and else its ancestor whose chain is as long.
-/// Takes no memory.
+/// Climbs from x to the depth of other: x itself if its chain is no longer than that of other, and else its ancestor whose chain is as
+/// long. Takes no memory.
 fn climb_to_depth_of<R: Rows>(rows: &R, x: ObjNo, other: ObjNo) -> ObjNo
-    // Parents and locations are objects or `#-1`, without loops.
+    // Parents and locations are objects or `#-1`, without loops, and each object has a number that was given.
     requires { IsTree (world_of (R.held rows.now).maps) }
-    // Its chain is that of x without the objects that are too many.
+    // The chain of the answer is that of x without its first objects, as many as it has more than the chain of other.
     ensures { chain (world_of (R.held rows.now).maps) result
         ≡ drop (length (chain (world_of (R.held rows.now).maps) x) - length (chain (world_of (R.held rows.now).maps) other))
         (chain (world_of (R.held rows.now).maps) x) }
@@ -48,10 +48,10 @@ fn climb_to_depth_of<R: Rows>(rows: &R, x: ObjNo, other: ObjNo) -> ObjNo
     up_along(rows, x, beyond)
 }
 
-/// The first of new and its ancestors that is a proper ancestor of x, or `#-1` if there is no such object. No more steps are taken
-/// than a few times as many as the two stand deep. LambdaMOO Programmer's Manual, 'Fundamental Operations on Objects': `chparent`.
+/// The first of new and its ancestors that is a proper ancestor of x, or `#-1` if there is no such object. It takes a few times as many
+/// steps as the two objects stand deep. LambdaMOO Programmer's Manual, 'Fundamental Operations on Objects': `chparent`.
 pub fn common<R: Rows>(rows: &R, x: ObjNo, new: ObjNo) -> ObjNo
-    // Parents and locations are objects or `#-1`, without loops.
+    // Parents and locations are objects or `#-1`, without loops, and each object has a number that was given.
     requires { IsTree (world_of (R.held rows.now).maps) }
     ensures { result ≡ common (world_of (R.held rows.now).maps) x new }
 {
@@ -74,11 +74,11 @@ pub fn common<R: Rows>(rows: &R, x: ObjNo, new: ObjNo) -> ObjNo
     nothing()
 }
 
-/// x and its descendants, ascending; an empty list if x isn't an object. The only error is a lack of memory.
+/// x and its descendants, ascending; an empty list if x isn't an object. The only error is a lack of memory, or of ticks (`go_on`).
 ///
-/// Only what is under x is looked at: m log n steps for m objects there among n of the world, however deep they stand.
+/// It looks only at what is under x: m log n steps for m objects there among n of the world, however deep they stand.
 pub fn subtree<R: Rows>(alloc: Global, rows: &R, x: ObjNo) -> Result<Vec<ObjNo>, AllocError>
-    // Parents and locations are objects or `#-1`, without loops.
+    // Parents and locations are objects or `#-1`, without loops, and each object has a number that was given.
     requires { IsTree (world_of (R.held rows.now).maps) }
     ensures { IfOk result (λ v. v.items ≡ subtree_of (world_of (R.held rows.now).maps) x) }
 {

@@ -25,13 +25,13 @@ fn visit<R: Rows>(
     found: &mut BTreeMap<ObjNo, ObjNo>,
     below: &mut Vec<ObjNo>,
 ) -> Result<(), AllocError>
-    // Parents and locations are objects or `#-1`, without loops.
+    // Parents and locations are objects or `#-1`, without loops, and each object has a number that was given.
     requires tree { IsTree (world_of (R.held rows.now).maps) }
     requires object { is_object (world_of (R.held rows.now).maps) y ≡ true }
-    // Found is y too, with its owner.
+    // Without an error, y is among the found objects too, with its owner.
     ensures found { OnOk result ((row : ObjRow) → get (R.held rows.now).maps.objects y ≡ Some row →
         contents object_cmp found.new ≡ insert (contents object_cmp found.old) y row.owner) }
-    // The children of y are still to be visited.
+    // The children of y are appended to the objects that are to be visited.
     ensures below { OnOk result (below.new.items ≡ below.old.items ++ children_of (world_of (R.held rows.now).maps) y) }
 {
     let row = match rows.object(y) {
@@ -43,15 +43,15 @@ fn visit<R: Rows>(
 }
 
 /// x and its descendants, each with its owner; an empty map if x isn't an object. It goes down level by level, so that the work grows with
-/// what is found, and not with the world. The only error is a lack of memory.
+/// what is found, and not with the world. The only error is a lack of memory, or of ticks (`go_on`).
 pub(crate) fn owner_map_under<R: Rows>(
     alloc: Global,
     rows: &R,
     x: ObjNo,
 ) -> Result<BTreeMap<ObjNo, ObjNo>, AllocError>
-    // Parents and locations are objects or `#-1`, without loops.
+    // Parents and locations are objects or `#-1`, without loops, and each object has a number that was given.
     requires { IsTree (world_of (R.held rows.now).maps) }
-    // It has x and each object under it, and nothing else, each with its owner.
+    // The map has x and each object under x, each with its owner, and nothing else.
     ensures { IfOk result (λ found. IsOwnerMap (R.held rows.now).maps x (contents object_cmp found)) }
 {
     let mut found = BTreeMap::new(alloc);
@@ -72,13 +72,13 @@ pub(crate) fn owner_map_under<R: Rows>(
 }
 
 /// x and its descendants, ascending, each with its owner; an empty list if x isn't an object. It costs what `subtree` does. An `Err` is a
-/// lack of memory.
+/// lack of memory, or of ticks (`go_on`).
 pub fn owners_under<R: Rows>(
     alloc: Global,
     rows: &R,
     x: ObjNo,
 ) -> Result<Vec<(ObjNo, ObjNo)>, AllocError>
-    // Parents and locations are objects or `#-1`, without loops.
+    // Parents and locations are objects or `#-1`, without loops, and each object has a number that was given.
     requires { IsTree (world_of (R.held rows.now).maps) }
     ensures { IfOk result (λ v. v.items ≡ owners_under (R.held rows.now).maps x) }
 {
