@@ -8,7 +8,7 @@ use Rattle.moo_world.specs.Objects.{Name, folded}
 use Rattle.moo_world.specs.Matching.{is_star, matches}
 use Rattle.moo_world.specs.VerbReading.{phrases, prep_of}
 
--- each phrase of a set is read as that set, so no phrase is in two
+-- each phrase of a set is read as that set, so no phrase is in two sets
 abbrev pub PhrasesAreRead : Type 0
 PhrasesAreRead = (set : PrepositionSet) → map prep_of (phrases set) ≡ map (λ phrase. Some (Set set)) (phrases set)
 
@@ -17,7 +17,7 @@ abbrev pub MatchesStar : Name → Name → Name → Type 0
 MatchesStar front behind word =
     (rest : Name) × (folded word ≡ folded front ++ rest) × ((behind ≡ []) ⊎ ((tail : Name) × (folded behind ≡ rest ++ tail)))
 
--- a name with a star matches a word exactly so, and its first star is the one that counts
+-- a name with a star matches a word exactly as `MatchesStar` says of its first star
 abbrev pub StarsMatch : Type 0
 StarsMatch = (front behind word : Name) → list_any is_star front ≡ false →
     Decides (matches (front ++ 42 ∷ behind) word) (MatchesStar front behind word)

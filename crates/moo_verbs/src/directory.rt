@@ -12,10 +12,11 @@ use moo_rows::{ArgSpec, Row, Rows, VerbBits, VerbId, VerbRow, each_verb_of};
 use moo_value::{MooStr, ObjNo};
 use std::alloc::{AllocError, Global};
 
-/// The names strings of the verbs of x, whole as given, in the order of the directory. The only error is a lack of memory.
+/// The names of each verb of x, as one string, in the order of the directory. The only error is a lack of memory.
 ///
 /// LambdaMOO Programmer's Manual, 'Operations on Verbs': `verbs`.
 pub fn list<R: Rows>(alloc: Global, rows: &R, x: ObjNo) -> Result<Vec<MooStr>, AllocError>
+    // The rows are sound.
     requires { IsSound (R.held rows.now).maps }
     ensures { IfOk result (λ names. names.items ≡ map (λ v. v.names) (directory_of (world_of (R.held rows.now).maps) x)) }
 {
@@ -35,22 +36,22 @@ pub fn add<R: Rows>(rows: &mut R, x: ObjNo, verb: VerbRow) -> Result<VerbId, All
     requires good { IsGood (R.held rows.old).maps }
     // x is an object.
     requires object { is_object (world_of (R.held rows.old).maps) x ≡ true }
-    // A number is left for it.
+    // A number is left for the verb.
     requires left { (R.held rows.old).maps.head.next_verb < 4294967295 }
     // Its names aren't empty or all spaces.
     requires names { has_word verb.names ≡ true }
     // The answer is the number that was to be the next.
     ensures id { IfOk result (λ id. id.0 ≡ (R.held rows.old).maps.head.next_verb) }
-    // Of the rows of verbs only its own is new.
+    // Of the rows of verbs only that of the new verb is new.
     ensures verbs { OnOk result
         ((R.held rows.new).maps.verbs ≡ insert (R.held rows.old).maps.verbs (x, verb_id (R.held rows.old).maps.head.next_verb) verb) }
-    // The world has the verb more, the last of the directory of x.
+    // The world has one verb more, the last in the directory of x.
     ensures world { OnOk result
         (world_of (R.held rows.new).maps ≡ verb_added (world_of (R.held rows.old).maps) x verb) }
-    // The rows are good, what stays keeps its number, and the petitions and the count of batches are as they were.
+    // The rows are those of a well formed world; what stays keeps its number; petitions, count of batches and what the rows are over stay.
     ensures kept { OnOk result (Keeps (R.held rows.old) (R.held rows.new)) }
 {
-    // The limits that the types of the names and the owner keep are known of what was read.
+    // What the types of the names and the owner keep is known once they are read.
     let _names = verb.names.bytes();
     let _owner = verb.owner.0;
     let mut head = rows.head();
@@ -73,9 +74,9 @@ pub fn delete<R: Rows>(rows: &mut R, x: ObjNo, id: VerbId) -> Result<(), AllocEr
     ensures world { OnOk result
         (world_of (R.held rows.new).maps
         ≡ verb_removed (world_of (R.held rows.old).maps) x (verb_place (R.held rows.old).maps x id)) }
-    // Of the rows of verbs only its own is gone.
+    // Of the rows of verbs only that of the verb is gone.
     ensures verbs { OnOk result ((R.held rows.new).maps.verbs ≡ remove (R.held rows.old).maps.verbs (x, id)) }
-    // The rows are good, what stays keeps its number, and the petitions and the count of batches are as they were.
+    // The rows are those of a well formed world; what stays keeps its number; petitions, count of batches and what the rows are over stay.
     ensures kept { OnOk result (Keeps (R.held rows.old) (R.held rows.new)) }
 {
     rows.remove_verb((x, id))?;
@@ -103,10 +104,10 @@ pub fn set_info<R: Rows>(
     ensures world { OnOk result
         (world_of (R.held rows.new).maps
         ≡ verb_info_set (world_of (R.held rows.old).maps) x (verb_place (R.held rows.old).maps x id) owner bits names) }
-    // The rows are good, what stays keeps its number, and the petitions and the count of batches are as they were.
+    // The rows are those of a well formed world; what stays keeps its number; petitions, count of batches and what the rows are over stay.
     ensures kept { OnOk result (Keeps (R.held rows.old) (R.held rows.new)) }
 {
-    // The limits that their types keep are known of what was read.
+    // What the types of the names and the owner keep is known once they are read.
     let _names = names.bytes();
     let _owner = owner.0;
     let args = match rows.verb((x, id)) {
@@ -141,7 +142,7 @@ pub fn set_args<R: Rows>(
     ensures world { OnOk result
         (world_of (R.held rows.new).maps
         ≡ verb_args_set (world_of (R.held rows.old).maps) x (verb_place (R.held rows.old).maps x id) args) }
-    // The rows are good, what stays keeps its number, and the petitions and the count of batches are as they were.
+    // The rows are those of a well formed world; what stays keeps its number; petitions, count of batches and what the rows are over stay.
     ensures kept { OnOk result (Keeps (R.held rows.old) (R.held rows.new)) }
 {
     let mut row = match rows.verb((x, id)) {

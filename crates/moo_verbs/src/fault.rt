@@ -1,4 +1,4 @@
-//! Why something said of a verb is refused.
+//! Why what is given for a verb is refused.
 
 /// What is wrong with the names, the rights or the arguments that a call gives for a verb.
 #[derive(Clone, Copy)]

@@ -14,7 +14,7 @@ use moo_rows::{Rows, VerbId, VerbRow, each_verb_of};
 use moo_value::{MooStr, ObjNo};
 use moo_world::Desc;
 
-/// The place, from 0, that a number, from 1, has in a directory; `None` for a number below 1.
+/// The place in a directory, from 0, that a number, from 1, means; `None` for a number below 1.
 fn place_numbered(number: &i64) -> Option<usize>
     ensures { result ≡ place_numbered number.now }
 {
@@ -27,7 +27,7 @@ fn place_numbered(number: &i64) -> Option<usize>
 
 /// The verb of x that comes after `count` others in its directory; `None` if the directory ends before it. Takes no memory.
 fn verb_after<R: Rows>(rows: &R, x: ObjNo, count: usize) -> Option<VerbId>
-    // Of all its verbs, in order, it is the one at that place.
+    // Of the verbs of x past the number 0, in order, it is the one after `count` others.
     ensures { result
         ≡ option_map (λ e. e.0.1) (slice_get (verbs_of_left x (record { 0 = 0 }) (R.held rows.now).maps) count) }
 {
@@ -46,7 +46,7 @@ fn has_matching_name(row: &VerbRow, word: &[u8]) -> bool
 
 /// The first verb of x one of whose names matches a word; `None` if no verb of x has such a name. Takes no memory.
 fn verb_named<R: Rows>(rows: &R, x: ObjNo, word: &[u8]) -> Option<VerbId>
-    // Of all its verbs, in order, it is the first that matches.
+    // Of the verbs of x past the number 0, in order, it is the first one of whose names matches.
     ensures { result
         ≡ option_map (λ e. e.0.1)
         (find (λ e. one_matches e.1.names word.now) (verbs_of_left x (record { 0 = 0 }) (R.held rows.now).maps)) }
@@ -57,17 +57,17 @@ fn verb_named<R: Rows>(rows: &R, x: ObjNo, word: &[u8]) -> Option<VerbId>
     }
 }
 
-/// The verb of x that a descriptor names: at a number from 1 on in the directory, or the first verb of x itself one of whose
-/// names matches a word. `None` for a number outside the directory and a word that no verb matches.
+/// The verb of x that a descriptor names: the one at a number, from 1, in the directory, or the first one of whose names matches a word.
+/// `None` for a number outside the directory, and for a word that no verb of x matches.
 ///
 /// LambdaMOO Programmer's Manual, 'Operations on Verbs'.
 pub fn find_verb<R: Rows>(rows: &R, x: ObjNo, desc: &Desc) -> Option<VerbId>
     // The rows are sound.
     requires { IsSound (R.held rows.now).maps }
-    // Its place in the directory is the one that the descriptor means.
+    // The place in the directory of the verb found is the one that the descriptor names; none is found if it names none.
     ensures place { option_map (verb_place (R.held rows.now).maps x) result
         ≡ described (world_of (R.held rows.now).maps) x desc.now }
-    // x has it.
+    // x has the verb found.
     ensures held { IfSome result (λ id. has_verb (R.held rows.now).maps x id ≡ true) }
 {
     match desc {
@@ -81,7 +81,9 @@ pub fn find_verb<R: Rows>(rows: &R, x: ObjNo, desc: &Desc) -> Option<VerbId>
 
 /// The row of a verb that x has, by its number. Takes no memory.
 pub fn verb<R: Rows>(rows: &R, x: ObjNo, id: VerbId) -> &VerbRow
+    // The rows are sound.
     requires sound { IsSound (R.held rows.now).maps }
+    // x has the verb.
     requires held { has_verb (R.held rows.now).maps x id ≡ true }
     ensures { Some result.now
         ≡ verb_at (world_of (R.held rows.now).maps) x (verb_place (R.held rows.now).maps x id) }
@@ -105,10 +107,10 @@ pub struct FoundVerb<'a> {
 pub fn found_verb<'a, R: Rows>(rows: &'a R, x: ObjNo, desc: &Desc) -> Option<FoundVerb<'a>>
     // The rows are sound.
     requires { IsSound (R.held rows.now).maps }
-    // Its place and its row are those that the descriptor means.
+    // The place in the directory and the row of the verb found are those that the descriptor names; none is found if it names none.
     ensures verb { option_map (λ f. (verb_place (R.held rows.now).maps x f.id, f.row.now)) result
         ≡ found_verb (world_of (R.held rows.now).maps) x desc.now }
-    // x has it.
+    // x has the verb found.
     ensures held { IfSome result (λ f. has_verb (R.held rows.now).maps x f.id ≡ true) }
 {
     match find_verb(rows, x, desc) {

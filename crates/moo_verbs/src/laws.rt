@@ -9,9 +9,9 @@ pub fn phrases_hold()
 
 /// A name with a star matches the words that the manual says, and a name without a star the word that is the name, each in any case.
 pub fn matching_holds()
-    // A name with a star matches a word that begins with the part before the star, if the rest of the word begins the part after it, or
-    // if nothing is after the star.
+    // A name with a star matches exactly the words that begin with the part before its first star, and whose rest begins the part after
+    // it, or is anything if that part is empty; in any case.
     ensures stars { StarsMatch }
-    // A name without a star matches the word that is the name.
+    // A name without a star matches exactly the word that is the name, in any case.
     ensures names { NamesMatch }
 {}

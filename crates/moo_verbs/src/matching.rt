@@ -4,7 +4,7 @@ ghost use Rattle.std.specs.Prelude.{◌≡◌, ◌==◌, ◌<◌, length, take, 
 ghost use Rattle.std.specs.List.{position};
 ghost use Rattle.moo_world.specs.Matching.{same_name, begins_with, matches_around, matches, one_matches};
 
-/// Whether two names are equal but for the case of their letters.
+/// Whether two names are equal but for the case of their ASCII letters.
 #[tactic(auto, unfolding(moo_world::specs::Objects::same_text, moo_world::specs::Objects::folded))]
 pub(crate) fn same_name(a: &[u8], b: &[u8]) -> bool
     ensures { result ≡ same_name a.now b.now }
@@ -60,9 +60,9 @@ fn matches_around(front: &[u8], behind: &[u8], word: &[u8]) -> bool
     behind.is_empty() || begins_with(behind, past_front(word, front))
 }
 
-/// Whether a name of a verb matches a word, in any case. A name without a star matches itself alone. If it has one, the
-/// text before the first star must stand, and the rest of the word begins the text after that star, or is anything where
-/// that text is empty. So `foo*bar` matches `foo`, `foob`, `fooba` and `foobar`.
+/// Whether a name of a verb matches a word, in any case. A name without a star matches itself alone. A name with a star matches a word
+/// that begins with the text before the first star, and whose rest begins the text after that star, or is anything if that text is empty.
+/// So `foo*bar` matches `foo`, `foob`, `fooba` and `foobar`.
 ///
 /// LambdaMOO Programmer's Manual, 'Verbs on Objects' in the chapter on the database.
 pub fn matches(name: &[u8], word: &[u8]) -> bool

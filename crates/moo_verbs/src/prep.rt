@@ -1,4 +1,4 @@
-//! The prepositions of verbs, and the texts of the other arguments.
+//! The texts of prepositions, and of object specifiers.
 
 ghost use Rattle.std.specs.Prelude.{◌≡◌, Some};
 ghost use Rattle.moo_value.specs.Text.{IsText};
@@ -47,7 +47,7 @@ pub fn print_prep(prep: Preposition) -> &'static str
     }
 }
 
-/// The text of a direct or an indirect object: `this`, `any` or `none`.
+/// The text of an object specifier: `this`, `any` or `none`.
 ///
 /// LambdaMOO Programmer's Manual, 'Operations on Verbs': `verb_args`.
 #[tactic(auto, unfolding(moo_world::specs::Objects::same_text, moo_world::specs::Objects::folded))]

@@ -1,4 +1,4 @@
-//! What is said of a verb, as it is read: its names, its rights and its arguments.
+//! Reading what is given for a verb: its names, its rights and its arguments.
 
 ghost use Rattle.std.specs.Prelude.{◌≡◌, ◌==◌, Ok, Err, ok_or, if◌then◌else◌};
 ghost use Rattle.moo_value.specs.Text.{IsText};
@@ -46,7 +46,7 @@ pub fn bits_letters(bits: VerbBits) -> &'static str
     bits.letters()
 }
 
-/// Every set, in the order of their texts.
+/// Every set, in the order of the enum.
 pub(crate) const ALL_SETS: [PrepositionSet; 15] = [
     PrepositionSet::With,
     PrepositionSet::At,
