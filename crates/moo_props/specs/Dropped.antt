@@ -47,7 +47,7 @@ verb_left maps object key = if same_object object key.0 then None else get maps.
 abbrev pub heir : Maps → ObjNo → ObjNo
 heir maps object = unwrap_or (option_map (λ row. row.parent) (get maps.objects object)) nothing
 
--- the object is gone; in another's row it is replaced as parent by its own parent, and as place by nothing
+-- the object is gone; in another's row it is replaced as parent by its own parent, and as location by nothing
 abbrev pub row_left : Maps → ObjNo → ObjNo → Option ObjRow
 row_left maps object other =
     if same_object object other then None else option_map (released_row object (heir maps object)) (get maps.objects other)
@@ -67,7 +67,7 @@ pub record ListsDropped (old : Maps) (object : ObjNo) (dropped : Dropped) : Type
   pub relinked_order : AreAscending object_cmp dropped.relinked
   pub had : ArePresent old.slots (dropped_keys old object)
 
--- The slots that go are gone, the objects that were linked to it are still there, and each row is the one that is left by this end.
+-- The slots that go are gone, the objects that were linked to the object are still there, and each row is the one that its end leaves.
 pub record LeavesDropped (old : Maps) (object : ObjNo) (new : Maps) : Type 0 where
   pub gone : AreAbsent new.slots (dropped_keys old object)
   pub stay : ArePresent new.objects (linked_among object (entries old.objects))

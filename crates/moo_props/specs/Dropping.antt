@@ -16,15 +16,15 @@ use Rattle.moo_props.specs.Slots.{after_each}
 
 -- ---- who is concerned
 
--- the row's parent or place is the object
+-- the row's parent or location is the object
 abbrev pub links_to : ObjNo → ObjRow → Bool
 links_to object row = same_object object row.parent || same_object object row.location
 
--- there is a row, and its parent or place is the object
+-- there is a row, and its parent or location is the object
 abbrev pub row_linked : ObjNo → Option ObjRow → Bool
 row_linked object row = unwrap_or (option_map (links_to object) row) false
 
--- of these entries, those whose parent or place is the object
+-- of these entries, those whose parent or location is the object
 abbrev pub linked_among : ObjNo → List (ObjNo × ObjRow) → List ObjNo
 linked_among object pairs = map (λ pair. pair.0) (filter (λ pair. links_to object pair.1) pairs)
 
@@ -36,7 +36,7 @@ verbs_among object pairs = map (λ pair. pair.0) (filter (λ pair. int_eq pair.0
 abbrev pub ids_among : List ((ObjNo × PropId) × SlotRow) → List PropId
 ids_among pairs = map (λ pair. pair.0.1) pairs
 
--- the row with the other parent in place of the object, and at no place in place of it
+-- the row with another parent, if the object was its parent, and nowhere, if it was in the object
 abbrev pub released_row : ObjNo → ObjNo → ObjRow → ObjRow
 released_row object parent row = record row {
   parent = if same_object object row.parent then parent else row.parent;
@@ -59,7 +59,7 @@ with_released object parent other held None = held
 with_released object parent other held (Some row) =
     wrote held (record (held.maps) { objects = insert held.maps.objects other (released_row object parent row) })
 
--- with the other's row released from the object, its parent or place
+-- with the other's row released from the object, its parent or location
 abbrev pub row_released : ObjNo → ObjNo → ObjNo → Held → Held
 row_released object parent other held = with_released object parent other held (get held.maps.objects other)
 

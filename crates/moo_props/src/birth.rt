@@ -34,7 +34,7 @@ fn put_new<R: Rows>(
     Ok(())
 }
 
-/// Makes the object of the next number under a parent. It inherits all properties of the parent: each of its slots is
+/// Makes x, the object of the next number, under a parent. It inherits all properties of the parent: each of its slots is
 /// clear, has the bits of the parent's slot, and as owner its own if the bit c is set, else the owner of that slot.
 ///
 /// The only error is a lack of memory, after which the rows may be half changed.
@@ -51,11 +51,11 @@ pub fn make_object<R: Rows>(
     requires next { next_object (world_of (R.held rows.old).maps) ≡ Some x }
     // The parent is an object or `#-1`.
     requires parent { (is_object (world_of (R.held rows.old).maps) parent || same_object nothing parent) ≡ true }
-    // The world has the object more, with the slots that it inherits.
+    // The world has one object more, x, with the slots that it inherits.
     ensures world { OnOk result (world_of (R.held rows.new).maps ≡ created (world_of (R.held rows.old).maps) x parent owner) }
-    // The rows are good, what stays keeps its number, and the petitions and the count of batches are as they were.
+    // The rows are those of a well formed world; what stays keeps its number; petitions, count of batches and what the rows are over stay.
     ensures kept { OnOk result (Keeps (R.held rows.old) (R.held rows.new)) }
-    // What each object reads that was there stays.
+    // Each object that was there reads what it read.
     ensures reads { OnOk result ((o : ObjNo) (n : Name) → is_object (world_of (R.held rows.old).maps) o ≡ true →
         read_of (world_of (R.held rows.new).maps) o n ≡ read_of (world_of (R.held rows.old).maps) o n) }
 {

@@ -24,6 +24,7 @@ use std::collections::BTreeMap;
 
 /// Whether y itself defines a property of the name, whose hash is given. Names compare without ASCII case.
 fn defines_name<R: Rows>(rows: &R, y: ObjNo, name: &MooStr, hash: u64) -> bool
+    // The rows are sound.
     requires sound { IsSound (R.held rows.now).maps }
     // The hash is that of the name.
     requires hash { hash ≡ name_hash name.now }
@@ -91,16 +92,16 @@ fn meets_on<R: Rows>(
     Ok(false)
 }
 
-/// The first of x and its descendants, each before its children, that itself defines a property, whatever its name; `None` if none does.
+/// The first of x and its descendants, each before its children, that itself defines a property of any name; `None` if none does.
 /// The objects before it define nothing, and so share no name with a new parent. The only error is a lack of memory.
 fn first_definer<R: Rows>(rows: &R, x: ObjNo) -> Result<Option<ObjNo>, AllocError>
     // The rows are those of a well formed world.
     requires { IsGood (R.held rows.now).maps }
-    // Whichever the new parent is: the walk from that object on finds what the whole walk down from x finds.
+    // For any new parent, the walk from the answer on meets the same first object that shares a name as the whole walk down from x.
     ensures rest { IfOk result (λ first. (new : ObjNo) → let maps = (R.held rows.now).maps in
         find (meets_on (world_of maps) new) (from_here maps x first)
         ≡ find (meets_on (world_of maps) new) (walk_down (world_of maps) x)) }
-    // It is x or under x.
+    // The answer is x or under x.
     ensures under { IfOk result (λ first. IfSome first (λ y. is_among x (chain (world_of (R.held rows.now).maps) y) ≡ true)) }
 {
     let mut at = subtree_top(rows, x);

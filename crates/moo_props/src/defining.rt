@@ -18,7 +18,7 @@ use std::alloc::{AllocError, Global};
 /// Puts the row of a new property that x defines, raises the number of the next property by one, and answers the number of this one. An
 /// `Err` is a lack of memory.
 fn put_definition<R: Rows>(rows: &mut R, x: ObjNo, name: MooStr) -> Result<PropId, AllocError>
-    // A number is left for it.
+    // A number is left for the property.
     requires { (R.held rows.old).maps.head.next_prop < 4294967295 }
     // The row is put, and the counter is one higher.
     ensures rows { OnOk result (R.held rows.new ≡ with_definition x name (R.held rows.old)) }
@@ -57,18 +57,18 @@ pub fn define<R: Rows>(
     requires name { is_property_name name ≡ true }
     // Neither x nor an ancestor or a descendant of it defines a property of the name.
     requires free { clashes (world_of (R.held rows.old).maps) x name ≡ false }
-    // A number is left for it.
+    // A number is left for the property.
     requires left { (R.held rows.old).maps.head.next_prop < 4294967295 }
     // Lists nest at most 32 deep in the value.
     requires fit { fits value ≡ true }
-    // The world has the property more: set on x, clear on each descendant.
+    // The world has one property more: set on x, clear on each descendant.
     ensures world { OnOk result (world_of (R.held rows.new).maps ≡ property_added (world_of (R.held rows.old).maps) x name
         (record { definer = x; owner = owner; bits = bits; state = SlotState.Set value })) }
-    // The rows are good, what stays keeps its number, and the petitions and the count of batches are as they were.
+    // The rows are those of a well formed world; what stays keeps its number; petitions, count of batches and what the rows are over stay.
     ensures kept { OnOk result (Keeps (R.held rows.old) (R.held rows.new)) }
     // The answer is the number that was to be the next.
     ensures id { IfOk result (λ id. id.0 ≡ (R.held rows.old).maps.head.next_prop) }
-    // Of the rows of properties only its own is new.
+    // Of the rows of properties only that of the new property is new.
     ensures props { OnOk result (let old = (R.held rows.old).maps in
         (R.held rows.new).maps.props ≡ insert old.props (prop_id old.head.next_prop) (record { definer = x; name = name })) }
 {

@@ -1,4 +1,4 @@
-//! Going down a subtree without taking memory: each object before its children, and these in ascending order.
+//! Going down a subtree without taking memory: each object comes before its children, and children ascend.
 
 ghost use Rattle.std.specs.Prelude.{◌≡◌, true, IfSome};
 ghost use Rattle.moo_world.specs.ObjectLists.{walk_down};
@@ -14,13 +14,13 @@ use moo_value::ObjNo;
 /// The object of x's subtree that comes after y and all that is below y: the next sibling of y, or of its nearest ancestor under x that has
 /// a next sibling. `None` at the end of the subtree. Takes no memory.
 fn next_beside<R: Rows>(rows: &R, x: ObjNo, y: ObjNo) -> Option<ObjNo>
-    // Parents and locations are objects or `#-1`, without loops.
+    // Parents and locations are objects or `#-1`, without loops, and each object has a number that was given.
     requires tree { IsTree (world_of (R.held rows.now).maps) }
     // y is x or under x.
     requires under { is_among x (chain (world_of (R.held rows.now).maps) y) ≡ true }
-    // The walk from that object on is what comes after y and all that is below y.
+    // The walk from the answer on is what comes after y and all that is below y.
     ensures next { from_here (R.held rows.now).maps x result ≡ after_below (R.held rows.now).maps x y }
-    // That object is x or under x.
+    // The answer is x or under x.
     ensures under { IfSome result (λ z. is_among x (chain (world_of (R.held rows.now).maps) z) ≡ true) }
 {
     let mut done = y;
@@ -37,18 +37,18 @@ fn next_beside<R: Rows>(rows: &R, x: ObjNo, y: ObjNo) -> Option<ObjNo>
     None
 }
 
-/// The object of x's subtree that comes after y: the first child of y, or if it has none what comes after y. `None` at the end of the
-/// subtree. Takes no memory.
+/// The object of x's subtree that comes after y: the first child of y, or, if y has no child, the answer of `next_beside`. `None` at the
+/// end of the subtree. Takes no memory.
 ///
 /// From x on it meets the m objects of the subtree, among n of the world, in m log n steps.
 pub(crate) fn next_under<R: Rows>(rows: &R, x: ObjNo, y: ObjNo) -> Option<ObjNo>
-    // Parents and locations are objects or `#-1`, without loops.
+    // Parents and locations are objects or `#-1`, without loops, and each object has a number that was given.
     requires tree { IsTree (world_of (R.held rows.now).maps) }
     // y is x or under x.
     requires under { is_among x (chain (world_of (R.held rows.now).maps) y) ≡ true }
-    // The walk from that object on is what comes after y.
+    // The walk from the answer on is what comes after y.
     ensures next { from_here (R.held rows.now).maps x result ≡ walk_after (R.held rows.now).maps x y }
-    // That object is x or under x.
+    // The answer is x or under x.
     ensures under { IfSome result (λ z. is_among x (chain (world_of (R.held rows.now).maps) z) ≡ true) }
 {
     match rows.next_linked(Link::ChildOf(y), nothing()) {
@@ -59,11 +59,11 @@ pub(crate) fn next_under<R: Rows>(rows: &R, x: ObjNo, y: ObjNo) -> Option<ObjNo>
 
 /// The object at which the walk down from x begins: x, or `None` if x isn't an object.
 pub(crate) fn subtree_top<R: Rows>(rows: &R, x: ObjNo) -> Option<ObjNo>
-    // Parents and locations are objects or `#-1`, without loops.
+    // Parents and locations are objects or `#-1`, without loops, and each object has a number that was given.
     requires tree { IsTree (world_of (R.held rows.now).maps) }
-    // The walk from that object on is the whole walk down from x.
+    // The walk from the answer on is the whole walk down from x.
     ensures top { from_here (R.held rows.now).maps x result ≡ walk_down (world_of (R.held rows.now).maps) x }
-    // That object is x or under x.
+    // The answer is x or under x.
     ensures under { IfSome result (λ z. is_among x (chain (world_of (R.held rows.now).maps) z) ≡ true) }
 {
     if valid(rows, x) { Some(x) } else { None }

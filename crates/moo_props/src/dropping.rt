@@ -77,7 +77,7 @@ impl VerbKeys {
     }
 }
 
-/// What went with an object: the keys of slots, properties and verbs; and the objects whose parent or place it was.
+/// What went with an object: the keys of slots, properties and verbs; and the objects whose parent or location it was.
 #[derive(Drop)]
 pub struct Dropped {
     pub removed: SlotKeys,
@@ -92,7 +92,7 @@ fn property_ids_with_slot<R: Rows>(
     rows: &R,
     x: ObjNo,
 ) -> Result<Vec<PropId>, AllocError>
-    // They are those of all its slots, since no property has the number 0.
+    // They are those of the slots of x past the number 0, which no property has.
     ensures { IfOk result (λ v. v.items ≡ ids_among (slots_of_left x (record { 0 = 0 }) (R.held rows.now).maps)) }
 {
     let mut found = Vec::new(alloc);
@@ -139,7 +139,7 @@ fn verbs_among<R: Rows>(
     Ok(found)
 }
 
-/// The least object past `last` whose parent or place is x, or `None` if there is none. Takes no memory.
+/// The least object past `last` whose parent or location is x, or `None` if there is none. Takes no memory.
 fn next_linked_to<R: Rows>(rows: &R, x: ObjNo, last: ObjNo) -> Option<ObjNo>
     ensures { IsFirst object_cmp (λ y. row_linked x (get (R.held rows.now).maps.objects y)) last result }
 {
@@ -149,7 +149,7 @@ fn next_linked_to<R: Rows>(rows: &R, x: ObjNo, last: ObjNo) -> Option<ObjNo>
     )
 }
 
-/// The objects whose parent or place is x, ascending. The only error is a lack of memory.
+/// The objects whose parent or location is x, ascending. The only error is a lack of memory.
 fn linked_among<R: Rows>(alloc: Global, rows: &R, x: ObjNo) -> Result<Vec<ObjNo>, AllocError>
     // The rows are those of a well formed world.
     requires { IsGood (R.held rows.now).maps }
@@ -175,10 +175,10 @@ fn drop_slots_under<R: Rows>(
 ) -> Result<SlotKeys, AllocError>
     // The rows are those of a well formed world.
     requires { IsGood (R.held rows.old).maps }
-    // From x all its slots are gone, and from each object under it those of the properties that x defines.
+    // From x the slots of all its properties are gone, and from each object under it those of the properties `own`.
     ensures rows { OnOk result (let old = (R.held rows.old).maps in R.held rows.new
         ≡ slots_moved (ids_for x (ids_among (slots_of_left x (record { 0 = 0 }) old)) own.now) [] (owners_under old x) (R.held rows.old)) }
-    // The answer is the keys of these slots, object by object.
+    // The answer is the keys of the slots that are gone, object by object.
     ensures list { IfOk result (λ keys. let old = (R.held rows.old).maps in keys
         ≡ keys_by (ids_for x (ids_among (slots_of_left x (record { 0 = 0 }) old)) own.now) (owners_under old x)) }
 {
@@ -211,7 +211,7 @@ fn remove_verbs<R: Rows>(rows: &mut R, keys: &[(ObjNo, VerbId)]) -> Result<(), A
     Ok(())
 }
 
-/// The object that a parent or a place is after x has gone: `to` if `link` was x, and else `link` as before.
+/// The object that a parent or a location is after x has gone: `to` if `link` was x, and else `link` as before.
 #[tactic(auto, unfolding(moo_world::specs::Objects::same_object))]
 fn redirect(x: ObjNo, link: ObjNo, to: ObjNo) -> ObjNo
     ensures { result ≡ (if same_object x link then to else link) }
@@ -219,8 +219,8 @@ fn redirect(x: ObjNo, link: ObjNo, to: ObjNo) -> ObjNo
     if x == link { to } else { link }
 }
 
-/// Puts the row of y without x in it: if its parent was x, it gets the other parent, and if its place was x, it is nowhere. Nothing happens
-/// if y isn't an object. The only error is a lack of memory.
+/// Puts the row of y without x in it: if its parent was x, it gets `parent`, and if its location was x, it is nowhere. Nothing happens if
+/// y isn't an object. The only error is a lack of memory.
 fn unlink<R: Rows>(
     alloc: Global,
     rows: &mut R,
@@ -228,7 +228,7 @@ fn unlink<R: Rows>(
     parent: ObjNo,
     y: ObjNo,
 ) -> Result<(), AllocError>
-    // The row of y, if it has one, is put without x as its parent or place.
+    // The row of y, if it has one, is put without x as its parent or location.
     ensures { OnOk result (R.held rows.new ≡ row_released x parent y (R.held rows.old)) }
 {
     let mut row = match rows.object(y) {
@@ -241,7 +241,7 @@ fn unlink<R: Rows>(
     Ok(())
 }
 
-/// Releases each of these objects from x, its parent or place, as `release` does. The only error is a lack of memory.
+/// Releases each of these objects from x, its parent or location, as `unlink` does. The only error is a lack of memory.
 fn unlink_all<R: Rows>(
     alloc: Global,
     rows: &mut R,
@@ -249,7 +249,7 @@ fn unlink_all<R: Rows>(
     parent: ObjNo,
     objects: &[ObjNo],
 ) -> Result<(), AllocError>
-    // The row of each of the objects is put without x as its parent or place.
+    // The row of each of the objects is put without x as its parent or location.
     ensures { OnOk result (R.held rows.new ≡ rows_released x parent objects.now (R.held rows.old)) }
 {
     for y in objects {
@@ -259,7 +259,7 @@ fn unlink_all<R: Rows>(
     Ok(())
 }
 
-/// Removes the rows of the properties and the verbs of x, releases the objects whose parent or place it is, and removes its own row. An
+/// Removes the rows of the properties and the verbs of x, releases the objects whose parent or location it is, and removes its own row. An
 /// `Err` is a lack of memory.
 fn drop_rows<R: Rows>(
     alloc: Global,
@@ -270,7 +270,7 @@ fn drop_rows<R: Rows>(
     verbs: &[(ObjNo, VerbId)],
     relinked: &[ObjNo],
 ) -> Result<(), AllocError>
-    // First the properties go, then the verbs, then the objects are released, and last x goes.
+    // The properties `own` go, then the verbs, then the objects `relinked` are released, and last the row of x goes.
     ensures { OnOk result (R.held rows.new
         ≡ without_object (rows_released x parent relinked.now (verbs_removed verbs.now (props_removed own.now (R.held rows.old)))) x) }
 {
@@ -280,9 +280,8 @@ fn drop_rows<R: Rows>(
     rows.remove_object(x)
 }
 
-/// Removes an object with its slots, verbs and properties, and the slots of these properties on its descendants. Its
-/// children go to its parent, and what is in it to `#-1`; these are listed as relinked, and are still there. What is
-/// listed is ascending.
+/// Removes an object with its slots, verbs and properties, and the slots of its properties on its descendants. Its children go to its
+/// parent, and what is in it to `#-1`: children and contents are listed as `relinked`, and are still there. Each list is ascending.
 ///
 /// The only error is a lack of memory, after which the rows may be half changed.
 pub fn drop_object<R: Rows>(alloc: Global, rows: &mut R, x: ObjNo) -> Result<Dropped, AllocError>
@@ -290,15 +289,15 @@ pub fn drop_object<R: Rows>(alloc: Global, rows: &mut R, x: ObjNo) -> Result<Dro
     requires good { IsGood (R.held rows.old).maps }
     // x is an object.
     requires object { is_object (world_of (R.held rows.old).maps) x ≡ true }
-    // The answer lists what goes with the object, and the objects whose parent or place it was.
+    // The answer lists what goes with x, and the objects whose parent or location x was, each list ascending.
     ensures lists { IfOk result (ListsDropped (R.held rows.old).maps x) }
-    // What is listed as gone is gone, and each row that stays is as the end of the object leaves it.
+    // What goes with x is gone, the objects whose parent or location it was are there, and each row is as the end of x leaves it.
     ensures leaves { OnOk result (LeavesDropped (R.held rows.old).maps x (R.held rows.new).maps) }
-    // The world is that in which the object is recycled.
+    // The world is the one that recycling x leaves.
     ensures world { OnOk result (world_of (R.held rows.new).maps ≡ recycled (world_of (R.held rows.old).maps) x) }
-    // The rows are good, what stays keeps its number, and the petitions and the count of batches are as they were.
+    // The rows are those of a well formed world; what stays keeps its number; petitions, count of batches and what the rows are over stay.
     ensures kept { OnOk result (Keeps (R.held rows.old) (R.held rows.new)) }
-    // At most one row is written for each item that is listed, and one for the object.
+    // At most one row is written for each item that is listed, and one for x.
     ensures writes { IfOk result (λ dropped. (R.held rows.new).writes ≤ (R.held rows.old).writes + (rows_dropped dropped + 1)) }
 {
     let parent = match rows.object(x) {

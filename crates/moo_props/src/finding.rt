@@ -21,20 +21,20 @@ pub struct FoundSlot<'a> {
 }
 
 /// The property of a name, whose hash is given, that y itself defines; `None` if it defines none. Names compare without ASCII case. Takes
-/// no memory. It is for searches that ask one object after another for a name; `own_property` of `moo_calls_properties` asks one object
-/// by the name alone.
+/// no memory. It is for searches over many objects; `own_property` of `moo_calls_properties` asks one object by the name alone.
 pub(crate) fn find_own_property<R: Rows>(
     rows: &R,
     y: ObjNo,
     name: &[u8],
     hash: u64,
 ) -> Option<PropId>
+    // The rows are sound.
     requires sound { IsSound (R.held rows.now).maps }
     // The hash is that of the name.
     requires hash { hash ≡ name_hash name.now }
-    // y defines it.
+    // y defines the property found.
     ensures own { IfSome result (λ id. defines (R.held rows.now).maps y id ≡ true) }
-    // It has the name, ASCII case aside.
+    // The property found has the name, ASCII case aside.
     ensures named { IfSome result (λ id. name_of (R.held rows.now).maps id ≡ folded name.now) }
     // There is an answer exactly if y defines a property of the name.
     ensures exact { is_some result ≡ defines_name (world_of (R.held rows.now).maps) y name.now }
@@ -42,14 +42,14 @@ pub(crate) fn find_own_property<R: Rows>(
     rows.next_named(y, name, hash, PropId(0))
 }
 
-/// The property of a name that x has, or `None`. Names compare without ASCII case. It climbs from x to the one that defines it, and to the root if none does: a look-up of the name
-/// for each object on the way, however many properties they define, and one of its row only if the climb goes on.
+/// The property of a name that x has, or `None`. Names compare without ASCII case. It climbs from x to the object that defines it, and to
+/// the root if none does. Each object on the way takes a look-up of the name, and one of its row if the climb goes on.
 pub(crate) fn find_property_named<R: Rows>(rows: &R, x: ObjNo, name: &[u8]) -> Option<PropId>
     // The rows are those of a well formed world.
     requires { IsGood (R.held rows.now).maps }
-    // x has a slot of it.
+    // x has a slot of the property found.
     ensures held { IfSome result (λ id. is_some (get (R.held rows.now).maps.slots (x, id)) ≡ true) }
-    // It has the name, ASCII case aside.
+    // The property found has the name, ASCII case aside.
     ensures named { IfSome result (λ id. name_of (R.held rows.now).maps id ≡ folded name.now) }
     // There is an answer exactly if x has a property of the name.
     ensures exact { is_some result ≡ is_some (slot_of (world_of (R.held rows.now).maps) x (folded name.now)) }
@@ -67,14 +67,14 @@ pub(crate) fn find_property_named<R: Rows>(rows: &R, x: ObjNo, name: &[u8]) -> O
     }
 }
 
-/// The property of a name that x has: one that x or an ancestor of x defines. `None` if neither defines one, or if x isn't an object.
+/// The property of a name that x has, which x or an ancestor of x defines; `None` if none of them defines one, or if x isn't an object.
 /// Names compare without ASCII case.
 pub fn find<R: Rows>(rows: &R, x: ObjNo, name: &MooStr) -> Option<PropId>
     // The rows are those of a well formed world.
     requires { IsGood (R.held rows.now).maps }
-    // x has a slot of it.
+    // x has a slot of the property found.
     ensures held { IfSome result (λ id. is_some (get (R.held rows.now).maps.slots (x, id)) ≡ true) }
-    // It has the name, ASCII case aside.
+    // The property found has the name, ASCII case aside.
     ensures named { IfSome result (λ id. name_of (R.held rows.now).maps id ≡ folded name.now) }
     // There is an answer exactly if x has a property of the name.
     ensures exact { is_some result ≡ is_some (slot_of (world_of (R.held rows.now).maps) x (folded name.now)) }
@@ -87,12 +87,12 @@ pub fn find<R: Rows>(rows: &R, x: ObjNo, name: &MooStr) -> Option<PropId>
 pub fn slot_of<'a, R: Rows>(rows: &'a R, x: ObjNo, name: &MooStr) -> Option<FoundSlot<'a>>
     // The rows are those of a well formed world.
     requires { IsGood (R.held rows.now).maps }
-    // The slot and its definer are those that the world has under the name.
+    // The slot and the definer are those that x has under the name in the world; none is found if it has none.
     ensures slot { option_map (λ f. slot_seen f.definer f.slot.now) result
         ≡ slot_of (world_of (R.held rows.now).maps) x (folded name.now) }
-    // x has a slot of the number that is answered.
+    // x has a slot of the property found.
     ensures held { IfSome result (λ f. is_some (get (R.held rows.now).maps.slots (x, f.id)) ≡ true) }
-    // It has the name, ASCII case aside.
+    // The property found has the name, ASCII case aside.
     ensures named { IfSome result (λ f. name_of (R.held rows.now).maps f.id ≡ folded name.now) }
 {
     let id = match find(rows, x, name) {

@@ -24,10 +24,10 @@ fn keep_name<R: Rows>(
     id: PropId,
     names: &mut BTreeMap<(u64, PropId), ()>,
 ) -> Result<(), AllocError>
-    // All that was kept still is.
+    // Each property that was kept for a hash still is.
     ensures kept { OnOk result ((hash : _) (other : PropId) → is_some (get (contents hashed_cmp names.old) (hash, other)) ≡ true →
         is_some (get (contents hashed_cmp names.new) (hash, other)) ≡ true) }
-    // The property is kept for the hash of its name.
+    // The property, if it has a row, is kept for the hash of its name.
     ensures there { OnOk result ((row : PropRow) → get (R.held rows.now).maps.props id ≡ Some row →
         is_some (get (contents hashed_cmp names.new) (name_hash row.name, id)) ≡ true) }
 {
@@ -73,7 +73,7 @@ fn has_under_name<R: Rows>(rows: &R, x: ObjNo, name: &[u8], id: PropId) -> bool
     }
 }
 
-/// Whether x has a property of the name. Only those are looked at that are kept for the hash of the name. Takes no memory.
+/// Whether x has a property of the name. It looks only at the properties that `names` keeps for the hash of the name. Takes no memory.
 pub(crate) fn has_name<R: Rows>(
     rows: &R,
     x: ObjNo,

@@ -21,7 +21,7 @@ use std::alloc::AllocError;
 fn quota_here<R: Rows>(rows: &R, o: ObjNo) -> Option<(PropId, i64)>
     // The rows are those of a well formed world.
     requires { IsGood (R.held rows.now).maps }
-    // The integer is the quota of the world.
+    // The integer is the quota of o in the world; there is no answer if o has none.
     ensures quota { option_map (λ p. p.1) result ≡ quota_of (world_of (R.held rows.now).maps) o }
     // o has a slot of the property.
     ensures has { IfSome result (λ p. is_some (get (R.held rows.now).maps.slots (o, p.0)) ≡ true) }
@@ -38,8 +38,8 @@ fn quota_here<R: Rows>(rows: &R, o: ObjNo) -> Option<(PropId, i64)>
     }
 }
 
-/// The quota of o: the integer that it reads for `ownership_quota`. None if o has no such property, if its value
-/// isn't an integer, or if o isn't an object.
+/// The quota of o: the integer that it reads for `ownership_quota`. `None` if o has no such property, if its value isn't an integer, or if
+/// o isn't an object.
 pub fn quota_of<R: Rows>(rows: &R, o: ObjNo) -> Option<i64>
     // The rows are those of a well formed world.
     requires { IsGood (R.held rows.now).maps }
@@ -64,11 +64,11 @@ fn set_to(quota: i64, by: i64) -> SlotState
 pub fn change_quota<R: Rows>(rows: &mut R, o: ObjNo, by: i64) -> Result<(), AllocError>
     // The rows are those of a well formed world.
     requires good { IsGood (R.held rows.old).maps }
-    // The sum is an integer of 64 bits.
+    // If o has a quota, its sum with `by` is an integer of 64 bits.
     requires room { HasRoom (quota_of (world_of (R.held rows.old).maps) o) by }
-    // The world has `by` added to the quota of o.
+    // The world has `by` added to the quota of o, if o has one.
     ensures world { OnOk result (world_of (R.held rows.new).maps ≡ quota_changed (world_of (R.held rows.old).maps) o by) }
-    // The rows are good, what stays keeps its number, and the petitions and the count of batches are as they were.
+    // The rows are those of a well formed world; what stays keeps its number; petitions, count of batches and what the rows are over stay.
     ensures kept { OnOk result (Keeps (R.held rows.old) (R.held rows.new)) }
     // Only slots change.
     ensures rest { OnOk result (IsSameButSlots (R.held rows.old).maps (R.held rows.new).maps) }
@@ -87,9 +87,9 @@ pub fn take_quota<R: Rows>(rows: &mut R, o: ObjNo) -> Result<(), AllocError>
     requires good { IsGood (R.held rows.old).maps }
     // o has no quota, or one above 0.
     requires left { has_quota_left (world_of (R.held rows.old).maps) o ≡ true }
-    // The world has one taken from the quota of o.
+    // The world has one taken from the quota of o, if o has one.
     ensures world { OnOk result (world_of (R.held rows.new).maps ≡ quota_changed (world_of (R.held rows.old).maps) o (negsuc 0)) }
-    // The rows are good, what stays keeps its number, and the petitions and the count of batches are as they were.
+    // The rows are those of a well formed world; what stays keeps its number; petitions, count of batches and what the rows are over stay.
     ensures kept { OnOk result (Keeps (R.held rows.old) (R.held rows.new)) }
     // Only slots change.
     ensures rest { OnOk result (IsSameButSlots (R.held rows.old).maps (R.held rows.new).maps) }
@@ -102,9 +102,9 @@ pub fn take_quota<R: Rows>(rows: &mut R, o: ObjNo) -> Result<(), AllocError>
 pub fn return_quota<R: Rows>(rows: &mut R, o: ObjNo) -> Result<(), AllocError>
     // The rows are those of a well formed world.
     requires { IsGood (R.held rows.old).maps }
-    // The world has one given back to the quota of o.
+    // The world has one given back to the quota of o, if o has one below the greatest integer.
     ensures world { OnOk result (world_of (R.held rows.new).maps ≡ quota_returned (world_of (R.held rows.old).maps) o) }
-    // The rows are good, what stays keeps its number, and the petitions and the count of batches are as they were.
+    // The rows are those of a well formed world; what stays keeps its number; petitions, count of batches and what the rows are over stay.
     ensures kept { OnOk result (Keeps (R.held rows.old) (R.held rows.new)) }
     // Only slots change.
     ensures rest { OnOk result (IsSameButSlots (R.held rows.old).maps (R.held rows.new).maps) }

@@ -28,12 +28,12 @@ pub fn rename<R: Rows>(rows: &mut R, x: ObjNo, id: PropId, name: MooStr) -> Resu
     requires name { is_property_name name ≡ true }
     // Neither x nor an ancestor or a descendant of it defines a property of the new name.
     requires free { clashes (world_of (R.held rows.old).maps) x name ≡ false }
-    // Of the rows only that of the property changes.
+    // Of the rows only that of the property changes: it has the new name, and x as its definer.
     ensures rows { OnOk result (R.held rows.new ≡ with_name x id name (R.held rows.old)) }
     // The world has the property under the new name, on x and on each descendant.
     ensures world { OnOk result (world_of (R.held rows.new).maps
         ≡ property_renamed (world_of (R.held rows.old).maps) x (spelling_of (R.held rows.old).maps id) name) }
-    // The rows are good, what stays keeps its number, and the petitions and the count of batches are as they were.
+    // The rows are those of a well formed world; what stays keeps its number; petitions, count of batches and what the rows are over stay.
     ensures kept { OnOk result (Keeps (R.held rows.old) (R.held rows.new)) }
     // After an error nothing has changed.
     ensures err { OnErr result (R.held rows.new ≡ R.held rows.old) }

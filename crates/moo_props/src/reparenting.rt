@@ -50,7 +50,7 @@ fn is_defined_only<R: Rows>(
 }
 
 /// The properties, ascending, that are defined by a key of `these` that isn't a key of `others`. The keys of `these` are y or ancestors of
-/// y, so that y has a slot of each such property: only its slots are gone over, and each definer is looked up. The only error is a lack of memory.
+/// y, so that y has a slot of each such property: it goes over the slots of y alone. The only error is a lack of memory.
 fn props_among<R: Rows>(
     alloc: Global,
     rows: &R,
@@ -85,13 +85,13 @@ fn lost_and_gained<R: Rows>(
 ) -> Result<(Vec<PropId>, Vec<PropId>), AllocError>
     // The rows are those of a well formed world.
     requires good { IsGood (R.held rows.now).maps }
-    // The parent and its ancestors are ancestors of x.
+    // Each object of the chain of `parent` is in the chain of x.
     requires above { (d : ObjNo) → is_among d (chain (world_of (R.held rows.now).maps) parent) ≡ true →
         is_among d (chain (world_of (R.held rows.now).maps) x) ≡ true }
-    // Lost are those that the old parent or an ancestor of it defines, and neither the new one nor an ancestor of that.
+    // First the properties that `parent` or an ancestor of it defines, and neither `new` nor an ancestor of it.
     ensures lost { IfOk result (λ both. let w = world_of (R.held rows.now).maps in
         both.0.items ≡ props_only_of (chain w parent) (chain w new) (entries (R.held rows.now).maps.props)) }
-    // Gained are those of the new parent and its ancestors, and neither of the old one nor of its ancestors.
+    // Second the properties that `new` or an ancestor of it defines, and neither `parent` nor an ancestor of it.
     ensures gained { IfOk result (λ both. let w = world_of (R.held rows.now).maps in
         both.1.items ≡ props_only_of (chain w new) (chain w parent) (entries (R.held rows.now).maps.props)) }
 {
@@ -114,12 +114,12 @@ fn exchange_under<R: Rows>(
 ) -> Result<(SlotKeys, SlotKeys), AllocError>
     // The rows are those of a well formed world.
     requires { IsGood (R.held rows.old).maps }
-    // On x and on each object under it the lost slots have gone, and fresh ones have come.
+    // On x and on each object under it the slots of lost properties have gone, and then fresh ones of gained properties have come.
     ensures rows { OnOk result (let old = (R.held rows.old).maps in
         R.held rows.new ≡ slots_moved (λ y. lost.now) (origins old.slots new gained.now) (owners_under old x) (R.held rows.old)) }
-    // First the keys of those that went.
+    // First in the answer are the keys of the lost properties on x and the objects under it.
     ensures removed { IfOk result (λ both. both.0 ≡ keys_over lost.now (owners_under (R.held rows.old).maps x)) }
-    // Second the keys of those that came.
+    // Second are the keys of the gained properties on x and the objects under it.
     ensures added { IfOk result (λ both. both.1 ≡ keys_over gained.now (owners_under (R.held rows.old).maps x)) }
 {
     let under = owners_under(alloc, rows, x)?;
@@ -130,8 +130,8 @@ fn exchange_under<R: Rows>(
     Ok((removed, added))
 }
 
-/// Puts the row of x, which is given, with the new parent, and answers a list of x alone; nothing is put and the list is empty if that is
-/// its parent already. The only error is a lack of memory.
+/// Puts the row of x, which is given, with the new parent, and answers a list of x alone. If that is its parent already, nothing is put
+/// and the list is empty. The only error is a lack of memory.
 #[tactic(auto, unfolding(moo_world::specs::Objects::same_object))]
 fn relink<R: Rows>(
     alloc: Global,
@@ -153,9 +153,9 @@ fn relink<R: Rows>(
     Ok(ObjList::from_vec(list))
 }
 
-/// Puts x under another parent: x and all under it lose the slots of definers that they are under no more, and get fresh ones of those
-/// that they are under now. Listed are the slots that went, those that came, and x if it has another parent; the slots ascend. Under
-/// the present parent nothing is written.
+/// Puts x under another parent. x and all under it lose the slots of definers that they are under no more, and get fresh slots of the
+/// definers that they are under now. The answer lists the slots that went, the slots that came, and x if it has another parent; the slots
+/// ascend. Under the present parent nothing is written.
 ///
 /// The only error is a lack of memory, after which the rows may be half changed.
 ///
@@ -168,15 +168,16 @@ pub fn reparent<R: Rows>(
 ) -> Result<Touched, AllocError>
     // The rows are those of a well formed world.
     requires good { IsGood (R.held rows.old).maps }
-    // x is an object, the new parent is `#-1` or an object that is neither x nor under x, and no property name is on both sides.
+    // x is an object. The new parent is `#-1`, or an object that is neither x nor under x, and has no property of a name that x or a
+    // descendant of x defines.
     requires may { MayReparent (world_of (R.held rows.old).maps) x new }
-    // The answer lists the slots that went, those that came, and x if it has another parent.
+    // The answer lists the slots that went and those that came, each list ascending, and x if it has another parent.
     ensures lists { IfOk result (ListsTouched (R.held rows.old).maps x new) }
-    // What is listed as gone is gone, what is listed as new is there, and each row is as the change of parent leaves it.
+    // Slots that are listed as gone are gone, those listed as new are there, and each row is as the change of parent leaves it.
     ensures leaves { OnOk result (LeavesTouched (R.held rows.old).maps x new (R.held rows.new).maps) }
-    // The world is that of the manual's change of parent.
+    // The world is the one that `chparent` leaves: x has the new parent, and all slots are rebuilt.
     ensures world { OnOk result (world_of (R.held rows.new).maps ≡ reparented (world_of (R.held rows.old).maps) x new) }
-    // The rows are good, what stays keeps its number, and the petitions and the count of batches are as they were.
+    // The rows are those of a well formed world; what stays keeps its number; petitions, count of batches and what the rows are over stay.
     ensures kept { OnOk result (Keeps (R.held rows.old) (R.held rows.new)) }
     // At most one row is written for each item that is listed.
     ensures writes { IfOk result (λ touched. (R.held rows.new).writes ≤ (R.held rows.old).writes + rows_touched touched) }

@@ -1,4 +1,4 @@
-//! Slots that go and slots that come: their keys, and what fresh ones are made from.
+//! Slots that go and slots that come: their keys, and what fresh slots are made from.
 
 ghost use Rattle.std.specs.Prelude.{◌≡◌, ◌++◌, IfOk, OnOk};
 ghost use Rattle.moo_rows.specs.Walk.{slots_of_left};
@@ -43,8 +43,8 @@ pub struct Origin {
 }
 
 impl Origin {
-    /// The clear slot that is made from it on an object of this owner. Its owner is that of the object if the bit c is set, else that of
-    /// the origin.
+    /// The clear slot that is made from the origin on an object of this owner. The slot belongs to this owner if the bit c is set, else to
+    /// the owner of the origin.
     pub(crate) fn fresh_slot(&self, owner: ObjNo) -> SlotRow
         ensures { result ≡ fresh_of owner self.now }
     {
@@ -62,7 +62,7 @@ pub(crate) fn origins_among<R: Rows>(
     rows: &R,
     q: ObjNo,
 ) -> Result<Vec<Origin>, AllocError>
-    // They are those of all its slots, since no property has the number 0.
+    // They are those of the slots of q past the number 0, which no property has.
     ensures { IfOk result (λ v. v.items ≡ origins_among (slots_of_left q (record { 0 = 0 }) (R.held rows.now).maps)) }
 {
     let mut found = Vec::new(alloc);
@@ -155,7 +155,7 @@ pub(crate) fn exchange_slots<R: Rows>(
     own: &[PropId],
     gained: &[Origin],
 ) -> Result<(), AllocError>
-    // On each object the slots of its properties have gone, and then the fresh ones have come.
+    // On each object the slots of `all` or `own` have gone, and then the fresh slots have come.
     ensures { OnOk result (R.held rows.new ≡ slots_moved (ids_for x all.now own.now) gained.now under.now (R.held rows.old)) }
 {
     for (y, owner) in under {

@@ -27,12 +27,12 @@ pub(crate) fn put_state<R: Rows>(
     requires has { is_some (get (R.held rows.old).maps.slots (x, id)) ≡ true }
     // A slot on the object that defines the property isn't cleared.
     requires set { state ≡ SlotState.Clear → defines (R.held rows.old).maps x id ≡ false }
-    // Lists nest at most 32 deep in a value.
+    // If the state is a value, lists nest at most 32 deep in it.
     requires fit { state_fits state ≡ true }
     // The world has the slot with this state.
     ensures world { OnOk result (world_of (R.held rows.new).maps
         ≡ with_slot_of (world_of (R.held rows.old).maps) x (spelling_of (R.held rows.old).maps id) (λ s. record s { state = state })) }
-    // The rows are good, what stays keeps its number, and the petitions and the count of batches are as they were.
+    // The rows are those of a well formed world; what stays keeps its number; petitions, count of batches and what the rows are over stay.
     ensures kept { OnOk result (Keeps (R.held rows.old) (R.held rows.new)) }
     // Only slots change.
     ensures rest { OnOk result (IsSameButSlots (R.held rows.old).maps (R.held rows.new).maps) }
@@ -45,7 +45,8 @@ pub(crate) fn put_state<R: Rows>(
     Ok(())
 }
 
-/// Sets the value of a property that x has, in which lists nest at most 32 deep. The owner and the bits stay. The only error is a lack of memory.
+/// Sets the value of a property on x alone; lists nest at most 32 deep in it. The owner and the bits stay. The only error is a lack of
+/// memory.
 ///
 /// LambdaMOO Programmer's Manual, 'Getting and Setting the Values of Properties'.
 pub fn set_value<R: Rows>(
@@ -63,7 +64,7 @@ pub fn set_value<R: Rows>(
     // The world has the slot set to the value.
     ensures world { OnOk result (world_of (R.held rows.new).maps
         ≡ value_set (world_of (R.held rows.old).maps) x (spelling_of (R.held rows.old).maps id) value) }
-    // The rows are good, what stays keeps its number, and the petitions and the count of batches are as they were.
+    // The rows are those of a well formed world; what stays keeps its number; petitions, count of batches and what the rows are over stay.
     ensures kept { OnOk result (Keeps (R.held rows.old) (R.held rows.new)) }
 {
     put_state(rows, x, id, SlotState::Set(value))
@@ -82,13 +83,13 @@ pub fn clear<R: Rows>(rows: &mut R, x: ObjNo, id: PropId) -> Result<(), AllocErr
     // The world has the slot cleared.
     ensures world { OnOk result (world_of (R.held rows.new).maps
         ≡ cleared (world_of (R.held rows.old).maps) x (spelling_of (R.held rows.old).maps id)) }
-    // The rows are good, what stays keeps its number, and the petitions and the count of batches are as they were.
+    // The rows are those of a well formed world; what stays keeps its number; petitions, count of batches and what the rows are over stay.
     ensures kept { OnOk result (Keeps (R.held rows.old) (R.held rows.new)) }
 {
     put_state(rows, x, id, SlotState::Clear)
 }
 
-/// Sets the owner and the bits of a property on x alone. What x and its descendants read stays, and so does its definition. An `Err` is a
+/// Sets the owner and the bits of a property on x alone. What objects read and the definition of the property stay. The only error is a
 /// lack of memory.
 ///
 /// LambdaMOO Programmer's Manual, 'Operations on Properties': `set_property_info`.
@@ -107,7 +108,7 @@ pub fn set_info<R: Rows>(
     // The world has the slot with this owner and these bits.
     ensures world { OnOk result (world_of (R.held rows.new).maps
         ≡ info_set (world_of (R.held rows.old).maps) x (spelling_of (R.held rows.old).maps id) owner bits) }
-    // The rows are good, what stays keeps its number, and the petitions and the count of batches are as they were.
+    // The rows are those of a well formed world; what stays keeps its number; petitions, count of batches and what the rows are over stay.
     ensures kept { OnOk result (Keeps (R.held rows.old) (R.held rows.new)) }
     // Only slots change.
     ensures rest { OnOk result (IsSameButSlots (R.held rows.old).maps (R.held rows.new).maps) }

@@ -28,12 +28,12 @@ pub fn undefine<R: Rows>(
     requires good { IsGood (R.held rows.old).maps }
     // x defines the property.
     requires own { defines (R.held rows.old).maps x id ≡ true }
-    // The world has the property no more, on x and on each descendant.
+    // The world has the property no more, neither on x nor on a descendant.
     ensures world { OnOk result (world_of (R.held rows.new).maps
         ≡ property_removed (world_of (R.held rows.old).maps) x (spelling_of (R.held rows.old).maps id)) }
-    // The rows are good, what stays keeps its number, and the petitions and the count of batches are as they were.
+    // The rows are those of a well formed world; what stays keeps its number; petitions, count of batches and what the rows are over stay.
     ensures kept { OnOk result (Keeps (R.held rows.old) (R.held rows.new)) }
-    // Of the rows of properties only its own is gone.
+    // Of the rows of properties only that of the property is gone.
     ensures props { OnOk result ((R.held rows.new).maps.props ≡ remove (R.held rows.old).maps.props id) }
 {
     let under = owners_under(alloc, rows, x)?;

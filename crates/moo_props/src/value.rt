@@ -15,7 +15,7 @@ pub fn value_of<R: Rows>(rows: &R, x: ObjNo, id: PropId) -> &Value
     requires good { IsGood (R.held rows.now).maps }
     // x has a slot of the property.
     requires has { is_some (get (R.held rows.now).maps.slots (x, id)) ≡ true }
-    // It is the value that the world says x reads for the name of the property.
+    // The answer is what x reads in the world for the name of the property.
     ensures { read_of (world_of (R.held rows.now).maps) x (name_of (R.held rows.now).maps id) ≡ Some result.now }
 {
     let mut at = x;
