@@ -97,7 +97,7 @@ fn meets_on<R: Rows>(
 fn first_definer<R: Rows>(rows: &R, x: ObjNo) -> Result<Option<ObjNo>, AllocError>
     // The rows are those of a well formed world.
     requires { IsGood (R.held rows.now).maps }
-    // For any new parent, the walk from the answer on meets the same first object that shares a name as the whole walk down from x.
+    // For any new parent, the first object that shares a name with it is the same on the walk from the answer on and on the whole walk.
     ensures rest { IfOk result (λ first. (new : ObjNo) → let maps = (R.held rows.now).maps in
         find (meets_on (world_of maps) new) (from_here maps x first)
         ≡ find (meets_on (world_of maps) new) (walk_down (world_of maps) x)) }

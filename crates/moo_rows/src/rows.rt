@@ -26,7 +26,7 @@ pub trait Rows {
     /// The head and what the maps hold, how many rows were put or removed so far, and what the rows are over.
     ghost held: { Self → Held };
 
-    /// Whether more rows may be looked up and changed. A draft says no once more ticks are spent than it has; no contract says it.
+    /// Whether more rows may be looked up and changed. A draft answers no once more ticks are spent than it has. No contract says when.
     fn may_go_on(&self) -> bool {
         true
     }

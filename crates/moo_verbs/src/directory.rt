@@ -12,7 +12,7 @@ use moo_rows::{ArgSpec, Row, Rows, VerbBits, VerbId, VerbRow, each_verb_of};
 use moo_value::{MooStr, ObjNo};
 use std::alloc::{AllocError, Global};
 
-/// The names of each verb of x, as one string, in the order of the directory. The only error is a lack of memory.
+/// For each verb of x the string of its names, as it was given, in the order of the directory. The only error is a lack of memory.
 ///
 /// LambdaMOO Programmer's Manual, 'Operations on Verbs': `verbs`.
 pub fn list<R: Rows>(alloc: Global, rows: &R, x: ObjNo) -> Result<Vec<MooStr>, AllocError>

@@ -167,9 +167,11 @@ petition_call Grant = Some to_grant
 petition_call Decline = Some to_decline
 petition_call name = None
 
+-- the call is `grant`
 abbrev pub grants : PetitionCall → Bool
 grants to_grant = true
 grants call = false
 
+-- the name is that of `grant`
 abbrev pub is_grant : CallName → Bool
 is_grant name = elim (petition_call name) [ None ↦ false | Some call ↦ grants call ]
