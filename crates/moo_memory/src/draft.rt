@@ -79,7 +79,7 @@ impl<'a, R: Rows> Draft<'a, R> {
     /// A draft without changes, whose rows may be looked up, put and removed as often as there are ticks. Past that each put and each
     /// removal is refused.
     pub fn within(alloc: Global, base: &'a R, ticks: u64) -> Draft<'a, R>
-        // Its head and rows are those of the base.
+        // The head and the rows of the draft are those of the base.
         ensures maps { result.maps ≡ (R.held base.now).maps }
         // It is over the rows of the base, has so many ticks, and calls may be made on it.
         ensures base { result.base ≡ record { maps = (R.held base.now).maps; most = ticks; is_spent = false } }

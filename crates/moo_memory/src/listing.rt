@@ -19,7 +19,7 @@ pub(crate) fn list_tied(
     after: ObjNo,
     list: &mut Vec<ObjNo>,
 ) -> Result<(), AllocError>
-    // If the objects that are paired with x are those that have a link, the objects past `after` that have it are listed.
+    // If the objects that are paired with x are those that have a link, the objects past `after` that have the link are appended.
     ensures { (maps : Maps) (link : Link) → ((q : ObjNo) → has_key tie_cmp pairs.now (x, q) ≡ is_linked maps link q) →
         OnOk result (list.new.items ≡ list.old.items ++ map_list (λ e. e.0) (linked_left link after maps)) }
 {

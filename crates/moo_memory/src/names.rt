@@ -66,7 +66,7 @@ pub fn next_tagged(
     if same_tag(of, tag) { Some(key) } else { None }
 }
 
-/// Whether there is a tag that stays, and it is this one.
+/// Whether there is a tag that stays, and it is `tag`.
 fn is_tag(stays: Option<(ObjNo, u64)>, tag: (ObjNo, u64)) -> bool
     ensures { IsTrue result ↔ (stays ≡ Some tag) }
 {

@@ -77,8 +77,8 @@ pub fn new_row<K: OrderedKey, V>(changes: &BTreeMap<K, Option<V>>, key: K) -> Op
     }
 }
 
-/// Sets the new row of a key, or `None` if its row is removed, and counts it. After an `Err`, a lack of memory or of ticks, nothing has
-/// changed.
+/// Sets the new row of a key, or `None` if its row is removed, and counts one write. After an `Err`, a lack of memory or of ticks, nothing
+/// has changed.
 pub fn put<K: OrderedKey, V: Drop>(
     changes: &mut BTreeMap<K, Option<V>>,
     writes: &mut u64,
@@ -88,7 +88,7 @@ pub fn put<K: OrderedKey, V: Drop>(
 ) -> Result<(), AllocError>
     // The change is set, and counted as one write.
     ensures ok { OnOk result ((contents K.cmp changes.new ≡ map.insert (contents K.cmp changes.old) key row) × (writes.new ≡ writes.old + 1)) }
-    // Neither the changes nor the count differ from before.
+    // After an error neither the changes nor the count have changed.
     ensures err { OnErr result ((contents K.cmp changes.new ≡ contents K.cmp changes.old) × (writes.new ≡ writes.old)) }
     // Writes that were within the ticks stay within them.
     ensures most { writes.old ≤ ticks.now.most → writes.new ≤ ticks.now.most }

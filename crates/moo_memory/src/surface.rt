@@ -10,7 +10,7 @@ use std::alloc::Global;
 impl<'a, R: Rows> Draft<'a, R> {
     /// A draft without changes, whose rows may be looked up, put and removed without a bound.
     pub fn new(alloc: Global, base: &'a R) -> Draft<'a, R>
-        // Its head and rows are those of the base.
+        // The head and the rows of the draft are those of the base.
         ensures maps { result.maps ≡ (R.held base.now).maps }
         // It is over the rows of the base.
         ensures base { result.base.maps ≡ (R.held base.now).maps }
