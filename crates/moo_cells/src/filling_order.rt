@@ -8,7 +8,7 @@ use sqlite::Row;
 /// The rows in another order: in each block every second row comes first, and then those between.
 ///
 /// A map splits a full node in the middle. Keys that rise never reach its lower half again, so that each node stays half empty. In this
-/// order those between fill it: a map of all rows takes half the memory.
+/// order the keys between fill it: a map of all rows takes half the memory.
 pub(crate) fn in_filling_order(mut rows: Vec<Row>) -> Vec<Row>
     ensures { IsPermutation rows.items result.items }
 {

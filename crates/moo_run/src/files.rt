@@ -44,10 +44,10 @@ fn run_in_files<'s, S: Streams, D: Disk + Drop>(
     // The task runs from the moment at which the World works.
     ensures runs { (m : Moment) → Stands over_files world (Works m) →
         RunsIn (file_state result) task.entry m (⟦<Session<'s, S> as HasRun>⟧.run session.old session.new) }
-    // If the disk returns what was written, it did so before.
+    // If the disk is clean after the task, it was clean before.
     ensures clean { (m : Moment) → Stands over_files world (Works m) →
         HasCleanDisk (file_state result) → HasCleanDisk (store_of over_files world) }
-    // A task that only reads commits nothing.
+    // After any task but `apply` and `serve` a crash leaves nothing that it couldn't leave before.
     ensures still { only_reads task.entry.action ≡ true → LeavesNothingNew (store_of over_files world) (file_state result) }
     // Only a task whose text is `-` reads the input.
     ensures input { reads_input task.entry ≡ false → session.new.input ≡ session.old.input }
@@ -181,7 +181,7 @@ fn run_in_memory<'s, S: Streams>(session: &mut Session<'s, S>, task: Task<'_>)
     // The file of batches or the dump that the task names may be read.
     requires read { (path : List ℕ) → ReadsFile task path → S.Host.may_read session.old.host path }
     requires anew { begins_anew task ≡ true }
-    // The task runs from the new world that it begins with, or that can't be made and a line tells why.
+    // The task runs from the new world that it begins with; or that world can't be made, and a line tells why.
     ensures runs { RunsTask task.entry (⟦<Session<'s, S> as HasRun>⟧.run session.old session.new) }
     // Only a task whose text is `-` reads the input.
     ensures input { reads_input task.entry ≡ false → session.new.input ≡ session.old.input }
@@ -206,7 +206,7 @@ pub(crate) fn run_task<'s, S: Streams>(
     // Whatever the file holds, the task runs from the world that it begins with or that was found, or none is made or found and a line
     // tells why.
     ensures runs { RunsTask task.entry (⟦<Session<'s, S> as HasRun>⟧.run session.old session.new) }
-    // By what the file held: a task on a file runs over it, and one on `:memory:` over none.
+    // By what the file held: a task on a file runs over it, and a task on `:memory:` over no file.
     ensures ends { EndsWith task.entry (image_at S.File.Start) result (⟦<Session<'s, S> as HasRun>⟧.run session.old session.new) }
     // Only a task whose text is `-` reads the input.
     ensures input { reads_input task.entry ≡ false → session.new.input ≡ session.old.input }

@@ -75,9 +75,9 @@ fn report_usage<'s, S: Streams>(session: &mut Session<'s, S>, usage: &Usage)
 /// that fails isn't a failure of `serve`.
 ///
 /// `S::File` is what the file of the words holds, and `S::Host` the host, with its files and its ports: it is proved for all contents and
-/// all connections, and no code looks at them. It looks at and opens no file of a world but that of the words, and reads no file of
-/// batches and no dump but theirs. What is left of the file is handed back, to be closed. If the words name no file, that is the unspent
-/// start.
+/// all connections, and no code looks at them. It looks at and opens no file of a world but that of the words, and reads no file of batches
+/// and no dump but theirs. What is left of the file is handed back, to be closed. If the words name no file, that is `start`, which is
+/// spent only by opening one.
 pub fn run_words<'s, S: Streams>(
     session: &mut Session<'s, S>,
     words: &[&str],
@@ -86,13 +86,14 @@ pub fn run_words<'s, S: Streams>(
     // The file of a world that the words name may be looked at and opened.
     requires may { (task : Task) → NamesTask (map (λ word. word.now) words.now) task →
         S.Host.may_open session.old.host task.file.now }
-    // The file of batches or the dump that they name may be read.
+    // The file of batches or the dump that the words name may be read.
     requires read { (task : Task) (path : List ℕ) → NamesTask (map (λ word. word.now) words.now) task → ReadsFile task path →
         S.Host.may_read session.old.host path }
     // Whatever the file holds: the task that the words name runs, from a new world or from the one that was found; or no world is made or
     // found, and a line tells why; or the words have a mistake, which is told.
     ensures words { RunsWords (map (λ word. word.now) words.now) (⟦<Session<'s, S> as HasRun>⟧.run session.old session.new) }
-    // By what the file holds: the run is one over the world that its tables show, or over a new one; or the file is refused, and spared.
+    // By what the file holds: the run is one over the world that its tables show, or over a new one; or the file is refused, and nothing
+    // that it held is lost, if the disk returned what was written; or the words have a mistake.
     ensures over { RunsOver (map (λ word. word.now) words.now) (image_at S.File.Start) result
         (⟦<Session<'s, S> as HasRun>⟧.run session.old session.new) }
     // Only words of a task that reads the input change it.
@@ -119,13 +120,13 @@ pub fn run_to_end<'s, S: Streams>(
     // The file of a world that the words name may be looked at and opened.
     requires may { (task : Task) → NamesTask (map (λ word. word.now) words.now) task →
         S.Host.may_open session.old.host task.file.now }
-    // The file of batches or the dump that they name may be read.
+    // The file of batches or the dump that the words name may be read.
     requires read { (task : Task) (path : List ℕ) → NamesTask (map (λ word. word.now) words.now) task → ReadsFile task path →
         S.Host.may_read session.old.host path }
     // Whatever the file holds: the task that the words name runs, from a new world or from the one that was found; or no world is made or
     // found, and a line tells why; or the words have a mistake, which is told.
     ensures words { RunsWords (map (λ word. word.now) words.now) (⟦<Session<'s, S> as HasRun>⟧.run session.old session.new) }
-    // The file is closed after a run over what it held.
+    // The words ran over what the file held, as the clause `over` of `run_words` says, and then the file was closed.
     ensures closed { RunsClosed (map (λ word. word.now) words.now) (image_at S.File.Start) result
         (⟦<Session<'s, S> as HasRun>⟧.run session.old session.new) }
     // Only words of a task that reads the input change it.

@@ -128,7 +128,7 @@ fn print_each<K: Copy + Drop, C: Drop, V: Print<K, C>>(
     Ok(cells)
 }
 
-/// Whether the row of the first change is there: the hint to the writer of rows. False if nothing changes.
+/// Whether there is a row already at the key of the first change, as `Expected` tells the writer of rows. False if nothing changes.
 fn has_first<V: KeyedRow>(rows: &Flat, changes: &ChangeList<V::Key, V>) -> bool {
     match changes.items().first() {
         Some(change) => V::find(rows, change.0).is_some(),

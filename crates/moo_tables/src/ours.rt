@@ -233,8 +233,8 @@ fn is_second_schema(schema: &Schema) -> bool
 
 /// Which version of the tables a database has.
 ///
-/// It has a version if it has exactly its tables, made in their order, the indexes of their keys, no other index and no view. Answers
-/// None for any other database. `AllocError`: memory ran out.
+/// It has a version if it has exactly that version's tables, made in their order, the indexes of their keys, no other index and no view.
+/// Answers None for any other database. `AllocError`: memory ran out.
 pub fn version_of(alloc: Global, schema: &Schema) -> Result<Option<Version>, AllocError>
     // A version is found only if the tables are exactly those of this version.
     ensures ours { IfOk result (λ found. IfSome found (λ version. schema.now ≡ schema_of version)) }

@@ -31,7 +31,8 @@ fn counter_values(next: u32) -> [ValueRef<'static>; 2]
 }
 
 /// Puts the number of the next petition, in place of the one that is there. If that is the same, nothing is written. Answers how many rows
-/// were written. It fails only if the store does, at the limit on steps, or if a table has no number left for a row.
+/// were written. It fails only if the store does, if it takes more steps than the connection allows, or if a table has no number left for a
+/// row.
 pub fn put_counter<T: Run>(tx: &mut T, next: u32) -> Result<usize, Error>
     // The transaction is on the connection that it was on.
     ensures same_reference { T.lender tx.new ≡ T.lender tx.old }
@@ -49,7 +50,7 @@ pub fn put_counter<T: Run>(tx: &mut T, next: u32) -> Result<usize, Error>
 }
 
 /// Puts the number of the next petition, if one is given. Otherwise no statement runs, and the row stays. Answers how many rows were
-/// written. It fails only if the store does, at the limit on steps, or if a table has no number left for a row.
+/// written. It fails only if the store does, if it takes more steps than the connection allows, or if a table has no number left for a row.
 pub fn put_next_petition<T: Run>(tx: &mut T, next: Option<u32>) -> Result<usize, Error>
     // The transaction is on the connection that it was on.
     ensures same_reference { T.lender tx.new ≡ T.lender tx.old }
