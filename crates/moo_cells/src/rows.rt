@@ -66,8 +66,7 @@ fn read_tables(alloc: Global, lists: CellLists, rows: &mut Flat) -> Result<(), C
 
 /// The rows that the tables show, within their limits; whether they are those of a world isn't tested.
 ///
-/// Errors: `Damaged` with `BadHead` or `BadCell`, the first of the two that is met, and its least key; `NewerVersion`;
-/// `OutOfMemory`.
+/// Errors: `Damaged` with `BadHead` or `BadCell`, the first of the two that is met, and its least key; `NewerVersion`; `OutOfMemory`.
 pub fn read_rows(alloc: Global, lists: CellLists) -> Result<Flat, CellFault>
     // In each table the keys are whole numbers, and each is above the one before.
     requires { AreListed lists }

@@ -141,8 +141,8 @@ pub(crate) fn open_connection<T: Start, H: WorldFiles<T>>(
     // If the disk returned what was written, files that held anything are spared. If they weren't opened, the fault is CannotOpen,
     // NotADatabase of an empty file, DatabaseBusy or OutOfMemory.
     ensures refused { IfErr result (λ e. IsRefusedFrom (image_at T.Start) e.0 e.1) }
-    // Files without a database hold none still, or one without rows. A database stays as it is; no fault says that it isn't ours, and one
-    // that it is malformed comes only if the disk failed.
+    // Files that hold nothing hold nothing still, or a database without rows. A database stays as it is; no fault says that it isn't ours,
+    // and it is called malformed only if the disk failed.
     ensures unconnects { (held : Contents) → Hold (image_at T.Start) held →
         IfErr result (λ e. IsCleanRemains e.1 → Unconnects held (image_at T.Start) e.0 e.1) }
     // A database is refused only if the host denied it, memory ran out, a call of the disk failed, or the files are as long as their format

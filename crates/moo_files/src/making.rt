@@ -42,8 +42,8 @@ pub fn make_in<S: Alter + Drop>(
     }
 }
 
-/// `make_in` at the store in files, over any disk. What is known of that store weighs on each function that calls a generic one at it, so
-/// this call has a function of its own. The errors are those of `load_in` and `create_in`, each with the connection.
+/// `make_in` at the store in files, over any disk: a function of its own, since a function with such a call takes long to prove. The errors
+/// are those of `load_in` and `create_in`, each with the connection.
 pub(crate) fn make_files<D: Disk + Drop>(
     alloc: Global,
     conn: Connection<FileStore<D>>,

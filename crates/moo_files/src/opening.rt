@@ -51,8 +51,8 @@ fn refusal_of_metadata(found: io::Result<Metadata>) -> Option<StoreFault>
     }
 }
 
-/// `adopt` at the store in files, over any disk. What is known of that store weighs on each function that calls a generic one at it, so
-/// this call has a function of its own. The errors are those of `adopt`, each with the connection.
+/// `adopt` at the store in files, over any disk: a function of its own, since a function with such a call takes long to prove. The errors
+/// are those of `adopt`, each with the connection.
 pub fn adopt_files<D: Disk + Drop>(
     alloc: Global,
     conn: Connection<FileStore<D>>,

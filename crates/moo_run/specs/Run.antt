@@ -388,9 +388,8 @@ abbrev pub RunsOpened : Task → Run → Type 0
 RunsOpened task run = (run.given.ports.rests × RefusesFile run)
     ⊎ ((rows : Maps) × IsGood rows × RunsUnseen task (rows_alone rows) run)
 
--- The outcome of a task, whatever its file holds. If it begins with a new world, it runs from that, or it can't be made. Any
--- other runs from the world that was found in its file, or the file is refused. (That it is the world which the file's tables
--- show, `RunsFile` says.)
+-- The outcome of a task, whatever its file holds. If it begins with a new world, it runs from that, or it can't be made. Any other runs
+-- from the world that was found in its file, or the file is refused. (That it is the world which the file's tables show, `RunsFile` says.)
 pub record RunsTask (task : Task) (run : Run) : Type 0 where
   pub anew : begins_anew task ≡ true → RunsNew task run
   pub opened : begins_anew task ≡ false → RunsOpened task run

@@ -32,8 +32,7 @@ fn begins_anew(task: Task<'_>) -> bool
     matches!(task.action, Action::Init | Action::Load { .. }) || task.file == ":memory:"
 }
 
-/// `run_in_session` at the store in files, over any disk. What is known of that store weighs on each function that calls a generic one at it,
-/// so this call has a function of its own.
+/// `run_in_session` at the store in files, over any disk: a function of its own, since a function with such a call takes long to prove.
 fn run_in_files<'s, S: Streams, D: Disk + Drop>(
     session: &mut Session<'s, S>,
     world: World<FileStore<D>>,

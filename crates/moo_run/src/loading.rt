@@ -71,7 +71,6 @@ fn read_or_explain<C: Eprint>(
     // The dump of the rows is the text, byte for byte.
     ensures loaded { IfOk result (λ rows. dump_of (state_of rows.maps) ≡ text.now) }
     ensures good { IfOk result (λ rows. IsGood rows.maps) }
-    // The number of the last batch is below 2^63.
     ensures limit { IfOk result (λ rows. rows.maps.head.seq < 2 ^ 63) }
     // Properties and verbs are numbered from 1, in the order of the dump.
     ensures numbered { IfOk result (λ rows. AreRowsOf (state_of rows.maps) rows.maps) }
@@ -95,7 +94,6 @@ fn rows_of_dump<C: Eprint, R: Read + Drop>(
     mut text: R,
 ) -> Result<Flat, Failure>
     ensures good { IfOk result (λ rows. IsGood rows.maps) }
-    // The number of the last batch is below 2^63.
     ensures limit { IfOk result (λ rows. rows.maps.head.seq < 2 ^ 63) }
     // Properties and verbs are numbered from 1, in the order of the dump.
     ensures numbered { IfOk result (λ rows. AreRowsOf (state_of rows.maps) rows.maps) }
@@ -122,7 +120,6 @@ pub(crate) fn read_world<C: Eprint, H: BatchFiles, R: Read + Drop>(
     // The file of this path may be read, if it isn't the input.
     requires read { bytes_eq dump.now (codes "-") ≡ false → H.may_read host.now dump.now }
     ensures good { IfOk result (λ rows. IsGood rows.maps) }
-    // The number of the last batch is below 2^63.
     ensures limit { IfOk result (λ rows. rows.maps.head.seq < 2 ^ 63) }
     // Properties and verbs are numbered from 1, in the order of the dump.
     ensures numbered { IfOk result (λ rows. AreRowsOf (state_of rows.maps) rows.maps) }

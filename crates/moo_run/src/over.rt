@@ -22,8 +22,7 @@ use moo_run_lines::Failure;
 use moo_store::World;
 use sqlite::{Alter, Connection};
 
-/// Does what a task says over a World, writes the line of a failure, and hands the connection back. The status is that of
-/// `run_words`.
+/// Does what a task says over a World, writes the line of a failure, and hands the connection back. The status is that of `run_words`.
 ///
 /// The World may be any: one whose tables are known to show its rows, or one of which only the rows are known.
 pub fn run_in_session<'s, S: Streams, B: Alter + Drop>(

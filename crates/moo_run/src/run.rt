@@ -67,12 +67,11 @@ fn report_usage<'s, S: Streams>(session: &mut Session<'s, S>, usage: &Usage)
 /// Does what the words say, which begin with `moo`, and sets the exit status: `init`, `load`, `apply`, `ask`, `dump`, `check` or
 /// `serve` on a file, or on a new world in memory for `:memory:`. With no other word it is `apply :memory: -`.
 ///
-/// What the command writes goes to the output, and after it the line of a failure. The status is 1 if the store, the reader or
-/// the writer failed, the text is too long, the port can't be listened on, or an answer is `fault` or `closed`; 3 if the file
-/// is damaged or of a newer version, or a dump shows no world; 4 if memory ran out. Words that name no task give the text of their
-/// reader: 2, or 0 for help and the version. If the store, the batches, the dump or the port failed, the cause goes to standard error,
-/// and so does a hint if a batch met a fault of the store. If a batch isn't accepted, standard error says its line and why. A connection
-/// that fails isn't a failure of `serve`.
+/// What the command writes goes to the output, and after it the line of a failure. The status is 1 if the store, the reader or the writer
+/// failed, the text is too long, the port can't be listened on, or an answer is `fault` or `closed`; 3 if the file is damaged or of a newer
+/// version, or a dump shows no world; 4 if memory ran out. Words that name no task give the text of their reader: 2, or 0 for help and the
+/// version. If the store, the batches, the dump or the port failed, the cause goes to standard error, and so does a hint if a batch met a
+/// fault of the store. If a batch isn't accepted, standard error says its line and why. A connection that fails isn't a failure of `serve`.
 ///
 /// `S::File` is what the file of the words holds, and `S::Host` the host, with its files and its ports: it is proved for all contents and
 /// all connections, and no code looks at them. It looks at and opens no file of a world but that of the words, and reads no file of batches

@@ -29,9 +29,9 @@ module _ {R W : Type 0}
   Runs (call ∷ earlier) first last =
       (between : Held R W inward incoming reader outward writer × ℕ) × Runs earlier first between × Allows call between last
 
-  -- The ledger of a desk after these calls. Each connection that the gate gave is still gathered, was handed out, or was lost as it came, in
-  -- a call that hands out none. Each that was given back is still held, or all of its answer was sent, or it was lost, and never both. As
-  -- many were lost as losses were told of, or are noted still.
+  -- The ledger of a desk after these calls. Each connection that the gate gave is still gathered, was handed out, or was lost as it came,
+  -- in a call that hands out none. Each that was given back is still held, or all of its answer was sent, or it was lost, and never both.
+  -- As many were lost as losses were told of, or are noted still.
   pub record DeskLedger (calls : List (Call R W)) (first last : Held R W inward incoming reader outward writer × ℕ) : Type 0 where
     pub missed : ℕ
     pub came : last.1 ≡ first.1 + (length last.0.slots.items + in_all handed_in calls + missed)

@@ -22,8 +22,7 @@ pub record BecomesCurrent (old new : Tables) : Type 0 where
 abbrev pub unread_of : Trees → List Row
 unread_of trees = trees (slot_tree First)
 
--- which of the rows of the table `slot` are left once tables of this version were brought to the present one: a migration empties the
--- table
+-- which of the rows of the table `slot` are left once tables of this version were brought to the present one: a migration empties the table
 abbrev pub unread_kept : Version → List Row → List Row
 unread_kept First rows = []
 unread_kept Second rows = rows

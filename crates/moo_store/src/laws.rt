@@ -82,9 +82,7 @@ pub fn leads_decide()
 /// was given before.
 #[tactic(auto, using(crate::proofs::Leading::leads_stay, crate::proofs::Leading::leads_keep_petitions))]
 pub fn leads_keep_numbers()
-    // Properties and verbs.
     ensures numbers { (m end : Moment) (batches : List Batch) → LeadsByEach m batches end → NumbersStay m.rows end.rows }
-    // Petitions.
     ensures petitions { (m end : Moment) (batches : List Batch) → LeadsByEach m batches end →
         PetitionsStay (state_of m.rows) (state_of end.rows) }
 {}

@@ -15,8 +15,7 @@ use moo_value::ObjNo;
 use sqlite::{Alter, Connection, Error};
 
 /// Makes the tables that the second version added to the first, `slot2`, `petition` and `petition_head`, empty. The other tables stay as
-/// they are. It fails only if the store does, if it takes more steps than the connection allows, or if a table has no number left for a
-/// row.
+/// they are. It fails only by what stops any change (`StopsChange`).
 #[tactic(auto, using(moo_tables_rows::proofs::InsideLemmas::stays_then))]
 pub(crate) fn create_added_tables<T: Run>(tx: &mut T) -> Result<usize, Error>
     // The transaction is on the connection that it was on.
@@ -35,8 +34,8 @@ pub(crate) fn create_added_tables<T: Run>(tx: &mut T) -> Result<usize, Error>
 
 /// Makes the tables of the present version with this head and these slots, within a transaction.
 ///
-/// The first petition has the number 1. Every row of the table `slot` is deleted, which only the first version reads. It fails only if the
-/// store does, if it takes more steps than the connection allows, or if a table has no number left for a row.
+/// The first petition has the number 1. Every row of the table `slot` is deleted, which only the first version reads. It fails only by what
+/// stops any change (`StopsChange`).
 #[tactic(auto, using(moo_tables_rows::proofs::InsideLemmas::stays_then))]
 fn write_migrated<T: Run>(
     tx: &mut T,

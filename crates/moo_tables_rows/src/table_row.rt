@@ -34,8 +34,7 @@ pub trait TableRow {
         ensures { result.now ≡ put_text table };
 
     /// Runs the statement with one of the three texts, and answers how many rows it wrote. If a cell of the row stays, the statement runs
-    /// that writes over the other cells. It fails only if the store does, if it takes more steps than the connection allows, or if a table
-    /// has no number left for a row.
+    /// that writes over the other cells. It fails only by what stops any change (`StopsChange`).
     fn write<T: Run>(&self, tx: &mut T, key: Self::Key, text: &str) -> Result<usize, Error>
         // The transaction is on the connection that it was on.
         ensures same_reference { T.lender tx.new ≡ T.lender tx.old }
@@ -44,8 +43,8 @@ pub trait TableRow {
         // If the text is one of the three, the tables change as that statement changes them.
         ensures wrote { WritesRow table (with_row key (Some self.now)) text.now (T.state tx.old) (T.state tx.new) result };
 
-    /// Deletes the row with a key, if there is one. Answers how many rows it deleted: one or none. It fails only if the store does, if it
-    /// takes more steps than the connection allows, or if a table has no number left for a row.
+    /// Deletes the row with a key, if there is one. Answers how many rows it deleted: one or none. It fails only by what stops any change
+    /// (`StopsChange`).
     fn remove<T: Run>(tx: &mut T, key: Self::Key) -> Result<usize, Error>
         // The transaction is on the connection that it was on.
         ensures same_reference { T.lender tx.new ≡ T.lender tx.old }
@@ -53,11 +52,11 @@ pub trait TableRow {
         ensures inside { StaysInside (T.state tx.old) (T.state tx.new) }
         // If it succeeds, no row has the key, and every other row stays.
         ensures gone { OnOk result (Changes (with_row key None) (T.state tx.old) (T.state tx.new)) }
-        // It fails only if the store does, if it takes more steps than the connection allows, or if a table has no number left for a row.
+        // On our tables it fails only if the store does, if it takes more steps than the connection allows, or if no row number is left.
         ensures cause { HasCauseIn (T.state tx.old) (T.state tx.new) result };
 
-    /// Writes over the row with a key, if there is one. Answers how many rows it wrote over: one or none. It fails only if the store does,
-    /// if it takes more steps than the connection allows, or if a table has no number left for a row.
+    /// Writes over the row with a key, if there is one. Answers how many rows it wrote over: one or none. It fails only by what stops any
+    /// change (`StopsChange`).
     final fn update<T: Run>(&self, tx: &mut T, key: Self::Key) -> Result<usize, Error>
         // The transaction is on the connection that it was on.
         ensures same_reference { T.lender tx.new ≡ T.lender tx.old }
@@ -65,7 +64,7 @@ pub trait TableRow {
         ensures inside { StaysInside (T.state tx.old) (T.state tx.new) }
         // If it wrote over a row, the tables have the new row in its place; if over none, they stay as they are.
         ensures over { IfOk result (λ count. WritesOver (with_row key (Some self.now)) count (T.state tx.old) (T.state tx.new)) }
-        // It fails only if the store does, if it takes more steps than the connection allows, or if a table has no number left for a row.
+        // On our tables it fails only if the store does, if it takes more steps than the connection allows, or if no row number is left.
         ensures cause { HasCauseIn (T.state tx.old) (T.state tx.new) result }
     {
         self.write(tx, key, Self::text_of_update())
@@ -87,8 +86,7 @@ pub trait TableRow {
         self.write(tx, key, Self::text_of_insert())
     }
 
-    /// Puts a row, in place of the one with its key if there is one. It fails only if the store does, if it takes more steps than the
-    /// connection allows, or if a table has no number left for a row.
+    /// Puts a row, in place of the one with its key if there is one. It fails only by what stops any change (`StopsChange`).
     final fn put<T: Run>(&self, tx: &mut T, key: Self::Key) -> Result<usize, Error>
         // The transaction is on the connection that it was on.
         ensures same_reference { T.lender tx.new ≡ T.lender tx.old }
@@ -97,7 +95,7 @@ pub trait TableRow {
         // If it succeeds, the tables have this row at its key, and change nowhere else. If the row leaves a cell as it is and no row had
         // the key, none has it afterwards.
         ensures put { OnOk result (Changes (with_row key (Some self.now)) (T.state tx.old) (T.state tx.new)) }
-        // It fails only if the store does, if it takes more steps than the connection allows, or if a table has no number left for a row.
+        // On our tables it fails only if the store does, if it takes more steps than the connection allows, or if no row number is left.
         ensures cause { HasCauseIn (T.state tx.old) (T.state tx.new) result }
     {
         self.write(tx, key, Self::text_of_put())
