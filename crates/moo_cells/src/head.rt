@@ -113,7 +113,7 @@ fn head_of(version: Version, cells: &Row) -> Result<Head, CellFault>
     // The cells are those of the head, in this version.
     ensures ok { IfOk result (λ head. ReadsHead (version_number version) head cells.now) }
     ensures limit { IfOk result (λ head. head.seq < 2 ^ 63) }
-    // Damaged: they are those of no head of this version, nor of a later one. NewerVersion: they are those of a later one.
+    // Damaged: the cells are those of no head of this version or of a later one. NewerVersion: they are those of a later one.
     ensures err { IfErr result (SaysOfHead (ReadsKnown (version_number version) cells.now) (ReadsNewer greatest_version cells.now)) }
 {
     let Ok(numbers) = numbers_of(cells) else {

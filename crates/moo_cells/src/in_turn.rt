@@ -141,7 +141,7 @@ pub fn read_in_turn<S: Alter>(
 ) -> Result<Option<Flat>, Error>
     // Nothing is written, and it fails only if the store does, or if it takes more steps than the connection allows.
     ensures reads { OnlyReads version (state S.Store conn.old) (state S.Store conn.new) result }
-    // The tables show the rows that are read.
+    // If the disk returned what was written, and the connection had tables of this version at rest, they show the rows that are read.
     ensures shown { HasCleanDisk (state S.Store conn.new) → IfOk result (λ o. IfSome o (λ rows. (tables : Tables) →
         Rests (state S.Store conn.old) tables → tables.version ≡ version → ShowsRows tables rows.maps)) }
     // The rows that are read are good, whatever the tables hold.

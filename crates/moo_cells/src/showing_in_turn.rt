@@ -50,7 +50,8 @@ fn show_table<R: ReadRow, S: Alter>(
     requires { HasTable version table }
     // Nothing is written, and it fails only if the store does, or if it takes more steps than the connection allows.
     ensures reads { OnlyReads version (state S.Store conn.old) (state S.Store conn.new) result }
-    // If the kind of rows has the laws of `KeepsTable`: if the answer is true, reading the table would give the very rows of this kind.
+    // If the kind of rows has the laws of `KeepsTable` and the answer is true, reading the table would give just the given rows of the
+    // kind.
     ensures shown { KeepsTable R.order (R.reads version) R.apart R.in_order (R.holds version) (R.unread version) R.whole R.tells →
         IfOk result (λ show. show ≡ true → TakesTable R.map_of R.with_map R.apart (R.holds version) (R.reads version)
         table version (state S.Store conn.old) (state S.Store conn.new) rows.now.maps rows.now.maps) }
@@ -70,7 +71,7 @@ fn show_tables<S: Alter>(
 ) -> Result<bool, Error>
     // Nothing is written, and it fails only if the store does, or if it takes more steps than the connection allows.
     ensures reads { OnlyReads version (state S.Store conn.old) (state S.Store conn.new) result }
-    // If the answer is true, reading the four tables would give the very rows.
+    // If the answer is true, reading the four tables would give just the given rows.
     ensures shown { IfOk result (λ show. show ≡ true →
         TakesTables version (state S.Store conn.old) (state S.Store conn.new) rows.now.maps rows.now.maps) }
 {

@@ -19,7 +19,7 @@ use Rattle.moo_files.specs.declared.remains.Remains.{Remains}
 abbrev pub IsNewOrFound : Image → Database → Type 0
 IsNewOrFound image store = (IsBlank image × IsEmpty store.committed.trees) ⊎ FindsIn image store
 
--- while a store is open, a crash leaves its last commit alone
+-- while a store is open, a crash leaves its last commit, and nothing else
 abbrev pub OnlyLeaves : Database → Type 0
 OnlyLeaves store = IsTrue store.is_open → (trees : Trees) → store.may_leave trees → trees ≡ store.committed.trees
 

@@ -63,9 +63,9 @@ fn unopened_over<D: Disk>(
     size: PageSize,
     options: Options,
 ) -> Result<Unopened<D>, Files<D>>
-    // The files that come back are these.
+    // The files that come back are the given ones.
     ensures back { IfErr result (λ left. (left.log ≡ files.log) × (left.db ≡ files.db)) }
-    // The store is over these files.
+    // The store is over the given files.
     ensures files { IfOk result (λ unopened. files_of unopened ≡ (files.log, files.db)) }
     // Their pages have this size.
     ensures size { IfOk result (λ unopened. (state_of unopened).page_size ≡ bytes_of size) }

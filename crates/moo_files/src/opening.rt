@@ -39,7 +39,7 @@ fn refusal_of_metadata(found: io::Result<Metadata>) -> Option<StoreFault>
     ensures empty { IfOk found (λ meta. IsFile (file_type meta) → metadata_len meta ≡ 0 → result ≡ Some not_ours) }
     // Any other file isn't refused yet.
     ensures fit { IfOk found (λ meta. (IsFile (file_type meta) → metadata_len meta ≢ 0) → result ≡ None) }
-    // No other fault comes.
+    // A fault is CannotOpen or NotADatabase.
     ensures fault { IfSome result (λ fault. (fault ≡ cannot_open) ⊎ (fault ≡ not_ours)) }
     // A fault comes only if there is no file, or it can't be looked at, or it has no byte.
     ensures unfit { IsSome result → IsUnfit found }

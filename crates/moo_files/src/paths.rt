@@ -11,7 +11,7 @@ use sqlite_std_file::OpenError;
 use std::fs::Metadata;
 use std::io::Result as IoResult;
 
-/// The files of worlds, by their paths. `T` is what those that are opened hold.
+/// The files of worlds, by their paths. `T` is what the opened files hold.
 ///
 /// A file is opened by spending a `T`, which can't be copied or made. So code over any `T` opens no more files than it was given starts,
 /// and no file for anything else.

@@ -66,7 +66,7 @@ module _ {D : Type 0} {g : Ghosts D} where
     pub room : begins_anew task ≡ true → HasCleanDisk (file_state conn) → HoldsNoTable image
     pub occupied : (trees : Trees) → begins_anew task ≡ true → HoldsTrees image trees → HasAnyTable trees →
         HasCleanDisk (file_state conn) → ⊥
-    -- or it takes up what the file holds, and runs from good rows whatever that is
+    -- or it takes up what the file holds, and runs from good rows whatever the file holds
     pub over : begins_anew task ≡ false → (held : Contents) → Hold image held → HasCleanDisk (file_state conn) → RanOnto task held conn run
     pub sound : begins_anew task ≡ false → HasCleanDisk (file_state conn) → ReadsAsOurs image
     pub opened : begins_anew task ≡ false → (rows : Maps) × IsGood rows × RunsUnseen task (rows_alone rows) run

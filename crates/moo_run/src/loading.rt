@@ -21,7 +21,7 @@ use moo_run_lines::Failure;
 use std::alloc::Global;
 use std::io::{Eprint, Read};
 
-/// The word for the dump of a task, if it begins with the world of one.
+/// The word that names the dump of a task, if the task is a load; else None.
 fn dump_word<'a>(task: Task<'a>) -> Option<&'a str>
     ensures { MatchOption result
         (is_load task.entry.action ≡ false)

@@ -74,8 +74,8 @@ pub fn run_and_run_again<'s, 'n, S: Streams, N: Streams>(
 }
 
 /// As `run_and_run_again`, if the process stops once the first words are done, before their file is closed. For what a crash leaves, the
-/// disk has to return what was written until the crash; for the bytes that it leaves, until the file would be closed. Of what the first
-/// run tells as it ends nothing is said here: `run_words` says it.
+/// disk has to return what was written until the crash; for the bytes that it leaves, until the file would be closed. What the first run
+/// tells as it ends, `run_words` says.
 pub fn stop_and_run_again<'s, 'n, S: Streams, N: Streams>(
     session: &mut Session<'s, S>,
     words: &[&str],

@@ -13,7 +13,7 @@ use std::io::{Read, Write};
 pub fn exchanges_pass_the_desk<R: Inward, W: Outward>()
     // If all of the answer was sent, its peer, who asked, sees what the service exchanged.
     ensures sent { DeskAnswers R.peer R.reads R.fails R.Read ⟦<Gathered<R> as Read>⟧ W.peer W.Write ⟦<Outgoing<W> as Write>⟧ }
-    // If a part of it is lost or is still to be sent, its peer sees the beginning of the answer.
+    // If a part of the answer is lost or is still to be sent, its peer, who asked, sees the beginning of the answer.
     ensures lost { DeskFronts R.peer R.reads R.fails R.Read ⟦<Gathered<R> as Read>⟧ W.peer W.Write ⟦<Outgoing<W> as Write>⟧ }
     // If the desk's reader failed, that of the peer failed in it, or the desk gave the request up.
     ensures cause { DeskCauses R.fails ⟦<Gathered<R> as Incoming>⟧.fails }

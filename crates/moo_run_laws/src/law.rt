@@ -30,8 +30,8 @@ pub fn runs_lead_on<S: HasRun, N: HasRun>()
         HandsOver first next }
 {}
 
-/// What the disk leaves of the files of a run that is stopped, once these are closed, may be found after it: `run_to_end` says that they
-/// are closed so, and `runs_lead_on` from what any run over these bytes then goes on.
+/// The bytes that the disk may leave of the files of a run, once they are closed, are bytes that may be found after it (`IsFoundAfter`). So
+/// `runs_lead_on` says from what a run over them goes on.
 pub fn ends_are_found<S: HasRun>()
     ensures found { (run : FileRun S.HasRun S.Disk.Disk) (next : Image) → IsClosedEnd run.ends run.closed → IsCleanRemains run.closed →
         EndLeaves run.image run.ends run.closed next → IsFoundAfter run next }

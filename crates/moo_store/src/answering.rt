@@ -23,7 +23,7 @@ pub(crate) trait Answering {
     // What an answer to a batch says of the implementor that gives it, before and after.
     ghost answered: { Self → Batch → Answer → Self → Type 0 };
 
-    /// Who gives the memory for its text and its answers.
+    /// The allocator for its text and its answers.
     fn allocator(&self) -> Global;
 
     /// Answers one batch. If it is refused, the witness sees why.

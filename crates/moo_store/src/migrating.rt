@@ -36,7 +36,7 @@ fn print_slots(
 
 /// Migrates tables of an earlier version, which show these rows, to the present one in one transaction.
 ///
-/// OutOfMemory: nothing was done. Store: the store failed; if the connection is still open, the tables are those before.
+/// OutOfMemory: nothing was done. Store: the store failed; if the connection is still open, the tables are as they were.
 #[tactic(auto, using(crate::proofs::Causes::told_so, crate::proofs::Causes::no_change_otherwise))]
 fn migrate_rows<S: Alter>(
     alloc: Global,
@@ -86,7 +86,7 @@ fn migrate_rows<S: Alter>(
 /// Brings tables of this version, which show these rows, to the present version: those of an earlier one are migrated, and those of the
 /// present one stay. ('Current' in a contract is 'present' of `Version`.)
 ///
-/// OutOfMemory: nothing was done. Store: the store failed; if the connection is still open, the tables are those before.
+/// OutOfMemory: nothing was done. Store: the store failed; if the connection is still open, the tables are as they were.
 #[tactic(auto, using(crate::proofs::OpenLemmas::rests_already))]
 pub(crate) fn make_current<S: Alter>(
     alloc: Global,

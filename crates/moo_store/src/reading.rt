@@ -27,11 +27,11 @@ use std::alloc::Global;
 fn rows_of_lists(alloc: Global, lists: CellLists) -> Result<Flat, StoreFault>
     // The tables show the rows that are read.
     ensures rows { IfOk result (λ rows. ShowsRows (tables_of lists) rows.maps) }
-    // They are those of a world.
+    // The rows that are read are those of a world.
     ensures good { IfOk result (λ rows. IsGood rows.maps) }
     // The number of the last batch is that of a cell, and so is below 2^63.
     ensures limit { IfOk result (λ rows. rows.maps.head.seq < 2 ^ 63) }
-    // Good rows that the tables show are the ones that are read.
+    // If the tables show good rows, those are the rows that are read.
     ensures one { (m : Maps) → ShowsRows (tables_of lists) m → IsGood m → IfOk result (λ rows. rows.maps ≡ m) }
     // A damage that is told is the first of the tables. Any other fault over rows in the order of their keys is OutOfMemory, or
     // NewerVersion of tables of a later version.

@@ -88,7 +88,7 @@ impl Rehearsal {
 
     /// Answers a batch as if it was run: its reply, or `closed` if the rehearsal has failed.
     fn rehearse<N: Witness>(&mut self, batch: &Batch, witness: &mut N) -> Answer
-        // The answer is one that running the batch here may give, and leads to the same place.
+        // Running the batch where the rehearsal is may give this answer, and lead to where the rehearsal then is. It is never `fault`.
         ensures { (from : Place) → IsRehearsedAt self.old from → (to : Place) × IsRehearsedAt self.new to
             × RehearsesAt from batch.now result to }
     {

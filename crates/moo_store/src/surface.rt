@@ -26,9 +26,9 @@ use std::io::{Read, Write};
 impl<S: Alter + Drop> World<S> {
     /// Runs batches in order, and commits each that is accepted before the next one is judged.
     ///
-    /// One reply for each batch is added after the replies that are there, each after its commit. The faults: OutOfMemory if there
-    /// is no room for the replies, before anything is done; Store if the store failed, and then the batch in hand and those after
-    /// it have no reply; Closed if the World had failed.
+    /// One reply for each batch is added after the replies that are there, each after its commit. The faults: OutOfMemory if there is no
+    /// room for the replies, before anything is done; Store if the store failed, and then that batch and the later ones have no reply;
+    /// Closed if the World had failed.
     #[tactic(auto, using(crate::proofs::ListRuns::runs))]
     pub fn run(&mut self, batches: &[Batch], replies: &mut Vec<Reply>) -> Result<(), StoreFault>
         // Each batch that has a reply had its turn, one after another. If the store failed, it did so in the turn of the next batch, which

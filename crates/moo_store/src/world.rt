@@ -188,7 +188,7 @@ impl<S: Alter + Drop> World<S> {
 
     /// The rows; None if the World has failed.
     pub fn good_rows(&self) -> Option<&Flat>
-        // They are those of the World, which hasn't failed, and they show a world.
+        // They are the World's own good rows, and it hasn't failed.
         ensures rows { IfSome result (λ rows. (rows.now ≡ self.now.rows) × IsGood rows.now.maps × (self.now.failed ≡ false)) }
         // There are none only if the World has failed.
         ensures failed { IfNone result (IsTrue self.now.failed) }

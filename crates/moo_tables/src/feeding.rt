@@ -27,7 +27,8 @@ pub trait TakeRows {
     /// From its first state to the last it took these rows, in this order.
     ghost took: { Self → List Cells → Self → Type 0 };
 
-    /// Takes the rows that come next, at most `BLOCK`. False if it can't, as if memory ran out: then no more are handed to it.
+    /// Takes the rows that come next, at most `BLOCK`. False if it can't, for instance if memory ran out: then no more rows are handed to
+    /// it.
     fn take(&mut self, block: Vec<Row>) -> bool
         // If the answer is true, it has taken these rows after those that it took before.
         ensures { (first : Self) (rows : List Cells) → took first rows self.old → result ≡ true →

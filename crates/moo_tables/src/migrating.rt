@@ -64,12 +64,12 @@ fn write_migrated<T: Run>(
 
 /// Makes tables of an earlier version those of the present one, all or nothing.
 ///
-/// The row of `head` is put anew, with the number of the present version. `slots` are the slots that there are from then on: of a
-/// key that comes more than once the last counts. There is no petition, and the first will have the number 1. The table
-/// `slot` is emptied, and the rows of the other tables stay as they are. The number of the last batch, `head.seq`, has to
-/// be below 2^63, and the connection in no transaction. It fails only if the store does, if a statement takes more steps than
-/// the connection allows, or if a table has no number left for a new row. After a fault of the store the database is as it
-/// was, unless the fault shut the connection; what a crash leaves is the tables before or those after, at every exit.
+/// The row of `head` is put anew, with the number of the present version. `slots` are the slots that there are from then on: of a key that
+/// comes more than once the last counts. There is no petition, and the first will have the number 1. The table `slot` is emptied, and the
+/// rows of the other tables stay as they are. The number of the last batch, `head.seq`, has to be below 2^63, and the connection in no
+/// transaction. It fails only if the store does, if a statement takes more steps than the connection allows, or if a table has no number
+/// left for a new row. After a fault of the store the database is as it was, unless the fault shut the connection; what a crash leaves is
+/// the tables before or the tables after, at every exit.
 pub fn migrate<S: Alter>(
     conn: &mut Connection<S>,
     head: &Head,

@@ -57,7 +57,8 @@ pub fn cells_of<S: Alter>(
     // Nothing is written. If the disk is clean and the tables are of the version, it fails only if the store does or memory runs out, or if
     // it takes more steps than the connection allows.
     ensures reads { OnlyReads version (state S.Store conn.old) (state S.Store conn.new) result }
-    // If the disk is clean and the connection is in no transaction, the rows are those of the table, in the order of their keys.
+    // If the disk is clean and the connection has tables of the version at rest, the rows are those of the table, in the order of their
+    // keys.
     ensures listed { Lists version (state S.Store conn.old) (state S.Store conn.new) result
         (λ rows tables. ListsTable table rows.items tables) }
 {
@@ -95,7 +96,7 @@ pub fn small_cells_of<S: Alter>(
     Ok((head, petition, petition_head))
 }
 
-/// Reads the rows of each table of the version; those of petitions if it has any.
+/// Reads the rows of each table of the version. If it has no petitions, their two lists are empty.
 ///
 /// The version has to be that of the database (`version_of`): of another one nothing is said. Nothing is written. It fails
 /// only if the store does, or if it takes more steps than the connection allows. After a fault of the store the tables are as

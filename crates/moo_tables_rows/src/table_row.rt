@@ -11,11 +11,12 @@ ghost use Rattle.moo_tables_rows.specs.Inside.{StaysInside, Changes};
 use crate::statement::Run;
 use sqlite::Error;
 
-/// A row without its key, of a table that has many.
+/// A row, without its key, of a table that has many rows.
 pub trait TableRow {
     type Key: Copy;
 
-    /// The tables with this row at the key, or without a row there.
+    /// The tables with this row at the key, or without a row there. A row that leaves a cell as it is changes nothing if no row has the
+    /// key.
     ghost with_row: { Self.Key → Option Self → Tables → Tables };
 
     /// The table that it is a row of.
@@ -34,7 +35,7 @@ pub trait TableRow {
         ensures { result.now ≡ put_text table };
 
     /// Runs the statement with one of the three texts, and answers how many rows it wrote. If a cell of the row stays, the statement runs
-    /// that writes over the other cells. It fails only by what stops any change (`StopsChange`).
+    /// that writes over the other cells. It fails by what stops any change (`StopsChange`), or since another row has the key of a new one.
     fn write<T: Run>(&self, tx: &mut T, key: Self::Key, text: &str) -> Result<usize, Error>
         // The transaction is on the connection that it was on.
         ensures same_reference { T.lender tx.new ≡ T.lender tx.old }
@@ -43,8 +44,7 @@ pub trait TableRow {
         // If the text is one of the three, the tables change as that statement changes them.
         ensures wrote { WritesRow table (with_row key (Some self.now)) text.now (T.state tx.old) (T.state tx.new) result };
 
-    /// Deletes the row with a key, if there is one. Answers how many rows it deleted: one or none. It fails only by what stops any change
-    /// (`StopsChange`).
+    /// Deletes the row with a key, if there is one. Answers how many rows it deleted: one or none. It fails only by what stops any change.
     fn remove<T: Run>(tx: &mut T, key: Self::Key) -> Result<usize, Error>
         // The transaction is on the connection that it was on.
         ensures same_reference { T.lender tx.new ≡ T.lender tx.old }
@@ -56,7 +56,7 @@ pub trait TableRow {
         ensures cause { HasCauseIn (T.state tx.old) (T.state tx.new) result };
 
     /// Writes over the row with a key, if there is one. Answers how many rows it wrote over: one or none. It fails only by what stops any
-    /// change (`StopsChange`).
+    /// change.
     final fn update<T: Run>(&self, tx: &mut T, key: Self::Key) -> Result<usize, Error>
         // The transaction is on the connection that it was on.
         ensures same_reference { T.lender tx.new ≡ T.lender tx.old }
@@ -77,8 +77,7 @@ pub trait TableRow {
         ensures same_reference { T.lender tx.new ≡ T.lender tx.old }
         // Nothing is committed: a crash leaves what it could leave before.
         ensures inside { StaysInside (T.state tx.old) (T.state tx.new) }
-        // If it succeeds, the tables have this row at its key, and change nowhere else. If the row leaves a cell as it is and no row had
-        // the key, none has it afterwards.
+        // If it succeeds, the tables have this row at its key, and change nowhere else.
         ensures put { OnOk result (Changes (with_row key (Some self.now)) (T.state tx.old) (T.state tx.new)) }
         // If it fails, another row has the key and nothing changed, or it has one of the causes that stop any change.
         ensures met { MeetsRowIn (T.state tx.old) (T.state tx.new) result }
@@ -92,8 +91,7 @@ pub trait TableRow {
         ensures same_reference { T.lender tx.new ≡ T.lender tx.old }
         // Nothing is committed: a crash leaves what it could leave before.
         ensures inside { StaysInside (T.state tx.old) (T.state tx.new) }
-        // If it succeeds, the tables have this row at its key, and change nowhere else. If the row leaves a cell as it is and no row had
-        // the key, none has it afterwards.
+        // If it succeeds, the tables have this row at its key, and change nowhere else.
         ensures put { OnOk result (Changes (with_row key (Some self.now)) (T.state tx.old) (T.state tx.new)) }
         // On our tables it fails only if the store does, if it takes more steps than the connection allows, or if no row number is left.
         ensures cause { HasCauseIn (T.state tx.old) (T.state tx.new) result }

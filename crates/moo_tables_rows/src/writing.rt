@@ -11,8 +11,7 @@ use sqlite::Error;
 
 /// Puts a new row. If a row has its key after all, the new one takes its place. Answers whether a row had the key.
 ///
-/// A plain insertion looks the key up once, and one that may write over a row looks it up twice. It fails only by what stops any change
-/// (`StopsChange`).
+/// A plain insertion looks the key up once, and one that may write over a row looks it up twice. It fails only by what stops any change.
 fn write_new<T: Run, R: TableRow>(tx: &mut T, key: R::Key, row: &R) -> Result<bool, Error>
     // The transaction is on the connection that it was on.
     ensures same_reference { T.lender tx.new ≡ T.lender tx.old }
@@ -35,8 +34,8 @@ fn write_new<T: Run, R: TableRow>(tx: &mut T, key: R::Key, row: &R) -> Result<bo
     }
 }
 
-/// Writes over the row with the key, or puts a new one if no row has it. Answers whether one had it. It fails only by what stops any change
-/// (`StopsChange`).
+/// Writes over the row with the key, or puts a new one if no row has it. Answers whether one had it. It fails only by what stops any
+/// change.
 #[tactic(auto, using(crate::proofs::InsideLemmas::stays_then))]
 fn write_over<T: Run, R: TableRow>(tx: &mut T, key: R::Key, row: &R) -> Result<bool, Error>
     // The transaction is on the connection that it was on.
@@ -57,8 +56,7 @@ fn write_over<T: Run, R: TableRow>(tx: &mut T, key: R::Key, row: &R) -> Result<b
 
 /// Puts the new row of a key, or deletes the old one if there is no new one. Answers whether the next row is expected to be there.
 ///
-/// If a row is expected, the cheaper statement is tried first, which only writes over one. It fails only by what stops any change
-/// (`StopsChange`).
+/// If a row is expected, the cheaper statement is tried first, which only writes over one. It fails only by what stops any change.
 fn write_row<T: Run, R: TableRow>(
     tx: &mut T,
     key: R::Key,
@@ -86,7 +84,7 @@ fn write_row<T: Run, R: TableRow>(
 
 /// Writes changes of rows of one table, one after another: at each key the new row, or none. The first row is taken to be there or not as
 /// the hint says. After a row that wasn't there the others are taken to be new too, until one is there. It fails only by what stops any
-/// change (`StopsChange`).
+/// change.
 #[tactic(auto, using(crate::proofs::InsideLemmas::stays_then))]
 pub fn write_rows<T: Run, R: TableRow>(
     tx: &mut T,
