@@ -30,7 +30,7 @@ fn mistake_status(kind: ErrorKind) -> u8
 /// Writes what the reader of the words says of their mistake, and takes its status: 0 for help and the version, 2 for a mistake. The
 /// status is 1 if the writer fails, and 4 if memory ran out.
 fn put_mistake<'s, S: Streams>(session: &mut Session<'s, S>, error: &clap::Error)
-    // If the words have this mistake, a text of its reader is written with the status of the mistake, or a line says that memory ran out.
+    // If the words have this mistake, what their reader says of it is written, with its status; or a line says that memory ran out.
     ensures usage { (words : List (List ℕ)) → HasKind (mistakes words) error.now →
         EndsUsage words (S.Output.contents session.old.output) (S.Output.contents session.new.output) session.new.status }
     // The host, with its files and its ports, is as it was.

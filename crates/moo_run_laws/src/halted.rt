@@ -48,7 +48,7 @@ pub fn run_halted<'s, 'n, S: Streams, N: Streams>(
     // were answered `accepted` (of a service, after all that were accepted), or after one more; or it fails for a cause, and tells no
     // damage. The first record is the halted run, the second the next one: the words, what the files held, the session before and after,
     // how the words ended, and what was left once the file was closed. How the words ended isn't handed out, nor the session that the
-    // halted run began with: there are such.
+    // halted run began with: there are some that fit.
     ensures halted { HaltsBefore ⟦<Session<'s, HaltingStreams<S>> as HasRun>⟧ ⟦<Session<'n, N> as HasRun>⟧
         (λ began. (began.host ≡ record { inner = session.entry.host; halt = halt }) × (began.input ≡ session.entry.input)
         × (began.output ≡ record { inner = session.entry.output; bytes_left = halt.bytes }))

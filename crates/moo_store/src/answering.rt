@@ -78,7 +78,7 @@ fn answer_and_note<W: Write, A: Answering, N: Notes + Witness>(
     // At the end of the text nothing changed and nothing was written.
     ensures ends { IfOk result (λ o. IfNone o
         ((item.now ≡ Next.End) × (answering.new ≡ answering.old) × (writer.new ≡ writer.old))) }
-    // At an error the item had its turn too. Only if the writer failed, the beginning of its answer was written, else nothing.
+    // At an error the item had its turn too. The beginning of its answer was written if the writer failed, else nothing.
     ensures halts { IfErr result (λ fault. (answer : Answer) × (count : ℕ)
         × Turn A.answered answering.old item.now answer answering.new
         × Appends (W.contents writer.old) (W.contents writer.new) (take count (answer_text answer))

@@ -31,7 +31,7 @@ impl<S: Alter + Drop> World<S> {
         // Ok only if the tables show the World's own rows. A damage is told only if the tables have it, or if they show other rows than the
         // World's. A fault of the store has a cause.
         ensures checks { Checks self.old.rows.maps (store_of S.Store self.old) (store_of S.Store self.new) result }
-        // Every fault but out of memory fails the World where it is, and a failed one changes no more.
+        // Every fault but out of memory fails the World where it is, and a failed World changes no more.
         ensures moves { MovesBy S.Store self.old self.new (λ from to. LeavesChecked from result to) }
         // The rows, the tables and what a crash leaves stay as they are.
         ensures keeps { (self.new.rows ≡ self.old.rows) × KeepsTables (store_of S.Store self.old) (store_of S.Store self.new) }

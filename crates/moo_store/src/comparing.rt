@@ -20,8 +20,7 @@ use sqlite::{Alter, Connection, Error, ErrorCode};
 use std::alloc::Global;
 
 /// The number of objects, if the cells of the tables show these rows. `Damaged`: they don't, or they show no world; `NewerVersion`;
-/// `OutOfMemory`; `Store` with `DatabaseCorrupt` if the rows of a table aren't in the order of their keys, as only a failing disk gives
-/// them.
+/// `OutOfMemory`; `Store` with `DatabaseCorrupt` if the rows of a table aren't in the order of their keys, as of a failing disk.
 fn compare_lists(alloc: Global, lists: CellLists, own: &Flat) -> Result<u64, StoreFault>
     // The given rows are those of a world.
     requires good { IsGood own.now.maps }

@@ -144,8 +144,7 @@ fn new_cells<'a, K, C, V: Print<K, C>>(alloc: Global, row: &'a V) -> Result<C, A
     row.cells(alloc, none)
 }
 
-/// The cells of all rows of one kind, each with its key, in the order of the keys, as those of new rows. The only error is a lack of
-/// memory.
+/// The cells of all rows of one kind, each with its key, in the order of the keys, as those of new rows. The only error is out of memory.
 #[tactic(auto, using(crate::proofs::AllRows::none_printed))]
 pub(crate) fn print_all_of<K: Copy + Drop, C: Drop, V: Print<K, C>>(
     alloc: Global,

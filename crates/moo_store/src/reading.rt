@@ -22,8 +22,7 @@ use sqlite::{Alter, Connection, Error, ErrorCode};
 use std::alloc::Global;
 
 /// The rows that the cells of the tables show, if they are those of a world. `Damaged`, `NewerVersion` and `OutOfMemory` as of
-/// `read_cells`; `Store` with `DatabaseCorrupt` if the rows of a table aren't in the order of their keys, as only a failing disk gives
-/// them.
+/// `read_cells`; `Store` with `DatabaseCorrupt` if the rows of a table aren't in the order of their keys, as of a failing disk.
 fn rows_of_lists(alloc: Global, lists: CellLists) -> Result<Flat, StoreFault>
     // The tables show the rows that are read.
     ensures rows { IfOk result (λ rows. ShowsRows (tables_of lists) rows.maps) }
@@ -105,8 +104,7 @@ pub(crate) fn read_lists<S: Alter>(
     }
 }
 
-/// The version of the tables of a connection. Store with `NotADatabase` if they aren't ours; `OutOfMemory`. Nothing is read but the list
-/// of tables.
+/// The version of the tables of a connection, by their list alone. Store with `NotADatabase` if they aren't ours; `OutOfMemory`.
 pub(crate) fn test_tables<S: Alter>(
     alloc: Global,
     conn: &Connection<S>,
@@ -130,8 +128,7 @@ pub(crate) fn test_tables<S: Alter>(
     }
 }
 
-/// Tests that the tables are ours, and of the present version ('current' in a contract). Store with `NotADatabase` if they aren't;
-/// `OutOfMemory`.
+/// Tests that the tables are ours, and of the present version ('current' in a contract). Store with `NotADatabase` if not; `OutOfMemory`.
 pub(crate) fn test_current<S: Alter>(alloc: Global, conn: &Connection<S>) -> Result<(), StoreFault>
     // The database has just the tables of the present version.
     ensures ours { OnOk result (HasTables present_schema (state S.Store conn.now)) }

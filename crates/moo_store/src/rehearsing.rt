@@ -69,7 +69,7 @@ impl Rehearsal {
 
     /// Makes the changes of an accepted batch in the rows, and gives the answer to it. If memory runs out, the rehearsal has failed.
     fn accept(&mut self, answers: Answers, changes: Changes) -> Answer
-        // It hasn't failed.
+        // The rehearsal hasn't failed.
         requires works { self.old.failed ≡ false }
         // The changes lead to rows of a world.
         requires changes { (next : Maps) × AreChanges self.old.rows.maps next changes × IsGood next }

@@ -106,7 +106,7 @@ impl<S: Alter + Drop> World<S> {
             MovesBy S.Store self.old self.new (λ from to. CommitsTo answers changes rows from result to) }
         // If there is a reply, the cells were committed to the store; else the store failed, for a cause.
         ensures commits { CommitsInto cells.now (store_of S.Store self.old) (store_of S.Store self.new) result }
-        // As the clause `fault` of `run_one`.
+        // A fault is Closed, or it is Store for one of the causes that stop any change.
         ensures fault { IfErr result (FailsRun S.Store self.old self.new) }
         // The count of the disk's calls that failed gets no lower, and the connection allows as many steps of SQL as before.
         ensures kept { KeepsFaults (store_of S.Store self.old) (store_of S.Store self.new) }
@@ -137,8 +137,8 @@ impl<S: Alter + Drop> World<S> {
         ensures moves { MovesBy S.Store self.old self.new (λ from to. RunsAt from batch.now (answer_to result) to) }
         // A reply that isn't `accepted` leaves the World as it was.
         ensures still { IfOk result (λ reply. says_accepted (answer.Replied reply) ≡ false → self.new ≡ self.old) }
-        // A fault is Closed; or it is Store, for a cause of any change, if the cells of the World are known and the disk returned what was
-        // written.
+        // A fault is Closed, or it is Store. If the World's cells are known and the disk returned what was written, what stopped the store
+        // is one of the causes that stop any change (`StopsChange`).
         ensures fault { IfErr result (FailsRun S.Store self.old self.new) }
         // The count of the disk's calls that failed gets no lower, and the connection allows as many steps of SQL as before.
         ensures kept { KeepsFaults (store_of S.Store self.old) (store_of S.Store self.new) }
@@ -163,8 +163,7 @@ impl<S: Alter + Drop> World<S> {
     /// once. The only fault is Closed.
     #[tactic(auto, using(moo_batch::proofs::Ticking::as_before))]
     pub fn ask<N: Witness>(&self, batch: &Batch, witness: &mut N) -> Result<Reply, StoreFault>
-        // While the World works, the reply is that to the verdict on the batch, with the present number; or `NoMemory`, if its calls are
-        // run.
+        // While the World works, the reply is that to the verdict on the batch, with the present number; or `NoMemory`, if its calls run.
         ensures asks { self.now.failed ≡ false → IsOkAnd result (MayReplyAsked (state_of_world self.now) batch.now) }
         // The witness has no more ticks left than before.
         ensures ticks { NoneComeBack (N.left witness.old) (N.left witness.new) }

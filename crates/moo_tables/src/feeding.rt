@@ -67,8 +67,7 @@ fn feed_rows<S: Alter, T: TakeRows>(
 ) -> Result<bool, Error>
     // A connection in no transaction is in none after it.
     ensures outside { (state S.Store conn.old).in_transaction ≡ false → (state S.Store conn.new).in_transaction ≡ false }
-    // If the taker counts from here (as it is, it has taken no rows) and the answer is true, it has then taken just the rows that the query
-    // answers.
+    // If the taker counts from here (as it is, it has taken no rows) and the answer is true, it has then taken just the query's rows.
     ensures taken { T.took taker.old [] taker.old → IfOk result (λ whole. whole ≡ true → AreTaken T.took taker.old taker.new (λ rows.
         HasCleanDisk (state S.Store conn.new) → IsPlain (understood (state S.Store conn.old).now.schema sql.now) →
         Shown sql.now [] (state S.Store conn.old) (state S.Store conn.new) rows)) }

@@ -57,8 +57,7 @@ pub fn cells_of<S: Alter>(
     // Nothing is written. If the disk is clean and the tables are of the version, it fails only if the store does or memory runs out, or if
     // it takes more steps than the connection allows.
     ensures reads { OnlyReads version (state S.Store conn.old) (state S.Store conn.new) result }
-    // If the disk is clean and the connection has tables of the version at rest, the rows are those of the table, in the order of their
-    // keys.
+    // If the disk is clean and the connection has tables of the version at rest, the rows are the table's, in the order of their keys.
     ensures listed { Lists version (state S.Store conn.old) (state S.Store conn.new) result
         (λ rows tables. ListsTable table rows.items tables) }
 {
