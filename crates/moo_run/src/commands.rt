@@ -89,8 +89,7 @@ fn put_loaded<W: Write>(
     }
 }
 
-/// Writes the line of a load of this World, and answers the status 0. A failure if the World had failed, the writer fails, or memory runs
-/// out.
+/// Writes the line of a load of this World; the status is 0. A failure if the World had failed, the writer fails, or memory runs out.
 fn show_loaded<W: Write, B: Alter + Drop>(
     alloc: Global,
     world: &World<B>,
@@ -108,8 +107,7 @@ fn show_loaded<W: Write, B: Alter + Drop>(
     put_loaded(alloc, seq, objects, output)
 }
 
-/// Serves so many connections on a port, and answers the status 0. A failure if the port can't be listened on, the output fails, or memory
-/// runs out.
+/// Serves so many connections on a port; the status is 0. A failure if the port can't be listened on, the output fails, or memory runs out.
 fn serve<'s, S: Streams, B: Alter + Drop>(
     session: &mut Session<'s, S>,
     world: &mut World<B>,

@@ -150,7 +150,7 @@ fn run_found<'s, S: Streams>(
 /// Does what a task says over its file, writes the line of a failure, and hands back what is left of the file. The status is that
 /// of `run_words`.
 ///
-/// `S::File` is what the file of the words holds, and `S::Host` the host, with its files and its ports: it is proved for all contents and
+/// `S::File` is what the file of the words holds, and `S::Host` the host, with its files and its ports: this is proved for all contents and
 /// all connections, and no code looks at them. No other path is looked at or opened. The program calls it for files that nobody has read.
 ///
 /// Only `init` and `load` make a file.

@@ -130,7 +130,7 @@ pub(crate) fn read_world<C: Eprint, H: BatchFiles, R: Read + Drop>(
     // opened or read, or memory ran out.
     ensures failure { IfErr result (λ failure. RefusesDump (texts_by (R.remaining input.old) (H.text host.now) dump.now) failure
         × TellsLack (H.lacks host.now) dump.now failure) }
-    // Only the dump `-` is read from the input.
+    // The input is read only if the dump is `-`.
     ensures input { bytes_eq dump.now (codes "-") ≡ false → input.new ≡ input.old }
 {
     if dump == "-" {

@@ -16,8 +16,8 @@ use moo_cli::{Usage, read_words};
 use moo_files::{Remains, WorldFiles};
 use moo_run_lines::{Failure, put_line};
 
-/// The exit status for what clap, which reads the words, gives as an error: 0 if it is help or the version, which clap gives as errors
-/// too, and 2 if it is a mistake in the words. A lack of memory isn't among them: `put_mistake` takes it out before.
+/// The exit status for what clap, which reads the words, gives as an error: 0 if it is help or the version, which clap gives as errors too,
+/// and 2 if it is a mistake in the words. A lack of memory never comes here: `put_mistake` tells it.
 fn mistake_status(kind: ErrorKind) -> u8
     ensures { result ≡ mistake_status kind }
 {
@@ -27,8 +27,8 @@ fn mistake_status(kind: ErrorKind) -> u8
     }
 }
 
-/// Writes what the reader of the words says of their mistake, and takes its status: 0 for help and the version, 2 for a mistake. The
-/// status is 1 if the writer fails, and 4 if memory ran out.
+/// Writes what the reader of the words says of their mistake, and sets its status: 0 for help and the version, 2 for a mistake. The status
+/// is 1 if the writer fails, and 4 if memory ran out.
 fn put_mistake<'s, S: Streams>(session: &mut Session<'s, S>, error: &clap::Error)
     // If the words have this mistake, what their reader says of it is written, with its status; or a line says that memory ran out.
     ensures usage { (words : List (List ℕ)) → HasKind (mistakes words) error.now →
@@ -48,7 +48,7 @@ fn put_mistake<'s, S: Streams>(session: &mut Session<'s, S>, error: &clap::Error
     session.status = put_line(text.as_str(), mistake_status(kind), &mut session.output);
 }
 
-/// Writes why the words name no task, and takes the status of that.
+/// Writes why the words name no task, and sets the status of that.
 fn report_usage<'s, S: Streams>(session: &mut Session<'s, S>, usage: &Usage)
     // If the words are refused so, what is written and the status are those of words that have a mistake, or name no task.
     ensures usage { (words : List (List ℕ)) → IsRefusal words usage.now →
@@ -73,10 +73,10 @@ fn report_usage<'s, S: Streams>(session: &mut Session<'s, S>, usage: &Usage)
 /// version. If the store, the batches, the dump or the port failed, the cause goes to standard error, and so does a hint if a batch met a
 /// fault of the store. If a batch isn't accepted, standard error says its line and why. A connection that fails isn't a failure of `serve`.
 ///
-/// `S::File` is what the file of the words holds, and `S::Host` the host, with its files and its ports: it is proved for all contents and
-/// all connections, and no code looks at them. It looks at and opens no file of a world but that of the words, and reads no file of batches
-/// and no dump but theirs. What is left of the file is handed back, to be closed. If the words name no file, that is `start`, which is
-/// spent only by opening one.
+/// `S::File` is what the file of the words holds, and `S::Host` the host, with its files and its ports: the run is proved for all contents
+/// and all connections, and no code looks at them. A run looks at and opens no file of a world but that of the words, and reads no file of
+/// batches and no dump but theirs. What is left of the file is handed back, to be closed. If the words name no file, that is `start`, which
+/// is spent only by opening one.
 pub fn run_words<'s, S: Streams>(
     session: &mut Session<'s, S>,
     words: &[&str],
@@ -95,7 +95,7 @@ pub fn run_words<'s, S: Streams>(
     // that it held is lost, if the disk returned what was written; or the words have a mistake.
     ensures over { RunsOver (map (λ word. word.now) words.now) (image_at S.File.Start) result
         (⟦<Session<'s, S> as HasRun>⟧.run session.old session.new) }
-    // Only words of a task that reads the input change it.
+    // The input is as it was, unless the words name a task that reads it.
     ensures input { KeepsInput (map (λ word. word.now) words.now) session.old.input session.new.input }
 {
     match read_words(session.alloc, words) {
@@ -128,7 +128,7 @@ pub fn run_to_end<'s, S: Streams>(
     // The words ran over what the file held, as the clause `over` of `run_words` says, and then the file was closed.
     ensures closed { RunsClosed (map (λ word. word.now) words.now) (image_at S.File.Start) result
         (⟦<Session<'s, S> as HasRun>⟧.run session.old session.new) }
-    // Only words of a task that reads the input change it.
+    // The input is as it was, unless the words name a task that reads it.
     ensures input { KeepsInput (map (λ word. word.now) words.now) session.old.input session.new.input }
 {
     run_words(session, words, start).close()

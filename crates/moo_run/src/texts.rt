@@ -23,9 +23,9 @@ use std::io::{Eprint, Read, Write};
 pub(crate) enum Manner {
     /// The batches are run.
     Apply(Options),
-    /// The answers tell what running the batches would answer.
+    /// The batches are rehearsed: the answers are what running them would answer.
     Rehearse(Options),
-    /// The answers tell what each batch would be answered at present.
+    /// The batches are asked: each answer is what the batch would be answered at present.
     Ask,
 }
 
@@ -124,7 +124,7 @@ pub(crate) fn answer_batches<'s, S: Streams, B: Alter + Drop>(
     ensures still { changes_world manner ≡ false → LeavesNothingNew (store_of B.Store world.old) (store_of B.Store world.new) }
     // The host, with its files and its ports, is as it was.
     ensures rests { session.new.host ≡ session.old.host }
-    // Only the text `-` is read from the input.
+    // The input is read only if the text is `-`.
     ensures input { bytes_eq path.now (codes "-") ≡ false → session.new.input ≡ session.old.input }
 {
     let (console, alloc) = (session.console, session.alloc);

@@ -15,7 +15,7 @@ ghost use Rattle.moo_laws.specs.NobodyRises.{NoWizardActs, KeepsRights};
 use moo_run::HasRun;
 
 /// The program runs over a file again and again, each time over what is found after the run before: any words, with any input, over any
-/// host. Each run may be stopped, or close its file, as in `runs_lead_on`, which is the law of two of them.
+/// host. Each run may be stopped, or close its file, as in `runs_lead_on`, which is the law of two runs.
 pub fn runs_in_turn<S: HasRun>()
     // The runs have one history: batches lead, run by run, from the moment that the file held, with its cells, to the one that it holds in
     // the end.
@@ -27,7 +27,7 @@ pub fn runs_in_turn<S: HasRun>()
     // The number of the state grows by one for each of the batches.
     ensures counts { (runs : List (FileRun S.HasRun S.Disk.Disk)) (m end : Moment) (batches : List Batch) →
         LeadInTurn m runs batches end → (state_of_moment end).seq ≡ (state_of_moment m).seq + length batches }
-    // At most one of the batches is meant for a number: a batch with `at` acts once in such a history.
+    // At most one of the batches is meant for a number: a batch with `at` acts at most once in such a history.
     ensures once { (runs : List (FileRun S.HasRun S.Disk.Disk)) (m end : Moment) (batches : List Batch) (number : ℕ) →
         LeadInTurn m runs batches end → length (filter (is_for number) batches) ≤ 1 }
     // If none of the batches is a wizard's at its turn, nobody rises.

@@ -37,7 +37,7 @@ pub fn ends_are_found<S: HasRun>()
         EndLeaves run.image run.ends run.closed next → IsFoundAfter run next }
 {}
 
-/// A service that ran from a moment ended where its connections led: or its port was refused, and it is where it was.
+/// A service that ran from a moment ended where its connections led: or its port was refused, and it ended where it began.
 pub fn services_end_where_connections_led<S: HasRun>()
     ensures served { (run : FileRun S.HasRun S.Disk.Disk) (conn : Held (FileStore S.Disk S.Disk.Disk)) (task : Task) (service : Service)
         (m : Moment) → task.action ≡ Serve service → (ran : RunsIn (file_state conn) task m (run_of run)) →

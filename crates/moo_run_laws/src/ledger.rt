@@ -10,6 +10,7 @@ use moo_desk::{Inward, Outward};
 pub fn desks_keep_a_ledger<R: Inward, W: Outward>()
     // It keeps the ledger while fewer than 2 ^ 32 connections were given back.
     ensures keeps { KeepsLedger R.peer R.reads R.fails R.Read W.peer W.Write }
-    // Once a last `settle` tells of no loss, none is held that was given back, and as many losses were told of as answers were lost.
+    // Once a last `settle` tells of no loss, no connection is held that was given back, and as many losses were told of as answers were
+    // lost.
     ensures closes { ClosesLedger R.peer R.reads R.fails R.Read W.peer W.Write }
 {}

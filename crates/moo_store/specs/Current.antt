@@ -27,8 +27,8 @@ abbrev pub unread_kept : Version → List Row → List Row
 unread_kept First rows = []
 unread_kept Second rows = rows
 
--- The connection is open and in no transaction. Its tables are those of the present version that these tables, of these trees, became,
--- and they show these rows.
+-- The connection is open and in no transaction. The old tables, of these trees, became its tables, of the present version, which show these
+-- rows. A migration emptied the table `slot`; else it stayed.
 pub record RestsCurrent (store : Database) (trees : Trees) (old : Tables) (rows : Maps) : Type 0 where
   pub tables : Tables
   pub rests : Rests store tables
