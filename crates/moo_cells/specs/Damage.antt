@@ -20,8 +20,7 @@ use Rattle.moo_cells.specs.declared.fault.CellFault.TheVariants.{Damaged, NewerV
 abbrev pub IsNewer : Tables → Type 0
 IsNewer t = IsNewerThan greatest_version t.head
 
--- `head` has no head of the version within its limits, or `petition_head` no number of the next petition; and the version isn't a later
--- one
+-- `head` has no head of the version within its limits, or `petition_head` no number of the next petition; and the version isn't a later one
 abbrev pub IsBadHead : Tables → Key → Type 0
 IsBadHead t Head = ¬ (HasHead (version_number t.version) t.head × HasCounter t.version t.petition_head) × ¬ (IsNewer t)
 IsBadHead t _ = ⊥

@@ -78,7 +78,8 @@ pub record HoldsEachRow {J K X : Type 0} (has : J → Row → Bool) (number : K 
 abbrev pub HoldsTable : {J K X : Type 0} {cmp : K → K → Ordering} → (J → Row → Bool) → (K → J) → (K → Row → X → Type 0) → List Row → FinMap cmp X → Type 0
 HoldsTable has number reads cells m = HoldsEachRow has number reads cells (get m)
 
--- The rows were put into the map: it has what they show and nothing else, if no two of them have one key. In any case each entry is read.
+-- The rows were put into the map: it has what they show and nothing else, if no two of them have one key. Each entry is shown by some
+-- cells.
 pub record FillsTable {K X : Type 0} {cmp : K → K → Ordering} (Apart : List Row → Type 0) (Holds : List Row → (K → Option X) → Type 0)
     (reads : K → Row → X → Type 0) (cells : List Row) (m : FinMap cmp X) : Type 0 where
   pub holds : Apart cells → Holds cells (get m)

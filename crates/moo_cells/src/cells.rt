@@ -25,17 +25,18 @@ pub fn read_cells(alloc: Global, lists: CellLists) -> Result<Flat, CellFault>
     requires { AreListed lists }
     // The tables show the rows that are read.
     ensures rows { IfOk result (λ rows. ShowsRows (tables_of lists) rows.maps) }
-    // What is read is good whatever the tables hold.
+    // The rows that are read are good, whatever the tables hold.
     ensures good { IfOk result (λ rows. IsGood rows.maps) }
     // The number of the last batch is that of a cell, and so is below 2^63.
     ensures limit { IfOk result (λ rows. rows.maps.head.seq < 2 ^ 63) }
-    // Good rows that the tables show are the ones that are read.
+    // If the tables show good rows, those are the rows that are read.
     ensures one { (m : Maps) → ShowsRows (tables_of lists) m → IsGood m → IfOk result (λ rows. rows.maps ≡ m) }
-    // A fault is told only if it is met: the first kind of damage with its least key, or a head of a later version.
+    // A fault tells the first kind of damage that is met, with its least key; or that the head is of a later version; or that memory ran
+    // out.
     ensures fault { IfErr result (SaysOfCells (tables_of lists)) }
     // Tables that show good rows are read, unless memory runs out.
     ensures whole { (m : Maps) → ShowsRows (tables_of lists) m → IsGood m → IfErr result (λ fault. fault ≡ CellFault.OutOfMemory) }
-    // So are tables of a known version in which no kind of damage is met: these are the ones that show good rows.
+    // Tables that aren't of a later version, and in which no kind of damage is met, are read too, unless memory runs out.
     ensures undamaged { ¬ (IsNewer (tables_of lists)) → ((kind : Kind) (key : Key) → ¬ (IsMet (tables_of lists) kind key)) →
         IfErr result (λ fault. fault ≡ CellFault.OutOfMemory) }
 {

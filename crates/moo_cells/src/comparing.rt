@@ -69,22 +69,22 @@ fn show_rows(alloc: Global, lists: &CellLists, rows: &Flat) -> Result<bool, Allo
 
 /// The first row in which the tables differ from the rows of a world, in the order of `first_difference`; None if they show these rows.
 ///
-/// Errors: those of `read_cells`, if the tables show no world. Rows that are shown are compared in place, and only if one differs are all
-/// read again.
+/// Errors: those of `read_cells`, if the tables show no world. The rows are first compared in place, and only if one differs are all read
+/// again.
 pub fn compare_cells(alloc: Global, lists: CellLists, own: &Flat) -> Result<Option<Key>, CellFault>
     // In each table the keys are whole numbers, and each is above the one before.
     requires listed { AreListed lists }
-    // The known rows are those of a world.
+    // The given rows are those of a world.
     requires good { IsGood own.now.maps }
-    // If no difference is told, the tables show the known rows.
+    // If no difference is told, the tables show the given rows.
     ensures same { IfOk result (λ o. IfNone o (ShowsRows (tables_of lists) own.now.maps)) }
     // If one is told, the tables show another world, and it is the first row in which the two differ.
     ensures differs { IfOk result (λ o. IfSome o (IsMismatch own.now.maps (tables_of lists))) }
-    // A fault is told only if it is met in the tables.
+    // A fault tells the first damage of the tables, or that they are of a later version, or that memory ran out.
     ensures fault { IfErr result (SaysOfCells (tables_of lists)) }
-    // If the tables show the known rows, no difference is told.
+    // If the tables show the given rows, no difference is told.
     ensures whole { ShowsRows (tables_of lists) own.now.maps → IfOk result (λ o. o ≡ None) }
-    // If the tables show the known rows, the only fault is that memory ran out.
+    // If the tables show the given rows, the only fault is that memory ran out.
     ensures memory { ShowsRows (tables_of lists) own.now.maps → IfErr result (λ fault. fault ≡ CellFault.OutOfMemory) }
 {
     let shown = show_rows(alloc, &lists, own)?;

@@ -49,9 +49,8 @@ fn put_block<R: ReadRow>(alloc: Global, version: Version, block: Vec<Row>, rows:
     put_each::<R>(alloc, version, &ordered, rows)
 }
 
-/// A taker that puts the rows of a table into the maps of a world. The cells of a block are let go together once all are read, so that
-/// the memory that they leave is in one piece: else the name of the next row would take the place of the text among them, and the rest
-/// would stay a gap.
+/// A taker that puts the rows of a table into the maps of a world. The cells of a block are let go together once all are read, so that the
+/// memory that they leave is in one piece (`SpentCells`).
 #[derive(Drop)]
 pub(crate) struct Filling<R> {
     alloc: Global,

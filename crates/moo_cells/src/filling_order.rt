@@ -5,10 +5,10 @@ ghost use Rattle.std.specs.List.Sorted.{IsPermutation};
 use moo_tables::BLOCK;
 use sqlite::Row;
 
-/// The rows in another order: in each block every second row comes first, and then those between.
+/// The rows in another order: in each block every second row comes first, and then the rows between them.
 ///
 /// A map splits a full node in the middle. Keys that rise never reach its lower half again, so that each node stays half empty. In this
-/// order those between fill it: a map of all rows takes half the memory.
+/// order the keys between fill it: a map of all rows takes half the memory.
 pub(crate) fn in_filling_order(mut rows: Vec<Row>) -> Vec<Row>
     ensures { IsPermutation rows.items result.items }
 {

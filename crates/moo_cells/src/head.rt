@@ -112,9 +112,8 @@ fn head_within(numbers: HeadCells) -> Option<Head>
 fn head_of(version: Version, cells: &Row) -> Result<Head, CellFault>
     // The cells are those of the head, in this version.
     ensures ok { IfOk result (λ head. ReadsHead (version_number version) head cells.now) }
-    // The number of the last batch is that of a cell, and so is below 2^63.
     ensures limit { IfOk result (λ head. head.seq < 2 ^ 63) }
-    // Damaged: they are those of no head of this version, nor of a later one. NewerVersion: they are those of a later one.
+    // Damaged: the cells are those of no head of this version or of a later one. NewerVersion: they are those of a later one.
     ensures err { IfErr result (SaysOfHead (ReadsKnown (version_number version) cells.now) (ReadsNewer greatest_version cells.now)) }
 {
     let Ok(numbers) = numbers_of(cells) else {
@@ -141,7 +140,6 @@ fn head_in(version: Version, rows: &[Row]) -> Result<Head, CellFault>
     requires { AreKeyed rows.now }
     // The table has this head, in this version.
     ensures ok { IfOk result (HoldsHead version rows.now) }
-    // The number of the last batch is that of a cell, and so is below 2^63.
     ensures limit { IfOk result (λ head. head.seq < 2 ^ 63) }
     // Damaged: the table has no head of this version, nor of a later one. NewerVersion: it has one of a later version.
     ensures err { IfErr result (SaysOfHead
@@ -168,10 +166,9 @@ pub(crate) fn read_head(version: Version, rows: &[Row], counters: &[Row]) -> Res
     ensures ok { IfOk result (HoldsHead version rows.now) }
     // `petition_head` has the number of the next petition.
     ensures counter { IfOk result (λ head. ReadsCounter version (by_rowid counters.now) head.next_petition) }
-    // The number of the last batch is that of a cell.
+    // The number of the last batch is that of a cell, and so is below 2^63.
     ensures limit { IfOk result (λ head. head.seq < 2 ^ 63) }
-    // Damaged: one of the two tables doesn't have the numbers, and the version isn't a later one. NewerVersion: the version is a later
-    // one.
+    // Damaged: one of the two tables doesn't have the numbers, and the version isn't a later one. NewerVersion: the version is a later one.
     ensures err { IfErr result (SaysOfHead
         (HasHead (version_number version) (by_rowid rows.now) × HasCounter version (by_rowid counters.now))
         (IsNewerThan greatest_version (by_rowid rows.now))) }

@@ -1,5 +1,5 @@
-//! The rows of a world, from the tables of a connection, one table after another: of a large one only the cells of a block
-//! are held at a time.
+//! The rows of a world, from the tables of a connection, one table after another: of a large table only the cells of a block are held at a
+//! time.
 //!
 //! What is wrong with tables isn't told here. Whoever wants to know it reads them all (`read_tables` of `moo_tables`, `read_cells`).
 
@@ -29,8 +29,8 @@ use moo_tables::{CellTable, Version, are_numbered, feed_table, small_cells_of};
 use sqlite::{Alter, Connection, Error, Row};
 use std::alloc::Global;
 
-/// Reads a table, and puts what each of its rows shows into the maps, which have none of them yet. None if some row shows no row within
-/// its limits, or if memory ran out.
+/// Reads a table, and puts what each of its rows shows into the maps, which have none of them yet. None if some row shows no row within its
+/// limits, or if memory ran out. A fault only if the store fails, or it takes more steps than the connection allows.
 #[tactic(auto, using(moo_tables::proofs::ReadLemmas::hands_on, moo_tables::proofs::ReadLemmas::answers, moo_tables::proofs::ReadLemmas::read_then))]
 fn take_table<R: ReadRow, S: Alter>(
     alloc: Global,
@@ -41,9 +41,10 @@ fn take_table<R: ReadRow, S: Alter>(
 ) -> Result<Option<Flat>, Error>
     // The version has this table.
     requires { HasTable version table }
-    // Nothing is written, and it fails only if the store does, or at the limit on steps.
+    // Nothing is written, and it fails only if the store does, or if it takes more steps than the connection allows.
     ensures reads { OnlyReads version (state S.Store conn.old) (state S.Store conn.new) result }
-    // If the kind of rows has the laws of `KeepsTable`: the map of the table has just what its rows show, and the other maps stay.
+    // If the kind of rows has the laws of `KeepsTable` and its map is empty, the map has then just what the rows of the table show, and the
+    // other maps stay.
     ensures taken { KeepsTable R.order (R.reads version) R.apart R.in_order (R.holds version) (R.unread version) R.whole R.tells →
         R.map_of rows.maps ≡ empty → IfOk result (λ o. IfSome o (λ after. TakesTable R.map_of R.with_map R.apart (R.holds version)
         (R.reads version) table version (state S.Store conn.old) (state S.Store conn.new) rows.maps after.maps)) }
@@ -64,7 +65,7 @@ fn take_tables<S: Alter>(
 ) -> Result<Option<Flat>, Error>
     // The maps have a head alone.
     requires { rows.maps ≡ record no_maps { head = rows.maps.head } }
-    // Nothing is written, and it fails only if the store does, or at the limit on steps.
+    // Nothing is written, and it fails only if the store does, or if it takes more steps than the connection allows.
     ensures reads { OnlyReads version (state S.Store conn.old) (state S.Store conn.new) result }
     // Each map has just what the rows of its table show, and the head and the petitions stay.
     ensures taken { IfOk result (λ o. IfSome o (λ after.
@@ -103,7 +104,7 @@ fn take_rows<S: Alter>(
     conn: &mut Connection<S>,
     version: Version,
 ) -> Result<Option<Flat>, Error>
-    // Nothing is written, and it fails only if the store does, or at the limit on steps.
+    // Nothing is written, and it fails only if the store does, or if it takes more steps than the connection allows.
     ensures reads { OnlyReads version (state S.Store conn.old) (state S.Store conn.new) result }
     // The tables show the rows that are read.
     ensures shown { HasCleanDisk (state S.Store conn.new) → IfOk result (λ o. IfSome o (λ rows. (tables : Tables) →
@@ -130,24 +131,24 @@ fn take_rows<S: Alter>(
 
 /// The rows that the tables of a connection show, if they are those of a world; None if they show no world, or if memory ran out.
 ///
-/// Nothing is written. If the tables are of the version, it fails only if the store does, or at the limit on steps. After a fault of the
-/// store the tables are as they were, unless the fault shut the connection.
+/// Nothing is written. If the tables are of the version, it fails only if the store does, or if it takes more steps than the connection
+/// allows. After a fault of the store the tables are as they were, unless the fault shut the connection.
 #[tactic(auto, using(moo_tables::proofs::ReadLemmas::hands_on, moo_tables::proofs::ReadLemmas::answers, moo_tables::proofs::ReadLemmas::read_then))]
 pub fn read_in_turn<S: Alter>(
     alloc: Global,
     conn: &mut Connection<S>,
     version: Version,
 ) -> Result<Option<Flat>, Error>
-    // Nothing is written, and it fails only if the store does, or at the limit on steps.
+    // Nothing is written, and it fails only if the store does, or if it takes more steps than the connection allows.
     ensures reads { OnlyReads version (state S.Store conn.old) (state S.Store conn.new) result }
-    // The tables show the rows that are read.
+    // If the disk returned what was written, and the connection had tables of this version at rest, they show the rows that are read.
     ensures shown { HasCleanDisk (state S.Store conn.new) → IfOk result (λ o. IfSome o (λ rows. (tables : Tables) →
         Rests (state S.Store conn.old) tables → tables.version ≡ version → ShowsRows tables rows.maps)) }
-    // What is read is good whatever the tables hold.
+    // The rows that are read are good, whatever the tables hold.
     ensures good { IfOk result (λ o. IfSome o (λ rows. IsGood rows.maps)) }
     // The number of the last batch is that of a cell, and so is below 2^63.
     ensures limit { IfOk result (λ o. IfSome o (λ rows. rows.maps.head.seq < 2 ^ 63)) }
-    // Good rows that the tables show are the ones that are read.
+    // If the tables show good rows, those are the rows that are read.
     ensures one { HasCleanDisk (state S.Store conn.new) → IfOk result (λ o. IfSome o (λ rows. (tables : Tables) (m : Maps) →
         Rests (state S.Store conn.old) tables → tables.version ≡ version → ShowsRows tables m → IsGood m → rows.maps ≡ m)) }
 {

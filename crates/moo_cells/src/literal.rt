@@ -96,8 +96,8 @@ pub(crate) fn state_at(alloc: Global, cells: &Row, at: usize) -> Result<SlotStat
     Ok(SlotState::Set(value))
 }
 
-/// Whether a petition may hold these calls: each has a name, and they are few and shallow enough. That they are within the limits of
-/// values is known.
+/// Whether a petition may hold these calls: each has a name, and they are few and shallow enough. That the calls are within the limits of
+/// values is known already.
 fn may_be_held(calls: &ValueList) -> bool
     ensures { result ≡ (list_all is_named (spread calls.now) && (are_few calls.now && are_shallow calls.now)) }
 {

@@ -30,7 +30,7 @@ pub(crate) trait ReadRow: KeyedRow {
     /// These rows are in the order of their keys.
     ghost in_order: { List Cells → Type 0 };
 
-    /// At each key is what these rows of tables of a version show of it, and nothing else.
+    /// At each key is just what these rows, of tables of a version, show there.
     ghost holds: { Version → List Cells → (Self.Key → Option Self) → Type 0 };
 
     /// The fault is that of the first of these rows that can't be read.
@@ -76,8 +76,8 @@ pub(crate) fn take_row<R: ReadRow>(
     Ok(())
 }
 
-/// Puts what each row of a table shows into maps that have none of its rows yet. The cells of the rows are let go soon after they are
-/// read. They may come in any order; in that of their keys a fault is of the first row that can't be read.
+/// Puts what each row of a table shows into maps that have none of its rows yet. The cells of the rows are let go soon after they are read.
+/// The rows may come in any order. If they come in that of their keys, a fault names the first that can't be read.
 ///
 /// `Damaged` with `BadCell` and the key of a row that shows none within its limits; `OutOfMemory`.
 pub(crate) fn read_table<R: ReadRow>(

@@ -45,7 +45,7 @@ fn read_tables(alloc: Global, lists: CellLists, rows: &mut Flat) -> Result<(), C
     ensures within { OnOk result (AreWithin rows.new.maps) }
     // The tables aren't of a later version, and neither a bad head nor a bad cell is met.
     ensures read { OnOk result (¬ (IsNewer (tables_of lists)) × NoneBefore (IsMet (tables_of lists)) 3) }
-    // A fault is told only if it is met in the tables.
+    // A fault tells the first damage of the tables, or that they are of a later version, or that memory ran out.
     ensures fault { IfErr result (SaysOfCells (tables_of lists)) }
 {
     let CellLists {
@@ -66,8 +66,7 @@ fn read_tables(alloc: Global, lists: CellLists, rows: &mut Flat) -> Result<(), C
 
 /// The rows that the tables show, within their limits; whether they are those of a world isn't tested.
 ///
-/// Errors: `Damaged` with `BadHead` or `BadCell`, the first of the two that is met, and its least key; `NewerVersion`;
-/// `OutOfMemory`.
+/// Errors: `Damaged` with `BadHead` or `BadCell`, the first of the two that is met, and its least key; `NewerVersion`; `OutOfMemory`.
 pub fn read_rows(alloc: Global, lists: CellLists) -> Result<Flat, CellFault>
     // In each table the keys are whole numbers, and each is above the one before.
     requires { AreListed lists }
@@ -79,7 +78,7 @@ pub fn read_rows(alloc: Global, lists: CellLists) -> Result<Flat, CellFault>
     ensures limit { IfOk result (λ rows. rows.maps.head.seq < 2 ^ 63) }
     // The tables aren't of a later version, and neither a bad head nor a bad cell is met.
     ensures read { OnOk result (¬ (IsNewer (tables_of lists)) × NoneBefore (IsMet (tables_of lists)) 3) }
-    // A fault is told only if it is met in the tables.
+    // A fault tells the first damage of the tables, or that they are of a later version, or that memory ran out.
     ensures fault { IfErr result (SaysOfCells (tables_of lists)) }
 {
     let head = read_head(lists.version, &lists.head, &lists.petition_head)?;

@@ -48,9 +48,10 @@ fn show_table<R: ReadRow, S: Alter>(
 ) -> Result<bool, Error>
     // The version has this table.
     requires { HasTable version table }
-    // Nothing is written, and it fails only if the store does, or at the limit on steps.
+    // Nothing is written, and it fails only if the store does, or if it takes more steps than the connection allows.
     ensures reads { OnlyReads version (state S.Store conn.old) (state S.Store conn.new) result }
-    // If the kind of rows has the laws of `KeepsTable`: if the answer is true, reading the table would give the very rows of this kind.
+    // If the kind of rows has the laws of `KeepsTable` and the answer is true, reading the table would give just the given rows of the
+    // kind.
     ensures shown { KeepsTable R.order (R.reads version) R.apart R.in_order (R.holds version) (R.unread version) R.whole R.tells →
         IfOk result (λ show. show ≡ true → TakesTable R.map_of R.with_map R.apart (R.holds version) (R.reads version)
         table version (state S.Store conn.old) (state S.Store conn.new) rows.now.maps rows.now.maps) }
@@ -68,9 +69,9 @@ fn show_tables<S: Alter>(
     version: Version,
     rows: &Flat,
 ) -> Result<bool, Error>
-    // Nothing is written, and it fails only if the store does, or at the limit on steps.
+    // Nothing is written, and it fails only if the store does, or if it takes more steps than the connection allows.
     ensures reads { OnlyReads version (state S.Store conn.old) (state S.Store conn.new) result }
-    // If the answer is true, reading the four tables would give the very rows.
+    // If the answer is true, reading the four tables would give just the given rows.
     ensures shown { IfOk result (λ show. show ≡ true →
         TakesTables version (state S.Store conn.old) (state S.Store conn.new) rows.now.maps rows.now.maps) }
 {
@@ -92,8 +93,8 @@ fn show_tables<S: Alter>(
 
 /// Whether the tables of a connection are seen to show these rows; false too if memory ran out.
 ///
-/// Nothing is written. If the tables are of the version, it fails only if the store does, or at the limit on steps. After a fault of the
-/// store the tables are as they were, unless the fault shut the connection.
+/// Nothing is written. If the tables are of the version, it fails only if the store does, or if it takes more steps than the connection
+/// allows. After a fault of the store the tables are as they were, unless the fault shut the connection.
 #[tactic(auto, using(moo_tables::proofs::ReadLemmas::hands_on, moo_tables::proofs::ReadLemmas::answers, moo_tables::proofs::ReadLemmas::read_then))]
 pub fn show_in_turn<S: Alter>(
     alloc: Global,
@@ -101,7 +102,7 @@ pub fn show_in_turn<S: Alter>(
     version: Version,
     rows: &Flat,
 ) -> Result<bool, Error>
-    // Nothing is written, and it fails only if the store does, or at the limit on steps.
+    // Nothing is written, and it fails only if the store does, or if it takes more steps than the connection allows.
     ensures reads { OnlyReads version (state S.Store conn.old) (state S.Store conn.new) result }
     // If the disk is clean, the connection is in no transaction, its tables are of this version and the answer is true, they show
     // these rows. Nothing is promised of false.

@@ -7,7 +7,7 @@ use std::alloc::{AllocError, Global};
 /// The cells of rows that were read, up to `BLOCK` rows of them. They are let go a block at a time, so that the memory that they leave is
 /// in one piece.
 ///
-/// If those of each row were let go alone, the name of the next row would take the place of the text among them, and the rest would
+/// If the cells of each row were let go alone, the name of the next row would take the place of the text among them, and the rest would
 /// stay a gap that is too small for a node of a map: of 200,000 objects 28 MB of gaps.
 #[derive(Drop)]
 pub(crate) struct SpentCells {

@@ -22,8 +22,7 @@ use std::alloc::Global;
 /// How many columns the table of verbs has.
 const COLUMNS: usize = 8;
 
-/// The arguments in the cells of a verb: direct object, preposition, indirect object. `Unreadable` if a cell has none of the allowed
-/// words.
+/// The arguments in the cells of a verb: direct object, preposition, indirect object. `Unreadable` if a cell has none of the allowed words.
 fn args_of(cells: &Row) -> Result<ArgSpec, RowFault>
     ensures ok { IfOk result (λ args. HasArgs cells.now args) }
     ensures err { IfErr result (λ _. (args : ArgSpec) → ¬ (HasArgs cells.now args)) }

@@ -19,12 +19,13 @@ use Rattle.moo_files.specs.declared.remains.Remains.{Remains}
 abbrev pub IsNewOrFound : Image → Database → Type 0
 IsNewOrFound image store = (IsBlank image × IsEmpty store.committed.trees) ⊎ FindsIn image store
 
--- while a store is open, a crash leaves its last commit alone
+-- while a store is open, a crash leaves its last commit, and nothing else
 abbrev pub OnlyLeaves : Database → Type 0
 OnlyLeaves store = IsTrue store.is_open → (trees : Trees) → store.may_leave trees → trees ≡ store.committed.trees
 
 module _ {D : Type 0} {g : Ghosts D} where
-  -- A connection is open, outside a transaction, with no limit on steps. On a clean disk it works, and what it shows is as it has to be.
+  -- A connection is open, outside a transaction, and allows any number of steps of SQL. On a clean disk it works, and what it shows has
+  -- this property.
   pub record IsConnected (Shows : Database → Type 0) (conn : Held (FileStore D g)) : Type 0 where
     pub outside : conn.in_transaction ≡ false
     pub unlimited : conn.step_limit ≡ None

@@ -41,8 +41,8 @@ Hold image (Database trees) = HoldsTrees image trees
 Hold image Unfit = ¬ ReadsAsOurs image
 
 module _ {D : Type 0} {g : Ghosts D} where
-  -- Whatever the files hold, a World that was opened works, and what is said of rows alone is said of its own. The files read as a sound
-  -- database with tables of ours.
+  -- Whatever the files hold, a World that was opened works at a moment of its own rows, of whose cells nothing is said. The files read as a
+  -- sound database with tables of ours.
   pub record IsOpenedOver (image : Image) (world : World (FileStore D g)) : Type 0 where
     pub unseen : Stands over_files world (Works (rows_alone world.rows.maps))
     pub sound : HasCleanDisk (store_of over_files world) → ReadsAsOurs image
@@ -72,8 +72,8 @@ module _ {T D : Type 0} {g : Ghosts D} where
     pub stopped : MayStopAs fault rest
     pub spared : ¬ IsNothing image → IsCleanRemains rest → Spares image rest
 
-  -- This database is refused. No damage is told of a state or of tables that aren't ours, and ours are never called others. The files hold
-  -- it still, or what it was migrated to.
+  -- This database is refused. No damage is told of a state or of tables that aren't ours, and no fault says of ours that they aren't. The
+  -- files hold it still, or what it was migrated to.
   pub record RefusesOver (trees : Trees) (image : Image) (fault : StoreFault) (rest : Remains T D g) : Type 0 where
     pub state : (s : State) → LeavesState trees s → IsOfStore fault
     pub other : HasOtherTables trees → IsOfStore fault

@@ -100,9 +100,8 @@ module _ {D : Type 0} {g : Ghosts D} where
   LeftoverSpares image (left.Store now) = (trees : Trees) → recovers now trees → AreFoundIn image trees
 
 module _ {T D : Type 0} {g : Ghosts D} where
-  -- What files that held this image hold has the first property, and so has what a crash leaves of them. Of files that weren't opened it
-  -- is what they held; of those that `sqlite` couldn't open nothing is said. The databases that an open store leaves have the second
-  -- property.
+  -- What files that held this image hold has the first property, and so has what a crash leaves of them. Of files that weren't opened it is
+  -- what they held; of those that `sqlite` couldn't open nothing is said. The databases that an open store leaves have the second property.
   abbrev pub KeepsAs : (Image → Type 0) → (Trees → Type 0) → Image → Remains T D g → Type 0
   KeepsAs Is P image (remains.Untouched start) = Is image
   KeepsAs Is P image (remains.NotOpened seal) = ⊤

@@ -8,7 +8,7 @@ use Rattle.sqlite_wal.specs.Files.{image_at, outcomes}
 use Rattle.sqlite_wal.specs.Reads.{AreClean}
 use Rattle.sqlite.specs.Files.{faults_of, image_of}
 
--- The two files hold what a start says of them, and so does what a crash leaves of them. They have told no lie, and no call on them failed.
+-- The two files hold what a start says of them, and so does what a crash leaves of them. Their disk is clean, and no call on them failed.
 pub record HoldStart {T D : Type 0} (first : start.Ghosts T) (g : disk.Ghosts D) (files : Files D) : Type 0 where
   pub seen : image_of g files ≡ image_at first
   pub left : (image : Image) → outcomes g files.log files.db image → image ≡ image_at first

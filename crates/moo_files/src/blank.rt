@@ -63,9 +63,9 @@ fn unopened_over<D: Disk>(
     size: PageSize,
     options: Options,
 ) -> Result<Unopened<D>, Files<D>>
-    // The files that come back are these.
+    // The files that come back are the given ones.
     ensures back { IfErr result (λ left. (left.log ≡ files.log) × (left.db ≡ files.db)) }
-    // Those that were taken up are these.
+    // The store is over the given files.
     ensures files { IfOk result (λ unopened. files_of unopened ≡ (files.log, files.db)) }
     // Their pages have this size.
     ensures size { IfOk result (λ unopened. (state_of unopened).page_size ≡ bytes_of size) }
@@ -101,9 +101,10 @@ fn connect_blank<D: Disk + Drop>(
     // It shows a database without tables and rows.
     ensures empty { IfOk result (λ c. HasCleanDisk (file_state c) → AreClean D.Disk files.log files.db
         × IsEmpty (file_state c).committed.trees) }
-    // It is in no transaction, and has no limit on steps.
+    // The connection is in no transaction, and allows any number of steps of SQL.
     ensures fresh { IfOk result IsNew }
-    // After an error files that held no database hold none still, or one without tables; and the disk refused, or memory ran out.
+    // After an error files that held no database hold none still, or one without tables; and memory ran out, a call of the disk failed, or
+    // they are as long as their format allows.
     ensures left { IfErr result (λ e. IsCleanLeft e.1 → AreClean D.Disk files.log files.db
         × (IsBlank (image_of D.Disk files) → LeavesBlank files e.1 × IsRefused e.0 e.1)) }
 {
@@ -137,13 +138,14 @@ pub fn open_or_make<D: Disk + Drop>(
     requires db { IsTrue (D.Disk.is_usable files.db) }
     // On a clean disk the connection works.
     ensures opened { IfOk result (λ c. HasCleanDisk (file_state c) → IsOpened c) }
-    // Of files that hold a database it shows what they hold, and of those that hold none it shows none.
+    // Of files that hold a database it shows what they hold; of files that hold none, a database without tables and rows.
     ensures found { IfOk result (λ c. HasCleanDisk (file_state c) → MakesOrFinds files c) }
-    // It is in no transaction, and has no limit on steps.
+    // The connection is in no transaction, and allows any number of steps of SQL.
     ensures fresh { IfOk result IsNew }
-    // After an error files that hold a database are as they were.
+    // After an error files that held no database hold none still, or one without tables; others are left as `sqlite` leaves them.
     ensures spared { IfErr result (λ e. IsCleanLeft e.1 → SparesFiles files e.1) }
-    // Files that hold nothing, or a database, are refused only if the disk refused or memory ran out.
+    // Files that hold nothing, or a database, are refused only if memory ran out, a call of the disk failed, or they are as long as their
+    // format allows.
     ensures cause { IfErr result (λ e. IsCleanLeft e.1 → IsOpenable (image_of D.Disk files) → IsRefused e.0 e.1) }
 {
     let size = PageSize::new(NEW_SIZE).unwrap();

@@ -18,11 +18,12 @@ pub fn close_connection<D: Disk + Drop>(conn: Connection<FileStore<D>>) -> Lefto
     ensures clean { IsCleanLeft result → HasCleanDisk (file_state conn) }
     // What the files then hold, and what a crash leaves of them, is a database that a crash might have left before.
     ensures left { IsCleanLeft result → IsLeftOf (file_state conn) result }
-    // It is the last commit, in the database file alone, unless closing failed.
+    // The files then hold the last commit, in the database file alone, unless closing failed.
     ensures copied { IsClosedAs conn result }
-    // Its trees were numbered. So if it had been stopped, what the disk left of its files was a database too (`disk_leaves_a_database`).
+    // The trees of the connection were numbered. So if it had been stopped, what the disk left of its files was a database too
+    // (`disk_leaves_a_database`).
     ensures numbered { IsCleanLeft result → IsNumberedStore conn.store }
-    // And so they are in a store that couldn't be closed, if it is open still, or was shut before.
+    // They are numbered too in a store that couldn't be closed, if it is open still, or was shut before.
     ensures numbers { IsCleanLeft result → KeepsTreesNumbered conn result }
 {
     // These are the steps of `sqlite`'s `close_files`, which doesn't say that the trees are numbered: `into_store` does. A store

@@ -70,13 +70,13 @@ fn open_pair<T: Start, H: WorldFiles<T>>(
     ensures start { IfOk result (λ pair. HoldStart T.Start H.Disk.Disk pair.0) }
     // A fault is one of the store or of memory.
     ensures fault { IfErr result (λ e. IsOfStore e.0) }
-    // It doesn't say that the files aren't ours or are malformed.
+    // No fault says that the files aren't ours or are malformed.
     ensures own { IfErr result (λ e. (e.0 ≢ not_ours) × (e.0 ≢ malformed)) }
-    // It is one of those that come before any file is open.
+    // The fault is one that may come before any file is open.
     ensures stopped { IfErr result (λ e. MayStopAs e.0 e.1) }
     // No file was opened.
     ensures unopened { IfErr result (λ e. IsUnopened e.1) }
-    // The name isn't a path, or the host denied it.
+    // At a fault the name isn't a path, or the host denied it.
     ensures denied { IsErr result → IsDenied (H.denies host.now) path.now }
     // If the start was spent, the host said why the files can't be opened.
     ensures refused { IfErr result (λ e. IfNotOpened e.1 ((error : OpenError) × H.refuses host.now path.now error)) }
@@ -107,10 +107,11 @@ pub(crate) fn open_new<T: Start, H: WorldFiles<T>>(
     ensures connects { IfOk result (IsConnected (IsNewOrFound (image_at T.Start))) }
     // After a fault no world was begun, and the store failed or memory ran out.
     ensures unmade { IfErr result (λ e. IsUnmadeIn (λ _. ⊥) (image_at T.Start) e.0 e.1) }
-    // Files that hold nothing or a database are refused only if the host denied them, the disk refused, or memory ran out.
+    // Files that hold nothing or a database are refused only if the host denied them, memory ran out, a call of the disk failed, or they
+    // are as long as their format allows.
     ensures cause { IsOpenable (image_at T.Start) →
         IfErr result (λ e. IsCleanRemains e.1 → HasCauseOr (λ _. ⊥) (IsDenied (H.denies host.now) path.now) e.0 e.1) }
-    // If the files couldn't be opened, the host said so.
+    // If the start was spent on files that couldn't be opened, the host said why.
     ensures by_host { IfErr result (λ e. IfNotOpened e.1 ((error : OpenError) × H.refuses host.now path.now error)) }
 {
     let (files, options) = match open_pair(host, path, start) {
@@ -137,16 +138,18 @@ pub(crate) fn open_connection<T: Start, H: WorldFiles<T>>(
     ensures connects { IfOk result (IsConnected (FindsIn (image_at T.Start))) }
     // A fault is one of the store or of memory.
     ensures fault { IfErr result (λ e. IsOfStore e.0) }
-    // Files that are refused are spared. If they weren't opened, the fault is CannotOpen, NotADatabase of an empty file, DatabaseBusy or
-    // OutOfMemory.
+    // If the disk returned what was written, files that held anything are spared. If they weren't opened, the fault is CannotOpen,
+    // NotADatabase of an empty file, DatabaseBusy or OutOfMemory.
     ensures refused { IfErr result (λ e. IsRefusedFrom (image_at T.Start) e.0 e.1) }
-    // A database that isn't opened stays as it is, and is called malformed only if the disk failed.
+    // Files that hold nothing hold nothing still, or a database without rows. A database stays as it is; no fault says that it isn't ours,
+    // and it is called malformed only if the disk failed.
     ensures unconnects { (held : Contents) → Hold (image_at T.Start) held →
         IfErr result (λ e. IsCleanRemains e.1 → Unconnects held (image_at T.Start) e.0 e.1) }
-    // A database is refused only if the host denied it, the disk refused, or memory ran out.
+    // A database is refused only if the host denied it, memory ran out, a call of the disk failed, or the files are as long as their format
+    // allows.
     ensures cause { (trees : Trees) → HoldsTrees (image_at T.Start) trees →
         IfErr result (λ e. IsCleanRemains e.1 → HasCauseOr (λ _. ⊥) (IsDenied (H.denies host.now) path.now) e.0 e.1) }
-    // If the files couldn't be opened, the host said so.
+    // If the start was spent on files that couldn't be opened, the host said why.
     ensures by_host { IfErr result (λ e. IfNotOpened e.1 ((error : OpenError) × H.refuses host.now path.now error)) }
 {
     let (files, options) = match open_pair(host, path, start) {

@@ -31,7 +31,7 @@ pub fn make_in<S: Alter + Drop>(
     requires outside { (state S.Store conn).in_transaction ≡ false }
     // The rows are those of a world.
     requires good { IfSome rows (λ r. IsGood r.maps) }
-    // A cell holds the number of the last batch as a signed number of 64 bits.
+    // The number of the last batch fits a cell, which is a signed number of 64 bits.
     requires limit { IfSome rows (λ r. r.maps.head.seq < 2 ^ 63) }
     // The World has these very rows, each in its printed cells; or the database is as it was, and there is a cause.
     ensures loads { Loads S.Store (rows_made rows) conn result }
@@ -42,8 +42,8 @@ pub fn make_in<S: Alter + Drop>(
     }
 }
 
-/// `make_in` at the store in files, over any disk. What is known of that store weighs on each function that calls a generic one at it, so
-/// this call has a function of its own. The errors are those of `load_in` and `create_in`, each with the connection.
+/// `make_in` at the store in files, over any disk: a function of its own, since a function with such a call takes long to prove. The errors
+/// are those of `load_in` and `create_in`, each with the connection.
 pub(crate) fn make_files<D: Disk + Drop>(
     alloc: Global,
     conn: Connection<FileStore<D>>,
@@ -53,7 +53,7 @@ pub(crate) fn make_files<D: Disk + Drop>(
     requires outside { conn.in_transaction ≡ false }
     // The rows are those of a world.
     requires good { IfSome rows (λ r. IsGood r.maps) }
-    // A cell holds the number of the last batch as a signed number of 64 bits.
+    // The number of the last batch fits a cell, which is a signed number of 64 bits.
     requires limit { IfSome rows (λ r. r.maps.head.seq < 2 ^ 63) }
     // The World has these very rows, each in its printed cells; or the database is as it was, and there is a cause.
     ensures loads { Loads over_files (rows_made rows) conn result }
@@ -80,16 +80,17 @@ pub fn make_from<T: Start, H: WorldFiles<T>>(
     requires may { H.may_open host.now path.now }
     // The rows are those of a world.
     requires good { IfSome rows (λ r. IsGood r.maps) }
-    // A cell holds the number of the last batch as a signed number of 64 bits.
+    // The number of the last batch fits a cell, which is a signed number of 64 bits.
     requires limit { IfSome rows (λ r. r.maps.head.seq < 2 ^ 63) }
-    // The world of these rows is made only in files that have room for it: nothing, half a first page, or a database without any table.
-    // It has the very rows, with their numbers, each in its printed cells, and no other row is in any table; a crash leaves these. Else the
-    // store failed, and the files hold what they held, or that world, whole, in the same cells.
+    // The world of these rows is made only in files that have room for it: nothing, half a first page, or a database without any table. The
+    // World has the very rows, with their numbers, each in its printed cells, and no other row is in any table; a crash leaves these. At a
+    // fault the store failed or memory ran out, and the files hold what they held, or that world, whole, in the same cells.
     ensures makes { Makes (rows_made rows) (image_at T.Start) result }
-    // If the files couldn't be opened, the host said so.
+    // If the start was spent on files that couldn't be opened, the host said why.
     ensures by_host { IfErr result (λ e. IfNotOpened e.1 ((error : OpenError) × H.refuses host.now path.now error)) }
-    // Files that hold nothing or a database are refused only if the host, the disk or memory did; and once a connection is open, if they
-    // have room for a world, only if the disk failed, memory ran out, or a row is too big or has no number left.
+    // Files that hold nothing or a database are refused only if the host denied them, memory ran out, a call of the disk failed, or they
+    // are as long as their format allows. Once a connection is open, and if they have room for a world, only if a call of the disk failed,
+    // memory ran out, or a row is too big or has no number left.
     ensures cause { IsOpenable (image_at T.Start) →
         IfErr result (λ e. IsCleanRemains e.1 →
         HasCauseOr (StopsMaking (image_at T.Start) e.0) (IsDenied (H.denies host.now) path.now) e.0 e.1) }

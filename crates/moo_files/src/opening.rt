@@ -33,15 +33,15 @@ const NO_DATABASE: StoreFault = StoreFault::Store(Error::SqliteFailure(ErrorCode
 /// Why a file with this metadata is refused before it is opened: there is no file, or it holds no byte. None if neither is so. An empty
 /// file would be made a blank database by opening it. A log beside an empty file counts for nothing.
 fn refusal_of_metadata(found: io::Result<Metadata>) -> Option<StoreFault>
-    // If there is no file, or it can't be looked at, it can't be opened.
+    // If there is no file, or it can't be looked at, the fault is CannotOpen.
     ensures missing { IsErr found → result ≡ Some cannot_open }
-    // A file without a byte isn't a database.
+    // Of a file without a byte the fault is NotADatabase.
     ensures empty { IfOk found (λ meta. IsFile (file_type meta) → metadata_len meta ≡ 0 → result ≡ Some not_ours) }
     // Any other file isn't refused yet.
     ensures fit { IfOk found (λ meta. (IsFile (file_type meta) → metadata_len meta ≢ 0) → result ≡ None) }
-    // No other fault comes.
+    // A fault is CannotOpen or NotADatabase.
     ensures fault { IfSome result (λ fault. (fault ≡ cannot_open) ⊎ (fault ≡ not_ours)) }
-    // A fault comes only of such files.
+    // A fault comes only if there is no file, or it can't be looked at, or it has no byte.
     ensures unfit { IsSome result → IsUnfit found }
 {
     match found {
@@ -51,8 +51,8 @@ fn refusal_of_metadata(found: io::Result<Metadata>) -> Option<StoreFault>
     }
 }
 
-/// `adopt` at the store in files, over any disk. What is known of that store weighs on each function that calls a generic one at it, so
-/// this call has a function of its own. The errors are those of `adopt`, each with the connection.
+/// `adopt` at the store in files, over any disk: a function of its own, since a function with such a call takes long to prove. The errors
+/// are those of `adopt`, each with the connection.
 pub fn adopt_files<D: Disk + Drop>(
     alloc: Global,
     conn: Connection<FileStore<D>>,
@@ -65,7 +65,7 @@ pub fn adopt_files<D: Disk + Drop>(
     adopt(alloc, conn)
 }
 
-/// Opens the world that a file holds. It never makes the file. One of an earlier version is migrated to the present one, in one
+/// Opens the world that a file holds. It never makes the file. A file of an earlier version is migrated to the present one, in one
 /// transaction, once the whole world was read and found sound; nothing else is written. `T` stands for what the files hold, and no code
 /// reads it.
 ///
@@ -89,22 +89,24 @@ pub fn open_from<T: Start, H: WorldFiles<T>>(
     // migrated to.
     ensures opens { (held : Contents) → Hold (image_at T.Start) held →
         IfOk result (λ world. HasCleanDisk (store_of over_files world) → Opens held world) }
-    // Files that held anything are spared, whatever it was: what a crash leaves of them is what they held, at most with new checksums of its
-    // pages; and a connection comes back only if they read as a sound database. If they weren't opened, the fault is CannotOpen,
-    // NotADatabase of an empty file, DatabaseBusy or OutOfMemory.
+    // If the disk returned what was written, files that held anything are spared, whatever it was: what a crash leaves of them is what they
+    // held, at most with checksums that its pages lacked (SQLite's cksumvfs); and a connection comes back only if they read as a sound
+    // database. If they weren't opened, the fault is CannotOpen, NotADatabase of an empty file, DatabaseBusy or OutOfMemory.
     ensures refused { IfErr result (λ e. IsRefusedFrom (image_at T.Start) e.0 e.1) }
     // `IsCleanRemains`, here and below: as long as the files were open the disk returned what was written. Calls of it may have failed.
     // No damage is told of files that hold a whole world, nothing, or tables that aren't ours; and the files still hold what they held, or
     // what that was migrated to.
     ensures refuses { (held : Contents) → Hold (image_at T.Start) held →
         IfErr result (λ e. IsCleanRemains e.1 → Refuses held (image_at T.Start) e.0 e.1) }
-    // If the files couldn't be opened, the host said so.
+    // If the start was spent on files that couldn't be opened, the host said why.
     ensures by_host { IfErr result (λ e. IfNotOpened e.1 ((error : OpenError) × H.refuses host.now path.now error)) }
-    // A database is refused before its tables are looked at only if the host denied the path, the disk refused, or memory ran out.
+    // A database is refused before a connection to it is open only if the host denied the path, memory ran out, a call of the disk failed,
+    // or the files are as long as their format allows.
     ensures cause { (trees : Trees) → HoldsTrees (image_at T.Start) trees →
         IfErr result (λ e. IsCleanRemains e.1 → HasCause (IsDenied (H.denies host.now) path.now) e.0 e.1) }
-    // If the files hold tables of ours, the fault tells their first damage or their later version. If they have neither, the host denied the
-    // path, the disk refused or failed, or memory ran out; of tables that are migrated also that a row is too big, or no number is left.
+    // If the files hold tables of ours, the fault tells their first damage or their later version. If there is neither, the host denied the
+    // path, the disk refused or failed, or memory ran out; or, if the tables are migrated, a row is too big, or a table has no rowid left
+    // for a new row.
     ensures stopped { (tables : Tables) → HoldsTables (image_at T.Start) tables → IfErr result (λ e. IsCleanRemains e.1 →
         SaysOr (HasCauseOr (StopsOver (AreMigrated tables) e.0) (IsDenied (H.denies host.now) path.now) e.0 e.1) tables e.0) }
 {

@@ -25,9 +25,9 @@ pub(crate) fn open_files<T: Start, H: WorldFiles<T>>(
     ensures usable { IfOk result (λ files. IsTrue (H.Disk.Disk.is_usable files.log) × IsTrue (H.Disk.Disk.is_usable files.db)) }
     // They hold what the start says.
     ensures start { IfOk result (HoldStart T.Start H.Disk.Disk) }
-    // The host said why they can't be opened.
+    // At an error the host said why the files can't be opened.
     ensures refused { IfErr result (λ e. H.refuses host.now path.now e.0) }
-    // The host denied the path.
+    // At an error the host denied the path.
     ensures denied { IsErr result → H.denies host.now path.now }
 {
     match host.open_database(path, start) {

@@ -11,7 +11,7 @@ use sqlite_std_file::OpenError;
 use std::fs::Metadata;
 use std::io::Result as IoResult;
 
-/// The files of worlds, by their paths. `T` is what those that are opened hold.
+/// The files of worlds, by their paths. `T` is what the opened files hold.
 ///
 /// A file is opened by spending a `T`, which can't be copied or made. So code over any `T` opens no more files than it was given starts,
 /// and no file for anything else.
@@ -41,8 +41,8 @@ pub trait WorldFiles<T: Start> {
         // Without a random number the host denies every path.
         ensures denied { IsErr result → (path : List ℕ) → denies self.now path };
 
-    /// Opens the database file of a path and its log, and makes those that are missing. They hold what the start says of them. The errors
-    /// are those of `sqlite_std_file::open`.
+    /// Opens the database file of a path and its log, and makes what is missing. They hold what the start says of them. The errors are
+    /// those of `sqlite_std_file::open`.
     fn open_database(&self, path: &str, start: T) -> Result<Files<Self::Disk>, OpenError>
         // The caller may open this path.
         requires { may_open self.now path.now }
@@ -52,7 +52,7 @@ pub trait WorldFiles<T: Start> {
         ensures start { IfOk result (HoldStart T.Start Self.Disk.Disk) }
         // An error is a refusal of the host, for this reason.
         ensures refused { IfErr result (refuses self.now path.now) }
-        // The host denied the path.
+        // At an error the host denied the path.
         ensures denied { IsErr result → denies self.now path.now };
 }
 

@@ -28,18 +28,17 @@ pub enum Remains<T, D: Disk> {
 impl<T: Drop, D: Disk + Drop> Remains<T, D> {
     /// Closes a connection, as `close_connection` does; anything else comes back as it is.
     pub fn close(self) -> Remains<T, D>
-        // A connection is closed, and anything else is as it was.
         ensures closed { IsClosedFrom self result }
         // Files that held a state before they were closed hold it still, and so does what a crash leaves of them.
         ensures state { (image : Image) (s : State) → (IsCleanRemains self → StillHolds image self s) → IsCleanRemains result →
             StillHolds image result s }
-        // So do files that held a database, or what that was migrated to.
+        // Files that held a database hold it still, or what it was migrated to.
         ensures trees { (image : Image) (trees : Trees) → (IsCleanRemains self → StillHoldsTrees image self trees) → IsCleanRemains result →
             StillHoldsTrees image result trees }
-        // So do files that held nothing, or a database without rows.
+        // Files that held nothing, or a database without rows, hold one of the two still.
         ensures blank { (image : Image) → (IsCleanRemains self → KeepsNothingBut (λ _. ⊥) image self) → IsCleanRemains result →
             KeepsNothingBut (λ _. ⊥) image result }
-        // What was never a sound database stays as it was spared.
+        // Files that read as no sound database, and were spared, are spared still.
         ensures spared { (image : Image) → ((trees : Trees) → ¬ ReadsAs image trees) → (IsCleanRemains self → Spares image self) →
             IsCleanRemains result → Spares image result }
     {
@@ -51,7 +50,7 @@ impl<T: Drop, D: Disk + Drop> Remains<T, D> {
 
     /// Lets go of what is left: files that are open are shut. A connection is closed first, as `close` does it.
     ///
-    /// What is known of the store in files would weigh on a function that drops one.
+    /// A function that dropped a store in files itself would take long to prove.
     pub fn shut(self) {
         match self {
             Remains::Untouched(_start) => {}

@@ -28,10 +28,10 @@ use sqlite_disk::Disk;
 /// `image` is any contents of the log and of the database file that the disk allows (`DiskLeaves`). The disk was clean up to the stop.
 /// `close_connection` says of a connection that its trees are numbered.
 pub fn disk_leaves_a_database<D: Disk>()
-    // The files hold one that the connection may leave, if all that it may leave are databases.
+    // The files hold a database that the connection may leave, if all that it may leave are databases.
     ensures left { (conn : Held (FileStore D D.Disk)) (image : Image) → HasCleanDisk (file_state conn) → IsNumberedStore conn.store →
         AreDatabases (file_state conn).may_leave → DiskLeaves conn.store image → IsLeftBy (file_state conn) image }
-    // So they do if it is the connection of a World, at a place whose cells are known.
+    // So they do if the connection is that of a World, at a place whose cells are known.
     ensures place { (conn : Held (FileStore D D.Disk)) (place : Place) (image : Image) → HasCleanDisk (file_state conn) →
         IsNumberedStore conn.store → IsSome (moment_of place).cells → CrashLeavesAt (file_state conn) place →
         DiskLeaves conn.store image → IsLeftBy (file_state conn) image }

@@ -28,7 +28,7 @@ pub fn open_at<H: WorldFiles<Unknown>>(
 ) -> Result<World<FileStore<H::Disk>>, StoreFault>
     // The caller may look at this path and open it.
     requires may { H.may_open host.now path.now }
-    // Whatever the file holds, the World works at its own rows, which are good, and what is said of rows alone is said of them.
+    // Whatever the file holds, the World works at a moment of its own rows, which are good. Of their cells nothing is said.
     ensures { IfOk result (λ world. Stands over_files world (Works (rows_alone world.rows.maps))) }
 {
     match open_from(alloc, host, path, Unknown) {
@@ -49,9 +49,9 @@ pub fn create_at<H: WorldFiles<Unknown>>(
 ) -> Result<World<FileStore<H::Disk>>, StoreFault>
     // The caller may open this path.
     requires may { H.may_open host.now path.now }
-    // The World works at the opening rows.
+    // The World works at a moment of the opening rows. Of their cells nothing is said yet.
     ensures unseen { IfOk result (λ world. Stands over_files world (Works (rows_alone opening_maps))) }
-    // If the disk returns what was written, it works at a moment that has each of these rows in its printed cells.
+    // If the disk returned what was written, it works at a moment that has each of these rows in its printed cells, and no other row.
     ensures seen { IfOk result (λ world. HasCleanDisk (store_of over_files world) →
         (m : Moment) × IsMadeOf opening_maps m × Stands over_files world (Works m)) }
     // A fault is one of the store or of memory.

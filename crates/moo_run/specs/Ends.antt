@@ -66,7 +66,7 @@ module _ {D : Type 0} {g : Ghosts D} where
     pub room : begins_anew task ≡ true → HasCleanDisk (file_state conn) → HoldsNoTable image
     pub occupied : (trees : Trees) → begins_anew task ≡ true → HoldsTrees image trees → HasAnyTable trees →
         HasCleanDisk (file_state conn) → ⊥
-    -- or it takes up what the file holds, and runs from good rows whatever that is
+    -- or it takes up what the file holds, and runs from good rows whatever the file holds
     pub over : begins_anew task ≡ false → (held : Contents) → Hold image held → HasCleanDisk (file_state conn) → RanOnto task held conn run
     pub sound : begins_anew task ≡ false → HasCleanDisk (file_state conn) → ReadsAsOurs image
     pub opened : begins_anew task ≡ false → (rows : Maps) × IsGood rows × RunsUnseen task (rows_alone rows) run
@@ -114,14 +114,14 @@ module _ {T D : Type 0} {g : Ghosts D} where
       × Reports (store_failure fault) run.before run.after run.status)
       ⊎ GivesNoWorld task rest run
 
-  -- This database is refused, and no damage is told of a state or of other tables. It is kept, damaged or of other tables as it is, or
-  -- migrated.
+  -- This database is refused, and no damage is told of a state or of tables that aren't ours. It stays as it is, whatever its tables, or
+  -- was migrated.
   pub record RefusedOn (trees : Trees) (image : Image) (rest : Remains T D g) (run : Run) : Type 0 where
     pub state : (s : State) → LeavesState trees s → FailsAtOnce run
     pub other : HasOtherTables trees → FailsAtOnce run
     pub kept : StillHoldsTrees image rest trees
 
-  -- anything else is refused because the store fails, or memory ran out
+  -- files without a sound database of ours are refused because the store failed or memory ran out
   abbrev pub RefusedOnto : Contents → Image → Remains T D g → Run → Type 0
   RefusedOnto Nothing image rest run = FailsAtOnce run × KeepsNothingBut (λ _. ⊥) image rest
   RefusedOnto (Database trees) image rest run = RefusedOn trees image rest run

@@ -146,8 +146,8 @@ abbrev pub changes_world : Manner → Bool
 changes_world (manner.Apply options) = true
 changes_world other = false
 
--- A text of batches is answered in a manner, from a moment to an end. Only a text that is run leads to another moment. One is rehearsed
--- over the rows alone: what is written and the status are those of a run of it, which ends somewhere. One is asked to its end.
+-- A text of batches is answered in a manner, from a moment to an end. Only a text that is run leads to another moment. Of a text that is
+-- rehearsed what is written and the status are those of a run over the rows alone. A text that is asked is answered to its end.
 abbrev pub AnswersAs : Manner → Moment → Place → Option (List ℕ) → Option (List ℕ) → Option (List ℕ) → ℕ → Type 0
 AnswersAs (manner.Apply options) m end text old new status = AnswersText RunsAt options.stop m end text old new status
 AnswersAs (manner.Rehearse options) m end text old new status =
@@ -388,9 +388,8 @@ abbrev pub RunsOpened : Task → Run → Type 0
 RunsOpened task run = (run.given.ports.rests × RefusesFile run)
     ⊎ ((rows : Maps) × IsGood rows × RunsUnseen task (rows_alone rows) run)
 
--- The outcome of a task, whatever its file holds. If it begins with a new world, it runs from that, or it can't be made. Any
--- other runs from the world that was found in its file, or the file is refused. (That it is the world which the file's tables
--- show, `RunsFile` says.)
+-- The outcome of a task, whatever its file holds. If it begins with a new world, it runs from that, or it can't be made. Any other runs
+-- from the world that was found in its file, or the file is refused. (That it is the world which the file's tables show, `RunsFile` says.)
 pub record RunsTask (task : Task) (run : Run) : Type 0 where
   pub anew : begins_anew task ≡ true → RunsNew task run
   pub opened : begins_anew task ≡ false → RunsOpened task run

@@ -57,7 +57,7 @@ fn check<W: Write, B: Alter + Drop>(
     // From the moment at which the World works, the tables are tested and the line is written; or that stops.
     ensures checks { (m : Moment) → Stands B.Store world.old (Works m) →
         EndsCheck B.Store world.old world.new m (W.contents output.old) (W.contents output.new) result }
-    // It is done only if the tables show the rows of the World.
+    // The check succeeds only if the tables show the rows of the World.
     ensures shown { OnOk result (ShowsTables B.Store world.old (store_of B.Store world.new)) }
     // A crash leaves nothing that it couldn't leave before.
     ensures still { LeavesNothingNew (store_of B.Store world.old) (store_of B.Store world.new) }
@@ -89,8 +89,7 @@ fn put_loaded<W: Write>(
     }
 }
 
-/// Writes the line of a load of this World, and answers the status 0. A failure if the World had failed, the writer fails, or memory runs
-/// out.
+/// Writes the line of a load of this World; the status is 0. A failure if the World had failed, the writer fails, or memory runs out.
 fn show_loaded<W: Write, B: Alter + Drop>(
     alloc: Global,
     world: &World<B>,
@@ -108,8 +107,7 @@ fn show_loaded<W: Write, B: Alter + Drop>(
     put_loaded(alloc, seq, objects, output)
 }
 
-/// Serves so many connections on a port, and answers the status 0. A failure if the port can't be listened on, the output fails, or memory
-/// runs out.
+/// Serves so many connections on a port; the status is 0. A failure if the port can't be listened on, the output fails, or memory runs out.
 fn serve<'s, S: Streams, B: Alter + Drop>(
     session: &mut Session<'s, S>,
     world: &mut World<B>,
@@ -146,11 +144,11 @@ pub(crate) fn do_task<'s, S: Streams, B: Alter + Drop>(
     ensures ends { (m : Moment) → Stands B.Store world.old (Works m) →
         let run = ⟦<Session<'s, S> as HasRun>⟧.run session.old session.new in
         RunsAction B.Store world.old world.new task.entry.action m run result }
-    // A check is done only if the tables show the rows of the World.
+    // A check succeeds only if the tables show the rows of the World.
     ensures shown { task.entry.action ≡ Action.Check → OnOk result (ShowsTables B.Store world.old (store_of B.Store world.new)) }
-    // Only a task that serves asks anything of the ports.
+    // Unless the task serves, the host, with its files and its ports, is as it was.
     ensures rests { serves task.entry.action ≡ false → session.new.host ≡ session.old.host }
-    // A task that only reads commits nothing.
+    // After any task but `apply` and `serve` a crash leaves nothing that it couldn't leave before.
     ensures still { only_reads task.entry.action ≡ true → LeavesNothingNew (store_of B.Store world.old) (store_of B.Store world.new) }
     // Only a task whose text is `-` reads the input.
     ensures input { reads_input task.entry ≡ false → session.new.input ≡ session.old.input }

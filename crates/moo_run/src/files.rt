@@ -32,8 +32,7 @@ fn begins_anew(task: Task<'_>) -> bool
     matches!(task.action, Action::Init | Action::Load { .. }) || task.file == ":memory:"
 }
 
-/// `run_in_session` at the store in files, over any disk. What is known of that store weighs on each function that calls a generic one at it,
-/// so this call has a function of its own.
+/// `run_in_session` at the store in files, over any disk: a function of its own, since a function with such a call takes long to prove.
 fn run_in_files<'s, S: Streams, D: Disk + Drop>(
     session: &mut Session<'s, S>,
     world: World<FileStore<D>>,
@@ -44,10 +43,10 @@ fn run_in_files<'s, S: Streams, D: Disk + Drop>(
     // The task runs from the moment at which the World works.
     ensures runs { (m : Moment) → Stands over_files world (Works m) →
         RunsIn (file_state result) task.entry m (⟦<Session<'s, S> as HasRun>⟧.run session.old session.new) }
-    // If the disk returns what was written, it did so before.
+    // If the disk is clean after the task, it was clean before.
     ensures clean { (m : Moment) → Stands over_files world (Works m) →
         HasCleanDisk (file_state result) → HasCleanDisk (store_of over_files world) }
-    // A task that only reads commits nothing.
+    // After any task but `apply` and `serve` a crash leaves nothing that it couldn't leave before.
     ensures still { only_reads task.entry.action ≡ true → LeavesNothingNew (store_of over_files world) (file_state result) }
     // Only a task whose text is `-` reads the input.
     ensures input { reads_input task.entry ≡ false → session.new.input ≡ session.old.input }
@@ -151,7 +150,7 @@ fn run_found<'s, S: Streams>(
 /// Does what a task says over its file, writes the line of a failure, and hands back what is left of the file. The status is that
 /// of `run_words`.
 ///
-/// `S::File` is what the file of the words holds, and `S::Host` the host, with its files and its ports: it is proved for all contents and
+/// `S::File` is what the file of the words holds, and `S::Host` the host, with its files and its ports: this is proved for all contents and
 /// all connections, and no code looks at them. No other path is looked at or opened. The program calls it for files that nobody has read.
 ///
 /// Only `init` and `load` make a file.
@@ -181,7 +180,7 @@ fn run_in_memory<'s, S: Streams>(session: &mut Session<'s, S>, task: Task<'_>)
     // The file of batches or the dump that the task names may be read.
     requires read { (path : List ℕ) → ReadsFile task path → S.Host.may_read session.old.host path }
     requires anew { begins_anew task ≡ true }
-    // The task runs from the new world that it begins with, or that can't be made and a line tells why.
+    // The task runs from the new world that it begins with; or that world can't be made, and a line tells why.
     ensures runs { RunsTask task.entry (⟦<Session<'s, S> as HasRun>⟧.run session.old session.new) }
     // Only a task whose text is `-` reads the input.
     ensures input { reads_input task.entry ≡ false → session.new.input ≡ session.old.input }
@@ -206,7 +205,7 @@ pub(crate) fn run_task<'s, S: Streams>(
     // Whatever the file holds, the task runs from the world that it begins with or that was found, or none is made or found and a line
     // tells why.
     ensures runs { RunsTask task.entry (⟦<Session<'s, S> as HasRun>⟧.run session.old session.new) }
-    // By what the file held: a task on a file runs over it, and one on `:memory:` over none.
+    // By what the file held: a task on a file runs over it, and a task on `:memory:` over no file.
     ensures ends { EndsWith task.entry (image_at S.File.Start) result (⟦<Session<'s, S> as HasRun>⟧.run session.old session.new) }
     // Only a task whose text is `-` reads the input.
     ensures input { reads_input task.entry ≡ false → session.new.input ≡ session.old.input }

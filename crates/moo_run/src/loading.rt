@@ -21,7 +21,7 @@ use moo_run_lines::Failure;
 use std::alloc::Global;
 use std::io::{Eprint, Read};
 
-/// The word for the dump of a task, if it begins with the world of one.
+/// The word that names the dump of a task, if the task is a load; else None.
 fn dump_word<'a>(task: Task<'a>) -> Option<&'a str>
     ensures { MatchOption result
         (is_load task.entry.action ≡ false)
@@ -71,11 +71,10 @@ fn read_or_explain<C: Eprint>(
     // The dump of the rows is the text, byte for byte.
     ensures loaded { IfOk result (λ rows. dump_of (state_of rows.maps) ≡ text.now) }
     ensures good { IfOk result (λ rows. IsGood rows.maps) }
-    // The number of the last batch is that of a cell, and so is below 2^63.
     ensures limit { IfOk result (λ rows. rows.maps.head.seq < 2 ^ 63) }
     // Properties and verbs are numbered from 1, in the order of the dump.
     ensures numbered { IfOk result (λ rows. AreRowsOf (state_of rows.maps) rows.maps) }
-    // Unless memory ran out, a text that is refused isn't the dump of any well formed state.
+    // Unless memory ran out, a text of less than 4,294,967,295 bytes that is refused isn't the dump of any well formed state.
     ensures complete { IfErr result (λ fault. fault ≢ OutOfMemory → length text.now < 4294967295 →
         (s : State) → IsHeld s → dump_of s ≢ text.now) }
 {
@@ -95,13 +94,13 @@ fn rows_of_dump<C: Eprint, R: Read + Drop>(
     mut text: R,
 ) -> Result<Flat, Failure>
     ensures good { IfOk result (λ rows. IsGood rows.maps) }
-    // The number of the last batch is that of a cell, and so is below 2^63.
     ensures limit { IfOk result (λ rows. rows.maps.head.seq < 2 ^ 63) }
     // Properties and verbs are numbered from 1, in the order of the dump.
     ensures numbered { IfOk result (λ rows. AreRowsOf (state_of rows.maps) rows.maps) }
     // The dump of the rows is the text, byte for byte, if the text is known.
     ensures dumped { IfOk result (λ rows. IfSome (R.remaining text) (λ bytes. dump_of (state_of rows.maps) ≡ bytes)) }
-    // The failure is one of a dump: the dump of a well formed state is refused only if it can't be read, or memory ran out.
+    // The failure is one of a dump: the dump of a well formed state, of at most 1,073,741,824 bytes, is refused only if it can't be read,
+    // or memory ran out.
     ensures failure { IfErr result (λ failure. RefusesDump (R.remaining text) failure × (failure ≢ Failure.NoBatches)) }
 {
     let bytes = read_text(alloc, &mut text)?;
@@ -121,17 +120,17 @@ pub(crate) fn read_world<C: Eprint, H: BatchFiles, R: Read + Drop>(
     // The file of this path may be read, if it isn't the input.
     requires read { bytes_eq dump.now (codes "-") ≡ false → H.may_read host.now dump.now }
     ensures good { IfOk result (λ rows. IsGood rows.maps) }
-    // The number of the last batch is that of a cell, and so is below 2^63.
     ensures limit { IfOk result (λ rows. rows.maps.head.seq < 2 ^ 63) }
     // Properties and verbs are numbered from 1, in the order of the dump.
     ensures numbered { IfOk result (λ rows. AreRowsOf (state_of rows.maps) rows.maps) }
     // The dump of the rows is the text, byte for byte, if the text is known.
     ensures dumped { IfOk result (λ rows.
         IfSome (texts_by (R.remaining input.old) (H.text host.now) dump.now) (λ bytes. dump_of (state_of rows.maps) ≡ bytes)) }
-    // The failure is one of a dump: that of a well formed state is refused only if its file can't be opened or read, or memory ran out.
+    // The failure is one of a dump: the dump of a well formed state, of at most 1,073,741,824 bytes, is refused only if its file can't be
+    // opened or read, or memory ran out.
     ensures failure { IfErr result (λ failure. RefusesDump (texts_by (R.remaining input.old) (H.text host.now) dump.now) failure
         × TellsLack (H.lacks host.now) dump.now failure) }
-    // Only the dump `-` is read from the input.
+    // The input is read only if the dump is `-`.
     ensures input { bytes_eq dump.now (codes "-") ≡ false → input.new ≡ input.old }
 {
     if dump == "-" {
@@ -159,7 +158,7 @@ pub(crate) fn find_rows<'s, S: Streams>(
     ensures rests { session.new.host ≡ session.old.host }
     // Nothing is written to the output.
     ensures unwritten { session.new.output ≡ session.old.output }
-    // Only a dump that is `-` is read from the input.
+    // Unless the task is a load, the input is as it was.
     ensures other { is_load task.entry.action ≡ false → session.new.input ≡ session.old.input }
     // Only a task whose text is `-` reads the input.
     ensures input { reads_input task.entry ≡ false → session.new.input ≡ session.old.input }

@@ -22,8 +22,7 @@ use moo_run_lines::Failure;
 use moo_store::World;
 use sqlite::{Alter, Connection};
 
-/// Does what a task says over a World, writes the line of a failure, and hands the connection back. The status is that of
-/// `run_words`.
+/// Does what a task says over a World, writes the line of a failure, and hands the connection back. The status is that of `run_words`.
 ///
 /// The World may be any: one whose tables are known to show its rows, or one of which only the rows are known.
 pub fn run_in_session<'s, S: Streams, B: Alter + Drop>(
@@ -36,12 +35,12 @@ pub fn run_in_session<'s, S: Streams, B: Alter + Drop>(
     // The task runs from the moment at which the World works.
     ensures runs { (m : Moment) → Stands B.Store world (Works m) →
         RunsIn (state B.Store result) task.entry m (⟦<Session<'s, S> as HasRun>⟧.run session.old session.new) }
-    // If the disk returns what was written, it did so before.
+    // If the disk is clean after the task, it was clean before.
     ensures clean { (m : Moment) → Stands B.Store world (Works m) →
         HasCleanDisk (state B.Store result) → HasCleanDisk (store_of B.Store world) }
-    // A check that is done found that the tables show the World's rows.
+    // A check with the status 0 found that the tables show the World's rows.
     ensures shown { task.entry.action ≡ Action.Check → session.new.status ≡ 0 → ShowsTables B.Store world (state B.Store result) }
-    // A task that only reads commits nothing.
+    // After any task but `apply` and `serve` a crash leaves nothing that it couldn't leave before.
     ensures still { only_reads task.entry.action ≡ true → LeavesNothingNew (store_of B.Store world) (state B.Store result) }
     // Only a task whose text is `-` reads the input.
     ensures input { reads_input task.entry ≡ false → session.new.input ≡ session.old.input }
@@ -64,9 +63,9 @@ fn run_new<'s, S: Streams, B: Alter + Drop>(
     requires outside { conn.in_transaction ≡ false }
     // The rows are those of a world.
     requires good { IfSome rows (λ r. IsGood r.maps) }
-    // A cell holds the number of the last batch as a signed number of 64 bits.
+    // The number of the last batch fits a cell, which is a signed number of 64 bits.
     requires limit { IfSome rows (λ r. r.maps.head.seq < 2 ^ 63) }
-    // It can't be made, and nothing is asked of the ports; or the task runs from it.
+    // The new world can't be made, and nothing is asked of the ports; or the task runs from it.
     ensures runs { let run = ⟦<Session<'s, S> as HasRun>⟧.run session.old session.new in
         (run.given.ports.rests × FailsAtOnce run) ⊎ RunsMade (state B.Store result) task.entry (rows_made rows) run }
     // Only a task whose text is `-` reads the input.

@@ -16,8 +16,8 @@ use moo_cli::{Usage, read_words};
 use moo_files::{Remains, WorldFiles};
 use moo_run_lines::{Failure, put_line};
 
-/// The exit status for what clap, which reads the words, gives as an error: 0 if it is help or the version, which clap gives as errors
-/// too, and 2 if it is a mistake in the words. A lack of memory isn't among them: `put_mistake` takes it out before.
+/// The exit status for what clap, which reads the words, gives as an error: 0 if it is help or the version, which clap gives as errors too,
+/// and 2 if it is a mistake in the words. A lack of memory never comes here: `put_mistake` tells it.
 fn mistake_status(kind: ErrorKind) -> u8
     ensures { result ≡ mistake_status kind }
 {
@@ -27,10 +27,10 @@ fn mistake_status(kind: ErrorKind) -> u8
     }
 }
 
-/// Writes what the reader of the words says of their mistake, and takes its status: 0 for help and the version, 2 for a mistake. The
-/// status is 1 if the writer fails, and 4 if memory ran out.
+/// Writes what the reader of the words says of their mistake, and sets its status: 0 for help and the version, 2 for a mistake. The status
+/// is 1 if the writer fails, and 4 if memory ran out.
 fn put_mistake<'s, S: Streams>(session: &mut Session<'s, S>, error: &clap::Error)
-    // If the words have this mistake, a text of its reader is written with the status of the mistake, or a line says that memory ran out.
+    // If the words have this mistake, what their reader says of it is written, with its status; or a line says that memory ran out.
     ensures usage { (words : List (List ℕ)) → HasKind (mistakes words) error.now →
         EndsUsage words (S.Output.contents session.old.output) (S.Output.contents session.new.output) session.new.status }
     // The host, with its files and its ports, is as it was.
@@ -48,7 +48,7 @@ fn put_mistake<'s, S: Streams>(session: &mut Session<'s, S>, error: &clap::Error
     session.status = put_line(text.as_str(), mistake_status(kind), &mut session.output);
 }
 
-/// Writes why the words name no task, and takes the status of that.
+/// Writes why the words name no task, and sets the status of that.
 fn report_usage<'s, S: Streams>(session: &mut Session<'s, S>, usage: &Usage)
     // If the words are refused so, what is written and the status are those of words that have a mistake, or name no task.
     ensures usage { (words : List (List ℕ)) → IsRefusal words usage.now →
@@ -67,17 +67,16 @@ fn report_usage<'s, S: Streams>(session: &mut Session<'s, S>, usage: &Usage)
 /// Does what the words say, which begin with `moo`, and sets the exit status: `init`, `load`, `apply`, `ask`, `dump`, `check` or
 /// `serve` on a file, or on a new world in memory for `:memory:`. With no other word it is `apply :memory: -`.
 ///
-/// What the command writes goes to the output, and after it the line of a failure. The status is 1 if the store, the reader or
-/// the writer failed, the text is too long, the port can't be listened on, or an answer is `fault` or `closed`; 3 if the file
-/// is damaged or of a newer version, or a dump shows no world; 4 if memory ran out. Words that name no task give the text of their
-/// reader: 2, or 0 for help and the version. If the store, the batches, the dump or the port failed, the cause goes to standard error,
-/// and so does a hint if a batch met a fault of the store. If a batch isn't accepted, standard error says its line and why. A connection
-/// that fails isn't a failure of `serve`.
+/// What the command writes goes to the output, and after it the line of a failure. The status is 1 if the store, the reader or the writer
+/// failed, the text is too long, the port can't be listened on, or an answer is `fault` or `closed`; 3 if the file is damaged or of a newer
+/// version, or a dump shows no world; 4 if memory ran out. Words that name no task give the text of their reader: 2, or 0 for help and the
+/// version. If the store, the batches, the dump or the port failed, the cause goes to standard error, and so does a hint if a batch met a
+/// fault of the store. If a batch isn't accepted, standard error says its line and why. A connection that fails isn't a failure of `serve`.
 ///
-/// `S::File` is what the file of the words holds, and `S::Host` the host, with its files and its ports: it is proved for all contents and
-/// all connections, and no code looks at them. It looks at and opens no file of a world but that of the words, and reads no file of
-/// batches and no dump but theirs. What is left of the file is handed back, to be closed. If the words name no file, that is the unspent
-/// start.
+/// `S::File` is what the file of the words holds, and `S::Host` the host, with its files and its ports: the run is proved for all contents
+/// and all connections, and no code looks at them. A run looks at and opens no file of a world but that of the words, and reads no file of
+/// batches and no dump but theirs. What is left of the file is handed back, to be closed. If the words name no file, that is `start`, which
+/// is spent only by opening one.
 pub fn run_words<'s, S: Streams>(
     session: &mut Session<'s, S>,
     words: &[&str],
@@ -86,16 +85,17 @@ pub fn run_words<'s, S: Streams>(
     // The file of a world that the words name may be looked at and opened.
     requires may { (task : Task) → NamesTask (map (λ word. word.now) words.now) task →
         S.Host.may_open session.old.host task.file.now }
-    // The file of batches or the dump that they name may be read.
+    // The file of batches or the dump that the words name may be read.
     requires read { (task : Task) (path : List ℕ) → NamesTask (map (λ word. word.now) words.now) task → ReadsFile task path →
         S.Host.may_read session.old.host path }
     // Whatever the file holds: the task that the words name runs, from a new world or from the one that was found; or no world is made or
     // found, and a line tells why; or the words have a mistake, which is told.
     ensures words { RunsWords (map (λ word. word.now) words.now) (⟦<Session<'s, S> as HasRun>⟧.run session.old session.new) }
-    // By what the file holds: the run is one over the world that its tables show, or over a new one; or the file is refused, and spared.
+    // By what the file holds: the run is one over the world that its tables show, or over a new one; or the file is refused, and nothing
+    // that it held is lost, if the disk returned what was written; or the words have a mistake.
     ensures over { RunsOver (map (λ word. word.now) words.now) (image_at S.File.Start) result
         (⟦<Session<'s, S> as HasRun>⟧.run session.old session.new) }
-    // Only words of a task that reads the input change it.
+    // The input is as it was, unless the words name a task that reads it.
     ensures input { KeepsInput (map (λ word. word.now) words.now) session.old.input session.new.input }
 {
     match read_words(session.alloc, words) {
@@ -119,16 +119,16 @@ pub fn run_to_end<'s, S: Streams>(
     // The file of a world that the words name may be looked at and opened.
     requires may { (task : Task) → NamesTask (map (λ word. word.now) words.now) task →
         S.Host.may_open session.old.host task.file.now }
-    // The file of batches or the dump that they name may be read.
+    // The file of batches or the dump that the words name may be read.
     requires read { (task : Task) (path : List ℕ) → NamesTask (map (λ word. word.now) words.now) task → ReadsFile task path →
         S.Host.may_read session.old.host path }
     // Whatever the file holds: the task that the words name runs, from a new world or from the one that was found; or no world is made or
     // found, and a line tells why; or the words have a mistake, which is told.
     ensures words { RunsWords (map (λ word. word.now) words.now) (⟦<Session<'s, S> as HasRun>⟧.run session.old session.new) }
-    // The file is closed after a run over what it held.
+    // The words ran over what the file held, as the clause `over` of `run_words` says, and then the file was closed.
     ensures closed { RunsClosed (map (λ word. word.now) words.now) (image_at S.File.Start) result
         (⟦<Session<'s, S> as HasRun>⟧.run session.old session.new) }
-    // Only words of a task that reads the input change it.
+    // The input is as it was, unless the words name a task that reads it.
     ensures input { KeepsInput (map (λ word. word.now) words.now) session.old.input session.new.input }
 {
     run_words(session, words, start).close()

@@ -50,7 +50,7 @@ fn may_be_explained(failure: Failure) -> bool {
 }
 
 impl<'s, S: Streams> Session<'s, S> {
-    /// Writes the line of a failure, and takes its status.
+    /// Writes the line of a failure, and sets its status.
     pub(crate) fn fail(&mut self, failure: Failure)
         ensures reports { Reports failure (S.Output.contents self.old.output) (S.Output.contents self.new.output) self.new.status }
         ensures host { self.new.host ≡ self.old.host }
@@ -60,7 +60,7 @@ impl<'s, S: Streams> Session<'s, S> {
         self.status = report(self.alloc, self.console, failure, &mut self.output);
     }
 
-    /// Writes the line of a file that can't be opened, and takes its status. If the host knows why it can't, the host says so on standard
+    /// Writes the line of a file that can't be opened, and sets its status. If the host knows why it can't, the host says so on standard
     /// error in place of the store.
     pub(crate) fn fail_to_open(&mut self, file: &str, failure: Failure)
         ensures reports { Reports failure (S.Output.contents self.old.output) (S.Output.contents self.new.output) self.new.status }
@@ -75,7 +75,7 @@ impl<'s, S: Streams> Session<'s, S> {
         }
     }
 
-    /// Takes the status of a task that is done; or writes the line of its failure, and takes the status of that.
+    /// Sets the status of a task that is done; or writes the line of its failure, and sets the status of that.
     pub(crate) fn finish(&mut self, done: Result<u8, Failure>)
         // A task that is done writes no line here.
         ensures reports { MatchResult done

@@ -21,11 +21,11 @@ use std::io::{Eprint, Read, Write};
 /// What is done with the batches of a text.
 #[derive(Clone, Copy, Drop)]
 pub(crate) enum Manner {
-    /// They are run.
+    /// The batches are run.
     Apply(Options),
-    /// It is said what running them would answer.
+    /// The batches are rehearsed: the answers are what running them would answer.
     Rehearse(Options),
-    /// It is said what each would answer at present.
+    /// The batches are asked: each answer is what the batch would be answered at present.
     Ask,
 }
 
@@ -122,9 +122,9 @@ pub(crate) fn answer_batches<'s, S: Streams, B: Alter + Drop>(
         EndsText B.Store world.old world.new (run.given.lacks path.now) manner m (run.given.text path.now) run.before run.after result }
     // If the batches aren't run, a crash leaves nothing that it couldn't leave before.
     ensures still { changes_world manner ≡ false → LeavesNothingNew (store_of B.Store world.old) (store_of B.Store world.new) }
-    // Nothing is asked of the ports.
+    // The host, with its files and its ports, is as it was.
     ensures rests { session.new.host ≡ session.old.host }
-    // Only the text `-` is read from the input.
+    // The input is read only if the text is `-`.
     ensures input { bytes_eq path.now (codes "-") ≡ false → session.new.input ≡ session.old.input }
 {
     let (console, alloc) = (session.console, session.alloc);

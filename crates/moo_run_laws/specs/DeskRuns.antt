@@ -29,9 +29,9 @@ module _ {R W : Type 0}
   Runs (call ∷ earlier) first last =
       (between : Held R W inward incoming reader outward writer × ℕ) × Runs earlier first between × Allows call between last
 
-  -- The ledger of a desk after these calls. Each connection that the gate gave is still gathered, was handed out, or was lost as it came, in
-  -- a call that hands out none. Each that was given back is still held, or all of its answer was sent, or it was lost, and never both. As
-  -- many were lost as losses were told of, or are noted still.
+  -- The ledger of a desk after these calls. Each connection that the gate gave is still gathered, was handed out, or was lost as it came,
+  -- in a call that hands out none. Each that was given back is still held, or all of its answer was sent, or it was lost, and never both.
+  -- As many were lost as losses were told of, or are noted still.
   pub record DeskLedger (calls : List (Call R W)) (first last : Held R W inward incoming reader outward writer × ℕ) : Type 0 where
     pub missed : ℕ
     pub came : last.1 ≡ first.1 + (length last.0.slots.items + in_all handed_in calls + missed)
@@ -43,7 +43,7 @@ module _ {R W : Type 0}
     pub held : still_held fates ≡ last.0.leaving.items
     pub losses : count_lost fates ≡ in_all told_in calls + count_noted last.0.losses
 
-  -- It is closed: none is held that was given back, and as many were told of as were lost.
+  -- The ledger is closed: no connection is held that was given back, and as many losses were told of as answers were lost.
   abbrev pub IsClosed : (calls : List (Call R W)) (first last : Held R W inward incoming reader outward writer × ℕ)
       → DeskLedger calls first last → Type 0
   IsClosed calls first last ledger = (still_held ledger.fates ≡ []) × (count_lost ledger.fates ≡ in_all told_in calls)
@@ -60,7 +60,7 @@ module _ {R W : Type 0} (from : R → ℤ) (reads : R → Gave → R → Type 0)
   KeepsLedger = (calls : List (Call R W)) (first last : PeersHeld × ℕ) → Runs calls first last → in_all given_in calls < 2 ^ 32 →
       DeskLedger calls first last
 
-  -- Once a last `settle` tells of none the ledger is closed.
+  -- Once a last `settle` tells of no loss the ledger is closed.
   abbrev pub ClosesLedger : Type 0
   ClosesLedger = (calls : List (Call R W)) (first last : PeersHeld × ℕ) → Runs (calls_settle true None ∷ calls) first last →
       in_all given_in calls < 2 ^ 32 →

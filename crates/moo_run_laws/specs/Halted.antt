@@ -36,7 +36,7 @@ module _ {T D : Type 0} {g : Ghosts D} where
   EndLeaves image ends closed next = IfRan ends (λ conn. ClosedLeaves image conn closed next) (λ rest. BytesLeave image closed next)
 
 module _ {S T D N U E : Type 0} (g : HasRun.Ghosts S T D) {disk : Ghosts D} (h : HasRun.Ghosts N U E) {other : Ghosts E} where
-  -- A run that began with such a session, whose host and output are to stop so, and then the next; each ended so, and its file was closed.
+  -- A run that began with a session of which `Began` is true, and then the next run; each told how it ended, and then its file was closed.
   -- If the disk of the first returned what was written, and the files of the second held bytes that `EndLeaves` allows, the first hands
   -- them over.
   abbrev pub HaltsBefore : (S → Type 0) → (S → Ends T D disk → FileRun g disk) → (Ends U E other → FileRun h other) → Type 0

@@ -14,7 +14,7 @@ pub struct HaltingConnections<A> {
 }
 
 impl<A> HaltingConnections<A> {
-    /// A source that hands out this many of the connections of another, and none yet.
+    /// A source that hands out this many of the connections of another source, and has handed out none yet.
     pub(crate) fn new(inner: A, connections: u32) -> HaltingConnections<A>
         ensures { result ≡ record { inner = inner; connections_left = connections } }
     {

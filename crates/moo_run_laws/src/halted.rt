@@ -16,9 +16,9 @@ use sqlite_disk::Fuse;
 
 /// Runs words as the program does, by `run_to_end`, until the run comes to a stop. Then other words run over what the disk leaves.
 ///
-/// A process that is stopped has made so many calls of its log and of its database file, written so many bytes of its output, and taken
-/// so many connections. This run with these numbers does the same, and then gets no more of these. So (no clause says it) the disk leaves
-/// the same bytes, and the run acknowledges no less. A write or a cut in progress counts as made, and a sync as not made.
+/// A process that is stopped has made so many calls of its log and of its database file, written so many bytes of its output, and taken so
+/// many connections. This run with these numbers does the same, and then gets no more calls, bytes and connections. So (no clause says it)
+/// the disk leaves the same bytes, and the run acknowledges no less. A write or a cut in progress counts as made, and a sync as not made.
 pub fn run_halted<'s, 'n, S: Streams, N: Streams>(
     session: Session<'s, S>,
     halt: Halt,
@@ -34,20 +34,21 @@ pub fn run_halted<'s, 'n, S: Streams, N: Streams>(
 )
     // The world's file that the first words name may be looked at and opened.
     requires may { (task : Task) → NamesTask (map (λ word. word.now) words.now) task → S.Host.may_open session.host task.file.now }
-    // The file of batches or the dump that they name may be read.
+    // The file of batches or the dump that the first words name may be read.
     requires read { (task : Task) (path : List ℕ) → NamesTask (map (λ word. word.now) words.now) task → ReadsFile task path →
         S.Host.may_read session.host path }
-    // So may the world's file that the next words name.
+    // The world's file that the next words name may be looked at and opened.
     requires next_may { (task : Task) → NamesTask (map (λ word. word.now) next_words.now) task →
         N.Host.may_open next.old.host task.file.now }
-    // So may the file of batches or the dump that the next words name.
+    // The file of batches or the dump that the next words name may be read.
     requires next_read { (task : Task) (path : List ℕ) → NamesTask (map (λ word. word.now) next_words.now) task →
         ReadsFile task path → N.Host.may_read next.old.host path }
     // The first run begins with this session, whose files, output and connections stop after what `halt` grants. The second goes on where
-    // the first left off: from any bytes that the disk may leave (`EndLeaves`) it starts after the batches that were answered `accepted` (of
-    // a service, after all that were accepted), or after one more; or it fails for a cause, and tells no damage. The first record is the
-    // halted run, the second the next one: the words, what the files held, the session before and after, how the words ended, and what was
-    // left once the file was closed. How the words ended isn't handed out, nor the session that the halted run began with: there are such.
+    // the first left off: from any bytes that the disk may leave once the files are closed (`EndLeaves`) it starts after the batches that
+    // were answered `accepted` (of a service, after all that were accepted), or after one more; or it fails for a cause, and tells no
+    // damage. The first record is the halted run, the second the next one: the words, what the files held, the session before and after,
+    // how the words ended, and what was left once the file was closed. How the words ended isn't handed out, nor the session that the
+    // halted run began with: there are some that fit.
     ensures halted { HaltsBefore ⟦<Session<'s, HaltingStreams<S>> as HasRun>⟧ ⟦<Session<'n, N> as HasRun>⟧
         (λ began. (began.host ≡ record { inner = session.entry.host; halt = halt }) × (began.input ≡ session.entry.input)
         × (began.output ≡ record { inner = session.entry.output; bytes_left = halt.bytes }))

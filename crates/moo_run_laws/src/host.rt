@@ -30,7 +30,7 @@ pub struct Halt {
 pub fn halting_files<D: Disk>(files: Files<D>, halt: Halt) -> Files<Fuse<D>>
     // The log is the one given; no call on it failed yet, and it takes so many calls.
     ensures log { (inner_of result.log ≡ files.log) × IsFresh result.log × (calls_left result.log ≡ halt.log_calls) }
-    // So is the database file.
+    // The same of the database file, with its number of calls.
     ensures db { (inner_of result.db ≡ files.db) × IsFresh result.db × (calls_left result.db ≡ halt.db_calls) }
 {
     Files {

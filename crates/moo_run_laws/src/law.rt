@@ -30,14 +30,14 @@ pub fn runs_lead_on<S: HasRun, N: HasRun>()
         HandsOver first next }
 {}
 
-/// What the disk leaves of the files of a run that is stopped, once these are closed, may be found after it: `run_to_end` says that they
-/// are closed so, and `runs_lead_on` from what any run over these bytes then goes on.
+/// The bytes that the disk may leave of the files of a run, once they are closed, are bytes that may be found after it (`IsFoundAfter`). So
+/// `runs_lead_on` says from what a run over them goes on.
 pub fn ends_are_found<S: HasRun>()
     ensures found { (run : FileRun S.HasRun S.Disk.Disk) (next : Image) → IsClosedEnd run.ends run.closed → IsCleanRemains run.closed →
         EndLeaves run.image run.ends run.closed next → IsFoundAfter run next }
 {}
 
-/// A service that ran from a moment ended where its connections led: or its port was refused, and it is where it was.
+/// A service that ran from a moment ended where its connections led: or its port was refused, and it ended where it began.
 pub fn services_end_where_connections_led<S: HasRun>()
     ensures served { (run : FileRun S.HasRun S.Disk.Disk) (conn : Held (FileStore S.Disk S.Disk.Disk)) (task : Task) (service : Service)
         (m : Moment) → task.action ≡ Serve service → (ran : RunsIn (file_state conn) task m (run_of run)) →

@@ -8,8 +8,9 @@ use moo_desk::{Inward, Outward};
 /// connection that came is still gathered, was handed out, or was lost as it came; and each that was given back is still held, or was
 /// answered whole, or is told of as lost, once.
 pub fn desks_keep_a_ledger<R: Inward, W: Outward>()
-    // So it does while fewer than 2 ^ 32 connections were given back.
+    // It keeps the ledger while fewer than 2 ^ 32 connections were given back.
     ensures keeps { KeepsLedger R.peer R.reads R.fails R.Read W.peer W.Write }
-    // Once a last `settle` tells of no loss, none is held that was given back, and as many losses were told of as answers were lost.
+    // Once a last `settle` tells of no loss, no connection is held that was given back, and as many losses were told of as answers were
+    // lost.
     ensures closes { ClosesLedger R.peer R.reads R.fails R.Read W.peer W.Write }
 {}

@@ -11,7 +11,7 @@ pub struct HaltingOutput<W> {
 }
 
 impl<W> HaltingOutput<W> {
-    /// A writer that takes this many bytes for another, and none yet.
+    /// A writer that takes this many bytes for another writer, and has taken none yet.
     pub fn new(inner: W, bytes: usize) -> HaltingOutput<W>
         ensures { result ≡ record { inner = inner; bytes_left = bytes } }
     {

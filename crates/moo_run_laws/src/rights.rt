@@ -6,9 +6,9 @@ ghost use Rattle.moo_world.specs.Rows.{IsGood};
 ghost use Rattle.moo_store.specs.Moment.{Moment, state_of_moment, LeadsByEach};
 ghost use Rattle.moo_laws.specs.NobodyRises.{NoWizardActs, KeepsRights};
 
-/// If none of these batches is a wizard's at its turn, nobody rises by them. Nothing is asked of what they give.
+/// If none of these batches is a wizard's at its turn, nobody rises by them. Of what the batches do nothing is supposed.
 pub fn led_batches_keep_rights()
-    // From one moment of a World to another, as `turns_lead` has them of a text, and each run of the program.
+    // The batches lead from one moment to another, as those of a text do (`turns_lead`), and those of each run of the program.
     ensures moments { (m end : Moment) (batches : List Batch) → IsGood m.rows → LeadsByEach m batches end →
         NoWizardActs (state_of_moment m) batches → KeepsRights (state_of_moment m) batches (state_of_moment end) }
 {}

@@ -7,7 +7,7 @@ use crate::output::HaltingOutput;
 use moo_run::{Session, Streams};
 use std::marker::PhantomData;
 
-/// The types of what a run works with that comes to a stop. `S` has those of the run that doesn't.
+/// The types of what a run works with that comes to a stop. `S` has the types of the run that doesn't.
 pub struct HaltingStreams<S> {
     of: PhantomData<S>,
 }

@@ -25,8 +25,8 @@ SaysInCheck Cause own tables fault = Cause
 abbrev pub StopsCheck : Tables → Database → Database → StoreFault → Type 0
 StopsCheck tables old new = StopsBy (λ error. StopsQuery old new error ⊎ ((¬ IsCurrent tables) × (Store error ≡ not_ours)))
 
--- Nothing was written. What was in the tables is there still, if the connection is, also in the one that isn't read, and a crash leaves what
--- it could leave before.
+-- Nothing was written. What was in the tables is there still, if the connection is, also in the one that isn't read, and a crash leaves
+-- what it could leave before.
 pub record KeepsTables (old new : Database) : Type 0 where
   pub clean : HasCleanDisk new → HasCleanDisk old
   pub kept : HasCleanDisk new → IsTrue new.is_open → (tables : Tables) → Rests old tables → Rests new tables

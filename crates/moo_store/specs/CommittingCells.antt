@@ -13,8 +13,8 @@ use Rattle.moo_store.specs.Moment.{Moment, KeepsCellsAt}
 use Rattle.moo_store.specs.Place.{Works, Between, IsAtPlace}
 use Rattle.moo_store.specs.Printed.{Prints}
 
--- These cells were committed, or the store failed for a cause. So it is of any tables at rest, and the table that isn't read stays. From a
--- moment at rest the store comes to the next one, of the rows that the changes give; or it failed between the two.
+-- These cells were committed, or the store failed for a cause. That is said of any tables at rest, and the table that isn't read stays.
+-- From a moment at rest the store comes to the next one, of the rows that the changes give; or it failed between the two.
 pub record CommitsCells {A : Type 0} (cells : CellChanges) (old new : Database) (r : Result A Error) : Type 0 where
   pub tables : CommitsTables cells old new r
   pub spared : HasCleanDisk new → (tables : Tables) → Rests old tables → IsCurrent tables → SparesUnread old new

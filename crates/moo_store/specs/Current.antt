@@ -22,14 +22,13 @@ pub record BecomesCurrent (old new : Tables) : Type 0 where
 abbrev pub unread_of : Trees → List Row
 unread_of trees = trees (slot_tree First)
 
--- which of the rows of the table `slot` are left once tables of this version were brought to the present one: a migration empties the
--- table
+-- which of the rows of the table `slot` are left once tables of this version were brought to the present one: a migration empties the table
 abbrev pub unread_kept : Version → List Row → List Row
 unread_kept First rows = []
 unread_kept Second rows = rows
 
--- The connection is open and in no transaction. Its tables are those of the present version that these tables, of these trees, became,
--- and they show these rows.
+-- The connection is open and in no transaction. The old tables, of these trees, became its tables, of the present version, which show these
+-- rows. A migration emptied the table `slot`; else it stayed.
 pub record RestsCurrent (store : Database) (trees : Trees) (old : Tables) (rows : Maps) : Type 0 where
   pub tables : Tables
   pub rests : Rests store tables

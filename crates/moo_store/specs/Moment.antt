@@ -34,8 +34,8 @@ state_of_moment m = state_of m.rows
 abbrev pub rows_alone : Maps → Moment
 rows_alone rows = record { rows = rows; cells = None }
 
--- From cells that show these rows to cells that show those: all that stays keeps its cells, each a value of SQLite, a text byte for byte;
--- and the table that isn't read keeps its rows.
+-- From cells that show the first rows to cells that show the next: all that stays keeps its cells, each a value of SQLite, a text byte for
+-- byte; and the table that isn't read keeps its rows.
 pub record KeepsStaying (rows next : Maps) (old new : AllCells) : Type 0 where
   pub cells : KeepsCells rows next old.tables new.tables
   pub unread : new.unread ≡ old.unread

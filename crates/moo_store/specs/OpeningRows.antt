@@ -63,7 +63,7 @@ not_ours = Store (SqliteFailure NotADatabase)
 abbrev pub TakesOver : Maps → Database → Trees → Type 0
 TakesOver rows store trees = (tables : Tables) → Rests store tables → ShowsRows tables rows → LeavesRows trees rows
 
--- what opening may commit: in place of tables of an earlier version others that show what those showed; and it commits only if the
+-- what opening may commit: in place of tables of an earlier version, tables of any version that show the same; and it commits only if the
 -- tables that are there show the rows of a world
 abbrev pub Adopts : Database → Trees → Type 0
 Adopts conn trees =
@@ -76,8 +76,9 @@ abbrev pub HasOthers : Database → Type 0
 HasOthers conn = (version : Version) → conn.now.schema ≢ schema_of version
 
 module _ {S : Type 0} (g : Ghosts S) where
-  -- No World was opened, and the connection comes back outside a transaction. A damage that is told is the first of the tables, any other
-  -- fault of them has a cause, and they are never called others. Other tables are a fault of the store. The database is as it was.
+  -- No World was opened, and the connection comes back outside a transaction. Over our tables a damage that is told is their first, any
+  -- other fault has a cause, and none says that they aren't ours. Over other tables the store failed or memory ran out, and nothing
+  -- changed. The database is as it was.
   pub record IsUnadopted (conn : Held S) (fault : StoreFault) (last : Held S) : Type 0 where
     pub outside : (state g last).in_transaction ≡ false
     pub other : HasOthers (state g conn) → IsOfStore fault × (last ≡ conn)

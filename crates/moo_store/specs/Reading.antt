@@ -56,8 +56,8 @@ module _ {S : Type 0} (g : Ghosts S) where
     pub read : ReadsTables (schema_of version) (state g conn) (state g last)
     pub found : AreFound (Rested (state g conn) (state g last)) rows
 
-  -- The rows of a connection weren't read: nothing was asked, or the reading failed. Other tables are a fault of the store, and ours are
-  -- never called others.
+  -- The rows of a connection weren't read: nothing was asked, or the reading failed. Over other tables the store failed or memory ran out,
+  -- and over ours no fault says that they aren't ours.
   pub record HasNotRead (conn last : Held S) (fault : StoreFault) : Type 0 where
     pub failed : (last ≡ conn) ⊎ ((version : Version) × HasTables (schema_of version) (state g conn)
         × FailsToRead (schema_of version) (state g conn) (state g last))

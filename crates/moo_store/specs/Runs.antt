@@ -10,8 +10,8 @@ use Rattle.moo_store.specs.declared.fault.StoreFault.TheVariants.{Store, Damaged
 use Rattle.moo_store.specs.Turns.{Turns}
 use Rattle.moo_store.specs.Moves.{RunsAt}
 
--- How a list of batches ends: each has had its turn; or the store failed in the next one; or the World had failed, before that one if it
--- worked at first; or there was no room for the replies, and nothing was done.
+-- How a list of batches ends: each has had its turn; or the store failed in the next one; or the World had failed, at first or before the
+-- next one; or there was no room for the replies, and nothing was done.
 abbrev pub EndsList : Place → List Reply → Result (Unit {0}) StoreFault → List Batch → Place → Place → Type 0
 EndsList from replies (Ok done) left mid to = (has_failed from ≡ false) × (left ≡ []) × (to ≡ mid)
 EndsList from replies (Err (Store error)) left mid to =

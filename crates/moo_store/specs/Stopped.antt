@@ -5,7 +5,7 @@ use Rattle.moo_tables_rows.specs.Cause.{StopsChange}
 use Rattle.moo_store.specs.declared.fault.StoreFault.{StoreFault}
 use Rattle.moo_store.specs.declared.fault.StoreFault.TheVariants.{Store}
 
--- no failure of the disk is forgotten, and the limit on steps stays
+-- the count of the disk's calls that failed gets no lower, and the connection allows as many steps of SQL as before
 pub record KeepsFaults (old new : Database) : Type 0 where
   pub faults : old.faults ≤ new.faults
   pub steps : new.step_limit ≡ old.step_limit

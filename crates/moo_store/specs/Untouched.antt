@@ -1,4 +1,4 @@
--- Rows that stay as they are, and columns that stay, keep their cells, byte for byte, whatever spelling of a value these hold.
+-- Rows that stay as they are, and columns that stay, keep their cells, byte for byte, whatever spelling of a value the cells hold.
 use Rattle.std.specs.Prelude.{◌≡◌, ℤ, pos, Option, Some, ⊤}
 use Rattle.std.specs.FinMap.{get}
 use Rattle.sqlite.specs.Order.{Row}

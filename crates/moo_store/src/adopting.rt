@@ -25,8 +25,9 @@ pub fn adopt<S: Alter + Drop>(
 ) -> Result<World<S>, (StoreFault, Connection<S>)>
     // The connection is in no transaction.
     requires outside { (state S.Store conn).in_transaction ≡ false }
-    // Tables of any version that show a world and a number give a World that works at these, unless the store fails or memory runs out.
-    // Nothing else is opened, and a damage that is answered is that of the tables. A refusal leaves the database as it was.
+    // Our tables of any version that show a world give a World that works at the moment that they show, brought to the present version,
+    // unless the store fails or memory runs out. No other tables are opened. A damage that a fault tells is the first of the tables. A
+    // refusal leaves the database as it was.
     ensures adopts { Adopting S.Store conn result }
 {
     match open_rows(alloc, &mut conn) {

@@ -20,10 +20,10 @@ use std::io::{Read, Write};
 
 /// What answers the batches of a text.
 pub(crate) trait Answering {
-    // What an answer to a batch says of the one that gives it, before and after.
+    // What an answer to a batch says of the implementor that gives it, before and after.
     ghost answered: { Self → Batch → Answer → Self → Type 0 };
 
-    /// Who gives the memory for its text and its answers.
+    /// The allocator for its text and its answers.
     fn allocator(&self) -> Global;
 
     /// Answers one batch. If it is refused, the witness sees why.
@@ -52,7 +52,7 @@ fn answer_item<A: Answering, N: Witness>(
 ) -> Option<Answer>
     // An answer is that of the item's turn.
     ensures some { IfSome result (λ answer. Turn A.answered answering.old item.now answer answering.new) }
-    // There isn't one only at the end of the text, and nothing changed.
+    // It is None only at the end of the text, and then nothing changed.
     ensures none { IfNone result ((item.now ≡ Next.End) × (answering.new ≡ answering.old)) }
 {
     match item {
@@ -78,7 +78,7 @@ fn answer_and_note<W: Write, A: Answering, N: Notes + Witness>(
     // At the end of the text nothing changed and nothing was written.
     ensures ends { IfOk result (λ o. IfNone o
         ((item.now ≡ Next.End) × (answering.new ≡ answering.old) × (writer.new ≡ writer.old))) }
-    // At an error the item had its turn too, and the beginning of its answer was written: nothing of it, unless the writer failed.
+    // At an error the item had its turn too. The beginning of its answer was written if the writer failed, else nothing.
     ensures halts { IfErr result (λ fault. (answer : Answer) × (count : ℕ)
         × Turn A.answered answering.old item.now answer answering.new
         × Appends (W.contents writer.old) (W.contents writer.new) (take count (answer_text answer))

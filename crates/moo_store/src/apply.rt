@@ -43,7 +43,7 @@ pub fn apply_until<R: Read + Drop, W: Write, S: Alter + Drop, N: Notes + Witness
     notes: &mut N,
 ) -> Result<Course, TextFault>
     // Each item of the text has its turn, up to its end or, if it is to stop, to the first answer that isn't `accepted`; and its answer is
-    // written, and nothing else. At a fault the answers of the items that are done are written, and the beginning of the next one.
+    // written, and nothing else. At a fault the answers to the first items are written, and perhaps the beginning of the next answer.
     ensures { MovesBy S.Store world.old world.new (λ from to.
         AnswersBy RunsAt stop from to (R.remaining reader) (W.contents writer.old) (W.contents writer.new) result) }
 {

@@ -33,7 +33,7 @@ pub(crate) trait Column: PartialEq {
     ghost text: { Self → List ℕ };
 
     /// The value of a row in this column.
-    fn of(row: &Self::Row) -> &Self
+    fn value_in(row: &Self::Row) -> &Self
         ensures { result.now ≡ part row.now };
 
     /// The printed text of the value. The only error is a lack of memory.
@@ -64,7 +64,7 @@ impl Column for Option<ObjList> {
 
     ghost text = { accept_text };
 
-    fn of(row: &ObjRow) -> &Option<ObjList> {
+    fn value_in(row: &ObjRow) -> &Option<ObjList> {
         &row.accept
     }
 
@@ -90,7 +90,7 @@ impl Column for SlotState {
 
     ghost text = { state_text };
 
-    fn of(row: &SlotRow) -> &SlotState {
+    fn value_in(row: &SlotRow) -> &SlotState {
         &row.state
     }
 
@@ -113,7 +113,7 @@ impl Column for VerbBits {
 
     ghost text = { verb_letters_of };
 
-    fn of(row: &VerbRow) -> &VerbBits {
+    fn value_in(row: &VerbRow) -> &VerbBits {
         &row.bits
     }
 
@@ -136,7 +136,7 @@ impl Column for ValueList {
 
     ghost text = { calls_text };
 
-    fn of(row: &PetitionRow) -> &ValueList {
+    fn value_in(row: &PetitionRow) -> &ValueList {
         &row.calls
     }
 
@@ -154,7 +154,7 @@ fn has_value<V: Column>(old: Option<&V::Row>, value: &V) -> bool
     ensures { IsTrue result ↔ option_map V.part (option_map (λ row. row.now) old.entry) ≡ Some value.now }
 {
     match old {
-        Some(old) => *V::of(old) == *value,
+        Some(old) => *V::value_in(old) == *value,
         None => false,
     }
 }
@@ -169,7 +169,7 @@ pub(crate) fn text_over<V: Column>(
     ensures { IfOk result (λ cell.
         PrintsOver V.spells V.text (option_map V.part (option_map (λ row. row.now) old.entry)) (V.part row.now) cell) }
 {
-    let value = V::of(row);
+    let value = V::value_in(row);
     if has_value::<V>(old, value) {
         return Ok(None);
     }

@@ -12,13 +12,14 @@ pub(crate) fn commit_cells<S: Alter>(
     conn: &mut Connection<S>,
     cells: &CellChanges,
 ) -> Result<(), Error>
-    // A cell holds the number of the last batch as a signed number of 64 bits.
+    // The number of the last batch fits a cell, which is a signed number of 64 bits.
     requires limit { cells.now.head.seq < 2 ^ 63 }
-    // The connection is in no transaction, and in none after the call.
+    // The connection is in no transaction.
     requires outside { (state S.Store conn.old).in_transaction ≡ false }
     // The connection is in no transaction afterwards.
     ensures outside { (state S.Store conn.new).in_transaction ≡ false }
-    // The changes are in the tables of the present version, committed; or none is, and there is a cause. So it is after a crash.
+    // The changes were committed to the tables of the present version; or none was, and there is a cause. A crash leaves what it could
+    // leave before, or the changed tables.
     ensures commits { CommitsCells cells.now (state S.Store conn.old) (state S.Store conn.new) result }
 {
     commit_changes(conn, cells)

@@ -20,18 +20,18 @@ use sqlite::{Alter, Connection, Error, ErrorCode};
 use std::alloc::Global;
 
 /// The number of objects, if the cells of the tables show these rows. `Damaged`: they don't, or they show no world; `NewerVersion`;
-/// `OutOfMemory`; `Store` with `DatabaseCorrupt` if the rows of a table aren't in the order of their keys, as only a failing disk gives
-/// them.
+/// `OutOfMemory`; `Store` with `DatabaseCorrupt` if the rows of a table aren't in the order of their keys, as of a failing disk.
 fn compare_lists(alloc: Global, lists: CellLists, own: &Flat) -> Result<u64, StoreFault>
-    // The known rows are those of a world.
+    // The given rows are those of a world.
     requires good { IsGood own.now.maps }
-    // If a number is answered, the tables show the known rows.
+    // If a number is answered, the tables show the given rows.
     ensures shown { OnOk result (ShowsRows (tables_of lists) own.now.maps) }
     ensures count { IfOk result (λ count. count ≡ length (objects_of (world_of own.now.maps))) }
-    // A damage is told only if it is met; any other fault over listed rows is out of memory.
+    // A damage that is told is the first of the tables, or the first row in which they differ from the given ones. Any other fault over
+    // rows in the order of their keys is OutOfMemory, or NewerVersion of tables of a later version.
     ensures fault { IfErr result (λ fault.
         SaysInCheck (AreListed lists → fault ≡ StoreFault.OutOfMemory) own.now.maps (tables_of lists) fault) }
-    // Of tables that show the known rows no damage is told.
+    // Of tables that show the given rows no damage is told.
     ensures whole { ShowsRows (tables_of lists) own.now.maps → IfErr result IsOfStore }
     // The fault is never Closed.
     ensures worked { IfErr result (λ fault. fault ≢ StoreFault.Closed) }
@@ -58,13 +58,14 @@ pub(crate) fn check_rows<S: Alter>(
     conn: &mut Connection<S>,
     own: &Flat,
 ) -> Result<u64, StoreFault>
-    // The connection is in no transaction, and in none after the call.
+    // The connection is in no transaction.
     requires outside { (state S.Store conn.old).in_transaction ≡ false }
-    // The known rows are those of a world.
+    // The given rows are those of a world.
     requires good { IsGood own.now.maps }
     // The connection is in no transaction afterwards.
     ensures outside { (state S.Store conn.new).in_transaction ≡ false }
-    // If a number is answered, the tables show the known rows. A damage is told only if it is met, and any other fault has a cause.
+    // If a number is answered, the tables show the given rows. A damage that is told is the first of the tables, or the first row in which
+    // they differ from the given ones. Any other fault has a cause.
     ensures checks { Checks own.now.maps (state S.Store conn.old) (state S.Store conn.new) result }
     // What is in the tables stays there, and a crash leaves what it could leave before.
     ensures keeps { KeepsTables (state S.Store conn.old) (state S.Store conn.new) }

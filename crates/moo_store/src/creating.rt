@@ -16,9 +16,9 @@ use std::alloc::Global;
 /// Makes the tables of a new world in a database that has none, in one transaction, and answers the World over them: `seq`
 /// is 0, and its objects are the system object, the root class, the first room and the wizard.
 ///
-/// The connection has to be in no transaction (`is_autocommit`), and comes back at each refusal. OutOfMemory: nothing was
-/// done. Store with `ErrorCode::NameTaken`: the database has a table, an index or a view already, and stays as it is. Any other
-/// Store: the store failed; its tables are those before, and a crash may leave those of the opening world.
+/// The connection has to be in no transaction (`is_autocommit`), and comes back at each refusal. OutOfMemory: nothing was done. Store with
+/// `ErrorCode::NameTaken`: the database has a table, an index or a view already, and stays as it is. Any other Store: the store failed; its
+/// tables are as they were, and a crash may leave those of the opening world.
 pub fn create_in<S: Alter + Drop>(
     alloc: Global,
     conn: Connection<S>,
@@ -26,7 +26,7 @@ pub fn create_in<S: Alter + Drop>(
     // The connection is in no transaction.
     requires outside { (state S.Store conn).in_transaction ≡ false }
     // The World of the opening rows, with their numbers, each in its printed cells, and no other row in any table. A database that has
-    // tables is refused, and comes back as it is; so it does if memory runs out. If the store fails its tables are those before, and a
+    // tables is refused, and comes back as it is; so it does if memory runs out. If the store fails its tables are as they were, and a
     // crash leaves what it could leave before, or the opening world, in the same cells.
     ensures loads { Loads S.Store opening_maps conn result }
 {

@@ -47,8 +47,7 @@ fn ask_one<S: Alter + Drop, N: Witness>(
     }
 }
 
-/// What a batch would be answered at present, if there is one; nothing in the place of none. It fails if memory runs out, or if
-/// the World had failed.
+/// What a batch would be answered at present; None in the place of no batch. It fails if memory runs out, or if the World had failed.
 #[tactic(auto, using(moo_batch::proofs::Ticking::as_before))]
 fn ask_alone<S: Alter + Drop, N: Witness>(
     world: &World<S>,
@@ -71,8 +70,7 @@ fn ask_alone<S: Alter + Drop, N: Witness>(
     }
 }
 
-/// What each of these batches would be answered at present, if it alone were asked. It fails if memory runs out, or if the World
-/// had failed.
+/// What each batch would be answered at present, if it alone were asked. It fails if memory runs out, or if the World had failed.
 fn ask_all<S: Alter + Drop, N: Witness>(
     world: &World<S>,
     batches: &[Option<Batch>],

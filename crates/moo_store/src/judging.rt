@@ -28,7 +28,7 @@ pub(crate) fn reply_or_changes<N: Witness>(
 ) -> Result<(Answers, Changes), Reply>
     // The rows are those of a world.
     requires { IsGood rows.now.maps }
-    // Answers and changes are the verdict on an accepted batch.
+    // If the batch is accepted, the answers and the changes are those of its verdict.
     ensures accepted { IfOk result (λ taken. IsVerdict rows.now.maps batch.now (Accepted taken.0 taken.1)) }
     // A World of these rows may reply so, and stays where it is.
     ensures stays { IfErr result (λ reply.

@@ -36,7 +36,7 @@ pub fn plain_questions_are_judged()
 {}
 
 /// A text that stops at the first answer that isn't `accepted` is answered as the whole text is, up to and with that answer, if memory
-/// doesn't run out and no fault comes. If none is other than `accepted`, it is answered whole.
+/// doesn't run out and no fault comes. If all its answers are `accepted`, it is answered whole.
 #[tactic(auto, using(crate::proofs::Standing::early_front, crate::proofs::Standing::whole_front))]
 pub fn stops_are_fronts()
     // It stopped: the answers are those to the whole text, up to and with the first that isn't `accepted`.
@@ -82,14 +82,12 @@ pub fn leads_decide()
 /// was given before.
 #[tactic(auto, using(crate::proofs::Leading::leads_stay, crate::proofs::Leading::leads_keep_petitions))]
 pub fn leads_keep_numbers()
-    // Properties and verbs.
     ensures numbers { (m end : Moment) (batches : List Batch) → LeadsByEach m batches end → NumbersStay m.rows end.rows }
-    // Petitions.
     ensures petitions { (m end : Moment) (batches : List Batch) → LeadsByEach m batches end →
         PetitionsStay (state_of m.rows) (state_of end.rows) }
 {}
 
-/// Every World is at some place: what is said of one at whatever place it is, is said of each.
+/// Every World is at some place, so that a clause about each place where a World is says something of every World.
 pub fn every_world_stands<S: Alter>()
     ensures { (world : World S) → (world.failed ≡ false → IsGood world.rows.maps) → (place : Place) × Stands S.Store world place }
 {}

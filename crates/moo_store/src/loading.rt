@@ -27,10 +27,9 @@ pub(crate) fn is_new<S: Alter + Drop>(conn: &Connection<S>) -> bool
 
 /// Makes the tables of these rows in a database that has none, in one transaction, and answers the World over them.
 ///
-/// The rows have to be good, `seq` below 2^63, and the connection in no transaction (`is_autocommit`). It comes back at each
-/// refusal. OutOfMemory: nothing was done. Store with `ErrorCode::NameTaken`: the database has a table, an index or a view
-/// already, and stays as it is. Any other Store: the store failed; its tables are those before, and a crash may leave those
-/// of the rows.
+/// The rows have to be good, `seq` below 2^63, and the connection in no transaction (`is_autocommit`). The connection comes back at each
+/// refusal. OutOfMemory: nothing was done. Store with `ErrorCode::NameTaken`: the database has a table, an index or a view already, and
+/// stays as it is. Any other Store: the store failed; its tables are as they were, and a crash may leave those of the rows.
 pub fn load_in<S: Alter + Drop>(
     alloc: Global,
     conn: Connection<S>,
@@ -40,10 +39,10 @@ pub fn load_in<S: Alter + Drop>(
     requires outside { (state S.Store conn).in_transaction ≡ false }
     // The rows are those of a world.
     requires good { IsGood rows.maps }
-    // A cell holds the number of the last batch as a signed number of 64 bits.
+    // The number of the last batch fits a cell, which is a signed number of 64 bits.
     requires limit { rows.maps.head.seq < 2 ^ 63 }
     // The World of these very rows, with their numbers, each in its printed cells, and no other row in any table. A database that has
-    // tables is refused, and comes back as it is; so it does if memory runs out. If the store fails its tables are those before, and a
+    // tables is refused, and comes back as it is; so it does if memory runs out. If the store fails its tables are as they were, and a
     // crash leaves what it could leave before, or these rows, in the same cells.
     ensures loads { Loads S.Store rows.maps conn result }
 {

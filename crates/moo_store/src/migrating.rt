@@ -36,16 +36,16 @@ fn print_slots(
 
 /// Migrates tables of an earlier version, which show these rows, to the present one in one transaction.
 ///
-/// OutOfMemory: nothing was done. Store: the store failed; if the connection is still open, the tables are those before.
+/// OutOfMemory: nothing was done. Store: the store failed; if the connection is still open, the tables are as they were.
 #[tactic(auto, using(crate::proofs::Causes::told_so, crate::proofs::Causes::no_change_otherwise))]
 fn migrate_rows<S: Alter>(
     alloc: Global,
     conn: &mut Connection<S>,
     rows: &Flat,
 ) -> Result<(), StoreFault>
-    // A cell holds the number of the last batch as a signed number of 64 bits.
+    // The number of the last batch fits a cell, which is a signed number of 64 bits.
     requires limit { rows.now.maps.head.seq < 2 ^ 63 }
-    // The connection is in no transaction, and in none after the call.
+    // The connection is in no transaction.
     requires outside { (state S.Store conn.old).in_transaction ≡ false }
     // The connection is in no transaction afterwards.
     ensures outside { (state S.Store conn.new).in_transaction ≡ false }
@@ -53,15 +53,15 @@ fn migrate_rows<S: Alter>(
     ensures fault { IfErr result IsOfStore }
     // A fault never says that the tables aren't ours.
     ensures own { IfErr result (λ fault. fault ≢ not_ours) }
-    // If the tables are of an earlier version, a fault has one of the causes of any change.
+    // If the tables are of an earlier version, memory ran out, or the store failed for one of the causes of any change.
     ensures cause { HasCleanDisk (state S.Store conn.new) →
         IfErr result (λ fault. (tables : Tables) → Rests (state S.Store conn.old) tables → IsEarlier tables.version →
         StopsBy (StopsChange (state S.Store conn.old) (state S.Store conn.new)) fault) }
-    // If it succeeds, such tables have become tables of the present version that show the same rows.
+    // If it succeeds, tables of an earlier version that showed these rows have become tables of the present one that show them.
     ensures keeps { HasCleanDisk (state S.Store conn.new) →
         OnOk result ((tables : Tables) → Rests (state S.Store conn.old) tables → IsEarlier tables.version →
         ShowsRows tables rows.now.maps → KeepsRows (state S.Store conn.new) rows.now.maps) }
-    // The new tables are those that a migration makes: the cells of objects, properties and verbs stay, and `slot` is empty.
+    // The new tables show these rows; the cells of objects, properties and verbs stay, and `slot` is empty.
     ensures rests { HasCleanDisk (state S.Store conn.new) →
         OnOk result ((tables : Tables) → Rests (state S.Store conn.old) tables → IsEarlier tables.version →
         ShowsRows tables rows.now.maps → RestsCurrent (state S.Store conn.new) (state S.Store conn.old).now.trees tables rows.now.maps) }
@@ -86,7 +86,7 @@ fn migrate_rows<S: Alter>(
 /// Brings tables of this version, which show these rows, to the present version: those of an earlier one are migrated, and those of the
 /// present one stay. ('Current' in a contract is 'present' of `Version`.)
 ///
-/// OutOfMemory: nothing was done. Store: the store failed; if the connection is still open, the tables are those before.
+/// OutOfMemory: nothing was done. Store: the store failed; if the connection is still open, the tables are as they were.
 #[tactic(auto, using(crate::proofs::OpenLemmas::rests_already))]
 pub(crate) fn make_current<S: Alter>(
     alloc: Global,
@@ -94,9 +94,9 @@ pub(crate) fn make_current<S: Alter>(
     version: Version,
     rows: &Flat,
 ) -> Result<(), StoreFault>
-    // A cell holds the number of the last batch as a signed number of 64 bits.
+    // The number of the last batch fits a cell, which is a signed number of 64 bits.
     requires limit { rows.now.maps.head.seq < 2 ^ 63 }
-    // The connection is in no transaction, and in none after the call.
+    // The connection is in no transaction.
     requires outside { (state S.Store conn.old).in_transaction ≡ false }
     // The connection is in no transaction afterwards.
     ensures outside { (state S.Store conn.new).in_transaction ≡ false }
@@ -104,17 +104,17 @@ pub(crate) fn make_current<S: Alter>(
     ensures fault { IfErr result IsOfStore }
     // A fault never says that the tables aren't ours.
     ensures own { IfErr result (λ fault. fault ≢ not_ours) }
-    // Tables of the present version give no fault: nothing is asked of the store.
+    // Tables of the present version give no fault.
     ensures earlier { OnErr result (IsEarlier version) }
-    // If the tables are of this version, a fault has one of the causes of any change.
+    // If the tables are of this version, memory ran out, or the store failed for one of the causes of any change.
     ensures cause { HasCleanDisk (state S.Store conn.new) →
         IfErr result (λ fault. (tables : Tables) → Rests (state S.Store conn.old) tables → tables.version ≡ version →
         StopsBy (StopsChange (state S.Store conn.old) (state S.Store conn.new)) fault) }
-    // If it succeeds, such tables have become tables of the present version that show the same rows.
+    // If it succeeds, tables of this version that showed these rows have become tables of the present one that show them.
     ensures keeps { HasCleanDisk (state S.Store conn.new) →
         OnOk result ((tables : Tables) → Rests (state S.Store conn.old) tables → tables.version ≡ version →
         ShowsRows tables rows.now.maps → KeepsRows (state S.Store conn.new) rows.now.maps) }
-    // The new tables are the very ones if those were of the present version, else the ones that a migration makes.
+    // Tables of the present version are as they were. Of others the cells of objects, properties and verbs stay, and `slot` is empty.
     ensures rests { HasCleanDisk (state S.Store conn.new) →
         OnOk result ((tables : Tables) → Rests (state S.Store conn.old) tables → tables.version ≡ version →
         ShowsRows tables rows.now.maps → RestsCurrent (state S.Store conn.new) (state S.Store conn.old).now.trees tables rows.now.maps) }

@@ -17,12 +17,12 @@ pub(crate) fn open_rows<S: Alter>(
     alloc: Global,
     conn: &mut Connection<S>,
 ) -> Result<Flat, StoreFault>
-    // The connection is in no transaction, and in none after the call.
+    // The connection is in no transaction.
     requires outside { (state S.Store conn.old).in_transaction ≡ false }
     // The connection is in no transaction afterwards.
     ensures outside { (state S.Store conn.new).in_transaction ≡ false }
-    // The rows are good and those that the tables show, which were brought to the present version. A fault tells of a damage only if it
-    // is met, and leaves the database as it was.
+    // The rows are good, and those that the tables show, which were brought to the present version. A damage that a fault tells is the
+    // first of the tables. A fault leaves the database as it was.
     ensures brings { Brings S.Store conn.old conn.new result }
 {
     let (version, rows) = match read_version_and_rows(alloc, conn) {

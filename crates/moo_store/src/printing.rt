@@ -128,7 +128,7 @@ fn print_each<K: Copy + Drop, C: Drop, V: Print<K, C>>(
     Ok(cells)
 }
 
-/// Whether the row of the first change is there: the hint to the writer of rows. False if nothing changes.
+/// Whether there is a row already at the key of the first change, as `Expected` tells the writer of rows. False if nothing changes.
 fn has_first<V: KeyedRow>(rows: &Flat, changes: &ChangeList<V::Key, V>) -> bool {
     match changes.items().first() {
         Some(change) => V::find(rows, change.0).is_some(),
@@ -144,7 +144,7 @@ fn new_cells<'a, K, C, V: Print<K, C>>(alloc: Global, row: &'a V) -> Result<C, A
     row.cells(alloc, none)
 }
 
-/// The cells of all rows of one kind, each with its key, in the order of the keys, as those of new rows. The only error is a lack of memory.
+/// The cells of all rows of one kind, each with its key, in the order of the keys, as those of new rows. The only error is out of memory.
 #[tactic(auto, using(crate::proofs::AllRows::none_printed))]
 pub(crate) fn print_all_of<K: Copy + Drop, C: Drop, V: Print<K, C>>(
     alloc: Global,

@@ -22,18 +22,18 @@ use sqlite::{Alter, Connection, Error, ErrorCode};
 use std::alloc::Global;
 
 /// The rows that the cells of the tables show, if they are those of a world. `Damaged`, `NewerVersion` and `OutOfMemory` as of
-/// `read_cells`; `Store` with `DatabaseCorrupt` if the rows of a table aren't in the order of their keys, as only a failing disk gives
-/// them.
+/// `read_cells`; `Store` with `DatabaseCorrupt` if the rows of a table aren't in the order of their keys, as of a failing disk.
 fn rows_of_lists(alloc: Global, lists: CellLists) -> Result<Flat, StoreFault>
     // The tables show the rows that are read.
     ensures rows { IfOk result (λ rows. ShowsRows (tables_of lists) rows.maps) }
-    // They are those of a world.
+    // The rows that are read are those of a world.
     ensures good { IfOk result (λ rows. IsGood rows.maps) }
     // The number of the last batch is that of a cell, and so is below 2^63.
     ensures limit { IfOk result (λ rows. rows.maps.head.seq < 2 ^ 63) }
-    // Good rows that the tables show are the ones that are read.
+    // If the tables show good rows, those are the rows that are read.
     ensures one { (m : Maps) → ShowsRows (tables_of lists) m → IsGood m → IfOk result (λ rows. rows.maps ≡ m) }
-    // A damage is told only if it is met; any other fault over listed rows is out of memory.
+    // A damage that is told is the first of the tables. Any other fault over rows in the order of their keys is OutOfMemory, or
+    // NewerVersion of tables of a later version.
     ensures fault { IfErr result (λ fault. SaysOr (AreListed lists → fault ≡ StoreFault.OutOfMemory) (tables_of lists) fault) }
     // A fault never says that the tables aren't ours.
     ensures own { IfErr result (λ fault. fault ≢ not_ours) }
@@ -74,23 +74,23 @@ pub(crate) fn read_lists<S: Alter>(
     conn: &mut Connection<S>,
     version: Version,
 ) -> Result<CellLists, StoreFault>
-    // The connection is in no transaction, and in none after the call.
+    // The connection is in no transaction.
     requires outside { (state S.Store conn.old).in_transaction ≡ false }
     // The connection is in no transaction afterwards.
     ensures outside { (state S.Store conn.new).in_transaction ≡ false }
     // If it succeeds, nothing changed.
     ensures read { OnOk result (ReadsTables (schema_of version) (state S.Store conn.old) (state S.Store conn.new)) }
-    // The lists are the rows of the tables.
+    // The lists are the rows of the tables, if the disk returned what was written.
     ensures listed { HasCleanDisk (state S.Store conn.new) →
         IfOk result (λ lists. (tables : Tables) → tables.version ≡ version → Rests (state S.Store conn.old) tables →
         tables_of lists ≡ tables) }
-    // In each list the keys are whole numbers, and each is above the one before.
+    // In each list the keys are whole numbers, and each is above the one before, if the disk returned what was written.
     ensures rise { HasCleanDisk (state S.Store conn.new) →
         IfOk result (λ lists. (tables : Tables) → tables.version ≡ version → Rests (state S.Store conn.old) tables →
         AreListed lists) }
     // If it fails, nothing changed, or the transaction was rolled back.
     ensures failed { OnErr result (FailsToRead (schema_of version) (state S.Store conn.old) (state S.Store conn.new)) }
-    // It fails only if a query of the tables stops.
+    // It fails only if a query of the tables stops, or if memory runs out.
     ensures cause { HasCleanDisk (state S.Store conn.new) → HasTables (schema_of version) (state S.Store conn.old) →
         IfErr result (StopsBy (StopsQuery (state S.Store conn.old) (state S.Store conn.new))) }
     // A fault is one of the store.
@@ -104,8 +104,7 @@ pub(crate) fn read_lists<S: Alter>(
     }
 }
 
-/// The version of the tables of a connection. Store with `NotADatabase` if they aren't ours; `OutOfMemory`. Nothing is read but the list
-/// of tables.
+/// The version of the tables of a connection, by their list alone. Store with `NotADatabase` if they aren't ours; `OutOfMemory`.
 pub(crate) fn test_tables<S: Alter>(
     alloc: Global,
     conn: &Connection<S>,
@@ -129,14 +128,13 @@ pub(crate) fn test_tables<S: Alter>(
     }
 }
 
-/// Tests that the tables are ours, and of the present version ('current' in a contract). Store with `NotADatabase` if they aren't;
-/// `OutOfMemory`.
+/// Tests that the tables are ours, and of the present version ('current' in a contract). Store with `NotADatabase` if not; `OutOfMemory`.
 pub(crate) fn test_current<S: Alter>(alloc: Global, conn: &Connection<S>) -> Result<(), StoreFault>
     // The database has just the tables of the present version.
     ensures ours { OnOk result (HasTables present_schema (state S.Store conn.now)) }
     // A fault is one of the store or of memory.
     ensures fault { IfErr result IsOfStore }
-    // Over tables of ours the only faults are that memory ran out, or that they are of an earlier version.
+    // Over tables of ours the only faults are OutOfMemory, and `NotADatabase` of tables that aren't of the present version.
     ensures own { IfErr result (λ fault. (tables : Tables) → Rests (state S.Store conn.now) tables →
         (fault ≡ StoreFault.OutOfMemory) ⊎ ((¬ IsCurrent tables) × (fault ≡ not_ours))) }
 {
@@ -155,11 +153,11 @@ fn read_whole<S: Alter>(
     conn: &mut Connection<S>,
     version: Version,
 ) -> Result<Flat, StoreFault>
-    // The connection is in no transaction, and in none after the call.
+    // The connection is in no transaction.
     requires outside { (state S.Store conn.old).in_transaction ≡ false }
     // The connection is in no transaction afterwards.
     ensures outside { (state S.Store conn.new).in_transaction ≡ false }
-    // The rows are good and those that the tables show. A fault tells of a damage only if it is met. Nothing is written.
+    // The rows are good, and those that the tables show. A damage that a fault tells is the first of the tables. Nothing is written.
     ensures reads { ReadsRowsAs version (state S.Store conn.old) (state S.Store conn.new) result }
 {
     let lists = match read_lists(alloc, conn, version) {
@@ -180,11 +178,11 @@ fn read_each<S: Alter>(
     conn: &mut Connection<S>,
     version: Version,
 ) -> Result<Flat, StoreFault>
-    // The connection is in no transaction, and in none after the call.
+    // The connection is in no transaction.
     requires outside { (state S.Store conn.old).in_transaction ≡ false }
     // The connection is in no transaction afterwards.
     ensures outside { (state S.Store conn.new).in_transaction ≡ false }
-    // The rows are good and those that the tables show. A fault tells of a damage only if it is met. Nothing is written.
+    // The rows are good, and those that the tables show. A damage that a fault tells is the first of the tables. Nothing is written.
     ensures reads { ReadsRowsAs version (state S.Store conn.old) (state S.Store conn.new) result }
 {
     match read_in_turn(alloc, conn, version) {
@@ -203,14 +201,14 @@ pub(crate) fn read_version_and_rows<S: Alter>(
     alloc: Global,
     conn: &mut Connection<S>,
 ) -> Result<(Version, Flat), StoreFault>
-    // The connection is in no transaction, and in none after the call.
+    // The connection is in no transaction.
     requires outside { (state S.Store conn.old).in_transaction ≡ false }
     // The connection is in no transaction afterwards.
     ensures outside { (state S.Store conn.new).in_transaction ≡ false }
     // Outside a transaction an open connection shows what is committed.
     ensures settled { IsTrue (state S.Store conn.old).is_open → (state S.Store conn.old).now ≡ (state S.Store conn.old).committed }
-    // The tables are of the version, and the rows are good and those that they show. A fault tells of a damage only if it is met. Nothing
-    // is written.
+    // The tables are of the version, and the rows are good, and those that they show. A damage that a fault tells is the first of the
+    // tables. Nothing is written.
     ensures reads { ReadsRows S.Store conn.old conn.new result }
 {
     let version = match test_tables(alloc, conn) {

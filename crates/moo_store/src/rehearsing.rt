@@ -69,7 +69,7 @@ impl Rehearsal {
 
     /// Makes the changes of an accepted batch in the rows, and gives the answer to it. If memory runs out, the rehearsal has failed.
     fn accept(&mut self, answers: Answers, changes: Changes) -> Answer
-        // It hasn't failed.
+        // The rehearsal hasn't failed.
         requires works { self.old.failed ≡ false }
         // The changes lead to rows of a world.
         requires changes { (next : Maps) × AreChanges self.old.rows.maps next changes × IsGood next }
@@ -88,7 +88,7 @@ impl Rehearsal {
 
     /// Answers a batch as if it was run: its reply, or `closed` if the rehearsal has failed.
     fn rehearse<N: Witness>(&mut self, batch: &Batch, witness: &mut N) -> Answer
-        // The answer is one that running the batch here may give, and leads to the same place.
+        // Running the batch where the rehearsal is may give this answer, and lead to where the rehearsal then is. It is never `fault`.
         ensures { (from : Place) → IsRehearsedAt self.old from → (to : Place) × IsRehearsedAt self.new to
             × RehearsesAt from batch.now result to }
     {

@@ -26,24 +26,24 @@ use std::io::{Read, Write};
 impl<S: Alter + Drop> World<S> {
     /// Runs batches in order, and commits each that is accepted before the next one is judged.
     ///
-    /// One reply for each batch is added after the replies that are there, each after its commit. The faults: OutOfMemory if there
-    /// is no room for the replies, before anything is done; Store if the store failed, and then the batch in hand and those after
-    /// it have no reply; Closed if the World had failed.
+    /// One reply for each batch is added after the replies that are there, each after its commit. The faults: OutOfMemory if there is no
+    /// room for the replies, before anything is done; Store if the store failed, and then that batch and the later ones have no reply;
+    /// Closed if the World had failed.
     #[tactic(auto, using(crate::proofs::ListRuns::runs))]
     pub fn run(&mut self, batches: &[Batch], replies: &mut Vec<Reply>) -> Result<(), StoreFault>
-        // Each batch that has a reply had its turn, and leads from a moment to the next. If the store failed, the batch in hand had its
-        // turn too, without a reply.
+        // Each batch that has a reply had its turn, one after another. If the store failed, it did so in the turn of the next batch, which
+        // has no reply.
         ensures moves { MovesBy S.Store self.old self.new
             (λ from to. RunsEach from batches.now (added replies.old.items replies.new.items) result to) }
         // The replies that were there stay.
         ensures stood { take (length replies.old.items) replies.new.items ≡ replies.old.items }
-        // Batches of which none is acknowledged change nothing, unless the store fails.
+        // If no reply is `accepted`, nothing changes, unless the store fails.
         ensures still { acknowledged batches.now (added replies.old.items replies.new.items) ≡ [] →
             MatchStore result (self.new ≡ self.old) ⊤ }
-        // A fault is that there was no room for the replies, and none was added; or one of a run of a batch.
+        // The fault is OutOfMemory, and no reply was added; or it is one of `run_one`.
         ensures fault { IfErr result (λ fault. ((fault ≡ StoreFault.OutOfMemory) × (replies.new.items ≡ replies.old.items))
             ⊎ FailsRun S.Store self.old self.new fault) }
-        // The count of the disk's calls that failed gets no lower, and the limit on steps stays.
+        // The count of the disk's calls that failed gets no lower, and the connection allows as many steps of SQL as before.
         ensures kept { KeepsFaults (store_of S.Store self.old) (store_of S.Store self.new) }
     {
         if self.failed {
@@ -65,7 +65,7 @@ impl<S: Alter + Drop> World<S> {
     ///
     /// OutOfMemory if memory runs out. Closed if the World had failed.
     pub fn object(&self, x: ObjNo) -> Result<Option<Look>, StoreFault>
-        // While the World works, it is what the object shows, or memory ran out.
+        // While the World works, it is what the object shows in the World's state, or memory ran out.
         ensures look { self.now.failed ≡ false → MatchResult result
             (λ look. look ≡ look_of (state_of_world self.now).world x) (λ fault. fault ≡ StoreFault.OutOfMemory) }
         // If the World had failed, the fault is Closed.

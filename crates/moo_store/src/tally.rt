@@ -13,7 +13,7 @@ pub struct Tally {
 }
 
 impl Tally {
-    /// Nothing is counted yet.
+    /// The tally of no answers.
     pub(crate) fn new() -> Tally
         ensures { (result.batches ≡ 0) × (result.lost ≡ 0) }
     {
@@ -25,9 +25,9 @@ impl Tally {
 
     /// Counts an answer: as a batch, if one was read whole, and as lost, if it is `fault` or `closed`.
     pub(crate) fn count(&mut self, answer: &Answer)
-        // A text has fewer batches.
+        // Fewer than 2^63 batches were counted; a text has no more.
         requires room { self.old.batches < 2 ^ 63 }
-        // And no more of them are lost.
+        // Fewer than 2^63 were counted as lost.
         requires room_lost { self.old.lost < 2 ^ 63 }
         ensures batches { self.new.batches ≡ self.old.batches + cond (is_batch answer.now) 1 0 }
         ensures lost { self.new.lost ≡ self.old.lost + cond (is_lost_answer answer.now) 1 0 }

@@ -18,6 +18,9 @@ use std::marker::Model;
 ///
 /// A World fails at a fault of its store, and if memory runs out after a commit. It then answers Closed to every call but
 /// `into_connection`. What was committed stays.
+///
+/// Contracts say at which place a World is (`Place`): it works at a moment, which is its rows with the cells that show them; it has failed
+/// at one; or its store failed between two.
 #[derive(Drop)]
 pub struct World<S: Alter> {
     pub(crate) alloc: Global,
@@ -62,15 +65,15 @@ impl<S: Alter + Drop> World<S> {
     ghost use Rattle.moo_store.specs.World.{store_of, state_of_world};
     ghost use Rattle.moo_text.specs.declared.reply.Answer.TheVariants as answer;
 
-    /// The World of good rows, over a connection in no transaction. It works at a moment of these rows that the connection has at rest.
-    /// `check` tests that: nothing is read or written here. `create_in`, `load_in` and `adopt` make Worlds whose tables do.
+    /// The World of good rows, over a connection in no transaction. Nothing is read or written: whether the tables show these rows is for
+    /// `check` to test. The tables of a World that `create_in`, `load_in` or `adopt` makes do.
     pub fn over(alloc: Global, connection: Connection<S>, rows: Flat) -> World<S>
         // The connection is in no transaction.
         requires outside { connection.in_transaction ≡ false }
         // The rows are those of a world.
         requires good { IsGood rows.maps }
         ensures is { result ≡ record { connection = connection; rows = rows; failed = false } }
-        // It works at any moment of these rows, if the connection has that at rest.
+        // It works at any moment of these rows, if the connection has that moment at rest, or its disk didn't return what was written.
         ensures stands { (m : Moment) → m.rows ≡ rows.maps →
             (HasCleanDisk (state S.Store connection) → HasAtRest (state S.Store connection) m) → Stands S.Store result (place.Works m) }
     {
@@ -94,18 +97,18 @@ impl<S: Alter + Drop> World<S> {
         requires works { self.old.failed ≡ false }
         // The cells are those of the changes of the World's rows. The number of the next petition is among them only if it changed.
         requires printed { Prints (Some self.old.rows.maps.head.next_petition) self.old.rows.maps cells.now changes }
-        // A cell holds the number of the last batch as a signed number of 64 bits.
+        // The number of the last batch fits a cell, which is a signed number of 64 bits.
         requires limit { cells.now.head.seq < 2 ^ 63 }
         // The changes lead to rows of a world.
         requires changes { (next : Maps) × AreChanges self.old.rows.maps next changes × IsGood next }
-        // The World goes on to the next moment, of these rows; or its store failed between the two.
+        // The World works at the next moment, of these rows, or failed there; or its store failed between the two.
         ensures moves { (rows : Maps) → AreChanges self.old.rows.maps rows changes → IsGood rows →
             MovesBy S.Store self.old self.new (λ from to. CommitsTo answers changes rows from result to) }
-        // Of the store: these cells are committed if there is a reply.
+        // If there is a reply, the cells were committed to the store; else the store failed, for a cause.
         ensures commits { CommitsInto cells.now (store_of S.Store self.old) (store_of S.Store self.new) result }
-        // A fault has a cause in the store.
+        // A fault is Closed, or it is Store for one of the causes that stop any change.
         ensures fault { IfErr result (FailsRun S.Store self.old self.new) }
-        // The count of the disk's calls that failed gets no lower, and the limit on steps stays.
+        // The count of the disk's calls that failed gets no lower, and the connection allows as many steps of SQL as before.
         ensures kept { KeepsFaults (store_of S.Store self.old) (store_of S.Store self.new) }
         // A reply says that the batch is accepted.
         ensures accepted { IfOk result (λ reply. reply ≡ Reply.Accepted changes.head.seq answers) }
@@ -129,14 +132,15 @@ impl<S: Alter + Drop> World<S> {
         batch: &Batch,
         witness: &mut N,
     ) -> Result<Reply, StoreFault>
-        // A reply is that of the verdict at the moment where the World was, or `NoMemory` if its calls are run. Only an accepted batch leads
-        // on from the moment. If the store failed, the World is between two moments.
+        // A reply is that of the verdict at the moment where the World was; or `NoMemory`, but only to a batch whose calls are run. Only an
+        // accepted batch leads on from the moment. If the store failed, the World is between two moments.
         ensures moves { MovesBy S.Store self.old self.new (λ from to. RunsAt from batch.now (answer_to result) to) }
         // A reply that isn't `accepted` leaves the World as it was.
         ensures still { IfOk result (λ reply. says_accepted (answer.Replied reply) ≡ false → self.new ≡ self.old) }
-        // A fault is that the World had failed, or has a cause in the store.
+        // A fault is Closed, or it is Store. If the World's cells are known and the disk returned what was written, what stopped the store
+        // is one of the causes that stop any change (`StopsChange`).
         ensures fault { IfErr result (FailsRun S.Store self.old self.new) }
-        // The count of the disk's calls that failed gets no lower, and the limit on steps stays.
+        // The count of the disk's calls that failed gets no lower, and the connection allows as many steps of SQL as before.
         ensures kept { KeepsFaults (store_of S.Store self.old) (store_of S.Store self.new) }
         // Of a refused batch the witness has seen the refusal; of any other, and at a fault, nothing.
         ensures seen { MatchResult result
@@ -159,7 +163,7 @@ impl<S: Alter + Drop> World<S> {
     /// once. The only fault is Closed.
     #[tactic(auto, using(moo_batch::proofs::Ticking::as_before))]
     pub fn ask<N: Witness>(&self, batch: &Batch, witness: &mut N) -> Result<Reply, StoreFault>
-        // While the World works, the reply is that to the verdict on the batch, with the present number; or memory ran out in its calls.
+        // While the World works, the reply is that to the verdict on the batch, with the present number; or `NoMemory`, if its calls run.
         ensures asks { self.now.failed ≡ false → IsOkAnd result (MayReplyAsked (state_of_world self.now) batch.now) }
         // The witness has no more ticks left than before.
         ensures ticks { NoneComeBack (N.left witness.old) (N.left witness.new) }
@@ -183,7 +187,7 @@ impl<S: Alter + Drop> World<S> {
 
     /// The rows; None if the World has failed.
     pub fn good_rows(&self) -> Option<&Flat>
-        // They are those of the World, which hasn't failed, and they show a world.
+        // They are the World's own good rows, and it hasn't failed.
         ensures rows { IfSome result (λ rows. (rows.now ≡ self.now.rows) × IsGood rows.now.maps × (self.now.failed ≡ false)) }
         // There are none only if the World has failed.
         ensures failed { IfNone result (IsTrue self.now.failed) }
@@ -193,7 +197,7 @@ impl<S: Alter + Drop> World<S> {
 
     /// The number of the batches that were accepted, 0 to 9,223,372,036,854,775,807. The only fault is Closed.
     pub fn seq(&self) -> Result<u64, StoreFault>
-        // If the World hasn't failed, it is the number of the world's state.
+        // If the World hasn't failed, it is the number that its state has.
         ensures number { self.now.failed ≡ false → result ≡ Ok (state_of_world self.now).seq }
         // If the World had failed, the fault is Closed.
         ensures closed { IsTrue self.now.failed → IsErrOf result StoreFault.Closed }

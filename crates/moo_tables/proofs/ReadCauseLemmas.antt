@@ -11,7 +11,7 @@ cause_from old mid new Broken up is_open h = absurd (true≢false (sym is_open �
 cause_from old mid new Unstorable up is_open h = absurd h
 cause_from old mid new cause up is_open h = omega arith
 
--- a query stopped, after calls that forgot no fault of the disk and left the limit on steps
+-- a query stopped, after calls that forgot no fault of the disk and left the limit on the steps of SQL
 pub query_stops_since : (old mid new : State) (e : Error) → old.faults ≤ mid.faults → mid.step_limit ≡ old.step_limit → IsTrue mid.is_open → StopsQuery mid new e → StopsQuery old new e
 query_stops_since old mid new e up steps is_open (inl h) = inl (h.0, h.1, cause_from old mid new h.0 up is_open h.2)
 query_stops_since old mid new e up steps is_open (inr h) = inr (h.0, subst IsSome steps h.1)

@@ -16,8 +16,8 @@ use Rattle.moo_tables_rows.specs.Tables.{Tables, schema_of}
 use Rattle.moo_tables_rows.specs.Version.{IsEarlier}
 
 -- These changes were committed to the tables of the present version, or none was. The tables that only earlier versions read are left as
--- they were, and so is a row that no change names. SQL refuses no statement for its text or its values: what stops a commit is the store,
--- a limit on steps, or a table whose numbers are used up. A crash leaves what it could leave before, or the changed tables.
+-- they were, and so is a row that no change names. SQL refuses no statement for its text or its values: what stops a commit is the store, a
+-- limit on the steps of SQL, or a table whose row numbers are used up. A crash leaves what it could leave before, or the changed tables.
 pub record CommitsTables {A : Type 0} (changes : CellChanges) (old new : State) (r : Result A Error) : Type 0 where
   pub written : HasCleanDisk new →
       OnOk r ((tables : Tables) → Rests old tables → IsCurrent tables → Rests new (tables_with changes tables))

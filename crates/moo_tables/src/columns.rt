@@ -7,7 +7,7 @@ use sqlite_schema::schema::{Column, Kind};
 use sqlite_value::keys::Collation;
 use sqlite_value::value::Value;
 
-/// Whether a column is one of a STRICT table, has this name and type, is never empty, and has no default.
+/// Whether a column is one of a STRICT table, with this name and type, never empty, without a default, and compared byte for byte.
 fn is_required(column: &Column, name: &[u8], kind: Kind) -> bool
     ensures { IsTrue result ↔ column.now ≡ required kind name.now }
 {

@@ -27,9 +27,10 @@ pub trait TakeRows {
     /// From its first state to the last it took these rows, in this order.
     ghost took: { Self → List Cells → Self → Type 0 };
 
-    /// Takes the rows that come next, at most `BLOCK`. False if it can't, as if memory ran out: then no more are handed to it.
+    /// Takes the rows that come next, at most `BLOCK`. False if it can't, for instance if memory ran out: then no more rows are handed to
+    /// it.
     fn take(&mut self, block: Vec<Row>) -> bool
-        // If it had taken some rows before, it has taken these after them.
+        // If the answer is true, it has taken these rows after those that it took before.
         ensures { (first : Self) (rows : List Cells) → took first rows self.old → result ≡ true →
             took first (rows ++ block.items) self.new };
 }
@@ -57,8 +58,7 @@ fn add_row<T: TakeRows>(
 /// Hands all rows that a query without parameters answers on to a taker, in their order, a block after another. Answers false if the
 /// taker can't take them.
 ///
-/// The store hands them out some at a time. `query_all` of a connection would hold all values at once, and keep the room for them. It fails
-/// only if the query does, or if memory runs out.
+/// `query_all` of a connection would hold all values at once. It fails only if the query does, or if memory runs out.
 fn feed_rows<S: Alter, T: TakeRows>(
     alloc: Global,
     conn: &mut Connection<S>,
@@ -67,15 +67,14 @@ fn feed_rows<S: Alter, T: TakeRows>(
 ) -> Result<bool, Error>
     // A connection in no transaction is in none after it.
     ensures outside { (state S.Store conn.old).in_transaction ≡ false → (state S.Store conn.new).in_transaction ≡ false }
-    // The taker counts from here: as it is, it has taken no rows. If the answer is true, it has then taken just the rows that the query
-    // answers.
+    // If the taker counts from here (as it is, it has taken no rows) and the answer is true, it has then taken just the query's rows.
     ensures taken { T.took taker.old [] taker.old → IfOk result (λ whole. whole ≡ true → AreTaken T.took taker.old taker.new (λ rows.
         HasCleanDisk (state S.Store conn.new) → IsPlain (understood (state S.Store conn.old).now.schema sql.now) →
         Shown sql.now [] (state S.Store conn.old) (state S.Store conn.new) rows)) }
     // A query that succeeds changes nothing.
     ensures same { HasCleanDisk (state S.Store conn.new) → IsPlain (understood (state S.Store conn.old).now.schema sql.now) →
         OnOk result (IsUnchanged (state S.Store conn.old) (state S.Store conn.new)) }
-    // One that fails changes nothing either, or the transaction was rolled back.
+    // A query that fails changes nothing either, or the transaction was rolled back.
     ensures kept { KeepsIfNotShown sql.now (state S.Store conn.old) (state S.Store conn.new) result }
     // It fails only if the query does, or if no memory is left for its rows.
     ensures cause { HasCauseIfNotShown sql.now (state S.Store conn.old) (state S.Store conn.new) result }
@@ -111,10 +110,10 @@ pub fn feed_table<S: Alter, T: TakeRows>(
 ) -> Result<bool, Error>
     // The version has this table: one without petitions has no table of them.
     requires { HasTable version table }
-    // Nothing is written, and it fails only if the store does, or at the limit on steps.
+    // Nothing is written, and it fails only if the store does, or if it takes more steps than the connection allows.
     ensures reads { OnlyReads version (state S.Store conn.old) (state S.Store conn.new) result }
-    // The taker counts from here: as it is, it has taken no rows. If the answer is true, it has then taken just the rows of the table, in
-    // the order of their keys.
+    // If the taker counts from here (as it is, it has taken no rows) and the answer is true, it has then taken just the rows of the table,
+    // in the order of their keys.
     ensures taken { T.took taker.old [] taker.old → IfOk result (λ whole. whole ≡ true → AreTaken T.took taker.old taker.new (λ rows.
         HasCleanDisk (state S.Store conn.new) → (tables : Tables) → Rests (state S.Store conn.old) tables →
         tables.version ≡ version → ListsTable table rows tables)) }

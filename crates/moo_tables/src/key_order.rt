@@ -1,6 +1,6 @@
 //! Whether rows come in the order of their keys, each key once.
 //!
-//! What a query answers is known of a disk that returned what was written, and of no other: so it is tested here.
+//! The order of a query's rows is proved only if the disk returned what was written: so it is tested here.
 
 ghost use Rattle.std.specs.Prelude.{◌≡◌, ◌↔◌, false, option_map, IsTrue, IfSome, IfNone};
 ghost use Rattle.sqlite.specs.Order.{column, value_cmp};
@@ -93,7 +93,7 @@ pub fn are_paired(rows: &[Row]) -> bool
 
 /// Whether the rows of each table come in the order of their keys, each key once and each a whole number.
 ///
-/// The rows that `read_tables` gives are so, unless the disk answered what was never written.
+/// The rows that `read_tables` gives are so, if the disk returned what was written.
 pub fn are_listed(lists: &CellLists) -> bool
     ensures { IsTrue result ↔ AreListed lists.now }
 {

@@ -15,7 +15,7 @@ use moo_value::ObjNo;
 use sqlite::{Alter, Connection, Error};
 
 /// Makes the tables that the second version added to the first, `slot2`, `petition` and `petition_head`, empty. The other tables stay as
-/// they are. It fails only if the store does, at the limit on steps, or if a table has no number left for a row.
+/// they are. It fails only by what stops any change (`StopsChange`).
 #[tactic(auto, using(moo_tables_rows::proofs::InsideLemmas::stays_then))]
 pub(crate) fn create_added_tables<T: Run>(tx: &mut T) -> Result<usize, Error>
     // The transaction is on the connection that it was on.
@@ -34,15 +34,15 @@ pub(crate) fn create_added_tables<T: Run>(tx: &mut T) -> Result<usize, Error>
 
 /// Makes the tables of the present version with this head and these slots, within a transaction.
 ///
-/// The first petition has the number 1. Every row of the table `slot` is deleted, which only the first version reads. It fails only if the
-/// store does, at the limit on steps, or if a table has no number left for a row.
+/// The first petition has the number 1. Every row of the table `slot` is deleted, which only the first version reads. It fails only by what
+/// stops any change (`StopsChange`).
 #[tactic(auto, using(moo_tables_rows::proofs::InsideLemmas::stays_then))]
 fn write_migrated<T: Run>(
     tx: &mut T,
     head: &Head,
     slots: &[((ObjNo, PropId), Option<SlotCells>)],
 ) -> Result<usize, Error>
-    // A cell holds the number of the last batch as a signed number of 64 bits.
+    // The number of the last batch fits a cell, which is a signed number of 64 bits.
     requires { head.now.seq < 2 ^ 63 }
     // The transaction is on the connection that it was on.
     ensures same_reference { T.lender tx.new ≡ T.lender tx.old }
@@ -64,25 +64,25 @@ fn write_migrated<T: Run>(
 
 /// Makes tables of an earlier version those of the present one, all or nothing.
 ///
-/// The row of `head` is put anew, with the number of the present version. `slots` are the slots that there are from then on: of a
-/// key that comes more than once the last counts. There is no petition, and the first will have the number 1. The table
-/// `slot` is emptied, and the rows of the other tables stay as they are. The number of the last batch, `head.seq`, has to
-/// be below 2^63, and the connection in no transaction. It fails only if the store does, if a statement takes more steps than
-/// the connection allows, or if a table has no number left for a new row. After a fault of the store the database is as it
-/// was, unless the fault shut the connection; what a crash leaves is the tables before or those after, at every exit.
+/// The row of `head` is put anew, with the number of the present version. `slots` are the slots that there are from then on: of a key that
+/// comes more than once the last counts. There is no petition, and the first will have the number 1. The table `slot` is emptied, and the
+/// rows of the other tables stay as they are. The number of the last batch, `head.seq`, has to be below 2^63, and the connection in no
+/// transaction. It fails only if the store does, if a statement takes more steps than the connection allows, or if a table has no number
+/// left for a new row. After a fault of the store the database is as it was, unless the fault shut the connection; what a crash leaves is
+/// the tables before or the tables after, at every exit.
 pub fn migrate<S: Alter>(
     conn: &mut Connection<S>,
     head: &Head,
     slots: &[((ObjNo, PropId), Option<SlotCells>)],
 ) -> Result<(), Error>
-    // A cell holds the number of the last batch as a signed number of 64 bits.
+    // The number of the last batch fits a cell, which is a signed number of 64 bits.
     requires limit { head.now.seq < 2 ^ 63 }
     // The connection is in no transaction.
     requires outside { (state S.Store conn.old).in_transaction ≡ false }
     // The connection is in no transaction afterwards.
     ensures outside { (state S.Store conn.new).in_transaction ≡ false }
-    // Tables of an earlier version became those of the present one, committed; or nothing changed, and there is a cause. So it is after a
-    // crash.
+    // Tables of an earlier version became those of the present one, committed; or nothing changed, and there is a cause. A crash leaves
+    // what it could leave before, or the tables of the present version.
     ensures migrates { MigratesTables head.now slots.now (state S.Store conn.old) (state S.Store conn.new) result }
 {
     let mut tx = conn.transaction();

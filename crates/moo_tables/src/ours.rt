@@ -233,12 +233,12 @@ fn is_second_schema(schema: &Schema) -> bool
 
 /// Which version of the tables a database has.
 ///
-/// It has a version if it has exactly its tables, made in their order, the indexes of their keys, no other index and no view. Answers
-/// None for any other database. `AllocError`: memory ran out.
+/// It has a version if it has exactly that version's tables, made in their order, the indexes of their keys, no other index and no view.
+/// Answers None for any other database. `AllocError`: memory ran out.
 pub fn version_of(alloc: Global, schema: &Schema) -> Result<Option<Version>, AllocError>
-    // A version is found only if the tables are exactly those of this version.
+    // A version is found only if the database has exactly its tables and indexes.
     ensures ours { IfOk result (λ found. IfSome found (λ version. schema.now ≡ schema_of version)) }
-    // None is found only if the tables are those of no version.
+    // None is found only if the database has the tables and indexes of no version.
     ensures none { IfOk result (λ found. IfNone found ((version : Version) → schema.now ≢ schema_of version)) }
 {
     let plain = have_no_rules(alloc, schema.tables.as_slice())?;

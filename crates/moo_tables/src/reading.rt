@@ -54,10 +54,10 @@ pub fn cells_of<S: Alter>(
 ) -> Result<Vec<Row>, Error>
     // The version has this table: one without petitions has no table of them.
     requires { HasTable version table }
-    // Nothing is written. If the disk is clean and the tables are of the version, it fails only if the store does, a lack of memory
-    // included, or at the limit on steps.
+    // Nothing is written. If the disk is clean and the tables are of the version, it fails only if the store does or memory runs out, or if
+    // it takes more steps than the connection allows.
     ensures reads { OnlyReads version (state S.Store conn.old) (state S.Store conn.new) result }
-    // If the disk is clean and the connection is in no transaction, the rows are those of the table, in the order of their keys.
+    // If the disk is clean and the connection has tables of the version at rest, the rows are the table's, in the order of their keys.
     ensures listed { Lists version (state S.Store conn.old) (state S.Store conn.new) result
         (λ rows tables. ListsTable table rows.items tables) }
 {
@@ -79,7 +79,7 @@ pub fn small_cells_of<S: Alter>(
     conn: &mut Connection<S>,
     version: Version,
 ) -> Result<(Vec<Row>, Vec<Row>, Vec<Row>), Error>
-    // Nothing is written, and it fails only if the store does, or at the limit on steps.
+    // Nothing is written, and it fails only if the store does, or if it takes more steps than the connection allows.
     ensures reads { OnlyReads version (state S.Store conn.old) (state S.Store conn.new) result }
     // The three lists are the rows of the three tables, in the order of their keys.
     ensures listed { Lists version (state S.Store conn.old) (state S.Store conn.new) result
@@ -95,7 +95,7 @@ pub fn small_cells_of<S: Alter>(
     Ok((head, petition, petition_head))
 }
 
-/// Reads the rows of each table, from the one that the version has them in; those of petitions if it has any.
+/// Reads the rows of each table of the version. If it has no petitions, their two lists are empty.
 ///
 /// The version has to be that of the database (`version_of`): of another one nothing is said. Nothing is written. It fails
 /// only if the store does, or if it takes more steps than the connection allows. After a fault of the store the tables are as
@@ -106,7 +106,7 @@ pub fn read_tables<S: Alter>(
     conn: &mut Connection<S>,
     version: Version,
 ) -> Result<CellLists, Error>
-    // Nothing is written, and it fails only if the store does, or at the limit on steps.
+    // Nothing is written, and it fails only if the store does, or if it takes more steps than the connection allows.
     ensures reads { OnlyReads version (state S.Store conn.old) (state S.Store conn.new) result }
     // The lists are those of the version.
     ensures version { IfOk result (λ lists. lists.version ≡ version) }

@@ -9,8 +9,7 @@ use sqlite::{Alter, Connection};
 use sqlite_trees::store::{Reopen, Store};
 use std::alloc::Global;
 
-/// Takes the store from the connection, crashes it, and opens a connection on what the crash left. None if the store can't be opened
-/// again.
+/// Takes the store from the connection, crashes it, and opens a connection on what the crash left. None if it can't be opened again.
 pub fn crash_and_open<S: Alter + Reopen + Drop>(
     alloc: Global,
     conn: Connection<S>,

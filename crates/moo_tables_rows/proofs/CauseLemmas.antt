@@ -6,7 +6,7 @@ use Rattle.sqlite_trees.{specs.declared.error.StoreError.{StoreError}}
 cause_from : (old mid new : State) (cause : StoreError) → old.faults ≤ mid.faults → IsTrue mid.is_open → HasCause mid new ⊤ cause → HasCause old new ⊤ cause
 cause_from old mid new cause up is_open h = grind (arith, h, is_open)
 
--- a call stopped, after others that forgot no fault of the disk and left the limit on steps
+-- a call stopped, after others that forgot no fault of the disk and left the limit on the steps of SQL
 pub stops_since : (old mid new : State) (e : Error) → old.faults ≤ mid.faults → mid.step_limit ≡ old.step_limit → IsTrue mid.is_open → StopsChange mid new e → StopsChange old new e
 stops_since old mid new e up steps is_open (inl h) = inl (h.0, h.1, cause_from old mid new h.0 up is_open h.2)
 stops_since old mid new e up steps is_open (inr (inl h)) = inr (inl (h.0, subst IsSome steps h.1))

@@ -1,7 +1,7 @@
 -- What an update does that leaves one cell of a row as it is, whichever kind of key its table has.
 use Rattle.moo_tables_rows.{proofs.Words.{length, ◌-◌, ◌≡◌, ◌+◌, ◌++◌, ℕ, ℤ, List, [], ◌∷◌, map, drop, option_map, slice_get, Option, Some, true, ◌⊎◌, inl, inr, Result, Ok, Err, OnOk, IfOk, IsTrue, sym, ap, subst, ◌∙◌, arith, list_all, IsPermutation, Value, Null, Int, Text, Error, Row, column, holds, eval_all, cast_all, cast_row, Table, Trees, rowid, put_row, overlay, understood, State, Executes, statement_of, runs_as, Has, Column, Tables, present_schema, cells_at, keep_text, Sees, Changes, RanStatement, KeepsUnread, WritesOver}, proofs.TextLemmas.{KeepsByKey, keep_terms, writes_where}, proofs.CastLemmas.{fit, kept_all}, proofs.StepLemmas.{cast_int, updates}, proofs.OverLemmas.{free_beside}, proofs.UpdateLemmas.{over_or_left}, proofs.QueryLemmas.{chosen, shows_all}, proofs.KeyLemmas.{find_none}, proofs.RowLemmas.{moo_quiet, rest}, proofs.SeenLemmas.{schema_seen, SetsTree, sees_still}, proofs.TypedLemmas.{HasText}, proofs.KindLemmas.{Kind, table, behind, stored, written_as}, proofs.WrittenLemmas.{IsSeen, told_now, stands, same, found}}
 
--- The values of the statement, and the row that it makes, with its cell at the place. Each of these facts is computed, whatever the columns are.
+-- The values of the statement, and the row that it makes, with its cell at the place. Each fact is computed, whatever the columns.
 pub record KeepsRows {K C : Type 0} (k : Kind) (t : Table) (place : ℕ) (key_of : K → k.Key) (values : K → C → Row) (row : K → C → Value → Row) : Type 0 where
   pub bare : (db : Trees) → overlay db [] t.tree ≡ db t.tree
   pub counted : (key : K) (c : C) → length (values key c) ≡ length t.columns - 1

@@ -1,4 +1,4 @@
--- The rows of one tree, after an upsert: its row is put where none has its key, or stands in place of the one that has it, or that one is left.
+-- The rows of one tree after an upsert: its row is put if none has its key, or stands in place of the row that has it, or that row is left.
 use Rattle.moo_tables_rows.{proofs.Words.{◌≡◌, ◌≢◌, ◌⊎◌, inl, inr, ℕ, ℤ, List, [], ◌∷◌, ◌++◌, ◌&&◌, map, drop, Some, Bool, true, false, refl, sym, ap, subst, ◌∙◌, list_all, Equal, IsPermutation, Row, value_cmp, Int, Term, holds, eval_all, Trees, rowid, has_rowid, put_row, shown, overlay, IsNoIndex, without_all, put_all, next_rowid, cast_row, Given, Table, ids_of, AreConflicts, conflicts, Has, present_schema, AreKeyed, Null}, proofs.TextLemmas.{writes_where}, proofs.QueryLemmas.{chosen, shows_all}, proofs.RowLemmas.{rest}, proofs.OverLemmas.{found_first, same_row, all_free, takes_place, free_beside}, proofs.UpdateLemmas.{one_or_none}, proofs.UpsertLemmas.{Settles, WritesOver}, proofs.KindLemmas.{Kind, written_as}}
 use Rattle.sqlite.specs.Edit.{numbered}
 

@@ -1,4 +1,4 @@
--- The rows of one tree, after a query of the row with a key, and after an update of what it answers: the row that has the key is written over, or there is none and all stay.
+-- The rows of one tree, after a query of the row with a key and an update of that: the row is written over, or there is none and all stay.
 use Rattle.moo_tables_rows.{proofs.Words.{arith, ◌≡◌, ◌⊎◌, inl, inr, List, [], ◌∷◌, ◌&&◌, map, drop, length, Bool, true, false, true≢false, IsTrue, refl, sym, ap, subst, ◌∙◌, list_all, list_any, and_parts, IsPermutation, Row, Int, Term, holds, eval_all, rowid, put_row, id_in, without_all, put_all, cast_row, Given, Table, ids_of, is_int, Has, all_has, some_has, some_from, AreKeyed}, proofs.QueryLemmas.{chosen}, proofs.KeyLemmas.{is_false, int_value}, proofs.RowLemmas.{rest}, proofs.OverLemmas.{Found, none_kept, no_permutation, same_row, answers_one, takes_place}}
 use Rattle.sqlite.specs.Edit.{numbered}
 

@@ -33,7 +33,8 @@ abbrev pub is_conflict : Error → Bool
 is_conflict (SqliteFailure (code.ConstraintViolation rule)) = true
 is_conflict _ = false
 
--- A call that puts a new row fails, since another row has its key, and nothing changed; or the call has one of the causes of any change.
+-- A call on our tables that puts a new row fails since another row has its key, and nothing changed; or for one of the causes of any
+-- change.
 abbrev pub MeetsRowIn : {A : Type 0} → State → State → Result A Error → Type 0
 MeetsRowIn old new r =
     HasCleanDisk new → (tables : Tables) → Sees old tables →

@@ -21,7 +21,7 @@ abbrev pub has_petitions : Version → Bool
 has_petitions First = false
 has_petitions Second = true
 
--- the slots are in the table `slot`, with letters for the rights on a property; else they are in `slot2`, with a number for these
+-- the slots are in the table `slot`, with letters for the rights on a property; else they are in `slot2`, with a number for the rights
 abbrev pub has_lettered_bits : Version → Bool
 has_lettered_bits First = true
 has_lettered_bits Second = false

@@ -31,7 +31,7 @@ fn counter_values(next: u32) -> [ValueRef<'static>; 2]
 }
 
 /// Puts the number of the next petition, in place of the one that is there. If that is the same, nothing is written. Answers how many rows
-/// were written. It fails only if the store does, at the limit on steps, or if a table has no number left for a row.
+/// were written. It fails only by what stops any change (`StopsChange`).
 pub fn put_counter<T: Run>(tx: &mut T, next: u32) -> Result<usize, Error>
     // The transaction is on the connection that it was on.
     ensures same_reference { T.lender tx.new ≡ T.lender tx.old }
@@ -39,7 +39,7 @@ pub fn put_counter<T: Run>(tx: &mut T, next: u32) -> Result<usize, Error>
     ensures inside { StaysInside (T.state tx.old) (T.state tx.new) }
     // If it succeeds, the table has this number, and the other tables are as they were.
     ensures put { OnOk result (Changes (with_counter next) (T.state tx.old) (T.state tx.new)) }
-    // It fails only if the store does, if it takes more steps than the connection allows, or if a table has no number left for a row.
+    // On our tables it fails only if the store does, if it takes more steps than the connection allows, or if no row number is left.
     ensures cause { HasCauseIn (T.state tx.old) (T.state tx.new) result }
 {
     tx.run(
@@ -49,7 +49,7 @@ pub fn put_counter<T: Run>(tx: &mut T, next: u32) -> Result<usize, Error>
 }
 
 /// Puts the number of the next petition, if one is given. Otherwise no statement runs, and the row stays. Answers how many rows were
-/// written. It fails only if the store does, at the limit on steps, or if a table has no number left for a row.
+/// written. It fails only by what stops any change (`StopsChange`).
 pub fn put_next_petition<T: Run>(tx: &mut T, next: Option<u32>) -> Result<usize, Error>
     // The transaction is on the connection that it was on.
     ensures same_reference { T.lender tx.new ≡ T.lender tx.old }
@@ -57,7 +57,7 @@ pub fn put_next_petition<T: Run>(tx: &mut T, next: Option<u32>) -> Result<usize,
     ensures inside { StaysInside (T.state tx.old) (T.state tx.new) }
     // If it succeeds, the table has the number that is given, or the one that it had, and the other tables are as they were.
     ensures put { OnOk result (Changes (with_next_petition next) (T.state tx.old) (T.state tx.new)) }
-    // It fails only if the store does, if it takes more steps than the connection allows, or if a table has no number left for a row.
+    // On our tables it fails only if the store does, if it takes more steps than the connection allows, or if no row number is left.
     ensures cause { HasCauseIn (T.state tx.old) (T.state tx.new) result }
 {
     match next {

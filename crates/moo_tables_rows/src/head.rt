@@ -35,7 +35,7 @@ pub const HEAD: OurTable = OurTable {
 
 /// The values of the row of `head`: its id, which is 1, the present version, and the counters.
 fn head_values(row: &Head) -> [ValueRef<'static>; 6]
-    // A cell holds the number of the last batch as a signed number of 64 bits.
+    // The number of the last batch fits a cell, which is a signed number of 64 bits.
     requires { row.now.seq < 2 ^ 63 }
     ensures { bound result ≡ head_cells present row.now }
 {
@@ -49,11 +49,11 @@ fn head_values(row: &Head) -> [ValueRef<'static>; 6]
     ]
 }
 
-/// Puts the row of `head`, in place of the one that is there. A new table has no row yet, and then it is inserted. It fails only if the
-/// store does, at the limit on steps, or if a table has no number left for a row.
+/// Puts the row of `head`, in place of the one that is there. A new table has no row yet, and then it is inserted. It fails only by what
+/// stops any change (`StopsChange`).
 #[tactic(auto, using(crate::proofs::InsideLemmas::stays_then))]
 pub fn put_head<T: Run>(tx: &mut T, row: &Head) -> Result<(), Error>
-    // A cell holds the number of the last batch as a signed number of 64 bits.
+    // The number of the last batch fits a cell, which is a signed number of 64 bits.
     requires { row.now.seq < 2 ^ 63 }
     // The transaction is on the connection that it was on.
     ensures same_reference { T.lender tx.new ≡ T.lender tx.old }
@@ -61,7 +61,7 @@ pub fn put_head<T: Run>(tx: &mut T, row: &Head) -> Result<(), Error>
     ensures inside { StaysInside (T.state tx.old) (T.state tx.new) }
     // If it succeeds, `head` has this row, of the present version, and the other tables are as they were.
     ensures put { OnOk result (Changes (with_head_cells row.now) (T.state tx.old) (T.state tx.new)) }
-    // It fails only if the store does, if it takes more steps than the connection allows, or if a table has no number left for a row.
+    // On our tables it fails only if the store does, if it takes more steps than the connection allows, or if no row number is left.
     ensures cause { HasCauseIn (T.state tx.old) (T.state tx.new) result }
 {
     let values = head_values(row);

@@ -15,12 +15,12 @@ use moo_value::ObjNo;
 use sqlite::{Alter, Error, ErrorCode, Transaction};
 use sqlite_value::value::ValueRef;
 
-/// A transaction, whichever store it is on. The proof of code over any such transaction is cheaper than that of code over any store.
+/// A transaction, whichever store it is on. The proof of code over any transaction is cheaper than that of code over any store.
 pub trait Run {
     /// The state of the connection, in the transaction.
     ghost state: { Self → State };
 
-    /// Which connection it is on: after a statement still the same.
+    /// Which connection it is on.
     ghost lender: { Self → GName };
 
     /// Runs one statement of the transaction with these parameters, and answers how many rows it changed. The errors are those of
@@ -34,7 +34,7 @@ pub trait Run {
         ensures ran { HasCleanDisk (state self.new) → IfOk result (λ count.
             IsTrue (state self.new).in_transaction
             × Executes sql.now (bound params.now) (state self.old) (state self.new) result) }
-        // In an open transaction the statement does what `sqlite` says of one that can't end it.
+        // In an open transaction the statement does what `sqlite` says of a statement that can't end the transaction.
         ensures executes { HasCleanDisk (state self.new) → IsTrue (state self.old).in_transaction →
             ExecutesInside 0 sql.now (bound params.now) (state self.old) (state self.new) result };
 }

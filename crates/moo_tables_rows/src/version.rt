@@ -45,8 +45,8 @@ impl Version {
         }
     }
 
-    /// Whether the slots are in the table `slot`, with letters for the rights on a property. Else they are in `slot2`, with
-    /// a number for these.
+    /// Whether the slots are in the table `slot`, with letters for the rights on a property. Else they are in `slot2`, with a number for
+    /// the rights.
     pub fn has_lettered_bits(self) -> bool
         ensures { result ≡ has_lettered_bits self }
     {

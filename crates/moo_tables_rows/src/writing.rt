@@ -11,8 +11,7 @@ use sqlite::Error;
 
 /// Puts a new row. If a row has its key after all, the new one takes its place. Answers whether a row had the key.
 ///
-/// A plain insertion looks the key up once, and one that may write over a row looks it up twice. It fails only if the store does, at the
-/// limit on steps, or if a table has no number left for a row.
+/// A plain insertion looks the key up once, and one that may write over a row looks it up twice. It fails only by what stops any change.
 fn write_new<T: Run, R: TableRow>(tx: &mut T, key: R::Key, row: &R) -> Result<bool, Error>
     // The transaction is on the connection that it was on.
     ensures same_reference { T.lender tx.new ≡ T.lender tx.old }
@@ -20,7 +19,7 @@ fn write_new<T: Run, R: TableRow>(tx: &mut T, key: R::Key, row: &R) -> Result<bo
     ensures inside { StaysInside (T.state tx.old) (T.state tx.new) }
     // If it succeeds, the tables have this row at its key, and change nowhere else.
     ensures written { OnOk result (Changes (R.with_row key (Some row.now)) (T.state tx.old) (T.state tx.new)) }
-    // It fails only if the store does, if it takes more steps than the connection allows, or if a table has no number left for a row.
+    // On our tables it fails only if the store does, if it takes more steps than the connection allows, or if no row number is left.
     ensures cause { HasCauseIn (T.state tx.old) (T.state tx.new) result }
 {
     match row.insert(tx, key) {
@@ -35,8 +34,8 @@ fn write_new<T: Run, R: TableRow>(tx: &mut T, key: R::Key, row: &R) -> Result<bo
     }
 }
 
-/// Writes over the row with the key, or puts a new one if no row has it. Answers whether one had it. It fails only if the store does, at
-/// the limit on steps, or if a table has no number left for a row.
+/// Writes over the row with the key, or puts a new one if no row has it. Answers whether one had it. It fails only by what stops any
+/// change.
 #[tactic(auto, using(crate::proofs::InsideLemmas::stays_then))]
 fn write_over<T: Run, R: TableRow>(tx: &mut T, key: R::Key, row: &R) -> Result<bool, Error>
     // The transaction is on the connection that it was on.
@@ -45,7 +44,7 @@ fn write_over<T: Run, R: TableRow>(tx: &mut T, key: R::Key, row: &R) -> Result<b
     ensures inside { StaysInside (T.state tx.old) (T.state tx.new) }
     // If it succeeds, the tables have this row at its key, and change nowhere else.
     ensures written { OnOk result (Changes (R.with_row key (Some row.now)) (T.state tx.old) (T.state tx.new)) }
-    // It fails only if the store does, if it takes more steps than the connection allows, or if a table has no number left for a row.
+    // On our tables it fails only if the store does, if it takes more steps than the connection allows, or if no row number is left.
     ensures cause { HasCauseIn (T.state tx.old) (T.state tx.new) result }
 {
     let count = row.update(tx, key)?;
@@ -57,8 +56,7 @@ fn write_over<T: Run, R: TableRow>(tx: &mut T, key: R::Key, row: &R) -> Result<b
 
 /// Puts the new row of a key, or deletes the old one if there is no new one. Answers whether the next row is expected to be there.
 ///
-/// If a row is expected, the cheaper statement is tried first, which only writes over one. It fails only if the store does, at the limit on
-/// steps, or if a table has no number left for a row.
+/// If a row is expected, the cheaper statement is tried first, which only writes over one. It fails only by what stops any change.
 fn write_row<T: Run, R: TableRow>(
     tx: &mut T,
     key: R::Key,
@@ -71,7 +69,7 @@ fn write_row<T: Run, R: TableRow>(
     ensures inside { StaysInside (T.state tx.old) (T.state tx.new) }
     // If it succeeds, the tables have the new row at the key, or none if there is no new one, and change nowhere else.
     ensures written { OnOk result (Changes (R.with_row key cells.now) (T.state tx.old) (T.state tx.new)) }
-    // It fails only if the store does, if it takes more steps than the connection allows, or if a table has no number left for a row.
+    // On our tables it fails only if the store does, if it takes more steps than the connection allows, or if no row number is left.
     ensures cause { HasCauseIn (T.state tx.old) (T.state tx.new) result }
 {
     match cells {
@@ -85,8 +83,8 @@ fn write_row<T: Run, R: TableRow>(
 }
 
 /// Writes changes of rows of one table, one after another: at each key the new row, or none. The first row is taken to be there or not as
-/// the hint says. After a row that wasn't there the others are taken to be new too, until one is there. It fails only if the store does, at
-/// the limit on steps, or if a table has no number left for a row.
+/// the hint says. After a row that wasn't there the others are taken to be new too, until one is there. It fails only by what stops any
+/// change.
 #[tactic(auto, using(crate::proofs::InsideLemmas::stays_then))]
 pub fn write_rows<T: Run, R: TableRow>(
     tx: &mut T,
@@ -99,7 +97,7 @@ pub fn write_rows<T: Run, R: TableRow>(
     ensures inside { StaysInside (T.state tx.old) (T.state tx.new) }
     // If it succeeds, the table has these changes, and every row that none of them names stays.
     ensures written { OnOk result (Changes (with_each R.with_row changes.now) (T.state tx.old) (T.state tx.new)) }
-    // It fails only if the store does, if it takes more steps than the connection allows, or if a table has no number left for a row.
+    // On our tables it fails only if the store does, if it takes more steps than the connection allows, or if no row number is left.
     ensures cause { HasCauseIn (T.state tx.old) (T.state tx.new) result }
 {
     let mut expected = first_expected;
