@@ -58,7 +58,7 @@ impl<W: Outward> Outgoing<W> {
         ensures text { self.new.text ≡ self.old.text }
         // The writer stays that of the same peer.
         ensures peer { W.peer self.new.writer ≡ W.peer self.old.writer }
-        // What the writer has and what is still unsent, joined, is as before.
+        // The bytes that the writer has, and then those still unsent, are the same bytes as before.
         ensures invisible { Keeps (append_known (W.contents self.old.writer) (drop self.old.sent self.old.text.items))
             (append_known (W.contents self.new.writer) (drop self.new.sent self.new.text.items)) }
     {

@@ -40,7 +40,7 @@ Written (Err Write) before behind output = (sent : ℕ) × Appends before behind
 Written (Err Read) before behind output = behind ≡ before
 Written (Err OutOfMemory) before behind output = behind ≡ before
 
--- A World at this place was asked, and of the answer this is written, by the result. It says why it refuses only if that was asked.
+-- A World at this place was asked, and its answer is written, as far as the result says. It says why it refuses only if that was asked.
 abbrev pub AnswersAsked : (is_head asks_why : Bool) → Asked → Result (Unit {0}) ServeFault → Place → Place
     → Option (List ℕ) → Option (List ℕ) → Type 0
 AnswersAsked is_head asks_why asked result from to before behind =

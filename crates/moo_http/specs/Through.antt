@@ -7,9 +7,9 @@ use Rattle.moo_http.specs.Turns.{Exchanged, Yields}
 use Rattle.moo_http.specs.declared.fault.ServeFault.{ServeFault}
 use Rattle.moo_http.specs.declared.fault.ServeFault.TheVariants.{Read, Write, OutOfMemory}
 
--- The peer's bytes are given, and this is what its writer took and what it holds at the end. Between them the desk gathered and sent, by
--- steps that whoever reads and writes doesn't see; so the judge saw these bytes left, these before, and wrote up to these. What the judge
--- left of the bytes is what is left.
+-- The bytes of a connection as its peer sees them and as its judge does, and those of the answer that wait to be sent. A desk between the
+-- two gathers the request and sends the answer on: the judge reads the bytes of the peer, and what the writer took and what waits, joined,
+-- is what the judge wrote.
 pub record Passes (peer judge : Traffic) (unsent : List ℕ) : Type 0 where
   -- what was gathered, and then what the reader has: at first nothing was gathered
   pub gathered : Keeps (prepend_known [] peer.left) judge.left

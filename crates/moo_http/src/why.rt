@@ -50,7 +50,7 @@ fn alone_why(
     reply: &Option<Reply>,
     text: Option<&Option<String>>,
 ) -> Result<Option<String>, AllocError>
-    // A reply that refuses takes the first refusal that was seen and is left.
+    // A reply that refuses takes the first refusal that was seen and not told yet.
     ensures { IfOk result (λ line. TellsPlace seen.old.seen.items reply.now line seen.new.seen.items) }
 {
     match (reply, text) {
@@ -67,7 +67,7 @@ fn each_whys(
     replies: &Replies,
     texts: &[Option<String>],
 ) -> Result<Vec<Option<String>>, AllocError>
-    // Each reply that refuses takes the first refusal that was seen and is left.
+    // Each reply that refuses takes the first refusal that was seen and not told yet.
     ensures { IfOk result (λ lines. AreTold seen.old.seen.items replies.now lines.items seen.new.seen.items) }
 {
     let mut each = Vec::new(alloc);
@@ -150,7 +150,7 @@ pub(crate) fn answer_with_whys(
     inquiry: &Inquiry,
     outcome: RequestOutcome,
 ) -> Result<Vec<u8>, AllocError>
-    // Each reply that refuses is told with the first refusal that was seen and is left; nothing is told if that wasn't asked.
+    // Each reply that refuses is told with the first refusal that was seen and not told yet, or none is; and none if that wasn't asked.
     ensures { IfOk result (λ bytes. (whys : List (Option (List ℕ))) × (inquiry.now.asks_why ≡ false → whys ≡ [])
         × (bytes.items ≡ response_text inquiry.now.is_head (response_with inquiry.now.asks_why whys outcome))
         × IsToldWith seen.old.seen.items outcome whys) }

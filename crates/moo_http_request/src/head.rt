@@ -60,7 +60,7 @@ pub(crate) fn read_head<R: Incoming>(
     requires { bytes.old.items ≡ [] }
     // The bytes are those that the reader gave.
     ensures takes { OnOk result (Consumes (R.remaining reader.old) (R.remaining reader.new) bytes.new.items) }
-    // A head that was found is at their front; one that is refused can't follow, and nothing was there if it is empty.
+    // If a head is found, it is at their front; if it is refused, they begin with no head, whichever follow; if it is empty, none came.
     ensures head { IfOk result (FindsHead (R.remaining reader.new) bytes.new.items) }
     ensures few { OnOk result (length bytes.new.items ≤ MAX_HEAD) }
     // Less than 1,024 bytes were read after a head.

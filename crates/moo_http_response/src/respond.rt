@@ -172,8 +172,8 @@ fn not_allowed_response(
     })
 }
 
-/// The response to a request that is refused before the World is asked. `why` is the sentence about a body, of `BadRequest` and `Malformed`,
-/// if it is told; a refused head has a sentence of its own, told if the request asks why.
+/// The response to a request that is refused before the World is asked. `why` is the sentence about a body, of `BadRequest` and
+/// `Malformed`, if it is told; a refused head has a sentence of its own, told if the request asks why.
 fn refusal_response(
     alloc: Global,
     refusal: Refusal,
