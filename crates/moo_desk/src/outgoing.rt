@@ -51,8 +51,8 @@ impl<W> Outgoing<W> {
 }
 
 impl<W: Outward> Outgoing<W> {
-    /// Hands the writer the next bytes of the text, up to 262,144. Stuck if the writer takes none now; Broken if it failed, or takes
-    /// no more.
+    /// Hands the writer the next bytes of the text, up to 262,144. Went if it took some, Stuck if it takes none now, and Broken if it
+    /// failed or takes no more.
     pub fn send(&mut self) -> Sending
         // The text stays: only what is sent of it may grow.
         ensures text { self.new.text ≡ self.old.text }

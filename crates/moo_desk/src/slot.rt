@@ -59,8 +59,8 @@ pub struct Slot<R: Inward, W: Outward> {
     ghost idle: { ∥ (is_due ≡ false → HasFoundNothing R.reads reader.reader) ∥₁ },
 }
 
-/// How many bytes a request has that begins with these, if that was known before, or if these hold its head. None while more of the head is
-/// to come, and before the first byte.
+/// How many bytes a request has in all that begins with `bytes`: as many as `known` says, else as its head says. None while more of the
+/// head is to come, and before the first byte.
 fn total_of(routes: &Routes, bytes: &[u8], known: Option<usize>) -> Option<usize>
     // If a number was known before, a request that begins with these bytes is whole from so many bytes on.
     requires { ∥ IsKnownFrom bytes.now known ∥₁ }

@@ -55,7 +55,7 @@ pub trait Sockets {
     fn accept(&mut self) -> Result<Self::Socket>
         ensures { does self.old (accepts result) self.new };
 
-    /// Has reads and writes of a connection not wait; whether they don't.
+    /// Sets that reads and writes of a connection never wait; whether that was done.
     fn unblock(&mut self, socket: &Self::Socket) -> bool
         ensures { does self.old (unblocks socket.now result) self.new };
 

@@ -82,8 +82,8 @@ pub fn serve_next<S: Alter + Drop, A: Arrivals>(
     is_answered
 }
 
-/// Asks a source once for a connection whose answer was lost after its turn; whether there was one, which counts as failed, and of which the
-/// log is told. If none counts as answered none can be lost, and the source isn't asked.
+/// Asks a source once for a connection whose answer was lost after its turn; whether there was one, which counts as failed, and of which
+/// the log is told. If none counts as answered none can be lost, and the source isn't asked.
 fn settle_one<'a, A: Arrivals, C: Clock + Eprint>(
     arrivals: &mut A,
     log: &mut Log<'a, C>,

@@ -1,4 +1,4 @@
--- What the first bytes of an input say, whatever follows them.
+-- What the first bytes of an input say, whichever bytes follow.
 use Rattle.std.specs.Prelude.{◌≡◌, ℕ, List, [], ◌++◌, Bool, true, Option}
 use Rattle.std.specs.Io.KnownBytes.{IsAtEnd}
 

@@ -72,7 +72,7 @@ pub enum Asked {
 }
 
 impl Asked {
-    /// What a request asks that is refused for this reason. It tells of nothing that is wrong with a body.
+    /// What a refused request asks: nothing. The refusal has this reason, and tells of nothing that is wrong with a body.
     pub(crate) fn refuse(refusal: Refusal) -> Asked
         ensures { result ≡ Asked.Refused refusal }
     {

@@ -56,7 +56,7 @@ fn read_calls(alloc: Global, texts: &[&str]) -> Result<CallsRead, AllocError>
     Ok(CallsRead::Whole(Calls::from_vec(calls)))
 }
 
-/// What is wrong with the text of a call, by its number from 1. Unknown if memory for the text is refused.
+/// What is wrong with the body whose call of this number, from 1, isn't one: that text. None if memory for it is refused.
 fn bad_call(alloc: Global, texts: &[&str], number: u32) -> Option<BodyFault> {
     let text = texts.get((number as usize).saturating_sub(1))?;
     let text = String::from_str(alloc, text).ok()?;

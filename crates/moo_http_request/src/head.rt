@@ -36,7 +36,7 @@ pub enum HeadRead {
     Empty,
 }
 
-/// What the bytes say of the head, whatever follows them. `None` if it may go on after them.
+/// What the bytes say of the head, whichever bytes follow. `None` if the head may go on after them.
 pub(crate) fn parse_head(bytes: &[u8]) -> Option<HeadRead>
     requires { (0 < length bytes.now) × (length bytes.now ≤ MAX_HEAD) }
     ensures found { IfSome result (ShowsHead bytes.now) }
