@@ -21,7 +21,7 @@ use moo_http_request::Routes;
 use std::alloc::{AllocError, Global};
 use std::time::{Clock, Duration};
 
-/// How long the desk waits at once, in milliseconds, if no connection is to be ended before.
+/// How long the desk waits at once, in milliseconds, if no answer is sent and no connection is to be ended before.
 const PAUSE: u64 = 1000;
 
 /// After how many connections that were handed out the gate is asked what may have changed, though some requests are whole.

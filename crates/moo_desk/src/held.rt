@@ -26,7 +26,7 @@ use std::time::Duration;
 /// How many connections may be open at once.
 pub const MOST: usize = 64;
 
-/// After how many milliseconds an unfinished request may be ended if all slots are taken.
+/// After how many milliseconds an unfinished request may be ended if 64 connections are held. While answers are sent no wait is longer.
 pub const GRACE: u64 = 200;
 
 /// The connections that a desk holds, and the losses that it noted.
@@ -294,7 +294,8 @@ impl<R: Inward + OpenStream + Drop, W: Outward + OpenStream + Drop> Held<R, W> {
         ensures all { Goes self.old self.new }
         // No request changes.
         ensures slots { self.new.slots ≡ self.old.slots }
-        // The first answer that is stuck is given up, if so much is held and a request is to be handed out. Else nothing changes.
+        // If 32 MiB of answers or more are held beside the largest, and a request is to be handed out, the first answer that is stuck is
+        // given up. Else nothing changes.
         ensures relieves { Relieves now self.old self.new }
     {
         if all_unsent_bytes(&self.leaving) < BUDGET || !self.is_any_ready() {

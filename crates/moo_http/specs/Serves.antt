@@ -33,7 +33,7 @@ Gets from (Request is_head asks_why asked) output to =
     (o : RequestOutcome) × (whys : List (Option (List ℕ))) × (asks_why ≡ false → whys ≡ []) × MayAnswer from asked o to
     × (output ≡ response_text is_head (response_with asks_why whys o))
 
--- what is written of an output, by the result: all of it; or a front of it, if the writer failed; or nothing
+-- what is written of an output, by the result: all of it; or the beginning of it, if the writer failed; or nothing
 abbrev pub Written : Result (Unit {0}) ServeFault → Option (List ℕ) → Option (List ℕ) → List ℕ → Type 0
 Written (Ok done) before behind output = Appends before behind output
 Written (Err Write) before behind output = (sent : ℕ) × Appends before behind (take sent output)

@@ -32,12 +32,12 @@ abbrev pub AnswersPass : Type 0
 AnswersPass = (from to : Place) (peer judge : Traffic) → Passes peer judge [] → Exchanged (Ok tt) from to judge →
     Exchanged (Ok tt) from to peer
 
--- If something is left to be sent of an answer that was written whole, the peer got a front of it.
+-- If something is left to be sent of an answer that was written whole, the peer got the beginning of it.
 abbrev pub FrontsPass : Type 0
 FrontsPass = (from to : Place) (peer judge : Traffic) (unsent : List ℕ) → Passes peer judge unsent →
     Exchanged (Ok tt) from to judge → Exchanged (Err Write) from to peer
 
--- If a connection met a fault, its peer sees what belongs to that fault.
+-- If a connection met a fault, its peer got the beginning of the answer (Write), or nothing of it (Read and OutOfMemory).
 abbrev pub FaultsPass : Type 0
 FaultsPass = (fault : ServeFault) (from to : Place) (peer judge : Traffic) (unsent : List ℕ) → Passes peer judge unsent →
     Exchanged (Err fault) from to judge → FailedThrough fault from to peer

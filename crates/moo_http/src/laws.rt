@@ -26,7 +26,7 @@ pub fn exchanges_pass_through()
     ensures sent { AnswersPass }
     // If a part of such an answer isn't sent, the peer got the beginning of it.
     ensures lost { FrontsPass }
-    // If the connection met a fault, the peer sees what belongs to that fault.
+    // If the connection met a fault, the peer got the beginning of the answer (Write), or nothing of it (Read and OutOfMemory).
     ensures failed { FaultsPass }
 {}
 

@@ -54,7 +54,7 @@ pub enum Mode {
 pub enum Form {
     /// One batch.
     Batch(Mode),
-    /// A batch each, which is asked.
+    /// Each call is a batch of its own, which is only asked.
     Each,
 }
 

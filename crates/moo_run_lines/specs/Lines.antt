@@ -91,7 +91,7 @@ load_failure (load_fault.NotADump line why) = NotADump line
 load_failure (load_fault.Damaged kind key) = Damaged kind key
 load_failure load_fault.OutOfMemory = OutOfMemory
 
--- The line is written, and this status answered. Or the writer fails on the way: a front of the line is written, and the status is
+-- The line is written, and this status answered. Or the writer fails on the way: the beginning of the line is written, and the status is
 -- that of a failed writer.
 abbrev pub WritesLine : List ℕ → ℕ → Option (List ℕ) → Option (List ℕ) → ℕ → Type 0
 WritesLine line known old new status =
