@@ -84,7 +84,8 @@ module _ {R W : Type 0}
   abbrev pub IsCrowdedOut : Slot R W inward incoming reader outward writer → Slot R W inward incoming reader outward writer → Type 0
   IsCrowdedOut old new = (new.rests ≡ true) × (new.reader.coming ≡ Unread) × (new.cause ≡ Crowded)
 
-  -- A connection that lingers is let go, or else the oldest unfinished request that may be given up is, or else nothing changes.
+  -- The first connection that lingers becomes `Done`, or else the oldest unfinished request that may be ended is given up, or else nothing
+  -- changes.
   abbrev pub EndsOne : Duration → Held R W inward incoming reader outward writer → Held R W inward incoming reader outward writer → Type 0
   EndsOne now old new =
       (TurnsFirst IsLingering (λ _ it. it.stage ≡ Done) old.leaving.items new.leaving.items × (new.slots ≡ old.slots))

@@ -47,7 +47,7 @@ module _ {R W : Type 0}
     pub rests : old.rests ≡ true → (new.rests ≡ true) × (new.reader ≡ old.reader) × (new.cause ≡ old.cause)
 
 -- A connection whose request was judged, and that connection later, with its answer to this peer. An answer that was sent whole isn't lost
--- later, and one that is lost isn't sent.
+-- later, and an answer that is lost stays so.
 pub record IsLater {R W : Type 0} (writer : Writing.Ghosts W) (to : W → ℤ) (old new : Leaving R W) : Type 0 where
   pub answer : SendsOn writer old.writer new.writer
   pub peer : to new.writer.writer ≡ to old.writer.writer

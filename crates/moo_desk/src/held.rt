@@ -98,7 +98,7 @@ impl<R: Inward + OpenStream + Drop, W: Outward + OpenStream + Drop> Held<R, W> {
         ensures all { Goes self.old self.new }
         // While 64 at most are held none is ended.
         ensures few { count_of self.old ≤ MOST → self.new ≡ self.old }
-        // Else one that lingers is let go, or the oldest unfinished request that may be ended is given up, or none can be.
+        // Else the first that lingers becomes `Done`, or the oldest unfinished request that may be ended is given up, or none can be.
         ensures full { MOST < count_of self.old → EndsOne now self.old self.new }
         // When each request came stays; when bytes of it came last, and `looked`, stay or become `now`.
         ensures times { Each (IsTimed now) self.old.slots.items self.new.slots.items }

@@ -175,7 +175,7 @@ impl<R: Inward + OpenStream, W: Outward + OpenStream> Leaving<R, W> {
     fn drain(&mut self, now: Duration) -> bool
         requires { self.old.stage ≡ Lingering }
         ensures same { (self.new.writer ≡ self.old.writer) × (self.new.route ≡ self.old.route) }
-        // Its peer is still listened to, or it is let go.
+        // Its peer is still listened to, or the connection is `Done`.
         ensures stage { MayFollow Lingering self.new.stage }
         ensures few { self.old.drained ≤ 65536 → self.new.drained ≤ 65536 }
         // Each byte that is taken of the peer is counted.

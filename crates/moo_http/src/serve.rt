@@ -90,7 +90,7 @@ pub fn serve_one<S: Alter + Drop, R: Incoming, W: Write>(
     ensures unwritten { IfErr result (λ fault. fault ≢ ServeFault.Write → writer.new ≡ writer.old) }
     // The fault is Read only if the reader failed, at its last read, and then the World isn't asked.
     ensures unread { IfErr result (λ fault. fault ≡ ServeFault.Read → (world.new ≡ world.old) × HasFailed R.fails reader.new) }
-    // After a refusal the note says that the connection is to be closed gently.
+    // If the answer is a refusal, and all of it is written, the note says that the connection is to be closed gently.
     ensures gentle { OnOk result (ClosesGently (R.remaining reader.old) (R.remaining reader.new) note.new.closing) }
 {
     match read_request(means.alloc, means.routes, reader)? {
