@@ -40,7 +40,7 @@ module _ {R W : Type 0} where
   abbrev pub held_of : Leaving R W → ℕ
   held_of it = unsent_at it.stage (length it.writer.text.items - it.writer.sent)
 
-  -- how many bytes of an answer are still to be sent, of the one with the most
+  -- the most bytes that are still to be sent of one answer
   abbrev pub largest_of : List (Leaving R W) → ℕ
   largest_of [] = 0
   largest_of (it ∷ others) = max (held_of it) (largest_of others)

@@ -99,7 +99,7 @@ impl<'a, G: Gate + Drop, C: Clock> Desk<'a, G, C> {
     /// Asks the gate for the next connection, and holds it. Nobody if none is there, or the system has no room for one; Lost if the gate
     /// failed, or memory ran out.
     fn take_one(&mut self, now: Duration) -> Took
-        // Each connection that the gate gives comes to be held, but for one at most that is lost; and none is unless the result is Lost.
+        // Each connection that the gate gives comes to be held, but for one at most that is lost. None is lost unless the result is Lost.
         ensures one { Admits 1 (book_of self.old.held, G.gave self.old.gate) (book_of self.new.held, G.gave self.new.gate) }
         ensures none { result ≢ Took.Lost →
             Admits 0 (book_of self.old.held, G.gave self.old.gate) (book_of self.new.held, G.gave self.new.gate) }
@@ -129,7 +129,7 @@ impl<'a, G: Gate + Drop, C: Clock> Desk<'a, G, C> {
     /// held, one of them is ended for it, and none is taken if none can be. While a whole request waits to be judged none is taken, so that
     /// whoever came first is judged first.
     fn take_next(&mut self, left: usize, now: Duration) -> Took
-        // Each connection that the gate gives comes to be held, but for one at most that is lost; and none is unless the result is Lost.
+        // Each connection that the gate gives comes to be held, but for one at most that is lost. None is lost unless the result is Lost.
         ensures one { Admits 1 (book_of self.old.held, G.gave self.old.gate) (book_of self.new.held, G.gave self.new.gate) }
         ensures none { result ≢ Took.Lost →
             Admits 0 (book_of self.old.held, G.gave self.old.gate) (book_of self.new.held, G.gave self.new.gate) }
@@ -185,7 +185,7 @@ impl<'a, G: Gate + Drop, C: Clock> Desk<'a, G, C> {
 
     /// Waits until the gate tells of a change, but no longer than `patience` says.
     fn pause(&mut self, now: Duration)
-        // No connection comes. Requests may be gathered on, and answers sent on; one goes only once its answer was sent, or its loss noted.
+        // No connection comes; more may be gathered and sent. A connection goes only once all of its answer was sent, or its loss noted.
         ensures all { Goes self.old.held self.new.held }
         // The gate gives no connection.
         ensures gate { G.gave self.new.gate ≡ G.gave self.old.gate }
@@ -198,7 +198,7 @@ impl<'a, G: Gate + Drop, C: Clock> Desk<'a, G, C> {
 
     /// Waits as `pause` does, unless something changed in this round.
     fn pause_unless(&mut self, changed: bool, now: Duration)
-        // No connection comes. Requests may be gathered on, and answers sent on; one goes only once its answer was sent, or its loss noted.
+        // No connection comes; more may be gathered and sent. A connection goes only once all of its answer was sent, or its loss noted.
         ensures all { Goes self.old.held self.new.held }
         // The gate gives no connection.
         ensures gate { G.gave self.new.gate ≡ G.gave self.old.gate }
@@ -211,7 +211,7 @@ impl<'a, G: Gate + Drop, C: Clock> Desk<'a, G, C> {
 
     /// Waits for `most` at most until the gate tells of a change. The next round looks at the connections whose marks it told.
     fn wait(&mut self, most: Duration)
-        // No connection comes. Requests may be gathered on, and answers sent on; one goes only once its answer was sent, or its loss noted.
+        // No connection comes; more may be gathered and sent. A connection goes only once all of its answer was sent, or its loss noted.
         ensures all { Goes self.old.held self.new.held }
         // The gate gives no connection.
         ensures gate { G.gave self.new.gate ≡ G.gave self.old.gate }
@@ -228,7 +228,7 @@ impl<'a, G: Gate + Drop, C: Clock> Desk<'a, G, C> {
 
     /// Has the next round look at the connections whose marks the last wait told, and ask the gate for a connection if it told `NEWS`.
     fn wake_told(&mut self)
-        // No connection comes. Requests may be gathered on, and answers sent on; one goes only once its answer was sent, or its loss noted.
+        // No connection comes; more may be gathered and sent. A connection goes only once all of its answer was sent, or its loss noted.
         ensures all { Goes self.old.held self.new.held }
         ensures gate { self.new.gate ≡ self.old.gate }
         ensures told { self.new.told ≡ self.old.told }
@@ -242,7 +242,7 @@ impl<'a, G: Gate + Drop, C: Clock> Desk<'a, G, C> {
     /// Asks the gate what may have changed, without waiting, if it was asked over 1 millisecond ago or 8 connections were handed out since.
     /// So nobody waits for long though some requests are always whole.
     fn ask_if_due(&mut self, now: Duration)
-        // No connection comes. Requests may be gathered on, and answers sent on; one goes only once its answer was sent, or its loss noted.
+        // No connection comes; more may be gathered and sent. A connection goes only once all of its answer was sent, or its loss noted.
         ensures all { Goes self.old.held self.new.held }
         // The gate gives no connection.
         ensures gate { G.gave self.new.gate ≡ G.gave self.old.gate }
@@ -260,12 +260,12 @@ impl<'a, G: Gate + Drop, C: Clock> Desk<'a, G, C> {
     /// Has the next round look at each connection, though nothing was told of it, and ask the gate for one, if it last did so a period
     /// ago or more.
     fn sweep(&mut self, now: Duration)
-        // No connection comes. Requests may be gathered on, and answers sent on; one goes only once its answer was sent, or its loss noted.
+        // No connection comes; more may be gathered and sent. A connection goes only once all of its answer was sent, or its loss noted.
         ensures all { Goes self.old.held self.new.held }
         // The gate gives no connection.
         ensures gate { G.gave self.new.gate ≡ G.gave self.old.gate }
-        // From a period on each request that is gathered and each answer that is sent is due, and the gate is asked. Before that nothing
-        // changes.
+        // From a period on each request that is gathered and each answer that is sent is due, and a connection may be at the gate. Before
+        // that nothing changes.
         ensures sweeps { period_of self.old.held.leaving.items ≤ as_nanos now - as_nanos self.old.swept →
             (self.new.swept ≡ now) × (self.new.has_news ≡ true)
             × Each (IsWokenFor (λ _. ⊤)) self.old.held.slots.items self.new.held.slots.items
@@ -281,7 +281,7 @@ impl<'a, G: Gate + Drop, C: Clock> Desk<'a, G, C> {
 
     /// Asks the gate what may have changed, and has the next round look at each connection, if either is due.
     fn listen(&mut self, now: Duration)
-        // No connection comes. Requests may be gathered on, and answers sent on; one goes only once its answer was sent, or its loss noted.
+        // No connection comes; more may be gathered and sent. A connection goes only once all of its answer was sent, or its loss noted.
         ensures all { Goes self.old.held self.new.held }
         // The gate gives no connection.
         ensures gate { G.gave self.new.gate ≡ G.gave self.old.gate }
@@ -293,7 +293,7 @@ impl<'a, G: Gate + Drop, C: Clock> Desk<'a, G, C> {
     /// One round, without waiting: takes a connection from the gate, gathers requests, gives up an answer if too much of answers is held,
     /// and sends answers. It tells what came of taking a connection, and whether anything was gathered, sent or let go.
     fn go_round(&mut self, routes: &Routes, left: u32, now: Duration) -> (Took, bool)
-        // Each connection that the gate gives comes to be held, but for one at most that is lost; and none is unless the result is Lost.
+        // Each connection that the gate gives comes to be held, but for one at most that is lost. None is lost unless the result is Lost.
         ensures one { Admits 1 (book_of self.old.held, G.gave self.old.gate) (book_of self.new.held, G.gave self.new.gate) }
         ensures none { result.0 ≢ Took.Lost →
             Admits 0 (book_of self.old.held, G.gave self.old.gate) (book_of self.new.held, G.gave self.new.gate) }
@@ -309,7 +309,7 @@ impl<'a, G: Gate + Drop, C: Clock> Desk<'a, G, C> {
     /// Sends what can be sent of an answer at once, and holds its connection until all of it is sent, or it is lost. If memory runs out it
     /// is lost, and that is noted.
     fn hold(&mut self, mut leaving: Leaving<G::Reader, G::Writer>, now: Duration)
-        // As if the desk had held this connection before: it goes only once all of its answer was sent, or its loss is noted.
+        // As if the desk had held this connection before: no other comes, and each goes only once its answer was sent, or its loss noted.
         ensures all { Keep 0 (with_back (book_of self.old.held) leaving) (book_of self.new.held) }
         // The gate gives no connection.
         ensures gate { G.gave self.new.gate ≡ G.gave self.old.gate }
@@ -334,7 +334,7 @@ impl<'a, G: Gate + Drop, C: Clock> Desk<'a, G, C> {
     /// Sends until each answer that is held is sent or lost. After 2^64 - 1 rounds, which no system gets to, the answers that are still
     /// held are given up.
     fn send_out(&mut self)
-        // No connection comes. Requests may be gathered on, and answers sent on; one goes only once its answer was sent, or its loss noted.
+        // No connection comes; more may be gathered and sent. A connection goes only once all of its answer was sent, or its loss noted.
         ensures all { Goes self.old.held self.new.held }
         // The gate gives no connection.
         ensures gate { G.gave self.new.gate ≡ G.gave self.old.gate }

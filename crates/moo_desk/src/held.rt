@@ -94,7 +94,7 @@ impl<R: Inward + OpenStream + Drop, W: Outward + OpenStream + Drop> Held<R, W> {
     /// If more than 64 connections are held, ends one that lingers, or else the oldest unfinished request that may be ended, or else none.
     /// `now` is the time of the monotonic clock.
     pub fn shed(&mut self, now: Duration)
-        // No connection comes. Requests may be gathered on, and answers sent on; one goes only once its answer was sent, or its loss noted.
+        // No connection comes; more may be gathered and sent. A connection goes only once all of its answer was sent, or its loss noted.
         ensures all { Goes self.old self.new }
         // While 64 at most are held none is ended.
         ensures few { count_of self.old ≤ MOST → self.new ≡ self.old }
@@ -115,7 +115,7 @@ impl<R: Inward + OpenStream + Drop, W: Outward + OpenStream + Drop> Held<R, W> {
 
     /// Gives up the answer at this place of `leaving`, if there is one, since another connection needs the room.
     fn cut_answer(&mut self, place: usize)
-        // No connection comes. Requests may be gathered on, and answers sent on; one goes only once its answer was sent, or its loss noted.
+        // No connection comes; more may be gathered and sent. A connection goes only once all of its answer was sent, or its loss noted.
         ensures all { Goes self.old self.new }
         ensures slots { self.new.slots ≡ self.old.slots }
         // The answer at this place is given up as crowded out, and the others stay.
@@ -129,7 +129,7 @@ impl<R: Inward + OpenStream + Drop, W: Outward + OpenStream + Drop> Held<R, W> {
     /// Gives up the request at this place of `slots`, if it may be ended, since another connection needs the room. It isn't read any more,
     /// and is to be handed out.
     fn cut_request(&mut self, place: usize, now: Duration)
-        // No connection comes. Requests may be gathered on, and answers sent on; one goes only once its answer was sent, or its loss noted.
+        // No connection comes; more may be gathered and sent. A connection goes only once all of its answer was sent, or its loss noted.
         ensures all { Goes self.old self.new }
         // When each request came stays; when bytes of it came last, and `looked`, stay or become `now`.
         ensures times { Each (IsTimed now) self.old.slots.items self.new.slots.items }
@@ -146,7 +146,7 @@ impl<R: Inward + OpenStream + Drop, W: Outward + OpenStream + Drop> Held<R, W> {
     /// Steps each connection whose request was judged and that is due, and lets go of those that are over; whether anything went, came or
     /// was let go. `now` is the time of the monotonic clock.
     pub fn send_all(&mut self, now: Duration) -> bool
-        // No connection comes. Requests may be gathered on, and answers sent on; one goes only once its answer was sent, or its loss noted.
+        // No connection comes; more may be gathered and sent. A connection goes only once all of its answer was sent, or its loss noted.
         ensures { Goes self.old self.new }
     {
         let mut changed = turn_leaving(&mut self.leaving, now);
@@ -161,7 +161,7 @@ impl<R: Inward + OpenStream + Drop, W: Outward + OpenStream + Drop> Held<R, W> {
 
     /// Lets go of the first connection that is over, and notes the loss of its answer if it was lost; whether one was over.
     fn end_one(&mut self) -> bool
-        // No connection comes. Requests may be gathered on, and answers sent on; one goes only once its answer was sent, or its loss noted.
+        // No connection comes; more may be gathered and sent. A connection goes only once all of its answer was sent, or its loss noted.
         ensures { Goes self.old self.new }
     {
         let Some(place) = self.leaving.iter().position(|it| it.is_over()) else {
@@ -191,7 +191,7 @@ impl<R: Inward + OpenStream + Drop, W: Outward + OpenStream + Drop> Held<R, W> {
     /// Gives up each connection whose request was judged, and holds none of them after that. What its peer hasn't got of its answer is
     /// lost, for the cause Late.
     pub fn give_up_all(&mut self)
-        // No connection comes. Requests may be gathered on, and answers sent on; one goes only once its answer was sent, or its loss noted.
+        // No connection comes; more may be gathered and sent. A connection goes only once all of its answer was sent, or its loss noted.
         ensures all { Goes self.old self.new }
         // No answer is held any more.
         ensures none { self.new.leaving.items ≡ [] }
@@ -250,7 +250,7 @@ impl<R: Inward + OpenStream + Drop, W: Outward + OpenStream + Drop> Held<R, W> {
     /// Gathers what is there of each request that is due, or of the first unfinished one alone while 32 MiB of requests or more are
     /// gathered; whether anything changed.
     pub fn gather(&mut self, routes: &Routes, now: Duration) -> bool
-        // No connection comes. Requests may be gathered on, and answers sent on; one goes only once its answer was sent, or its loss noted.
+        // No connection comes; more may be gathered and sent. A connection goes only once all of its answer was sent, or its loss noted.
         ensures all { Goes self.old self.new }
 
         // Each request that is due is read, or is to be handed out after this; from 32 MiB on only those up to the first unfinished one.
@@ -263,7 +263,7 @@ impl<R: Inward + OpenStream + Drop, W: Outward + OpenStream + Drop> Held<R, W> {
 
     /// Has the next round look at each connection that has this mark.
     pub fn wake_at(&mut self, mark: usize)
-        // No connection comes. Requests may be gathered on, and answers sent on; one goes only once its answer was sent, or its loss noted.
+        // No connection comes; more may be gathered and sent. A connection goes only once all of its answer was sent, or its loss noted.
         ensures all { Goes self.old self.new }
         // Each request with this mark is due, and those that were due stay so.
         ensures wakes { Each (IsWokenFor (λ it. it ≡ mark)) self.old.slots.items self.new.slots.items }
@@ -276,7 +276,7 @@ impl<R: Inward + OpenStream + Drop, W: Outward + OpenStream + Drop> Held<R, W> {
 
     /// Has the next round look at each connection.
     pub fn wake_all(&mut self)
-        // No connection comes. Requests may be gathered on, and answers sent on; one goes only once its answer was sent, or its loss noted.
+        // No connection comes; more may be gathered and sent. A connection goes only once all of its answer was sent, or its loss noted.
         ensures all { Goes self.old self.new }
         // Each request is due.
         ensures wakes { Each (IsWokenFor (λ _. ⊤)) self.old.slots.items self.new.slots.items }
@@ -290,7 +290,7 @@ impl<R: Inward + OpenStream + Drop, W: Outward + OpenStream + Drop> Held<R, W> {
     /// While 32 MiB of answers or more are held beside the largest, and a request is to be handed out, gives up the first answer of which
     /// its peer took nothing for over 1 second.
     pub fn relieve(&mut self, now: Duration)
-        // No connection comes. Requests may be gathered on, and answers sent on; one goes only once its answer was sent, or its loss noted.
+        // No connection comes; more may be gathered and sent. A connection goes only once all of its answer was sent, or its loss noted.
         ensures all { Goes self.old self.new }
         // No request changes.
         ensures slots { self.new.slots ≡ self.old.slots }

@@ -162,8 +162,8 @@ fn serve_each<'a, S: Alter + Drop, A: Arrivals, C: Clock + Eprint>(
 }
 
 /// Serves this many connections of a source, one after another: how many were answered, and how many failed, since they couldn't be
-/// taken, their waits had no limit, `serve_one` met a fault, or the answer was lost after that. None that failed stops the next. The log
-/// is told of each.
+/// taken, their waits had no limit, `serve_one` met a fault, or the answer was lost after that. A failure doesn't stop the next one. The
+/// log is told of each.
 pub fn serve_on<'a, S: Alter + Drop, A: Arrivals, C: Clock + Eprint>(
     means: &Means<'_>,
     arrivals: &mut A,

@@ -92,7 +92,8 @@ fn route_of(asked: &Asked) -> Route {
     }
 }
 
-/// How a connection is closed after its answer: gently after a refusal, which may leave a part of the request unread, else if more came.
+/// How a connection is closed after its answer: gently after a refusal, which may leave a part of the request unread, else only if bytes
+/// came beyond it.
 fn closing_after(asked: &Asked) -> Closing
     ensures { (refusal : Refusal) → asked.now ≡ Asked.Refused refusal → result ≡ Closing.Gently }
 {

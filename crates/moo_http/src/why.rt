@@ -152,7 +152,8 @@ pub(crate) fn answer_with_whys(
     inquiry: &Inquiry,
     outcome: RequestOutcome,
 ) -> Result<Vec<u8>, AllocError>
-    // Each reply that refuses is told with the first refusal that was seen and not told yet, or none is; and none if that wasn't asked.
+    // The bytes are the answer to the outcome. Each reply that refuses is told with the first refusal that was seen and not told yet, or no
+    // sentence is told, as if that wasn't asked.
     ensures { IfOk result (λ bytes. (whys : List (Option (List ℕ))) × (inquiry.now.asks_why ≡ false → whys ≡ [])
         × (bytes.items ≡ response_text inquiry.now.is_head (response_with inquiry.now.asks_why whys outcome))
         × IsToldWith seen.old.seen.items outcome whys) }
