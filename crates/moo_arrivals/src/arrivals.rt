@@ -10,7 +10,7 @@ use std::io::Write;
 pub struct Connection<R, W> {
     pub reader: R,
     pub writer: W,
-    /// Whether a read or a write ends after a while if the peer is silent.
+    /// No read or write of it waits without end for a silent peer.
     pub is_limited: bool,
     /// Why it fails, if its request can't be read to its end.
     pub cause: Cause,
@@ -58,7 +58,7 @@ pub trait Arrivals {
     ) -> Option<Connection<Self::Reader, Self::Writer>>
         ensures { hands_out self.old result self.new };
 
-    /// Takes back a connection that asked for this route, to be closed once its answer is sent.
+    /// Takes back a connection that asked for this route, to be closed in this way once its answer is sent.
     fn close(
         &mut self,
         connection: Connection<Self::Reader, Self::Writer>,

@@ -80,13 +80,13 @@ text_word (Ask batches) = Some batches.now
 text_word (Load dump) = Some dump.now
 text_word action = None
 
--- how it runs batches, if it runs any
+-- how an action runs batches, if it runs any
 abbrev pub options_of : Action → Option Options
 options_of (Apply batches) = Some batches.options
 options_of (Rehearse batches) = Some batches.options
 options_of action = None
 
--- what it is told, if it is a service
+-- what `serve` is told, if that is the action
 abbrev pub service_of : Action → Option Service
 service_of (Serve service) = Some service
 service_of action = None

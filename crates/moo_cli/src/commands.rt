@@ -75,7 +75,7 @@ fn new_command<'a>(alloc: Global, name: &'a str, about: &'a str, more: &'a str) 
     Command::new(alloc, name).about(about).after_help(more)
 }
 
-/// A command of a file. AllocError if memory runs out, as in each function below.
+/// A command of a file. AllocError if memory runs out.
 fn file_command<'a>(
     alloc: Global,
     name: &'a str,
@@ -89,7 +89,7 @@ fn file_command<'a>(
     new_command(alloc, name, about, more).arg(text_arg(alloc, "FILE", help::FILE))
 }
 
-/// A command of a file and one more text, an argument of this name.
+/// A command of a file and one more text, an argument of this name. AllocError if memory runs out.
 fn text_command<'a>(
     alloc: Global,
     name: &'a str,
@@ -105,7 +105,7 @@ fn text_command<'a>(
     file_command(alloc, name, about, more)?.arg(text_arg(alloc, id, text))
 }
 
-/// A command of a file and batches.
+/// A command of a file and batches. AllocError if memory runs out.
 fn batches_command<'a>(
     alloc: Global,
     name: &'a str,
@@ -119,7 +119,7 @@ fn batches_command<'a>(
     text_command(alloc, name, about, more, "BATCHES", help::BATCHES)
 }
 
-/// A command of a file and batches that may stop.
+/// A command of a file and batches that may stop. AllocError if memory runs out.
 fn running_command<'a>(
     alloc: Global,
     name: &'a str,
@@ -133,7 +133,7 @@ fn running_command<'a>(
     batches_command(alloc, name, about, more)?.arg(flag_arg(alloc, "stop", help::STOP))
 }
 
-/// The command `load`, of a file and a dump.
+/// The command `load`, of a file and a dump. AllocError if memory runs out.
 fn load_command<'a>(alloc: Global) -> Result<Command<'a>, AllocError>
     ensures shape { IfOk result (λ command. app_of command ≡ with_rule (file_app (codes "load")) (text_rule (codes "DUMP"))) }
     // No argument of it is one of the commands below it too.
@@ -149,7 +149,7 @@ fn load_command<'a>(alloc: Global) -> Result<Command<'a>, AllocError>
     )
 }
 
-/// The command `serve`, of a file, a port, how many connections are served, and how many ticks a request has.
+/// The command `serve`, of a file, a port, how many connections it serves, and how many ticks a request has. AllocError if memory runs out.
 fn serve_command<'a>(alloc: Global) -> Result<Command<'a>, AllocError>
     ensures shape { IfOk result (λ command. app_of command ≡ serve_app) }
     // No argument of it is one of the commands below it too.
@@ -184,7 +184,7 @@ fn program<'a>(alloc: Global) -> Command<'a>
         .subcommand_required(true)
 }
 
-/// The program with all its commands.
+/// The program with all its commands. AllocError if memory runs out.
 pub(crate) fn moo_command<'a>(alloc: Global) -> Result<Command<'a>, AllocError>
     ensures { IfOk result (λ command. app_of command ≡ moo_app) }
 {

@@ -166,7 +166,7 @@ fn batches_in<'a>(matches: &ArgMatches<'a>) -> Option<Batches<'a>>
 
 /// The action of a command that reads a text of batches or a dump. None if the name is that of another command, or no text is named.
 fn text_action_in<'a>(name: &str, matches: &ArgMatches<'a>) -> Option<Action<'a>>
-    // None only if no action that reads a text is that of the command's name and arguments.
+    // The action reads a text, and is that of the command's name and arguments. None only if there is no such action.
     ensures { IsAny (λ action. (name.now ≡ command_of action) × HasArguments (rows_of (found_of matches.now)) action
         × (is_some (text_word action) ≡ true)) result }
 {
@@ -187,8 +187,8 @@ fn text_action_in<'a>(name: &str, matches: &ArgMatches<'a>) -> Option<Action<'a>
     }
 }
 
-/// The action of a command, by its name and its arguments. None if the program has no such command, or an argument is missing or isn't such
-/// a number.
+/// The action of a command, by its name and its arguments. None if the program has no such command, or an argument is missing, or isn't a
+/// number within its bounds.
 fn action_in<'a>(name: &str, matches: &ArgMatches<'a>) -> Option<Action<'a>>
     ensures { IsAny (λ action. (name.now ≡ command_of action) × HasArguments (rows_of (found_of matches.now)) action) result }
 {
@@ -206,7 +206,7 @@ fn action_in<'a>(name: &str, matches: &ArgMatches<'a>) -> Option<Action<'a>>
     }
 }
 
-/// The task that the command and its arguments are. None if no command is named, or an argument is missing or isn't such a number.
+/// The task that the command and its arguments are. None if no command is named, or an argument is missing, or isn't within its bounds.
 fn task_in<'a>(matches: &ArgMatches<'a>) -> Option<Task<'a>>
     ensures { IsAny (λ task. (found : Text × List Row) × (subcommand_rows_of matches.now ≡ Some found) × IsTask found task) result }
 {

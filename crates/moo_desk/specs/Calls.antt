@@ -26,7 +26,7 @@ pub data SocketCall (K R W : Type 0) : Type 0 where
 abbrev pub IsNoFile : Error → Type 0
 IsNoFile error = (raw_os_error error ≡ Some (pos 24)) ⊎ (raw_os_error error ≡ Some (pos 23))
 
--- what is said if none could be accepted: nobody is there, or the system has no room for one, or one is lost
+-- what a gate says if none could be accepted, by the error: nobody is there, the system has no room for one, or one is lost
 abbrev pub SaysWhy : {R W : Type 0} → Error → Taken R W → Type 0
 SaysWhy error (Came from to is_limited) = ⊥
 SaysWhy error Nobody = error_kind error ≡ WouldBlock
@@ -37,12 +37,12 @@ SaysWhy error Failed = (error_kind error ≢ WouldBlock) × ¬ (IsNoFile error)
 abbrev pub marks_of : List Event → List ℕ
 marks_of events = map (λ event. (event_token event).0) events
 
--- bytes are waited for, and, if so, that more can be written
+-- an interest in bytes that come and, if `writes`, in room for more to write
 abbrev pub IsFor : Bool → Interest → Type 0
 IsFor writes interest = (is_readable interest ≡ true) × (is_writable interest ≡ writes)
 
 module _ {S K R W : Type 0} (does : S → SocketCall K R W → S → Type 0) where
-  -- A source is registered under this mark, for bytes and, if so, for room to write. It is watched then, or isn't.
+  -- A source is registered under this mark, for bytes and, if `writes`, for room to write. It is watched then, or isn't.
   abbrev pub Watches : ℤ → ℕ → Bool → Bool → S → S → Type 0
   Watches number mark writes did old new = (interest : Interest) × IsFor writes interest × does old (registers number mark interest did) new
 
@@ -52,7 +52,7 @@ module _ {S K R W : Type 0} (does : S → SocketCall K R W → S → Type 0) whe
       × (((did ≡ true) × does old (reregisters number mark interest true) new)
       ⊎ ((between : S) × does old (reregisters number mark interest false) between × does between (registers number mark interest did) new))
 
-  -- One is asked for, unless one was taken since the last wait. Then the listener is watched anew; if it can't be, one is asked for.
+  -- The gate may ask for a connection: none was taken since the last wait, or the listener couldn't be watched anew.
   abbrev pub Asks : ℤ → Bool → S → S → Type 0
   Asks listener has_taken old new = ((has_taken ≡ false) × (new ≡ old)) ⊎ ((has_taken ≡ true) × WatchesAnew listener NEWS false false old new)
 

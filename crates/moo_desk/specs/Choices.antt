@@ -27,24 +27,25 @@ module _ {R W : Type 0} where
   abbrev pub IsLingering : Leaving R W → Type 0
   IsLingering it = it.stage ≡ Lingering
 
-  -- its answer is held, and its peer took nothing of it for a while
+  -- its answer is still being sent, and its peer took nothing of it for over 1 second
   abbrev pub IsStuck : Duration → Leaving R W → Type 0
   IsStuck now it = (it.stage ≡ Sending) × IsLonger (STALL * 1_000_000_000) it.moved now
 
-  -- it is at its stage for longer than a peer is waited for
+  -- it came to its stage longer ago than its patience: 60 seconds and one for each million bytes of an answer that is sent, or 1 second in
+  -- which a peer is listened to
   abbrev pub IsLate : Duration → Leaving R W → Type 0
   IsLate now it = IsLonger (patience_of it.stage (length it.writer.text.items) * 1_000_000_000) it.since now
 
-  -- how many bytes of its answer are held
+  -- how many bytes of its answer are still to be sent
   abbrev pub held_of : Leaving R W → ℕ
   held_of it = unsent_at it.stage (length it.writer.text.items - it.writer.sent)
 
-  -- how many bytes of the largest answer are held
+  -- the most bytes that are still to be sent of one answer
   abbrev pub largest_of : List (Leaving R W) → ℕ
   largest_of [] = 0
   largest_of (it ∷ others) = max (held_of it) (largest_of others)
 
-  -- how many bytes of answers are held beside the largest, as far as they can be counted
+  -- how many bytes of answers are still to be sent beside the largest, of at most 2^64 - 1 in all
   abbrev pub answers_of : List (Leaving R W) → ℕ
   answers_of leaving = min (sum_by held_of leaving) (2 ^ 64 - 1) - largest_of leaving
 
@@ -71,11 +72,11 @@ module _ {R W : Type 0}
   abbrev pub HasNoSpare : Duration → Held R W inward incoming reader outward writer → Type 0
   HasNoSpare now held = HoldsOfNone IsLingering held.leaving.items × HoldsOfNone (IsEndable now) held.slots.items
 
-  -- one is to be handed out: a request is whole, and not too much of answers is held
+  -- a request is whole, or nothing more of it comes, and less than 32 MiB of answers are held beside the largest
   abbrev pub HasWhole : Held R W inward incoming reader outward writer → Type 0
   HasWhole held = (answers_of held.leaving.items < BUDGET) × ¬ (HoldsOfNone IsReady held.slots.items)
 
-  -- Too much of answers is held, and a request is whole.
+  -- 32 MiB of answers or more are held beside the largest, and a request is whole, or nothing more of it comes.
   abbrev pub IsPressed : Held R W inward incoming reader outward writer → Type 0
   IsPressed held = (BUDGET ≤ answers_of held.leaving.items) × ¬ (HoldsOfNone IsReady held.slots.items)
 
@@ -83,20 +84,22 @@ module _ {R W : Type 0}
   abbrev pub IsCrowdedOut : Slot R W inward incoming reader outward writer → Slot R W inward incoming reader outward writer → Type 0
   IsCrowdedOut old new = (new.rests ≡ true) × (new.reader.coming ≡ Unread) × (new.cause ≡ Crowded)
 
-  -- A connection that lingers is let go, or else the oldest unfinished request that may be given up is, or else nothing changes.
+  -- The first connection that lingers becomes `Done`, or else the oldest unfinished request that may be ended is given up, or else nothing
+  -- changes.
   abbrev pub EndsOne : Duration → Held R W inward incoming reader outward writer → Held R W inward incoming reader outward writer → Type 0
   EndsOne now old new =
       (TurnsFirst IsLingering (λ _ it. it.stage ≡ Done) old.leaving.items new.leaving.items × (new.slots ≡ old.slots))
       ⊎ (HoldsOfNone IsLingering old.leaving.items × (new.leaving ≡ old.leaving)
       × (TurnsFirst (IsEndable now) IsCrowdedOut old.slots.items new.slots.items ⊎ (HoldsOfNone (IsEndable now) old.slots.items × (new.slots ≡ old.slots))))
 
-  -- If too much of answers is held and a request is whole, the first answer that is stuck is given up, if one is. Else nothing changes.
+  -- If too much of answers is held and a request waits (`IsPressed`), the first answer that is stuck is given up, if one is. Else nothing
+  -- changes.
   abbrev pub Relieves : Duration → Held R W inward incoming reader outward writer → Held R W inward incoming reader outward writer → Type 0
   Relieves now old new =
       (IsPressed old × TurnsFirst (IsStuck now) (λ _ it. it.stage ≡ Lost Crowded) old.leaving.items new.leaving.items)
       ⊎ (((¬ (IsPressed old)) ⊎ HoldsOfNone (IsStuck now) old.leaving.items) × (new ≡ old))
 
-  -- For how many nanoseconds a request that came then can't be ended yet.
+  -- For how many nanoseconds from now on a request can't be ended yet: until 201 milliseconds after it came.
   abbrev pub spared_for : Duration → Slot R W inward incoming reader outward writer → ℕ
   spared_for now slot = (GRACE + 1) * 1_000_000 - (as_nanos now - as_nanos slot.since)
 

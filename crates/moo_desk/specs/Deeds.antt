@@ -79,7 +79,8 @@ module _ {R W : Type 0}
     pub after : After deeds old new
     pub count : count_taken deeds ≡ came
 
-  -- nothing happened to what a desk holds but deeds, and no connection came
+  -- No connection came. More may have been gathered of requests and sent of answers; a connection went only once all of its answer was
+  -- sent, or its loss was noted, once.
   abbrev pub Goes : Held R W inward incoming reader outward writer → Held R W inward incoming reader outward writer → Type 0
   Goes old new = Keep 0 (book_of old) (book_of new)
 

@@ -42,16 +42,16 @@ module _ {R W : Type 0}
     pub ripe : ∥ IsRipe it.is_limited it.reader.coming it.reader.bytes.items ∥₁
     pub peer : inward.peer it.reader.reader ≡ outward.peer it.writer.writer
 
-  -- The first connection that is to be handed out, in the order in which they came, isn't held any more; or there is none, and nothing
-  -- changed.
+  -- The first connection that is to be handed out, in the order in which they came, isn't held any more; or none is taken, and nothing
+  -- changes.
   abbrev pub TakesSlot : Book (Slot R W inward incoming reader outward writer) R W
       → Option (Slot R W inward incoming reader outward writer) → Book (Slot R W inward incoming reader outward writer) R W → Type 0
   TakesSlot old None new = new ≡ old
   TakesSlot old (Some slot) new =
       TakesOutFirst IsReady old.slots slot new.slots × (new.leaving ≡ old.leaving) × (new.losses ≡ old.losses)
 
-  -- A connection is handed out, and isn't held any more; all others are that the gate gave. If none is handed out one of these at most
-  -- was lost as it came. With what the desk holds is how many connections its gate gave by then.
+  -- A connection is handed out, and isn't held any more; each that the gate gave came to be held, but if none is handed out one at most was
+  -- lost as it came. With what the desk holds is how many connections its gate gave by then.
   abbrev pub Hands : Held R W inward incoming reader outward writer × ℕ → Option (Connection (Gathered R) (Outgoing W))
       → Held R W inward incoming reader outward writer × ℕ → Type 0
   Hands old None new = Admits 1 (book_of old.0, old.1) (book_of new.0, new.1)
@@ -59,12 +59,12 @@ module _ {R W : Type 0}
       (slot : Slot R W inward incoming reader outward writer) × (between : Book (Slot R W inward incoming reader outward writer) R W)
       × Admits 0 (book_of old.0, old.1) (between, new.1) × TakesSlot between (Some slot) (book_of new.0) × IsHandedOut slot it
 
-  -- this one is held too
+  -- the book with this connection after those that were judged
   abbrev pub with_back : Book (Slot R W inward incoming reader outward writer) R W → Leaving R W
       → Book (Slot R W inward incoming reader outward writer) R W
   with_back book it = record { slots = book.slots; leaving = book.leaving ++ it ∷ []; losses = book.losses }
 
-  -- A connection is given back, to be closed so. None comes, and the gate gives none.
+  -- A connection is given back with its route, to be closed in this way. No other comes, and the gate gives none.
   abbrev pub GetsBack : Held R W inward incoming reader outward writer × ℕ → Connection (Gathered R) (Outgoing W) → Closing → Route
       → Held R W inward incoming reader outward writer × ℕ → Type 0
   GetsBack old given closing route new =
@@ -75,7 +75,7 @@ module _ {R W : Type 0}
       → Held R W inward incoming reader outward writer × ℕ → Type 0
   TakesBack old given new = (closing : Closing) × (route : Route) × GetsBack old given closing route new
 
-  -- A loss that was noted is told of, or none if none is noted. None comes, and the gate gives none.
+  -- A loss that was noted is told of, or none if none is noted. No connection comes, and the gate gives none.
   abbrev pub TellsNext : Held R W inward incoming reader outward writer × ℕ → Option Loss
       → Held R W inward incoming reader outward writer × ℕ → Type 0
   TellsNext old told new =

@@ -12,7 +12,7 @@ use Rattle.moo_desk.specs.declared.outgoing.Outgoing.{Outgoing}
 use Rattle.moo_desk.specs.declared.slot.Slot.{Slot}
 use Rattle.moo_desk.specs.Stages.{MayFollow}
 
--- More of a request was gathered: whoever reads sees no difference.
+-- More of a request was gathered: the bytes gathered and not read yet, and then those that the reader still has, are the same as before.
 abbrev pub GathersOn : {R : Type 0} → Reading.Ghosts R → Gathered R → Gathered R → Type 0
 GathersOn reader old new =
     Keeps (prepend_known (drop old.at old.bytes.items) (reader.remaining old.reader))
@@ -28,7 +28,8 @@ SendsOn writer old new =
 module _ {R W : Type 0}
     {inward : Inward.Ghosts R} {incoming : Incoming.Ghosts R} {reader : Reading.Ghosts R} {outward : Outward.Ghosts W}
     {writer : Writing.Ghosts W} where
-  -- Nothing of a request changed but, at most, whether the next round looks at it. One that was to be looked at still is.
+  -- The bytes of a request, its writer, its times, its mark and its cause stay, as does whether it is to be handed out. If it was due, it
+  -- still is.
   pub record IsOnlyWoken (old new : Slot R W inward incoming reader outward writer) : Type 0 where
     pub halves : (new.reader ≡ old.reader) × (new.writer ≡ old.writer) × (new.is_limited ≡ old.is_limited)
     pub ends : (new.rests ≡ old.rests) × (new.cause ≡ old.cause)
@@ -46,7 +47,7 @@ module _ {R W : Type 0}
     pub rests : old.rests ≡ true → (new.rests ≡ true) × (new.reader ≡ old.reader) × (new.cause ≡ old.cause)
 
 -- A connection whose request was judged, and that connection later, with its answer to this peer. An answer that was sent whole isn't lost
--- later, and one that is lost isn't sent.
+-- later, and an answer that is lost stays so.
 pub record IsLater {R W : Type 0} (writer : Writing.Ghosts W) (to : W → ℤ) (old new : Leaving R W) : Type 0 where
   pub answer : SendsOn writer old.writer new.writer
   pub peer : to new.writer.writer ≡ to old.writer.writer

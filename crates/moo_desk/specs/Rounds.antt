@@ -45,8 +45,8 @@ module _ {R W : Type 0}
   abbrev pub gathered_of : List (Slot R W inward incoming reader outward writer) → ℕ
   gathered_of slots = sum_by (λ slot. length slot.reader.bytes.items) slots
 
-  -- The same request later, at the time `now`: when it came stays, bytes that come are heard at that time, and whether either is too long
-  -- ago is seen at that time, if at all.
+  -- The same request later, at the time `now`: when it came stays; when bytes of it came last becomes `now`, or stays if none came; and
+  -- `looked`, when it was last seen whether it is late, becomes `now` or stays.
   pub record IsTimed (now : Duration) (old new : Slot R W inward incoming reader outward writer) : Type 0 where
     pub since : new.since ≡ old.since
     pub heard : (new.heard ≡ now) ⊎ ((new.heard ≡ old.heard) × (new.reader.bytes.items ≡ old.reader.bytes.items))
@@ -56,8 +56,7 @@ module _ {R W : Type 0}
   abbrev pub IsEndable : Duration → Slot R W inward incoming reader outward writer → Type 0
   IsEndable now slot = (slot.rests ≡ false) × IsLonger (GRACE * 1_000_000) slot.since now
 
-  -- Nothing changed of a request but, at most, whether the next round looks at it. It does if this holds of the request's mark, and if it
-  -- was to be looked at before.
+  -- A request stays, as `IsOnlyWoken` says. The next round looks at it if this holds of its mark, and if it was to be looked at before.
   abbrev pub IsWokenFor : (ℕ → Type 0) → Slot R W inward incoming reader outward writer
       → Slot R W inward incoming reader outward writer → Type 0
   IsWokenFor Told old new = IsOnlyWoken old new × (Told old.mark → new.is_due ≡ true)

@@ -25,7 +25,7 @@ abbrev pub period_of : {R W : Type 0} → List (Leaving R W) → ℕ
 period_of [] = PAUSE * 1_000_000
 period_of (it ∷ others) = GRACE * 1_000_000
 
--- a gate was waited for, for such a time at most, and told this
+-- a gate was waited for, at most for a time that fits, and told these marks
 abbrev pub HasWaited : {G : Type 0} → (G → Duration → List ℕ → G → Type 0) → (Duration → Type 0) → List ℕ → G → Type 0
 HasWaited {G} waits Fits told gate = (before : G) × (most : Duration) × Fits most × waits before most told gate
 
@@ -36,14 +36,15 @@ IsDueToAsk now asked turns = IsLonger (PERIOD * 1_000_000) asked now ⊎ (TURNS 
 module _ {R W : Type 0}
     {inward : Inward.Ghosts R} {incoming : Incoming.Ghosts R} {reader : Reading.Ghosts R} {outward : Outward.Ghosts W}
     {writer : Writing.Ghosts W} where
-  -- So long may be waited: not for longer than a period, nor, if no place is left, until the oldest unfinished request may be ended.
+  -- So long may be waited: no longer than a period, nor, if 64 connections are held, than until the oldest unfinished request may be ended,
+  -- unless it may be already.
   abbrev pub EndsInTime : Duration → Held R W inward incoming reader outward writer → Duration → Type 0
   EndsInTime now held most =
       (as_nanos most ≤ period_of held.leaving.items)
       × (MOST ≤ count_of held → OfFirst IsUnfinished (λ slot. (spared_for now slot ≡ 0) ⊎ (as_nanos most ≤ spared_for now slot)) held.slots.items)
 
-  -- The next connection is taken only if one may be there, fewer than so many are gathered, there is a place for it or one that can be
-  -- spared, and none is to be handed out before it.
+  -- The next connection is taken only if one may be there, fewer than so many requests are gathered, 64 connections aren't held or one of
+  -- them can be ended, and none is to be handed out before it.
   abbrev pub MayTake : ℕ → Duration → Bool → Held R W inward incoming reader outward writer → Type 0
   MayTake left now has_news held =
       (has_news ≡ true) × (length held.slots.items < left) × ((count_of held < MOST) ⊎ ¬ (HasNoSpare now held)) × ¬ (HasWhole held)
@@ -69,7 +70,7 @@ module _ {R W : Type 0}
   ComesIn now mark NoRoom took old new = (took ≡ NotOne) × (new ≡ old)
   ComesIn now mark Failed took old new = (took ≡ Lost) × (new ≡ old)
 
-  -- if more are held than may be after one came, one is ended; else none
+  -- if more than 64 connections are held, one is ended for another, if one can be; else nothing changes
   abbrev pub MakesRoom : Duration → Held R W inward incoming reader outward writer → Held R W inward incoming reader outward writer → Type 0
   MakesRoom now old new = (count_of old ≤ MOST → new ≡ old) × (MOST < count_of old → EndsOne now old new)
 

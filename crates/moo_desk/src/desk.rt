@@ -21,7 +21,7 @@ use moo_http_request::Routes;
 use std::alloc::{AllocError, Global};
 use std::time::{Clock, Duration};
 
-/// How long the desk waits at once, in milliseconds, if no connection is to be ended before.
+/// How long the desk waits at once, in milliseconds, if no answer is sent and no connection is to be ended before.
 const PAUSE: u64 = 1000;
 
 /// After how many connections that were handed out the gate is asked what may have changed, though some requests are whole.
@@ -99,7 +99,7 @@ impl<'a, G: Gate + Drop, C: Clock> Desk<'a, G, C> {
     /// Asks the gate for the next connection, and holds it. Nobody if none is there, or the system has no room for one; Lost if the gate
     /// failed, or memory ran out.
     fn take_one(&mut self, now: Duration) -> Took
-        // Each connection that the gate gave is held, but for one at most that was lost as it came. None was unless the result is Lost.
+        // Each connection that the gate gives comes to be held, but for one at most that is lost. None is lost unless the result is Lost.
         ensures one { Admits 1 (book_of self.old.held, G.gave self.old.gate) (book_of self.new.held, G.gave self.new.gate) }
         ensures none { result ≢ Took.Lost →
             Admits 0 (book_of self.old.held, G.gave self.old.gate) (book_of self.new.held, G.gave self.new.gate) }
@@ -129,7 +129,7 @@ impl<'a, G: Gate + Drop, C: Clock> Desk<'a, G, C> {
     /// held, one of them is ended for it, and none is taken if none can be. While a whole request waits to be judged none is taken, so that
     /// whoever came first is judged first.
     fn take_next(&mut self, left: usize, now: Duration) -> Took
-        // Each connection that the gate gave is held, but for one at most that was lost as it came. None was unless the result is Lost.
+        // Each connection that the gate gives comes to be held, but for one at most that is lost. None is lost unless the result is Lost.
         ensures one { Admits 1 (book_of self.old.held, G.gave self.old.gate) (book_of self.new.held, G.gave self.new.gate) }
         ensures none { result ≢ Took.Lost →
             Admits 0 (book_of self.old.held, G.gave self.old.gate) (book_of self.new.held, G.gave self.new.gate) }
@@ -185,12 +185,11 @@ impl<'a, G: Gate + Drop, C: Clock> Desk<'a, G, C> {
 
     /// Waits until the gate tells of a change, but no longer than `patience` says.
     fn pause(&mut self, now: Duration)
-        // No connection comes. More may be gathered and sent of those that are here; one goes only once its answer was sent, or the loss of
-        // it is noted, once.
+        // No connection comes; more may be gathered and sent. A connection goes only once all of its answer was sent, or its loss noted.
         ensures all { Goes self.old.held self.new.held }
         // The gate gives no connection.
         ensures gate { G.gave self.new.gate ≡ G.gave self.old.gate }
-        // The wait ends before anything is due: within a period, and once a place may be had.
+        // The gate is waited for a period at most and, if 64 connections are held, until the oldest unfinished request may be ended.
         ensures waits { HasWaited G.waits (EndsInTime now self.old.held) self.new.told.items self.new.gate }
     {
         let most = self.patience(now);
@@ -199,8 +198,7 @@ impl<'a, G: Gate + Drop, C: Clock> Desk<'a, G, C> {
 
     /// Waits as `pause` does, unless something changed in this round.
     fn pause_unless(&mut self, changed: bool, now: Duration)
-        // No connection comes. More may be gathered and sent of those that are here; one goes only once its answer was sent, or the loss of
-        // it is noted, once.
+        // No connection comes; more may be gathered and sent. A connection goes only once all of its answer was sent, or its loss noted.
         ensures all { Goes self.old.held self.new.held }
         // The gate gives no connection.
         ensures gate { G.gave self.new.gate ≡ G.gave self.old.gate }
@@ -213,12 +211,11 @@ impl<'a, G: Gate + Drop, C: Clock> Desk<'a, G, C> {
 
     /// Waits for `most` at most until the gate tells of a change. The next round looks at the connections whose marks it told.
     fn wait(&mut self, most: Duration)
-        // No connection comes. More may be gathered and sent of those that are here; one goes only once its answer was sent, or the loss of
-        // it is noted, once.
+        // No connection comes; more may be gathered and sent. A connection goes only once all of its answer was sent, or its loss noted.
         ensures all { Goes self.old.held self.new.held }
         // The gate gives no connection.
         ensures gate { G.gave self.new.gate ≡ G.gave self.old.gate }
-        // The gate was waited for, for this time at most, and its marks are kept.
+        // The gate is waited for, for this time at most, and the marks that it told are kept.
         ensures waits { HasWaited G.waits (λ it. it ≡ most) self.new.told.items self.new.gate }
         ensures turns { self.new.turns ≡ 0 }
     {
@@ -231,8 +228,7 @@ impl<'a, G: Gate + Drop, C: Clock> Desk<'a, G, C> {
 
     /// Has the next round look at the connections whose marks the last wait told, and ask the gate for a connection if it told `NEWS`.
     fn wake_told(&mut self)
-        // No connection comes. More may be gathered and sent of those that are here; one goes only once its answer was sent, or the loss of
-        // it is noted, once.
+        // No connection comes; more may be gathered and sent. A connection goes only once all of its answer was sent, or its loss noted.
         ensures all { Goes self.old.held self.new.held }
         ensures gate { self.new.gate ≡ self.old.gate }
         ensures told { self.new.told ≡ self.old.told }
@@ -246,8 +242,7 @@ impl<'a, G: Gate + Drop, C: Clock> Desk<'a, G, C> {
     /// Asks the gate what may have changed, without waiting, if it was asked over 1 millisecond ago or 8 connections were handed out since.
     /// So nobody waits for long though some requests are always whole.
     fn ask_if_due(&mut self, now: Duration)
-        // No connection comes. More may be gathered and sent of those that are here; one goes only once its answer was sent, or the loss of
-        // it is noted, once.
+        // No connection comes; more may be gathered and sent. A connection goes only once all of its answer was sent, or its loss noted.
         ensures all { Goes self.old.held self.new.held }
         // The gate gives no connection.
         ensures gate { G.gave self.new.gate ≡ G.gave self.old.gate }
@@ -262,16 +257,15 @@ impl<'a, G: Gate + Drop, C: Clock> Desk<'a, G, C> {
         }
     }
 
-    /// Has the next round look at each connection, though nothing was told of it, and ask the gate for one, if the last time is a period
-    /// ago.
+    /// Has the next round look at each connection, though nothing was told of it, and ask the gate for one, if it last did so a period
+    /// ago or more.
     fn sweep(&mut self, now: Duration)
-        // No connection comes. More may be gathered and sent of those that are here; one goes only once its answer was sent, or the loss of
-        // it is noted, once.
+        // No connection comes; more may be gathered and sent. A connection goes only once all of its answer was sent, or its loss noted.
         ensures all { Goes self.old.held self.new.held }
         // The gate gives no connection.
         ensures gate { G.gave self.new.gate ≡ G.gave self.old.gate }
-        // After a period each request that is gathered and each answer that is sent is due, and one may be at the gate. Before that
-        // nothing changes.
+        // From a period on each request that is gathered and each answer that is sent is due, and a connection may be at the gate. Before
+        // that nothing changes.
         ensures sweeps { period_of self.old.held.leaving.items ≤ as_nanos now - as_nanos self.old.swept →
             (self.new.swept ≡ now) × (self.new.has_news ≡ true)
             × Each (IsWokenFor (λ _. ⊤)) self.old.held.slots.items self.new.held.slots.items
@@ -287,8 +281,7 @@ impl<'a, G: Gate + Drop, C: Clock> Desk<'a, G, C> {
 
     /// Asks the gate what may have changed, and has the next round look at each connection, if either is due.
     fn listen(&mut self, now: Duration)
-        // No connection comes. More may be gathered and sent of those that are here; one goes only once its answer was sent, or the loss of
-        // it is noted, once.
+        // No connection comes; more may be gathered and sent. A connection goes only once all of its answer was sent, or its loss noted.
         ensures all { Goes self.old.held self.new.held }
         // The gate gives no connection.
         ensures gate { G.gave self.new.gate ≡ G.gave self.old.gate }
@@ -300,7 +293,7 @@ impl<'a, G: Gate + Drop, C: Clock> Desk<'a, G, C> {
     /// One round, without waiting: takes a connection from the gate, gathers requests, gives up an answer if too much of answers is held,
     /// and sends answers. It tells what came of taking a connection, and whether anything was gathered, sent or let go.
     fn go_round(&mut self, routes: &Routes, left: u32, now: Duration) -> (Took, bool)
-        // Each connection that the gate gave is held, but for one at most that was lost as it came. None was unless the result is Lost.
+        // Each connection that the gate gives comes to be held, but for one at most that is lost. None is lost unless the result is Lost.
         ensures one { Admits 1 (book_of self.old.held, G.gave self.old.gate) (book_of self.new.held, G.gave self.new.gate) }
         ensures none { result.0 ≢ Took.Lost →
             Admits 0 (book_of self.old.held, G.gave self.old.gate) (book_of self.new.held, G.gave self.new.gate) }
@@ -316,7 +309,7 @@ impl<'a, G: Gate + Drop, C: Clock> Desk<'a, G, C> {
     /// Sends what can be sent of an answer at once, and holds its connection until all of it is sent, or it is lost. If memory runs out it
     /// is lost, and that is noted.
     fn hold(&mut self, mut leaving: Leaving<G::Reader, G::Writer>, now: Duration)
-        // From a desk that holds this connection too only deeds lead on.
+        // As if the desk had held this connection before: no other comes, and each goes only once its answer was sent, or its loss noted.
         ensures all { Keep 0 (with_back (book_of self.old.held) leaving) (book_of self.new.held) }
         // The gate gives no connection.
         ensures gate { G.gave self.new.gate ≡ G.gave self.old.gate }
@@ -341,8 +334,7 @@ impl<'a, G: Gate + Drop, C: Clock> Desk<'a, G, C> {
     /// Sends until each answer that is held is sent or lost. After 2^64 - 1 rounds, which no system gets to, the answers that are still
     /// held are given up.
     fn send_out(&mut self)
-        // No connection comes. More may be gathered and sent of those that are here; one goes only once its answer was sent, or the loss of
-        // it is noted, once.
+        // No connection comes; more may be gathered and sent. A connection goes only once all of its answer was sent, or its loss noted.
         ensures all { Goes self.old.held self.new.held }
         // The gate gives no connection.
         ensures gate { G.gave self.new.gate ≡ G.gave self.old.gate }
@@ -362,14 +354,14 @@ impl<'a, G: Gate + Drop, C: Clock> Desk<'a, G, C> {
 }
 
 impl<'a, G: Gate + Drop, C: Clock> Arrivals for Desk<'a, G, C> {
-    // A connection is handed out only once its request is whole, or nothing more of it comes, and isn't held any more. Each other that the
-    // gate gave is, but for one at most that was lost as it came, after which none is handed out.
+    // A connection is handed out only once its request is whole, or nothing more of it comes, and isn't held any more. Each that the gate
+    // gave came to be held, but for one at most that was lost as it came, after which none is handed out.
     ghost hands_out = { λ old handed new. Hands (old.held, G.gave old.gate) handed (new.held, G.gave new.gate) };
 
-    // One that is given back is held until all of its answer was sent, or its loss is noted.
+    // A connection that is given back is held until all of its answer was sent, or its loss is noted.
     ghost takes_back = { λ old given new. TakesBack (old.held, G.gave old.gate) given (new.held, G.gave new.gate) };
 
-    // A loss that was noted is told of, once; none is told of only if none is noted.
+    // A loss that was noted is told of, once; no loss is told of only if none is noted.
     ghost loses = { λ old told new. TellsNext (old.held, G.gave old.gate) told (new.held, G.gave new.gate) };
 
     type Reader = Gathered<G::Reader>;
@@ -412,7 +404,7 @@ impl<'a, G: Gate + Drop, C: Clock> Arrivals for Desk<'a, G, C> {
         // The connection is held until all of its answer was sent, or its loss is noted. No other comes.
         ensures back { TakesBack (self.old.held, G.gave self.old.gate) connection (self.new.held, G.gave self.new.gate) }
 
-        // It is held with this route, and closed so.
+        // It is held with this route, to be closed in this way.
         ensures gets { GetsBack (self.old.held, G.gave self.old.gate) connection closing route (self.new.held, G.gave self.new.gate) }
     {
         let now = self.now();

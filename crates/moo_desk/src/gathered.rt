@@ -32,7 +32,7 @@ pub enum Coming {
     More,
     /// Nothing: the peer has ended.
     Nothing,
-    /// Whatever comes isn't read: the reader failed, or was waited for long enough.
+    /// Nothing more is read, though it may come: the request was given up.
     Unread,
 }
 
@@ -63,12 +63,12 @@ impl<R> Gathered<R> {
 impl<R: Inward> Gathered<R> {
     ghost use Rattle.moo_desk.specs.Filling.{Fills};
 
-    /// Gathers up to 4,096 bytes of what the reader has now, and no more than `limit` in all. Whoever reads sees no difference. If none
-    /// came it tells why: none are there now, the peer has ended, the reader failed, or memory ran out.
+    /// Gathers up to 4,096 bytes of what the reader has now, and no more than `limit` in all. If none came it tells why: none are there
+    /// now, the peer has ended, the reader failed, or memory ran out.
     pub fn fill(&mut self, limit: usize) -> Filled
         // There is room for one byte at least.
         requires { length self.old.bytes.items < limit }
-        // What was gathered and not read yet and what the reader still has, joined, is as before.
+        // The bytes gathered and not read yet, and then those that the reader still has, are the same bytes as before.
         ensures invisible { Keeps (prepend_known (drop self.old.at self.old.bytes.items) (R.remaining self.old.reader))
             (prepend_known (drop self.new.at self.new.bytes.items) (R.remaining self.new.reader)) }
         // No more than `limit` bytes are gathered in all.
@@ -110,7 +110,7 @@ impl<R: Incoming> Incoming for Gathered<R> {
 
     ghost fails = { IsBroken R.fails };
 
-    // Past what was gathered the reader itself is asked, which doesn't wait. So no request seems to end that may go on.
+    // Past the gathered bytes the reader itself is asked, which doesn't wait. So no request seems to end that may go on.
     fn receive(&mut self, buf: &mut [u8]) -> Result<usize> {
         if self.at == self.bytes.len() {
             if self.coming == Coming::Unread {

@@ -26,7 +26,7 @@ use std::time::Duration;
 /// How many connections may be open at once.
 pub const MOST: usize = 64;
 
-/// After how many milliseconds an unfinished request may be ended if all slots are taken.
+/// After how many milliseconds an unfinished request may be ended if 64 connections are held. While answers are sent no wait is longer.
 pub const GRACE: u64 = 200;
 
 /// The connections that a desk holds, and the losses that it noted.
@@ -60,9 +60,7 @@ impl<R: Inward + OpenStream + Drop, W: Outward + OpenStream + Drop> Held<R, W> {
 
     /// Whether 64 connections or more are held, so that another has no place.
     pub fn is_full(&self) -> bool
-        // Full: requests and answers together are 64 or more.
         ensures full { result ≡ true → MOST ≤ length self.now.slots.items + length self.now.leaving.items }
-        // Else they are fewer than 64.
         ensures room { result ≡ false → length self.now.slots.items + length self.now.leaving.items < MOST }
     {
         self.count() >= MOST
@@ -93,17 +91,16 @@ impl<R: Inward + OpenStream + Drop, W: Outward + OpenStream + Drop> Held<R, W> {
         any_item(&self.leaving, &Lingerer) || any_item(&self.slots, &Endable { now })
     }
 
-    /// If more are held than may be, ends the connection that can best be spared, if one can be: one that lingers, or else the oldest
-    /// unfinished request.
+    /// If more than 64 connections are held, ends one that lingers, or else the oldest unfinished request that may be ended, or else none.
+    /// `now` is the time of the monotonic clock.
     pub fn shed(&mut self, now: Duration)
-        // No connection comes. More may be gathered and sent of those that are here; one goes only once its answer was sent, or the loss of
-        // it is noted, once.
+        // No connection comes; more may be gathered and sent. A connection goes only once all of its answer was sent, or its loss noted.
         ensures all { Goes self.old self.new }
         // While 64 at most are held none is ended.
         ensures few { count_of self.old ≤ MOST → self.new ≡ self.old }
-        // Else one that lingers is let go, or the oldest unfinished request that may be ended is given up, or none can be.
+        // Else the first that lingers becomes `Done`, or the oldest unfinished request that may be ended is given up, or none can be.
         ensures full { MOST < count_of self.old → EndsOne now self.old self.new }
-        // When each request came stays, and whether that is too long ago is seen by this time.
+        // When each request came stays; when bytes of it came last, and `looked`, stay or become `now`.
         ensures times { Each (IsTimed now) self.old.slots.items self.new.slots.items }
     {
         if self.count() <= MOST {
@@ -116,10 +113,9 @@ impl<R: Inward + OpenStream + Drop, W: Outward + OpenStream + Drop> Held<R, W> {
         }
     }
 
-    /// Gives up the answer at this place, since another connection needs it.
+    /// Gives up the answer at this place of `leaving`, if there is one, since another connection needs the room.
     fn cut_answer(&mut self, place: usize)
-        // No connection comes. More may be gathered and sent of those that are here; one goes only once its answer was sent, or the loss of
-        // it is noted, once.
+        // No connection comes; more may be gathered and sent. A connection goes only once all of its answer was sent, or its loss noted.
         ensures all { Goes self.old self.new }
         ensures slots { self.new.slots ≡ self.old.slots }
         // The answer at this place is given up as crowded out, and the others stay.
@@ -130,15 +126,14 @@ impl<R: Inward + OpenStream + Drop, W: Outward + OpenStream + Drop> Held<R, W> {
         }
     }
 
-    /// Gives up the request at this place, since another connection needs it, if it may be ended. It isn't read any more, and handed out
-    /// so.
+    /// Gives up the request at this place of `slots`, if it may be ended, since another connection needs the room. It isn't read any more,
+    /// and is to be handed out.
     fn cut_request(&mut self, place: usize, now: Duration)
-        // No connection comes. More may be gathered and sent of those that are here; one goes only once its answer was sent, or the loss of
-        // it is noted, once.
+        // No connection comes; more may be gathered and sent. A connection goes only once all of its answer was sent, or its loss noted.
         ensures all { Goes self.old self.new }
-        // When each request came stays, and whether that is too long ago is seen by this time.
+        // When each request came stays; when bytes of it came last, and `looked`, stay or become `now`.
         ensures times { Each (IsTimed now) self.old.slots.items self.new.slots.items }
-        // At the place of the oldest that may be ended, that one is given up, and the others stay.
+        // If it is the place of the oldest request that may be ended, that request is given up, and the others stay.
         ensures cuts { IsFirstPlace (IsEndable now) self.old.slots.items (Some place) →
             TurnsFirst (IsEndable now) IsCrowdedOut self.old.slots.items self.new.slots.items }
         ensures answers { self.new.leaving ≡ self.old.leaving }
@@ -148,11 +143,10 @@ impl<R: Inward + OpenStream + Drop, W: Outward + OpenStream + Drop> Held<R, W> {
         }
     }
 
-    /// Steps each connection whose request was judged and that is due, and lets go of those that are over; whether anything went, came or was
-    /// let go. `now` is the time of the monotonic clock.
+    /// Steps each connection whose request was judged and that is due, and lets go of those that are over; whether anything went, came or
+    /// was let go. `now` is the time of the monotonic clock.
     pub fn send_all(&mut self, now: Duration) -> bool
-        // No connection comes. More may be gathered and sent of those that are here; one goes only once its answer was sent, or the loss of
-        // it is noted, once.
+        // No connection comes; more may be gathered and sent. A connection goes only once all of its answer was sent, or its loss noted.
         ensures { Goes self.old self.new }
     {
         let mut changed = turn_leaving(&mut self.leaving, now);
@@ -167,8 +161,7 @@ impl<R: Inward + OpenStream + Drop, W: Outward + OpenStream + Drop> Held<R, W> {
 
     /// Lets go of the first connection that is over, and notes the loss of its answer if it was lost; whether one was over.
     fn end_one(&mut self) -> bool
-        // No connection comes. More may be gathered and sent of those that are here; one goes only once its answer was sent, or the loss of
-        // it is noted, once.
+        // No connection comes; more may be gathered and sent. A connection goes only once all of its answer was sent, or its loss noted.
         ensures { Goes self.old self.new }
     {
         let Some(place) = self.leaving.iter().position(|it| it.is_over()) else {
@@ -184,7 +177,7 @@ impl<R: Inward + OpenStream + Drop, W: Outward + OpenStream + Drop> Held<R, W> {
 
     /// Notes the loss of a connection that is over, if its answer was lost.
     pub fn note_loss(&mut self, over: Leaving<R, W>)
-        // It is let go: all of its answer was sent, or its loss is noted, once.
+        // If nothing more is done with it, it is let go: all of its answer was sent, or its loss is noted, once.
         ensures ends { (over.stage ≡ Done) ⊎ ((cause : Cause) × (over.stage ≡ Lost cause)) →
             LetsGo over self.old.losses self.new.losses }
         // The requests and the answers that are held stay.
@@ -198,8 +191,7 @@ impl<R: Inward + OpenStream + Drop, W: Outward + OpenStream + Drop> Held<R, W> {
     /// Gives up each connection whose request was judged, and holds none of them after that. What its peer hasn't got of its answer is
     /// lost, for the cause Late.
     pub fn give_up_all(&mut self)
-        // No connection comes. More may be gathered and sent of those that are here; one goes only once its answer was sent, or the loss of
-        // it is noted, once.
+        // No connection comes; more may be gathered and sent. A connection goes only once all of its answer was sent, or its loss noted.
         ensures all { Goes self.old self.new }
         // No answer is held any more.
         ensures none { self.new.leaving.items ≡ [] }
@@ -214,9 +206,7 @@ impl<R: Inward + OpenStream + Drop, W: Outward + OpenStream + Drop> Held<R, W> {
     /// Whether a connection is to be handed out: its request is whole, or nothing more of it comes, and less than 32 MiB of answers are
     /// held beside the largest.
     pub fn has_whole(&self) -> bool
-        // A request is to be handed out, and less than 32 MiB of answers are held beside the largest.
         ensures yes { result ≡ true → HasWhole self.now }
-        // No request is to be handed out, or 32 MiB of answers or more are held beside the largest.
         ensures no { result ≡ false → ¬ (HasWhole self.now) }
     {
         all_unsent_bytes(&self.leaving) < BUDGET && self.is_any_ready()
@@ -244,9 +234,9 @@ impl<R: Inward + OpenStream + Drop, W: Outward + OpenStream + Drop> Held<R, W> {
 
     /// For how long the oldest unfinished request can't be ended yet. None if it can be, or if there is none.
     pub fn spared_time(&self, now: Duration) -> Option<Duration>
-        // The result is that of the oldest one: 201 milliseconds from when it came.
+        // It is the time until 201 milliseconds after the oldest unfinished request came; none if that is past.
         ensures oldest { OfFirst IsUnfinished (IsSpared now result) self.now.slots.items }
-        // Without an unfinished request there is none.
+        // Without an unfinished request there is no such time.
         ensures none { HoldsOfNone IsUnfinished self.now.slots.items → result ≡ None }
     {
         let Some(place) = first_place(&self.slots, &Unfinished) else {
@@ -260,13 +250,12 @@ impl<R: Inward + OpenStream + Drop, W: Outward + OpenStream + Drop> Held<R, W> {
     /// Gathers what is there of each request that is due, or of the first unfinished one alone while 32 MiB of requests or more are
     /// gathered; whether anything changed.
     pub fn gather(&mut self, routes: &Routes, now: Duration) -> bool
-        // No connection comes. More may be gathered and sent of those that are here; one goes only once its answer was sent, or the loss of
-        // it is noted, once.
+        // No connection comes; more may be gathered and sent. A connection goes only once all of its answer was sent, or its loss noted.
         ensures all { Goes self.old self.new }
 
-        // Each that is due is read, or is to be handed out after this; while 32 MiB are gathered, the first unfinished one.
+        // Each request that is due is read, or is to be handed out after this; from 32 MiB on only those up to the first unfinished one.
         ensures reads { ReadsDue (gathered_of self.old.slots.items < BUDGET) self.old.slots.items self.new.slots.items }
-        // When each came stays, bytes that come are heard at this time, and whether either is too long ago is seen by this time.
+        // When each request came stays. If bytes of it come, `now` is when they came last. `looked` stays or becomes `now`.
         ensures times { Each (IsTimed now) self.old.slots.items self.new.slots.items }
     {
         gather_all(&mut self.slots, routes, now)
@@ -274,8 +263,7 @@ impl<R: Inward + OpenStream + Drop, W: Outward + OpenStream + Drop> Held<R, W> {
 
     /// Has the next round look at each connection that has this mark.
     pub fn wake_at(&mut self, mark: usize)
-        // No connection comes. More may be gathered and sent of those that are here; one goes only once its answer was sent, or the loss of
-        // it is noted, once.
+        // No connection comes; more may be gathered and sent. A connection goes only once all of its answer was sent, or its loss noted.
         ensures all { Goes self.old self.new }
         // Each request with this mark is due, and those that were due stay so.
         ensures wakes { Each (IsWokenFor (λ it. it ≡ mark)) self.old.slots.items self.new.slots.items }
@@ -288,8 +276,7 @@ impl<R: Inward + OpenStream + Drop, W: Outward + OpenStream + Drop> Held<R, W> {
 
     /// Has the next round look at each connection.
     pub fn wake_all(&mut self)
-        // No connection comes. More may be gathered and sent of those that are here; one goes only once its answer was sent, or the loss of
-        // it is noted, once.
+        // No connection comes; more may be gathered and sent. A connection goes only once all of its answer was sent, or its loss noted.
         ensures all { Goes self.old self.new }
         // Each request is due.
         ensures wakes { Each (IsWokenFor (λ _. ⊤)) self.old.slots.items self.new.slots.items }
@@ -300,15 +287,15 @@ impl<R: Inward + OpenStream + Drop, W: Outward + OpenStream + Drop> Held<R, W> {
         wake_all_leaving(&mut self.leaving);
     }
 
-    /// If too much of answers is held and a request is whole, gives up an answer of which its peer took nothing for a while.
+    /// While 32 MiB of answers or more are held beside the largest, and a request is to be handed out, gives up the first answer of which
+    /// its peer took nothing for over 1 second.
     pub fn relieve(&mut self, now: Duration)
-        // No connection comes. More may be gathered and sent of those that are here; one goes only once its answer was sent, or the loss of
-        // it is noted, once.
+        // No connection comes; more may be gathered and sent. A connection goes only once all of its answer was sent, or its loss noted.
         ensures all { Goes self.old self.new }
         // No request changes.
         ensures slots { self.new.slots ≡ self.old.slots }
-        // While 32 MiB of answers are held beside the largest and a request is whole, the first answer that is stuck is given up; else
-        // none.
+        // If 32 MiB of answers or more are held beside the largest, and a request is to be handed out, the first answer that is stuck is
+        // given up. Else nothing changes.
         ensures relieves { Relieves now self.old self.new }
     {
         if all_unsent_bytes(&self.leaving) < BUDGET || !self.is_any_ready() {

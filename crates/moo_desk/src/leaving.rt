@@ -116,7 +116,7 @@ impl<R: Inward + OpenStream, W: Outward + OpenStream> Leaving<R, W> {
     fn close(&mut self, now: Duration)
         // All of its answer was sent.
         requires { self.old.writer.sent ≡ length self.old.writer.text.items }
-        // Nothing more of its answer is sent.
+        // Its answer, how much of that was sent, its writer and its route stay.
         ensures same { (self.new.writer.text ≡ self.old.writer.text) × (self.new.writer.sent ≡ self.old.writer.sent)
             × (self.new.writer.writer ≡ self.old.writer.writer) × (self.new.route ≡ self.old.route) }
         ensures gentle { self.old.closing ≡ Closing.Gently → self.new.stage ≡ Lingering }
@@ -142,16 +142,16 @@ impl<R: Inward + OpenStream, W: Outward + OpenStream> Leaving<R, W> {
         requires { self.old.stage ≡ Stage.Sending }
         // Its answer and its route stay.
         ensures answer { (self.new.writer.text.items ≡ self.old.writer.text.items) × (self.new.route ≡ self.old.route) }
-        // What the writer has and what is still unsent, joined, is as before.
+        // The bytes that the writer has, and then those still unsent, are the same bytes as before.
         ensures invisible { Keeps (append_known (W.contents self.old.writer.writer) (drop self.old.writer.sent self.old.writer.text.items))
             (append_known (W.contents self.new.writer.writer) (drop self.new.writer.sent self.new.writer.text.items)) }
         // The writer stays that of the same peer.
         ensures peer { W.peer self.new.writer.writer ≡ W.peer self.old.writer.writer }
-        // One that is to be closed gently isn't let go before its peer was listened to.
+        // A connection that is to be closed gently isn't `Done` after this: its peer is listened to first.
         ensures gentle { self.old.closing ≡ Closing.Gently → self.new.stage ≢ Done }
-        // It is given up as late only after its patience.
+        // Its answer is lost as late only after its patience.
         ensures late { self.new.stage ≡ Lost Cause.Late → IsLate now self.old }
-        // If nothing went and it is still held, its patience isn't over.
+        // If nothing went, and the answer is still sent or the peer listened to, the time for that isn't over.
         ensures patient { result ≡ false → (self.new.stage ≡ Stage.Sending) ⊎ (self.new.stage ≡ Lingering) → ¬ (IsLate now self.new) }
     {
         if self.writer.unsent() == 0 {
@@ -175,13 +175,13 @@ impl<R: Inward + OpenStream, W: Outward + OpenStream> Leaving<R, W> {
     fn drain(&mut self, now: Duration) -> bool
         requires { self.old.stage ≡ Lingering }
         ensures same { (self.new.writer ≡ self.old.writer) × (self.new.route ≡ self.old.route) }
-        // Its peer is still listened to, or it is let go.
+        // Its peer is still listened to, or the connection is `Done`.
         ensures stage { MayFollow Lingering self.new.stage }
         ensures few { self.old.drained ≤ 65536 → self.new.drained ≤ 65536 }
         // Each byte that is taken of the peer is counted.
         ensures takes { (bytes : List ℕ) × Consumes (R.remaining self.old.reader.reader) (R.remaining self.new.reader.reader) bytes
             × (self.old.drained + length bytes ≡ self.new.drained) }
-        // If none came and its peer is still listened to, that isn't for longer than it may be.
+        // If no byte came and its peer is still listened to, that was for 1 second at most.
         ensures patient { result ≡ false → (self.new.stage ≡ Stage.Sending) ⊎ (self.new.stage ≡ Lingering) → ¬ (IsLate now self.new) }
     {
         let mut piece = [0; PIECE];
@@ -205,25 +205,25 @@ impl<R: Inward + OpenStream, W: Outward + OpenStream> Leaving<R, W> {
         false
     }
 
-    /// Sends what the peer takes of its answer now, or throws away what it sent after that; whether anything went or came. Nothing is
-    /// waited for. The connection isn't due after this if nothing went or came.
+    /// Takes one step without waiting: sends what the peer takes of its answer now, closes the connection once all was sent, or throws away
+    /// what the peer sends after that. Whether bytes went or came, or it was closed; if not, the connection isn't due after this.
     pub fn step(&mut self, now: Duration) -> bool
         // Its answer and its route stay.
         ensures answer { (self.new.writer.text.items ≡ self.old.writer.text.items) × (self.new.route ≡ self.old.route) }
-        // What the writer has and what is still unsent, joined, is as before.
+        // The bytes that the writer has, and then those still unsent, are the same bytes as before.
         ensures invisible { Keeps (append_known (W.contents self.old.writer.writer) (drop self.old.writer.sent self.old.writer.text.items))
             (append_known (W.contents self.new.writer.writer) (drop self.new.writer.sent self.new.writer.text.items)) }
         // The writer stays that of the same peer.
         ensures peer { W.peer self.new.writer.writer ≡ W.peer self.old.writer.writer }
-        // Its peer is listened to, or it is let go, only once all of its answer was sent; or it is lost, and that is told.
+        // In the stages `Lingering` and `Done` all of its answer was sent.
         ensures whole { IsSentAt self.new.stage → self.new.writer.sent ≡ length self.new.writer.text.items }
-        // Its stage stays, or is one that may follow.
+        // Its stage stays, or is a later one: from sending any other, from lingering `Done`, and from `Done` and `Lost` none.
         ensures stage { MayFollow self.old.stage self.new.stage }
-        // After a refusal, which is closed gently, its peer is listened to first.
+        // If it is to be closed gently, no step leads from sending to `Done`: its peer is listened to first.
         ensures gentle { self.old.closing ≡ Closing.Gently → self.old.stage ≡ Stage.Sending → self.new.stage ≢ Done }
-        // An answer is given up as late only after its patience.
+        // An answer is lost as late only after its patience: 60 seconds, and one for each million bytes.
         ensures late { self.old.stage ≡ Stage.Sending → self.new.stage ≡ Lost Cause.Late → IsLate now self.old }
-        // One of which nothing goes isn't held for longer than that, nor is a peer that sends nothing listened to for longer than 1 second.
+        // If nothing went or came, an answer is still sent only within its patience, and a peer is listened to for 1 second at most.
         ensures patient { result ≡ false → (self.new.stage ≡ Stage.Sending) ⊎ (self.new.stage ≡ Lingering) → ¬ (IsLate now self.new) }
     {
         let went = match self.stage {
@@ -243,27 +243,27 @@ impl<R: Inward + OpenStream, W: Outward + OpenStream> Leaving<R, W> {
     pub fn begin(&mut self, now: Duration)
         // Its answer and its route stay.
         ensures answer { (self.new.writer.text.items ≡ self.old.writer.text.items) × (self.new.route ≡ self.old.route) }
-        // What the writer has and what is still unsent, joined, is as before.
+        // The bytes that the writer has, and then those still unsent, are the same bytes as before.
         ensures invisible { Keeps (append_known (W.contents self.old.writer.writer) (drop self.old.writer.sent self.old.writer.text.items))
             (append_known (W.contents self.new.writer.writer) (drop self.new.writer.sent self.new.writer.text.items)) }
         // The writer stays that of the same peer.
         ensures peer { W.peer self.new.writer.writer ≡ W.peer self.old.writer.writer }
-        // Its stage stays, or is one that may follow.
+        // Its stage stays, or is a later one: from sending any other, from lingering `Done`, and from `Done` and `Lost` none.
         ensures stage { MayFollow self.old.stage self.new.stage }
     {
         let _went = self.step(now) && self.step(now);
     }
 
-    /// Takes a step if the connection is due; whether anything went or came.
+    /// Takes a step if the connection is due; whether bytes went or came, or it was closed.
     pub fn turn(&mut self, now: Duration) -> bool
         // Its answer and its route stay.
         ensures answer { (self.new.writer.text.items ≡ self.old.writer.text.items) × (self.new.route ≡ self.old.route) }
-        // What the writer has and what is still unsent, joined, is as before.
+        // The bytes that the writer has, and then those still unsent, are the same bytes as before.
         ensures invisible { Keeps (append_known (W.contents self.old.writer.writer) (drop self.old.writer.sent self.old.writer.text.items))
             (append_known (W.contents self.new.writer.writer) (drop self.new.writer.sent self.new.writer.text.items)) }
         // The writer stays that of the same peer.
         ensures peer { W.peer self.new.writer.writer ≡ W.peer self.old.writer.writer }
-        // Its stage stays, or is one that may follow.
+        // Its stage stays, or is a later one: from sending any other, from lingering `Done`, and from `Done` and `Lost` none.
         ensures stage { MayFollow self.old.stage self.new.stage }
     {
         self.is_due && self.step(now)
@@ -271,13 +271,13 @@ impl<R: Inward + OpenStream, W: Outward + OpenStream> Leaving<R, W> {
 
     /// Gives the connection up for this cause: an answer that is still being sent is lost, and a peer isn't listened to any more.
     pub fn give_up(&mut self, cause: Cause)
-        // What was sent, what is still unsent and the route stay.
+        // Its writer, with what was sent and what is still unsent, and its route stay.
         ensures same { (self.new.writer ≡ self.old.writer) × (self.new.route ≡ self.old.route) }
-        // Its stage stays, or is one that may follow.
+        // Its stage stays, or is a later one: from sending any other, from lingering `Done`, and from `Done` and `Lost` none.
         ensures stage { MayFollow self.old.stage self.new.stage }
         // Nothing more is done with it.
         ensures over { (self.new.stage ≡ Done) ⊎ ((cause : _) × (self.new.stage ≡ Lost cause)) }
-        // An answer that was still being sent is lost for this cause, and one that was lost before keeps its cause.
+        // An answer that was still being sent is lost for this cause, and an answer that was lost before keeps its cause.
         ensures ends { self.new.stage ≡ ended cause self.old.stage }
     {
         match self.stage {
@@ -287,11 +287,9 @@ impl<R: Inward + OpenStream, W: Outward + OpenStream> Leaving<R, W> {
         }
     }
 
-    /// Whether its answer is held, and its peer took nothing of it for over 1 second.
+    /// Whether its answer is still being sent, and its peer took nothing of it for over 1 second.
     pub fn is_stuck(&self, now: Duration) -> bool
-        // Its answer is still being sent, and its peer took nothing of it for over 1 second.
         ensures yes { result ≡ true → IsStuck now self.now }
-        // Its answer isn't being sent, or it isn't waited for that long yet.
         ensures no { result ≡ false → ¬ (IsStuck now self.now) }
     {
         matches!(self.stage, Stage::Sending)

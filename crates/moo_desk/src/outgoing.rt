@@ -51,14 +51,14 @@ impl<W> Outgoing<W> {
 }
 
 impl<W: Outward> Outgoing<W> {
-    /// Hands the writer the next bytes of the text, up to 262,144. Stuck if the writer takes none now; Broken if it failed, or takes
-    /// no more.
+    /// Hands the writer the next bytes of the text, up to 262,144. Went if it took some, Stuck if it takes none now, and Broken if it
+    /// failed or takes no more.
     pub fn send(&mut self) -> Sending
         // The text stays: only what is sent of it may grow.
         ensures text { self.new.text ≡ self.old.text }
         // The writer stays that of the same peer.
         ensures peer { W.peer self.new.writer ≡ W.peer self.old.writer }
-        // What the writer has and what is still unsent, joined, is as before.
+        // The bytes that the writer has, and then those still unsent, are the same bytes as before.
         ensures invisible { Keeps (append_known (W.contents self.old.writer) (drop self.old.sent self.old.text.items))
             (append_known (W.contents self.new.writer) (drop self.new.sent self.new.text.items)) }
     {

@@ -13,7 +13,8 @@ use moo_http_request::Routes;
 use std::net::OpenStream;
 use std::time::Duration;
 
-/// How many bytes are gathered at once, and how many of answers are held, beside the largest of each.
+/// From so many bytes of gathered requests on only the first unfinished one is read. From so many of answers, beside the largest, no
+/// request is handed out.
 pub const BUDGET: usize = 32 * 1024 * 1024;
 
 /// Takes what is there of each request that is due, but of the oldest unfinished one alone while 32 MiB of requests or more are gathered;
@@ -23,11 +24,11 @@ pub fn gather_all<R: Inward, W: Outward>(
     routes: &Routes,
     now: Duration,
 ) -> bool
-    // Each connection is as it was, but for what was gathered of its request.
+    // Each connection keeps its peer, its writer and when it came; more of its request may be gathered.
     ensures gathers { Each IsGathered slots.old slots.new }
-    // Each that is due is read, or is to be handed out after this; while 32 MiB are gathered, the first unfinished one.
+    // Each request that is due is read, or is to be handed out after this; from 32 MiB on only those up to the first unfinished one.
     ensures reads { ReadsDue (gathered_of slots.old < BUDGET) slots.old slots.new }
-    // When each came stays, bytes that come are heard at this time, and whether either is too long ago is seen by this time.
+    // When each request came stays. If bytes of it come, `now` is when they came last. `looked` stays or becomes `now`.
     ensures times { Each (IsTimed now) slots.old slots.new }
 {
     let is_full = gathered_bytes(slots) >= BUDGET;
@@ -58,7 +59,7 @@ pub fn turn_leaving<R: Inward + OpenStream, W: Outward + OpenStream>(
     leaving: &mut [Leaving<R, W>],
     now: Duration,
 ) -> bool
-    // Each connection is as it was, but for what was sent of its answer and what that led to.
+    // Each connection keeps its peer, its route and its answer, of which more may be sent. Its stage stays, or is a later one.
     ensures { Each (IsLater W.Write W.peer) leaving.old leaving.new }
 {
     let mut changed = false;
@@ -86,7 +87,7 @@ pub fn all_unsent_bytes<R: Inward + OpenStream, W: Outward + OpenStream>(
 
 /// Has each later wait of the gate end when bytes come of a request that isn't whole, if the gate can watch it.
 pub fn watch_all<G: Gate>(gate: &mut G, slots: &mut [Slot<G::Reader, G::Writer>])
-    // Each connection is as it was, but for what was gathered of its request.
+    // Each connection keeps its peer, its writer and when it came; more of its request may be gathered.
     ensures all { Each IsGathered slots.old slots.new }
     // The gate gives no connection.
     ensures gate { G.gave gate.new ≡ G.gave gate.old }
@@ -98,7 +99,7 @@ pub fn watch_all<G: Gate>(gate: &mut G, slots: &mut [Slot<G::Reader, G::Writer>]
 
 /// Has the next round look at each request that has this mark.
 pub fn wake_slots<R: Inward, W: Outward>(slots: &mut [Slot<R, W>], mark: usize)
-    // Each request with this mark is due, and those that were due stay so. Nothing else changes.
+    // Each request with this mark is due, and those that were due stay so. Their bytes, writers, times, marks and causes stay.
     ensures { Each (IsWokenFor (λ it. it ≡ mark)) slots.old slots.new }
 {
     for slot in slots {
@@ -118,7 +119,7 @@ pub fn wake_leaving<R, W>(leaving: &mut [Leaving<R, W>], mark: usize)
 
 /// Has the next round look at each request.
 pub fn wake_all_slots<R: Inward, W: Outward>(slots: &mut [Slot<R, W>])
-    // Each request is due. Nothing else changes.
+    // Each request is due. Their bytes, writers, times, marks and causes stay.
     ensures { Each (IsWokenFor (λ _. ⊤)) slots.old slots.new }
 {
     for slot in slots {

@@ -49,7 +49,7 @@ pub struct Slot<R: Inward, W: Outward> {
     ghost known: { ∥ IsKnownFrom reader.bytes.items total ∥₁ },
     ghost ripe: { ∥ (rests ≡ true → IsRipe is_limited reader.coming reader.bytes.items) ∥₁ },
 
-    // Until then more of it may come, and has room.
+    // While it isn't to be handed out, more of it may come, and there is room for another byte.
     ghost unfinished: { rests ≡ false → (reader.coming ≡ More) × (length reader.bytes.items < limit_of total) },
 
     // Nothing more of it is read only if its peer has ended, or if it may be given up for its cause.
@@ -59,14 +59,14 @@ pub struct Slot<R: Inward, W: Outward> {
     ghost idle: { ∥ (is_due ≡ false → HasFoundNothing R.reads reader.reader) ∥₁ },
 }
 
-/// How many bytes a request has that begins with these, if that was known before, or if these hold its head. None while more of the head is
-/// to come, and before the first byte.
+/// How many bytes a request has in all that begins with `bytes`: as many as `known` says, else as its head says. None while more of the
+/// head is to come, and before the first byte.
 fn total_of(routes: &Routes, bytes: &[u8], known: Option<usize>) -> Option<usize>
-    // What was known before is so of these bytes too.
+    // If a number was known before, a request that begins with these bytes is whole from so many bytes on.
     requires { ∥ IsKnownFrom bytes.now known ∥₁ }
-    // The request is whole from so many bytes on.
+    // If a number is answered, a request that begins with these bytes is whole from so many bytes on.
     ensures known { ∥ IsKnownFrom bytes.now result ∥₁ }
-    // While it isn't known, the head has room for another byte.
+    // If none is answered, the head has room for another byte, unless the bytes were over the limit before.
     ensures room { length bytes.now ≤ limit_of known → result ≡ None → length bytes.now < limit_of None }
 {
     let count = bytes.len();
@@ -79,7 +79,7 @@ fn total_of(routes: &Routes, bytes: &[u8], known: Option<usize>) -> Option<usize
     }
 }
 
-/// Whether these bytes are a whole request: as many as `total`. It isn't whole while that isn't known.
+/// Whether these bytes are a whole request: as many as `total`, or more. It isn't whole while that isn't known.
 fn is_whole(bytes: &[u8], total: Option<usize>) -> bool
     // A request that begins with these bytes is whole from `total` on.
     requires known { ∥ IsKnownFrom bytes.now total ∥₁ }
@@ -116,7 +116,7 @@ impl<R: Inward, W: Outward> Slot<R, W> {
         ensures writer { (result.writer.writer ≡ writer) × (result.writer.sent ≡ 0) × (result.writer.text.items ≡ []) }
         // The first round after this looks at it, and it came now.
         ensures due { (result.is_due ≡ true) × (result.mark ≡ mark) × (result.since ≡ now) × (result.heard ≡ now) }
-        // It is to be handed out at once only if its waits aren't limited.
+        // It is to be handed out at once if its waits aren't limited, and else not yet.
         ensures limited { (result.is_limited ≡ is_limited) × (result.rests ≡ not is_limited) }
     {
         Slot {
@@ -137,7 +137,7 @@ impl<R: Inward, W: Outward> Slot<R, W> {
 
     /// Has the next round look at this request, since bytes may have come.
     pub fn wake(&mut self)
-        // Nothing of the request changes but, at most, whether the next round looks at it.
+        // Its bytes, its writer, its times, its mark and its cause stay, as does whether it is to be handed out.
         ensures same { IsOnlyWoken self.old self.new }
         ensures due { self.new.is_due ≡ true }
     {
@@ -146,9 +146,9 @@ impl<R: Inward, W: Outward> Slot<R, W> {
 
     /// Has the next round look at this request, if it has this mark.
     pub fn wake_at(&mut self, mark: usize)
-        // Nothing of the request changes but, at most, whether the next round looks at it.
+        // Its bytes, its writer, its times, its mark and its cause stay. If it was due, it still is.
         ensures same { IsOnlyWoken self.old self.new }
-        // With this mark the next round looks at it.
+        // If it has this mark, it is due.
         ensures due { self.old.mark ≡ mark → self.new.is_due ≡ true }
     {
         self.is_due |= self.mark == mark;
@@ -156,9 +156,9 @@ impl<R: Inward, W: Outward> Slot<R, W> {
 
     /// Has each later wait of the gate end when bytes of this request come, if more are waited for, and if the gate can watch it.
     pub fn watch<G: Gate<Reader = R, Writer = W>>(&mut self, gate: &mut G)
-        // Nothing of the request changes but, at most, whether the next round looks at it.
+        // Its bytes, its writer, its times, its mark and its cause stay. If it was due, it still is.
         ensures same { IsOnlyWoken self.old self.new }
-        // The gate hands out no connection by that.
+        // The gate gives no connection.
         ensures gate { G.gave gate.new ≡ G.gave gate.old }
     {
         if !self.rests && !self.is_watched {
@@ -169,7 +169,8 @@ impl<R: Inward, W: Outward> Slot<R, W> {
     /// Gives up the request for this cause: nothing more of it is read, and it is to be handed out. What came of it isn't judged, unless it
     /// is whole.
     pub fn give_up(&mut self, cause: Cause, now: Duration)
-        // The cause holds: a read failed, its peer was silent or slow for too long, another connection needs its place, or memory ran out.
+        // The last read failed (BrokenOff), no byte came for over 10 seconds (Silent), or the request came over 30 seconds (Late) or over
+        // 200 milliseconds (Crowded) ago. OutOfMemory may always be the cause.
         requires { ∥ MayGiveUp R.reads self.old.reader.reader self.old.since self.old.heard now cause ∥₁ }
         // What was gathered stays, as do the reader, the writer and whether its waits are limited.
         ensures stays { (self.new.reader.bytes ≡ self.old.reader.bytes) × (self.new.reader.at ≡ self.old.reader.at)
@@ -177,7 +178,7 @@ impl<R: Inward, W: Outward> Slot<R, W> {
             × (self.new.is_limited ≡ self.old.is_limited) }
         // Nothing more of it is read, it is to be handed out, and the cause is noted.
         ensures ends { (self.new.reader.coming ≡ Unread) × (self.new.rests ≡ true) × (self.new.cause ≡ cause) }
-        // When it came and when bytes came last stays, so that its type can keep why it was given up.
+        // When it came and when bytes came last stay, and `looked` becomes `now`.
         ensures times { (self.new.since ≡ self.old.since) × (self.new.heard ≡ self.old.heard) × (self.new.looked ≡ now) }
     {
         self.looked = now;
@@ -203,9 +204,7 @@ impl<R: Inward, W: Outward> Slot<R, W> {
     /// Whether its request is unfinished, and came over 200 milliseconds ago, so that it may be given up if another connection needs its
     /// place.
     pub fn is_endable(&self, now: Duration) -> bool
-        // It is unfinished, and came over 200 milliseconds ago.
         ensures old { result ≡ true → IsEndable now self.now }
-        // It isn't unfinished, or came later than that.
         ensures young { result ≡ false → ¬ (IsEndable now self.now) }
     {
         !self.rests && now.saturating_sub(self.since) > Duration::from_millis(GRACE)
@@ -233,20 +232,21 @@ impl<R: Inward, W: Outward> Slot<R, W> {
 impl<R: Inward, W: Outward> Slot<R, W> {
     ghost use Rattle.moo_desk.specs.Rounds.{IsReadIfDue, IsTimed};
 
-    /// Takes what is there of its request, without waiting; whether anything changed. It is to be handed out once it is whole, its peer has
-    /// ended, or it is given up. Whoever reads sees no difference.
+    /// Reads of its request once, without waiting, up to 4,096 bytes, whether or not it is due; whether anything changed. It is to be
+    /// handed out once it is whole, its peer has ended, or it is given up. Whoever reads it then gets the same bytes as if none had been
+    /// gathered.
     pub fn step(&mut self, routes: &Routes, now: Duration) -> bool
-        // What was gathered and not read yet and what the reader still has, joined, is as before.
+        // The bytes gathered and not read yet, and then those that the reader still has, are the same bytes as before.
         ensures invisible { Keeps (prepend_known (drop self.old.reader.at self.old.reader.bytes.items) (R.remaining self.old.reader.reader))
             (prepend_known (drop self.new.reader.at self.new.reader.bytes.items) (R.remaining self.new.reader.reader)) }
-        // It is of the same peer.
+        // The reader stays that of the same peer.
         ensures peer { R.peer self.new.reader.reader ≡ R.peer self.old.reader.reader }
         // Its writer stays, and so does whether its reader and writer never wait.
         ensures writer { (self.new.writer ≡ self.old.writer) × (self.new.is_limited ≡ self.old.is_limited) }
         // Once it is to be handed out nothing more is read of it, and it isn't given up.
         ensures rests { self.old.rests ≡ true →
             (self.new.rests ≡ true) × (self.new.reader ≡ self.old.reader) × (self.new.cause ≡ self.old.cause) }
-        // If it is unfinished and due it is read, or it is to be handed out after this.
+        // If it is unfinished and due, it is read, or it is to be handed out after this.
         ensures read { IsReadIfDue self.old self.new }
         // When the request came stays. If bytes come, `now` is when bytes came last. `looked`, when lateness was last looked at, stays or
         // becomes `now`.
@@ -256,7 +256,7 @@ impl<R: Inward, W: Outward> Slot<R, W> {
             return false;
         }
         self.is_due = true;
-        // Of a head none are taken beyond its limit, and of a request none beyond its end.
+        // Of a head no bytes are taken beyond its limit, and of a request none beyond its end.
         match self.reader.fill(self.total.unwrap_or(MAX_HEAD)) {
             Filled::Grew => {
                 self.heard = now;
@@ -282,12 +282,12 @@ impl<R: Inward, W: Outward> Slot<R, W> {
         }
     }
 
-    /// Takes what is there of its request, if it `may` be read in this round and is due; whether anything changed.
+    /// Takes a step if the request `may` be read in this round and is due; whether anything changed.
     pub fn turn(&mut self, may: bool, routes: &Routes, now: Duration) -> bool
-        // What was gathered and not read yet and what the reader still has, joined, is as before.
+        // The bytes gathered and not read yet, and then those that the reader still has, are the same bytes as before.
         ensures invisible { Keeps (prepend_known (drop self.old.reader.at self.old.reader.bytes.items) (R.remaining self.old.reader.reader))
             (prepend_known (drop self.new.reader.at self.new.reader.bytes.items) (R.remaining self.new.reader.reader)) }
-        // It is of the same peer.
+        // The reader stays that of the same peer.
         ensures peer { R.peer self.new.reader.reader ≡ R.peer self.old.reader.reader }
         // Its writer stays, and so does whether its reader and writer never wait.
         ensures writer { (self.new.writer ≡ self.old.writer) × (self.new.is_limited ≡ self.old.is_limited) }

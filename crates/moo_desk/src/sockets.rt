@@ -55,17 +55,17 @@ pub trait Sockets {
     fn accept(&mut self) -> Result<Self::Socket>
         ensures { does self.old (accepts result) self.new };
 
-    /// Has reads and writes of a connection not wait; whether they don't.
+    /// Sets that reads and writes of a connection never wait; whether that was done.
     fn unblock(&mut self, socket: &Self::Socket) -> bool
         ensures { does self.old (unblocks socket.now result) self.new };
 
-    /// The reader and the writer of a connection. None if memory runs out; it is closed then.
+    /// The reader and the writer of a connection. None if memory runs out; the connection is closed then.
     fn split(&mut self, alloc: Global, socket: Self::Socket) -> Option<(Self::Reader, Self::Writer)>
         ensures does { does self.old (splits socket result) self.new }
         ensures pair { IfSome result (λ both. (Self.Reader.peer both.0 ≡ number socket) × (Self.Writer.peer both.1 ≡ number socket)) };
 
-    /// Watches a descriptor that isn't watched yet: from then on a wait also ends when it can be read or written, as `interest` says, and tells
-    /// this mark. An error if the system can't watch it, for example since it is watched already.
+    /// Watches a descriptor that isn't watched yet: from then on a wait also ends when it can be read or written, as `interest` says, and
+    /// tells this mark. An error if the system can't watch it, for example since it is watched already.
     fn register(&mut self, descriptor: RawFd, mark: usize, interest: Interest) -> Result<()>
         ensures { does self.old (registers descriptor mark interest (is_ok result)) self.new };
 

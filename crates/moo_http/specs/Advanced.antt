@@ -13,7 +13,7 @@ HasAdvanced old new = (old.failed ≡ false) × ((new.failed ≡ true) ⊎ (old.
 abbrev pub IsStillOrAdvanced : {S : Type 0} → Ghosts S → World S → World S → Type 0
 IsStillOrAdvanced g old new = (place : Place) → Stands g old place → (new ≡ old) ⊎ HasAdvanced old new
 
--- The World was moved so. Unless a batch was accepted, or the store failed in one, it is the very World.
+-- Wherever the World was, it was led on by this way. Unless a batch was accepted, or the store failed in one, it is the very World.
 pub record AdvancesBy {S : Type 0} (g : Ghosts S) (old new : World S) (Way : Place → Place → Type 0) : Type 0 where
   pub moves : MovesBy g old new Way
   pub still : IsStillOrAdvanced g old new

@@ -5,7 +5,7 @@ use Rattle.moo_http.specs.declared.service.ServiceFault.{ServiceFault}
 use Rattle.moo_http.specs.declared.service.ServiceFault.TheVariants.{Port}
 use Rattle.moo_http.specs.Lines.{listening_line, served_line}
 
--- a front of a text is written
+-- the beginning of a text is written, of any length
 abbrev pub WritesFront : List ℕ → Option (List ℕ) → Option (List ℕ) → Type 0
 WritesFront text before behind = (sent : ℕ) × Appends before behind (take sent text)
 

@@ -19,7 +19,7 @@ HasSeenAsked maps (Calls mode batch) (Replied reply) kept next = HasSeenReply Se
 HasSeenAsked maps (Each each) (each_replied replies seq) kept next = HasSeenEach SeesRefusal maps each.batches replies kept next
 HasSeenAsked maps asked outcome kept next = ⊤
 
--- the lines with which an outcome is told: each reply that refuses with the first that is left
+-- the lines with which an outcome is told: each reply that refuses with the first refusal not told yet
 abbrev pub TellsOutcome : List Why → RequestOutcome → List (Option (String Global)) → List Why → Type 0
 TellsOutcome whys (Replied reply) lines rest = (line : Option (String Global)) × (lines ≡ line ∷ []) × TellsReply whys reply line rest
 TellsOutcome whys (each_replied replies seq) lines rest = AreTold whys replies lines rest

@@ -33,14 +33,14 @@ Gets from (Request is_head asks_why asked) output to =
     (o : RequestOutcome) × (whys : List (Option (List ℕ))) × (asks_why ≡ false → whys ≡ []) × MayAnswer from asked o to
     × (output ≡ response_text is_head (response_with asks_why whys o))
 
--- what is written of an output, by the result: all of it; or a front of it, if the writer failed; or nothing
+-- what is written of an output, by the result: all of it; or the beginning of it, if the writer failed; or nothing
 abbrev pub Written : Result (Unit {0}) ServeFault → Option (List ℕ) → Option (List ℕ) → List ℕ → Type 0
 Written (Ok done) before behind output = Appends before behind output
 Written (Err Write) before behind output = (sent : ℕ) × Appends before behind (take sent output)
 Written (Err Read) before behind output = behind ≡ before
 Written (Err OutOfMemory) before behind output = behind ≡ before
 
--- A World at this place was asked, and of the answer this is written, by the result. It says why it refuses only if that was asked.
+-- A World at this place was asked, and its answer is written, as far as the result says. It says why it refuses only if that was asked.
 abbrev pub AnswersAsked : (is_head asks_why : Bool) → Asked → Result (Unit {0}) ServeFault → Place → Place
     → Option (List ℕ) → Option (List ℕ) → Type 0
 AnswersAsked is_head asks_why asked result from to before behind =

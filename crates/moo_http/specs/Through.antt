@@ -7,9 +7,9 @@ use Rattle.moo_http.specs.Turns.{Exchanged, Yields}
 use Rattle.moo_http.specs.declared.fault.ServeFault.{ServeFault}
 use Rattle.moo_http.specs.declared.fault.ServeFault.TheVariants.{Read, Write, OutOfMemory}
 
--- The peer's bytes are given, and this is what its writer took and what it holds at the end. Between them the desk gathered and sent, by
--- steps that whoever reads and writes doesn't see; so the judge saw these bytes left, these before, and wrote up to these. What the judge
--- left of the bytes is what is left.
+-- The bytes of a connection as its peer sees them and as its judge does, and those of the answer that wait to be sent. A desk between the
+-- two gathers the request and sends the answer on: the judge reads the bytes of the peer, and what the writer took and what waits, joined,
+-- is what the judge wrote.
 pub record Passes (peer judge : Traffic) (unsent : List ℕ) : Type 0 where
   -- what was gathered, and then what the reader has: at first nothing was gathered
   pub gathered : Keeps (prepend_known [] peer.left) judge.left
@@ -32,12 +32,12 @@ abbrev pub AnswersPass : Type 0
 AnswersPass = (from to : Place) (peer judge : Traffic) → Passes peer judge [] → Exchanged (Ok tt) from to judge →
     Exchanged (Ok tt) from to peer
 
--- If something is left to be sent of an answer that was written whole, the peer got a front of it.
+-- If something is left to be sent of an answer that was written whole, the peer got the beginning of it.
 abbrev pub FrontsPass : Type 0
 FrontsPass = (from to : Place) (peer judge : Traffic) (unsent : List ℕ) → Passes peer judge unsent →
     Exchanged (Ok tt) from to judge → Exchanged (Err Write) from to peer
 
--- If a connection met a fault, its peer sees what belongs to that fault.
+-- If a connection met a fault, its peer got the beginning of the answer (Write), or nothing of it (Read and OutOfMemory).
 abbrev pub FaultsPass : Type 0
 FaultsPass = (fault : ServeFault) (from to : Place) (peer judge : Traffic) (unsent : List ℕ) → Passes peer judge unsent →
     Exchanged (Err fault) from to judge → FailedThrough fault from to peer

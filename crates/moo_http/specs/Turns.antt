@@ -27,8 +27,8 @@ use Rattle.moo_http.specs.Settling.{HasNoneLeft}
 abbrev pub Yields : Place → Place → Traffic → List ℕ → Type 0
 Yields from to bytes output = (received : Received) × Takes bytes.left bytes.rest received × Gets from received output to
 
--- What came of a connection, by the result: the answer is written whole; or a front of it; or, if the reader failed, nothing was asked;
--- or memory was refused, before anything was asked or after that, and nothing is written.
+-- What came of a connection, by the result: the answer is written whole; or the beginning of it, if the writer failed; or nothing was asked
+-- or written, if the reader failed; or nothing is written, if memory was refused before the World was asked or after that.
 abbrev pub Exchanged : Result (Unit {0}) ServeFault → Place → Place → Traffic → Type 0
 Exchanged (Ok done) from to bytes = (output : List ℕ) × Yields from to bytes output × Appends bytes.before bytes.after output
 Exchanged (Err Write) from to bytes =
@@ -116,8 +116,8 @@ module _ {A R W : Type 0} (source : Arrivals.Ghosts A R W) (reader : Reading.Gho
   abbrev pub AttendsAll : ℕ → ℕ → A → Place → A → Place → Type 0
   AttendsAll answered failed old from new to = Attended answered failed old from new to × HasNoneLeft source.loses answered new
 
-  -- What comes of a service over one source, by its result: its turns lead from place to place, and its two lines are written, or a front
-  -- of them.
+  -- What comes of a service over one source, by its result: its turns lead from place to place, and its two lines are written, or the
+  -- beginning of them.
   abbrev pub ServesFrom : Result (Unit {0}) ServiceFault → ℕ → ℕ → A → Place → A → Place → Option (List ℕ) → Option (List ℕ) → Type 0
   ServesFrom result port count old from new to before after =
       SaysByResult (λ answered failed. AttendsAll answered failed old from new to) ((new ≡ old) × (to ≡ from)) result port count before after

@@ -152,8 +152,8 @@ pub(crate) fn consult<S: Alter + Drop>(
     asked: &Asked,
     whys: &mut Whys,
 ) -> RequestOutcome
-    // Wherever the World was, what comes of it is what holds there. Only a batch that is run leads on: it keeps the cells of the rows that
-    // it leaves as they are, and all numbers.
+    // Wherever the World was, the outcome is what is defined there, or NoMemory, and the World is where that leads. Only a batch that is
+    // run leads on: it keeps all numbers, and the cells of the rows that it leaves as they are.
     ensures moves { AdvancesBy S.Store world.old world.new (λ from to. MayAnswer from asked.now result to) }
     // Of a batch, or of each call that is asked alone, a refusal is kept if it is refused, and else none.
     ensures seen { HasSeenAsked world.old.rows.maps asked.now result (seen_by whys.old) (seen_by whys.new) }

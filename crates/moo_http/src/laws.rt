@@ -13,7 +13,7 @@ ghost use Rattle.moo_http.specs.Turns.{Attended};
 
 use moo_arrivals::Arrivals;
 
-/// Whatever a World that works answers but 503, is the defined answer at its state, and leads to the defined next state.
+/// Each answer of a World that works, but 503, is the defined answer at its state, and leads to the defined next state.
 pub fn answers_are_defined()
     ensures { (m : Moment) (asked : Asked) (o : RequestOutcome) (to : Place) → MayAnswer (Works m) asked o to →
         (response_of o).status ≢ 503 →
@@ -22,15 +22,15 @@ pub fn answers_are_defined()
 
 /// What is exchanged through a desk is what the peer sees: all of its answer once nothing is left to be sent, else the beginning of it.
 pub fn exchanges_pass_through()
-    // If nothing is left to be sent of an answer, the peer got all of it; if something is left, the beginning of it.
+    // If nothing is left to be sent of an answer that was written whole, the peer got all of it.
     ensures sent { AnswersPass }
-    // If a part of an answer isn't sent, the peer got the beginning of it.
+    // If a part of such an answer isn't sent, the peer got the beginning of it.
     ensures lost { FrontsPass }
-    // If the connection met a fault, the peer sees what belongs to that fault.
+    // If the connection met a fault, the peer got the beginning of the answer (Write), or nothing of it (Read and OutOfMemory).
     ensures failed { FaultsPass }
 {}
 
-/// The turns of connections lead on by accepted batches, and by nothing else: to whatever may be left where they end.
+/// The turns of connections lead on by accepted batches, and by nothing else: to each moment that may be left where they end.
 pub fn connections_lead_on<A: Arrivals>()
     // If accepted batches led to where the turns began, accepted batches lead to where they end.
     ensures leads { (m : Moment) (answered failed : ℕ) (old new : A) (from to : Place) →

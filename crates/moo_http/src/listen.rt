@@ -32,12 +32,12 @@ pub fn serve_connection<S: Alter + Drop, R: Incoming, W: Write>(
     world: &mut World<S>,
     note: &mut Note,
 ) -> bool
-    // Wherever the World was: it is answered, and then all of its answer is written; or it met a fault of `serve_one`, and what was
-    // written of the answer is by the fault. Just the batch that was asked led the World on, if that was run.
+    // Wherever the World was: the connection is answered, and all of its answer is written; or it met a fault of `serve_one`, which says
+    // what was written of the answer. Only a batch that it asked to run led the World on.
     ensures visited { AdvancesBy S.Store world.old world.new (λ from to.
         Visited (HasFailed R.fails connection.new.reader ⊎ (connection.old.is_limited ≡ false)) result from to
         (traffic_of R.Read W.Write connection.old connection.new)) }
-    // One whose waits aren't limited isn't read, nothing is written to it, and the World isn't asked.
+    // A connection whose waits aren't limited isn't read, nothing is written to it, and the World isn't asked.
     ensures unlimited { connection.old.is_limited ≡ false →
         (result ≡ false) × (world.new ≡ world.old) × (connection.new ≡ connection.old) }
     // If it was answered by a refusal, the note says that it is to be closed gently.
@@ -82,8 +82,8 @@ pub fn serve_next<S: Alter + Drop, A: Arrivals>(
     is_answered
 }
 
-/// Asks a source once for a connection whose answer was lost after its turn. If there is one it has failed, and the log is told. Whether
-/// there may be more. If none was answered none can be lost, and nothing is asked.
+/// Asks a source once for a connection whose answer was lost after its turn; whether there was one, which counts as failed, and of which
+/// the log is told. If none counts as answered none can be lost, and the source isn't asked.
 fn settle_one<'a, A: Arrivals, C: Clock + Eprint>(
     arrivals: &mut A,
     log: &mut Log<'a, C>,
@@ -162,7 +162,8 @@ fn serve_each<'a, S: Alter + Drop, A: Arrivals, C: Clock + Eprint>(
 }
 
 /// Serves this many connections of a source, one after another: how many were answered, and how many failed, since they couldn't be
-/// taken, `serve_one` met a fault, or the answer was lost after that. One that failed doesn't stop the next. The log is told of each.
+/// taken, their waits had no limit, `serve_one` met a fault, or the answer was lost after that. A failure doesn't stop the next one. The
+/// log is told of each.
 pub fn serve_on<'a, S: Alter + Drop, A: Arrivals, C: Clock + Eprint>(
     means: &Means<'_>,
     arrivals: &mut A,
@@ -172,10 +173,9 @@ pub fn serve_on<'a, S: Alter + Drop, A: Arrivals, C: Clock + Eprint>(
 ) -> Served
     // Each connection is counted, as answered or as failed.
     ensures count { result.answered + result.failed ≡ count }
-    // The World was led on by what the connections asked that the source handed out, in their order, each of which got its answer or
-    // failed, and by nothing else. So many of them were answered, and so many failed. Just the batches that they asked and that were run
-    // wrote to the tables: each keeps the cells of what stays, and all numbers. At last the source told of no lost answer, unless none
-    // counts as answered.
+    // The World was led on by what the connections asked that the source handed out, in their order, and by nothing else. So many of them
+    // were answered, and so many failed. Only batches that were run wrote to the tables: each keeps all numbers, and the cells of what
+    // stays. At last the source told of no lost answer, unless none counts as answered.
     ensures serves { AdvancesBy S.Store world.old world.new (λ from to. AttendsAll A.Arrivals A.Reader.Read A.Reader.fails
         A.Writer.Write result.answered result.failed arrivals.old from arrivals.new to) }
 {

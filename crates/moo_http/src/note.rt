@@ -92,7 +92,8 @@ fn route_of(asked: &Asked) -> Route {
     }
 }
 
-/// How a connection is closed after its answer. A refusal may leave a part of the request unread; else only more than was asked for can be.
+/// How a connection is closed after its answer: gently after a refusal, which may leave a part of the request unread, else only if bytes
+/// came beyond it.
 fn closing_after(asked: &Asked) -> Closing
     ensures { (refusal : Refusal) → asked.now ≡ Asked.Refused refusal → result ≡ Closing.Gently }
 {
@@ -163,7 +164,7 @@ impl Note {
         self.trouble = trouble_of(outcome);
     }
 
-    /// Notes that the connection failed, and is to be closed at once. What was noted before stays, as that the store failed.
+    /// Notes that the connection failed, and is to be closed at once. A trouble that was noted before stays, as that the store failed.
     pub(crate) fn fails(&mut self, trouble: Trouble) {
         if self.trouble.is_none() {
             self.trouble = Some(trouble);

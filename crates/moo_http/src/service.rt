@@ -114,8 +114,8 @@ fn say_served<W: Write>(alloc: Global, output: &mut W, served: Served) -> Result
 
 /// Says that it listens on this port, serves so many connections of a source, and says how many were answered and how many failed.
 ///
-/// The faults: Write if the output fails, and OutOfMemory, with the beginning of the two lines written: then no connection was taken, or all of
-/// them were. A connection that fails isn't a fault.
+/// The faults: Write if the output fails, and OutOfMemory, with the beginning of the two lines written: then no connection was taken, or
+/// all of them were. A connection that fails isn't a fault.
 pub fn serve_from<S: Alter + Drop, A: Arrivals, C: Clock + Eprint, W: Write>(
     tools: &Tools<'_, C>,
     arrivals: &mut A,

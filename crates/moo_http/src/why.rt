@@ -13,8 +13,7 @@ use moo_reasons::{Whys, call_why};
 use moo_text::Reply;
 use std::alloc::{AllocError, Global};
 
-/// The sentence that says why a text isn't a call. None if the text is one, or isn't known. AllocError if memory runs out, as in each
-/// function of this file.
+/// The sentence that says why a text isn't a call. None if the text is one, or isn't known. AllocError if memory runs out.
 fn text_why(alloc: Global, text: &Option<String>) -> Result<Option<String>, AllocError> {
     match text {
         Some(text) => Ok(Some(call_why(alloc, text)?)),
@@ -22,7 +21,7 @@ fn text_why(alloc: Global, text: &Option<String>) -> Result<Option<String>, Allo
     }
 }
 
-/// The list with this one entry.
+/// The list with this one entry. AllocError if memory runs out.
 fn one_why(alloc: Global, why: Option<String>) -> Result<Vec<Option<String>>, AllocError>
     ensures { IfOk result (λ whys. whys.items ≡ why ∷ []) }
 {
@@ -31,7 +30,8 @@ fn one_why(alloc: Global, why: Option<String>) -> Result<Vec<Option<String>>, Al
     Ok(whys)
 }
 
-/// The sentence that says what is wrong with a body, in a list. The list is empty if no body was refused, or that isn't known.
+/// The sentence that says what is wrong with a body, in a list; no sentence if no body was refused, or that isn't known. AllocError if
+/// memory runs out.
 fn body_whys(alloc: Global, asked: &Asked) -> Result<Vec<Option<String>>, AllocError> {
     let Asked::Refused(refused) = asked else {
         return Ok(Vec::new(alloc));
@@ -43,14 +43,15 @@ fn body_whys(alloc: Global, asked: &Asked) -> Result<Vec<Option<String>>, AllocE
     }
 }
 
-/// The sentence that says why a call that was asked alone is refused, or why its text isn't a call. None if it is answered.
+/// The sentence that says why a call that was asked alone is refused, or why its text isn't a call. None if it is answered. AllocError if
+/// memory runs out.
 fn alone_why(
     alloc: Global,
     seen: &mut Whys,
     reply: &Option<Reply>,
     text: Option<&Option<String>>,
 ) -> Result<Option<String>, AllocError>
-    // A reply that refuses takes the first refusal that was seen and is left.
+    // A reply that refuses takes the first refusal that was seen and not told yet.
     ensures { IfOk result (λ line. TellsPlace seen.old.seen.items reply.now line seen.new.seen.items) }
 {
     match (reply, text) {
@@ -60,14 +61,15 @@ fn alone_why(
     }
 }
 
-/// The sentences that say why calls that were asked alone are refused, each in the place of its call, and None for one that is answered.
+/// Why calls that were asked alone are refused: a sentence in the place of each call, and None for one that is answered. AllocError if
+/// memory runs out.
 fn each_whys(
     alloc: Global,
     seen: &mut Whys,
     replies: &Replies,
     texts: &[Option<String>],
 ) -> Result<Vec<Option<String>>, AllocError>
-    // Each reply that refuses takes the first refusal that was seen and is left.
+    // Each reply that refuses takes the first refusal that was seen and not told yet.
     ensures { IfOk result (λ lines. AreTold seen.old.seen.items replies.now lines.items seen.new.seen.items) }
 {
     let mut each = Vec::new(alloc);
@@ -105,7 +107,7 @@ fn last_place(asked: &Asked, judged: u32) -> Option<u32> {
 }
 
 /// The sentence that says which call spent the ticks of the request, in a list: None if none did. A call alone isn't judged if no tick was
-/// left for it, and then it is the one.
+/// left for it, and then it is the one. AllocError if memory runs out.
 fn spent_whys(
     alloc: Global,
     seen: &mut Whys,
@@ -124,7 +126,7 @@ fn spent_whys(
 }
 
 /// The sentences that say why what was asked is refused: of calls that are asked alone one for each, else the first. They say it of a body,
-/// of a batch, of calls alone, and of the call that spent the ticks of the request.
+/// of a batch, of calls alone, and of the call that spent the ticks of the request. AllocError if memory runs out.
 fn find_whys(
     alloc: Global,
     seen: &mut Whys,
@@ -150,7 +152,8 @@ pub(crate) fn answer_with_whys(
     inquiry: &Inquiry,
     outcome: RequestOutcome,
 ) -> Result<Vec<u8>, AllocError>
-    // Each reply that refuses is told with the first refusal that was seen and is left; nothing is told if that wasn't asked.
+    // The bytes are the answer to the outcome. Each reply that refuses is told with the first refusal that was seen and not told yet, or no
+    // sentence is told, as if that wasn't asked.
     ensures { IfOk result (λ bytes. (whys : List (Option (List ℕ))) × (inquiry.now.asks_why ≡ false → whys ≡ [])
         × (bytes.items ≡ response_text inquiry.now.is_head (response_with inquiry.now.asks_why whys outcome))
         × IsToldWith seen.old.seen.items outcome whys) }

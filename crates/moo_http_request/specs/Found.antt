@@ -9,14 +9,14 @@ use Rattle.moo_http_request.specs.declared.head.HeadSpans.{HeadSpans}
 use Rattle.moo_http_request.specs.declared.head.HeadRead.{HeadRead}
 use Rattle.moo_http_request.specs.declared.head.HeadRead.TheVariants.{Whole, Refused, Empty}
 
--- a head is at the front of the bytes, whatever follows, and its parts are where they were found
+-- a head is at the front of the bytes, whichever bytes follow, and its parts are where they were found
 pub record HeadStands (bytes : List ℕ) (found : HeadSpans) : Type 0 where
   pub head : RequestHead
   pub begins : (more : List ℕ) → BeginsWithHead (bytes ++ more) head (drop found.spans.len bytes ++ more)
   pub at : IsRequestAt bytes found.headers found.spans head
   pub within : IsRequestWithin bytes found.headers found.spans
 
--- an input that isn't empty begins with no head
+-- the input isn't empty, and begins with no head within the limits
 abbrev pub Lacks : List ℕ → Type 0
 Lacks input = (input ≢ []) × HasNoHead input
 
@@ -26,7 +26,7 @@ FindsHead left given (Whole found) = HeadStands given found
 FindsHead left given Refused = Settles left given Lacks
 FindsHead left given Empty = (given ≡ []) × IsAtEnd left
 
--- what bytes say of the head by themselves, whatever follows
+-- what bytes say of the head by themselves, whichever bytes follow
 abbrev pub ShowsHead : List ℕ → HeadRead → Type 0
 ShowsHead bytes (Whole found) = HeadStands bytes found
 ShowsHead bytes Refused = (more : List ℕ) → Lacks (bytes ++ more)

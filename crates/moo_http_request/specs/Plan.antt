@@ -72,7 +72,7 @@ abbrev pub allowed_plan : Endpoint → List ℕ → List ℕ → List Line → P
 allowed_plan endpoint method path lines =
     if bytes_eq method (method_text (method_of endpoint)) then endpoint_plan endpoint path lines else Decided (Refused (NotAllowed endpoint))
 
--- the routes that are refused to a request for another machine: all but these
+-- whether a route is refused to a request for another machine: all are, but those of batches, `/seq` and that of one object
 abbrev pub is_guarded : Endpoint → Bool
 is_guarded (Batch mode) = false
 is_guarded (About Seq) = false
@@ -91,7 +91,7 @@ routed_plan None method path lines = Decided (Refused (path_refusal path))
 routed_plan (Some endpoint) method path lines =
     if is_guarded endpoint && not (list_all is_own_line lines) then Decided (Refused Forbidden) else allowed_plan endpoint method path lines
 
--- what a method, a target and lines decide: a page of a browser is refused, whatever it asks; else the route of the path plans the request
+-- what a method, a target and lines decide: a page of a browser is refused, no matter what it asks; else the route of the path plans it
 abbrev pub plan_of : List ℕ → List ℕ → List Line → Plan
 plan_of method target lines =
     if is_from_page lines then Decided (Refused Forbidden) else routed_plan (endpoint_of (path_of target)) method (path_of target) lines

@@ -35,7 +35,7 @@ pub data IsSparing (given : List ℕ) : Type 0 where
   body : (head : RequestHead) (rest : List ℕ) → BeginsWithHead given head rest → length given ≤ length (print_request head) + body_size (plan_by head)
       → IsSparing given
 
--- From old to new the reader gave these bytes, no more than are needed. If it tells its bytes they were in front and are gone.
+-- From old to new the reader gave these bytes, no more than are needed. If it tells its bytes, they were the first, and are gone.
 pub record GivesSparingly (old new : Option (List ℕ)) (given : List ℕ) : Type 0 where
   pub known : Consumes old new given
   pub sparing : IsSparing given

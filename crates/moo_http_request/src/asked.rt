@@ -54,7 +54,7 @@ pub enum Mode {
 pub enum Form {
     /// One batch.
     Batch(Mode),
-    /// A batch each, which is asked.
+    /// Each call is a batch of its own, which is only asked.
     Each,
 }
 
@@ -72,7 +72,7 @@ pub enum Asked {
 }
 
 impl Asked {
-    /// What a request asks that is refused for this reason. It tells of nothing that is wrong with a body.
+    /// What a refused request asks: nothing. The refusal has this reason, and tells of nothing that is wrong with a body.
     pub(crate) fn refuse(refusal: Refusal) -> Asked
         ensures { result ≡ Asked.Refused refusal }
     {

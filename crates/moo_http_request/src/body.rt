@@ -56,7 +56,7 @@ fn read_calls(alloc: Global, texts: &[&str]) -> Result<CallsRead, AllocError>
     Ok(CallsRead::Whole(Calls::from_vec(calls)))
 }
 
-/// What is wrong with the text of a call, by its number from 1. Unknown if memory for the text is refused.
+/// What is wrong with the body whose call of this number, from 1, isn't one: that text. None if memory for it is refused.
 fn bad_call(alloc: Global, texts: &[&str], number: u32) -> Option<BodyFault> {
     let text = texts.get((number as usize).saturating_sub(1))?;
     let text = String::from_str(alloc, text).ok()?;
@@ -141,12 +141,12 @@ pub(crate) fn follow_plan<R: Incoming>(
     requires bound { IsBounded plan }
     // What the reader gave follows the bytes that were there.
     ensures grows { OnOk result (Grows (R.remaining reader.old) (R.remaining reader.new) bytes.old.items bytes.new.items) }
-    // What is asked is what the plan and the bytes after the head ask, whatever follows them.
+    // What is asked is what the plan and the bytes after the head ask, whichever bytes follow.
     ensures asks { IfOk result (λ asked. Settles (R.remaining reader.new) bytes.new.items
         (λ input. PlanAsks plan (drop start input) asked)) }
     // No byte after the body is read.
     ensures few { OnOk result (length bytes.new.items ≤ max (length bytes.old.items) (start + body_size plan)) }
-    // After a fault the reader gave no more than was left of the body.
+    // After a fault the reader gave no more bytes than the body still lacked.
     ensures breaks { OnErr result
         (TakesAtMost ((start + body_size plan) - length bytes.old.items) (R.remaining reader.old) (R.remaining reader.new)) }
     // Read is answered only if the reader failed.

@@ -36,7 +36,7 @@ pub enum HeadRead {
     Empty,
 }
 
-/// What the bytes say of the head, whatever follows them. `None` if it may go on after them.
+/// What the bytes say of the head, whichever bytes follow. `None` if the head may go on after them.
 pub(crate) fn parse_head(bytes: &[u8]) -> Option<HeadRead>
     requires { (0 < length bytes.now) × (length bytes.now ≤ MAX_HEAD) }
     ensures found { IfSome result (ShowsHead bytes.now) }
@@ -60,7 +60,7 @@ pub(crate) fn read_head<R: Incoming>(
     requires { bytes.old.items ≡ [] }
     // The bytes are those that the reader gave.
     ensures takes { OnOk result (Consumes (R.remaining reader.old) (R.remaining reader.new) bytes.new.items) }
-    // A head that was found is at their front; one that is refused can't follow, and nothing was there if it is empty.
+    // If a head is found, it is at their front; if it is refused, they begin with no head, whichever follow; if it is empty, none came.
     ensures head { IfOk result (FindsHead (R.remaining reader.new) bytes.new.items) }
     ensures few { OnOk result (length bytes.new.items ≤ MAX_HEAD) }
     // Less than 1,024 bytes were read after a head.

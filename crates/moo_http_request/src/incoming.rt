@@ -16,7 +16,9 @@ pub trait Incoming: Read {
     /// Reads bytes into the buffer, as `Read::read` does, and answers how many; 0 is the end. An error if the read failed.
     fn receive(&mut self, buf: &mut [u8]) -> Result<usize>
         ensures bound { ReadsAtMost result buf.new }
+        // The bytes are taken from what the reader still had.
         ensures bytes { ReadConsumes (Self.remaining self.old) (Self.remaining self.new) result buf.new }
+        // An error is the reader's own: this read of it failed.
         ensures failed { OnErr result (fails self.old self.new) };
 }
 

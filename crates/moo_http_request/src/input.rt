@@ -56,7 +56,7 @@ pub(crate) fn read_until<R: Incoming>(
     // An input that ends before the limit has nothing left.
     ensures end { IfOk result (λ whole. whole ≡ false →
         (length bytes.new.items < limit) × IsAtEnd (R.remaining reader.new)) }
-    // After a fault the reader gave no more than was wanted.
+    // After a fault the reader gave no more bytes than the limit still left.
     ensures breaks { OnErr result (TakesAtMost (limit - length bytes.old.items) (R.remaining reader.old) (R.remaining reader.new)) }
     // Read is answered only if the reader failed.
     ensures cause { IfErr result (λ fault. fault ≡ ReadFault.Read → HasFailed R.fails reader.new) }

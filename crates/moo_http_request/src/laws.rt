@@ -24,7 +24,7 @@ pub fn routes_are_known()
     ensures object { endpoint_of (codes "/object/12") ≡ Some (About Object) }
     // A path of each topic names that topic.
     ensures topics { map (λ topic. endpoint_of (sample_path topic)) all_topics ≡ map (λ topic. Some (About topic)) all_topics }
-    // These have none.
+    // These paths have none.
     ensures deeper { endpoint_of (codes "/object/1/2") ≡ None }
     ensures bare { endpoint_of (codes "/object/") ≡ None }
     ensures unknown { endpoint_of (codes "/nothing") ≡ None }

@@ -5,7 +5,7 @@ ghost use Rattle.moo_http_request.specs.Numbers.{bounded_of, number_of};
 
 use moo_text::digit_value;
 
-/// The number with one more digit at its end. One that is over the limit already stays, so that it can't overflow.
+/// The number with one more digit at its end. A number that is over the limit already stays, so that it can't overflow.
 fn with_digit(number: u64, digit: u64, most: u64) -> u64
     // So ten times the limit can't overflow.
     requires limit { most < 2 ^ 59 }

@@ -42,7 +42,7 @@ fn is_why_query(query: &str) -> bool
     query == "why" || query == "why=" || query == "why=1"
 }
 
-/// Whether what follows the first question mark of a target asks why it is refused.
+/// Whether what follows the first question mark of a target asks why its request is refused.
 fn has_why_query(target: &str) -> bool
     ensures { result ≡ is_why target.now }
 {
@@ -51,7 +51,7 @@ fn has_why_query(target: &str) -> bool
         .is_some_and(|(_, query)| is_why_query(query))
 }
 
-/// Whether a target asks why it is refused, if it is.
+/// Whether a target asks to be told why its request is refused, if it is refused.
 pub(crate) fn asks_why(target: &[u8]) -> bool
     requires text { IsUtf8 target.now }
     ensures { result ≡ is_why target.now }
@@ -227,7 +227,7 @@ fn plan_route(
     }
 }
 
-/// The plan of a request, by the path of its target. One that a page of a browser sent is refused, whatever it asks.
+/// The plan of a request, by the path of its target. A request that a page of a browser sent is refused, no matter what it asks.
 fn plan_path(routes: &Routes, method: &[u8], path: &str, bytes: &[u8], lines: &[HeaderSpan]) -> Plan
     // The places of the lines are inside the bytes.
     requires within { All (IsHeaderWithin (length bytes.now)) lines.now }

@@ -75,9 +75,10 @@ pub fn read_request<R: Incoming>(
     routes: &Routes,
     reader: &mut R,
 ) -> Result<Received, ReadFault>
-    // What is answered is what the bytes ask, whatever follows them, and few more are taken.
+    // What is answered is what the bytes of the connection ask, whichever follow those that were read. No more are read than are needed:
+    // 8,192 at most, or none after the body; and after a head at most 1,023, or as many as its body has.
     ensures takes { IfOk result (Takes (R.remaining reader.old) (R.remaining reader.new)) }
-    // After a fault it has taken some bytes, and no more than it needed.
+    // After a fault the reader gave some bytes, no more than were needed.
     ensures breaks { OnErr result (StopsReading (R.remaining reader.old) (R.remaining reader.new)) }
     // Read is answered only if the reader failed.
     ensures cause { IfErr result (λ fault. fault ≡ ReadFault.Read → HasFailed R.fails reader.new) }

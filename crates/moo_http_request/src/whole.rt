@@ -29,12 +29,13 @@ fn body_size(plan: &Plan) -> u64
     }
 }
 
-/// What a request wants that begins with these bytes, of which there are 1 to 8,192. `Head` if no head ends in them and it may still come. Else how many bytes the request
-/// has in all, up to 1,056,768, the most of a head and of a body: with so many it is whole, and more bytes change nothing of what is asked; with fewer it is cut off.
+/// What a request wants that begins with these bytes, of which there are 1 to 8,192. `Head` if no head ends in them and it may still
+/// come. Else how many bytes the request has in all, up to 1,056,768, the most of a head and of a body: with so many it is whole, and
+/// more bytes change nothing of what is asked; with fewer it is cut off.
 pub fn bytes_wanted(routes: &Routes, bytes: &[u8]) -> Wanted
-    // There is a byte, and no more of them than a head may have.
+    // There are 1 to 8,192 bytes.
     requires { (0 < length bytes.now) × (length bytes.now ≤ MAX_HEAD) }
-    // The bytes show that: no head ends in them yet, or the request is whole from so many bytes on, and cut off before.
+    // The bytes show that no head ends in them yet, or that the request is whole from so many bytes on, and cut off before.
     ensures shows { ShowsEnd bytes.now result }
     // No request wants more than the longest head and the longest body.
     ensures bound { (n : ℕ) → result ≡ Total n → n ≤ 1056768 }

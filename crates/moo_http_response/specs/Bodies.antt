@@ -23,7 +23,7 @@ call_body None call word = object (member (codes "call") (number (unsigned call)
 call_body (Some why) call word =
     object (member (codes "call") (number (unsigned call)) (member (codes "error") (string word) (member (codes "why") (string why) no_members)))
 
--- a batch named another number of accepted batches: the present one
+-- the refusal of a batch that named another number of accepted batches, with the present one
 abbrev pub stale_body : ℕ → Data
 stale_body seq = object (member (codes "error") (string (codes "stale")) (member (codes "seq") (number (unsigned seq)) no_members))
 

@@ -27,7 +27,7 @@ entry_of w x = option_map (λ r. record {
   f = r.row.f;
 }) (w.object x)
 
--- the number before the first one that is asked for; from a number below zero on is from zero on
+-- the number before the first one of a page; a page from a number below zero on is that from zero on
 abbrev pub before_page : ObjNo → ObjNo
 before_page n = record { 0 = int_max n.0 (pos 0) -ℤ pos 1 }
 

@@ -10,14 +10,14 @@ use Rattle.moo_http_response.specs.declared.told.Told.{Told}
 use Rattle.moo_http_response.specs.declared.told.Told.TheVariants as told
 use Rattle.moo_http_response.specs.Pages.{page_of}
 
--- a look shows nothing if there is no object
+-- what a question is told at a state; of an object NoObject if no object has the number
 abbrev pub told_of : Question → State → Told
 told_of Seq s = told.Seq s.seq
 told_of (Object n) s = option_map_or told.Object (look_of s.world n) told.NoObject
 told_of (Objects n) s = told.Objects (page_of s.world n) s.seq
 told_of Dump s = told.Dump (dump s)
 
--- memory is taken for what is told
+-- telling takes memory, which may run out: of all but the number of accepted batches
 abbrev pub TellingTakesMemory : Question → Type 0
 TellingTakesMemory Seq = ⊥
 TellingTakesMemory question = ⊤

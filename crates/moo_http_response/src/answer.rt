@@ -10,8 +10,8 @@ use crate::response::print_response;
 use std::alloc::{AllocError, Global};
 
 /// The bytes of the answer to what came of a request: its head and its body, and to HEAD the head alone. If a body, a batch or a call alone
-/// is refused, and it is told why, the last key says it: of calls alone each has the sentence in its place, else it is the first. If the
-/// head is refused, the last key says why if that is asked. `AllocError` if memory is refused.
+/// is refused, and it is told why, the key `why` says it: of calls alone each has the sentence in its place of `whys`, else it is the
+/// first. If the head is refused, `why` has a sentence about that if the request asks. `AllocError` if memory is refused.
 pub fn answer_text(
     alloc: Global,
     outcome: RequestOutcome,

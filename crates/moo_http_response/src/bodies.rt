@@ -12,7 +12,7 @@ use moo_value::{Value as Literal, print_literal};
 use serde_json::{Map, Value, put};
 use std::alloc::{AllocError, Global};
 
-/// An object of JSON as text, without spaces. It has no floats. AllocError if memory runs out, as in each function of this file.
+/// An object of JSON as text, without spaces. It has no floats. AllocError if memory runs out.
 pub(crate) fn print_object(alloc: Global, fields: Map<String, Value>) -> Result<String, AllocError>
     requires { members_have_float (members_view fields.entries) ≡ false }
     ensures { IfOk result (λ text. string_bytes text ≡ compact_text (object (members_view fields.entries))) }
@@ -20,7 +20,7 @@ pub(crate) fn print_object(alloc: Global, fields: Map<String, Value>) -> Result<
     Value::Object(fields).to_string(alloc)
 }
 
-/// The fields of an object of JSON that has a word under `error` alone.
+/// The fields of an object of JSON that has a word under `error` alone. AllocError if memory runs out.
 pub(crate) fn error_fields(alloc: Global, word: &str) -> Result<Map<String, Value>, AllocError>
     ensures { IfOk result (λ fields. members_view fields.entries ≡ member (codes "error") (string word.now) no_members) }
 {
@@ -30,7 +30,7 @@ pub(crate) fn error_fields(alloc: Global, word: &str) -> Result<Map<String, Valu
     Ok(fields)
 }
 
-/// The body with a word under `error` alone.
+/// The body with a word under `error` alone. AllocError if memory runs out.
 pub(crate) fn error_text(alloc: Global, word: &str) -> Result<String, AllocError>
     ensures { IfOk result (λ text. string_bytes text ≡ compact_text (error_body None word.now)) }
 {
@@ -38,7 +38,7 @@ pub(crate) fn error_text(alloc: Global, word: &str) -> Result<String, AllocError
     print_object(alloc, fields)
 }
 
-/// The body that tells of one call: its number under `call`, and what befell it under `error`.
+/// The body that tells of one call: its number under `call`, and what befell it under `error`. AllocError if memory runs out.
 pub(crate) fn call_text(alloc: Global, call: u32, word: &str) -> Result<String, AllocError>
     ensures { IfOk result (λ text. string_bytes text ≡ compact_text (call_body None call word.now)) }
 {
@@ -47,7 +47,7 @@ pub(crate) fn call_text(alloc: Global, call: u32, word: &str) -> Result<String, 
     print_object(alloc, fields)
 }
 
-/// The body with a word under `error`, and a sentence that says why under `why`, if that is told.
+/// The body with a word under `error`, and a sentence that says why under `why`, if that is told. AllocError if memory runs out.
 pub(crate) fn error_text_with_why(
     alloc: Global,
     word: &str,
@@ -64,7 +64,8 @@ pub(crate) fn error_text_with_why(
     print_object(alloc, fields)
 }
 
-/// The body that tells of one call: its number under `call`, what befell it under `error`, and why under `why`, if that is told.
+/// The body that tells of one call: its number under `call`, what befell it under `error`, and why under `why`, if that is told. AllocError
+/// if memory runs out.
 pub(crate) fn call_text_with_why(
     alloc: Global,
     call: u32,
@@ -83,7 +84,7 @@ pub(crate) fn call_text_with_why(
     print_object(alloc, fields)
 }
 
-/// The body of a refusal since the batch named another number of accepted batches: the present one under `seq`.
+/// The body for a batch that named another number of accepted batches: the present one under `seq`. AllocError if memory runs out.
 pub(crate) fn stale_text(alloc: Global, seq: u64) -> Result<String, AllocError>
     ensures { IfOk result (λ text. string_bytes text ≡ compact_text (stale_body seq)) }
 {
@@ -92,7 +93,7 @@ pub(crate) fn stale_text(alloc: Global, seq: u64) -> Result<String, AllocError>
     print_object(alloc, fields)
 }
 
-/// The body with a number under this key alone.
+/// The body with a number under this key alone. AllocError if memory runs out.
 pub(crate) fn number_text(alloc: Global, key: &str, number: u64) -> Result<String, AllocError>
     ensures { IfOk result (λ text.
         string_bytes text ≡ compact_text (object (member key.now (a_number (unsigned number)) no_members))) }
@@ -102,7 +103,7 @@ pub(crate) fn number_text(alloc: Global, key: &str, number: u64) -> Result<Strin
     print_object(alloc, fields)
 }
 
-/// The literal that prints a value, as in `"a"` or `#3`.
+/// The literal that prints a value, as in `"a"` or `#3`. AllocError if memory runs out.
 pub(crate) fn literal_text(alloc: Global, value: &Literal) -> Result<String, AllocError>
     ensures { IfOk result (λ text. string_bytes text ≡ print value.now) }
 {
@@ -112,7 +113,7 @@ pub(crate) fn literal_text(alloc: Global, value: &Literal) -> Result<String, All
     Ok(String::from_utf8(bytes).unwrap())
 }
 
-/// The entries of an array of JSON: each answer as the text of its literal.
+/// The entries of an array of JSON: each answer as the text of its literal. AllocError if memory runs out.
 fn literal_entries(alloc: Global, answers: &[Literal]) -> Result<Vec<Value>, AllocError>
     ensures { IfOk result (λ list. items_view list.items ≡ strings (map print answers.now)) }
 {
@@ -124,7 +125,7 @@ fn literal_entries(alloc: Global, answers: &[Literal]) -> Result<Vec<Value>, All
 }
 
 /// The body that tells of an accepted batch: each answer as the text of its literal under `answers`, and the number of accepted batches
-/// under `seq`.
+/// under `seq`. AllocError if memory runs out.
 pub(crate) fn accepted_text(
     alloc: Global,
     answers: &[Literal],

@@ -88,7 +88,7 @@ fn each_entries(
     Ok(list)
 }
 
-/// The body that tells what each call is answered alone under `each`, and the number of accepted batches under `seq`. AllocError if memory
+/// The body that tells under `each` what each call is answered alone, and under `seq` the number of accepted batches. AllocError if memory
 /// runs out.
 pub(crate) fn each_text(
     alloc: Global,

@@ -13,14 +13,14 @@ use moo_value::{MooStr, ObjNo, Value as Literal};
 use serde_json::{Map, Value, put};
 use std::alloc::{AllocError, Global};
 
-/// The literal of an object, as `#3`. AllocError if memory runs out, as in each function of this file.
+/// The literal of an object, as `#3`. AllocError if memory runs out.
 fn object_literal(alloc: Global, x: ObjNo) -> Result<String, AllocError>
     ensures { IfOk result (λ text. string_bytes text ≡ object_text x) }
 {
     literal_text(alloc, &Literal::Obj(x))
 }
 
-/// The entries of an array of JSON: each object as the text of its literal.
+/// The entries of an array of JSON: each object as the text of its literal. AllocError if memory runs out.
 fn object_literals(alloc: Global, objects: &[ObjNo]) -> Result<Vec<Value>, AllocError>
     ensures { IfOk result (λ list. items_view list.items ≡ strings (map object_text objects.now)) }
 {
@@ -31,7 +31,7 @@ fn object_literals(alloc: Global, objects: &[ObjNo]) -> Result<Vec<Value>, Alloc
     Ok(list)
 }
 
-/// The name of an object as text.
+/// The name of an object as text. AllocError if memory runs out.
 fn name_text(alloc: Global, name: &MooStr) -> Result<String, AllocError>
     ensures { IfOk result (λ text. string_bytes text ≡ name.now) }
 {
@@ -39,7 +39,7 @@ fn name_text(alloc: Global, name: &MooStr) -> Result<String, AllocError>
     Ok(String::from_utf8(bytes).unwrap())
 }
 
-/// Puts an array of objects under a key, in place of what is there.
+/// Puts an array of objects under a key, in place of what is there. AllocError if memory runs out.
 fn put_objects(
     fields: &mut Map<String, Value>,
     alloc: Global,
@@ -52,7 +52,7 @@ fn put_objects(
     put(fields, alloc, key, Value::Array(list))
 }
 
-/// Puts an object under a key, as the text of its literal.
+/// Puts an object under a key, as the text of its literal. AllocError if memory runs out.
 pub(crate) fn put_object(
     fields: &mut Map<String, Value>,
     alloc: Global,
@@ -65,7 +65,7 @@ pub(crate) fn put_object(
     put(fields, alloc, key, Value::String(text))
 }
 
-/// Puts the name of an object under a key.
+/// Puts the name of an object under a key. AllocError if memory runs out.
 pub(crate) fn put_name(
     fields: &mut Map<String, Value>,
     alloc: Global,
@@ -78,7 +78,7 @@ pub(crate) fn put_name(
     put(fields, alloc, key, Value::String(text))
 }
 
-/// Puts 1 under a key for a flag that is set, and else 0.
+/// Puts 1 under a key for a flag that is set, and else 0. AllocError if memory runs out.
 pub(crate) fn put_flag(
     fields: &mut Map<String, Value>,
     alloc: Global,
@@ -90,7 +90,7 @@ pub(crate) fn put_flag(
     put(fields, alloc, key, Value::from(u64::from(set)))
 }
 
-/// Puts the name of an object, and the objects that its fields name, each under its key.
+/// Puts the name of an object, and the objects that its fields name, each under its key. AllocError if memory runs out.
 fn put_links(fields: &mut Map<String, Value>, alloc: Global, look: &Look) -> Result<(), AllocError>
     ensures { OnOk result (members_view fields.new.entries ≡ with_links look.now (members_view fields.old.entries)) }
 {
@@ -115,7 +115,7 @@ fn put_flags(fields: &mut Map<String, Value>, alloc: Global, look: &Look) -> Res
     put_flag(fields, alloc, "wizard", look.wizard)
 }
 
-/// The body that tells what an object looks like: its fields, its children and what is in it.
+/// The body that tells what an object looks like: its fields, its children and what is in it. AllocError if memory runs out.
 pub(crate) fn look_text(alloc: Global, look: &Look) -> Result<String, AllocError>
     ensures { IfOk result (λ text. string_bytes text ≡ compact_text (look_body look.now)) }
 {

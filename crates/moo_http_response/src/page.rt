@@ -28,9 +28,8 @@ fn before_page(from: ObjNo) -> ObjNo
     ObjNo(from.0.max(0) - 1)
 }
 
-/// The first object past `last`, if there is one, and if a page of `count` objects has room for it.
+/// The first object past `last`, for a page on which `count` objects are listed. None if 1,000 are, or no object is past `last`.
 fn next_within<R: Rows>(rows: &R, last: ObjNo, count: u32) -> Option<ObjNo>
-    // None if 1,000 are listed, or no object is past `last`.
     ensures { MatchOption result ((1000 ≤ count) ⊎ IsNext (R.held rows.now).maps.objects (Some last) None)
         (λ x. (count < 1000) × IsNext (R.held rows.now).maps.objects (Some last) (Some x)) }
 {

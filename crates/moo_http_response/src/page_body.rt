@@ -15,8 +15,7 @@ use moo_value::ObjNo;
 use serde_json::{Map, Value, put};
 use std::alloc::{AllocError, Global};
 
-/// Puts the number and the name of an object, and the objects that its fields name, each under its key. AllocError if memory runs out, as
-/// in each function of this file.
+/// Puts the number and the name of an object, and the objects that its fields name, each under its key. AllocError if memory runs out.
 fn put_links(
     fields: &mut Map<String, Value>,
     alloc: Global,
@@ -48,7 +47,7 @@ fn put_flags(
     put_flag(fields, alloc, "wizard", entry.wizard)
 }
 
-/// The entry of an object in the list of a page.
+/// The entry of an object in the list of a page. AllocError if memory runs out.
 fn entry_value(alloc: Global, entry: &Entry) -> Result<Value, AllocError>
     ensures { IfOk result (λ value. view value ≡ entry_body entry.now) }
 {
@@ -58,7 +57,7 @@ fn entry_value(alloc: Global, entry: &Entry) -> Result<Value, AllocError>
     Ok(Value::Object(fields))
 }
 
-/// The entries of all objects of a page, in their order.
+/// The entries of all objects of a page, in their order. AllocError if memory runs out.
 fn entry_values(alloc: Global, entries: &[Entry]) -> Result<Vec<Value>, AllocError>
     ensures { IfOk result (λ list. items_view list.items ≡ items_of (map entry_body entries.now)) }
 {
@@ -69,7 +68,7 @@ fn entry_values(alloc: Global, entries: &[Entry]) -> Result<Vec<Value>, AllocErr
     Ok(list)
 }
 
-/// Puts the first object that the page leaves out under `next`, or null if it leaves out none.
+/// Puts the first object that the page leaves out under `next`, or null if it leaves out none. AllocError if memory runs out.
 fn put_next(
     fields: &mut Map<String, Value>,
     alloc: Global,
@@ -84,7 +83,7 @@ fn put_next(
 }
 
 /// The body that tells a page: its objects under `objects`, the first that is left out under `next`, and the number of accepted batches
-/// under `seq`.
+/// under `seq`. AllocError if memory runs out.
 pub(crate) fn page_text(alloc: Global, page: &Page, seq: u64) -> Result<String, AllocError>
     ensures { IfOk result (λ text. string_bytes text ≡ compact_text (page_body page.now seq)) }
 {

@@ -50,7 +50,7 @@ fn json_response(status: StatusCode, body: String) -> Response
     }
 }
 
-/// The response with this status and a word under `error`. AllocError if memory runs out, as in each function of this file.
+/// The response with this status and a word under `error`. AllocError if memory runs out.
 fn error_response(alloc: Global, status: StatusCode, word: &str) -> Result<Response, AllocError>
     ensures { IfOk result (λ r. Shows r (plain status (error_body None word.now))) }
 {
@@ -58,7 +58,7 @@ fn error_response(alloc: Global, status: StatusCode, word: &str) -> Result<Respo
     Ok(json_response(status, body))
 }
 
-/// The response with this status, a word under `error`, and why under `why`, if that is told.
+/// The response with this status, a word under `error`, and why under `why`, if that is told. AllocError if memory runs out.
 fn error_response_with_why(
     alloc: Global,
     status: StatusCode,
@@ -71,7 +71,7 @@ fn error_response_with_why(
     Ok(json_response(status, body))
 }
 
-/// The response with this status that tells of one call: its number, what befell it, and why, if that is told.
+/// The response with this status that tells of a call: its number, what befell it, and why, if told. AllocError if memory runs out.
 fn call_response(
     alloc: Global,
     status: StatusCode,
@@ -85,7 +85,7 @@ fn call_response(
     Ok(json_response(status, body))
 }
 
-/// The response to a batch that named another number of accepted batches than the present one: 409.
+/// The response to a batch that named another number of accepted batches than the present one: 409. AllocError if memory runs out.
 fn stale_response(alloc: Global, seq: u64) -> Result<Response, AllocError>
     ensures { IfOk result (λ r. Shows r (plain 409 (stale_body seq))) }
 {
@@ -93,7 +93,7 @@ fn stale_response(alloc: Global, seq: u64) -> Result<Response, AllocError>
     Ok(json_response(StatusCode::CONFLICT, body))
 }
 
-/// The response to an accepted batch: 200, with its answers.
+/// The response to an accepted batch: 200, with its answers. AllocError if memory runs out.
 fn accepted_response(alloc: Global, answers: &Answers, seq: u64) -> Result<Response, AllocError>
     ensures { IfOk result (λ r. Shows r (plain 200 (accepted_body answers.now seq))) }
 {
@@ -101,7 +101,7 @@ fn accepted_response(alloc: Global, answers: &Answers, seq: u64) -> Result<Respo
     Ok(json_response(StatusCode::OK, body))
 }
 
-/// The response to calls that are asked each alone: 200, with the reply to each.
+/// The response to calls that are asked each alone: 200, with the reply to each. AllocError if memory runs out.
 fn each_response(
     alloc: Global,
     replies: &Replies,
@@ -114,7 +114,7 @@ fn each_response(
     Ok(json_response(StatusCode::OK, body))
 }
 
-/// The response to a question, by what it is told: 404 if the object isn't there, else 200.
+/// The response to a question, by what it is told: 404 if the object isn't there, else 200. AllocError if memory runs out.
 fn question_response(alloc: Global, told: Told) -> Result<Response, AllocError>
     ensures { IfOk result (λ r. Shows r (told_response told)) }
 {
@@ -129,7 +129,7 @@ fn question_response(alloc: Global, told: Told) -> Result<Response, AllocError>
     })
 }
 
-/// The response to a request whose body has no stated length: 400, and why, if the request asks.
+/// The response to a request whose body has no stated length: 400, and why, if the request asks. AllocError if memory runs out.
 fn no_length_response(
     alloc: Global,
     asks_why: bool,
@@ -141,7 +141,7 @@ fn no_length_response(
     error_response_with_why(alloc, StatusCode::BAD_REQUEST, "bad request", why)
 }
 
-/// The response to a path that asks nothing: 404, and why, if the request asks.
+/// The response to a path that asks nothing: 404, and why, if the request asks. AllocError if memory runs out.
 fn not_found_response(
     alloc: Global,
     asks_why: bool,
@@ -153,7 +153,7 @@ fn not_found_response(
     error_response_with_why(alloc, StatusCode::NOT_FOUND, "not found", why)
 }
 
-/// The response to a request with another method than its route has: 405, with a line `allow`, and why, if the request asks.
+/// The response to a request with a method that its route hasn't: 405, a line `allow`, and why if asked. AllocError if memory runs out.
 fn not_allowed_response(
     alloc: Global,
     asks_why: bool,
@@ -172,8 +172,8 @@ fn not_allowed_response(
     })
 }
 
-/// The response to a request that is refused before the World is asked. `why` is the sentence about a body, of `BadRequest` and `Malformed`,
-/// if it is told; a refused head has a sentence of its own, told if the request asks why.
+/// The response to a request that is refused before the World is asked. `why` is the sentence about a body, of `BadRequest` and
+/// `Malformed`, if it is told; a refused head has a sentence of its own, told if the request asks why. AllocError if memory runs out.
 fn refusal_response(
     alloc: Global,
     refusal: Refusal,
@@ -209,7 +209,7 @@ fn no_memory_response(alloc: Global, why: Option<&str>) -> Result<Response, Allo
     error_response_with_why(alloc, StatusCode::SERVICE_UNAVAILABLE, "nomemory", why)
 }
 
-/// The response to a batch, by its reply, and why the batch is refused, if that is told.
+/// The response to a batch, by its reply, and why the batch is refused, if that is told. AllocError if memory runs out.
 fn reply_response(alloc: Global, reply: &Reply, why: Option<&str>) -> Result<Response, AllocError>
     ensures { IfOk result (λ r. Shows r (told_reply (option_map (λ w. w.now) why.entry) reply.now)) }
 {
@@ -225,7 +225,7 @@ fn reply_response(alloc: Global, reply: &Reply, why: Option<&str>) -> Result<Res
 }
 
 /// The response to a request, by what came of it. `whys` are the sentences that say why, if they are told: of calls that are asked each
-/// alone one for each, else the first.
+/// alone one for each, else the first. AllocError if memory runs out.
 pub(crate) fn respond(
     alloc: Global,
     outcome: RequestOutcome,

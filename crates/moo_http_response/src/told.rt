@@ -62,7 +62,7 @@ fn dump_with_room<R: Rows>(alloc: Global, rows: &R) -> Result<Text, AllocError>
 pub fn tell<R: Rows>(alloc: Global, rows: &R, question: Question) -> Result<Told, AllocError>
     // The rows are those of a well formed world.
     requires { IsGood (R.held rows.now).maps }
-    // It tells what the state of the rows does.
+    // It is what the question is told at the state of these rows.
     ensures told { IfOk result (λ told. told ≡ told_of question (state_of (R.held rows.now).maps)) }
     // Memory can't run out for the number of accepted batches.
     ensures memory { OnErr result (TellingTakesMemory question) }

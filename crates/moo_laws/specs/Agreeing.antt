@@ -46,7 +46,7 @@ pub record AgreeFor (programmer : ObjNo) (state other : State) : Type 0 where
   pub petitions : (id : PetitionId) → seen_petition other programmer id ≡ seen_petition state programmer id
   pub accepted : other.seq ≡ state.seq
 
--- the programmer made the same petitions in both states, whatever those of others are
+-- the programmer made the same petitions in both states; the petitions of others may be any
 abbrev pub SameOwnPetitions : ObjNo → State → State → Type 0
 SameOwnPetitions programmer state other = (id : PetitionId) (row : PetitionRow) → row.who ≡ programmer →
     get other.petitions id ≡ Some row ↔ get state.petitions id ≡ Some row

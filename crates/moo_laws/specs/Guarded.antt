@@ -1,4 +1,4 @@
--- What two states may differ in, so that no batch of a programmer who isn't a wizard tells them apart, whatever it changes.
+-- What two states may differ in, so that no batch of a programmer who isn't a wizard tells them apart, no matter what it changes.
 use Rattle.std.specs.Prelude.{◌≡◌, Bool, true, not, ◌&&◌, ◌||◌, ◌⊎◌, Option, Some, None, is_some, if◌then◌else◌}
 use Rattle.std.specs.Option.{option_map, option_and_then}
 use Rattle.std.specs.List.{list_all}

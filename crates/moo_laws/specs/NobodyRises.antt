@@ -12,7 +12,7 @@ use Rattle.moo_world.specs.Requests.{batch_call}
 use Rattle.moo_world.specs.Rights.{is_wizard}
 use Rattle.moo_world.specs.World.{World, Slot, is_object, row_passes, slot_of}
 
--- no accepted batch among these is a wizard's at its turn
+-- no accepted one of the batches is a wizard's at its turn
 abbrev pub NoWizardActs : State → List Batch → Type 0
 NoWizardActs state [] = ⊤
 NoWizardActs state (batch ∷ batches) =
@@ -58,7 +58,8 @@ slot_behind state (batch ∷ batches) object named =
 
 -- ---- what holds
 
--- Nobody rises. An object that stays keeps its owner and its bits. A slot that was never away keeps its owner.
+-- Nobody rises. An object that stays keeps its owner, and whether it is a player, a programmer or a wizard. A slot that was never away
+-- keeps its owner.
 pub record KeepsRights (state : State) (batches : List Batch) (end : State) : Type 0 where
   pub rises : NobodyRises state.world end.world
   pub objects : (object : ObjNo) → is_object state.world object ≡ true → is_object end.world object ≡ true →

@@ -34,7 +34,7 @@ pub fn reading_batches_tell_no_more()
         IsWellFormed state.world → IsHidden state.world programmer object name → list_all (only_asks programmer) batches ≡ true →
         TellTheSame batches state (with_value state object name value) }
     // Two states agree for somebody who isn't a wizard if the worlds look alike, as many batches were accepted, and the programmer's own
-    // petitions are the same, whatever the petitions of others are.
+    // petitions are the same. The petitions of others may be any.
     ensures petitions { (programmer : ObjNo) (state other : State) → is_wizard state.world programmer ≡ false →
         LookAlike programmer state.world other.world → other.seq ≡ state.seq → SameOwnPetitions programmer state other →
         AgreeFor programmer state other }

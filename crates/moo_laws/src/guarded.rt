@@ -27,12 +27,12 @@ pub fn batches_tell_no_more()
         is_wizard state.world programmer ≡ false → AlikeFor programmer state other →
         list_all (is_batch_of programmer) batches ≡ true →
         TellTheSame batches state other × AlikeFor programmer (after state batches) (after other batches) }
-    // A guarded value may be any value: the states are alike, whatever it is. Different values make different states.
+    // With another value in place of a guarded one, the state is alike. Different values make different states.
     ensures values { (programmer object : ObjNo) (name : Name) (slot : Slot) (value other : Value) (state : State) →
         slot_of state.world object (folded name) ≡ Some slot → IsGuarded state.world programmer slot.definer (folded name) →
         AlikeFor programmer state (with_value state object name value) ×
         (with_value state object name value ≡ with_value state object name other → value ≡ other) }
-    // A petition of somebody else may be of anybody but the programmer, and ask for any calls: the states are alike.
+    // With any petition of anybody but the programmer in place of a petition of somebody else, the state is alike.
     ensures petitions { (programmer : ObjNo) (state : State) (id : PetitionId) (row other : PetitionRow) →
         get state.petitions id ≡ Some row → same_object row.who programmer ≡ false → same_object other.who programmer ≡ false →
         AlikeFor programmer state (record state { petitions = insert state.petitions id other }) }

@@ -15,8 +15,8 @@ ghost use Rattle.moo_laws.specs.Reading.{is_question, IsHidden, LookAlike, SameA
 ///
 /// LambdaMOO Programmer's Manual, 'Properties on Objects' in the chapter on the database.
 pub fn questions_tell_no_more()
-    // Two worlds look alike to a programmer if they differ only in values of slots, and each slot that it may read is clear in both or
-    // in neither and reads the same value. The call has one answer, or fails for one reason, in both.
+    // Two worlds look alike to a programmer if they differ only in values of slots, and each slot that the programmer may read is clear in
+    // both or in neither and reads the same value. The call has one answer, or fails for one reason, in both.
     ensures answers { (programmer : ObjNo) (world other : World) (call : Call) → LookAlike programmer world other →
         is_question call.name ≡ true → SameAnswer (world_call world programmer call) (world_call other programmer call) }
     // A value is hidden from the programmer if it may read the slot neither of the object nor of any descendant. It may be any value:

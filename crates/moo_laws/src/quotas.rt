@@ -16,7 +16,8 @@ ghost use Rattle.moo_laws.specs.NobodyRises.{NoWizardActs};
 ///
 /// LambdaMOO Programmer's Manual, 'Fundamental Operations on Objects': `create` and `recycle`.
 pub fn kept_quotas_move()
-    // The quota after the batches is the one before, by the `create` and `recycle` calls of its owner that were accepted.
+    // The quota falls by one for each accepted `create` call of its owner, and rises by one for each accepted `recycle`, or by less if it
+    // may have come to the greatest integer.
     ensures { (owner : ObjNo) (quota : ℤ) (state : State) (batches : List Batch) → IsFormed state →
         list_all (λ batch. list_all arguments_fit batch.calls) batches ≡ true → NoWizardActs state batches →
         HasKeptQuota state.world owner quota →

@@ -27,16 +27,16 @@ pub fn refusals_tell_no_more()
         AgreeFor programmer state other →
         (names_meant other.world programmer call args reason ≡ names_meant state.world programmer call args reason)
         × (clash_name other.world programmer args reason ≡ clash_name state.world programmer args reason) }
-    // So it does from states that are alike for the programmer: the same but for guarded values and what others petition for.
+    // It tells the same names from states that are alike for the programmer: the same but for guarded values and what others petition for.
     ensures alike { (programmer : ObjNo) (state other : State) (call : CallName) (args : List Value) (reason : Reason) →
         AlikeFor programmer state other →
         (names_meant other.world programmer call args reason ≡ names_meant state.world programmer call args reason)
         × (clash_name other.world programmer args reason ≡ clash_name state.world programmer args reason) }
-    // Before each call of a batch, where these names are looked for, states that were alike for its programmer, no wizard, still are.
+    // Before each call of a batch, where the names are looked for, states that were alike for its programmer, no wizard, still are.
     ensures alike_before { (programmer : ObjNo) (state other : State) (batch : Batch) (place : ℕ) → IsFormed state →
         is_wizard state.world programmer ≡ false → AlikeFor programmer state other → is_batch_of programmer batch ≡ true →
         AlikeFor programmer (state_before_call state programmer batch.calls place) (state_before_call other programmer batch.calls place) }
-    // So do states that agree, if each call of the batch is a question or lists petitions.
+    // States that agreed for its programmer still agree there, if each call of the batch is a question or lists petitions.
     ensures agree_before { (programmer : ObjNo) (state other : State) (batch : Batch) (place : ℕ) → AgreeFor programmer state other →
         only_asks programmer batch ≡ true →
         AgreeFor programmer (state_before_call state programmer batch.calls place) (state_before_call other programmer batch.calls place) }

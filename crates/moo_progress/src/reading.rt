@@ -78,8 +78,8 @@ impl Reading {
     }
 
     /// Takes note of a look at the clock, which reads `now`; `changes` is how often the files have been changed so far. Answers how many
-    /// bytes this run has read, if the run began or was last told of five seconds ago or more; else None. If something was changed since the
-    /// run began, or the clock wasn't read for over a minute, a new run begins, with 0 bytes.
+    /// bytes this run has read, if the run began or was last told of five seconds ago or more; else None. If something was changed since
+    /// the run began, or the clock wasn't read for over a minute, a new run begins, with 0 bytes.
     pub(crate) fn bytes_to_tell(&mut self, now: Instant, changes: u64) -> Option<u64>
         // A read that belongs to no run begins one, and nothing is told.
         ensures begins { ((run : Run) → self.old.run ≡ Some run → ¬ GoesOn run now changes)

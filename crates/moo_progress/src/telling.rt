@@ -12,9 +12,9 @@ use std::time::Clock;
 
 /// A disk that passes each call on, and tells of long reading on standard error.
 ///
-/// Nothing is told in the first five seconds of a run of reads, and then a line each five seconds. A run ends with a change of any file
-/// that shares its `DiskChanges`, and with a pause of more than a minute. The clock is read at the first of each 64 reads. Errors of the
-/// clock and of standard error are ignored.
+/// Nothing is told in the first five seconds of a run of reads, and then at most a line each five seconds. A run ends with a change of any
+/// file that shares its `DiskChanges`, and with a pause of more than a minute. The clock is read at the first of each 64 reads. Errors of
+/// the clock and of standard error are ignored.
 #[derive(Drop)]
 pub struct Telling<'a, D: Disk, C: Clock + Eprint> {
     inner: D,

@@ -91,14 +91,15 @@ load_failure (load_fault.NotADump line why) = NotADump line
 load_failure (load_fault.Damaged kind key) = Damaged kind key
 load_failure load_fault.OutOfMemory = OutOfMemory
 
--- The line is written, and this status answered. Or the writer fails on the way: a front of the line is written, and the status is
+-- The line is written, and this status answered. Or the writer fails on the way: the beginning of the line is written, and the status is
 -- that of a failed writer.
 abbrev pub WritesLine : List ℕ → ℕ → Option (List ℕ) → Option (List ℕ) → ℕ → Type 0
 WritesLine line known old new status =
     (Appends old new line × (status ≡ known))
     ⊎ ((count : ℕ) × Appends old new (take count line) × (status ≡ status_of Write))
 
--- The line of a failure is written with its status. If memory for the line of a damage is refused, that is said in its place.
+-- The line of a failure is written with its status. If memory is refused for the line of a damage, or of a text that isn't a dump, that is
+-- said in its place.
 abbrev pub Reports : Failure → Option (List ℕ) → Option (List ℕ) → ℕ → Type 0
 Reports (Damaged kind key) old new status =
     WritesLine (codes "moo: damaged " ++ (kind_text kind ++ (codes " " ++ (key_text key ++ codes "\n")))) 3 old new status

@@ -41,7 +41,7 @@ pub enum Failure {
 }
 
 impl Failure {
-    /// The line that says so, without the kind and the place of a damage. A failure of the writer has no line.
+    /// The line of the failure, without the kind and the place of a damage. A failure of the writer has no line.
     pub fn word(self) -> &'static str
         ensures { result.now ≡ word_of self }
     {

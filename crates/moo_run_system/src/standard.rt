@@ -56,8 +56,8 @@ fn words_failure(error: &io::Error) -> Failure
     }
 }
 
-/// Does what the words say and closes their file, or says why the words can't be read. It sets the exit status, and what is left of
-/// the file is handed back, to be dropped. If no file was opened for them, that is the unspent start.
+/// Does what the words say and closes their file, or says why the words can't be read. It sets the exit status, and hands back what remains
+/// of the file, to be dropped. If no file was opened, that is `start`.
 pub fn run_given<'s, S: Streams>(
     session: &mut Session<'s, S>,
     words: io::Result<Vec<String>>,
@@ -73,12 +73,12 @@ pub fn run_given<'s, S: Streams>(
     ensures read { IfOk words (λ words. let run = ⟦<Session<'s, S> as HasRun>⟧.run session.old session.new in
         (Reports Failure.OutOfMemory run.before run.after run.status × IsUntouched result × run.given.ports.rests)
         ⊎ RunsClosed (map string_bytes words.items) (image_at S.File.Start) result run) }
-    // Only words of a task that reads the input change it.
+    // The input stays, but for words of a task that reads it.
     ensures input { IfOk words (λ words. KeepsInput (map string_bytes words.items) session.old.input session.new.input) }
-    // If memory runs out while they are read, the line says so.
+    // If memory runs out while the words are read, the line says so.
     ensures memory { IfErr words (λ error. error_kind error ≡ ErrorKind.OutOfMemory →
         Reports Failure.OutOfMemory (S.Output.contents session.old.output) (S.Output.contents session.new.output) session.new.status) }
-    // If they can't be read for another cause, the line is that of a mistake in the words.
+    // If the words can't be read for another cause, the line is that of a mistake in them.
     ensures unread { IfErr words (λ error. error_kind error ≢ ErrorKind.OutOfMemory →
         Reports Failure.Usage (S.Output.contents session.old.output) (S.Output.contents session.new.output) session.new.status) }
     // In both cases no file is opened, and nothing is asked of the host or read from the input.
