@@ -64,10 +64,10 @@ pub(crate) fn petitions<R: Rows>(
 ) -> Result<Value, Fault>
     // The rows are those of a well formed world.
     requires good { IsGood (R.held rows.now).maps }
-    // The answer is that of `petitions` in the model.
+    // The answer, or the error, is that of `petitions` in the model; or memory ran out.
     ensures reaches { Reaches (given (no_values args.now) (λ _. petitions (state_in (R.held rows.now)) programmer))
         (R.held rows.now) result }
-    // What every call of a batch keeps: here the rows stay.
+    // The rows, which stay, are good ones.
     ensures kept { OnOk result (KeepsGoodRows KeepsNumbers (R.held rows.now) (R.held rows.now)) }
 {
     no_values(args)?;

@@ -51,9 +51,8 @@ fn is_short(list: &Option<ObjList>) -> bool
     }
 }
 
-/// `set_accept(object, list)`: sets the list of what the object takes in, or takes the list away if none is given, and
-/// answers 0. E_INVARG if there is no such object; E_PERM if the programmer neither owns it nor is a wizard; E_INVARG
-/// if the list has more than 1,000 entries.
+/// `set_accept(object, list)`: sets the list of what the object takes in, or takes the list away if none is given, and answers 0. E_INVARG
+/// if there is no such object; E_PERM if the programmer neither owns it nor is a wizard; E_INVARG if the list has more than 1,000 entries.
 ///
 /// The list stands for the verb `accept` of the LambdaMOO Programmer's Manual, 'Object Movement'.
 pub fn set_accept<R: Rows>(

@@ -17,7 +17,7 @@ use std::alloc::Global;
 
 /// The change of an object's row that sets a built-in property to a value. E_PERM for `location` and `contents`, which `set`
 /// doesn't write; E_TYPE for a `name` that isn't a string and for an `owner` that isn't an object. The others are flags, set to
-/// the truth of any value. OutOfMemory means out of memory and nothing else.
+/// the truth of any value. OutOfMemory if memory ran out.
 fn change_of(alloc: Global, field: BuiltIn, value: &Value) -> Result<Change, Fault>
     ensures taken { TakenOrNot (change_of field value.now) result }
 {

@@ -25,8 +25,9 @@ fn objects_among(alloc: Global, values: &[Value]) -> Result<Option<ObjList>, All
 }
 
 /// What `set_accept` takes: an object, and a list of objects, or 0 for no list. E_ARGS unless there are two arguments, and
-/// then E_TYPE for anything else. OutOfMemory means out of memory and nothing else.
+/// then E_TYPE for anything else.
 pub fn object_and_accept(alloc: Global, args: &[Value]) -> Result<(ObjNo, Option<ObjList>), Fault>
+    // What is read, or the error of the arguments: E_ARGS for their number, else E_TYPE; or memory ran out.
     ensures given { GivenOrNot (object_and_accept args.now) result }
 {
     match args {

@@ -12,7 +12,7 @@ use Rattle.moo_damage.specs.First.{IsLeastBad}
 abbrev pub AreEnding : TreeLink → Maps → FinMap object_cmp (Unit {0}) → Type 0
 AreEnding link m known = (x : ObjNo) → get known x ≡ Some tt → HasEnd link m x
 
--- the chains of these objects end
+-- the chain of each object of a path ends
 abbrev pub AllEnd : TreeLink → Maps → List ObjNo → Type 0
 AllEnd link m path = AllByRecursion (HasEnd link m) path
 

@@ -38,7 +38,7 @@ fn first_differing<T: KeyedRow, R: Rows>(own: &R, found: &R) -> Option<T::Key>
 /// The first row in which two sets of rows differ, in the order of `first_difference`; `None` if they are equal. The rows may be of any
 /// storage.
 fn difference<R: Rows>(own: &R, found: &R) -> Option<Key>
-    // They differ at that key, and agree at each one before it.
+    // The two sets differ at that key, and agree at each key before it.
     ensures differs { IfSome result (λ key. IsFirstDifference (R.held own.now).maps (R.held found.now).maps key) }
     ensures same { IfNone result ((R.held own.now).maps ≡ (R.held found.now).maps) }
 {
@@ -66,9 +66,9 @@ fn difference<R: Rows>(own: &R, found: &R) -> Option<Key>
 /// The first row in which two sets of rows differ, in the order head, objects, properties, slots, verbs, petitions, and in each by
 /// number: both have it with different content, or one of them alone has it. `None` if they are equal. Takes no memory.
 pub fn first_difference(own: &Flat, found: &Flat) -> Option<Key>
-    // They differ at that key, and agree at each one before it.
+    // The two sets differ at that key, and agree at each key before it.
     ensures differs { IfSome result (λ key. IsFirstDifference own.now.maps found.now.maps key) }
-    // None only if both have the same rows.
+    // `None` only if both have the same head and the same rows.
     ensures same { IfNone result (own.now.maps ≡ found.now.maps) }
 {
     difference(own, found)
