@@ -10,8 +10,8 @@ use Rattle.moo_text.specs.declared.fault.TextFault.TheVariants.{Read, Write, Out
 use Rattle.moo_text.specs.declared.lines.LineReader.{LineReader}
 use Rattle.moo_text.specs.declared.next.Next.{Next}
 
--- From old to new the reader gave these bytes. If it tells its bytes they were in front and are gone. Once it has given no bytes it
--- gives none, and if it tells its bytes none are left then.
+-- Between old and new the reader gave these bytes. If it tells its bytes, they were the first and are gone. Once it has ended, it gives
+-- none, and if it tells its bytes, none are left then.
 pub record ReaderGives (old new : Side) (given : List ℕ) : Type 0 where
   pub known : Consumes old.left new.left given
   pub stays : old.ended ≡ true → (given ≡ []) × (new.ended ≡ true)
@@ -25,7 +25,7 @@ pub record ReadsOn (old new : Side) (P : List ℕ → List ℕ → Type 0) : Typ
   pub room : old.room ≡ length given + new.room
   pub holds : (rest : List ℕ) → (new.ended ≡ true → rest ≡ []) → P (old.ahead ++ (given ++ rest)) (new.ahead ++ rest)
 
--- What a fault says of how many bytes were given: Long that it is one more than the room, any other that it is no more than the room.
+-- What a fault says of how many bytes were given: Long that they are one more than the room, any other that they are no more than the room.
 -- Nothing is written, so no fault is Write.
 abbrev pub Explains : ℕ → ℕ → TextFault → Type 0
 Explains room count Long = count ≡ room + 1
@@ -88,7 +88,7 @@ GivesLine remaining old new line = ReadsLine (lines_side remaining old) (lines_s
 abbrev pub GivesFirst : {R : Type 0} → (List (List ℕ) → List Next) → (R → Option (List ℕ)) → (old new : LineReader R) → Next → Type 0
 GivesFirst f remaining old new item = ReadsFirst f (lines_side remaining old) (lines_side remaining new) item
 
--- the reader gave some bytes, and there reading stopped with a fault: Long only if there was no room for the last byte, and never Write
+-- the reader gave some bytes, and there reading stopped with a fault: at Long one byte more than the room, else no more; never Write
 abbrev pub LinesBreakOff : {R : Type 0} → (R → Option (List ℕ)) → (old new : LineReader R) → TextFault → Type 0
 LinesBreakOff remaining old new fault = BreaksOff (lines_side remaining old) (lines_side remaining new) fault
 
