@@ -46,7 +46,7 @@ impl Said {
 
     /// Cuts a text of more than `longest` bytes to the first `front` bytes and two dots. The only error is a lack of memory.
     pub(crate) fn shorten(&mut self, longest: usize, front: usize) -> Result<(), AllocError>
-        // If these bytes and the dots are within the limit, so is the text then.
+        // If `front` bytes and two dots are at most `longest`, so is the text afterwards.
         ensures { front + 2 ≤ longest → OnOk result (length self.new.text.items ≤ longest) }
     {
         if longest < self.text.len() {

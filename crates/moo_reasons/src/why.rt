@@ -24,7 +24,7 @@ pub(crate) fn room_reason(call: u32) -> &'static str {
     }
 }
 
-/// Why a text isn't a call. AllocError: memory ran out.
+/// Why a text isn't a call, in at most 1,000 bytes; of a call, that a batch has at most 1,000. AllocError: memory ran out.
 pub fn call_why(alloc: Global, text: &str) -> Result<String, AllocError>
     ensures { IfOk result IsShort }
 {
@@ -55,10 +55,11 @@ pub struct Whys {
 impl Whys {
     /// A request with so many ticks, of which no batch is judged yet.
     pub fn new(alloc: Global, is_wanted: bool, ticks: u32) -> Whys
+        // Lines are wanted if `is_wanted`, and else not.
         ensures wanted { result.is_wanted ≡ is_wanted }
-        // No refusal was seen yet.
+        // There is no line yet.
         ensures none { result.seen.items ≡ [] }
-        // Memory hasn't run out for one.
+        // Memory hasn't run out for a line.
         ensures kept { result.is_lost ≡ false }
     {
         Whys {
@@ -78,8 +79,8 @@ impl Whys {
         self.judged
     }
 
-    /// Which call spent the ticks of the request, if one did: that of the last batch, or if it was asked alone, at this place, from 1.
-    /// AllocError: memory ran out.
+    /// Which call spent the ticks of the request: by its number in the last batch, from 1, or by `place` if that is given; `None` if no
+    /// call did. AllocError: memory ran out.
     pub fn spent_why(&self, place: Option<u32>) -> Result<Option<String>, AllocError> {
         let Some(call) = self.spent_at else {
             return Ok(None);
@@ -100,9 +101,10 @@ impl Whys {
     }
 
     /// Why the next batch, in the order of the batches, got this reply: the call that failed, its error and the check, if lines are wanted;
-    /// what there is no room for; or which call spent the ticks. `None` for any other reply, and for a refused batch if lines aren't wanted.
-    /// AllocError: memory ran out, now or for a line before.
+    /// what there is no room for; or which call spent the ticks. `None` for any other reply, and for a refused batch if lines aren't
+    /// wanted. AllocError: memory ran out, now or for a line before.
     pub fn next(&mut self, reply: &Reply) -> Result<Option<String>, AllocError>
+        // A reply Refused is told with the first line that wasn't taken yet, if there is one, and takes it; another reply takes none.
         ensures { IfOk result (λ line. TellsReply self.old.seen.items reply.now line self.new.seen.items) }
     {
         if self.is_lost {
