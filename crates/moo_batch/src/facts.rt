@@ -88,7 +88,7 @@ pub(crate) fn show_refusal<B: Rows, R: Rows, W: Witness>(
     // The rows are good ones, unless a call of a granted petition failed.
     requires rows { refusal.held ≡ None → IsGood (R.held rows.now).maps }
     requires base { IsGood (B.held base.now).maps }
-    // It takes no ticks.
+    // No ticks are taken.
     ensures ticks { W.left witness.new ≡ W.left witness.old }
     // The witness sees this refusal, once, with its facts or with none.
     ensures sees { (facts : Option Facts)

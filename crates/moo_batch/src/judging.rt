@@ -178,7 +178,7 @@ fn verdict_of_stop<B: Rows, R: Rows, W: Witness>(
     ensures refused { (refusal : Refusal) → stop ≡ Stop.Refused refusal → result ≡ Verdict.Refused refusal.call (error_of refusal.reason) }
     ensures full { (call : ℕ) → stop ≡ Stop.Full call → result ≡ Verdict.Full call }
     ensures memory { (call : ℕ) → stop ≡ Stop.OutOfMemory call → result ≡ Verdict.OutOfMemory }
-    // It takes no ticks.
+    // No ticks are taken.
     ensures ticks { W.left witness.new ≡ W.left witness.old }
     // The witness sees a refusal once, with its facts or with none.
     ensures sees { (refusal : Refusal) → stop ≡ Stop.Refused refusal → (facts : Option Facts)
@@ -234,8 +234,8 @@ pub fn judge<R: Rows, W: Witness>(
 ) -> Verdict
     // The rows are those of a well formed world.
     requires good { IsGood (R.held rows.now).maps }
-    // The verdict is that of the model on the state of the rows; or OutOfMemory, but only to a batch that has calls and is neither Stale
-    // nor Full. If it is accepted, the changes lead to good rows that show the next state, and each call keeps numbers.
+    // The verdict is that of the model on the state of the rows; or OutOfMemory, but only to a batch with calls that is due and may be
+    // counted. If it is accepted, the changes lead to good rows that show the next state, and each call keeps numbers.
     ensures verdict { IsVerdict (R.held rows.now).maps batch.now result }
     // No ticks come back, and the batch takes one at least if the verdict says that a call was made (OutOfMemory doesn't).
     ensures ticks { TakesTicks (W.left witness.old) (W.left witness.new) result }

@@ -57,7 +57,7 @@ fn unset_reason_of_name<R: Rows>(rows: &R, x: ObjNo) -> Reason
 }
 
 /// Why the programmer may not set a built-in property of the object: it may not name the object, it doesn't control the object, or
-/// the property is one that only a wizard sets.
+/// only a wizard sets the property.
 fn unset_reason<R: Rows>(rows: &R, x: ObjNo, field: BuiltIn) -> Reason
     ensures { result ≡ unset_reason (world_in (R.held rows.now)) x field }
 {

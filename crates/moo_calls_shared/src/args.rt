@@ -44,7 +44,7 @@ pub fn two_objects(args: &[Value]) -> Result<(ObjNo, ObjNo), Code>
 pub fn object_and_text(args: &[Value]) -> Result<(ObjNo, &MooStr), Code>
     // The answer is the object and the string of the arguments.
     ensures ok { IfOk result (λ p. object_and_text args.now ≡ Ok (p.0, p.1.now)) }
-    // The error is the one of such arguments: E_ARGS for their number, else E_TYPE.
+    // The error is that of the arguments: E_ARGS for their number, else E_TYPE.
     ensures err { IfErr result (λ code. object_and_text args.now ≡ Err code) }
 {
     match args {
@@ -58,7 +58,7 @@ pub fn object_and_text(args: &[Value]) -> Result<(ObjNo, &MooStr), Code>
 pub fn object_and_value(args: &[Value]) -> Result<(ObjNo, &Value), Code>
     // The answer is the object and the value of the arguments.
     ensures ok { IfOk result (λ p. object_and_value args.now ≡ Ok (p.0, p.1.now)) }
-    // The error is the one of such arguments: E_ARGS for their number, else E_TYPE.
+    // The error is that of the arguments: E_ARGS for their number, else E_TYPE.
     ensures err { IfErr result (λ code. object_and_value args.now ≡ Err code) }
 {
     match args {
@@ -75,7 +75,7 @@ pub fn object_text_and_value(args: &[Value]) -> Result<(ObjNo, &MooStr, &Value),
     requires { list_all fits args.now ≡ true }
     // The answer is the object, the string and the value of the arguments.
     ensures ok { IfOk result (λ p. object_text_and_value args.now ≡ Ok (p.0, p.1.now, p.2.now)) }
-    // The error is the one of such arguments: E_ARGS for their number, else E_TYPE.
+    // The error is that of the arguments: E_ARGS for their number, else E_TYPE.
     ensures err { IfErr result (λ code. object_text_and_value args.now ≡ Err code) }
     // The value nests at most 32 deep too, and its numbers and texts are within their limits.
     ensures fit { IfOk result (λ p. fits p.2.now ≡ true) }

@@ -45,7 +45,7 @@ pub fn new_property(args: &[Value]) -> Result<NewProperty<'_>, Code>
     requires { list_all fits args.now ≡ true }
     // The answer is the object, the name, the value, and the owner and the letters of the arguments.
     ensures ok { IfOk result (λ p. new_property args.now ≡ Ok (p.object, (p.name.now, p.value.now, info_shown p.info))) }
-    // The error is the one of such arguments: E_ARGS for their number, else E_TYPE.
+    // The error is that of the arguments: E_ARGS for their number, else E_TYPE.
     ensures err { IfErr result (λ code. new_property args.now ≡ Err code) }
     // The value nests at most 32 deep too, and its numbers and texts are within their limits.
     ensures fit { IfOk result (λ p. fits p.value.now ≡ true) }
@@ -113,7 +113,7 @@ pub fn new_property_info(args: &[Value]) -> Result<NewPropertyInfo<'_>, Code>
       info = info_shown p.info;
       new_name = option_map (λ n. n.now) p.new_name;
     })) }
-    // The error is the one of such arguments: E_ARGS for their number, else E_TYPE.
+    // The error is that of the arguments: E_ARGS for their number, else E_TYPE.
     ensures err { IfErr result (λ code. new_property_info args.now ≡ Err code) }
 {
     match args {

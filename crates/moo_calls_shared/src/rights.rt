@@ -78,8 +78,7 @@ pub fn may_read_object<R: Rows>(rows: &R, programmer: ObjNo, x: ObjNo) -> bool
     controls(rows, programmer, x) || is_readable(rows, x)
 }
 
-/// Whether the programmer may add properties and verbs to the object and take them away: its owner, a wizard, or anybody if its w bit is
-/// set.
+/// Whether the programmer may add properties and verbs to the object, and delete them: its owner, a wizard, or anybody if its w bit is set.
 pub fn may_write_object<R: Rows>(rows: &R, programmer: ObjNo, x: ObjNo) -> bool
     ensures { result ≡ may_write_object (world_in (R.held rows.now)) programmer x }
 {

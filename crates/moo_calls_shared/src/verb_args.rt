@@ -96,7 +96,7 @@ pub struct NewVerb<'a> {
 pub fn new_verb(args: &[Value]) -> Result<NewVerb<'_>, Code>
     // The answer is the object; the owner, the letters and the names; and the three texts of the verb's arguments.
     ensures ok { IfOk result (λ p. new_verb args.now ≡ Ok (p.object, (verb_info_shown p.verb, args_shown p.args))) }
-    // The error is the one of such arguments: E_ARGS for their number, else E_TYPE.
+    // The error is that of the arguments: E_ARGS for their number, else E_TYPE.
     ensures err { IfErr result (λ code. new_verb args.now ≡ Err code) }
 {
     match args {

@@ -123,8 +123,7 @@ fn wrong_slot_or_verb<R: Rows>(rows: &R, slots_are_owed: bool) -> Option<(Kind, 
 /// come before properties, then slots, verbs and petitions. `None` if no kind is met: the rows then show a well formed world, and
 /// petitions as they may be beside it. The only error is a lack of memory.
 ///
-/// Its time is that of going over the rows and of looking up each one's neighbours. Only rows in which a name is double, or a slot is
-/// wrong, take longer.
+/// Its time is that of going over the rows and of looking up each one's neighbours. With a double name or a wrong slot it takes longer.
 pub fn damage_of<R: Rows>(alloc: Global, rows: &R) -> Result<Option<(Kind, Key)>, AllocError>
     // The counters of the head and each row are within the limits of their columns.
     requires { AreWithin (R.held rows.now).maps }

@@ -76,8 +76,7 @@ fn any_child_lacks_slot<R: Rows>(rows: &R) -> bool
 /// Whether the slots are known to be just those that are owed, by a look at each slot, its object and the parent's slots. The slots of
 /// good rows always are. If the answer is no, a slot may still be right: only this look at neighbours doesn't show it.
 ///
-/// No chain is climbed: along chains that end, an object that has its parent's slots has those of all ancestors. The only error is a lack
-/// of memory.
+/// No chain is climbed: if chains end, what each object has of its parent it has of all ancestors. The only error is a lack of memory.
 pub(crate) fn slots_are_owed<R: Rows>(alloc: Global, rows: &R) -> Result<bool, AllocError>
     // Parents and locations are objects or `#-1`, without loops, and each object's number was given.
     requires tree { IsTree (world_of (R.held rows.now).maps) }

@@ -27,8 +27,8 @@ pub(crate) fn skip_up_from(skips: &Skips, x: ObjNo) -> ObjNo
     }
 }
 
-/// The objects from x up its chain that define nothing and have no entry yet, and the object at which the way up goes on after them: one
-/// that defines something, one that an entry leads to, or `#-1`. The only error is a lack of memory.
+/// The objects from x up its chain that define nothing and have no entry yet, and where the way up goes on after them: the next object that
+/// defines something, the object that an entry leads to, or `#-1`. The only error is a lack of memory.
 fn way_up<R: Rows>(
     alloc: Global,
     rows: &R,

@@ -15,8 +15,7 @@ pub fn one_state()
     ensures { (s t : State) → IsHeld s → IsHeld t → dump s ≡ dump t → AreTheSame s t }
 {}
 
-/// The rows that the dump of a well formed state is read as are good ones, and show the state, with the same dump, if a number is left for
-/// each property and each verb.
+/// The rows of a well formed state, with a number left for each property and each verb, are good ones, and show the state.
 pub fn rows_show_the_state()
     // The rows are good ones.
     ensures good { (s : State) (m : Maps) → IsHeld s → HasNumbers s → AreRowsOf s m → IsGood m }

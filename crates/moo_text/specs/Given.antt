@@ -17,8 +17,8 @@ pub record ReaderGives (old new : Side) (given : List ℕ) : Type 0 where
   pub stays : old.ended ≡ true → (given ≡ []) × (new.ended ≡ true)
   pub at_end : (old.ended ≡ true → IsAtEnd old.left) → new.ended ≡ true → IsAtEnd new.left
 
--- The reader gave some bytes, as many as were taken of the room. P holds of the bytes that were not used before and of those that are
--- not used now, whatever the reader may give after them: nothing, if the text is at its end.
+-- The reader gave some bytes, as many as were taken of the room. P holds of the bytes that were not used before, and of the bytes that are
+-- not used now, with any bytes that the reader may give after them: none, if the text is at its end.
 pub record ReadsOn (old new : Side) (P : List ℕ → List ℕ → Type 0) : Type 0 where
   pub given : List ℕ
   pub gives : ReaderGives old new given
@@ -63,7 +63,7 @@ ReadsItems old new done = ReadsOn old new (λ before behind. items before ≡ do
 abbrev pub ReadsAll : Side → Side → List Next → Type 0
 ReadsAll old new all = ReadsOn old new (λ before behind. items before ≡ all)
 
--- From the start of a text on reading was stopped after these items: whatever the reader may give after what it gave, they come first.
+-- From the start of a text on reading was stopped after these items: they come first, with any bytes that the reader may still give.
 pub record StopsBehind (left : Option (List ℕ)) (room : ℕ) (new : Side) (done : List Next) (fault : TextFault) : Type 0 where
   pub given : List ℕ
   pub gives : ReaderGives (untouched left room) new given

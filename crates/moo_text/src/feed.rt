@@ -162,8 +162,7 @@ impl<R: Read> Feed<R> {
     /// spaces and tabs is skipped. Read if the reader fails, Long if the text goes on after 1,073,741,824 bytes, OutOfMemory if memory runs
     /// out. After a fault each call gives that fault again, and reads nothing. A reader that has given no bytes isn't read again.
     pub fn next_batch(&mut self) -> Result<Next, TextFault>
-        // The answer is the next item of the bytes that were unused and those that the reader gave meanwhile, which took as much of the
-        // room.
+        // The answer is the next item of the unused bytes and of those that the reader gave meanwhile, which took as much of the room.
         ensures next { IfOk result (λ item. ReadsNext (feed_side R.remaining self.old) (feed_side R.remaining self.new) item) }
         // The fault is kept.
         ensures fault { IfErr result (λ fault. self.new.fault ≡ Some fault) }
