@@ -22,8 +22,7 @@ use moo_value::{ObjNo, Value};
 use moo_world::ZERO;
 use std::alloc::Global;
 
-/// Makes one call that a petition holds, for the wizard who grants it. E_INVARG if it isn't a call on the world; then the errors of the
-/// call.
+/// Makes one call that a petition holds, for the wizard who grants it. E_INVARG if it isn't a call on the world; then its errors.
 fn run_petitioned_call<R: Rows>(
     rows: &mut R,
     alloc: Global,

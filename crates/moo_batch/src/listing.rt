@@ -34,8 +34,7 @@ fn is_listed(row: &PetitionRow, all: bool, programmer: ObjNo) -> bool
     all || row.who == programmer
 }
 
-/// The petitions that the programmer sees, all of them or its own, as `petitions` lists them, in the order of their numbers. The only error
-/// is a lack of memory.
+/// The petitions that the programmer sees, `all` or its own, as `petitions` lists them, ascending. The only error is a lack of memory.
 fn values_of_petitions<R: Rows>(
     rows: &R,
     alloc: Global,

@@ -22,8 +22,7 @@ use moo_value::{ObjNo, Value};
 use moo_world::{Call, PetitionCall};
 use std::alloc::Global;
 
-/// Makes a call on petitions, for a programmer who is an object. E_ARGS and E_TYPE if it doesn't take the arguments, then the errors of the
-/// call.
+/// Makes a call on petitions, for a programmer who is an object. E_ARGS and E_TYPE if it doesn't take the arguments, then its errors.
 fn petition_call<R: Rows>(
     rows: &mut R,
     alloc: Global,

@@ -82,8 +82,7 @@ pub fn set_accept<R: Rows>(
     Ok(ZERO)
 }
 
-/// Makes the call `set_player_flag` with a list of arguments: an object and a value. E_ARGS and E_TYPE if they are others, and then the
-/// errors of `set_player_flag`.
+/// Makes the call `set_player_flag` with an object and a value. E_ARGS and E_TYPE for others, then the errors of the call.
 pub(crate) fn set_player_flag_given<R: Rows>(
     rows: &mut R,
     alloc: Global,
@@ -99,8 +98,7 @@ pub(crate) fn set_player_flag_given<R: Rows>(
     set_player_flag(rows, alloc, programmer, x, value)
 }
 
-/// Makes the call `set_accept` with a list of arguments: an object, and a list of objects or 0. E_ARGS and E_TYPE if they are others, and
-/// then the errors of `set_accept`.
+/// Makes the call `set_accept` with an object, and a list of objects or 0. E_ARGS and E_TYPE for others, then the errors of the call.
 pub(crate) fn set_accept_given<R: Rows>(
     rows: &mut R,
     alloc: Global,

@@ -134,8 +134,7 @@ pub fn create<R: Rows>(
     Ok(Value::Obj(x))
 }
 
-/// Makes the call `create` with a list of arguments: a parent, and an owner or none. E_ARGS and E_TYPE if they are others, and then the
-/// errors of `create`.
+/// Makes the call `create` with a parent, and an owner or none. E_ARGS and E_TYPE for others, then the errors of the call.
 pub(crate) fn create_given<R: Rows>(
     rows: &mut R,
     alloc: Global,

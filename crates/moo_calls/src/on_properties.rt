@@ -98,8 +98,7 @@ pub(crate) fn set_given<R: Rows>(
     values::set(rows, alloc, programmer, x, property, value)
 }
 
-/// Makes the call `add_property` with an object, a name, a value and `{owner, perms}`. E_ARGS and E_TYPE for others, then the errors of the
-/// call.
+/// Makes the call `add_property` with an object, a name, a value and `{owner, perms}`. E_ARGS and E_TYPE for others, then its errors.
 pub(crate) fn add_property_given<R: Rows>(
     rows: &mut R,
     alloc: Global,

@@ -61,8 +61,8 @@ pub(crate) fn verb_args_given<R: Rows>(
     moo_calls_verbs::verb_args(rows, alloc, programmer, x, &desc)
 }
 
-/// Makes the call `add_verb` with an object, `{owner, perms, names}` and `{dobj, prep, iobj}`. E_ARGS and E_TYPE if it is given others, and
-/// then the errors of the call.
+/// Makes the call `add_verb` with an object, `{owner, perms, names}` and `{dobj, prep, iobj}`. E_ARGS and E_TYPE for others, then its
+/// errors.
 pub(crate) fn add_verb_given<R: Rows>(
     rows: &mut R,
     alloc: Global,
@@ -94,8 +94,7 @@ pub(crate) fn delete_verb_given<R: Rows>(
     moo_calls_verbs::delete_verb(rows, programmer, x, &desc)
 }
 
-/// Makes the call `set_verb_info` with an object, a descriptor and `{owner, perms, names}`. E_ARGS and E_TYPE if it is given others, and
-/// then the errors of the call.
+/// Makes the call `set_verb_info` with an object, a descriptor and `{owner, perms, names}`. E_ARGS and E_TYPE for others, then its errors.
 pub(crate) fn set_verb_info_given<R: Rows>(
     rows: &mut R,
     alloc: Global,
@@ -111,8 +110,7 @@ pub(crate) fn set_verb_info_given<R: Rows>(
     moo_calls_verbs::set_verb_info(rows, alloc, programmer, new.object, &new.desc, new.verb)
 }
 
-/// Makes the call `set_verb_args` with an object, a descriptor and `{dobj, prep, iobj}`. E_ARGS and E_TYPE for others, then the errors of
-/// the call.
+/// Makes the call `set_verb_args` with an object, a descriptor and `{dobj, prep, iobj}`. E_ARGS and E_TYPE for others, then its errors.
 pub(crate) fn set_verb_args_given<R: Rows>(
     rows: &mut R,
     alloc: Global,

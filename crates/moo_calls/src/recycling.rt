@@ -39,7 +39,7 @@ pub fn recycle<R: Rows>(
     Ok(ZERO)
 }
 
-/// Makes the call `recycle` with a list of arguments: an object. E_ARGS and E_TYPE if they are others, and then the errors of `recycle`.
+/// Makes the call `recycle` with an object. E_ARGS and E_TYPE for others, then the errors of the call.
 pub(crate) fn recycle_given<R: Rows>(
     rows: &mut R,
     alloc: Global,

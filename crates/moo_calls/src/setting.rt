@@ -56,8 +56,7 @@ fn unset_reason_of_name<R: Rows>(rows: &R, x: ObjNo) -> Reason
     }
 }
 
-/// Why the programmer may not set a built-in property of the object: it may not name the object, it doesn't control the object, or
-/// only a wizard sets the property.
+/// Why the programmer may not set a built-in property of the object: it may not name it, doesn't control it, or isn't a wizard.
 fn unset_reason<R: Rows>(rows: &R, x: ObjNo, field: BuiltIn) -> Reason
     ensures { result ≡ unset_reason (world_in (R.held rows.now)) x field }
 {

@@ -68,8 +68,8 @@ pub fn object_and_value(args: &[Value]) -> Result<(ObjNo, &Value), Code>
     }
 }
 
-/// The object, the name and the value that a call takes. E_ARGS unless there are three arguments; E_TYPE if the first two aren't an object
-/// and a string.
+/// The object, the name and the value that a call takes. E_ARGS unless there are three arguments; E_TYPE if the first two are of other
+/// types.
 pub fn object_text_and_value(args: &[Value]) -> Result<(ObjNo, &MooStr, &Value), Code>
     // Each argument nests at most 32 deep, and its numbers and texts are within their limits.
     requires { list_all fits args.now ≡ true }

@@ -53,8 +53,7 @@ pub fn may_be_parent<R: Rows>(rows: &R, programmer: ObjNo, parent: ObjNo) -> boo
     }
 }
 
-/// Whether the programmer may give what it makes, or a verb that it changes, to this owner: itself, or anybody if the
-/// programmer is a wizard.
+/// Whether the programmer may give what it makes, or a verb that it changes, to an owner: itself, or anybody if it is a wizard.
 pub fn may_make_owner<R: Rows>(rows: &R, programmer: ObjNo, owner: ObjNo) -> bool
     ensures { result ≡ may_make_owner (world_in (R.held rows.now)) programmer owner }
 {

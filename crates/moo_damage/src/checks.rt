@@ -34,6 +34,7 @@ pub(crate) trait NumberedRow: KeyedRow {
 impl NumberedRow for ObjRow {
     ghost is_past = { is_object_past };
 
+    /// Whether the number of an object is below 0, or above the greatest that was given.
     fn is_past(head: Head, x: ObjNo) -> bool {
         x.0 < 0 || head.top < x.0
     }
@@ -42,6 +43,7 @@ impl NumberedRow for ObjRow {
 impl NumberedRow for PropRow {
     ghost is_past = { is_prop_past };
 
+    /// Whether the number of a property is that of the next one, or above it.
     fn is_past(head: Head, id: PropId) -> bool {
         head.next_prop <= id.0
     }
@@ -50,6 +52,7 @@ impl NumberedRow for PropRow {
 impl NumberedRow for VerbRow {
     ghost is_past = { is_verb_past };
 
+    /// Whether the number of a verb is that of the next one, or above it.
     fn is_past(head: Head, key: (ObjNo, VerbId)) -> bool {
         head.next_verb <= key.1.0
     }
@@ -58,6 +61,7 @@ impl NumberedRow for VerbRow {
 impl NumberedRow for PetitionRow {
     ghost is_past = { is_petition_past };
 
+    /// Whether the number of a petition is that of the next one, or above it.
     fn is_past(head: Head, id: PetitionId) -> bool {
         head.next_petition <= id.0
     }
@@ -208,8 +212,7 @@ fn any_clear_own<R: Rows>(rows: &R) -> bool
     any_bad::<PropRow, R, _>(rows, |id, row| has_clear(rows, (row.definer, id)))
 }
 
-/// The least slot that is clear on the definer of its property; `None` if there is none. Slots are looked at only if a property has such a
-/// slot.
+/// The least slot that is clear on the definer of its property; `None` if there is none. Slots are looked at only if some property has one.
 pub(crate) fn first_clear<R: Rows>(rows: &R) -> Option<(ObjNo, PropId)>
     ensures { IsLeastPassing (R.held rows.now).maps.slots (is_clear_definer (R.held rows.now).maps) result }
 {

@@ -35,8 +35,7 @@ fn first_differing<T: KeyedRow, R: Rows>(own: &R, found: &R) -> Option<T::Key>
     )
 }
 
-/// The first row in which two sets of rows differ, in the order of `first_difference`; `None` if they are equal. The rows may be of any
-/// storage.
+/// The first row in which two sets of rows of any storage differ, in the order of `first_difference`; `None` if they are equal.
 fn difference<R: Rows>(own: &R, found: &R) -> Option<Key>
     // The two sets differ at that key, and agree at each key before it.
     ensures differs { IfSome result (λ key. IsFirstDifference (R.held own.now).maps (R.held found.now).maps key) }

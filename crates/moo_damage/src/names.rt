@@ -32,8 +32,7 @@ fn note_name(
     }
 }
 
-/// Notes the property of a number, if there is one, and answers whether no other property was noted under its name. The only error is a
-/// lack of memory.
+/// Notes the property of a number, if there is one, and answers whether no other was noted under its name. AllocError: memory ran out.
 fn note_prop<R: Rows>(
     alloc: Global,
     rows: &R,
@@ -91,8 +90,7 @@ fn seen_apart<R: Rows>(
     Ok(true)
 }
 
-/// Whether no two properties that an object has slots of have one name, on each object that defines a property. The only error is a lack of
-/// memory.
+/// Whether no two properties that an object has slots of have one name, on each object that defines a property. AllocError: memory ran out.
 pub(crate) fn are_names_apart<R: Rows>(alloc: Global, rows: &R) -> Result<bool, AllocError>
     ensures apart { IfOk result (λ apart. apart ≡ true → DefinersApart (R.held rows.now).maps) }
     // Of sound rows the answer is yes.

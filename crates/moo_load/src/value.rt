@@ -58,8 +58,7 @@ pub(crate) fn flag_of(value: &Value, what: &'static str) -> LineResult<bool>
     }
 }
 
-/// The objects of an accept list: at most 1,000 values, each an object. NoAcceptList or NoObject for others; OutOfMemory if memory runs
-/// out.
+/// The objects of an accept list: at most 1,000 values, each an object. NoAcceptList or NoObject for others; OutOfMemory: memory ran out.
 fn objects_of(alloc: Global, values: &[Value]) -> LineResult<ObjList>
     ensures ok { IfOk result (λ objects. values.now ≡ map Obj objects) }
     ensures fits { IfOk result (λ objects. accept_fits (Some objects) ≡ true) }

@@ -117,8 +117,7 @@ fn put_value_fault(said: &mut Said, line: &[u8], fault: LiteralFault) -> Result<
     }
 }
 
-/// Says what is found where a value is wanted: the end of the line, a bad list, or a word that isn't a value. The only error is a lack of
-/// memory.
+/// Says what is found where a value is wanted: the end of the line, a bad list, or a word that isn't a value. AllocError: memory ran out.
 fn put_no_value(said: &mut Said, rest: &[u8]) -> Result<(), AllocError> {
     match rest {
         [] => said.put("the line ends where a value is wanted"),

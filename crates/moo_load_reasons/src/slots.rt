@@ -25,10 +25,9 @@ fn slot_front(
     Ok(front)
 }
 
-/// Says what is wrong with the slot on an object of the property whose line is the one of this count, from 1, among the lines `property`
-/// of the dump `text`: first the line that shows it, if one does. MissingSlot: this slot is wanted there. ClearDefiner: the object
-/// defines the property, so its slot can't be clear. StrangeSlot: the object has no such property, or isn't an object. The only error is
-/// a lack of memory.
+/// Says what is wrong with the slot on an object of the property whose line is the one of this count, from 1, among the lines `property` of
+/// the dump `text`: first the line that shows it, if one does. MissingSlot: this slot is wanted there. ClearDefiner: the object defines the
+/// property, so its slot can't be clear. StrangeSlot: the object has no such property, or isn't an object. AllocError: memory ran out.
 pub(crate) fn put_slot_damage(
     said: &mut Said,
     text: &[u8],

@@ -222,8 +222,7 @@ fn put_taken(said: &mut Said, definer: ObjNo, name: Option<&Value>) -> Result<()
     said.put(b" already")
 }
 
-/// Says that an object defines a property of the name that is disclosed, and that the new parent has one too. The only error is a lack of
-/// memory.
+/// Says that an object defines a property of the name that is disclosed, and that the new parent has one too. AllocError: memory ran out.
 fn put_shared(
     said: &mut Said,
     definer: ObjNo,

@@ -130,23 +130,28 @@ impl Witness for Whys {
 
     ghost left = { λ w. Some w.left };
 
+    /// How many ticks of the request are left; never `None`.
     fn ticks(&self) -> Option<u64> {
         Some(self.left)
     }
 
+    /// Sets how many ticks of the request are left, and counts one more batch that was judged.
     fn leave(&mut self, ticks: u64) {
         self.left = ticks;
         self.judged = self.judged.saturating_add(1);
     }
 
+    /// Keeps the number of the call at which ticks were spent, for `spent_why`.
     fn see_spent(&mut self, call: u32) {
         self.spent_at = Some(call);
     }
 
+    /// Whether lines are wanted.
     fn wants_facts(&self) -> bool {
         self.is_wanted
     }
 
+    /// Keeps the line that says why the batch is refused, if lines are wanted; or notes that memory ran out for it.
     fn see(&mut self, batch: &Batch, refusal: Refusal, facts: Option<&Facts<'_>>) {
         if !self.is_wanted {
             return;

@@ -82,8 +82,7 @@ pub fn call_or_fault(alloc: Global, line: &[u8]) -> Result<Call, LineFault<'_>>
     Ok(Call { name, args })
 }
 
-/// The call that a line of at most 262,144 bytes spells. `None` for any other line: `call_or_fault` says why. AllocError if memory runs
-/// out.
+/// The call that a line of at most 262,144 bytes spells. `None` for any other line: `call_or_fault` says why. AllocError: memory ran out.
 pub fn call_of(alloc: Global, line: &[u8]) -> Result<Option<Call>, AllocError>
     ensures { IfOk result (λ call. call ≡ call_of line.now) }
 {
