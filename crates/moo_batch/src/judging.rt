@@ -87,8 +87,7 @@ fn spend_on_answer<R: Rows>(rows: &mut R, answer: &Value) -> bool
 }
 
 /// Makes the calls of a batch, one after another, up to the first that isn't done, or at which ticks are spent. The rows are then those
-/// after the calls before it, or changed or half changed by that call, and the caller drops them. A `Stop` says which call stopped it, and
-/// why.
+/// after the calls before it, or changed or half changed by that call, and the caller drops them. A `Stop` says which call, and why.
 fn run_calls<R: Rows>(
     rows: &mut R,
     alloc: Global,
@@ -206,8 +205,7 @@ fn verdict_of_stop<B: Rows, R: Rows, W: Witness>(
     }
 }
 
-/// Tells the witness how many of its ticks are left after the calls of a batch, which take one at least. It does nothing if there is no
-/// bound (`None`).
+/// Tells the witness how many of its ticks are left after the calls of a batch, which take one at least; nothing without a bound (`None`).
 fn leave_ticks<R: Rows, W: Witness>(draft: &Draft<'_, R>, ticks: Option<u64>, witness: &mut W)
     // `ticks` is how many the witness had; if there is a bound, one at least.
     requires left { ticks ≡ W.left witness.old }

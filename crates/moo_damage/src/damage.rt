@@ -24,6 +24,7 @@ fn ungiven_number<R: Rows>(rows: &R, are_plain: bool) -> Option<(Kind, Key)>
     requires { are_plain ≡ true → ArePlain (R.held rows.now).maps }
     // Some damage is the first that is met, with its least key. `None` only if no kind up to `PastHead` is met.
     ensures first { IsFirstBefore (InRows (R.held rows.now).maps) 4 result }
+    // If there is none, each number was given.
     ensures given { IfNone result (NumbersGiven (R.held rows.now).maps) }
 {
     if let Some(x) = past_object(rows, are_plain) {
@@ -51,6 +52,7 @@ fn wrong_link<R: Rows>(
 ) -> Result<Option<(Kind, Key)>, AllocError>
     // `are_plain` is true only if one look at each object shows that it is right.
     requires plain { are_plain ≡ true → ArePlain (R.held rows.now).maps }
+    // Each number was given.
     requires numbers { NumbersGiven (R.held rows.now).maps }
     // No damage of a kind before that of a link that names no object is met.
     requires before { NoneBefore (InRows (R.held rows.now).maps) (rank (lost_kind link)) }
@@ -79,6 +81,7 @@ fn wrong_property<R: Rows>(rows: &R, slots_are_owed: bool) -> Option<(Kind, Key)
     requires before { NoneBefore (InRows (R.held rows.now).maps) 8 }
     // Some damage is the first that is met, with its least key. `None` only if no kind up to `DoubleName` is met.
     ensures first { IsFirstBefore (InRows (R.held rows.now).maps) 10 result }
+    // If there is none, each definer is an object, and no name is double.
     ensures right { IfNone result (PropsRight (R.held rows.now).maps) }
 {
     if let Some(id) = first_undefined(rows) {
@@ -102,6 +105,7 @@ fn wrong_slot_or_verb<R: Rows>(rows: &R, slots_are_owed: bool) -> Option<(Kind, 
     requires before { NoneBefore (InRows (R.held rows.now).maps) 10 }
     // Some damage is the first that is met, with its least key. `None` only if no kind up to `StrangeVerb` is met.
     ensures first { IsFirstBefore (InRows (R.held rows.now).maps) 14 result }
+    // If there is none, slots are just those that are owed, none is clear on its definer, and each verb is of an object.
     ensures right { IfNone result (SlotsRight (R.held rows.now).maps) }
 {
     if let Some(key) = strange_slot(rows, slots_are_owed) {

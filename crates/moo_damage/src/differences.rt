@@ -39,6 +39,7 @@ fn first_differing<T: KeyedRow, R: Rows>(own: &R, found: &R) -> Option<T::Key>
 fn difference<R: Rows>(own: &R, found: &R) -> Option<Key>
     // The two sets differ at that key, and agree at each key before it.
     ensures differs { IfSome result (λ key. IsFirstDifference (R.held own.now).maps (R.held found.now).maps key) }
+    // `None` only if both have the same head and the same rows.
     ensures same { IfNone result ((R.held own.now).maps ≡ (R.held found.now).maps) }
 {
     if own.head() != found.head() {

@@ -126,8 +126,7 @@ fn after_petitions<R: Rows>(
 
 /// Compares a text with the dump of the rows, of which the lines of one object at a time are in memory.
 ///
-/// Differs with the place of the first difference, if the text isn't the dump; OutOfMemory if memory runs out. It takes as many look-ups as
-/// a dump.
+/// Differs with the place of the first difference, if there is one; OutOfMemory if memory runs out. It takes the look-ups of a dump.
 pub fn compare<R: Rows>(alloc: Global, rows: &R, text: &[u8]) -> Result<(), CompareFault>
     // The rows are those of a well formed world.
     requires { IsGood (R.held rows.now).maps }

@@ -75,8 +75,7 @@ fn seq_of(alloc: Global, line: &[u8]) -> LineResult<u64>
     count_of(&value)
 }
 
-/// The greatest number that an object was given, -1 for none, from a line `top #N`. NoHeading, or the fault of the literal, for any other
-/// line.
+/// The greatest number that an object was given, -1 for none, from a line `top #N`. NoHeading, or the literal's fault, for another line.
 fn top_of(alloc: Global, line: &[u8]) -> LineResult<i32>
     // The number is one that an object may have, or -1.
     ensures least { IfOk result (λ top. negsuc 0 ≤ℤ top) }

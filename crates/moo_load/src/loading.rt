@@ -81,8 +81,7 @@ pub fn read_dump(alloc: Global, text: &[u8]) -> Result<Flat, LoadFault>
     ensures numbered { IfOk result (λ rows. AreRowsOf (state_of rows.maps) rows.maps) }
     // The text has a line of the number that a fault names; or rows within their limits have the damage, and none before it.
     ensures fault { IfErr result (SaysOfText text.now) }
-    // The dump of a well formed state after fewer than 2^63 batches is refused only out of memory, or if it has 4,294,967,295 bytes or
-    // more.
+    // A well formed state's dump, after fewer than 2^63 batches, is refused only out of memory, or if it has 4,294,967,295 bytes or more.
     ensures complete { IfErr result (λ fault. fault ≢ LoadFault.OutOfMemory → length text.now < 4294967295 → (s : State) → IsHeld s →
         dump s ≢ text.now) }
 {

@@ -43,8 +43,7 @@ fn bits_of(value: &Value) -> LineResult<Bits>
     }
 }
 
-/// What a slot holds, from the last values of its line: clear for 0, set for 1 and a value. NoState for others; OutOfMemory if memory runs
-/// out.
+/// What a slot holds, by the last values of its line: clear for 0, set for 1 and a value. NoState for others; OutOfMemory: memory ran out.
 fn state_of(alloc: Global, values: &[Value]) -> LineResult<SlotState>
     // The values are those that a dump writes of the state.
     ensures shown { IfOk result (λ state. values.now ≡ state_values state) }

@@ -57,8 +57,7 @@ pub(crate) fn take_property(alloc: Global, values: &[Value], rows: &mut Flat) ->
     // If the values are those of a property's line, that property is put under the next number.
     ensures put { OnOk result ((row : PropRow) → values.now ≡ Obj row.definer ∷ Str row.name ∷ [] →
         rows.new.maps ≡ property_taken rows.old.maps row) }
-    // There is a fault, but for out of memory, only if the values aren't those of the line of a property that may have its name, or no
-    // number is left.
+    // There is a fault, but for out of memory, only if no number is left, or the values aren't those of a property that may have its name.
     ensures err { IfErr result (λ fault. fault ≢ LineFault.OutOfMemory → rows.old.maps.head.next_prop < 4294967295 → (row : PropRow) →
         is_property_name row.name ≡ true
         → values.now ≢ Obj row.definer ∷ Str row.name ∷ []) }
@@ -84,8 +83,7 @@ pub(crate) fn take_verb(alloc: Global, values: &[Value], rows: &mut Flat) -> Lin
     // If the values are those of a verb's line, that verb is put under the next number.
     ensures put { OnOk result ((x : ObjNo) (row : VerbRow) → values.now ≡ verb_values x row →
         rows.new.maps ≡ verb_taken rows.old.maps x row) }
-    // There is a fault, but for out of memory, only if the values aren't those of the line of a verb within its limits, or no number is
-    // left.
+    // There is a fault, but for out of memory, only if no number is left, or the values aren't those of a verb within its limits.
     ensures err { IfErr result (λ fault. fault ≢ LineFault.OutOfMemory → rows.old.maps.head.next_verb < 4294967295 →
         (x : ObjNo) (row : VerbRow) → verb_fits row ≡ true
         → values.now ≢ verb_values x row) }

@@ -6,8 +6,8 @@ use std::alloc::{AllocError, Global};
 /// The most bytes of a value or of a line that are shown.
 const MOST_SHOWN: usize = 60;
 
-/// What is said so far. Each `put` adds to its end. These words go to standard error, and nothing is
-/// proved of them. `Said` of `moo_reasons`, of which lengths are proved, is another type.
+/// What is said so far, for standard error: nothing is proved of it. Each `put` adds to its end. `Said` of `moo_reasons`, of which lengths
+/// are proved, is another type.
 #[derive(Drop)]
 pub(crate) struct Said {
     pub(crate) alloc: Global,

@@ -13,8 +13,7 @@ use moo_value::{after_mark, skip_blanks, split_word};
 use moo_world::{Args, Call, CallName};
 use std::alloc::{AllocError, Global};
 
-/// The values before a closing mark, which ends the line: one at least, with commas between them. The error is the first fault from left to
-/// right, or OutOfMemory.
+/// The values before a closing mark, which ends the line: one at least, with commas between. The error is the first fault, or OutOfMemory.
 pub fn values_at(alloc: Global, mark: u8, bytes: &[u8]) -> Result<Args, LineFault<'_>>
     // The bytes spell the values, with commas between them, up to the mark that ends the line.
     ensures ok { IfOk result (λ args. values_at mark (length bytes.now) bytes.now ≡ Some args) }
@@ -38,8 +37,7 @@ pub fn values_at(alloc: Global, mark: u8, bytes: &[u8]) -> Result<Args, LineFaul
     }
 }
 
-/// The arguments of a call, from past its `(` to the `)` that ends the line. The error is the first fault from left to right, or
-/// OutOfMemory.
+/// The arguments of a call, from past its `(` to the `)` that ends the line. The error is the first fault from the left, or OutOfMemory.
 fn arguments_of(alloc: Global, bytes: &[u8]) -> Result<Args, LineFault<'_>>
     ensures ok { IfOk result (λ args. arguments_of bytes.now ≡ Some args) }
     // There is a fault, but for out of memory, only if the bytes aren't arguments.
@@ -61,8 +59,7 @@ fn call_name_of(word: &[u8]) -> Option<CallName>
     CallName::read(word)
 }
 
-/// The call that a line of at most 262,144 bytes spells, `name(value, ...)`. The error is why it spells none: the first fault from left to
-/// right; or OutOfMemory.
+/// The call that a line of at most 262,144 bytes spells, `name(value, ...)`. The error is the first fault from the left, or OutOfMemory.
 pub fn call_or_fault(alloc: Global, line: &[u8]) -> Result<Call, LineFault<'_>>
     // The line spells this call.
     ensures ok { IfOk result (λ call. call_of line.now ≡ Some call) }

@@ -45,8 +45,7 @@ fn drop_return(line: &mut Vec<u8>)
     }
 }
 
-/// A reader of the lines of a text, which reads in pieces of 4,096 bytes at most. Once the reader below has given no bytes, it isn't read
-/// again.
+/// A reader of the lines of a text, which reads at most 4,096 bytes at once. Once the reader below has given no bytes, it isn't read again.
 #[derive(Drop)]
 pub struct LineReader<R> {
     alloc: Global,
