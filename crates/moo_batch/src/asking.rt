@@ -51,7 +51,7 @@ fn may_be_asked(calls: &ValueList) -> Result<(), Reason>
     Ok(())
 }
 
-/// Keeps the calls as a petition of the programmer's, and answers its number. Full if 4,294,967,294 has been given.
+/// Keeps the calls as a petition of the programmer's, and answers its number. Full if 4,294,967,294 has been given; or OutOfMemory.
 fn add_petition<R: Rows>(rows: &mut R, programmer: ObjNo, calls: ValueList) -> Result<Value, Fault>
     // The rows are those of a well formed world.
     requires good { IsGood (R.held rows.old).maps }

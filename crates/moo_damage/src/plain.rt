@@ -36,6 +36,7 @@ pub(crate) fn are_plain<R: Rows>(rows: &R) -> bool
 
 /// The least object whose number was never given; `None` if there is none, as is known without a look if `are_plain`.
 pub(crate) fn past_object<R: Rows>(rows: &R, are_plain: bool) -> Option<ObjNo>
+    // `are_plain` is true only if one look at each object shows that it is right.
     requires { are_plain ≡ true → ArePlain (R.held rows.now).maps }
     ensures { IsLeastPassing (R.held rows.now).maps.objects (λ x _. is_object_past (R.held rows.now).maps.head x) result }
 {
@@ -47,6 +48,7 @@ pub(crate) fn past_object<R: Rows>(rows: &R, are_plain: bool) -> Option<ObjNo>
 
 /// The least object whose link names neither an object nor `#-1`; `None` if there is none, as is known without a look if `are_plain`.
 pub(crate) fn lost_object<R: Rows>(rows: &R, link: TreeLink, are_plain: bool) -> Option<ObjNo>
+    // `are_plain` is true only if one look at each object shows that it is right.
     requires { are_plain ≡ true → ArePlain (R.held rows.now).maps }
     ensures { IsLeastPassing (R.held rows.now).maps.objects (λ _ row. is_lost link (R.held rows.now).maps row) result }
 {
@@ -65,6 +67,7 @@ pub(crate) fn looping_object<R: Rows>(
 ) -> Result<Option<ObjNo>, AllocError>
     // Each link names an object or `#-1`.
     requires links { LinksHold link (R.held rows.now).maps }
+    // `are_plain` is true only if one look at each object shows that it is right.
     requires plain { are_plain ≡ true → ArePlain (R.held rows.now).maps }
     ensures { IfOk result (IsFirstLoop link (R.held rows.now).maps) }
 {

@@ -64,7 +64,7 @@ impl From<LiteralFault> for LineFault {
 }
 
 impl LineFault {
-    /// The fault of the text whose line at the place `at` has this fault: it names the line by its number.
+    /// The fault of the text whose line at the place `at` has this fault: NotADump with the number of the line, or OutOfMemory.
     pub(crate) fn within(self, text: &[u8], at: usize) -> LoadFault
         // The text has the place.
         requires { at ≤ length text.now }

@@ -46,7 +46,7 @@ pub(crate) fn split_keyword(line: &[u8]) -> LineResult<(Word, &[u8])>
     Err(LineFault::Unreadable(DumpReason::NoRow))
 }
 
-/// The bytes after a prefix. Without the prefix they are unreadable for the reason `why`.
+/// The bytes after a prefix. Without the prefix the error is Unreadable, for the reason `why`.
 pub(crate) fn after_prefix<'a>(
     prefix: &[u8],
     bytes: &'a [u8],

@@ -86,7 +86,7 @@ fn line_of(marks: &Marks, answer: &Answer) -> Option<u64> {
     }
 }
 
-/// Says an answer in words; if a batch is refused, the words `told`, or the error without them.
+/// Says an answer in words; if a batch is refused, the words `told`, or the error without them. AllocError: memory ran out.
 fn put_answer(
     said: &mut Said,
     marks: &Marks,
