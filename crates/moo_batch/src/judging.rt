@@ -170,8 +170,9 @@ fn verdict_of_stop<B: Rows, R: Rows, W: Witness>(
     stop: Stop,
     witness: &mut W,
 ) -> Verdict
-    // At a check that failed the rows are good ones, unless a call of a granted petition failed.
+    // At a check that failed the rows `rows` are good ones, unless a call of a granted petition failed.
     requires rows { IsGoodAt (R.held rows.now).maps stop }
+    // The rows `base` are those of a well formed world.
     requires base { IsGood (B.held base.now).maps }
     // The verdict is Refused, Full or OutOfMemory as the calls stopped, with the call and the error.
     ensures refused { (refusal : Refusal) → stop ≡ Stop.Refused refusal → result ≡ Verdict.Refused refusal.call (error_of refusal.reason) }

@@ -101,6 +101,7 @@ fn put_verbs<R: Rows>(
     x: ObjNo,
     out: &mut Vec<u8>,
 ) -> Result<(), AllocError>
+    // The rows are sound.
     requires { IsSound (R.held rows.now).maps }
     ensures { OnOk result (out.new.items
         ≡ out.old.items ++ flat_map (verb_line x) (directory_of (world_of (R.held rows.now).maps) x)) }

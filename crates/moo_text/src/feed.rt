@@ -30,7 +30,7 @@ fn skip_batch<R: Read>(
     ensures falls { OnOk result (lines_room lines.new ≤ lines_room lines.old) }
     // After the end of the text, and after a batch that the end cuts off, nothing is left.
     ensures ends { IfOk result (λ item. EndsAt item (lines_side R.remaining lines.new)) }
-    // At a fault the reader gave one byte more than it had room for if the fault is Long, else no more; the fault is never Write.
+    // At a fault the reader gave one byte more than the room if the fault is Long, else no more than the room; it is never Write.
     ensures cause { IfErr result (LinesBreakOff R.remaining lines.old lines.new) }
 {
     lines.marks.spoil(bad);
@@ -58,7 +58,7 @@ fn rest_of_batch<R: Read>(
     ensures falls { OnOk result (lines_room lines.new ≤ lines_room lines.old) }
     // After the end of the text, and after a batch that the end cuts off, nothing is left.
     ensures ends { IfOk result (λ item. EndsAt item (lines_side R.remaining lines.new)) }
-    // At a fault the reader gave one byte more than it had room for if the fault is Long, else no more; the fault is never Write.
+    // At a fault the reader gave one byte more than the room if the fault is Long, else no more than the room; it is never Write.
     ensures cause { IfErr result (LinesBreakOff R.remaining lines.old lines.new) }
 {
     let mut calls = Vec::new(alloc);
@@ -95,7 +95,7 @@ fn next_item<R: Read>(alloc: Global, lines: &mut LineReader<R>) -> Result<Next, 
     ensures falls { IfOk result (λ item. item ≢ Next.End → lines_room lines.new < lines_room lines.old) }
     // After the end of the text, and after a batch that the end cuts off, nothing is left.
     ensures ends { IfOk result (λ item. EndsAt item (lines_side R.remaining lines.new)) }
-    // At a fault the reader gave one byte more than it had room for if the fault is Long, else no more; the fault is never Write.
+    // At a fault the reader gave one byte more than the room if the fault is Long, else no more than the room; it is never Write.
     ensures cause { IfErr result (LinesBreakOff R.remaining lines.old lines.new) }
 {
     loop {
@@ -175,7 +175,7 @@ impl<R: Read> Feed<R> {
         ensures falls { IfOk result (λ item. item ≢ Next.End → feed_room self.new < feed_room self.old) }
         // After the end of the text, and after a batch that the end cuts off, nothing is left.
         ensures ends { IfOk result (λ item. EndsAt item (feed_side R.remaining self.new)) }
-        // At a first fault the reader gave one byte more than it had room for if the fault is Long, else no more; it is never Write.
+        // At a first fault the reader gave one byte more than the room if the fault is Long, else no more than the room; it is never Write.
         ensures cause { IfNone self.old.fault (IfErr result (λ fault.
             BreaksOff (feed_side R.remaining self.old) (feed_side R.remaining self.new) fault)) }
     {

@@ -88,7 +88,7 @@ impl<R: Read> LineReader<R> {
         ensures falls { IfOk result (λ more. more ≡ true → self.new.room < self.old.room) }
         // At the end of the text the reader has ended, and no byte is left unused.
         ensures end { IfOk result (λ more. more ≡ false → IsOver (lines_side R.remaining self.new)) }
-        // At a fault the reader gave one byte more than it had room for if the fault is Long, else no more; the fault is never Write.
+        // At a fault the reader gave one byte more than the room if the fault is Long, else no more than the room; it is never Write.
         ensures cause { IfErr result (LinesBreakOff R.remaining self.old self.new) }
     {
         if self.ended {
@@ -122,7 +122,7 @@ impl<R: Read> LineReader<R> {
         ensures falls { IfOk result (TakesRoom self.old self.new) }
         // At the end of the text the reader has ended, and no byte is left unused.
         ensures ends { IfOk result (λ line. IfNone line (IsOver (lines_side R.remaining self.new))) }
-        // At a fault the reader gave one byte more than it had room for if the fault is Long, else no more; the fault is never Write.
+        // At a fault the reader gave one byte more than the room if the fault is Long, else no more than the room; it is never Write.
         ensures cause { IfErr result (LinesBreakOff R.remaining self.old self.new) }
     {
         let mut line = Vec::new(self.alloc);
@@ -159,7 +159,7 @@ impl<R: Read> LineReader<R> {
         ensures falls { IfOk result (TakesRoom self.old self.new) }
         // At the end of the text the reader has ended, and no byte is left unused.
         ensures ends { IfOk result (λ line. IfNone line (IsOver (lines_side R.remaining self.new))) }
-        // At a fault the reader gave one byte more than it had room for if the fault is Long, else no more; the fault is never Write.
+        // At a fault the reader gave one byte more than the room if the fault is Long, else no more than the room; it is never Write.
         ensures cause { IfErr result (LinesBreakOff R.remaining self.old self.new) }
     {
         let read = self.read_line();
