@@ -121,7 +121,7 @@ fn bits_to_define<R: Rows>(
 ) -> Result<Bits, Fault>
     // The rows are those of a well formed world.
     requires { IsGood (R.held rows.now).maps }
-    // With these rights, `add_property` of any value answers 0, and x defines the property: its slot on x has the owner and the value.
+    // With these rights, `add_property` of any value answers 0, and x defines the property: its slot on x has owner, rights and value.
     ensures ok { IfOk result (λ bits. (v : Value) →
         add_property (world_in (R.held rows.now)) programmer x name.now v (info_shown info.entry)
         ≡ Done zero (property_added (world_in (R.held rows.now)) x name.now

@@ -84,7 +84,7 @@ fn change_info<R: Rows>(
     requires has { is_some (get (R.held rows.old).maps.slots (x, id)) ≡ true }
     // No new name is given, or x may give the property the new one.
     requires may { may_rename (world_of (R.held rows.old).maps) x (spelling_of (R.held rows.old).maps id) new ≡ true }
-    // The slot on x has the owner and the rights, and the property has the new name everywhere.
+    // The slot on x has the owner and the rights, and the property has the new name everywhere, if one is given.
     ensures world { OnOk result (let name = spelling_of (R.held rows.old).maps id in
         world_of (R.held rows.new).maps ≡ renamed_to (info_set (world_of (R.held rows.old).maps) x name owner bits) x name new) }
     // The rows are good ones, what stays keeps its number, and the petitions and the count of batches are as they were.
@@ -108,7 +108,7 @@ fn property_to_change<R: Rows>(
 ) -> Result<(PropId, Bits), Fault>
     // The rows are those of a well formed world.
     requires { IsGood (R.held rows.now).maps }
-    // With these rights, `set_property_info` answers 0: the slot has the owner and the rights, and the property the new name.
+    // With these rights, `set_property_info` answers 0: the slot has owner and rights, and the property the new name, if one is given.
     ensures ok { IfOk result (λ found. let w = world_in (R.held rows.now) in let new = option_map (λ n. n.now) new_name.entry in
         set_property_info w programmer x name.now (info_shown info.entry) new
         ≡ Done zero (renamed_to (info_set w x name.now info.entry.owner found.1) x name.now new)) }

@@ -98,7 +98,7 @@ pub(crate) fn read_heading(alloc: Global, text: &[u8]) -> Result<(Head, usize), 
     // With the head and no row, rows are within their limits, and fewer than 2^63 batches were accepted.
     ensures read { IfOk result (λ r. AreRead (record no_maps { head = r.0 })) }
     ensures start { IfOk result (λ r. r.1 ≤ length text.now) }
-    // If the text begins with the heading of a state, the head is the state's, and the rest of the text follows the place.
+    // If the text begins with a state's heading, the head has its `seq` and `top`, and the next numbers 1; the rest begins at the place.
     ensures ok { IfOk result (λ r. (s : State) (rest : List ℕ) → IsHeld s → text.now ≡ heading s ++ rest → (r.0 ≡ first_head s)
         × (drop r.1 text.now ≡ rest)) }
     // There is a fault, but for out of memory, only if the text doesn't begin with the heading of a state.
