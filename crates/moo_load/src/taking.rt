@@ -35,7 +35,7 @@ use std::alloc::Global;
 pub(crate) fn take_object(alloc: Global, values: &[Value], rows: &mut Flat) -> LineResult<()>
     // The rows are within their limits, and fewer than 2^63 batches were accepted.
     requires { AreRead rows.old.maps }
-    // So it is of the rows afterwards.
+    // The rows are within their limits afterwards too, and fewer than 2^63 batches were accepted.
     ensures read { OnOk result (AreRead rows.new.maps) }
     // If the values are those of an object's line, that object is put.
     ensures put { OnOk result ((x : ObjNo) (row : ObjRow) → values.now ≡ object_values x row → rows.new ≡ with_object rows.old x row) }
@@ -52,7 +52,7 @@ pub(crate) fn take_object(alloc: Global, values: &[Value], rows: &mut Flat) -> L
 pub(crate) fn take_property(alloc: Global, values: &[Value], rows: &mut Flat) -> LineResult<()>
     // The rows are within their limits, and fewer than 2^63 batches were accepted.
     requires { AreRead rows.old.maps }
-    // So it is of the rows afterwards.
+    // The rows are within their limits afterwards too, and fewer than 2^63 batches were accepted.
     ensures read { OnOk result (AreRead rows.new.maps) }
     // If the values are those of a property's line, that property is put under the next number.
     ensures put { OnOk result ((row : PropRow) → values.now ≡ Obj row.definer ∷ Str row.name ∷ [] →
@@ -78,7 +78,7 @@ pub(crate) fn take_property(alloc: Global, values: &[Value], rows: &mut Flat) ->
 pub(crate) fn take_verb(alloc: Global, values: &[Value], rows: &mut Flat) -> LineResult<()>
     // The rows are within their limits, and fewer than 2^63 batches were accepted.
     requires { AreRead rows.old.maps }
-    // So it is of the rows afterwards.
+    // The rows are within their limits afterwards too, and fewer than 2^63 batches were accepted.
     ensures read { OnOk result (AreRead rows.new.maps) }
     // If the values are those of a verb's line, that verb is put under the next number.
     ensures put { OnOk result ((x : ObjNo) (row : VerbRow) → values.now ≡ verb_values x row →
@@ -104,7 +104,7 @@ pub(crate) fn take_verb(alloc: Global, values: &[Value], rows: &mut Flat) -> Lin
 pub(crate) fn take_petition(alloc: Global, values: &[Value], rows: &mut Flat) -> LineResult<()>
     // The rows are within their limits, and fewer than 2^63 batches were accepted.
     requires { AreRead rows.old.maps }
-    // So it is of the rows afterwards.
+    // The rows are within their limits afterwards too, and fewer than 2^63 batches were accepted.
     ensures read { OnOk result (AreRead rows.new.maps) }
     // If the values are those of a petition's line, that petition is put under its number.
     ensures put { OnOk result ((id : PetitionId) (row : PetitionRow) → values.now ≡ petition_values id row →
@@ -181,7 +181,7 @@ pub(crate) fn take_slot(
 ) -> LineResult<LastSlot>
     // The rows are within their limits, and fewer than 2^63 batches were accepted.
     requires { AreRead rows.old.maps }
-    // So it is of the rows afterwards.
+    // The rows are within their limits afterwards too, and fewer than 2^63 batches were accepted.
     ensures read { OnOk result (AreRead rows.new.maps) }
     // If the values are those of the slot of the next property of its definer, the slot is put under the property's number, as the last.
     ensures put { IfOk result (λ put. (x : ObjNo) (p : Property) (k : Slot) (id : PropId) →

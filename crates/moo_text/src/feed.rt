@@ -88,7 +88,7 @@ fn rest_of_batch<R: Read>(
     }
 }
 
-/// Reads the next item of a text: a batch, its first bad line, its want of an end, or the end of the text. Errors as of `next_batch`.
+/// Reads the next item of a text: a batch, its first bad line, its want of an end, or the end of the text. Errors: those of `next_batch`.
 fn next_item<R: Read>(alloc: Global, lines: &mut LineReader<R>) -> Result<Next, TextFault>
     ensures item { IfOk result (λ item. ReadsNext (lines_side R.remaining lines.old) (lines_side R.remaining lines.new) item) }
     // Each item but the end takes some of the room.

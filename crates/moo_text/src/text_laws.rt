@@ -36,7 +36,7 @@ pub fn calls_are_spelled()
 pub fn one_cut()
     // The lines of a text are cut into the items that are read from it.
     ensures cut { (text : List ℕ) → Cuts (lines text) (items text) }
-    // They are cut into no other items.
+    // The lines are cut into no other items.
     ensures only { (text : List ℕ) (others : List Next) → Cuts (lines text) others → items text ≡ others }
 {}
 
