@@ -34,8 +34,8 @@ fn is_property_name(name: &MooStr) -> bool
     0 < length && length <= MAX_NAME && BuiltIn::of_name(name).is_none()
 }
 
-/// Nothing if a new property of x may have the name, or E_INVARG: if no property may have it, then if x, an ancestor or a
-/// descendant defines one of that name.
+/// Tests whether a new property of x may have the name. E_INVARG if no property may have it, then if x, an ancestor or a descendant defines
+/// one of that name.
 pub(crate) fn may_define<R: Rows>(rows: &R, x: ObjNo, name: &MooStr) -> Result<(), Reason>
     // The rows are those of a well formed world.
     requires { IsGood (R.held rows.now).maps }

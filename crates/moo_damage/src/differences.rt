@@ -8,7 +8,7 @@ use crate::kind::{Key, object_key, petition_key, prop_key, slot_key, verb_key};
 use moo_memory::Flat;
 use moo_rows::{KeyedRow, ObjRow, PetitionRow, PropRow, Row as _, Rows, SlotRow, VerbRow, ordered};
 
-/// Whether a row isn't the row of its key in the rows `there`.
+/// Whether the rows `there` have another row, or none, under the key of a row.
 fn is_unlike<T: KeyedRow, R: Rows>(there: &R, key: T::Key, row: &T) -> bool
     ensures { IsUnlike (T.map_of (R.held there.now).maps) result key row.now }
 {
@@ -18,7 +18,7 @@ fn is_unlike<T: KeyedRow, R: Rows>(there: &R, key: T::Key, row: &T) -> bool
     }
 }
 
-/// The least key of a kind of row whose row isn't that of the key in the rows `there`; `None` if there is none.
+/// The least key of a kind of row under which the rows `there` have another row, or none; `None` if there is no such key.
 fn first_unlike<T: KeyedRow, R: Rows>(rows: &R, there: &R) -> Option<T::Key>
     ensures { IsLeastUnlike (T.map_of (R.held rows.now).maps) (T.map_of (R.held there.now).maps) result }
 {

@@ -15,7 +15,7 @@ use moo_world::Batch;
 use std::alloc::{AllocError, Global};
 use std::collections::VecDeque;
 
-/// For what no number is left: what the call of this number makes, or for 0 the batch itself.
+/// Why a batch is Full, in words: no number is left for what the call of this number makes, or, for 0, for what the batch itself does.
 pub(crate) fn room_reason(call: u32) -> &'static str {
     if call == 0 {
         "no number is left for what the batch makes"
@@ -53,7 +53,7 @@ pub struct Whys {
 }
 
 impl Whys {
-    /// A request with so many ticks, of which no batch is judged yet.
+    /// The whys of a request with so many ticks, of which no batch is judged yet. Lines are kept only if `is_wanted`.
     pub fn new(alloc: Global, is_wanted: bool, ticks: u32) -> Whys
         // Lines are wanted if `is_wanted`, and else not.
         ensures wanted { result.is_wanted ≡ is_wanted }
