@@ -94,8 +94,8 @@ pub(crate) fn max_object<R: Rows>(rows: &R, args: &[Value]) -> Result<Value, Fau
     Ok(Value::Obj(ObjNo(rows.head().top)))
 }
 
-/// `accept_list(object)`: the list of objects that the object itself accepts with their descendants, or 0 if it holds
-/// no list. E_INVARG if there is no such object. LambdaMOO has no such call.
+/// `accept_list(object)`: the list of objects that the object itself accepts with their descendants, or 0 if it holds no list. E_ARGS and
+/// E_TYPE for other arguments; E_INVARG if there is no such object. LambdaMOO has no such call.
 pub(crate) fn accept_list<R: Rows>(rows: &R, alloc: Global, args: &[Value]) -> Result<Value, Fault>
     ensures comes { Answers (given (one_object args.now) (accept_list (world_in (R.held rows.now)))) (R.held rows.now) result }
 {

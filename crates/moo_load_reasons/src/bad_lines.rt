@@ -63,7 +63,7 @@ pub(crate) fn put_broken(
     }
 }
 
-/// How a line of the heading is written: the first or the second line of a dump.
+/// How a line of a dump's heading is written, by its number: 1, or else the second line.
 fn heading_sentence(number: u64) -> &'static str {
     if number == 1 {
         "the first line is 'seq ' and how many batches were accepted, as 'seq 0'"
