@@ -5,7 +5,7 @@ use Rattle.moo_world.{specs.declared.call.Batch.{Batch}, specs.Judge.{State, run
 use Rattle.moo_disclosure.specs.Disclosed.{clash_name, names_meant}
 use Rattle.moo_batch.{specs.declared.witness.Facts.{Facts}, specs.declared.witness.Refusal.{Refusal}, specs.Facts.{AreFacts, AreFactsOf, refused_call, state_before_call}, specs.declared.judging.Stop.{Stop}, specs.declared.judging.Stop.TheVariants.{Refused as refused_at, Full as full_at, OutOfMemory as no_memory}, specs.declared.judging.Verdict.{Verdict}, specs.declared.judging.Verdict.TheVariants.{Refused, Full, OutOfMemory}, specs.Judge.{ComeTo, StandsAtCheck}, specs.Seeing.{HasSeen}}
 
--- the facts in the world of rows are those of the batch, if the rows show the state after the calls before; those of a held call name nothing
+-- the facts in a world are those of the batch, if the world is that after the calls before; the facts of a held call name nothing
 facts-of : (world : World) (base : Maps) (b : Batch) (refusal : Refusal) (facts : Option Facts)
     → (refusal.held ≡ None → world ≡ (state_before_call (state_of base) b.programmer b.calls (refusal.call - 1)).world) → IfSome facts (AreFacts world base b refusal) → IfSome facts (AreFactsOf base b refusal)
 facts-of world base b refusal None at told = tt

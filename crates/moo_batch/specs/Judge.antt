@@ -22,8 +22,8 @@ use Rattle.moo_memory.specs.Changes.{AreChanges}
 abbrev pub failure_of : Refusal → Failure
 failure_of refusal = record { held = refusal.held; reason = refusal.reason }
 
--- what is answered if calls come to this: their answers, with the state that they leave, or the first call that isn't
--- done, and why it fails
+-- what is answered if calls come to this: their answers, with the state that they leave, or the first call that isn't done, and why it
+-- fails. Out of memory may leave anything
 abbrev pub ComeTo : model.Ran → State → Result (List Value) Stop → Type 0
 ComeTo ran after (Ok answers) = ran ≡ model.Through answers after
 ComeTo ran after (Err (refused_at refusal)) = ran ≡ model.FailedAt refusal.call (failure_of refusal)
@@ -51,7 +51,7 @@ pub record HaveKept (p : ObjNo) (calls : List Call) (old new : Held) : Type 0 wh
   pub numbers : CallsLead p calls old.maps new.maps
 
 -- what a batch comes to on rows, and if it is accepted the changes that make them into the next ones, which its calls lead to
--- one after another, each keeping numbers. A lack of memory is answered only if a call is run
+-- one after another, each keeping numbers. A lack of memory is answered only if the batch is due, may be counted, and has calls
 abbrev pub IsVerdict : Maps → Batch → Verdict → Type 0
 IsVerdict base batch (Accepted answers changes) =
     (next : Maps) × AreChanges base next changes × IsGood next

@@ -41,7 +41,7 @@ StaysAtCheck old new (of_held place reason) = ⊤
 StaysAtCheck old new Full = ⊤
 StaysAtCheck old new OutOfMemory = ⊤
 
--- what calls on the world come to that are made one after another, of which some may have been done before one wasn't
+-- what calls on the world answer one after another: 0 with the world after all, or why the first fails that isn't done; or memory ran out
 abbrev pub ComesInTurn : Outcome World → Held → Result Value Fault → Type 0
 ComesInTurn outcome new (Ok v) = outcome ≡ Done v (world_in new)
 ComesInTurn outcome new (Err (Moo reason)) = ⊥

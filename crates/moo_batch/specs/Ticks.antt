@@ -13,7 +13,7 @@ abbrev pub TakesOne : Option ℕ → Option ℕ → Type 0
 TakesOne None new = new ≡ None
 TakesOne (Some old) new = (left : ℕ) × (new ≡ Some left) × (left < old)
 
--- whether the verdict says that a call was made: memory didn't run out
+-- the verdict says that a call was made; after a lack of memory it doesn't
 abbrev pub HasMadeCall : Verdict → Type 0
 HasMadeCall (Accepted answers changes) = answers ≢ []
 HasMadeCall (Refused call code) = ⊤
@@ -21,7 +21,7 @@ HasMadeCall (Full call) = call ≢ 0
 HasMadeCall (Stale seq) = ⊥
 HasMadeCall OutOfMemory = ⊥
 
--- none come back, and a batch of which a call was made takes one at least, whatever came of it
+-- none come back, and one is taken at least if the verdict says that a call was made; without a bound there is none afterwards either
 abbrev pub TakesTicks : Option ℕ → Option ℕ → Verdict → Type 0
 TakesTicks None new verdict = new ≡ None
 TakesTicks (Some old) new verdict = (left : ℕ) × (new ≡ Some left) × (left ≤ old) × (HasMadeCall verdict → left < old)

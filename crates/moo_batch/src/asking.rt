@@ -27,13 +27,13 @@ use moo_world::{are_few, are_named, are_shallow};
 fn may_be_asked(calls: &ValueList) -> Result<(), Reason>
     // The list nests at most 32 deep, and its numbers and texts are within their limits.
     requires { fits (a_list calls.now) ≡ true }
-    // If there is no error, each of them is a list that begins with a string.
+    // If there is no error, each of the calls is a list that begins with a string.
     ensures named { OnOk result (list_all is_named (spread calls.now) ≡ true) }
-    // There are 1 to 64, each is a call on the world, and the lists nest at most 30 deep.
+    // There are 1 to 64 calls, each is a call on the world, and the lists nest at most 30 deep.
     ensures few { OnOk result (are_few calls.now ≡ true) }
     ensures on_world { OnOk result (are_on_world calls.now ≡ true) }
     ensures shallow { OnOk result (are_shallow calls.now ≡ true) }
-    // At an error, `petition` fails for the reason, whatever it would do then.
+    // At an error, `petition` of the calls fails for the reason.
     ensures err { IfErr result (λ reason. (then : Outcome State) → taking_calls calls.now then ≡ fails reason) }
 {
     if !are_named(calls.items()) {
@@ -51,13 +51,13 @@ fn may_be_asked(calls: &ValueList) -> Result<(), Reason>
     Ok(())
 }
 
-/// Keeps the calls as a petition of the programmer's, and answers its number. Full if 4,294,967,294 has been given.
+/// Keeps the calls as a petition of the programmer's, and answers its number. Full if 4,294,967,294 has been given; or OutOfMemory.
 fn add_petition<R: Rows>(rows: &mut R, programmer: ObjNo, calls: ValueList) -> Result<Value, Fault>
     // The rows are those of a well formed world.
     requires good { IsGood (R.held rows.old).maps }
-    // A petition may hold these calls.
+    // A petition of the programmer's may hold the calls.
     requires fit { petition_fits (record { who = programmer; calls = calls }) ≡ true }
-    // There is one petition more, and the answer is its number; or Full.
+    // There is one petition more, and the answer is its number; or Full; or memory ran out.
     ensures reaches { Reaches (petition_filed (state_in (R.held rows.old)) programmer calls) (R.held rows.new) result }
     // If it isn't done, the rows are as they were, unless memory ran out.
     ensures stays { Stays (R.held rows.old) (R.held rows.new) result }
@@ -95,7 +95,7 @@ pub(crate) fn petition<R: Rows>(
     requires there { is_object (world_in (R.held rows.old)) programmer ≡ true }
     // Each argument nests at most 32 deep, and its numbers and texts are within their limits.
     requires fit { list_all fits args.now ≡ true }
-    // The answer and the rows are those of `petition` in the model.
+    // The answer and the rows, or the error, are those of `petition` in the model; or memory ran out.
     ensures reaches { Reaches (given (one_list args.now) (petition (state_in (R.held rows.old)) programmer)) (R.held rows.new) result }
     // If it isn't done, the rows are as they were, unless memory ran out.
     ensures stays { Stays (R.held rows.old) (R.held rows.new) result }

@@ -34,7 +34,7 @@ pub(crate) fn decline<R: Rows>(
 ) -> Result<Value, Fault>
     // The rows are those of a well formed world.
     requires good { IsGood (R.held rows.old).maps }
-    // The answer and the rows are those of `decline` in the model.
+    // The answer and the rows, or the error, are those of `decline` in the model; or memory ran out.
     ensures reaches { Reaches (given (one_integer args.now) (decline (state_in (R.held rows.old)) programmer)) (R.held rows.new) result }
     // If it isn't done, the rows are as they were, unless memory ran out.
     ensures stays { Stays (R.held rows.old) (R.held rows.new) result }

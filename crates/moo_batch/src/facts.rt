@@ -21,6 +21,7 @@ fn petition_granted<'a, B: Rows>(
     programmer: ObjNo,
     call: &Call,
 ) -> Option<&'a ValueList>
+    // The rows `base` are those of a well formed world.
     requires { IsGood (B.held base.now).maps }
     ensures { option_map (λ calls. calls.now) result ≡ petition_granted (B.held base.now).maps programmer call.now }
 {
@@ -41,8 +42,9 @@ fn facts_of<'a, B: Rows, R: Rows>(
     batch: &Batch,
     refusal: Refusal,
 ) -> Result<Facts<'a>, AllocError>
-    // The rows are good ones, unless a call of a granted petition failed.
+    // The rows `rows` are good ones, unless a call of a granted petition failed.
     requires rows { refusal.held ≡ None → IsGood (R.held rows.now).maps }
+    // The rows `base` are those of a well formed world.
     requires base { IsGood (B.held base.now).maps }
     ensures { IfOk result (AreFacts (world_of (R.held rows.now).maps) (B.held base.now).maps batch.now refusal) }
 {
@@ -85,10 +87,11 @@ pub(crate) fn show_refusal<B: Rows, R: Rows, W: Witness>(
     refusal: Refusal,
     witness: &mut W,
 )
-    // The rows are good ones, unless a call of a granted petition failed.
+    // The rows `rows` are good ones, unless a call of a granted petition failed.
     requires rows { refusal.held ≡ None → IsGood (R.held rows.now).maps }
+    // The rows `base` are those of a well formed world.
     requires base { IsGood (B.held base.now).maps }
-    // It takes no ticks.
+    // No ticks are taken.
     ensures ticks { W.left witness.new ≡ W.left witness.old }
     // The witness sees this refusal, once, with its facts or with none.
     ensures sees { (facts : Option Facts)

@@ -22,8 +22,7 @@ use moo_value::{ObjNo, Value};
 use moo_world::ZERO;
 use std::alloc::Global;
 
-/// Makes one call that a petition holds, for the wizard who grants it. E_INVARG if it isn't a call on the world; then the errors of the
-/// call.
+/// Makes one call that a petition holds, for the wizard who grants it. E_INVARG if it isn't a call on the world; then its errors.
 fn run_petitioned_call<R: Rows>(
     rows: &mut R,
     alloc: Global,
@@ -34,7 +33,7 @@ fn run_petitioned_call<R: Rows>(
     requires good { IsGood (R.held rows.old).maps }
     // The call nests at most 32 deep, and its numbers and texts are within their limits.
     requires fit { fits held.now ≡ true }
-    // No call is made once the rows have said that their ticks are spent.
+    // The rows haven't said that their ticks are spent.
     requires leave { (R.held rows.old).base.is_spent ≡ false }
     // It does what the definition `held_step` says. At its errors nothing changes; out of memory the rows may be half changed.
     ensures { Does (held_step (world_in (R.held rows.old)) wizard held.now) (R.held rows.old) (R.held rows.new) result }
@@ -67,9 +66,10 @@ fn run_petitioned_calls<R: Rows>(
     requires good { IsGood (R.held rows.old).maps }
     // Each call nests at most 32 deep, and its numbers and texts are within their limits.
     requires fit { list_all fits helds.now ≡ true }
-    // There are at most 64.
+    // There are at most 64 calls.
     requires few { length helds.now ≤ MOST_HELD }
-    // The answer is 0 and the rows are those after all the calls; or it is why the first fails that isn't done, with its place from 0.
+    // The answer is 0, and the rows are those after all the calls; or the first that isn't done fails, which is told with its place from 0,
+    // or wants a number and none is left (Full); or memory ran out.
     ensures comes { ComesInTurn (held_steps 0 (world_in (R.held rows.old)) wizard helds.now) (R.held rows.new) result }
     // If all are done, the rows are good ones, petitions and the sequence number are as they were, and what stays keeps its number.
     ensures kept { OnOk result (KeepInTurn wizard helds.now (R.held rows.old) (R.held rows.new)) }
@@ -101,7 +101,7 @@ pub(crate) fn grant<R: Rows>(
 ) -> Result<Value, Fault>
     // The rows are those of a well formed world.
     requires good { IsGood (R.held rows.old).maps }
-    // The answer and the rows are those of `grant` in the model.
+    // The answer and the rows, or the error, are those of `grant` in the model; or memory ran out.
     ensures reaches { Reaches (given (one_integer args.now) (grant (state_in (R.held rows.old)) programmer)) (R.held rows.new) result }
     // If a check of `grant` itself fails, the rows are as they were.
     ensures check { IfErr result (StaysAtCheck (R.held rows.old) (R.held rows.new)) }

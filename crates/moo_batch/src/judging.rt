@@ -51,7 +51,7 @@ pub enum Verdict {
     Full { call: u32 },
     /// The batch names another number of accepted batches than the present one, which is `seq`.
     Stale { seq: u64 },
-    /// Memory ran out while calls were run; nothing changed.
+    /// The batch has calls, and memory ran out or ticks were spent; nothing changed.
     OutOfMemory,
 }
 
@@ -64,9 +64,9 @@ fn step_on<R: Rows>(
 ) -> Result<Value, Fault>
     // The rows are those of a well formed world.
     requires good { IsGood (R.held rows.old).maps }
-    // No call is made once the rows have said that their ticks are spent.
+    // The rows haven't said that their ticks are spent.
     requires leave { (R.held rows.old).base.is_spent ≡ false }
-    // The answer and the rows are those of the call in the model.
+    // The answer and the rows, or the error, are those of the call in the model; or memory ran out.
     ensures reaches { Reaches (batch_call (state_in (R.held rows.old)) programmer call.now) (R.held rows.new) result }
     // If a check of the call itself fails, the rows are as they were.
     ensures check { IfErr result (StaysAtCheck (R.held rows.old) (R.held rows.new)) }
@@ -79,7 +79,7 @@ fn step_on<R: Rows>(
 
 /// Takes the ticks that an answer costs from those of the rows, and says whether one more call may be made: ticks are left.
 fn spend_on_answer<R: Rows>(rows: &mut R, answer: &Value) -> bool
-    // If one may, the rows are as they were.
+    // If one more may be made, the rows are as they were.
     ensures { result ≡ true → R.held rows.new ≡ R.held rows.old }
 {
     rows.spend(ticks_of(answer));
@@ -87,8 +87,7 @@ fn spend_on_answer<R: Rows>(rows: &mut R, answer: &Value) -> bool
 }
 
 /// Makes the calls of a batch, one after another, up to the first that isn't done, or at which ticks are spent. The rows are then those
-/// after the calls before it, or changed or half changed by that call, and the caller drops them. A `Stop` says which call stopped it, and
-/// why.
+/// after the calls before it, or changed or half changed by that call, and the caller drops them. A `Stop` says which call, and why.
 fn run_calls<R: Rows>(
     rows: &mut R,
     alloc: Global,
@@ -97,11 +96,11 @@ fn run_calls<R: Rows>(
 ) -> Result<Answers, Stop>
     // The rows are those of a well formed world.
     requires good { IsGood (R.held rows.old).maps }
-    // There are at most 1,000, and ticks are left for the first.
+    // There are at most 1,000 calls.
     requires few { length calls.now ≤ MOST_CALLS }
-    // No call is made once the rows have said that their ticks are spent.
+    // The rows haven't said that their ticks are spent.
     requires leave { (R.held rows.old).base.is_spent ≡ false }
-    // The answers and the rows are those of the calls in the model; or it stops at the first call that isn't done there.
+    // The answers and the rows are those of the calls in the model; or it stops at the first call that isn't done there; or memory ran out.
     ensures comes { ComeTo (run_calls (state_in (R.held rows.old)) programmer calls.now) (state_in (R.held rows.new)) result }
     // If all are done, the rows are good ones, no batch is counted yet, and each call kept numbers.
     ensures kept { OnOk result (HaveKept programmer calls.now (R.held rows.old) (R.held rows.new)) }
@@ -146,7 +145,7 @@ fn run_calls<R: Rows>(
 fn changes_without_calls(alloc: Global, head: Head) -> Changes
     // A sequence number is left.
     requires room { head.seq < LAST_SEQ }
-    // Whatever the rows are, the changes give them the head with the next sequence number, and nothing else.
+    // The changes give any rows the head given, with the next sequence number, and change nothing else.
     ensures { (t : Maps) → AreChanges t (record t { head = record head { seq = head.seq + 1 } }) result }
 {
     let mut next = head;
@@ -171,14 +170,15 @@ fn verdict_of_stop<B: Rows, R: Rows, W: Witness>(
     stop: Stop,
     witness: &mut W,
 ) -> Verdict
-    // At a check that failed the rows are good ones, unless a call of a granted petition failed.
+    // At a check that failed the rows `rows` are good ones, unless a call of a granted petition failed.
     requires rows { IsGoodAt (R.held rows.now).maps stop }
+    // The rows `base` are those of a well formed world.
     requires base { IsGood (B.held base.now).maps }
     // The verdict is Refused, Full or OutOfMemory as the calls stopped, with the call and the error.
     ensures refused { (refusal : Refusal) → stop ≡ Stop.Refused refusal → result ≡ Verdict.Refused refusal.call (error_of refusal.reason) }
     ensures full { (call : ℕ) → stop ≡ Stop.Full call → result ≡ Verdict.Full call }
     ensures memory { (call : ℕ) → stop ≡ Stop.OutOfMemory call → result ≡ Verdict.OutOfMemory }
-    // It takes no ticks.
+    // No ticks are taken.
     ensures ticks { W.left witness.new ≡ W.left witness.old }
     // The witness sees a refusal once, with its facts or with none.
     ensures sees { (refusal : Refusal) → stop ≡ Stop.Refused refusal → (facts : Option Facts)
@@ -206,15 +206,14 @@ fn verdict_of_stop<B: Rows, R: Rows, W: Witness>(
     }
 }
 
-/// Tells the witness how many of its ticks are left after the calls of a batch, which take one at least. It does nothing if there is no
-/// bound (`None`).
+/// Tells the witness how many of its ticks are left after the calls of a batch, which take one at least; nothing without a bound (`None`).
 fn leave_ticks<R: Rows, W: Witness>(draft: &Draft<'_, R>, ticks: Option<u64>, witness: &mut W)
-    // They are the ticks that the witness had, and there was one if they are bounded.
+    // `ticks` is how many the witness had; if there is a bound, one at least.
     requires left { ticks ≡ W.left witness.old }
     requires some { (n : ℕ) → ticks ≡ Some n → 0 < n }
-    // The witness has one less, or fewer.
+    // The witness has fewer ticks than before; without a bound there is none afterwards either.
     ensures takes { TakesOne ticks (W.left witness.new) }
-    // It sees no refusal.
+    // The witness sees no refusal.
     ensures kept { W.kept witness.new ≡ W.kept witness.old }
 {
     if let Some(ticks) = ticks {
@@ -234,9 +233,10 @@ pub fn judge<R: Rows, W: Witness>(
 ) -> Verdict
     // The rows are those of a well formed world.
     requires good { IsGood (R.held rows.now).maps }
-    // The verdict is that of the model on the state of these rows, and if it is accepted, the changes lead to the next state.
+    // The verdict is that of the model on the state of the rows; or OutOfMemory, but only to a batch with calls that is due and may be
+    // counted. If it is accepted, the changes lead to good rows that show the next state, and each call keeps numbers.
     ensures verdict { IsVerdict (R.held rows.now).maps batch.now result }
-    // No ticks come back, and a batch of which a call was made takes one at least.
+    // No ticks come back, and the batch takes one at least if the verdict says that a call was made (OutOfMemory doesn't).
     ensures ticks { TakesTicks (W.left witness.old) (W.left witness.new) result }
     // The witness has seen the one refusal of a refused batch, and none of another.
     ensures seen { HasSeen W.sees (R.held rows.now).maps batch.now result (W.kept witness.old) (W.kept witness.new) }

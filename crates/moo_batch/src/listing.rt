@@ -34,8 +34,7 @@ fn is_listed(row: &PetitionRow, all: bool, programmer: ObjNo) -> bool
     all || row.who == programmer
 }
 
-/// The petitions that the programmer sees, all of them or its own, as `petitions` lists them, in the order of their numbers. The only error
-/// is a lack of memory.
+/// The petitions that the programmer sees, `all` or its own, as `petitions` lists them, ascending. The only error is a lack of memory.
 fn values_of_petitions<R: Rows>(
     rows: &R,
     alloc: Global,
@@ -64,10 +63,10 @@ pub(crate) fn petitions<R: Rows>(
 ) -> Result<Value, Fault>
     // The rows are those of a well formed world.
     requires good { IsGood (R.held rows.now).maps }
-    // The answer is that of `petitions` in the model.
+    // The answer, or the error, is that of `petitions` in the model; or memory ran out.
     ensures reaches { Reaches (given (no_values args.now) (λ _. petitions (state_in (R.held rows.now)) programmer))
         (R.held rows.now) result }
-    // What every call of a batch keeps: here the rows stay.
+    // The rows, which stay, are good ones.
     ensures kept { OnOk result (KeepsGoodRows KeepsNumbers (R.held rows.now) (R.held rows.now)) }
 {
     no_values(args)?;

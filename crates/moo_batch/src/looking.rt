@@ -11,7 +11,7 @@ use moo_rows::{PetitionId, PetitionRow, Rows};
 pub(crate) fn petition_at<R: Rows>(rows: &R, number: i64) -> Option<(PetitionId, &PetitionRow)>
     // The rows are those of a well formed world.
     requires { IsGood (R.held rows.now).maps }
-    // It is the petition of the model under the number, and without one the model has none.
+    // The petition is that of the model under the number; if `None`, the model has none.
     ensures some { IfSome result (λ found. petition_at (state_in (R.held rows.now)) number ≡ Some (found.0, found.1.now)) }
     ensures none { IfNone result (petition_at (state_in (R.held rows.now)) number ≡ None) }
 {

@@ -22,8 +22,7 @@ use moo_value::{ObjNo, Value};
 use moo_world::{Call, PetitionCall};
 use std::alloc::Global;
 
-/// Makes a call on petitions, for a programmer who is an object. E_ARGS and E_TYPE if it doesn't take the arguments, then the errors of the
-/// call.
+/// Makes a call on petitions, for a programmer who is an object. E_ARGS and E_TYPE if it doesn't take the arguments, then its errors.
 fn petition_call<R: Rows>(
     rows: &mut R,
     alloc: Global,
@@ -37,7 +36,7 @@ fn petition_call<R: Rows>(
     requires there { is_object (world_in (R.held rows.old)) programmer ≡ true }
     // Each argument nests at most 32 deep, and its numbers and texts are within their limits.
     requires fit { list_all fits args.now ≡ true }
-    // The answer and the rows are those of the call in the model.
+    // The answer and the rows, or the error, are those of the call in the model; or memory ran out.
     ensures reaches { Reaches (petition_call_by (state_in (R.held rows.old)) programmer call args.now) (R.held rows.new) result }
     // If a call but `grant` isn't done, the rows are as they were, unless memory ran out.
     ensures stays { grants call ≡ false → Stays (R.held rows.old) (R.held rows.new) result }
@@ -66,7 +65,7 @@ pub fn step<R: Rows>(
 ) -> Result<Value, Fault>
     // The rows are those of a well formed world.
     requires good { IsGood (R.held rows.old).maps }
-    // The answer and the rows are those of the call in the model.
+    // The answer and the rows, or the error, are those of the call in the model; or memory ran out.
     ensures reaches { Reaches (batch_call (state_in (R.held rows.old)) programmer call.now) (R.held rows.new) result }
     // If a call but `grant` isn't done, the rows are as they were, unless memory ran out.
     ensures stays { is_grant call.now.name ≡ false → Stays (R.held rows.old) (R.held rows.new) result }

@@ -48,11 +48,14 @@ pub trait Witness {
 
     /// Sets the number of ticks that are left, if there is a bound.
     fn leave(&mut self, ticks: u64)
+        // If there is a bound, so many ticks are left.
         ensures left { left self.new ≡ option_map (λ _. ticks) (left self.old) }
+        // What it keeps of refusals is as it was.
         ensures kept { kept self.new ≡ kept self.old };
 
     /// Tells it that the ticks were spent at this call of a batch, numbered from 1.
     fn see_spent(&mut self, call: u32)
+        // As many ticks are left as before, and what it keeps of refusals is as it was.
         ensures left { left self.new ≡ left self.old }
         ensures kept { kept self.new ≡ kept self.old };
 
@@ -61,6 +64,8 @@ pub trait Witness {
 
     /// Shows it the refusal of a batch. The facts are `None` if it doesn't want them, or memory ran out for them.
     fn see(&mut self, batch: &Batch, refusal: Refusal, facts: Option<&Facts<'_>>)
+        // No ticks are taken.
         ensures left { left self.new ≡ left self.old }
+        // What it keeps before and after is as `sees` says of the refusal and the facts.
         ensures sees { sees (kept self.old) batch.now refusal (option_map (λ f. f.now) facts.entry) (kept self.new) };
 }

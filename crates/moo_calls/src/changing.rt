@@ -51,9 +51,8 @@ fn is_short(list: &Option<ObjList>) -> bool
     }
 }
 
-/// `set_accept(object, list)`: sets the list of what the object takes in, or takes the list away if none is given, and
-/// answers 0. E_INVARG if there is no such object; E_PERM if the programmer neither owns it nor is a wizard; E_INVARG
-/// if the list has more than 1,000 entries.
+/// `set_accept(object, list)`: sets the list of what the object takes in, or takes the list away if none is given, and answers 0. E_INVARG
+/// if there is no such object; E_PERM if the programmer neither owns it nor is a wizard; E_INVARG if the list has more than 1,000 entries.
 ///
 /// The list stands for the verb `accept` of the LambdaMOO Programmer's Manual, 'Object Movement'.
 pub fn set_accept<R: Rows>(
@@ -83,8 +82,7 @@ pub fn set_accept<R: Rows>(
     Ok(ZERO)
 }
 
-/// Makes the call `set_player_flag` with a list of arguments: an object and a value. E_ARGS and E_TYPE if they are others, and then the
-/// errors of `set_player_flag`.
+/// Makes the call `set_player_flag` with an object and a value. E_ARGS and E_TYPE for others, then the errors of the call.
 pub(crate) fn set_player_flag_given<R: Rows>(
     rows: &mut R,
     alloc: Global,
@@ -100,8 +98,7 @@ pub(crate) fn set_player_flag_given<R: Rows>(
     set_player_flag(rows, alloc, programmer, x, value)
 }
 
-/// Makes the call `set_accept` with a list of arguments: an object, and a list of objects or 0. E_ARGS and E_TYPE if they are others, and
-/// then the errors of `set_accept`.
+/// Makes the call `set_accept` with an object, and a list of objects or 0. E_ARGS and E_TYPE for others, then the errors of the call.
 pub(crate) fn set_accept_given<R: Rows>(
     rows: &mut R,
     alloc: Global,

@@ -43,7 +43,7 @@ fn quota_given<R: Rows>(rows: &R, owner: ObjNo) -> Option<i64>
     // The rows are those of a well formed world.
     requires { IsGood (R.held rows.now).maps }
     ensures quota { result ≡ quota_given (world_in (R.held rows.now)) owner }
-    // It has one left if and only if the owner may afford one more object.
+    // The quota has one left, or there is none, if and only if the owner may afford one more object.
     ensures left { has_one_left result ≡ may_afford (world_in (R.held rows.now)) owner }
 {
     if is_nothing(owner) {
@@ -69,11 +69,11 @@ fn charge<R: Rows>(rows: &mut R, owner: ObjNo, quota: Option<i64>) -> Result<(),
     requires good { IsGood (R.held rows.old).maps }
     // The quota is the owner's, and there is none if the owner is `#-1`.
     requires quota { quota ≡ quota_given (world_in (R.held rows.old)) owner }
-    // It is above 0, or there is none.
+    // The quota is above 0, or there is none.
     requires left { has_one_left quota ≡ true }
-    // The owner's quota is one lower, and the world is as it was otherwise.
+    // The owner's quota, if there is one, is one lower, and the world is as it was otherwise.
     ensures world { OnOk result (world_in (R.held rows.new) ≡ charged (world_in (R.held rows.old)) owner) }
-    // The rows are good, what stays keeps its number, and the petitions and the count of batches are as they were.
+    // The rows are good ones, what stays keeps its number, and the petitions and the count of batches are as they were.
     ensures kept { OnOk result (Keeps (R.held rows.old) (R.held rows.new)) }
     // Slots alone were written.
     ensures rest { OnOk result (IsSameButSlots (R.held rows.old).maps (R.held rows.new).maps) }
@@ -134,8 +134,7 @@ pub fn create<R: Rows>(
     Ok(Value::Obj(x))
 }
 
-/// Makes the call `create` with a list of arguments: a parent, and an owner or none. E_ARGS and E_TYPE if they are others, and then the
-/// errors of `create`.
+/// Makes the call `create` with a parent, and an owner or none. E_ARGS and E_TYPE for others, then the errors of the call.
 pub(crate) fn create_given<R: Rows>(
     rows: &mut R,
     alloc: Global,

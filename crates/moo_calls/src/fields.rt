@@ -21,6 +21,7 @@ pub fn field_of<R: Rows>(rows: &R, alloc: Global, x: ObjNo, field: BuiltIn) -> R
     requires good { IsGood (R.held rows.now).maps }
     // x is an object.
     requires there { is_object (world_in (R.held rows.now)) x ≡ true }
+    // The answer is what the definition `field_of` says; or memory ran out.
     ensures { Answers (Done (field_of (world_in (R.held rows.now)) x field) (world_in (R.held rows.now))) (R.held rows.now) result }
 {
     let row = match rows.object(x) {

@@ -49,8 +49,7 @@ pub fn move_into<R: Rows>(
     Ok(ZERO)
 }
 
-/// Makes the call `move` with a list of arguments: the object and its destination. E_ARGS and E_TYPE if they aren't two objects, and then
-/// the errors of `move`.
+/// Makes the call `move` with an object and its destination. E_ARGS and E_TYPE for others, then the errors of the call.
 pub(crate) fn move_given<R: Rows>(
     rows: &mut R,
     alloc: Global,

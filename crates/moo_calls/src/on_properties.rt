@@ -18,7 +18,7 @@ use moo_rows::Rows;
 use moo_value::{ObjNo, Value};
 use std::alloc::Global;
 
-/// Makes the call `get` with an object and a name. E_ARGS and E_TYPE if it is given others, and then the errors of the call.
+/// Makes the call `get` with an object and a name. E_ARGS and E_TYPE for others, then the errors of the call.
 pub(crate) fn get_given<R: Rows>(
     rows: &R,
     alloc: Global,
@@ -34,7 +34,7 @@ pub(crate) fn get_given<R: Rows>(
     values::get(rows, alloc, programmer, x, property)
 }
 
-/// Makes the call `properties` with an object. E_ARGS and E_TYPE if it is given others, and then the errors of the call.
+/// Makes the call `properties` with an object. E_ARGS and E_TYPE for others, then the errors of the call.
 pub(crate) fn properties_given<R: Rows>(
     rows: &R,
     alloc: Global,
@@ -49,8 +49,7 @@ pub(crate) fn properties_given<R: Rows>(
     moo_calls_properties::properties(rows, alloc, programmer, one_object(args)?)
 }
 
-/// Makes the call `property_info` with an object and a name. E_ARGS and E_TYPE if it is given others, and then the errors of
-/// the call.
+/// Makes the call `property_info` with an object and a name. E_ARGS and E_TYPE for others, then the errors of the call.
 pub(crate) fn property_info_given<R: Rows>(
     rows: &R,
     alloc: Global,
@@ -66,8 +65,7 @@ pub(crate) fn property_info_given<R: Rows>(
     moo_calls_properties::property_info(rows, alloc, programmer, x, property)
 }
 
-/// Makes the call `is_clear_property` with an object and a name. E_ARGS and E_TYPE if it is given others, and then the errors of
-/// the call.
+/// Makes the call `is_clear_property` with an object and a name. E_ARGS and E_TYPE for others, then the errors of the call.
 pub(crate) fn is_clear_property_given<R: Rows>(
     rows: &R,
     programmer: ObjNo,
@@ -82,7 +80,7 @@ pub(crate) fn is_clear_property_given<R: Rows>(
     moo_calls_properties::is_clear_property(rows, programmer, x, property)
 }
 
-/// Makes the call `set` with an object, a name and a value. E_ARGS and E_TYPE if it is given others, and then the errors of the call.
+/// Makes the call `set` with an object, a name and a value. E_ARGS and E_TYPE for others, then the errors of the call.
 pub(crate) fn set_given<R: Rows>(
     rows: &mut R,
     alloc: Global,
@@ -100,8 +98,7 @@ pub(crate) fn set_given<R: Rows>(
     values::set(rows, alloc, programmer, x, property, value)
 }
 
-/// Makes the call `add_property` with an object, a name, a value and `{owner, perms}`. E_ARGS and E_TYPE if it is given others, and then
-/// the errors of the call.
+/// Makes the call `add_property` with an object, a name, a value and `{owner, perms}`. E_ARGS and E_TYPE for others, then its errors.
 pub(crate) fn add_property_given<R: Rows>(
     rows: &mut R,
     alloc: Global,
@@ -121,8 +118,7 @@ pub(crate) fn add_property_given<R: Rows>(
     )
 }
 
-/// Makes the call `delete_property` with an object and a name. E_ARGS and E_TYPE if it is given others, and then the errors of
-/// the call.
+/// Makes the call `delete_property` with an object and a name. E_ARGS and E_TYPE for others, then the errors of the call.
 pub(crate) fn delete_property_given<R: Rows>(
     rows: &mut R,
     alloc: Global,
@@ -139,8 +135,8 @@ pub(crate) fn delete_property_given<R: Rows>(
     moo_calls_properties::delete_property(rows, alloc, programmer, x, property)
 }
 
-/// Makes the call `set_property_info` with an object, a name, and `{owner, perms}` or `{owner, perms, new-name}`. E_ARGS and E_TYPE if it
-/// is given others, and then the errors of the call.
+/// Makes the call `set_property_info` with an object, a name, and `{owner, perms}` or `{owner, perms, new-name}`. E_ARGS and E_TYPE for
+/// others, then the errors of the call.
 pub(crate) fn set_property_info_given<R: Rows>(
     rows: &mut R,
     alloc: Global,
@@ -165,8 +161,7 @@ pub(crate) fn set_property_info_given<R: Rows>(
     )
 }
 
-/// Makes the call `clear_property` with an object and a name. E_ARGS and E_TYPE if it is given others, and then the errors of
-/// the call.
+/// Makes the call `clear_property` with an object and a name. E_ARGS and E_TYPE for others, then the errors of the call.
 pub(crate) fn clear_property_given<R: Rows>(
     rows: &mut R,
     programmer: ObjNo,

@@ -14,7 +14,7 @@ use moo_rows::Rows;
 use moo_value::{ObjNo, Value};
 use std::alloc::Global;
 
-/// Makes the call `verbs` with an object. E_ARGS and E_TYPE if it is given others, and then the errors of the call.
+/// Makes the call `verbs` with an object. E_ARGS and E_TYPE for others, then the errors of the call.
 pub(crate) fn verbs_given<R: Rows>(
     rows: &R,
     alloc: Global,
@@ -29,8 +29,7 @@ pub(crate) fn verbs_given<R: Rows>(
     moo_calls_verbs::verbs(rows, alloc, programmer, one_object(args)?)
 }
 
-/// Makes the call `verb_info` with an object and a descriptor. E_ARGS and E_TYPE if it is given others, and then the errors of
-/// the call.
+/// Makes the call `verb_info` with an object and a descriptor. E_ARGS and E_TYPE for others, then the errors of the call.
 pub(crate) fn verb_info_given<R: Rows>(
     rows: &R,
     alloc: Global,
@@ -46,8 +45,7 @@ pub(crate) fn verb_info_given<R: Rows>(
     moo_calls_verbs::verb_info(rows, alloc, programmer, x, &desc)
 }
 
-/// Makes the call `verb_args` with an object and a descriptor. E_ARGS and E_TYPE if it is given others, and then the errors of
-/// the call.
+/// Makes the call `verb_args` with an object and a descriptor. E_ARGS and E_TYPE for others, then the errors of the call.
 pub(crate) fn verb_args_given<R: Rows>(
     rows: &R,
     alloc: Global,
@@ -63,8 +61,8 @@ pub(crate) fn verb_args_given<R: Rows>(
     moo_calls_verbs::verb_args(rows, alloc, programmer, x, &desc)
 }
 
-/// Makes the call `add_verb` with an object, `{owner, perms, names}` and `{dobj, prep, iobj}`. E_ARGS and E_TYPE if it is given others, and
-/// then the errors of the call.
+/// Makes the call `add_verb` with an object, `{owner, perms, names}` and `{dobj, prep, iobj}`. E_ARGS and E_TYPE for others, then its
+/// errors.
 pub(crate) fn add_verb_given<R: Rows>(
     rows: &mut R,
     alloc: Global,
@@ -80,8 +78,7 @@ pub(crate) fn add_verb_given<R: Rows>(
     moo_calls_verbs::add_verb(rows, alloc, programmer, new.object, new.verb, new.args)
 }
 
-/// Makes the call `delete_verb` with an object and a descriptor. E_ARGS and E_TYPE if it is given others, and then the errors of
-/// the call.
+/// Makes the call `delete_verb` with an object and a descriptor. E_ARGS and E_TYPE for others, then the errors of the call.
 pub(crate) fn delete_verb_given<R: Rows>(
     rows: &mut R,
     alloc: Global,
@@ -97,8 +94,7 @@ pub(crate) fn delete_verb_given<R: Rows>(
     moo_calls_verbs::delete_verb(rows, programmer, x, &desc)
 }
 
-/// Makes the call `set_verb_info` with an object, a descriptor and `{owner, perms, names}`. E_ARGS and E_TYPE if it is given others, and
-/// then the errors of the call.
+/// Makes the call `set_verb_info` with an object, a descriptor and `{owner, perms, names}`. E_ARGS and E_TYPE for others, then its errors.
 pub(crate) fn set_verb_info_given<R: Rows>(
     rows: &mut R,
     alloc: Global,
@@ -114,8 +110,7 @@ pub(crate) fn set_verb_info_given<R: Rows>(
     moo_calls_verbs::set_verb_info(rows, alloc, programmer, new.object, &new.desc, new.verb)
 }
 
-/// Makes the call `set_verb_args` with an object, a descriptor and `{dobj, prep, iobj}`. E_ARGS and E_TYPE if it is given others, and then
-/// the errors of the call.
+/// Makes the call `set_verb_args` with an object, a descriptor and `{dobj, prep, iobj}`. E_ARGS and E_TYPE for others, then its errors.
 pub(crate) fn set_verb_args_given<R: Rows>(
     rows: &mut R,
     alloc: Global,

@@ -53,8 +53,7 @@ pub fn chparent<R: Rows>(
     Ok(ZERO)
 }
 
-/// Makes the call `chparent` with a list of arguments: the object and its new parent. E_ARGS and E_TYPE if they aren't two objects, and
-/// then the errors of `chparent`.
+/// Makes the call `chparent` with an object and its new parent. E_ARGS and E_TYPE for others, then the errors of the call.
 pub(crate) fn chparent_given<R: Rows>(
     rows: &mut R,
     alloc: Global,

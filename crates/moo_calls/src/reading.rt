@@ -30,7 +30,7 @@ fn object<R: Rows>(rows: &R, x: ObjNo) -> Result<&ObjRow, Fault>
     }
 }
 
-/// `valid(object)`: 1 if the number is that of an object, and 0 if it isn't. It has no error but those of its arguments.
+/// `valid(object)`: 1 if the number is that of an object, and 0 if it isn't. E_ARGS and E_TYPE for other arguments.
 /// LambdaMOO Programmer's Manual, 'Fundamental Operations on Objects'.
 pub(crate) fn valid<R: Rows>(rows: &R, args: &[Value]) -> Result<Value, Fault>
     ensures comes { Answers (given (one_object args.now) (valid (world_in (R.held rows.now)))) (R.held rows.now) result }
@@ -39,7 +39,7 @@ pub(crate) fn valid<R: Rows>(rows: &R, args: &[Value]) -> Result<Value, Fault>
     Ok(flag(moo_tree::valid(rows, x)))
 }
 
-/// `parent(object)`: the parent, `#-1` for none. E_INVARG if there is no such object.
+/// `parent(object)`: the parent, `#-1` for none. E_ARGS and E_TYPE for other arguments; E_INVARG if there is no such object.
 /// LambdaMOO Programmer's Manual, 'Fundamental Operations on Objects'.
 pub(crate) fn parent<R: Rows>(rows: &R, args: &[Value]) -> Result<Value, Fault>
     ensures comes { Answers (given (one_object args.now) (parent (world_in (R.held rows.now)))) (R.held rows.now) result }
@@ -47,7 +47,7 @@ pub(crate) fn parent<R: Rows>(rows: &R, args: &[Value]) -> Result<Value, Fault>
     Ok(Value::Obj(object(rows, one_object(args)?)?.parent))
 }
 
-/// `children(object)`: the list of its children, ascending. E_INVARG if there is no such object.
+/// `children(object)`: the list of its children, ascending. E_ARGS and E_TYPE for other arguments; E_INVARG if there is no such object.
 /// LambdaMOO Programmer's Manual, 'Fundamental Operations on Objects'.
 pub(crate) fn children<R: Rows>(rows: &R, alloc: Global, args: &[Value]) -> Result<Value, Fault>
     // The rows are those of a well formed world.
@@ -63,7 +63,7 @@ pub(crate) fn children<R: Rows>(rows: &R, alloc: Global, args: &[Value]) -> Resu
     Ok(object_list(alloc, found.as_slice())?)
 }
 
-/// `is_player(object)`: 1 if the object's player flag is set, else 0. E_INVARG if there is no such object.
+/// `is_player(object)`: 1 if its player flag is set, else 0. E_ARGS and E_TYPE for other arguments; E_INVARG if there is no such object.
 /// LambdaMOO Programmer's Manual, 'Operations on Player Objects'.
 pub(crate) fn is_player<R: Rows>(rows: &R, args: &[Value]) -> Result<Value, Fault>
     ensures comes { Answers (given (one_object args.now) (is_player (world_in (R.held rows.now)))) (R.held rows.now) result }
@@ -94,8 +94,8 @@ pub(crate) fn max_object<R: Rows>(rows: &R, args: &[Value]) -> Result<Value, Fau
     Ok(Value::Obj(ObjNo(rows.head().top)))
 }
 
-/// `accept_list(object)`: the list of objects that the object itself accepts with their descendants, or 0 if it holds
-/// no list. E_INVARG if there is no such object. LambdaMOO has no such call.
+/// `accept_list(object)`: the list of objects that the object itself accepts with their descendants, or 0 if it holds no list. E_ARGS and
+/// E_TYPE for other arguments; E_INVARG if there is no such object. LambdaMOO has no such call.
 pub(crate) fn accept_list<R: Rows>(rows: &R, alloc: Global, args: &[Value]) -> Result<Value, Fault>
     ensures comes { Answers (given (one_object args.now) (accept_list (world_in (R.held rows.now)))) (R.held rows.now) result }
 {

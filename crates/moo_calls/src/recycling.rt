@@ -12,10 +12,9 @@ use moo_value::{ObjNo, Value};
 use moo_world::ZERO;
 use std::alloc::Global;
 
-/// `recycle(object)`: removes an object with its properties and verbs, gives one back to the quota of its former owner, and
-/// answers 0. Its children go to its parent, and its contents to `#-1`. The quota is read when the object is gone, and a quota
-/// of the greatest integer stays. E_INVARG if there is no such object, and then E_PERM if the programmer neither owns it
-/// nor is a wizard.
+/// `recycle(object)`: removes an object with its properties and verbs, gives one back to the quota of its former owner, and answers 0. Its
+/// children go to its parent, and its contents to `#-1`. The quota is read when the object is gone, and a quota of the greatest integer
+/// stays. E_INVARG if there is no such object, and then E_PERM if the programmer neither owns it nor is a wizard.
 /// LambdaMOO Programmer's Manual, 'Fundamental Operations on Objects'.
 pub fn recycle<R: Rows>(
     rows: &mut R,
@@ -40,7 +39,7 @@ pub fn recycle<R: Rows>(
     Ok(ZERO)
 }
 
-/// Makes the call `recycle` with a list of arguments: an object. E_ARGS and E_TYPE if they are others, and then the errors of `recycle`.
+/// Makes the call `recycle` with an object. E_ARGS and E_TYPE for others, then the errors of the call.
 pub(crate) fn recycle_given<R: Rows>(
     rows: &mut R,
     alloc: Global,

@@ -17,7 +17,7 @@ use std::alloc::Global;
 
 /// The change of an object's row that sets a built-in property to a value. E_PERM for `location` and `contents`, which `set`
 /// doesn't write; E_TYPE for a `name` that isn't a string and for an `owner` that isn't an object. The others are flags, set to
-/// the truth of any value. OutOfMemory means out of memory and nothing else.
+/// the truth of any value. OutOfMemory if memory ran out.
 fn change_of(alloc: Global, field: BuiltIn, value: &Value) -> Result<Change, Fault>
     ensures taken { TakenOrNot (change_of field value.now) result }
 {
@@ -56,8 +56,7 @@ fn unset_reason_of_name<R: Rows>(rows: &R, x: ObjNo) -> Reason
     }
 }
 
-/// Why the programmer may not set a built-in property of the object: it may not name the object, it doesn't control the object, or
-/// the property is one that only a wizard sets.
+/// Why the programmer may not set a built-in property of the object: it may not name it, doesn't control it, or isn't a wizard.
 fn unset_reason<R: Rows>(rows: &R, x: ObjNo, field: BuiltIn) -> Reason
     ensures { result ≡ unset_reason (world_in (R.held rows.now)) x field }
 {

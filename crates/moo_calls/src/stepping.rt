@@ -16,7 +16,7 @@ use moo_world::{Call, CallName};
 use std::alloc::Global;
 
 /// Makes the call of a name, for a programmer who is an object. E_ARGS and E_TYPE if it doesn't take the arguments, then the errors of the
-/// call. E_INVARG for the calls on petitions, which aren't in the world: a batch makes those itself.
+/// call. E_INVARG for the calls on petitions, which aren't in the world: a batch makes them itself.
 fn named_call<R: Rows>(
     rows: &mut R,
     alloc: Global,

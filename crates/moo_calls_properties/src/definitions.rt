@@ -34,8 +34,8 @@ fn is_property_name(name: &MooStr) -> bool
     0 < length && length <= MAX_NAME && BuiltIn::of_name(name).is_none()
 }
 
-/// Nothing if a new property of x may have the name, or E_INVARG: if no property may have it, then if x, an ancestor or a
-/// descendant defines one of that name.
+/// Tests whether a new property of x may have the name. E_INVARG if no property may have it, then if x, an ancestor or a descendant defines
+/// one of that name.
 pub(crate) fn may_define<R: Rows>(rows: &R, x: ObjNo, name: &MooStr) -> Result<(), Reason>
     // The rows are those of a well formed world.
     requires { IsGood (R.held rows.now).maps }
@@ -54,16 +54,16 @@ pub(crate) fn may_define<R: Rows>(rows: &R, x: ObjNo, name: &MooStr) -> Result<(
     }
 }
 
-/// The property of a name that x itself defines; `None` if x defines no property of the name. Names compare without ASCII case. It is the
-/// one that `slot_of` finds, if x is its definer: where x defines none, that search goes on to its ancestors.
+/// The property of a name that x itself defines; `None` if x defines no property of the name. Names compare without ASCII case.
+/// (`slot_of` goes on to the ancestors of x.)
 pub(crate) fn own_property<R: Rows>(rows: &R, x: ObjNo, name: &MooStr) -> Option<PropId>
     // The rows are those of a well formed world.
     requires { IsGood (R.held rows.now).maps }
     // There is one if and only if x itself defines a property of the name.
     ensures exact { is_some result ≡ defines_name (world_in (R.held rows.now)) x name.now }
-    // x is the object that defines it.
+    // x defines the property that was found.
     ensures own { IfSome result (λ id. defines (R.held rows.now).maps x id ≡ true) }
-    // It has the name, but for the case of letters.
+    // That property has the name, but for the case of letters.
     ensures named { IfSome result (λ id. name_of (R.held rows.now).maps id ≡ folded name.now) }
 {
     let Some(found) = slot_of(rows, x, name) else {
@@ -91,7 +91,7 @@ pub(crate) fn bits_taken<R: Rows>(rows: &R, info: Info<'_>) -> Result<Bits, Reas
     // If there is no error, the owner is an object and the rights are those of the letters.
     ensures owner { OnOk result (is_object (world_in (R.held rows.now)) info.entry.owner ≡ true) }
     ensures bits { IfOk result (λ bits. bits_of info.entry.perms.now ≡ Some bits) }
-    // At an error, a call that takes this owner and these letters fails for the reason, whatever it would do then.
+    // At an error, each call that takes this owner and these letters fails for the reason.
     ensures err { IfErr result (λ reason. (then : Bits → Outcome World) →
         taking_property_info (world_in (R.held rows.now)) (info_shown info.entry) then ≡ fails reason) }
 {
@@ -121,7 +121,7 @@ fn bits_to_define<R: Rows>(
 ) -> Result<Bits, Fault>
     // The rows are those of a well formed world.
     requires { IsGood (R.held rows.now).maps }
-    // With these rights, `add_property` of any value answers 0, and x defines the property: its slot on x holds the value.
+    // With these rights, `add_property` of any value answers 0, and x defines the property: its slot on x has owner, rights and value.
     ensures ok { IfOk result (λ bits. (v : Value) →
         add_property (world_in (R.held rows.now)) programmer x name.now v (info_shown info.entry)
         ≡ Done zero (property_added (world_in (R.held rows.now)) x name.now

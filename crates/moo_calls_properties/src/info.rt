@@ -84,10 +84,10 @@ fn change_info<R: Rows>(
     requires has { is_some (get (R.held rows.old).maps.slots (x, id)) ≡ true }
     // No new name is given, or x may give the property the new one.
     requires may { may_rename (world_of (R.held rows.old).maps) x (spelling_of (R.held rows.old).maps id) new ≡ true }
-    // The slot on x has the owner and the rights, and the property has the new name everywhere.
+    // The slot on x has the owner and the rights, and the property has the new name everywhere, if one is given.
     ensures world { OnOk result (let name = spelling_of (R.held rows.old).maps id in
         world_of (R.held rows.new).maps ≡ renamed_to (info_set (world_of (R.held rows.old).maps) x name owner bits) x name new) }
-    // The rows are good, what stays keeps its number, and the petitions and the count of batches are as they were.
+    // The rows are good ones, what stays keeps its number, and the petitions and the count of batches are as they were.
     ensures kept { OnOk result (Keeps (R.held rows.old) (R.held rows.new)) }
 {
     set_info(alloc, rows, x, id, owner, bits)?;
@@ -108,7 +108,7 @@ fn property_to_change<R: Rows>(
 ) -> Result<(PropId, Bits), Fault>
     // The rows are those of a well formed world.
     requires { IsGood (R.held rows.now).maps }
-    // With these rights, `set_property_info` answers 0: the slot has the owner and the rights, and the property the new name.
+    // With these rights, `set_property_info` answers 0: the slot has owner and rights, and the property the new name, if one is given.
     ensures ok { IfOk result (λ found. let w = world_in (R.held rows.now) in let new = option_map (λ n. n.now) new_name.entry in
         set_property_info w programmer x name.now (info_shown info.entry) new
         ≡ Done zero (renamed_to (info_set w x name.now info.entry.owner found.1) x name.now new)) }
@@ -140,13 +140,12 @@ fn property_to_change<R: Rows>(
     Ok((found.id, bits))
 }
 
-/// `set_property_info(object, name, {owner, perms})` and `(object, name, {owner, perms, new-name})`: sets the owner and the
-/// rights of the property on that object alone, and gives the property the new name everywhere. The answer is 0. E_INVARG
-/// if there is no such object; E_PROPNF if it has no property of the name; E_INVARG if the owner isn't an object, then if
-/// perms has a letter other than `r`, `w` and `c`; E_PERM if the programmer may not write the object's own slot of it, then
-/// if the owner is another one than before and the programmer isn't a wizard; E_INVARG if there is a new name and the object
-/// itself doesn't define the property, or no new property of the object may have that name. A new name that differs from the
-/// old one in case alone is E_INVARG too: the object defines a property of that name.
+/// `set_property_info(object, name, {owner, perms})` and `(object, name, {owner, perms, new-name})`: sets the owner and the rights of the
+/// property on that object alone, and gives the property the new name everywhere. The answer is 0. E_INVARG if there is no such object;
+/// E_PROPNF if it has no property of the name; E_INVARG if the owner isn't an object, then if perms has a letter other than `r`, `w` and
+/// `c`; E_PERM if the programmer may not write the object's own slot of it, then if the owner is another one than before and the programmer
+/// isn't a wizard; E_INVARG if there is a new name and the object itself doesn't define the property, or no new property of the object may
+/// have that name. A new name that differs from the old one in case alone is E_INVARG too: the object defines a property of that name.
 /// LambdaMOO Programmer's Manual, 'Operations on Properties'.
 pub fn set_property_info<R: Rows>(
     rows: &mut R,

@@ -81,7 +81,7 @@ fn letters(alloc: Global, bits: Bits) -> Result<MooStr, AllocError>
     Ok(MooStr::from_vec(bytes))
 }
 
-/// The owner and the rights of a slot. The only error is a lack of memory.
+/// The list `{owner, perms}` of a slot. The only error is a lack of memory.
 fn info_list(alloc: Global, slot: &SlotRow) -> Result<Value, AllocError>
     ensures { IfOk result (λ info. info ≡ list_of (Obj slot.now.owner ∷ Str (letters_of slot.now.bits) ∷ [])) }
 {

@@ -40,10 +40,10 @@ pub(crate) fn readable_slot<'a, R: Rows>(
 ) -> Result<FoundSlot<'a>, Reason>
     // The rows are those of a well formed world.
     requires { IsGood (R.held rows.now).maps }
-    // A call that reads the slot goes on with it, whatever it does then.
+    // Each call that reads the property goes on with the slot that was found.
     ensures ok { IfOk result (λ found. (then : Slot → Outcome World) →
         reading_slot (world_in (R.held rows.now)) programmer x name.now then ≡ then (slot_seen found.definer found.slot.now)) }
-    // At an error, such a call fails for the reason.
+    // At an error, each call that reads the property fails for the reason.
     ensures err { IfErr result (λ reason. (then : Slot → Outcome World) →
         reading_slot (world_in (R.held rows.now)) programmer x name.now then ≡ fails reason) }
     // x has the property that was found.
@@ -70,13 +70,13 @@ pub(crate) fn writable_slot<'a, R: Rows>(
 ) -> Result<FoundSlot<'a>, Reason>
     // The rows are those of a well formed world.
     requires { IsGood (R.held rows.now).maps }
-    // It is the slot on x of the property of the name.
+    // What was found is the slot on x of the property of the name.
     ensures slot { IfOk result (λ found.
         slot_of (world_in (R.held rows.now)) x (folded name.now) ≡ Some (slot_seen found.definer found.slot.now)) }
     // The programmer may write it.
     ensures may { IfOk result (λ found.
         may_write_slot (world_in (R.held rows.now)) programmer (slot_seen found.definer found.slot.now) ≡ true) }
-    // At an error, a call that writes the slot fails for the reason.
+    // At an error, each call that writes the property fails for the reason.
     ensures err { IfErr result (λ reason. (then : Slot → Outcome World) →
         writing_slot (world_in (R.held rows.now)) programmer x name.now then ≡ fails reason) }
     // x has the property that was found.

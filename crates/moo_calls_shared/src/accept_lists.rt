@@ -24,9 +24,9 @@ fn objects_among(alloc: Global, values: &[Value]) -> Result<Option<ObjList>, All
     Ok(Some(ObjList::from_vec(found)))
 }
 
-/// What `set_accept` takes: an object, and a list of objects, or 0 for no list. E_ARGS unless there are two arguments, and
-/// then E_TYPE for anything else. OutOfMemory means out of memory and nothing else.
+/// What `set_accept` takes: an object, and a list of objects or 0 (`None`). E_ARGS unless there are two arguments; then E_TYPE for others.
 pub fn object_and_accept(alloc: Global, args: &[Value]) -> Result<(ObjNo, Option<ObjList>), Fault>
+    // What is read, or the error of the arguments: E_ARGS for their number, else E_TYPE; or memory ran out.
     ensures given { GivenOrNot (object_and_accept args.now) result }
 {
     match args {

@@ -15,7 +15,7 @@ use std::alloc::Global;
 /// Whether the list has the thing or an ancestor of it. The thing's ancestors are gathered once, and each entry of the list is looked up
 /// among them: (m + n) log m steps for n entries and m ancestors. If there is no memory for that, each entry is climbed for.
 fn lists_one_above<R: Rows>(alloc: Global, rows: &R, list: &[ObjNo], thing: ObjNo) -> bool
-    // Parents and locations are objects or `#-1`, without loops.
+    // Parents and locations are objects or `#-1`, without loops, and each object's number was given.
     requires { IsTree (world_in (R.held rows.now)) }
     ensures { result ≡ list_any (λ a. is_among a (chain (world_in (R.held rows.now)) thing)) list.now }
 {
@@ -28,7 +28,7 @@ fn lists_one_above<R: Rows>(alloc: Global, rows: &R, list: &[ObjNo], thing: ObjN
 /// The accept list that counts for the destination: that of the nearest object that holds one, from the destination up its
 /// ancestors. An empty list counts too. `None` if neither the destination nor an ancestor holds a list.
 fn list_that_counts<R: Rows>(rows: &R, to: ObjNo) -> Option<&ObjList>
-    // Parents and locations are objects or `#-1`, without loops.
+    // Parents and locations are objects or `#-1`, without loops, and each object's number was given.
     requires { IsTree (world_in (R.held rows.now)) }
     ensures { let w = world_in (R.held rows.now) in option_map (λ list. list.now) result ≡ accept_along w (chain w to) }
 {
@@ -47,7 +47,7 @@ fn list_that_counts<R: Rows>(rows: &R, to: ObjNo) -> Option<&ObjList>
 ///
 /// A stored list in place of the verb `accept` of the LambdaMOO Programmer's Manual, 'Object Movement'.
 pub fn accepts<R: Rows>(alloc: Global, rows: &R, to: ObjNo, thing: ObjNo) -> bool
-    // Parents and locations are objects or `#-1`, without loops.
+    // Parents and locations are objects or `#-1`, without loops, and each object's number was given.
     requires { IsTree (world_in (R.held rows.now)) }
     ensures { result ≡ accepts (world_in (R.held rows.now)) to thing }
 {

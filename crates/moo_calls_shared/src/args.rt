@@ -42,9 +42,9 @@ pub fn two_objects(args: &[Value]) -> Result<(ObjNo, ObjNo), Code>
 
 /// The object and the name that a call takes. E_ARGS unless there are two arguments; E_TYPE if they aren't an object and a string.
 pub fn object_and_text(args: &[Value]) -> Result<(ObjNo, &MooStr), Code>
-    // The object and the text, by reference.
+    // The answer is the object and the string of the arguments.
     ensures ok { IfOk result (λ p. object_and_text args.now ≡ Ok (p.0, p.1.now)) }
-    // The error is the one of such arguments: E_ARGS for their number, else E_TYPE.
+    // The error is that of the arguments: E_ARGS for their number, else E_TYPE.
     ensures err { IfErr result (λ code. object_and_text args.now ≡ Err code) }
 {
     match args {
@@ -56,9 +56,9 @@ pub fn object_and_text(args: &[Value]) -> Result<(ObjNo, &MooStr), Code>
 
 /// The object and the value that a call takes. E_ARGS unless there are two arguments; E_TYPE if the first isn't an object.
 pub fn object_and_value(args: &[Value]) -> Result<(ObjNo, &Value), Code>
-    // The object and the value, by reference.
+    // The answer is the object and the value of the arguments.
     ensures ok { IfOk result (λ p. object_and_value args.now ≡ Ok (p.0, p.1.now)) }
-    // The error is the one of such arguments: E_ARGS for their number, else E_TYPE.
+    // The error is that of the arguments: E_ARGS for their number, else E_TYPE.
     ensures err { IfErr result (λ code. object_and_value args.now ≡ Err code) }
 {
     match args {
@@ -68,16 +68,16 @@ pub fn object_and_value(args: &[Value]) -> Result<(ObjNo, &Value), Code>
     }
 }
 
-/// The object, the name and the value that a call takes. E_ARGS unless there are three arguments; E_TYPE if the first two aren't an object
-/// and a string. The value fits the limits of a value, since all the arguments do.
+/// The object, the name and the value that a call takes. E_ARGS unless there are three arguments; E_TYPE if the first two are of other
+/// types.
 pub fn object_text_and_value(args: &[Value]) -> Result<(ObjNo, &MooStr, &Value), Code>
     // Each argument nests at most 32 deep, and its numbers and texts are within their limits.
     requires { list_all fits args.now ≡ true }
-    // The object, the text and the value, by reference.
+    // The answer is the object, the string and the value of the arguments.
     ensures ok { IfOk result (λ p. object_text_and_value args.now ≡ Ok (p.0, p.1.now, p.2.now)) }
-    // The error is the one of such arguments: E_ARGS for their number, else E_TYPE.
+    // The error is that of the arguments: E_ARGS for their number, else E_TYPE.
     ensures err { IfErr result (λ code. object_text_and_value args.now ≡ Err code) }
-    // The value has these limits too.
+    // The value nests at most 32 deep too, and its numbers and texts are within their limits.
     ensures fit { IfOk result (λ p. fits p.2.now ≡ true) }
 {
     match args {

@@ -30,7 +30,7 @@ pub fn change_row<R: Rows>(
     requires allowed { is_allowed_change (world_in (R.held rows.old)) x change ≡ true }
     // The world is the old one but for that field of x.
     ensures world { OnOk result (world_in (R.held rows.new) ≡ field_changed (world_in (R.held rows.old)) x change) }
-    // The rows are good ones again, what stays keeps its number, and the sequence number and the petitions are as they were.
+    // The rows are good ones, what stays keeps its number, and the petitions and the count of batches are as they were.
     ensures kept { OnOk result (Keeps (R.held rows.old) (R.held rows.new)) }
 {
     let row = match rows.object(x) {

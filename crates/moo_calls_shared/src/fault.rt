@@ -9,8 +9,8 @@ use std::alloc::AllocError;
 pub enum Fault {
     /// The check that failed, which has the call's error. The rows are as they were.
     Moo(Reason),
-    /// The check that failed of a call that a granted petition holds, and the place of that call in the petition, from 0. The rows may be
-    /// half changed.
+    /// A check failed of a call that a granted petition holds: the place of that call in the petition, from 0, and the check. The rows may
+    /// be half changed.
     Held { place: u32, reason: Reason },
     /// No number is left for what the call makes. The rows are as they were, but for those of a `grant`.
     Full,

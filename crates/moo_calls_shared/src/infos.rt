@@ -39,15 +39,15 @@ pub struct NewProperty<'a> {
 }
 
 /// What `add_property` takes. E_ARGS unless there are four arguments; E_TYPE if they aren't an object, a string, a value and
-/// `{owner, perms}`. The value fits the limits of a value, since all the arguments do.
+/// `{owner, perms}`.
 pub fn new_property(args: &[Value]) -> Result<NewProperty<'_>, Code>
     // Each argument nests at most 32 deep, and its numbers and texts are within their limits.
     requires { list_all fits args.now ≡ true }
-    // The object, the name, the value, and the owner and the letters.
+    // The answer is the object, the name, the value, and the owner and the letters of the arguments.
     ensures ok { IfOk result (λ p. new_property args.now ≡ Ok (p.object, (p.name.now, p.value.now, info_shown p.info))) }
-    // The error is the one of such arguments: E_ARGS for their number, else E_TYPE.
+    // The error is that of the arguments: E_ARGS for their number, else E_TYPE.
     ensures err { IfErr result (λ code. new_property args.now ≡ Err code) }
-    // The value has these limits too.
+    // The value nests at most 32 deep too, and its numbers and texts are within their limits.
     ensures fit { IfOk result (λ p. fits p.value.now ≡ true) }
 {
     match args {
@@ -106,14 +106,14 @@ pub struct NewPropertyInfo<'a> {
 /// What `set_property_info` takes. E_ARGS unless there are three arguments; E_TYPE if they aren't an object, a string, and
 /// `{owner, perms}` or `{owner, perms, new-name}`.
 pub fn new_property_info(args: &[Value]) -> Result<NewPropertyInfo<'_>, Code>
-    // The object, the name of the property, the owner and the letters, and the new name if one is given.
+    // The answer is the object, the name, the owner and the letters of the arguments, and the new name if they have one.
     ensures ok { IfOk result (λ p. new_property_info args.now ≡ Ok (record {
       object = p.object;
       name = p.name.now;
       info = info_shown p.info;
       new_name = option_map (λ n. n.now) p.new_name;
     })) }
-    // The error is the one of such arguments: E_ARGS for their number, else E_TYPE.
+    // The error is that of the arguments: E_ARGS for their number, else E_TYPE.
     ensures err { IfErr result (λ code. new_property_info args.now ≡ Err code) }
 {
     match args {

@@ -40,8 +40,7 @@ pub fn controls<R: Rows>(rows: &R, programmer: ObjNo, x: ObjNo) -> bool
     }
 }
 
-/// Whether the programmer may put an object under this parent: `#-1`, or an object that is fertile or that the
-/// programmer controls.
+/// Whether the programmer may put an object under this parent: `#-1`, or an object that is fertile or that the programmer controls.
 pub fn may_be_parent<R: Rows>(rows: &R, programmer: ObjNo, parent: ObjNo) -> bool
     ensures { result ≡ may_be_parent (world_in (R.held rows.now)) programmer parent }
 {
@@ -54,15 +53,14 @@ pub fn may_be_parent<R: Rows>(rows: &R, programmer: ObjNo, parent: ObjNo) -> boo
     }
 }
 
-/// Whether the programmer may give what it makes, or a verb that it changes, to this owner: itself, or anybody if the
-/// programmer is a wizard.
+/// Whether the programmer may give what it makes, or a verb that it changes, to an owner: itself, or anybody if it is a wizard.
 pub fn may_make_owner<R: Rows>(rows: &R, programmer: ObjNo, owner: ObjNo) -> bool
     ensures { result ≡ may_make_owner (world_in (R.held rows.now)) programmer owner }
 {
     owner == programmer || is_wizard(rows, programmer)
 }
 
-/// Whether the programmer may name the object: one that it controls, and a player only if it is a wizard.
+/// Whether the programmer may name the object: a player only if the programmer is a wizard, any other object if it controls the object.
 pub fn may_set_name<R: Rows>(rows: &R, programmer: ObjNo, x: ObjNo) -> bool
     ensures { result ≡ may_set_name (world_in (R.held rows.now)) programmer x }
 {
@@ -79,7 +77,7 @@ pub fn may_read_object<R: Rows>(rows: &R, programmer: ObjNo, x: ObjNo) -> bool
     controls(rows, programmer, x) || is_readable(rows, x)
 }
 
-/// Whether the programmer may add to the object and take from it: its owner, a wizard, or anybody if its w bit is set.
+/// Whether the programmer may add properties and verbs to the object, and delete them: its owner, a wizard, or anybody if its w bit is set.
 pub fn may_write_object<R: Rows>(rows: &R, programmer: ObjNo, x: ObjNo) -> bool
     ensures { result ≡ may_write_object (world_in (R.held rows.now)) programmer x }
 {
@@ -109,7 +107,7 @@ fn is_writable<R: Rows>(rows: &R, x: ObjNo) -> bool
 /// Whether the programmer may read a property: the owner of its slot on the very object, a wizard, or anybody if the slot's
 /// r bit is set. The definer doesn't count.
 pub fn may_read_slot<R: Rows>(rows: &R, programmer: ObjNo, slot: &SlotRow) -> bool
-    // Whoever the definer is.
+    // The answer is the same whoever defines the property.
     ensures { (definer : ObjNo) → result ≡ may_read_slot (world_in (R.held rows.now)) programmer (slot_seen definer slot.now) }
 {
     is_wizard(rows, programmer) || programmer == slot.owner || slot.bits.r
@@ -118,7 +116,7 @@ pub fn may_read_slot<R: Rows>(rows: &R, programmer: ObjNo, slot: &SlotRow) -> bo
 /// Whether the programmer may write a property: the owner of its slot on the very object, a wizard, or anybody if the slot's
 /// w bit is set. The definer doesn't count.
 pub fn may_write_slot<R: Rows>(rows: &R, programmer: ObjNo, slot: &SlotRow) -> bool
-    // Whoever the definer is.
+    // The answer is the same whoever defines the property.
     ensures { (definer : ObjNo) → result ≡ may_write_slot (world_in (R.held rows.now)) programmer (slot_seen definer slot.now) }
 {
     is_wizard(rows, programmer) || programmer == slot.owner || slot.bits.w

@@ -25,8 +25,9 @@ fn desc_of(alloc: Global, value: &Value) -> Result<Option<Desc>, AllocError>
 }
 
 /// What `verb_info`, `verb_args` and `delete_verb` take: an object and a descriptor. E_ARGS unless there are two arguments, and then
-/// E_TYPE for anything else. OutOfMemory means out of memory and nothing else.
+/// E_TYPE for anything else.
 pub fn object_and_desc(alloc: Global, args: &[Value]) -> Result<(ObjNo, Desc), Fault>
+    // What is read, or the error of the arguments: E_ARGS for their number, else E_TYPE; or memory ran out.
     ensures given { GivenOrNot (object_and_desc args.now) result }
 {
     match args {
@@ -93,9 +94,9 @@ pub struct NewVerb<'a> {
 /// What `add_verb` takes. E_ARGS unless there are three arguments; E_TYPE if they aren't an object, `{owner, perms, names}` and
 /// `{dobj, prep, iobj}`.
 pub fn new_verb(args: &[Value]) -> Result<NewVerb<'_>, Code>
-    // The object; the owner, the letters and the names of the verb; and the three texts of its arguments.
+    // The answer is the object; the owner, the letters and the names; and the three texts of the verb's arguments.
     ensures ok { IfOk result (λ p. new_verb args.now ≡ Ok (p.object, (verb_info_shown p.verb, args_shown p.args))) }
-    // The error is the one of such arguments: E_ARGS for their number, else E_TYPE.
+    // The error is that of the arguments: E_ARGS for their number, else E_TYPE.
     ensures err { IfErr result (λ code. new_verb args.now ≡ Err code) }
 {
     match args {
@@ -126,8 +127,9 @@ pub struct NewVerbInfo<'a> {
 }
 
 /// What `set_verb_info` takes. E_ARGS unless there are three arguments, and then E_TYPE for anything but an object, a descriptor and
-/// `{owner, perms, names}`. OutOfMemory means out of memory and nothing else.
+/// `{owner, perms, names}`.
 pub fn new_verb_info(alloc: Global, args: &[Value]) -> Result<NewVerbInfo<'_>, Fault>
+    // What is read, or the error of the arguments: E_ARGS for their number, else E_TYPE; or memory ran out.
     ensures given { GivenOrNot (new_verb_info args.now)
         (result_map_both (λ p. (p.object, (p.desc, verb_info_shown p.verb))) (λ fault. fault) result) }
 {
@@ -160,8 +162,9 @@ pub struct NewVerbArgs<'a> {
 }
 
 /// What `set_verb_args` takes. E_ARGS unless there are three arguments, and then E_TYPE for anything but an object, a descriptor and
-/// `{dobj, prep, iobj}`. OutOfMemory means out of memory and nothing else.
+/// `{dobj, prep, iobj}`.
 pub fn new_verb_args(alloc: Global, args: &[Value]) -> Result<NewVerbArgs<'_>, Fault>
+    // What is read, or the error of the arguments: E_ARGS for their number, else E_TYPE; or memory ran out.
     ensures given { GivenOrNot (new_verb_args args.now)
         (result_map_both (λ p. (p.object, (p.desc, args_shown p.args))) (λ fault. fault) result) }
 {

@@ -36,7 +36,7 @@ pub(crate) fn bits_taken<R: Rows>(rows: &R, verb: VerbInfo<'_>) -> Result<VerbBi
     ensures owner { OnOk result (is_object (world_in (R.held rows.now)) verb.entry.info.owner ≡ true) }
     ensures bits { IfOk result (λ bits. verb_bits_of verb.entry.info.perms.now ≡ Some bits) }
     ensures names { OnOk result (has_word verb.entry.names.now ≡ true) }
-    // At an error, a call that takes this owner, these letters and these names fails for the reason, whatever it would do then.
+    // At an error, each call that takes this owner, these letters and these names fails for the reason.
     ensures err { IfErr result (λ reason. (then : VerbBits → Outcome World) →
         taking_verb_info (world_in (R.held rows.now))
         (info_shown verb.entry.info) verb.entry.names.now then ≡ fails reason) }

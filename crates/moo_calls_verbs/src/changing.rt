@@ -19,9 +19,8 @@ use moo_verbs::found_verb;
 use moo_world::{Desc, ZERO};
 use std::alloc::Global;
 
-/// `delete_verb(x, desc)`: takes a verb out of the directory of an object and answers 0. The others keep their numbers, also if
-/// two verbs are alike.
-/// E_INVARG if x isn't an object; E_PERM if the programmer may not write x; E_VERBNF if no verb of x itself is meant.
+/// `delete_verb(x, desc)`: takes a verb out of the directory of an object and answers 0. The others keep their numbers, also if two verbs
+/// are alike. E_INVARG if x isn't an object; E_PERM if the programmer may not write x; E_VERBNF if no verb of x itself is meant.
 /// LambdaMOO Programmer's Manual, 'Operations on Verbs'.
 pub fn delete_verb<R: Rows>(
     rows: &mut R,
@@ -33,7 +32,7 @@ pub fn delete_verb<R: Rows>(
     requires { IsGood (R.held rows.old).maps }
     // It does what the definition `delete_verb` says. At its errors nothing changes; out of memory the rows may be half changed.
     ensures does { Does (delete_verb (world_in (R.held rows.old)) programmer x desc.now) (R.held rows.old) (R.held rows.new) result }
-    // One row is gone, that of the verb which the descriptor means: the other verbs keep their numbers.
+    // If it is done, one row is gone, that of the verb which the descriptor means; all other verbs stay, with their numbers.
     ensures gone { OnOk result
         ((id : VerbId)
         × (option_map (λ f. f.0) (found_verb (world_in (R.held rows.old)) x desc.now) ≡ Some (verb_place (R.held rows.old).maps x id))
@@ -91,9 +90,8 @@ pub fn set_verb_info<R: Rows>(
     Ok(ZERO)
 }
 
-/// `set_verb_args(x, desc, {dobj, prep, iobj})`: changes the arguments of a verb and answers 0.
-/// E_INVARG if x isn't an object; E_VERBNF if no verb of x itself is meant; E_INVARG if a verb may not have the
-/// arguments; E_PERM if the programmer may not write the verb.
+/// `set_verb_args(x, desc, {dobj, prep, iobj})`: changes the arguments of a verb and answers 0. E_INVARG if x isn't an object; E_VERBNF if
+/// no verb of x itself is meant; E_INVARG if a verb may not have the arguments; E_PERM if the programmer may not write the verb.
 /// LambdaMOO Programmer's Manual, 'Operations on Verbs'.
 pub fn set_verb_args<R: Rows>(
     rows: &mut R,

@@ -62,10 +62,10 @@ fn readable_verb<'a, R: Rows>(
 ) -> Result<&'a VerbRow, Reason>
     // The rows are those of a well formed world.
     requires { IsGood (R.held rows.now).maps }
-    // A call that reads the verb goes on with it, whatever it does then.
+    // Each call that reads the verb goes on with the verb that was found.
     ensures ok { IfOk result (λ verb. (then : VerbRow → Outcome World) →
         reading_verb (world_in (R.held rows.now)) programmer x desc.now then ≡ then verb.now) }
-    // At an error, such a call fails for the reason.
+    // At an error, each call that reads the verb fails for the reason.
     ensures err { IfErr result (λ reason. (then : VerbRow → Outcome World) →
         reading_verb (world_in (R.held rows.now)) programmer x desc.now then ≡ fails reason) }
 {

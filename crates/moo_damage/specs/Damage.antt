@@ -119,7 +119,7 @@ pub record NumbersGiven (m : Maps) : Type 0 where
   pub verbs : (key : ObjNo × VerbId) (v : VerbRow) → get m.verbs key ≡ Some v → is_verb_past m.head key ≡ false
   pub petitions : (id : PetitionId) (row : PetitionRow) → get m.petitions id ≡ Some row → is_petition_past m.head id ≡ false
 
--- each chain of these links ends
+-- each object's chain of this link ends
 abbrev pub LinksEnd : TreeLink → Maps → Type 0
 LinksEnd link m = (x : ObjNo) (row : ObjRow) → get m.objects x ≡ Some row → HasEnd link m x
 

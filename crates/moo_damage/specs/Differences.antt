@@ -9,7 +9,7 @@ use Rattle.moo_damage.specs.declared.kind.Key.TheVariants.{Head, Object, Prop, S
 use Rattle.moo_damage.specs.First.{IsLeastBad}
 use Rattle.moo_damage.specs.Kinds.{IsBelow}
 
--- both have one row at this key, or none
+-- both have the same row at this key, or neither has one
 abbrev pub AgreeAt : Maps → Maps → Key → Type 0
 AgreeAt a b Head = a.head ≡ b.head
 AgreeAt a b (Object n) = get a.objects (record { 0 = n }) ≡ get b.objects (record { 0 = n })

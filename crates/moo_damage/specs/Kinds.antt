@@ -44,7 +44,7 @@ table (Slot n id) = 3
 table (Verb n id) = 4
 table (Petition id) = 5
 
--- one key is before another: by tables, and in one table by number
+-- one key is before another: by tables, and in one table by number, of a slot or a verb first by the number of its object
 abbrev pub IsBelow : Key → Key → Type 0
 IsBelow (Object n) (Object k) = n <ℤ k
 IsBelow (Prop i) (Prop j) = i <ℤ j
@@ -131,7 +131,7 @@ IsLeast meets (Some key) = meets key × ((other : Key) → IsBelow other key →
 abbrev pub IsFirstMet : (Kind → Key → Type 0) → Kind → Key → Type 0
 IsFirstMet meets kind key = NoneBefore meets (rank kind) × IsLeast (meets kind) (Some key)
 
--- the first that is met of the kinds before this place, or None if no such kind is met
+-- the first damage that is met, of any kind, with its least key; or None, and no kind before this place is met
 abbrev pub IsFirstBefore : (Kind → Key → Type 0) → ℕ → Option (Kind × Key) → Type 0
 IsFirstBefore meets n None = NoneBefore meets n
 IsFirstBefore meets n (Some d) = IsFirstMet meets d.0 d.1

@@ -16,7 +16,7 @@ use Rattle.moo_world.specs.World.{IsTree}
 use Rattle.moo_props.specs.Names.{defines}
 use Rattle.moo_damage.specs.Damage.{lacks_definer, is_double, is_strange, is_missing}
 
--- no double name, no strange slot, no missing one
+-- no name is double, no slot is strange and none is missing; so the slots are just those that objects are owed
 pub record SlotsHold (m : Maps) : Type 0 where
   pub names : (id : PropId) (p : PropRow) → get m.props id ≡ Some p → is_double m id p ≡ false
   pub owed : (key : ObjNo × PropId) (s : SlotRow) → get m.slots key ≡ Some s → is_strange m key ≡ false
@@ -35,7 +35,8 @@ comes_down m key = unwrap_or (option_map (λ row. defines m key.0 key.1 || has_s
 abbrev pub lacks_slot_of : Maps → ObjNo → ObjNo → Bool
 lacks_slot_of m x y = list_any (λ e. not (has_slot m x e.0.1)) (slots_of_left y (record { 0 = 0 }) m)
 
--- what holds of each row and its neighbours if the slots are just those that are owed
+-- each row and its neighbours are right: definers have slots of their properties, each slot comes down to its object, an object has
+-- what its parent has, and a definer has no slot of another property of the same name
 pub record AreLocal (m : Maps) : Type 0 where
   pub numbered : (id : PropId) (p : PropRow) → get m.props id ≡ Some p → 0 < id.0
   pub own : (id : PropId) (p : PropRow) → get m.props id ≡ Some p → has_slot m p.definer id ≡ true
@@ -49,7 +50,8 @@ pub record AreLocal (m : Maps) : Type 0 where
 abbrev pub LocalSlotsHold : Type 0
 LocalSlotsHold = (m : Maps) → IsTree (world_of m) → AreLocal m → SlotsHold m
 
--- if the slots are just those that are owed, no name is double, and definers are objects, each row and its neighbours are right
+-- if chains end, properties are numbered from 1, definers are objects, the slots are just those that are owed, and no name is double,
+-- each row and its neighbours are right
 abbrev pub HeldSlotsAreLocal : Type 0
 HeldSlotsAreLocal =
     (m : Maps) → IsTree (world_of m) → ((id : PropId) (p : PropRow) → get m.props id ≡ Some p → 0 < id.0)

@@ -12,11 +12,11 @@ use Rattle.moo_damage.specs.First.{IsLeastBad}
 abbrev pub AreEnding : TreeLink → Maps → FinMap object_cmp (Unit {0}) → Type 0
 AreEnding link m known = (x : ObjNo) → get known x ≡ Some tt → HasEnd link m x
 
--- the chains of these objects end
+-- the chain of each object of a path ends
 abbrev pub AllEnd : TreeLink → Maps → List ObjNo → Type 0
 AllEnd link m path = AllByRecursion (HasEnd link m) path
 
--- the chains of all objects that are known then end, if those of the path do and those of the objects known before
+-- of any link, in any rows: if the chains of the path and of the objects known before end, those of all objects known afterwards do
 abbrev pub NotesEnding : List ObjNo → (old new : FinMap object_cmp (Unit {0})) → Type 0
 NotesEnding path old new = (link : TreeLink) (m : Maps) → AllEnd link m path → AreEnding link m old → AreEnding link m new
 

@@ -26,7 +26,7 @@ use moo_value::{ObjNo, same_name};
 pub(crate) trait NumberedRow: KeyedRow {
     ghost is_past: { Head → Self.Key → Bool };
 
-    /// Whether the number of a key was never given, as the head counts them.
+    /// Whether the number of a key was never given, by the counters of the head.
     fn is_past(head: Head, key: Self::Key) -> bool
         ensures { result ≡ is_past head key };
 }
@@ -34,6 +34,7 @@ pub(crate) trait NumberedRow: KeyedRow {
 impl NumberedRow for ObjRow {
     ghost is_past = { is_object_past };
 
+    /// Whether the number of an object is below 0, or above the greatest that was given.
     fn is_past(head: Head, x: ObjNo) -> bool {
         x.0 < 0 || head.top < x.0
     }
@@ -42,6 +43,7 @@ impl NumberedRow for ObjRow {
 impl NumberedRow for PropRow {
     ghost is_past = { is_prop_past };
 
+    /// Whether the number of a property is that of the next one, or above it.
     fn is_past(head: Head, id: PropId) -> bool {
         head.next_prop <= id.0
     }
@@ -50,6 +52,7 @@ impl NumberedRow for PropRow {
 impl NumberedRow for VerbRow {
     ghost is_past = { is_verb_past };
 
+    /// Whether the number of a verb is that of the next one, or above it.
     fn is_past(head: Head, key: (ObjNo, VerbId)) -> bool {
         head.next_verb <= key.1.0
     }
@@ -58,6 +61,7 @@ impl NumberedRow for VerbRow {
 impl NumberedRow for PetitionRow {
     ghost is_past = { is_petition_past };
 
+    /// Whether the number of a petition is that of the next one, or above it.
     fn is_past(head: Head, id: PetitionId) -> bool {
         head.next_petition <= id.0
     }
@@ -104,7 +108,7 @@ pub(crate) fn first_strange_verb<R: Rows>(rows: &R) -> Option<(ObjNo, VerbId)>
 
 /// Whether two properties have one name, on one object or on an object and its ancestor.
 fn share_name<R: Rows>(rows: &R, one: &PropRow, other: &PropRow) -> bool
-    // Parents and locations are objects or `#-1`, without loops.
+    // Parents and locations are objects or `#-1`, without loops, and each object's number was given.
     requires { IsTree (world_of (R.held rows.now).maps) }
     ensures { result ≡ share_name (world_of (R.held rows.now).maps) one.now other.now }
 {
@@ -119,7 +123,7 @@ fn share_name<R: Rows>(rows: &R, one: &PropRow, other: &PropRow) -> bool
 
 /// Whether a property of lesser number has the name of a property already, on the same object, an ancestor or a descendant.
 pub(crate) fn is_double<R: Rows>(rows: &R, id: PropId, row: &PropRow) -> bool
-    // Parents and locations are objects or `#-1`, without loops.
+    // Parents and locations are objects or `#-1`, without loops, and each object's number was given.
     requires { IsTree (world_of (R.held rows.now).maps) }
     ensures { result ≡ is_double (R.held rows.now).maps id row.now }
 {
@@ -130,7 +134,7 @@ pub(crate) fn is_double<R: Rows>(rows: &R, id: PropId, row: &PropRow) -> bool
 
 /// Whether an object is owed a slot of a property: the object or an ancestor defines it.
 fn is_owed<R: Rows>(rows: &R, key: (ObjNo, PropId)) -> bool
-    // Parents and locations are objects or `#-1`, without loops.
+    // Parents and locations are objects or `#-1`, without loops, and each object's number was given.
     requires { IsTree (world_of (R.held rows.now).maps) }
     ensures { result ≡ is_owed (R.held rows.now).maps key }
 {
@@ -142,7 +146,7 @@ fn is_owed<R: Rows>(rows: &R, key: (ObjNo, PropId)) -> bool
 
 /// Whether a slot is one of a property that its object isn't owed.
 pub(crate) fn is_strange<R: Rows>(rows: &R, key: (ObjNo, PropId)) -> bool
-    // Parents and locations are objects or `#-1`, without loops.
+    // Parents and locations are objects or `#-1`, without loops, and each object's number was given.
     requires { IsTree (world_of (R.held rows.now).maps) }
     ensures { result ≡ is_strange (R.held rows.now).maps key }
 {
@@ -151,7 +155,7 @@ pub(crate) fn is_strange<R: Rows>(rows: &R, key: (ObjNo, PropId)) -> bool
 
 /// Whether an object is owed a slot of a property and has none.
 fn is_missing<R: Rows>(rows: &R, key: (ObjNo, PropId)) -> bool
-    // Parents and locations are objects or `#-1`, without loops.
+    // Parents and locations are objects or `#-1`, without loops, and each object's number was given.
     requires { IsTree (world_of (R.held rows.now).maps) }
     ensures { result ≡ is_missing (R.held rows.now).maps key }
 {
@@ -208,8 +212,7 @@ fn any_clear_own<R: Rows>(rows: &R) -> bool
     any_bad::<PropRow, R, _>(rows, |id, row| has_clear(rows, (row.definer, id)))
 }
 
-/// The least slot that is clear on the definer of its property; `None` if there is none. Slots are looked at only if a property has such a
-/// slot.
+/// The least slot that is clear on the definer of its property; `None` if there is none. Slots are looked at only if some property has one.
 pub(crate) fn first_clear<R: Rows>(rows: &R) -> Option<(ObjNo, PropId)>
     ensures { IsLeastPassing (R.held rows.now).maps.slots (is_clear_definer (R.held rows.now).maps) result }
 {
@@ -221,16 +224,16 @@ pub(crate) fn first_clear<R: Rows>(rows: &R) -> Option<(ObjNo, PropId)>
 
 /// The least property that x is owed and has no slot of; `None` if there is none.
 fn first_missing_of<R: Rows>(rows: &R, x: ObjNo) -> Option<PropId>
-    // Parents and locations are objects or `#-1`, without loops.
+    // Parents and locations are objects or `#-1`, without loops, and each object's number was given.
     requires { IsTree (world_of (R.held rows.now).maps) }
     ensures { Misses (R.held rows.now).maps x result }
 {
     first_bad::<PropRow, R, _>(rows, |key, _row| is_missing(rows, (x, key)))
 }
 
-/// The least object and property of which a slot is owed and isn't there; `None` if there are none.
+/// The least slot that an object is owed and doesn't have; `None` if there is none.
 pub(crate) fn first_missing<R: Rows>(rows: &R) -> Option<(ObjNo, PropId)>
-    // Parents and locations are objects or `#-1`, without loops.
+    // Parents and locations are objects or `#-1`, without loops, and each object's number was given.
     requires { IsTree (world_of (R.held rows.now).maps) }
     ensures { IsFirstMissing (R.held rows.now).maps result }
 {

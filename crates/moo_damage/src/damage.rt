@@ -17,13 +17,14 @@ use crate::trees::TreeLink;
 use moo_rows::{PetitionRow, PropRow, Rows, VerbRow};
 use std::alloc::{AllocError, Global};
 
-/// The first row whose number was never given, of objects, properties, verbs and petitions in this order; `None` if each was. `are_plain` says
-/// that the objects are known to be right.
+/// The first row whose number was never given, of objects, properties, verbs and petitions in this order; `None` if each was given. If
+/// `are_plain`, objects aren't looked at: it says that they are known to be right.
 fn ungiven_number<R: Rows>(rows: &R, are_plain: bool) -> Option<(Kind, Key)>
-    // `are_plain` is true only if each object is right.
+    // `are_plain` is true only if one look at each object shows that it is right.
     requires { are_plain ≡ true → ArePlain (R.held rows.now).maps }
-    // It is the first damage of the kinds before the fourth: a number that was never given.
+    // Some damage is the first that is met, with its least key. `None` only if no kind up to `PastHead` is met.
     ensures first { IsFirstBefore (InRows (R.held rows.now).maps) 4 result }
+    // If there is none, each number was given.
     ensures given { IfNone result (NumbersGiven (R.held rows.now).maps) }
 {
     if let Some(x) = past_object(rows, are_plain) {
@@ -41,22 +42,23 @@ fn ungiven_number<R: Rows>(rows: &R, are_plain: bool) -> Option<(Kind, Key)>
     None
 }
 
-/// The first object whose link names no object, or else whose chain of links has no end; `None` if there is none. The only error is a lack of
-/// memory.
+/// The first object whose link names no object, or else whose chain of links has no end; `None` if there is none. If `are_plain`, none
+/// is looked for: it says that the objects are known to be right. The only error is a lack of memory.
 fn wrong_link<R: Rows>(
     alloc: Global,
     rows: &R,
     link: TreeLink,
     are_plain: bool,
 ) -> Result<Option<(Kind, Key)>, AllocError>
-    // `are_plain` is true only if each object is right.
+    // `are_plain` is true only if one look at each object shows that it is right.
     requires plain { are_plain ≡ true → ArePlain (R.held rows.now).maps }
+    // Each number was given.
     requires numbers { NumbersGiven (R.held rows.now).maps }
     // No damage of a kind before that of a link that names no object is met.
     requires before { NoneBefore (InRows (R.held rows.now).maps) (rank (lost_kind link)) }
-    // It is the first damage up to the kind of a chain without an end.
+    // Some damage is the first that is met, with its least key. `None` only if no kind up to that of a chain without an end is met.
     ensures first { IfOk result (IsFirstBefore (InRows (R.held rows.now).maps) (suc (rank (loop_kind link)))) }
-    // If there is none, each chain of these links ends.
+    // If there is none, each object's chain of this link ends.
     ensures ends { IfOk result (λ o. IfNone o (LinksEnd link (R.held rows.now).maps)) }
 {
     if let Some(x) = lost_object(rows, link, are_plain) {
@@ -68,17 +70,18 @@ fn wrong_link<R: Rows>(
     }
 }
 
-/// The first property whose definer isn't an object, or else whose name another one has; `None` if there is none. `slots_are_owed` says that the
-/// slots are known to be just those that are owed.
+/// The first property whose definer isn't an object, or else whose name one of lesser number has; `None` if there is none. If
+/// `slots_are_owed`, names aren't looked at: it says that the slots are known to be just those that objects are owed.
 fn wrong_property<R: Rows>(rows: &R, slots_are_owed: bool) -> Option<(Kind, Key)>
-    // Parents and locations are objects or `#-1`, without loops.
+    // Parents and locations are objects or `#-1`, without loops, and each object's number was given.
     requires tree { IsTree (world_of (R.held rows.now).maps) }
-    // `slots_are_owed` is true only if the slots are just those that are owed.
+    // `slots_are_owed` is true only if no name is double, no slot is strange and none is missing.
     requires hold { slots_are_owed ≡ true → SlotsHold (R.held rows.now).maps }
-    // No damage of the kinds up to that of locations without an end is met.
+    // No kind up to `PlaceLoop` is met.
     requires before { NoneBefore (InRows (R.held rows.now).maps) 8 }
-    // It is the first damage of the kinds before the tenth: no definer, or a double name.
+    // Some damage is the first that is met, with its least key. `None` only if no kind up to `DoubleName` is met.
     ensures first { IsFirstBefore (InRows (R.held rows.now).maps) 10 result }
+    // If there is none, each definer is an object, and no name is double.
     ensures right { IfNone result (PropsRight (R.held rows.now).maps) }
 {
     if let Some(id) = first_undefined(rows) {
@@ -94,14 +97,15 @@ fn wrong_property<R: Rows>(rows: &R, slots_are_owed: bool) -> Option<(Kind, Key)
 /// missing, a slot that is clear on the definer of its property, a verb of no object. `None` if there is none. If `slots_are_owed`, the
 /// first two aren't looked for: it says that the slots are known to be just those that objects are owed.
 fn wrong_slot_or_verb<R: Rows>(rows: &R, slots_are_owed: bool) -> Option<(Kind, Key)>
-    // Parents and locations are objects or `#-1`, without loops.
+    // Parents and locations are objects or `#-1`, without loops, and each object's number was given.
     requires tree { IsTree (world_of (R.held rows.now).maps) }
-    // `slots_are_owed` is true only if the slots are just those that are owed.
+    // `slots_are_owed` is true only if no name is double, no slot is strange and none is missing.
     requires hold { slots_are_owed ≡ true → SlotsHold (R.held rows.now).maps }
-    // No damage of the kinds up to that of a double name is met.
+    // No kind up to `DoubleName` is met.
     requires before { NoneBefore (InRows (R.held rows.now).maps) 10 }
-    // It is the first damage of the kinds before `Mismatch`: of slots, or of verbs.
+    // Some damage is the first that is met, with its least key. `None` only if no kind up to `StrangeVerb` is met.
     ensures first { IsFirstBefore (InRows (R.held rows.now).maps) 14 result }
+    // If there is none, slots are just those that are owed, none is clear on its definer, and each verb is of an object.
     ensures right { IfNone result (SlotsRight (R.held rows.now).maps) }
 {
     if let Some(key) = strange_slot(rows, slots_are_owed) {
@@ -120,16 +124,16 @@ fn wrong_slot_or_verb<R: Rows>(rows: &R, slots_are_owed: bool) -> Option<(Kind, 
 }
 
 /// What is wrong with rows: the first of the kinds of damage from `PastHead` to `StrangeVerb` that is met, with its least key: objects
-/// come before properties, and these before slots, verbs and petitions, in this order. None if no kind is met: the rows then show
-/// a well formed world, and petitions as they may be beside it. The only error is a lack of memory.
+/// come before properties, then slots, verbs and petitions. `None` if no kind is met: the rows then show a well formed world, and
+/// petitions as they may be beside it. The only error is a lack of memory.
 ///
-/// Its time is that of going over the rows and of looking up each one's neighbours. Only rows of which a slot is wrong take longer.
+/// Its time is that of going over the rows and of looking up each one's neighbours. With a double name or a wrong slot it takes longer.
 pub fn damage_of<R: Rows>(alloc: Global, rows: &R) -> Result<Option<(Kind, Key)>, AllocError>
-    // Each row is within the limits of its columns.
+    // The counters of the head and each row are within the limits of their columns.
     requires { AreWithin (R.held rows.now).maps }
-    // If there is none, the rows are good ones.
+    // If there is no damage, the rows are good ones: sound rows of a well formed world, with petitions as they may be beside it.
     ensures good { IfOk result (λ o. IfNone o (IsGood (R.held rows.now).maps)) }
-    // Else it is the first kind that is met, with its least key.
+    // Else the damage is the first kind that is met, with the least key at which it is.
     ensures first { IfOk result (λ o. IfSome o (λ d. IsFirstInRows (R.held rows.now).maps d.0 d.1)) }
 {
     let plain = are_plain(rows);

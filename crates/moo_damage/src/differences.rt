@@ -8,7 +8,7 @@ use crate::kind::{Key, object_key, petition_key, prop_key, slot_key, verb_key};
 use moo_memory::Flat;
 use moo_rows::{KeyedRow, ObjRow, PetitionRow, PropRow, Row as _, Rows, SlotRow, VerbRow, ordered};
 
-/// Whether a row isn't the row of its key in the rows `there`.
+/// Whether the rows `there` have another row, or none, under the key of a row.
 fn is_unlike<T: KeyedRow, R: Rows>(there: &R, key: T::Key, row: &T) -> bool
     ensures { IsUnlike (T.map_of (R.held there.now).maps) result key row.now }
 {
@@ -18,7 +18,7 @@ fn is_unlike<T: KeyedRow, R: Rows>(there: &R, key: T::Key, row: &T) -> bool
     }
 }
 
-/// The least key of a kind of row whose row isn't that of the key in the rows `there`; `None` if there is none.
+/// The least key of a kind of row under which the rows `there` have another row, or none; `None` if there is no such key.
 fn first_unlike<T: KeyedRow, R: Rows>(rows: &R, there: &R) -> Option<T::Key>
     ensures { IsLeastUnlike (T.map_of (R.held rows.now).maps) (T.map_of (R.held there.now).maps) result }
 {
@@ -35,11 +35,11 @@ fn first_differing<T: KeyedRow, R: Rows>(own: &R, found: &R) -> Option<T::Key>
     )
 }
 
-/// The first row in which two sets of rows differ, in the order of `first_difference`; `None` if they are equal. The rows may be of any
-/// storage.
+/// The first row in which two sets of rows of any storage differ, in the order of `first_difference`; `None` if they are equal.
 fn difference<R: Rows>(own: &R, found: &R) -> Option<Key>
-    // They differ at that key, and agree at each one before it.
+    // The two sets differ at that key, and agree at each key before it.
     ensures differs { IfSome result (λ key. IsFirstDifference (R.held own.now).maps (R.held found.now).maps key) }
+    // `None` only if both have the same head and the same rows.
     ensures same { IfNone result ((R.held own.now).maps ≡ (R.held found.now).maps) }
 {
     if own.head() != found.head() {
@@ -66,9 +66,9 @@ fn difference<R: Rows>(own: &R, found: &R) -> Option<Key>
 /// The first row in which two sets of rows differ, in the order head, objects, properties, slots, verbs, petitions, and in each by
 /// number: both have it with different content, or one of them alone has it. `None` if they are equal. Takes no memory.
 pub fn first_difference(own: &Flat, found: &Flat) -> Option<Key>
-    // They differ at that key, and agree at each one before it.
+    // The two sets differ at that key, and agree at each key before it.
     ensures differs { IfSome result (λ key. IsFirstDifference own.now.maps found.now.maps key) }
-    // None only if both have the same rows.
+    // `None` only if both have the same head and the same rows.
     ensures same { IfNone result (own.now.maps ≡ found.now.maps) }
 {
     difference(own, found)

@@ -14,7 +14,7 @@ pub(crate) fn first_bad<T: KeyedRow, R: Rows, F: Fn(T::Key, &T) -> bool>(
 ) -> Option<T::Key>
     // The test may be called at any time.
     requires { F.IsAlwaysCallable is_bad }
-    // The test says `true` of the row of that key, and `false` of each row before it.
+    // The test says `true` of the row of that key, and `false` of each row before it; if `None`, it says `false` of each row.
     ensures { IsLeastBad (T.map_of (R.held rows.now).maps) (MaySay F.Fn is_bad false) (MaySay F.Fn is_bad true) result }
 {
     let mut last = None;
@@ -31,7 +31,7 @@ pub(crate) fn first_bad<T: KeyedRow, R: Rows, F: Fn(T::Key, &T) -> bool>(
 pub(crate) fn any_bad<T: KeyedRow, R: Rows, F: Fn(T::Key, &T) -> bool>(rows: &R, is_bad: F) -> bool
     // The test may be called at any time.
     requires { F.IsAlwaysCallable is_bad }
-    // If what the test says is a function of key and row, it is whether that holds of any row.
+    // If what the test says is a function of key and row, the answer is whether that function is true of any row.
     ensures { (test : T.Key → T → Bool) → SaysOfRow F.Fn is_bad (λ b k r. test k r ≡ b) →
         result ≡ list_any (λ e. test e.0 e.1) (entries (T.map_of (R.held rows.now).maps)) }
 {

@@ -64,8 +64,7 @@ impl fmt::Display for Kind {
     }
 }
 
-/// The row at which damage is found: its table, and its key there. The numbers are those of the cells, which may lie outside the range
-/// of a row's.
+/// The row at which damage is found: its table and its key there. The numbers are those of its cells, and may be outside a row's range.
 #[derive(Clone, Copy, Debug, PartialEq, Eq)]
 pub enum Key {
     /// The head.

@@ -8,7 +8,7 @@ pub fn clean_rows_are_good()
     ensures { CleanRowsAreGood }
 {}
 
-/// Good rows pass each test of damage.
+/// In good rows numbers, links, properties, slots and verbs are right.
 pub fn good_rows_are_clean()
     ensures { GoodRowsAreClean }
 {}
@@ -23,7 +23,8 @@ pub fn local_slots_hold()
     ensures { LocalSlotsHold }
 {}
 
-/// If the slots are just those that are owed, each slot is right by a look at its object and the parent's slots.
+/// If the slots are just those that are owed, properties are numbered from 1, their definers are objects, and chains end, each slot is
+/// right by a look at its object and the parent's slots.
 pub fn held_slots_are_local()
     ensures { HeldSlotsAreLocal }
 {}

@@ -76,15 +76,15 @@ fn any_child_lacks_slot<R: Rows>(rows: &R) -> bool
 /// Whether the slots are known to be just those that are owed, by a look at each slot, its object and the parent's slots. The slots of
 /// good rows always are. If the answer is no, a slot may still be right: only this look at neighbours doesn't show it.
 ///
-/// No chain is climbed: along chains that end, what each object has of its parent it has of all ancestors. The only error is a lack of memory.
+/// No chain is climbed: if chains end, what each object has of its parent it has of all ancestors. The only error is a lack of memory.
 pub(crate) fn slots_are_owed<R: Rows>(alloc: Global, rows: &R) -> Result<bool, AllocError>
-    // Parents and locations are objects or `#-1`, without loops.
+    // Parents and locations are objects or `#-1`, without loops, and each object's number was given.
     requires tree { IsTree (world_of (R.held rows.now).maps) }
     // Properties are numbered from 1.
     requires numbered { (id : PropId) (p : PropRow) → get (R.held rows.now).maps.props id ≡ Some p → 0 < id.0 }
-    // If it says so, no name is double, no slot is strange and none is missing.
+    // If the answer is yes, no name is double, no slot is strange and none is missing.
     ensures hold { IfOk result (λ hold. hold ≡ true → SlotsHold (R.held rows.now).maps) }
-    // Of good rows it says so.
+    // Of good rows the answer is yes.
     ensures good { IsGood (R.held rows.now).maps → IfOk result (λ hold. hold ≡ true) }
 {
     if any_definer_lacks_slot(rows) {
@@ -99,11 +99,11 @@ pub(crate) fn slots_are_owed<R: Rows>(alloc: Global, rows: &R) -> Result<bool, A
     are_names_apart(alloc, rows)
 }
 
-/// The least property whose name one of lesser number has; `None` if there is none. It isn't looked for if the slots are known to be just
-/// those that are owed (`slots_are_owed`).
+/// The least property whose name one of lesser number has; `None` if there is none, as is known without a look if `slots_are_owed`.
 pub(crate) fn double_name<R: Rows>(rows: &R, slots_are_owed: bool) -> Option<PropId>
-    // Chains end, and `slots_are_owed` is true only if the slots are just those that are owed.
+    // Parents and locations are objects or `#-1`, without loops, and each object's number was given.
     requires tree { IsTree (world_of (R.held rows.now).maps) }
+    // `slots_are_owed` is true only if no name is double, no slot is strange and none is missing.
     requires hold { slots_are_owed ≡ true → SlotsHold (R.held rows.now).maps }
     ensures { IsLeastPassing (R.held rows.now).maps.props (is_double (R.held rows.now).maps) result }
 {
@@ -113,11 +113,11 @@ pub(crate) fn double_name<R: Rows>(rows: &R, slots_are_owed: bool) -> Option<Pro
     first_bad::<PropRow, R, _>(rows, |id, row| is_double(rows, id, row))
 }
 
-/// The least slot that its object isn't owed; `None` if there is none. It isn't looked for if the slots are known to be just those that are
-/// owed (`slots_are_owed`).
+/// The least slot that its object isn't owed; `None` if there is none, as is known without a look if `slots_are_owed`.
 pub(crate) fn strange_slot<R: Rows>(rows: &R, slots_are_owed: bool) -> Option<(ObjNo, PropId)>
-    // Chains end, and `slots_are_owed` is true only if the slots are just those that are owed.
+    // Parents and locations are objects or `#-1`, without loops, and each object's number was given.
     requires tree { IsTree (world_of (R.held rows.now).maps) }
+    // `slots_are_owed` is true only if no name is double, no slot is strange and none is missing.
     requires hold { slots_are_owed ≡ true → SlotsHold (R.held rows.now).maps }
     ensures { IsLeastPassing (R.held rows.now).maps.slots (λ key _. is_strange (R.held rows.now).maps key) result }
 {
@@ -127,11 +127,11 @@ pub(crate) fn strange_slot<R: Rows>(rows: &R, slots_are_owed: bool) -> Option<(O
     first_bad::<SlotRow, R, _>(rows, |key, _row| is_strange(rows, key))
 }
 
-/// The least object and property of which a slot is owed and isn't there; `None` if there are none. They aren't looked for if the slots are
-/// known to be just those that are owed (`slots_are_owed`).
+/// The least slot that an object is owed and doesn't have; `None` if there is none, as is known without a look if `slots_are_owed`.
 pub(crate) fn missing_slot<R: Rows>(rows: &R, slots_are_owed: bool) -> Option<(ObjNo, PropId)>
-    // Chains end, and `slots_are_owed` is true only if the slots are just those that are owed.
+    // Parents and locations are objects or `#-1`, without loops, and each object's number was given.
     requires tree { IsTree (world_of (R.held rows.now).maps) }
+    // `slots_are_owed` is true only if no name is double, no slot is strange and none is missing.
     requires hold { slots_are_owed ≡ true → SlotsHold (R.held rows.now).maps }
     ensures { IsFirstMissing (R.held rows.now).maps result }
 {

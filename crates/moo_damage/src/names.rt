@@ -22,7 +22,7 @@ fn note_name(
 ) -> Result<bool, AllocError>
     // The property is noted under its name, and every other name has what it had.
     ensures noted { OnOk result (NotesName name.now id noted.old noted.new) }
-    // Whether the name had no property, or this one.
+    // The answer is whether no other property was noted under the name.
     ensures alone { IfOk result (λ alone. alone ≡ is_alone (noted_as noted.old (folded name.now)) id) }
 {
     let key = name.bytes().to_ascii_lowercase(alloc)?;
@@ -32,8 +32,7 @@ fn note_name(
     }
 }
 
-/// Notes the property of a number, if there is one, and answers whether no other property was noted under its name. The only error is a
-/// lack of memory.
+/// Notes the property of a number, if there is one, and answers whether no other was noted under its name. AllocError: memory ran out.
 fn note_prop<R: Rows>(
     alloc: Global,
     rows: &R,
@@ -51,7 +50,7 @@ fn note_prop<R: Rows>(
 /// Whether no two properties that x has slots of have one name. The only error is a lack of memory.
 fn names_apart_on<R: Rows>(alloc: Global, rows: &R, x: ObjNo) -> Result<bool, AllocError>
     ensures apart { IfOk result (λ apart. apart ≡ true → NamesApart (R.held rows.now).maps x) }
-    // Of sound rows it says so.
+    // Of sound rows the answer is yes.
     ensures sound { IsSound (R.held rows.now).maps → IfOk result (λ apart. apart ≡ true) }
 {
     let mut noted = BTreeMap::new(alloc);
@@ -64,20 +63,20 @@ fn names_apart_on<R: Rows>(alloc: Global, rows: &R, x: ObjNo) -> Result<bool, Al
     Ok(true)
 }
 
-/// Whether no two properties that x has slots of have one name. Each object is looked at once: `known` has the objects of which it is
-/// known. The only error is a lack of memory.
+/// Whether no two properties that x has slots of have one name. An object in `known` isn't looked at: it was found so before. If x is found
+/// so, it joins `known`. The only error is a lack of memory.
 fn seen_apart<R: Rows>(
     alloc: Global,
     rows: &R,
     known: &mut BTreeMap<ObjNo, ()>,
     x: ObjNo,
 ) -> Result<bool, AllocError>
-    // On each object that is known no two properties have one name.
+    // On each object in `known` no two properties have one name.
     requires { AreApart (R.held rows.now).maps (contents object_cmp known.old) }
-    // So it is of the objects that are known then.
+    // So it is on each object in `known` afterwards.
     ensures known { OnOk result (AreApart (R.held rows.now).maps (contents object_cmp known.new)) }
     ensures apart { IfOk result (λ apart. apart ≡ true → NamesApart (R.held rows.now).maps x) }
-    // Of sound rows it says so.
+    // Of sound rows the answer is yes.
     ensures sound { IsSound (R.held rows.now).maps → IfOk result (λ apart. apart ≡ true) }
 {
     if ordered::get(known, x).is_some() {
@@ -91,11 +90,10 @@ fn seen_apart<R: Rows>(
     Ok(true)
 }
 
-/// Whether no two properties that an object has slots of have one name, on each object that defines a property. The only error is a lack of
-/// memory.
+/// Whether no two properties that an object has slots of have one name, on each object that defines a property. AllocError: memory ran out.
 pub(crate) fn are_names_apart<R: Rows>(alloc: Global, rows: &R) -> Result<bool, AllocError>
     ensures apart { IfOk result (λ apart. apart ≡ true → DefinersApart (R.held rows.now).maps) }
-    // Of sound rows it says so.
+    // Of sound rows the answer is yes.
     ensures sound { IsSound (R.held rows.now).maps → IfOk result (λ apart. apart ≡ true) }
 {
     let mut known = BTreeMap::new(alloc);

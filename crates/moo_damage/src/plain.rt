@@ -34,9 +34,9 @@ pub(crate) fn are_plain<R: Rows>(rows: &R) -> bool
     first_bad::<ObjRow, R, _>(rows, |x, row| !is_plain_object(rows, x, row)).is_none()
 }
 
-/// The least object whose number was never given; `None` if there is none. It isn't looked for if the objects are known to be right
-/// (`are_plain`).
+/// The least object whose number was never given; `None` if there is none, as is known without a look if `are_plain`.
 pub(crate) fn past_object<R: Rows>(rows: &R, are_plain: bool) -> Option<ObjNo>
+    // `are_plain` is true only if one look at each object shows that it is right.
     requires { are_plain ≡ true → ArePlain (R.held rows.now).maps }
     ensures { IsLeastPassing (R.held rows.now).maps.objects (λ x _. is_object_past (R.held rows.now).maps.head x) result }
 {
@@ -46,9 +46,9 @@ pub(crate) fn past_object<R: Rows>(rows: &R, are_plain: bool) -> Option<ObjNo>
     first_past::<ObjRow, R>(rows)
 }
 
-/// The least object whose link names neither an object nor `#-1`; `None` if there is none. It isn't looked for if the objects are known to
-/// be right (`are_plain`).
+/// The least object whose link names neither an object nor `#-1`; `None` if there is none, as is known without a look if `are_plain`.
 pub(crate) fn lost_object<R: Rows>(rows: &R, link: TreeLink, are_plain: bool) -> Option<ObjNo>
+    // `are_plain` is true only if one look at each object shows that it is right.
     requires { are_plain ≡ true → ArePlain (R.held rows.now).maps }
     ensures { IsLeastPassing (R.held rows.now).maps.objects (λ _ row. is_lost link (R.held rows.now).maps row) result }
 {
@@ -58,8 +58,7 @@ pub(crate) fn lost_object<R: Rows>(rows: &R, link: TreeLink, are_plain: bool) ->
     first_lost(rows, link)
 }
 
-/// The least object whose chain of links doesn't end; `None` if there is none. It isn't looked for if the objects are known to be right
-/// (`are_plain`). The only error is a lack of memory.
+/// The least object whose chain of links doesn't end; `None` if there is none, as is known if `are_plain`. AllocError: memory ran out.
 pub(crate) fn looping_object<R: Rows>(
     alloc: Global,
     rows: &R,
@@ -68,6 +67,7 @@ pub(crate) fn looping_object<R: Rows>(
 ) -> Result<Option<ObjNo>, AllocError>
     // Each link names an object or `#-1`.
     requires links { LinksHold link (R.held rows.now).maps }
+    // `are_plain` is true only if one look at each object shows that it is right.
     requires plain { are_plain ≡ true → ArePlain (R.held rows.now).maps }
     ensures { IfOk result (IsFirstLoop link (R.held rows.now).maps) }
 {

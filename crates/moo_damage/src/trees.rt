@@ -77,7 +77,7 @@ fn links_descend<R: Rows>(rows: &R, link: TreeLink) -> bool
 }
 
 /// The objects from x up its chain of links to one whose chain is known to end, or to the end; `None` if the chain doesn't end. The only
-/// error is out of memory.
+/// error is a lack of memory.
 fn unended_chain<R: Rows>(
     alloc: Global,
     rows: &R,

@@ -12,8 +12,7 @@ use moo_value::{MooStr, ObjNo, Value};
 use moo_world::Reason;
 use std::alloc::{AllocError, Global};
 
-/// The first of the names of the properties which an object defines that the new parent has a property of. `None` if there is none among
-/// the first 200 names.
+/// The first name among an object's own properties of which the new parent has a property too; `None` if none of the first 200 is so.
 fn name_shared<R: Rows>(rows: &R, definer: ObjNo, new: ObjNo) -> Option<&MooStr>
     // The rows are those of a well formed world.
     requires { IsGood (R.held rows.now).maps }

@@ -31,15 +31,15 @@ pub fn disclosure_of<R: Rows>(
     reason: Reason,
     is_held: bool,
 ) -> Result<Disclosure, AllocError>
-    // The rows of a call that a granted petition holds may be half changed; those of others are good ones.
+    // The rows are good ones, unless a granted petition holds the call: then they may be half changed.
     requires { is_held ≡ false → IsGood (R.held rows.now).maps }
-    // It tells the names that the call may have meant.
+    // If the call is one of the batch itself, `meant` has the names that it may have meant.
     ensures meant { IfOk result (λ told. is_held ≡ false →
         told.meant.items ≡ names_meant (world_of (R.held rows.now).maps) programmer call args.now reason) }
-    // It tells the name that keeps the object from its new parent.
+    // If the call is one of the batch itself, `clash` is the name that keeps an object from its new parent, if it may be told.
     ensures clash { IfOk result (λ told. is_held ≡ false →
         told.clash ≡ clash_name (world_of (R.held rows.now).maps) programmer args.now reason) }
-    // Of a call that a granted petition holds it tells no name.
+    // Of a call that a granted petition holds no name is told.
     ensures held { IfOk result (λ told. is_held ≡ true → (told.meant.items ≡ []) × (told.clash ≡ None)) }
 {
     if is_held {

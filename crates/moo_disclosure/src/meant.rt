@@ -128,8 +128,8 @@ fn lacks_property(reason: Reason) -> bool
     )
 }
 
-/// The names among which a refused call may have meant one: the first 200 that its programmer may list. None if the call isn't refused for
-/// the want of a property, or if the object has a property of the name that is given. The only error is a lack of memory.
+/// The names among which a refused call may have meant one: the first 200 that its programmer may list where the call looks. No names if it
+/// isn't refused for the want of a property, or if the object has a property of the name given. The only error is a lack of memory.
 pub(crate) fn names_meant<R: Rows>(
     alloc: Global,
     rows: &R,

@@ -7,8 +7,7 @@ use moo_calls_shared::rights::is_wizard;
 use moo_rows::{PetitionId, Rows};
 use moo_value::{ObjNo, ValueList};
 
-/// What the petition of a number asks for. `None` if there is none, or if the programmer may not see it: one sees one's own, and a wizard
-/// sees any.
+/// The calls that a petition asks for. `None` if no petition has the number, or if the programmer neither made it nor is a wizard.
 pub fn calls_seen<R: Rows>(rows: &R, programmer: ObjNo, id: PetitionId) -> Option<&ValueList>
     ensures { option_map (λ calls. calls.now) result ≡ calls_seen (R.held rows.now).maps programmer id }
 {

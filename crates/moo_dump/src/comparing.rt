@@ -38,7 +38,7 @@ fn common_prefix_len(a: &[u8], b: &[u8]) -> usize
     // Each of the two has so many bytes.
     ensures first { result ≤ length a.now }
     ensures second { result ≤ length b.now }
-    // These are the same, and the next byte of `b`, if there is one, isn't that of `a`.
+    // So many bytes in front are the same, and the next byte of `b`, if there is one, isn't that of `a`.
     ensures shared { take result a.now ≡ take result b.now }
     ensures longest { result < length b.now → slice_get b.now result ≢ slice_get a.now result }
 {
@@ -59,7 +59,7 @@ fn after_piece(text: &[u8], at: usize, piece: &[u8]) -> Result<usize, CompareFau
     ensures within { IfOk result (λ next. next ≤ length text.now) }
     // Up to there the text is what it was up to `at`, and then the piece.
     ensures ok { IfOk result (λ next. take next text.now ≡ take at text.now ++ piece.now) }
-    // A fault names the first difference, whatever the dump has after the piece.
+    // A fault names the first difference, with any bytes of the dump after the piece; unless memory ran out.
     ensures err { IfErr result (λ fault. (rest : List ℕ) → TellsDifference (take at text.now ++ (piece.now ++ rest)) text.now fault) }
 {
     let count = common_prefix_len(&text[at..], piece);
@@ -69,7 +69,7 @@ fn after_piece(text: &[u8], at: usize, piece: &[u8]) -> Result<usize, CompareFau
     Ok(at + count)
 }
 
-/// The place at which a text goes on after the lines of the objects, which begin at `start`. Differs if the text doesn't have these lines
+/// The place at which a text goes on after the lines of the objects, which begin at `start`. Differs if the text doesn't have the lines
 /// there; OutOfMemory if memory runs out.
 fn after_objects<R: Rows>(
     alloc: Global,
@@ -80,14 +80,14 @@ fn after_objects<R: Rows>(
 ) -> Result<usize, CompareFault>
     // The rows are those of a well formed world.
     requires good { IsGood (R.held rows.now).maps }
-    // The outline is of these rows.
+    // The outline is that of the rows.
     requires outline { IsOutline (R.held rows.now).maps outline.now }
     // The text has the place `start`, and the place at which it goes on.
     requires start { start ≤ length text.now }
     ensures within { IfOk result (λ next. next ≤ length text.now) }
     // Up to there the text is what it was up to `start`, and then the lines of the objects.
     ensures ok { IfOk result (λ next. take next text.now ≡ take start text.now ++ objects_text (R.held rows.now).maps) }
-    // A fault names the first difference, whatever the dump has after these lines.
+    // A fault names the first difference, with any bytes of the dump after the lines; unless memory ran out.
     ensures err { IfErr result (λ fault. (rest : List ℕ)
         → TellsDifference (take start text.now ++ (objects_text (R.held rows.now).maps ++ rest)) text.now fault) }
 {
@@ -99,7 +99,7 @@ fn after_objects<R: Rows>(
     Ok(at)
 }
 
-/// The place at which a text goes on after the lines of the petitions, which begin at `start`. Differs if the text doesn't have these lines
+/// The place at which a text goes on after the lines of the petitions, which begin at `start`. Differs if the text doesn't have the lines
 /// there; OutOfMemory if memory runs out.
 fn after_petitions<R: Rows>(
     alloc: Global,
@@ -112,7 +112,7 @@ fn after_petitions<R: Rows>(
     ensures within { IfOk result (λ next. next ≤ length text.now) }
     // Up to there the text is what it was up to `start`, and then the lines of the petitions.
     ensures ok { IfOk result (λ next. take next text.now ≡ take start text.now ++ petitions_text (R.held rows.now).maps) }
-    // A fault names the first difference, whatever the dump has after these lines.
+    // A fault names the first difference, with any bytes of the dump after the lines; unless memory ran out.
     ensures err { IfErr result (λ fault. (rest : List ℕ)
         → TellsDifference (take start text.now ++ (petitions_text (R.held rows.now).maps ++ rest)) text.now fault) }
 {
@@ -126,13 +126,11 @@ fn after_petitions<R: Rows>(
 
 /// Compares a text with the dump of the rows, of which the lines of one object at a time are in memory.
 ///
-/// Differs with the place of the first difference, if the text isn't the dump; OutOfMemory if memory runs out.
-///
-/// It takes the look-ups that a dump takes.
+/// Differs with the place of the first difference, if there is one; OutOfMemory if memory runs out. It takes the look-ups of a dump.
 pub fn compare<R: Rows>(alloc: Global, rows: &R, text: &[u8]) -> Result<(), CompareFault>
     // The rows are those of a well formed world.
     requires { IsGood (R.held rows.now).maps }
-    // If it answers Ok, the text is the dump, byte for byte.
+    // Without a fault the text is the dump, byte for byte.
     ensures ok { OnOk result (dump (state_of (R.held rows.now).maps) ≡ text.now) }
     // A fault names the first difference, unless memory ran out.
     ensures err { IfErr result (TellsDifference (dump (state_of (R.held rows.now).maps)) text.now) }

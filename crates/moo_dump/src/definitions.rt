@@ -31,7 +31,7 @@ fn add_definition(
     definer: ObjNo,
     id: PropId,
 ) -> Result<(), AllocError>
-    // The list of that object has the property more, and every other list stays.
+    // The list of the definer has the property more, as the last, and every other list stays.
     ensures { OnOk result ((d : ObjNo) →
         ids_listed definitions.new d ≡ ids_listed definitions.old d ++ (if same_object definer d then id ∷ [] else [])) }
 {

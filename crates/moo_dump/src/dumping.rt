@@ -41,10 +41,10 @@ fn write_objects<R: Rows, W: Write>(
 ) -> Result<(), RowsDumpFault>
     // The rows are those of a well formed world.
     requires good { IsGood (R.held rows.now).maps }
-    // The outline is of these rows.
+    // The outline is that of the rows.
     requires outline { IsOutline (R.held rows.now).maps outline.now }
     ensures ok { OnOk result (Appends (W.contents output.old) (W.contents output.new) (objects_text (R.held rows.now).maps)) }
-    // At a fault the first bytes of the lines are written, some number of them.
+    // At a fault the first bytes of the lines are written, 0 or more of them.
     ensures err { OnErr result (AppendsFront (W.contents output.old) (W.contents output.new) (objects_text (R.held rows.now).maps)) }
 {
     for (x, _) in each_object(rows) {
@@ -62,7 +62,7 @@ fn put_petitions<R: Rows, W: Write>(
     output: &mut W,
 ) -> Result<(), RowsDumpFault>
     ensures ok { OnOk result (Appends (W.contents output.old) (W.contents output.new) (petitions_text (R.held rows.now).maps)) }
-    // At a fault the first bytes of the lines are written, some number of them.
+    // At a fault the first bytes of the lines are written, 0 or more of them.
     ensures err { OnErr result (AppendsFront (W.contents output.old) (W.contents output.new) (petitions_text (R.held rows.now).maps)) }
 {
     for (id, row) in each_petition(rows) {
@@ -87,7 +87,7 @@ pub fn dump<R: Rows, W: Write>(alloc: Global, rows: &R, output: &mut W) -> Resul
     requires { IsGood (R.held rows.now).maps }
     // The dump of the rows is written after what the writer had, and nothing else.
     ensures ok { OnOk result (Appends (W.contents output.old) (W.contents output.new) (dump (state_of (R.held rows.now).maps))) }
-    // At a fault the first bytes are written, some number of them.
+    // At a fault the first bytes of the dump are written, 0 or more of them.
     ensures err { OnErr result ((count : ℕ)
         × Appends (W.contents output.old) (W.contents output.new) (take count (dump (state_of (R.held rows.now).maps)))) }
 {

@@ -110,8 +110,7 @@ pub(crate) fn put_slot_line(
     put_line(alloc, b"slot", values, out)
 }
 
-/// The argument specifiers of a verb as strings: the direct object, the preposition and the indirect object. The only error is a lack of
-/// memory.
+/// The argument specifiers of a verb as strings: the direct object, the preposition and the indirect object. AllocError: memory ran out.
 fn arg_strings(alloc: Global, args: ArgSpec) -> Result<(Value, Value, Value), AllocError>
     ensures dobj { IfOk result (λ texts. texts.0 ≡ Value.Str (object_spec_text args.dobj)) }
     ensures prep { IfOk result (λ texts. texts.1 ≡ Value.Str (prep_text args.prep)) }

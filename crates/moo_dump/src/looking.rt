@@ -14,7 +14,7 @@ use std::alloc::{AllocError, Global};
 /// What an object looks like; `None` if no object has the number. The only error is a lack of memory.
 #[tactic(auto, unfolding(moo_world::specs::Rows::world_shown))]
 pub fn look<R: Rows>(alloc: Global, rows: &R, x: ObjNo) -> Result<Option<Look>, AllocError>
-    // Parents and locations are objects or `#-1`, without loops.
+    // Parents and locations are objects or `#-1`, without loops, and each object's number was given.
     requires { IsTree (world_of (R.held rows.now).maps) }
     ensures { IfOk result (λ look. look ≡ look_of (world_of (R.held rows.now).maps) x) }
 {

@@ -78,11 +78,11 @@ fn put_slots<R: Rows>(
     x: ObjNo,
     out: &mut Vec<u8>,
 ) -> Result<(), AllocError>
-    // Parents and locations are objects or `#-1`, without loops.
+    // Parents and locations are objects or `#-1`, without loops, and each object's number was given.
     requires tree { IsTree (world_of (R.held rows.now).maps) }
-    // The outline is of these rows.
+    // The outline is that of the rows.
     requires outline { IsOutline (R.held rows.now).maps outline.now }
-    // The lines are those of the slots of all properties that an object of its chain defines.
+    // The lines are those of the slots on x of the properties that objects of its chain define, by definers in order.
     ensures { OnOk result (out.new.items
         ≡ out.old.items ++ slot_lines_over (R.held rows.now).maps x (chain (world_of (R.held rows.now).maps) x)) }
 {
@@ -101,6 +101,7 @@ fn put_verbs<R: Rows>(
     x: ObjNo,
     out: &mut Vec<u8>,
 ) -> Result<(), AllocError>
+    // The rows are sound.
     requires { IsSound (R.held rows.now).maps }
     ensures { OnOk result (out.new.items
         ≡ out.old.items ++ flat_map (verb_line x) (directory_of (world_of (R.held rows.now).maps) x)) }
@@ -121,7 +122,7 @@ pub(crate) fn object_lines<R: Rows>(
 ) -> Result<Vec<u8>, AllocError>
     // The rows are those of a well formed world.
     requires good { IsGood (R.held rows.now).maps }
-    // The outline is of these rows.
+    // The outline is that of the rows.
     requires outline { IsOutline (R.held rows.now).maps outline.now }
     ensures { IfOk result (λ text. text.items ≡ object_lines (world_of (R.held rows.now).maps) x) }
 {

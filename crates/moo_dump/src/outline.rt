@@ -20,7 +20,7 @@ pub(crate) struct Outline {
 
 /// The outline of all objects. The only error is a lack of memory.
 pub(crate) fn outline_of<R: Rows>(alloc: Global, rows: &R) -> Result<Outline, AllocError>
-    // Parents and locations are objects or `#-1`, without loops.
+    // Parents and locations are objects or `#-1`, without loops, and each object's number was given.
     requires { IsTree (world_of (R.held rows.now).maps) }
     ensures { IfOk result (IsOutline (R.held rows.now).maps) }
 {

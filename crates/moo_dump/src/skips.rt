@@ -27,8 +27,8 @@ pub(crate) fn skip_up_from(skips: &Skips, x: ObjNo) -> ObjNo
     }
 }
 
-/// The objects from x up its chain that define nothing and have no entry yet, and the object at which the way up goes on after them: one
-/// that defines something, one that an entry leads to, or `#-1`. The only error is a lack of memory.
+/// The objects from x up its chain that define nothing and have no entry yet, and where the way up goes on after them: the next object that
+/// defines something, the object that an entry leads to, or `#-1`. The only error is a lack of memory.
 fn way_up<R: Rows>(
     alloc: Global,
     rows: &R,
@@ -36,13 +36,13 @@ fn way_up<R: Rows>(
     skips: &Skips,
     x: ObjNo,
 ) -> Result<(Vec<ObjNo>, ObjNo), AllocError>
-    // Parents and locations are objects or `#-1`, without loops.
+    // Parents and locations are objects or `#-1`, without loops, and each object's number was given.
     requires tree { IsTree (world_of (R.held rows.now).maps) }
-    // The definitions are those of these rows.
+    // The definitions are those of the rows.
     requires listed { ListsDefinitions (R.held rows.now).maps definitions.now }
     // Each entry that there is leads up.
     requires up { SkipUp (R.held rows.now).maps skips.now }
-    // An entry for each of the objects leads up.
+    // From each of the objects an entry to the object that is answered leads up.
     ensures { IfOk result (λ way. AllByRecursion (λ y. LeadsUp (R.held rows.now).maps y way.1) way.0.items) }
 {
     let mut way = Vec::new(alloc);
@@ -62,7 +62,7 @@ fn way_up<R: Rows>(
 
 /// Adds an entry for each object of a way, which leads to the object `above`. The only error is a lack of memory.
 fn add_way(skips: &mut Skips, way: &[ObjNo], above: ObjNo) -> Result<(), AllocError>
-    // If each entry led up, and the new ones do, each entry does.
+    // If each entry led up before, and one from each object of the way to `above` does, each entry leads up afterwards.
     ensures { OnOk result ((t : Maps) → SkipUp t skips.old → AllByRecursion (λ y. LeadsUp t y above) way.now → SkipUp t skips.new) }
 {
     for y in way {
@@ -79,9 +79,9 @@ pub(crate) fn all_skips<R: Rows>(
     rows: &R,
     definitions: &Definitions,
 ) -> Result<Skips, AllocError>
-    // Parents and locations are objects or `#-1`, without loops.
+    // Parents and locations are objects or `#-1`, without loops, and each object's number was given.
     requires tree { IsTree (world_of (R.held rows.now).maps) }
-    // The definitions are those of these rows.
+    // The definitions are those of the rows.
     requires listed { ListsDefinitions (R.held rows.now).maps definitions.now }
     // Each entry leads up the chain of its object, past objects that define nothing.
     ensures { IfOk result (SkipUp (R.held rows.now).maps) }

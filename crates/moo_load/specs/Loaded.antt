@@ -7,7 +7,7 @@ use Rattle.moo_load.specs.declared.fault.LoadFault.{LoadFault}
 use Rattle.moo_load.specs.declared.fault.LoadFault.TheVariants.{NotADump, Damaged, OutOfMemory}
 use Rattle.moo_load.specs.Lines.{IsLineOf}
 
--- the text has a line of this number; or rows within the limits have this damage, and none before it
+-- the text has a line of the number; or some rows within the limits have the damage, and none before it
 abbrev pub SaysOfText : List ℕ → LoadFault → Type 0
 SaysOfText text (NotADump line why) = IsLineOf text line
 SaysOfText text (Damaged kind key) = (m : Maps) × AreWithin m × IsFirstInRows m kind key

@@ -63,6 +63,7 @@ pub(crate) fn difference_at<R: Rows>(
     text: &[u8],
     place: usize,
 ) -> Result<DumpReason, AllocError>
+    // The rows are those of a well formed world.
     requires { IsGood (R.held rows.now).maps }
 {
     let mut whole = Vec::new(alloc);

@@ -17,9 +17,8 @@ use std::alloc::AllocError;
 pub enum LoadFault {
     /// The line of this number, from 1, isn't as a dump has it, or is missing; and what is wrong with it.
     NotADump(u64, DumpReason),
-    /// Each line can be read, and the rows show no world: the first kind of damage, with the least key at which it is.
-    /// Objects and petitions have the numbers that the text gives them. Properties and verbs are numbered from 1, in the order
-    /// of the text.
+    /// Each line can be read, and the rows show no world: the first kind of damage, with the least key at which it is. Objects and
+    /// petitions have the numbers that the text gives them. Properties and verbs are numbered from 1, in the order of the text.
     Damaged(Kind, Key),
     /// Memory ran out.
     OutOfMemory,
@@ -65,13 +64,13 @@ impl From<LiteralFault> for LineFault {
 }
 
 impl LineFault {
-    /// The fault of the text whose line at the place `at` has this fault: it names the line by its number.
+    /// The fault of the text whose line at the place `at` has this fault: NotADump with the number of the line, or OutOfMemory.
     pub(crate) fn within(self, text: &[u8], at: usize) -> LoadFault
         // The text has the place.
         requires { at ≤ length text.now }
         // The text has a line of the number.
         ensures says { SaysOfText text.now result }
-        // It is OutOfMemory if the fault of the line is.
+        // The fault is OutOfMemory if that of the line is.
         ensures line { result ≢ OutOfMemory → self ≢ none_left }
     {
         match self {

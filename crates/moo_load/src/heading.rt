@@ -53,9 +53,9 @@ fn assigned_of(value: &Value) -> LineResult<i32>
 /// The value of a line that is a prefix and one literal. NoHeading without the prefix, else the fault of the literal.
 fn value_after(alloc: Global, prefix: &[u8], line: &[u8]) -> LineResult<Value>
     ensures fits { IfOk result (λ value. Fits value) }
-    // If the line is the prefix and the literal of a value, it is that value.
+    // If the line is the prefix and the literal of a value, the answer is the value.
     ensures ok { IfOk result (λ value. (v : Value) → Fits v → line.now ≡ prefix.now ++ print v → value ≡ v) }
-    // There is a fault, but for out of memory, only if it isn't such a line.
+    // There is a fault, but for out of memory, only if the line isn't so.
     ensures err { IfErr result (λ fault. fault ≢ LineFault.OutOfMemory → (v : Value) → Fits v → line.now ≢ prefix.now ++ print v) }
 {
     let literal = after_prefix(prefix, line, DumpReason::NoHeading)?;
@@ -66,26 +66,25 @@ fn value_after(alloc: Global, prefix: &[u8], line: &[u8]) -> LineResult<Value>
 /// How many batches were accepted, from a line `seq N`. NoHeading, or the fault of the literal, for any other line.
 fn seq_of(alloc: Global, line: &[u8]) -> LineResult<u64>
     ensures limit { IfOk result (λ seq. seq < 2 ^ 63) }
-    // If the line is `seq` and a number below 2^63, it is that number.
+    // If the line is `seq` and a number below 2^63, the answer is the number.
     ensures ok { IfOk result (λ seq. (n : ℕ) → n < 2 ^ 63 → line.now ≡ codes "seq " ++ decimal n → seq ≡ n) }
-    // There is a fault, but for out of memory, only if it isn't such a line.
+    // There is a fault, but for out of memory, only if the line isn't so.
     ensures err { IfErr result (λ fault. fault ≢ LineFault.OutOfMemory → (n : ℕ) → n < 2 ^ 63 → line.now ≢ codes "seq " ++ decimal n) }
 {
     let value = value_after(alloc, b"seq ", line)?;
     count_of(&value)
 }
 
-/// The greatest number that an object was given, -1 for none, from a line `top #N`. NoHeading, or the fault of the literal, for any other
-/// line.
+/// The greatest number that an object was given, -1 for none, from a line `top #N`. NoHeading, or the literal's fault, for another line.
 fn top_of(alloc: Global, line: &[u8]) -> LineResult<i32>
     // The number is one that an object may have, or -1.
     ensures least { IfOk result (λ top. negsuc 0 ≤ℤ top) }
     ensures most { IfOk result (λ top. top ≤ℤ pos 2147483647) }
     ensures fits { IfOk result (λ top. FitsSigned w32 top) }
-    // If the line is `top` and an object of such a number, it is that number.
+    // If the line is `top` and an object of such a number, the answer is the number.
     ensures ok { IfOk result (λ top. (x : ObjNo) → negsuc 0 ≤ℤ x.0 → x.0 ≤ℤ pos 2147483647 → line.now ≡ codes "top " ++ print (Obj x) →
         top ≡ x.0) }
-    // There is a fault, but for out of memory, only if it isn't such a line.
+    // There is a fault, but for out of memory, only if the line isn't so.
     ensures err { IfErr result (λ fault. fault ≢ LineFault.OutOfMemory → (x : ObjNo) → negsuc 0 ≤ℤ x.0 → x.0 ≤ℤ pos 2147483647 →
         line.now ≢ codes "top " ++ print (Obj x)) }
 {
@@ -96,10 +95,10 @@ fn top_of(alloc: Global, line: &[u8]) -> LineResult<i32>
 /// The head that the first two lines give, in which the next property, verb and petition are number 1; and the place at which the third
 /// line begins. NotADump with the line that can't be read; OutOfMemory if memory runs out.
 pub(crate) fn read_heading(alloc: Global, text: &[u8]) -> Result<(Head, usize), LoadFault>
-    // With this head and no row, the rows are within their limits.
+    // With the head and no row, rows are within their limits, and fewer than 2^63 batches were accepted.
     ensures read { IfOk result (λ r. AreRead (record no_maps { head = r.0 })) }
     ensures start { IfOk result (λ r. r.1 ≤ length text.now) }
-    // The heading of a state is read as its head.
+    // If the text begins with a state's heading, the head has its `seq` and `top`, and the next numbers 1; the rest begins at the place.
     ensures ok { IfOk result (λ r. (s : State) (rest : List ℕ) → IsHeld s → text.now ≡ heading s ++ rest → (r.0 ≡ first_head s)
         × (drop r.1 text.now ≡ rest)) }
     // There is a fault, but for out of memory, only if the text doesn't begin with the heading of a state.

@@ -35,15 +35,15 @@ impl From<AllocError> for InputFault {
 /// Errors: `Read` if the reader fails, also if it was interrupted; `TooLong` if it gives more than 1,073,741,824 bytes, of which
 /// one more is read; `OutOfMemory` if memory runs out.
 pub fn read_text<R: Read>(alloc: Global, reader: &mut R) -> Result<Vec<u8>, InputFault>
-    // The text is what the reader gave.
+    // The text is the bytes that the reader gave.
     ensures given { IfOk result (λ text. Consumes (R.remaining reader.old) (R.remaining reader.new) text.items) }
-    // The reader is at its end.
+    // The reader has no byte left to give, if it is known what it has left.
     ensures end { OnOk result (IsAtEnd (R.remaining reader.new)) }
-    // If it is known what the reader had left to give, the text is all of that.
+    // If it is known what the reader had left to give, the text is all of it.
     ensures whole { IfOk result (λ text. IfSome (R.remaining reader.old) (λ bytes. text.items ≡ bytes)) }
-    // It is within the limit.
+    // The text has at most 1,073,741,824 bytes.
     ensures limit { IfOk result (λ text. length text.items ≤ LONGEST_TEXT) }
-    // It is too long only if more than that was left to give, where that is known.
+    // If it is known what the reader had left to give, the fault is TooLong only if that was more than 1,073,741,824 bytes.
     ensures long { IfErr result (λ fault. fault ≡ TooLong → IfSome (R.remaining reader.old) (λ bytes. LONGEST_TEXT < length bytes)) }
 {
     let mut text = Vec::new(alloc);

@@ -15,13 +15,13 @@ pub fn one_state()
     ensures { (s t : State) → IsHeld s → IsHeld t → dump s ≡ dump t → AreTheSame s t }
 {}
 
-/// The rows that the dump of a well formed state is read as are good, and they show the state, with the same dump.
+/// The rows of a well formed state, with a number left for each property and each verb, are good ones, and show the state.
 pub fn rows_show_the_state()
-    // The rows are good ones, for a state with a number left for each property and verb.
+    // The rows are good ones.
     ensures good { (s : State) (m : Maps) → IsHeld s → HasNumbers s → AreRowsOf s m → IsGood m }
-    // They show the state, but for the numbers of the next property, verb and petition.
+    // The rows show the state, but for the numbers of the next property, verb and petition.
     ensures same { (s : State) (m : Maps) → IsHeld s → HasNumbers s → AreRowsOf s m → AreTheSame (state_of m) s }
-    // They have its dump.
+    // The dump of the rows is that of the state.
     ensures dump { (s : State) (m : Maps) → IsHeld s → HasNumbers s → AreRowsOf s m → dump (state_of m) ≡ dump s }
 {}
 

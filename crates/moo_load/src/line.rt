@@ -25,7 +25,7 @@ pub(crate) enum Word {
 /// The word that a line begins with, and the bytes after the space that follows it. NoRow if it begins with no such word and a space.
 pub(crate) fn split_keyword(line: &[u8]) -> LineResult<(Word, &[u8])>
     ensures ok { IfOk result (λ r. line.now ≡ word_text r.0 ++ 32 ∷ r.1.now) }
-    // There is a fault only if it doesn't begin with one of the five words and a space.
+    // There is a fault only if the line doesn't begin with one of the five words and a space.
     ensures err { IfErr result (λ _. (word : Word) (rest : List ℕ) → line.now ≢ word_text word ++ 32 ∷ rest) }
 {
     if let Ok(literal) = after_prefix(b"object ", line, DumpReason::NoRow) {
@@ -46,7 +46,7 @@ pub(crate) fn split_keyword(line: &[u8]) -> LineResult<(Word, &[u8])>
     Err(LineFault::Unreadable(DumpReason::NoRow))
 }
 
-/// The bytes after a prefix. Without the prefix they are unreadable for the reason `why`.
+/// The bytes after a prefix. Without the prefix the error is Unreadable, for the reason `why`.
 pub(crate) fn after_prefix<'a>(
     prefix: &[u8],
     bytes: &'a [u8],
@@ -65,9 +65,9 @@ pub(crate) fn after_prefix<'a>(
 /// The values of a literal list that has one at least. Each may nest 32 deep: the list itself isn't counted. NoList, NoSeparator, or the
 /// fault of a value, for other bytes; OutOfMemory if memory runs out.
 pub(crate) fn values_of(alloc: Global, literal: &[u8]) -> LineResult<Vec<Value>>
-    // If the bytes are the literal of a list of such values, these are its values.
+    // If the bytes are a list as it is printed, of values within their limits, the answer is its values.
     ensures ok { IfOk result (λ r. (v : Value) (vs : List Value) → ArePrinted (v ∷ vs) literal.now → r.items ≡ v ∷ vs) }
-    // There is a fault, but for out of memory, only if the bytes aren't such a literal.
+    // There is a fault, but for out of memory, only if the bytes aren't such a list.
     ensures err { IfErr result (λ fault. fault ≢ LineFault.OutOfMemory → (v : Value) (vs : List Value) →
         ¬ (ArePrinted (v ∷ vs) literal.now)) }
 {
@@ -97,7 +97,7 @@ pub(crate) fn next_line(text: &[u8], at: usize) -> Result<&[u8], LoadFault>
     requires { at ≤ length text.now }
     // The line and its end are in the text.
     ensures ok { IfOk result (λ line. at + length line.now < length text.now) }
-    // If bytes without a line end, and then one, begin at the place, these bytes are the line.
+    // If bytes without a line end begin at the place, and a line end follows, the bytes are the line.
     ensures found { (line rest : List ℕ) → IsOneLine line → drop at text.now ≡ line ++ 10 ∷ rest → IsOkAnd result (λ l. l.now ≡ line) }
     // The text has a line of the number that a fault names.
     ensures err { IfErr result (SaysOfText text.now) }

@@ -43,13 +43,13 @@ fn check_dump<R: Rows>(alloc: Global, rows: &R, text: &[u8]) -> Result<(), LoadF
 /// Tests whether the rows show a world, and whether its dump is the text. Damaged with the first kind of damage, NotADump with the first
 /// line that differs, OutOfMemory if memory runs out.
 fn judge_rows<R: Rows>(alloc: Global, rows: &R, text: &[u8]) -> Result<(), LoadFault>
-    // Each row is within the limits of its columns.
+    // The counters of the head and each row are within the limits of their columns.
     requires { AreWithin (R.held rows.now).maps }
     ensures good { OnOk result (IsGood (R.held rows.now).maps) }
     ensures same { OnOk result (dump (state_of (R.held rows.now).maps) ≡ text.now) }
-    // The text has a line of the number that a fault names; or rows have the damage, and none before it.
+    // The text has a line of the number that a fault names; or rows within their limits have the damage, and none before it.
     ensures fault { IfErr result (SaysOfText text.now) }
-    // The rows of a state aren't refused if the text is its dump.
+    // The rows of a state with numbers left are refused, if the text is its dump, only if memory runs out.
     ensures complete { IfErr result (λ fault. fault ≢ LoadFault.OutOfMemory → (s : State) → IsHeld s → HasNumbers s → dump s ≡ text.now
         → ¬ (AreRowsOf s (R.held rows.now).maps)) }
 {
@@ -66,23 +66,22 @@ fn judge_rows<R: Rows>(alloc: Global, rows: &R, text: &[u8]) -> Result<(), LoadF
 ///
 /// The dump of a well formed state, if it has fewer than 4,294,967,295 bytes, is refused only if memory runs out.
 ///
-/// Errors: `NotADump` with the number of the first line that can't be read, or if each can, that differs from the dump of what
-/// was read, and with what is wrong with it; `Damaged` if each line can be read and the rows show no world; `OutOfMemory` if
-/// memory runs out.
+/// Errors: `NotADump` with the number of the first line that can't be read, or if each can, that differs from the dump of what was read,
+/// and with what is wrong with it; `Damaged` if each line can be read and the rows show no world; `OutOfMemory` if memory runs out.
 ///
 /// Its time grows in step with the text, but for the look-ups in ordered maps. The rows are held in memory once, beside the text.
 pub fn read_dump(alloc: Global, text: &[u8]) -> Result<Flat, LoadFault>
     // The dump of the rows is the text, byte for byte.
     ensures loaded { IfOk result (λ rows. dump (state_of rows.maps) ≡ text.now) }
-    // The rows are those of a world.
+    // The rows are good ones: sound rows of a well formed world, with petitions as they may be beside it.
     ensures good { IfOk result (λ rows. IsGood rows.maps) }
     // Fewer than 2^63 batches were accepted.
     ensures limit { IfOk result (λ rows. rows.maps.head.seq < 2 ^ 63) }
-    // Properties and verbs have the numbers of their order in the text. The next number of each kind is one above the last.
+    // Properties and verbs are numbered from 1, in the order of the dump. The next number of each kind is one above the last.
     ensures numbered { IfOk result (λ rows. AreRowsOf (state_of rows.maps) rows.maps) }
-    // The text has a line of the number that a fault names; or rows have the damage, and none before it.
+    // The text has a line of the number that a fault names; or rows within their limits have the damage, and none before it.
     ensures fault { IfErr result (SaysOfText text.now) }
-    // No dump of a well formed state is refused. A longer one may have more properties or verbs than there are numbers.
+    // A well formed state's dump, after fewer than 2^63 batches, is refused only out of memory, or if it has 4,294,967,295 bytes or more.
     ensures complete { IfErr result (λ fault. fault ≢ LoadFault.OutOfMemory → length text.now < 4294967295 → (s : State) → IsHeld s →
         dump s ≢ text.now) }
 {

@@ -16,11 +16,11 @@ use std::alloc::Global;
 /// The number and the row of an object, from the values of its line. The error is the first value, from left to right, that isn't as a dump
 /// has it, or their count; or OutOfMemory.
 pub(crate) fn read_object(alloc: Global, values: &[Value]) -> LineResult<(ObjNo, ObjRow)>
-    // The values are those of its line.
+    // The values are those of the object's line.
     ensures shown { IfOk result (λ r. values.now ≡ object_values r.0 r.1) }
     // The row is within the limits of its columns.
     ensures fits { IfOk result (λ r. row_fits r.1 ≡ true) }
-    // There is a fault, but for out of memory, only if they aren't the values of such an object's line.
+    // There is a fault, but for out of memory, only if the values aren't those of the line of an object within its limits.
     ensures err { IfErr result (λ fault. fault ≢ LineFault.OutOfMemory → (x : ObjNo) (row : ObjRow) → row_fits row ≡ true →
         values.now ≢ object_values x row) }
 {

@@ -70,13 +70,13 @@ pub(crate) fn read_petition(
     alloc: Global,
     values: &[Value],
 ) -> LineResult<(PetitionId, PetitionRow)>
-    // The values are those of its line.
+    // The values are those of the petition's line.
     ensures shown { IfOk result (λ r. values.now ≡ petition_values r.0 r.1) }
     // A petition may hold the calls, and the number is 1 to 4,294,967,294.
     ensures fits { IfOk result (λ r. petition_fits r.1 ≡ true) }
     ensures some { IfOk result (λ r. 0 < r.0.0) }
     ensures below { IfOk result (λ r. r.0.0 < 4294967295) }
-    // There is a fault, but for out of memory, only if they aren't the values of such a petition's line.
+    // There is a fault, but for out of memory, only if the values aren't those of the line of a petition within its limits.
     ensures err { IfErr result (λ fault. fault ≢ LineFault.OutOfMemory → (id : PetitionId) (row : PetitionRow) → 0 < id.0 →
         id.0 < 4294967295 → petition_fits row ≡ true
         → values.now ≢ petition_values id row) }

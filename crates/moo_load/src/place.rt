@@ -34,7 +34,7 @@ pub(crate) fn line_from(text: &[u8], at: usize) -> Option<&[u8]>
     requires { at ≤ length text.now }
     // The line and its end are in the text.
     ensures within { IfSome result (λ line. at + length line.now < length text.now) }
-    // If bytes without a line end, and then one, begin at the place, these bytes are the line.
+    // If bytes without a line end begin at the place, and a line end follows, the bytes are the line.
     ensures found { (line rest : List ℕ) → IsOneLine line → drop at text.now ≡ line ++ 10 ∷ rest → IsSomeAnd result (λ l. l.now ≡ line) }
 {
     let rest = &text[at..];

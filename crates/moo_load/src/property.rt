@@ -24,10 +24,10 @@ fn is_property_name(name: &MooStr) -> bool
 /// The definer and the name of a property, from the values of its line. The error is the first value, from left to right, that isn't as a
 /// dump has it, or their count; or OutOfMemory.
 pub(crate) fn read_property(alloc: Global, values: &[Value]) -> LineResult<PropRow>
-    // The values are those of its line.
+    // The values are those of the property's line.
     ensures shown { IfOk result (λ row. values.now ≡ Obj row.definer ∷ Str row.name ∷ []) }
     ensures fits { IfOk result (λ row. is_property_name row.name ≡ true) }
-    // There is a fault, but for out of memory, only if they aren't the values of such a property's line.
+    // There is a fault, but for out of memory, only if the values aren't those of the line of a property that may have its name.
     ensures err { IfErr result (λ fault. fault ≢ LineFault.OutOfMemory → (row : PropRow) → is_property_name row.name ≡ true
         → values.now ≢ Obj row.definer ∷ Str row.name ∷ []) }
 {

@@ -30,7 +30,7 @@ fn take_line(alloc: Global, line: &[u8], rows: &mut Flat) -> LineResult<()>
     requires { AreRead rows.old.maps }
     // The rows are within their limits, and fewer than 2^63 batches were accepted.
     ensures read { OnOk result (AreRead rows.new.maps) }
-    // The line of an entry is taken as the entry, unless there is no number or no memory left.
+    // If the line is an entry's, whose row is within its limits, the row is put, unless it is a slot.
     ensures put { OnOk result ((e : Entry) → EntryFits e → line.now ++ 10 ∷ [] ≡ entry_text e →
         rows.new.maps ≡ entry_taken e rows.old.maps) }
     // There is a fault, but for out of memory, only if no entry has the line, or no number is left for it.
@@ -63,7 +63,7 @@ fn take_slot_line(
     requires { AreRead rows.old.maps }
     // The rows are within their limits, and fewer than 2^63 batches were accepted.
     ensures read { OnOk result (AreRead rows.new.maps) }
-    // The line of an entry puts its slot, if the slot's property is the next one of its definer.
+    // If the line is an entry's, its slot is put, if it has one and the slot's property is the next one of its definer.
     ensures put { IfOk result (λ put. (number : Property → PropId) (e : Entry) → EntryFits e →
         SlotIsNext number e (last, rows.old.maps) → line.now ++ 10 ∷ [] ≡ entry_text e
         → (put, rows.new.maps) ≡ slot_line_put number e (last, rows.old.maps)) }
@@ -90,7 +90,7 @@ fn take_lines(alloc: Global, text: &[u8], start: usize, rows: &mut Flat) -> Resu
     requires read { AreRead rows.old.maps }
     // The rows are within their limits, and fewer than 2^63 batches were accepted.
     ensures read { OnOk result (AreRead rows.new.maps) }
-    // The lines of entries are taken as the entries, unless there is no number or no memory left.
+    // If the lines are those of entries, and `end`, the rows of the entries are put, but for the slots.
     ensures put { OnOk result ((es : List Entry) → AllByRecursion EntryFits es → drop start text.now ≡ entry_lines es
         → rows.new.maps ≡ entries_taken es rows.old.maps) }
     // There is a fault, but for out of memory, only if no entries have the lines, or numbers aren't left for them.
@@ -122,7 +122,7 @@ fn take_slots(alloc: Global, text: &[u8], start: usize, rows: &mut Flat) -> Resu
     requires read { AreRead rows.old.maps }
     // The rows are within their limits, and fewer than 2^63 batches were accepted.
     ensures read { OnOk result (AreRead rows.new.maps) }
-    // The lines of entries put their slots, if each has the next property of its definer.
+    // If the lines are those of entries, and `end`, the slots of the entries are put, if each has the next property of its definer.
     ensures put { OnOk result ((number : Property → PropId) (es : List Entry) → AllByRecursion EntryFits es
         → EachHas (SlotIsNext number) (slot_line_put number) es (no_slot, rows.old.maps) → drop start text.now ≡ entry_lines es
         → rows.new.maps ≡ (carried (slot_line_put number) es (no_slot, rows.old.maps)).1) }
@@ -157,7 +157,7 @@ fn take_slots(alloc: Global, text: &[u8], start: usize, rows: &mut Flat) -> Resu
 pub(crate) fn read_lines(alloc: Global, text: &[u8]) -> Result<Flat, LoadFault>
     // The rows are within their limits, and fewer than 2^63 batches were accepted.
     ensures read { IfOk result (λ rows. AreRead rows.maps) }
-    // The dump of a state is read as the rows of the state, unless memory runs out.
+    // If the text is the dump of a state, the rows are those of the state.
     ensures put { IfOk result (λ rows. (s : State) → IsHeld s → dump s ≡ text.now → AreRowsOf s rows.maps) }
     // There is a fault, but for out of memory, only if the text isn't the dump of a state with numbers left.
     ensures err { IfErr result (λ fault. fault ≢ LoadFault.OutOfMemory → (s : State) → IsHeld s → HasNumbers s → dump s ≢ text.now) }

@@ -43,13 +43,12 @@ fn bits_of(value: &Value) -> LineResult<Bits>
     }
 }
 
-/// What a slot holds, from the last values of its line: clear for 0, set for 1 and a value. NoState for others; OutOfMemory if memory runs
-/// out.
+/// What a slot holds, by the last values of its line: clear for 0, set for 1 and a value. NoState for others; OutOfMemory: memory ran out.
 fn state_of(alloc: Global, values: &[Value]) -> LineResult<SlotState>
-    // The values are those that a dump writes of it.
+    // The values are those that a dump writes of the state.
     ensures shown { IfOk result (λ state. values.now ≡ state_values state) }
     ensures fits { IfOk result (λ state. state_fits state ≡ true) }
-    // There is a fault, but for out of memory, only if a dump writes them of no slot within the limits.
+    // There is a fault, but for out of memory, only if a dump writes the values of no state within the limits.
     ensures err { IfErr result (λ fault. fault ≢ LineFault.OutOfMemory → (state : SlotState) → state_fits state ≡ true →
         values.now ≢ state_values state) }
 {
@@ -69,11 +68,11 @@ fn state_of(alloc: Global, values: &[Value]) -> LineResult<SlotState>
 /// The slot that the values of its line say. The error is the first value, from left to right, that isn't as a dump has it, or their
 /// count; or OutOfMemory.
 pub(crate) fn read_slot(alloc: Global, values: &[Value]) -> LineResult<SlotLine>
-    // The values are those of its line.
+    // The values are those of the slot's line.
     ensures shown { IfOk result (λ slot. values.now ≡ slot_values slot.object slot.definer slot.name slot.row) }
     // The owner and the value are within their limits.
     ensures fits { IfOk result (λ slot. (is_number slot.row.owner && state_fits slot.row.state) ≡ true) }
-    // There is a fault, but for out of memory, only if they aren't the values of such a slot's line.
+    // There is a fault, but for out of memory, only if the values aren't those of the line of a slot whose value is within its limits.
     ensures err { IfErr result (λ fault. fault ≢ LineFault.OutOfMemory → (x definer : ObjNo) (name : Name) (row : SlotRow) →
         state_fits row.state ≡ true
         → values.now ≢ slot_values x definer name row) }

@@ -35,11 +35,11 @@ use std::alloc::Global;
 pub(crate) fn take_object(alloc: Global, values: &[Value], rows: &mut Flat) -> LineResult<()>
     // The rows are within their limits, and fewer than 2^63 batches were accepted.
     requires { AreRead rows.old.maps }
-    // So are the rows afterwards.
+    // The rows are within their limits afterwards too, and fewer than 2^63 batches were accepted.
     ensures read { OnOk result (AreRead rows.new.maps) }
     // If the values are those of an object's line, that object is put.
     ensures put { OnOk result ((x : ObjNo) (row : ObjRow) → values.now ≡ object_values x row → rows.new ≡ with_object rows.old x row) }
-    // There is a fault, but for out of memory, only if they aren't such values.
+    // There is a fault, but for out of memory, only if the values aren't those of the line of an object within its limits.
     ensures err { IfErr result (λ fault. fault ≢ LineFault.OutOfMemory → (x : ObjNo) (row : ObjRow) → row_fits row ≡ true →
         values.now ≢ object_values x row) }
 {
@@ -52,12 +52,12 @@ pub(crate) fn take_object(alloc: Global, values: &[Value], rows: &mut Flat) -> L
 pub(crate) fn take_property(alloc: Global, values: &[Value], rows: &mut Flat) -> LineResult<()>
     // The rows are within their limits, and fewer than 2^63 batches were accepted.
     requires { AreRead rows.old.maps }
-    // So are the rows afterwards.
+    // The rows are within their limits afterwards too, and fewer than 2^63 batches were accepted.
     ensures read { OnOk result (AreRead rows.new.maps) }
     // If the values are those of a property's line, that property is put under the next number.
     ensures put { OnOk result ((row : PropRow) → values.now ≡ Obj row.definer ∷ Str row.name ∷ [] →
         rows.new.maps ≡ property_taken rows.old.maps row) }
-    // There is a fault, but for out of memory, only if they aren't such values, or no number is left.
+    // There is a fault, but for out of memory, only if no number is left, or the values aren't those of a property that may have its name.
     ensures err { IfErr result (λ fault. fault ≢ LineFault.OutOfMemory → rows.old.maps.head.next_prop < 4294967295 → (row : PropRow) →
         is_property_name row.name ≡ true
         → values.now ≢ Obj row.definer ∷ Str row.name ∷ []) }
@@ -78,12 +78,12 @@ pub(crate) fn take_property(alloc: Global, values: &[Value], rows: &mut Flat) ->
 pub(crate) fn take_verb(alloc: Global, values: &[Value], rows: &mut Flat) -> LineResult<()>
     // The rows are within their limits, and fewer than 2^63 batches were accepted.
     requires { AreRead rows.old.maps }
-    // So are the rows afterwards.
+    // The rows are within their limits afterwards too, and fewer than 2^63 batches were accepted.
     ensures read { OnOk result (AreRead rows.new.maps) }
     // If the values are those of a verb's line, that verb is put under the next number.
     ensures put { OnOk result ((x : ObjNo) (row : VerbRow) → values.now ≡ verb_values x row →
         rows.new.maps ≡ verb_taken rows.old.maps x row) }
-    // There is a fault, but for out of memory, only if they aren't such values, or no number is left.
+    // There is a fault, but for out of memory, only if no number is left, or the values aren't those of a verb within its limits.
     ensures err { IfErr result (λ fault. fault ≢ LineFault.OutOfMemory → rows.old.maps.head.next_verb < 4294967295 →
         (x : ObjNo) (row : VerbRow) → verb_fits row ≡ true
         → values.now ≢ verb_values x row) }
@@ -104,12 +104,12 @@ pub(crate) fn take_verb(alloc: Global, values: &[Value], rows: &mut Flat) -> Lin
 pub(crate) fn take_petition(alloc: Global, values: &[Value], rows: &mut Flat) -> LineResult<()>
     // The rows are within their limits, and fewer than 2^63 batches were accepted.
     requires { AreRead rows.old.maps }
-    // So are the rows afterwards.
+    // The rows are within their limits afterwards too, and fewer than 2^63 batches were accepted.
     ensures read { OnOk result (AreRead rows.new.maps) }
     // If the values are those of a petition's line, that petition is put under its number.
     ensures put { OnOk result ((id : PetitionId) (row : PetitionRow) → values.now ≡ petition_values id row →
         rows.new.maps ≡ petition_taken rows.old.maps id row) }
-    // There is a fault, but for out of memory, only if they aren't such values.
+    // There is a fault, but for out of memory, only if the values aren't those of the line of a petition within its limits.
     ensures err { IfErr result (λ fault. fault ≢ LineFault.OutOfMemory → (id : PetitionId) (row : PetitionRow) → 0 < id.0 →
         id.0 < 4294967295 → petition_fits row ≡ true
         → values.now ≢ petition_values id row) }
@@ -144,7 +144,7 @@ fn number_before(last: LastSlot, object: ObjNo, definer: ObjNo) -> PropId
 /// The property of a slot; `None` if it isn't the next one of its definer. A dump has the slots of an object that one definer has given it
 /// in the order of the definer's properties, so that the next one is the property after the last.
 fn property_of<R: Rows>(rows: &R, last: LastSlot, slot: &SlotLine) -> Option<PropId>
-    // If the slot is of the next property of its definer, it is that property.
+    // If the slot is of the next property of its definer, the answer is that property.
     ensures { (id : PropId) → IsNextProperty (R.held rows.now).maps last slot.now.object (slot.now.definer, slot.now.name) id →
         result ≡ Some id }
 {
@@ -181,14 +181,14 @@ pub(crate) fn take_slot(
 ) -> LineResult<LastSlot>
     // The rows are within their limits, and fewer than 2^63 batches were accepted.
     requires { AreRead rows.old.maps }
-    // So are the rows afterwards.
+    // The rows are within their limits afterwards too, and fewer than 2^63 batches were accepted.
     ensures read { OnOk result (AreRead rows.new.maps) }
-    // The slot of the next property is put under its number.
+    // If the values are those of the slot of the next property of its definer, the slot is put under the property's number, as the last.
     ensures put { IfOk result (λ put. (x : ObjNo) (p : Property) (k : Slot) (id : PropId) →
         values.now ≡ slot_values x p.0 p.1 (dumped_slot k)
         → IsNextProperty rows.old.maps last x p id → (put ≡ record { object = x; definer = p.0; id = id })
         × (rows.new ≡ with_slot rows.old (x, id) (dumped_slot k))) }
-    // There is a fault, but for out of memory, only if it isn't the slot of the next property.
+    // There is a fault, but for out of memory, only if the values aren't those of the slot of the next property, within its limits.
     ensures err { IfErr result (λ fault. fault ≢ LineFault.OutOfMemory → (x : ObjNo) (p : Property) (k : Slot) (id : PropId) →
         state_fits k.state ≡ true
         → IsNextProperty rows.old.maps last x p id → values.now ≢ slot_values x p.0 p.1 (dumped_slot k)) }

@@ -58,12 +58,11 @@ pub(crate) fn flag_of(value: &Value, what: &'static str) -> LineResult<bool>
     }
 }
 
-/// The objects of an accept list: at most 1,000 values, each an object. NoAcceptList or NoObject for others; OutOfMemory if memory runs
-/// out.
+/// The objects of an accept list: at most 1,000 values, each an object. NoAcceptList or NoObject for others; OutOfMemory: memory ran out.
 fn objects_of(alloc: Global, values: &[Value]) -> LineResult<ObjList>
     ensures ok { IfOk result (λ objects. values.now ≡ map Obj objects) }
     ensures fits { IfOk result (λ objects. accept_fits (Some objects) ≡ true) }
-    // There is a fault, but for out of memory, only if they aren't at most 1,000 objects.
+    // There is a fault, but for out of memory, only if the values aren't at most 1,000 objects.
     ensures err { IfErr result (λ fault. fault ≢ LineFault.OutOfMemory → (objects : List ObjNo) → length objects ≤ MOST_ACCEPTED →
         values.now ≢ map Obj objects) }
 {

@@ -70,11 +70,11 @@ fn bits_of(value: &Value) -> LineResult<VerbBits>
 /// The object and the row of a verb, from the values of its line. The error is the first value, from left to right, that isn't as a dump
 /// has it, or their count; or OutOfMemory.
 pub(crate) fn read_verb(alloc: Global, values: &[Value]) -> LineResult<(ObjNo, VerbRow)>
-    // The values are those of its line.
+    // The values are those of the verb's line.
     ensures shown { IfOk result (λ r. values.now ≡ verb_values r.0 r.1) }
     // The verb is within the limits of its columns.
     ensures fits { IfOk result (λ r. verb_fits r.1 ≡ true) }
-    // There is a fault, but for out of memory, only if they aren't the values of such a verb's line.
+    // There is a fault, but for out of memory, only if the values aren't those of the line of a verb within its limits.
     ensures err { IfErr result (λ fault. fault ≢ LineFault.OutOfMemory → (x : ObjNo) (row : VerbRow) → verb_fits row ≡ true →
         values.now ≢ verb_values x row) }
 {

@@ -63,7 +63,7 @@ pub(crate) fn put_broken(
     }
 }
 
-/// How a line of the heading is written: the first or the second line of a dump.
+/// How a line of a dump's heading is written, by its number: 1, or else the second line.
 fn heading_sentence(number: u64) -> &'static str {
     if number == 1 {
         "the first line is 'seq ' and how many batches were accepted, as 'seq 0'"
@@ -117,8 +117,7 @@ fn put_value_fault(said: &mut Said, line: &[u8], fault: LiteralFault) -> Result<
     }
 }
 
-/// Says what is found where a value is wanted: the end of the line, a bad list, or a word that isn't a value. The only error is a lack of
-/// memory.
+/// Says what is found where a value is wanted: the end of the line, a bad list, or a word that isn't a value. AllocError: memory ran out.
 fn put_no_value(said: &mut Said, rest: &[u8]) -> Result<(), AllocError> {
     match rest {
         [] => said.put("the line ends where a value is wanted"),

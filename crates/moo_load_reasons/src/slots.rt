@@ -25,10 +25,9 @@ fn slot_front(
     Ok(front)
 }
 
-/// Says what is wrong with the slot on an object of the property whose line is the one of this count, from 1, among the lines `property`
-/// of the dump `text`: first the line that shows it, if one does. MissingSlot: this slot is wanted there. ClearDefiner: the object
-/// defines the property, so its slot can't be clear. StrangeSlot: the object has no such property, or isn't an object. The only error is
-/// a lack of memory.
+/// Says what is wrong with the slot on an object of the property whose line is the one of this count, from 1, among the lines `property` of
+/// the dump `text`: first the line that shows it, if one does. MissingSlot: this slot is wanted there. ClearDefiner: the object defines the
+/// property, so its slot can't be clear. StrangeSlot: the object has no such property, or isn't an object. AllocError: memory ran out.
 pub(crate) fn put_slot_damage(
     said: &mut Said,
     text: &[u8],
@@ -51,8 +50,8 @@ pub(crate) fn put_slot_damage(
     put_strange_slot(said, text, object, &front)
 }
 
-/// Says that an object has no property of a slot, whose line begins with the values `front`, or isn't an object. The only error is a lack of
-/// memory.
+/// Says that an object has no property of a slot, whose line begins with the values `front`, or isn't an object. The only error is a lack
+/// of memory.
 fn put_strange_slot(
     said: &mut Said,
     text: &[u8],
@@ -89,7 +88,7 @@ fn all_parents(alloc: Global, text: &[u8]) -> Result<BTreeMap<ObjNo, ObjNo>, All
     Ok(parents)
 }
 
-/// The objects from x up its chain to the definer of a property. No chain is longer than there are parents. AllocError: memory ran out.
+/// The objects from x up its chain to the definer of a property, at most as many as `parents` has. AllocError: memory ran out.
 fn chain_to(
     alloc: Global,
     parents: &BTreeMap<ObjNo, ObjNo>,
@@ -108,8 +107,8 @@ fn chain_to(
     Ok(nearer)
 }
 
-/// Whether a line of an object, which is all of `front`, comes before the slots of properties that objects above those of `nearer` define:
-/// it is a property, or a slot of a property that one of `nearer` defines. AllocError: memory ran out.
+/// Whether a line of an object, the one value of `front`, comes before the object's slots of properties that objects above `nearer` define:
+/// it is a property, or the object's slot of a property that one of `nearer` defines. AllocError: memory ran out.
 fn comes_before(
     alloc: Global,
     line: &[u8],
@@ -131,8 +130,8 @@ fn comes_before(
     }
 }
 
-/// The number of the line at which the slot of a property on an object is wanted: the first one after the object's that doesn't come
-/// before the slot. `None` if there is no such line. AllocError: memory ran out.
+/// The number of the line at which an object's slot of the property of a count, from 1, is wanted: the first line after the object's own
+/// that doesn't come before the slot. `None` if there is no such line. AllocError: memory ran out.
 fn place_of_slot(
     alloc: Global,
     text: &[u8],

@@ -11,7 +11,7 @@ pub record Seen : Type 0 where
   pub is_lost : Bool
   pub refusals : List Refusal
 
--- If lines are wanted there is one more after the others, which is of this refusal; or memory ran out for it.
+-- If lines are wanted, there is one more after the others, that of this refusal, or memory ran out for it; else nothing changes.
 abbrev pub SeesRefusal : Seen → Batch → Refusal → Option Facts → Seen → Type 0
 SeesRefusal old batch refusal facts new = (new.is_wanted ≡ old.is_wanted)
     × (old.is_wanted ≡ false → new ≡ old)

@@ -10,7 +10,7 @@ abbrev pub IsFirstLine : List Why → Option (String Global) → List Why → Ty
 IsFirstLine [] line rest = (line ≡ None) × (rest ≡ [])
 IsFirstLine (why ∷ whys) line rest = (line ≡ Some why.text) × (rest ≡ whys)
 
--- a reply that refuses is told with the first line, and another one takes none
+-- a reply Refused is told with the first line and takes it, if there is one; another reply takes none
 abbrev pub TellsReply : List Why → Reply → Option (String Global) → List Why → Type 0
 TellsReply whys (Refused call code) line rest = IsFirstLine whys line rest
 TellsReply whys (Accepted seq answers) line rest = rest ≡ whys
@@ -18,7 +18,7 @@ TellsReply whys (Full call) line rest = rest ≡ whys
 TellsReply whys (Stale seq) line rest = rest ≡ whys
 TellsReply whys NoMemory line rest = rest ≡ whys
 
--- a reply that refuses is told with the first line; another reply takes none, and so does a place without a reply
+-- a reply Refused is told with the first line and takes it; another reply takes none, and so does a place without a reply
 abbrev pub TellsPlace : List Why → Option Reply → Option (String Global) → List Why → Type 0
 TellsPlace whys (Some reply) line rest = TellsReply whys reply line rest
 TellsPlace whys None line rest = rest ≡ whys

@@ -1,6 +1,6 @@
 //! The built-in functions of LambdaMOO that aren't calls of this server.
 
-/// The names of these functions, a space between two. docs/LAMBDAMOO.md says of each why it isn't here.
+/// The names of the functions, a space between two. docs/LAMBDAMOO.md says of each why it isn't here.
 const NAMES: &str =
     "pass typeof tostr toliteral toint tonum toobj tofloat equal value_bytes value_hash random min max abs floatstr sqrt \
 sin cos tan asin acos atan sinh cosh tanh exp log log10 ceil floor trunc length strsub index rindex strcmp decode_binary encode_binary \
@@ -11,7 +11,7 @@ open_network_connection listen unlisten listeners time ctime raise call_function
 ticks_left seconds_left task_id suspend resume queue_info queued_tasks kill_task callers task_stack server_version server_log renumber \
 reset_max_object memory_usage shutdown dump_database db_disk_size load_server_options";
 
-/// Whether a word is the name of such a function of LambdaMOO, in any case of letters.
+/// Whether a word is the name of a built-in function of LambdaMOO that isn't a call of this server, in any case of letters.
 pub(crate) fn is_built_in(word: &[u8]) -> bool {
     NAMES
         .split(' ')

@@ -38,8 +38,8 @@ fn put_no_batch(said: &mut Said, line: &[u8]) -> Result<(), AllocError> {
     said.put(FORM)
 }
 
-/// Says that a word names no call, and which name it may have meant. Names of LambdaMOO's own functions are explained on a page. The only
-/// error is out of memory.
+/// Says that a word names no call, and which name it may have meant, or for a function of LambdaMOO which page explains it. The only error
+/// is a lack of memory.
 fn put_name_reason(said: &mut Said, word: &[u8]) -> Result<(), AllocError> {
     said.put_of(word, b" names no call")?;
     if is_built_in(word) {

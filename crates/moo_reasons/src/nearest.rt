@@ -8,7 +8,7 @@ use moo_value::MooStr;
 use moo_world::BuiltIn;
 use std::alloc::AllocError;
 
-/// The first of the names that differ from a word in the fewest bytes; `None` if none is near.
+/// The first of the names that differ from a word in the fewest bytes; `None` if none is near (`near_distance`).
 fn nearest<'a>(word: &MooStr, names: &'a [MooStr]) -> Option<&'a MooStr> {
     let mut found = None;
     let mut least = word.bytes().len();

@@ -86,7 +86,7 @@ fn line_of(marks: &Marks, answer: &Answer) -> Option<u64> {
     }
 }
 
-/// Says an answer in words; if a batch is refused, the words `told`, or the error without them.
+/// Says an answer in words; if a batch is refused, the words `told`, or the error without them. AllocError: memory ran out.
 fn put_answer(
     said: &mut Said,
     marks: &Marks,
@@ -170,18 +170,23 @@ impl<'a, C: Eprint> Witness for StandardNotes<'a, C> {
 
     ghost left = { λ _. None };
 
+    /// `None`: there is no bound.
     fn ticks(&self) -> Option<u64> {
         None
     }
 
+    /// Nothing: there is no bound.
     fn leave(&mut self, _ticks: u64) {}
 
+    /// Nothing: without a bound no ticks are spent.
     fn see_spent(&mut self, _call: u32) {}
 
+    /// Whether another reply of the text may still be told of: at most 100 are.
     fn wants_facts(&self) -> bool {
         self.told < MOST_TOLD
     }
 
+    /// Keeps why the batch is refused, in words, for `note`; nothing without facts, or if memory runs out.
     fn see(&mut self, batch: &Batch, refusal: Refusal, facts: Option<&Facts<'_>>) {
         self.refusal = match facts {
             Some(facts) => match refusal_text(self.alloc, batch, refusal, facts) {
@@ -194,6 +199,8 @@ impl<'a, C: Eprint> Witness for StandardNotes<'a, C> {
 }
 
 impl<'a, C: Eprint> Notes for StandardNotes<'a, C> {
+    /// Tells of an answer that isn't `accepted`, in a line, or counts it once 100 were told of. Without memory for the line it says
+    /// nothing.
     fn note(&mut self, marks: &Marks, answer: &Answer) {
         if let Answer::Replied(Reply::Accepted { seq: _, answers: _ }) = answer {
             return;

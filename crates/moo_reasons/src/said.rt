@@ -18,7 +18,7 @@ pub(crate) const LONG_LINE: &[u8] = b"a line of over 262144 bytes";
 /// What is wrong with a line that ends too early.
 pub(crate) const LINE_ENDS: &[u8] = b"the line ends where a value is missing";
 
-/// What is said so far. Each `put` adds to its end, and fails only if memory runs out.
+/// What is said so far. Each `put` adds to its end.
 #[derive(Drop)]
 pub(crate) struct Said {
     pub(crate) alloc: Global,
@@ -46,7 +46,7 @@ impl Said {
 
     /// Cuts a text of more than `longest` bytes to the first `front` bytes and two dots. The only error is a lack of memory.
     pub(crate) fn shorten(&mut self, longest: usize, front: usize) -> Result<(), AllocError>
-        // If these bytes and the dots are within the limit, so is the text then.
+        // If `front` bytes and two dots are at most `longest`, so is the text afterwards.
         ensures { front + 2 ≤ longest → OnOk result (length self.new.text.items ≤ longest) }
     {
         if longest < self.text.len() {
@@ -56,37 +56,37 @@ impl Said {
         Ok(())
     }
 
-    /// Adds words.
+    /// Adds words. AllocError: memory ran out.
     pub(crate) fn put(&mut self, words: &[u8]) -> Result<(), AllocError>
         ensures { OnOk result (length self.new.text.items ≡ length self.old.text.items + length words.now) }
     {
         self.text.extend_from_slice(words)
     }
 
-    /// Adds the literal of a value: the first 60 bytes and two dots, if it is longer.
+    /// Adds the literal of a value: the first 60 bytes and two dots, if it is longer. AllocError: memory ran out.
     pub(crate) fn put_value(&mut self, value: &Value) -> Result<(), AllocError> {
         let most = self.text.len().saturating_add(MOST_OF_A_VALUE);
         print_literal(self.alloc, value, &mut self.text)?;
         self.shorten(most, most)
     }
 
-    /// Adds a text between quotes: the first 60 bytes of its literal and two dots, if it is longer.
+    /// Adds a text between quotes: the first 60 bytes of its literal and two dots, if it is longer. AllocError: memory ran out.
     pub(crate) fn put_text(&mut self, text: &MooStr) -> Result<(), AllocError> {
         self.put_value(&Value::Str(text.copy(self.alloc)?))
     }
 
-    /// Adds an object, as `#3`.
+    /// Adds an object, as `#3`. AllocError: memory ran out.
     pub(crate) fn put_object(&mut self, object: ObjNo) -> Result<(), AllocError> {
         self.put_value(&Value::Obj(object))
     }
 
-    /// Adds a number in decimal, such as that of a line or of a batch.
+    /// Adds a number in decimal, such as that of a line or of a batch. AllocError: memory ran out.
     pub(crate) fn put_count(&mut self, count: u64) -> Result<(), AllocError> {
         let digits = count.to_string(self.alloc)?;
         self.put(digits.as_bytes())
     }
 
-    /// Adds a call as it is written, `name(value, ...)`.
+    /// Adds a call as it is written, `name(value, ...)`. AllocError: memory ran out.
     pub(crate) fn put_call(&mut self, name: CallName, values: &[Value]) -> Result<(), AllocError> {
         self.put(name.spelling())?;
         self.put(b"(")?;
@@ -100,7 +100,7 @@ impl Said {
     }
 
     /// Adds bytes of a line between single quotes, and then words: the first 40 bytes and two dots, if there are more, with a question mark
-    /// for each byte that doesn't print.
+    /// for each byte that doesn't print. AllocError: memory ran out.
     pub(crate) fn put_of(&mut self, bytes: &[u8], words: &[u8]) -> Result<(), AllocError> {
         self.put(b"'")?;
         for byte in bytes.iter().copied().take(MOST_OF_A_LINE) {

@@ -9,12 +9,12 @@ use moo_batch::{Facts, Refusal};
 use moo_world::{Batch, Call};
 use std::alloc::{AllocError, Global};
 
-/// Says the error with which the batch is refused.
+/// Says the error with which the batch is refused. AllocError: memory ran out.
 fn put_error(said: &mut Said, refusal: Refusal) -> Result<(), AllocError> {
     said.put(refusal.reason.code().name().as_bytes())
 }
 
-/// Says the call with its values, the error with which it is refused, and why.
+/// Says the call with its values, the error with which it is refused, and why. AllocError: memory ran out.
 fn put_sentence(
     said: &mut Said,
     batch: &Batch,

@@ -145,8 +145,7 @@ fn sentence(given: Given<'_>, reason: Reason) -> Option<Sentence> {
         .or(of_verbs_and_lists(given, reason))
 }
 
-/// The place, from 0, in the third value of the call, of the first argument that no verb may have. `None` if that
-/// isn't a list of texts.
+/// The place, from 0, in the third value of the call, of the first argument that no verb may have. `None` if that isn't a list of texts.
 fn unfit_place(given: Given<'_>) -> Option<usize> {
     first_unfit(list_at(given, THIRD)?.items())
 }
@@ -223,8 +222,7 @@ fn put_taken(said: &mut Said, definer: ObjNo, name: Option<&Value>) -> Result<()
     said.put(b" already")
 }
 
-/// Says that an object defines a property of the name that is disclosed, and that the new parent has one too. The only error is a lack of
-/// memory.
+/// Says that an object defines a property of the name that is disclosed, and that the new parent has one too. AllocError: memory ran out.
 fn put_shared(
     said: &mut Said,
     definer: ObjNo,

@@ -15,7 +15,7 @@ use moo_world::Batch;
 use std::alloc::{AllocError, Global};
 use std::collections::VecDeque;
 
-/// For what no number is left: what the call of this number makes, or for 0 the batch itself.
+/// Why a batch is Full, in words: no number is left for what the call of this number makes, or, for 0, for what the batch itself does.
 pub(crate) fn room_reason(call: u32) -> &'static str {
     if call == 0 {
         "no number is left for what the batch makes"
@@ -24,7 +24,7 @@ pub(crate) fn room_reason(call: u32) -> &'static str {
     }
 }
 
-/// Why a text isn't a call. AllocError: memory ran out.
+/// Why a text isn't a call, in at most 1,000 bytes; of a call, that a batch has at most 1,000. AllocError: memory ran out.
 pub fn call_why(alloc: Global, text: &str) -> Result<String, AllocError>
     ensures { IfOk result IsShort }
 {
@@ -53,12 +53,13 @@ pub struct Whys {
 }
 
 impl Whys {
-    /// A request with so many ticks, of which no batch is judged yet.
+    /// The whys of a request with so many ticks, of which no batch is judged yet. Lines are kept only if `is_wanted`.
     pub fn new(alloc: Global, is_wanted: bool, ticks: u32) -> Whys
+        // Lines are wanted if `is_wanted`, and else not.
         ensures wanted { result.is_wanted ≡ is_wanted }
-        // No refusal was seen yet.
+        // There is no line yet.
         ensures none { result.seen.items ≡ [] }
-        // Memory hasn't run out for one.
+        // Memory hasn't run out for a line.
         ensures kept { result.is_lost ≡ false }
     {
         Whys {
@@ -78,8 +79,8 @@ impl Whys {
         self.judged
     }
 
-    /// Which call spent the ticks of the request, if one did: that of the last batch, or if it was asked alone, at this place, from 1.
-    /// AllocError: memory ran out.
+    /// Which call spent the ticks of the request: by its number in the last batch, from 1, or by `place` if that is given; `None` if no
+    /// call did. AllocError: memory ran out.
     pub fn spent_why(&self, place: Option<u32>) -> Result<Option<String>, AllocError> {
         let Some(call) = self.spent_at else {
             return Ok(None);
@@ -100,9 +101,10 @@ impl Whys {
     }
 
     /// Why the next batch, in the order of the batches, got this reply: the call that failed, its error and the check, if lines are wanted;
-    /// what there is no room for; or which call spent the ticks. `None` for any other reply, and for a refused batch if lines aren't wanted.
-    /// AllocError: memory ran out, now or for a line before.
+    /// what there is no room for; or which call spent the ticks. `None` for any other reply, and for a refused batch if lines aren't
+    /// wanted. AllocError: memory ran out, now or for a line before.
     pub fn next(&mut self, reply: &Reply) -> Result<Option<String>, AllocError>
+        // A reply Refused is told with the first line that wasn't taken yet, if there is one, and takes it; another reply takes none.
         ensures { IfOk result (λ line. TellsReply self.old.seen.items reply.now line self.new.seen.items) }
     {
         if self.is_lost {
@@ -128,23 +130,28 @@ impl Witness for Whys {
 
     ghost left = { λ w. Some w.left };
 
+    /// How many ticks of the request are left; never `None`.
     fn ticks(&self) -> Option<u64> {
         Some(self.left)
     }
 
+    /// Sets how many ticks of the request are left, and counts one more batch that was judged.
     fn leave(&mut self, ticks: u64) {
         self.left = ticks;
         self.judged = self.judged.saturating_add(1);
     }
 
+    /// Keeps the number of the call at which ticks were spent, for `spent_why`.
     fn see_spent(&mut self, call: u32) {
         self.spent_at = Some(call);
     }
 
+    /// Whether lines are wanted.
     fn wants_facts(&self) -> bool {
         self.is_wanted
     }
 
+    /// Keeps the line that says why the batch is refused, if lines are wanted; or notes that memory ran out for it.
     fn see(&mut self, batch: &Batch, refusal: Refusal, facts: Option<&Facts<'_>>) {
         if !self.is_wanted {
             return;

@@ -10,22 +10,22 @@ use Rattle.moo_text.specs.declared.fault.TextFault.TheVariants.{Read, Write, Out
 use Rattle.moo_text.specs.declared.lines.LineReader.{LineReader}
 use Rattle.moo_text.specs.declared.next.Next.{Next}
 
--- From old to new the reader gave these bytes. If it tells its bytes they were in front and are gone. Once it has given no bytes it
--- gives none, and if it tells its bytes none are left then.
+-- Between old and new the reader gave these bytes. If it tells its bytes, they were the first and are gone. Once it has ended, it gives
+-- none, and if it tells its bytes, none are left then.
 pub record ReaderGives (old new : Side) (given : List ℕ) : Type 0 where
   pub known : Consumes old.left new.left given
   pub stays : old.ended ≡ true → (given ≡ []) × (new.ended ≡ true)
   pub at_end : (old.ended ≡ true → IsAtEnd old.left) → new.ended ≡ true → IsAtEnd new.left
 
--- The reader gave some bytes, as many as were taken of the room. P holds of the bytes that were not used before and of those that are
--- not used now, whatever the reader may give after them: nothing, if the text is at its end.
+-- The reader gave some bytes, as many as were taken of the room. P holds of the bytes that were not used before, and of the bytes that are
+-- not used now, with any bytes that the reader may give after them: none, if the text is at its end.
 pub record ReadsOn (old new : Side) (P : List ℕ → List ℕ → Type 0) : Type 0 where
   pub given : List ℕ
   pub gives : ReaderGives old new given
   pub room : old.room ≡ length given + new.room
   pub holds : (rest : List ℕ) → (new.ended ≡ true → rest ≡ []) → P (old.ahead ++ (given ++ rest)) (new.ahead ++ rest)
 
--- What a fault says of how many bytes were given: Long that it is one more than the room, any other that it is no more than the room.
+-- What a fault says of how many bytes were given: Long that they are one more than the room, any other that they are no more than the room.
 -- Nothing is written, so no fault is Write.
 abbrev pub Explains : ℕ → ℕ → TextFault → Type 0
 Explains room count Long = count ≡ room + 1
@@ -63,7 +63,7 @@ ReadsItems old new done = ReadsOn old new (λ before behind. items before ≡ do
 abbrev pub ReadsAll : Side → Side → List Next → Type 0
 ReadsAll old new all = ReadsOn old new (λ before behind. items before ≡ all)
 
--- From the start of a text on reading was stopped after these items: whatever the reader may give after what it gave, they come first.
+-- From the start of a text on reading was stopped after these items: they come first, with any bytes that the reader may still give.
 pub record StopsBehind (left : Option (List ℕ)) (room : ℕ) (new : Side) (done : List Next) (fault : TextFault) : Type 0 where
   pub given : List ℕ
   pub gives : ReaderGives (untouched left room) new given
@@ -88,7 +88,7 @@ GivesLine remaining old new line = ReadsLine (lines_side remaining old) (lines_s
 abbrev pub GivesFirst : {R : Type 0} → (List (List ℕ) → List Next) → (R → Option (List ℕ)) → (old new : LineReader R) → Next → Type 0
 GivesFirst f remaining old new item = ReadsFirst f (lines_side remaining old) (lines_side remaining new) item
 
--- the reader gave some bytes, and there reading stopped with a fault: Long only if there was no room for the last byte, and never Write
+-- the reader gave some bytes, and there reading stopped with a fault: at Long one byte more than the room, else no more; never Write
 abbrev pub LinesBreakOff : {R : Type 0} → (R → Option (List ℕ)) → (old new : LineReader R) → TextFault → Type 0
 LinesBreakOff remaining old new fault = BreaksOff (lines_side remaining old) (lines_side remaining new) fault
 

@@ -1,4 +1,4 @@
--- What one line of a batch text is, whatever it says.
+-- What one line of a batch text is: blank, `end`, or words.
 use Prim.Native.Char.{code}
 use Rattle.std.specs.Prelude.{ℕ, ◌==◌, ◌&&◌, Bool, false, not, nat_le, List, [], ◌∷◌, length, if◌then◌else◌}
 use Rattle.std.specs.List.{filter, slice_split}

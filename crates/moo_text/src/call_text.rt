@@ -13,14 +13,13 @@ use moo_value::{after_mark, skip_blanks, split_word};
 use moo_world::{Args, Call, CallName};
 use std::alloc::{AllocError, Global};
 
-/// The values before a closing mark, which ends the line: one at least, with commas between them. The error is the first fault from left to
-/// right, or OutOfMemory.
+/// The values before a closing mark, which ends the line: one at least, with commas between. The error is the first fault, or OutOfMemory.
 pub fn values_at(alloc: Global, mark: u8, bytes: &[u8]) -> Result<Args, LineFault<'_>>
-    // The bytes spell these values, up to the mark that ends the line.
+    // The bytes spell the values, with commas between them, up to the mark that ends the line.
     ensures ok { IfOk result (λ args. values_at mark (length bytes.now) bytes.now ≡ Some args) }
-    // There is a fault, but for out of memory, only if there are no such values.
+    // There is a fault, but for out of memory, only if the bytes don't spell values so.
     ensures err { IfErr result (λ fault. fault ≢ OutOfMemory → values_at mark (length bytes.now) bytes.now ≡ None) }
-    // It is true of the bytes that it points at.
+    // The fault is true of the bytes that it points at.
     ensures says { IfErr result Says }
 {
     let mut values = Vec::new(alloc);
@@ -38,13 +37,12 @@ pub fn values_at(alloc: Global, mark: u8, bytes: &[u8]) -> Result<Args, LineFaul
     }
 }
 
-/// The arguments of a call, from past its `(` to the `)` that ends the line. The error is the first fault from left to right, or
-/// OutOfMemory.
+/// The arguments of a call, from past its `(` to the `)` that ends the line. The error is the first fault from the left, or OutOfMemory.
 fn arguments_of(alloc: Global, bytes: &[u8]) -> Result<Args, LineFault<'_>>
     ensures ok { IfOk result (λ args. arguments_of bytes.now ≡ Some args) }
     // There is a fault, but for out of memory, only if the bytes aren't arguments.
     ensures err { IfErr result (λ fault. fault ≢ OutOfMemory → arguments_of bytes.now ≡ None) }
-    // It is true of the bytes that it points at.
+    // The fault is true of the bytes that it points at.
     ensures says { IfErr result Says }
 {
     match after_mark(b')', bytes) {
@@ -61,14 +59,13 @@ fn call_name_of(word: &[u8]) -> Option<CallName>
     CallName::read(word)
 }
 
-/// The call that a line of at most 262,144 bytes spells, `name(value, ...)`. The error is why it spells none: the first fault from left to
-/// right; or OutOfMemory.
+/// The call that a line of at most 262,144 bytes spells, `name(value, ...)`. The error is the first fault from the left, or OutOfMemory.
 pub fn call_or_fault(alloc: Global, line: &[u8]) -> Result<Call, LineFault<'_>>
     // The line spells this call.
     ensures ok { IfOk result (λ call. call_of line.now ≡ Some call) }
     // There is a fault, but for out of memory, only if the line spells no call.
     ensures err { IfErr result (λ fault. fault ≢ OutOfMemory → call_of line.now ≡ None) }
-    // It is true of the bytes that it points at.
+    // The fault is true of the bytes that it points at.
     ensures says { IfErr result Says }
 {
     if !is_within_line(line) {
@@ -82,7 +79,7 @@ pub fn call_or_fault(alloc: Global, line: &[u8]) -> Result<Call, LineFault<'_>>
     Ok(Call { name, args })
 }
 
-/// The call that a line of at most 262,144 bytes spells. `None` for any other line: `call_or_fault` says why. AllocError if memory runs out.
+/// The call that a line of at most 262,144 bytes spells. `None` for any other line: `call_or_fault` says why. AllocError: memory ran out.
 pub fn call_of(alloc: Global, line: &[u8]) -> Result<Option<Call>, AllocError>
     ensures { IfOk result (λ call. call ≡ call_of line.now) }
 {

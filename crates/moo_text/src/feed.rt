@@ -24,13 +24,13 @@ fn skip_batch<R: Read>(
     bad: Vec<u8>,
     lines: &mut LineReader<R>,
 ) -> Result<Next, TextFault>
-    // The item is the first that the text after the bad line has.
+    // The item is the first of the text after the bad line, read as the rest of a batch whose first bad line is line `number`.
     ensures item { IfOk result (GivesFirst (skipping number) R.remaining lines.old lines.new) }
-    // No more may still be read than before.
+    // No more bytes may still be taken than before.
     ensures falls { OnOk result (lines_room lines.new ≤ lines_room lines.old) }
     // After the end of the text, and after a batch that the end cuts off, nothing is left.
     ensures ends { IfOk result (λ item. EndsAt item (lines_side R.remaining lines.new)) }
-    // A fault is Long only if one byte more was given than there was room for, and never Write.
+    // At a fault the reader gave one byte more than the room if the fault is Long, else no more than the room; it is never Write.
     ensures cause { IfErr result (LinesBreakOff R.remaining lines.old lines.new) }
 {
     lines.marks.spoil(bad);
@@ -52,13 +52,13 @@ fn rest_of_batch<R: Read>(
     header: Header,
     lines: &mut LineReader<R>,
 ) -> Result<Next, TextFault>
-    // The item is the first that the text after the header has.
+    // The item is the first of the text after the header, read as the rest of its batch.
     ensures item { IfOk result (GivesFirst (within header [] 1) R.remaining lines.old lines.new) }
-    // No more may still be read than before.
+    // No more bytes may still be taken than before.
     ensures falls { OnOk result (lines_room lines.new ≤ lines_room lines.old) }
     // After the end of the text, and after a batch that the end cuts off, nothing is left.
     ensures ends { IfOk result (λ item. EndsAt item (lines_side R.remaining lines.new)) }
-    // A fault is Long only if one byte more was given than there was room for, and never Write.
+    // At a fault the reader gave one byte more than the room if the fault is Long, else no more than the room; it is never Write.
     ensures cause { IfErr result (LinesBreakOff R.remaining lines.old lines.new) }
 {
     let mut calls = Vec::new(alloc);
@@ -88,15 +88,14 @@ fn rest_of_batch<R: Read>(
     }
 }
 
-/// Reads the next item of a text: a batch, its first bad line, its want of an end, or the end of the text. The errors are those of
-/// `next_batch`.
+/// Reads the next item of a text: a batch, its first bad line, its want of an end, or the end of the text. Errors: those of `next_batch`.
 fn next_item<R: Read>(alloc: Global, lines: &mut LineReader<R>) -> Result<Next, TextFault>
     ensures item { IfOk result (λ item. ReadsNext (lines_side R.remaining lines.old) (lines_side R.remaining lines.new) item) }
     // Each item but the end takes some of the room.
     ensures falls { IfOk result (λ item. item ≢ Next.End → lines_room lines.new < lines_room lines.old) }
     // After the end of the text, and after a batch that the end cuts off, nothing is left.
     ensures ends { IfOk result (λ item. EndsAt item (lines_side R.remaining lines.new)) }
-    // A fault is Long only if one byte more was given than there was room for, and never Write.
+    // At a fault the reader gave one byte more than the room if the fault is Long, else no more than the room; it is never Write.
     ensures cause { IfErr result (LinesBreakOff R.remaining lines.old lines.new) }
 {
     loop {
@@ -133,7 +132,7 @@ impl<R: Read> Feed<R> {
 
     /// The batches of a text that a reader will give, of at most 1,073,741,824 bytes. Nothing is read yet.
     pub fn new(alloc: Global, reader: R) -> Self
-        // Nothing is read yet, and so many bytes may be.
+        // Nothing is read yet, and at most 1,073,741,824 bytes may be.
         ensures side { feed_side R.remaining result ≡ untouched (R.remaining reader) LONGEST_TEXT }
         // At most 1,073,741,824 bytes may be taken.
         ensures room { feed_room result ≡ LONGEST_TEXT }
@@ -145,7 +144,7 @@ impl<R: Read> Feed<R> {
 
     /// The batches of a text that a reader will give, of at most `room` bytes, and at most [`LONGEST_TEXT`]. Nothing is read yet.
     pub(crate) fn with_room(alloc: Global, reader: R, room: usize) -> Self
-        // Nothing is read yet, and so many bytes may be.
+        // Nothing is read yet, and at most `room` bytes may be, and at most [`LONGEST_TEXT`].
         ensures side { feed_side R.remaining result ≡ untouched (R.remaining reader) (min room LONGEST_TEXT) }
         ensures room { feed_room result ≡ min room LONGEST_TEXT }
         // There was no fault.
@@ -158,18 +157,17 @@ impl<R: Read> Feed<R> {
         }
     }
 
-    /// What comes next in the text: a batch, the number of the first bad line of one, that the text ends inside one, or its end.
-    /// A line of spaces and tabs is skipped. Read if the reader fails, Long if the text goes on after 1,073,741,824 bytes, OutOfMemory
-    /// if memory runs out. After a fault each call gives that fault again, and reads nothing. A reader that has given no bytes isn't
-    /// read again.
+    /// What comes next in the text: a batch, the number of the first bad line of one, that the text ends inside one, or its end. A line of
+    /// spaces and tabs is skipped. Read if the reader fails, Long if the text goes on after 1,073,741,824 bytes, OutOfMemory if memory runs
+    /// out. After a fault each call gives that fault again, and reads nothing. A reader that has given no bytes isn't read again.
     pub fn next_batch(&mut self) -> Result<Next, TextFault>
-        // As many bytes were given as were taken of the room, and these lead from the text before to its next item and the text after.
+        // The answer is the next item of the unused bytes and of those that the reader gave meanwhile, which took as much of the room.
         ensures next { IfOk result (λ item. ReadsNext (feed_side R.remaining self.old) (feed_side R.remaining self.new) item) }
-        // A fault is kept.
+        // The fault is kept.
         ensures fault { IfErr result (λ fault. self.new.fault ≡ Some fault) }
         // Without a fault none is kept.
         ensures works { OnOk result (self.new.fault ≡ None) }
-        // After a fault it is that fault again.
+        // After a fault the result is that fault again.
         ensures repeats { IfSome self.old.fault (λ fault. result ≡ Err fault) }
         // After a fault nothing is read or changed.
         ensures rests { IfSome self.old.fault (λ _. self.new ≡ self.old) }
@@ -177,7 +175,7 @@ impl<R: Read> Feed<R> {
         ensures falls { IfOk result (λ item. item ≢ Next.End → feed_room self.new < feed_room self.old) }
         // After the end of the text, and after a batch that the end cuts off, nothing is left.
         ensures ends { IfOk result (λ item. EndsAt item (feed_side R.remaining self.new)) }
-        // A first fault is Long only if one byte more was given than there was room for, and never Write.
+        // At a first fault the reader gave one byte more than the room if the fault is Long, else no more than the room; it is never Write.
         ensures cause { IfNone self.old.fault (IfErr result (λ fault.
             BreaksOff (feed_side R.remaining self.old) (feed_side R.remaining self.new) fault)) }
     {

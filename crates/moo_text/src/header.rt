@@ -31,7 +31,7 @@ fn after_the_word<'a>(word: &[u8], bytes: &'a [u8]) -> Option<&'a [u8]>
     (first == word).then_some(rest)
 }
 
-/// Whether bytes begin with this one.
+/// Whether the first of the bytes is `first`.
 fn begins_with_byte(first: u8, bytes: &[u8]) -> bool
     ensures { result ≡ begins_with_byte first bytes.now }
 {
@@ -94,8 +94,8 @@ fn last_place(bytes: &[u8]) -> Option<u64>
     }
 }
 
-/// After how many accepted batches a batch is due, from the words after the programmer: none (`None`), or `at` and a number. NoAt and
-/// NoPlace if there are others.
+/// After how many accepted batches a batch is due, from the words after the programmer: none (`None`), or `at` and a number. NoAt or
+/// NoPlace if the words are others.
 fn at_of(bytes: &[u8]) -> Result<Option<u64>, LineFault<'_>>
     ensures ok { IfOk result (λ at. at_of (words_of_line bytes.now) ≡ Some at) }
     ensures err { IfErr result (λ _. at_of (words_of_line bytes.now) ≡ None) }
@@ -116,7 +116,7 @@ pub fn read_header(alloc: Global, line: &[u8]) -> Result<Header, LineFault<'_>>
     ensures ok { IfOk result (λ header. header_of line.now ≡ Some header) }
     // There is a fault, but for out of memory, only if the line isn't a header.
     ensures err { IfErr result (λ fault. fault ≢ OutOfMemory → header_of line.now ≡ None) }
-    // It is true of the bytes that it points at.
+    // The fault is true of the bytes that it points at.
     ensures says { IfErr result Says }
 {
     if !is_within_line(line) {

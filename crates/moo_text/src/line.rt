@@ -65,6 +65,7 @@ fn split_at_blank(bytes: &[u8]) -> (&[u8], &[u8])
 
 /// The first word, up to a space or a tab, and the bytes after it; `None` if there is no word.
 pub fn next_word(bytes: &[u8]) -> Option<(&[u8], &[u8])>
+    // The word is the first one, and the bytes after it have the others; if `None`, there is no word.
     ensures { MatchOption result (words_of_line bytes.now ≡ []) (λ x. words_of_line bytes.now ≡ x.0.now ∷ words_of_line x.1.now) }
 {
     let start = skip_blanks(bytes);

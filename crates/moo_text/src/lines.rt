@@ -45,8 +45,7 @@ fn drop_return(line: &mut Vec<u8>)
     }
 }
 
-/// A reader of the lines of a text, which reads in pieces of 4,096 bytes at most. Once the reader below has given no bytes, it isn't read
-/// again.
+/// A reader of the lines of a text, which reads at most 4,096 bytes at once. Once the reader below has given no bytes, it isn't read again.
 #[derive(Drop)]
 pub struct LineReader<R> {
     alloc: Global,
@@ -80,16 +79,16 @@ impl<R: Read> LineReader<R> {
     /// Reads one more piece, when no bytes are left. False at the end of the text. Read if the reader fails, Long if it gives a byte for
     /// which there is no room, OutOfMemory if memory runs out.
     fn read_piece(&mut self) -> Result<bool, TextFault>
-        // No bytes are left.
+        // No bytes that were read are left unused.
         requires { self.old.ahead ≡ [] }
-        // The reader gave the bytes that there are then, and they took so much of the room.
+        // The reader gave the bytes that are unused afterwards, and they took as much of the room.
         ensures gives { OnOk result (ReaderGives (lines_side R.remaining self.old) (lines_side R.remaining self.new) self.new.ahead) }
         ensures room { OnOk result (self.old.room ≡ length self.new.ahead + self.new.room) }
         // A piece takes some of the room.
         ensures falls { IfOk result (λ more. more ≡ true → self.new.room < self.old.room) }
-        // At the end of the text nothing is left.
+        // At the end of the text the reader has ended, and no byte is left unused.
         ensures end { IfOk result (λ more. more ≡ false → IsOver (lines_side R.remaining self.new)) }
-        // A fault is Long only if one byte more was given than there was room for, and never Write.
+        // At a fault the reader gave one byte more than the room if the fault is Long, else no more than the room; it is never Write.
         ensures cause { IfErr result (LinesBreakOff R.remaining self.old self.new) }
     {
         if self.ended {
@@ -121,9 +120,9 @@ impl<R: Read> LineReader<R> {
         ensures line { IfOk result (GivesLine R.remaining self.old self.new) }
         // A line takes some of the room, and the end of the text gives none back.
         ensures falls { IfOk result (TakesRoom self.old self.new) }
-        // At the end the reader has ended, and no byte that it gave is left.
+        // At the end of the text the reader has ended, and no byte is left unused.
         ensures ends { IfOk result (λ line. IfNone line (IsOver (lines_side R.remaining self.new))) }
-        // A fault is Long only if one byte more was given than there was room for, and never Write.
+        // At a fault the reader gave one byte more than the room if the fault is Long, else no more than the room; it is never Write.
         ensures cause { IfErr result (LinesBreakOff R.remaining self.old self.new) }
     {
         let mut line = Vec::new(self.alloc);
@@ -158,9 +157,9 @@ impl<R: Read> LineReader<R> {
         ensures line { IfOk result (GivesLine R.remaining self.old self.new) }
         // A line takes some of the room, and the end of the text gives none back.
         ensures falls { IfOk result (TakesRoom self.old self.new) }
-        // At the end the reader has ended, and no byte that it gave is left.
+        // At the end of the text the reader has ended, and no byte is left unused.
         ensures ends { IfOk result (λ line. IfNone line (IsOver (lines_side R.remaining self.new))) }
-        // A fault is Long only if one byte more was given than there was room for, and never Write.
+        // At a fault the reader gave one byte more than the room if the fault is Long, else no more than the room; it is never Write.
         ensures cause { IfErr result (LinesBreakOff R.remaining self.old self.new) }
     {
         let read = self.read_line();

@@ -17,7 +17,7 @@ pub(crate) fn read_front(alloc: Global, bytes: &[u8]) -> Result<(Value, &[u8]), 
     ensures fits { IfOk result (λ x. fits x.0 ≡ true) }
     // There is a fault, but for out of memory, only if the bytes begin with no literal.
     ensures err { IfErr result (λ fault. fault ≢ OutOfMemory → front_of bytes.now ≡ None) }
-    // It is true of the bytes that it points at.
+    // The fault is true of the bytes that it points at.
     ensures says { IfErr result Says }
 {
     match read_literal(alloc, bytes) {

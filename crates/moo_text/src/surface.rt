@@ -24,9 +24,9 @@ pub enum CallFault {
 /// The call that a line of at most 262,144 bytes spells, `name(value, ...)`: the name in any case, spaces and tabs between the tokens.
 /// Malformed for any other line; OutOfMemory if memory runs out.
 pub fn read_call(alloc: Global, line: &[u8]) -> Result<Call, CallFault>
-    // What is read is spelled so.
+    // The line spells the call.
     ensures ok { IfOk result (λ call. SpellsCall call line.now) }
-    // Malformed is the line that spells no call.
+    // At Malformed the line spells no call.
     ensures err { IfErr result (λ fault. fault ≡ Malformed → (call : Call) → ¬ (SpellsCall call line.now)) }
 {
     match call_of(alloc, line) {

@@ -34,26 +34,26 @@ pub fn calls_are_spelled()
 
 /// Every text is cut into its items, and into no others.
 pub fn one_cut()
-    // The items that are read are cut from the text by its rule.
+    // The lines of a text are cut into the items that are read from it.
     ensures cut { (text : List ℕ) → Cuts (lines text) (items text) }
-    // No other items are.
+    // The lines are cut into no other items.
     ensures only { (text : List ℕ) (others : List Next) → Cuts (lines text) others → items text ≡ others }
 {}
 
-/// The items that are read one after another are those of all bytes that were given meanwhile; if the reader tells its bytes, these are
-/// all of them once it has ended. After a fault the items that were read stay the first ones.
+/// The items that are read one after another are those of all bytes that the reader gave meanwhile; if it tells its bytes, it gave all of
+/// them once it has ended. After a fault the items that were read stay the first ones.
 ///
 /// A `Side` says how far a text was read: the bytes that its reader will still give, if it tells them (`left`), how many may still be
 /// read (`room`), whether the reader has ended, and the bytes that it gave and that aren't used yet. `untouched`: nothing is read yet.
 pub fn items_are_joined()
     // If nothing is read, no item is.
     ensures none { (a : Side) → ReadsItems a a [] }
-    // One more item that is read comes after those that were.
+    // One more item that is read, but the end, comes after the items that were read before.
     ensures more { (a b c : Side) (done : List Next) (item : Next) → ReadsItems a b done → ReadsNext b c item → item ≢ End →
         ReadsItems a c (done ++ item ∷ []) }
-    // At the end the items that were read are all.
+    // If the end is read next, the items that were read are all.
     ensures end { (a b c : Side) (done : List Next) → ReadsItems a b done → ReadsNext b c End → ReadsAll a c done }
-    // At a fault the items that were read come first in the text, whatever follows.
+    // At a fault the items that were read come first in the text, with any bytes that may follow.
     ensures stop { (left : Option (List ℕ)) (room : ℕ) (b c : Side) (done : List Next) (fault : TextFault) →
         ReadsItems (untouched left room) b done → BreaksOff b c fault → StopsBehind left room c done fault }
     // All items that are read from the start of a text are those of the bytes that the reader gave.

@@ -13,7 +13,7 @@ use std::io::Write;
 pub fn put_all<W: Write>(writer: &mut W, bytes: &[u8]) -> Result<(), WriteFault>
     // All of the bytes are written after what the writer had, and nothing else.
     ensures ok { OnOk result (Appends (W.contents writer.old) (W.contents writer.new) bytes.now) }
-    // At a fault the first bytes are written, some number of them.
+    // At a fault the first bytes are written, 0 or more of them.
     ensures err { OnErr result ((count : ℕ) × Appends (W.contents writer.old) (W.contents writer.new) (take count bytes.now)) }
 {
     let mut at = 0;
@@ -31,11 +31,11 @@ pub fn put_all<W: Write>(writer: &mut W, bytes: &[u8]) -> Result<(), WriteFault>
 pub fn put_answer<W: Write>(alloc: Global, writer: &mut W, answer: &Answer) -> Result<(), TextFault>
     // All lines of the answer are written after what the writer had, and nothing else.
     ensures ok { OnOk result (Appends (W.contents writer.old) (W.contents writer.new) (answer_text answer.now)) }
-    // At a fault the first bytes are written, some number of them, and none but at Write.
+    // At the fault Write the first bytes of the lines are written, 0 or more of them, and at another fault none.
     ensures err { IfErr result (λ fault. (count : ℕ)
         × Appends (W.contents writer.old) (W.contents writer.new) (take count (answer_text answer.now))
         × (fault ≢ TextFault.Write → count ≡ 0)) }
-    // There are no faults but these two.
+    // The fault is Write or OutOfMemory.
     ensures fault { IfErr result (λ fault. (fault ≡ TextFault.Write) ⊎ (fault ≡ TextFault.OutOfMemory)) }
 {
     let mut text = Vec::new(alloc);
