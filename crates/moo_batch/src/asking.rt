@@ -53,7 +53,7 @@ fn may_be_asked(calls: &ValueList) -> Result<(), Reason>
 
 /// Keeps the calls as a petition of the programmer's, and answers its number. Full if 4,294,967,294 has been given; or OutOfMemory.
 fn add_petition<R: Rows>(rows: &mut R, programmer: ObjNo, calls: ValueList) -> Result<Value, Fault>
-    // The rows are those of a well formed world.
+    // The rows are good: sound rows of a well formed world, and petitions as they may be beside it.
     requires good { IsGood (R.held rows.old).maps }
     // A petition of the programmer's may hold the calls.
     requires fit { petition_fits (record { who = programmer; calls = calls }) ≡ true }
@@ -89,7 +89,7 @@ pub(crate) fn petition<R: Rows>(
     programmer: ObjNo,
     args: &[Value],
 ) -> Result<Value, Fault>
-    // The rows are those of a well formed world.
+    // The rows are good: sound rows of a well formed world, and petitions as they may be beside it.
     requires good { IsGood (R.held rows.old).maps }
     // The programmer is an object.
     requires there { is_object (world_in (R.held rows.old)) programmer ≡ true }

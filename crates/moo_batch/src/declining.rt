@@ -32,7 +32,7 @@ pub(crate) fn decline<R: Rows>(
     programmer: ObjNo,
     args: &[Value],
 ) -> Result<Value, Fault>
-    // The rows are those of a well formed world.
+    // The rows are good: sound rows of a well formed world, and petitions as they may be beside it.
     requires good { IsGood (R.held rows.old).maps }
     // The answer and the rows, or the error, are those of `decline` in the model; or memory ran out.
     ensures reaches { Reaches (given (one_integer args.now) (decline (state_in (R.held rows.old)) programmer)) (R.held rows.new) result }

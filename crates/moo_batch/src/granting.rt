@@ -29,7 +29,7 @@ fn run_petitioned_call<R: Rows>(
     wizard: ObjNo,
     held: &Value,
 ) -> Result<Value, Fault>
-    // The rows are those of a well formed world.
+    // The rows are good: sound rows of a well formed world, and petitions as they may be beside it.
     requires good { IsGood (R.held rows.old).maps }
     // The call nests at most 32 deep, and its numbers and texts are within their limits.
     requires fit { fits held.now ≡ true }
@@ -62,7 +62,7 @@ fn run_petitioned_calls<R: Rows>(
     wizard: ObjNo,
     helds: &[Value],
 ) -> Result<Value, Fault>
-    // The rows are those of a well formed world.
+    // The rows are good: sound rows of a well formed world, and petitions as they may be beside it.
     requires good { IsGood (R.held rows.old).maps }
     // Each call nests at most 32 deep, and its numbers and texts are within their limits.
     requires fit { list_all fits helds.now ≡ true }
@@ -99,7 +99,7 @@ pub(crate) fn grant<R: Rows>(
     programmer: ObjNo,
     args: &[Value],
 ) -> Result<Value, Fault>
-    // The rows are those of a well formed world.
+    // The rows are good: sound rows of a well formed world, and petitions as they may be beside it.
     requires good { IsGood (R.held rows.old).maps }
     // The answer and the rows, or the error, are those of `grant` in the model; or memory ran out.
     ensures reaches { Reaches (given (one_integer args.now) (grant (state_in (R.held rows.old)) programmer)) (R.held rows.new) result }

@@ -38,7 +38,7 @@ fn world_call_name(name: &[u8]) -> Option<CallName>
 pub fn held_call(held: &Value) -> Option<(CallName, &[Value])>
     // The value spells this call: a list of its name and of its arguments.
     ensures some { IfSome result (λ call. held_call held.now ≡ Some (record { name = call.0; args = call.1.now })) }
-    // The value spells no call.
+    // The value spells no call on the world.
     ensures none { IfNone result (held_call held.now ≡ None) }
 {
     let values = match held {

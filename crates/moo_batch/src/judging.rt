@@ -62,7 +62,7 @@ fn step_on<R: Rows>(
     programmer: ObjNo,
     call: &Call,
 ) -> Result<Value, Fault>
-    // The rows are those of a well formed world.
+    // The rows are good: sound rows of a well formed world, and petitions as they may be beside it.
     requires good { IsGood (R.held rows.old).maps }
     // The rows haven't said that their ticks are spent.
     requires leave { (R.held rows.old).base.is_spent ≡ false }
@@ -94,7 +94,7 @@ fn run_calls<R: Rows>(
     programmer: ObjNo,
     calls: &[Call],
 ) -> Result<Answers, Stop>
-    // The rows are those of a well formed world.
+    // The rows are good: sound rows of a well formed world, and petitions as they may be beside it.
     requires good { IsGood (R.held rows.old).maps }
     // There are at most 1,000 calls.
     requires few { length calls.now ≤ MOST_CALLS }
@@ -231,7 +231,7 @@ pub fn judge<R: Rows, W: Witness>(
     batch: &Batch,
     witness: &mut W,
 ) -> Verdict
-    // The rows are those of a well formed world.
+    // The rows are good: sound rows of a well formed world, and petitions as they may be beside it.
     requires good { IsGood (R.held rows.now).maps }
     // The verdict is that of the model on the state of the rows; or OutOfMemory, but only to a batch with calls that is due and may be
     // counted. If it is accepted, the changes lead to good rows that show the next state, and each call keeps numbers.

@@ -9,7 +9,7 @@ use moo_rows::{PetitionId, PetitionRow, Rows};
 
 /// The petition of a number that a call gives; `None` if no petition has the number.
 pub(crate) fn petition_at<R: Rows>(rows: &R, number: i64) -> Option<(PetitionId, &PetitionRow)>
-    // The rows are those of a well formed world.
+    // The rows are good: sound rows of a well formed world, and petitions as they may be beside it.
     requires { IsGood (R.held rows.now).maps }
     // The petition is that of the model under the number; if `None`, the model has none.
     ensures some { IfSome result (λ found. petition_at (state_in (R.held rows.now)) number ≡ Some (found.0, found.1.now)) }

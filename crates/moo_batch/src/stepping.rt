@@ -30,7 +30,7 @@ fn petition_call<R: Rows>(
     call: PetitionCall,
     args: &[Value],
 ) -> Result<Value, Fault>
-    // The rows are those of a well formed world.
+    // The rows are good: sound rows of a well formed world, and petitions as they may be beside it.
     requires good { IsGood (R.held rows.old).maps }
     // The programmer is an object.
     requires there { is_object (world_in (R.held rows.old)) programmer ≡ true }
@@ -63,7 +63,7 @@ pub fn step<R: Rows>(
     programmer: ObjNo,
     call: &Call,
 ) -> Result<Value, Fault>
-    // The rows are those of a well formed world.
+    // The rows are good: sound rows of a well formed world, and petitions as they may be beside it.
     requires good { IsGood (R.held rows.old).maps }
     // The answer and the rows, or the error, are those of the call in the model; or memory ran out.
     ensures reaches { Reaches (batch_call (state_in (R.held rows.old)) programmer call.now) (R.held rows.new) result }

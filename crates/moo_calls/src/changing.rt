@@ -26,7 +26,7 @@ pub fn set_player_flag<R: Rows>(
     x: ObjNo,
     value: &Value,
 ) -> Result<Value, Fault>
-    // The rows are those of a well formed world.
+    // The rows are good: sound rows of a well formed world, and petitions as they may be beside it.
     requires { IsGood (R.held rows.old).maps }
     // It does what the definition `set_player_flag` says. At its errors nothing changes; out of memory the rows may be half changed.
     ensures { Does (set_player_flag (world_in (R.held rows.old)) programmer x value.now) (R.held rows.old) (R.held rows.new) result }
@@ -62,7 +62,7 @@ pub fn set_accept<R: Rows>(
     x: ObjNo,
     list: Option<ObjList>,
 ) -> Result<Value, Fault>
-    // The rows are those of a well formed world.
+    // The rows are good: sound rows of a well formed world, and petitions as they may be beside it.
     requires good { IsGood (R.held rows.old).maps }
     // The objects of the list have numbers of 32 bits.
     requires numbers { list_all is_number (unwrap_or list []) ≡ true }
@@ -89,7 +89,7 @@ pub(crate) fn set_player_flag_given<R: Rows>(
     programmer: ObjNo,
     args: &[Value],
 ) -> Result<Value, Fault>
-    // The rows are those of a well formed world.
+    // The rows are good: sound rows of a well formed world, and petitions as they may be beside it.
     requires { IsGood (R.held rows.old).maps }
     // It does what `named_call` says of `SetPlayerFlag`. At its errors nothing changes; out of memory the rows may be half changed.
     ensures { Does (named_call (world_in (R.held rows.old)) programmer SetPlayerFlag args.now) (R.held rows.old) (R.held rows.new) result }
@@ -105,7 +105,7 @@ pub(crate) fn set_accept_given<R: Rows>(
     programmer: ObjNo,
     args: &[Value],
 ) -> Result<Value, Fault>
-    // The rows are those of a well formed world.
+    // The rows are good: sound rows of a well formed world, and petitions as they may be beside it.
     requires good { IsGood (R.held rows.old).maps }
     // Each argument nests at most 32 deep, and its numbers and texts are within their limits.
     requires fit { list_all fits args.now ≡ true }

@@ -40,7 +40,7 @@ fn owner_or_self(x: ObjNo, owner: ObjNo) -> ObjNo
 
 /// The quota of the owner given: how many objects may still be made for it. `None` if `#-1` was given, or if the owner has no quota.
 fn quota_given<R: Rows>(rows: &R, owner: ObjNo) -> Option<i64>
-    // The rows are those of a well formed world.
+    // The rows are good: sound rows of a well formed world, and petitions as they may be beside it.
     requires { IsGood (R.held rows.now).maps }
     ensures quota { result ≡ quota_given (world_in (R.held rows.now)) owner }
     // The quota has one left, or there is none, if and only if the owner may afford one more object.
@@ -65,7 +65,7 @@ fn has_one_left(quota: Option<i64>) -> bool
 
 /// Takes one from the owner's quota, if there is one. The only error is a lack of memory.
 fn charge<R: Rows>(rows: &mut R, owner: ObjNo, quota: Option<i64>) -> Result<(), AllocError>
-    // The rows are those of a well formed world.
+    // The rows are good: sound rows of a well formed world, and petitions as they may be beside it.
     requires good { IsGood (R.held rows.old).maps }
     // The quota is the owner's, and there is none if the owner is `#-1`.
     requires quota { quota ≡ quota_given (world_in (R.held rows.old)) owner }
@@ -107,7 +107,7 @@ pub fn create<R: Rows>(
     parent: ObjNo,
     owner: ObjNo,
 ) -> Result<Value, Fault>
-    // The rows are those of a well formed world.
+    // The rows are good: sound rows of a well formed world, and petitions as they may be beside it.
     requires { IsGood (R.held rows.old).maps }
     // It does what the definition `create` says. At its errors nothing changes; out of memory the rows may be half changed.
     ensures { Does (create (world_in (R.held rows.old)) programmer parent owner) (R.held rows.old) (R.held rows.new) result }
@@ -141,7 +141,7 @@ pub(crate) fn create_given<R: Rows>(
     programmer: ObjNo,
     args: &[Value],
 ) -> Result<Value, Fault>
-    // The rows are those of a well formed world.
+    // The rows are good: sound rows of a well formed world, and petitions as they may be beside it.
     requires { IsGood (R.held rows.old).maps }
     // It does what `named_call` says of `Create`. At its errors nothing changes; out of memory the rows may be half changed.
     ensures { Does (named_call (world_in (R.held rows.old)) programmer Create args.now) (R.held rows.old) (R.held rows.new) result }

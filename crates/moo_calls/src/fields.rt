@@ -17,7 +17,7 @@ use std::alloc::Global;
 /// The only error is a lack of memory.
 /// LambdaMOO Programmer's Manual, 'Properties on Objects' in the chapter on the database.
 pub fn field_of<R: Rows>(rows: &R, alloc: Global, x: ObjNo, field: BuiltIn) -> Result<Value, Fault>
-    // The rows are those of a well formed world.
+    // The rows are good: sound rows of a well formed world, and petitions as they may be beside it.
     requires good { IsGood (R.held rows.now).maps }
     // x is an object.
     requires there { is_object (world_in (R.held rows.now)) x ≡ true }

@@ -25,7 +25,7 @@ pub fn move_into<R: Rows>(
     x: ObjNo,
     destination: ObjNo,
 ) -> Result<Value, Fault>
-    // The rows are those of a well formed world.
+    // The rows are good: sound rows of a well formed world, and petitions as they may be beside it.
     requires { IsGood (R.held rows.old).maps }
     // It does what the definition `move` says. At its errors nothing changes; out of memory the rows may be half changed.
     ensures { Does (move (world_in (R.held rows.old)) programmer x destination) (R.held rows.old) (R.held rows.new) result }
@@ -56,7 +56,7 @@ pub(crate) fn move_given<R: Rows>(
     programmer: ObjNo,
     args: &[Value],
 ) -> Result<Value, Fault>
-    // The rows are those of a well formed world.
+    // The rows are good: sound rows of a well formed world, and petitions as they may be beside it.
     requires { IsGood (R.held rows.old).maps }
     // It does what `named_call` says of `Move`. At its errors nothing changes; out of memory the rows may be half changed.
     ensures { Does (named_call (world_in (R.held rows.old)) programmer Move args.now) (R.held rows.old) (R.held rows.new) result }

@@ -26,7 +26,7 @@ pub fn chparent<R: Rows>(
     x: ObjNo,
     new: ObjNo,
 ) -> Result<Value, Fault>
-    // The rows are those of a well formed world.
+    // The rows are good: sound rows of a well formed world, and petitions as they may be beside it.
     requires { IsGood (R.held rows.old).maps }
     // It does what the definition `chparent` says. At its errors nothing changes; out of memory the rows may be half changed.
     ensures { Does (chparent (world_in (R.held rows.old)) programmer x new) (R.held rows.old) (R.held rows.new) result }
@@ -60,7 +60,7 @@ pub(crate) fn chparent_given<R: Rows>(
     programmer: ObjNo,
     args: &[Value],
 ) -> Result<Value, Fault>
-    // The rows are those of a well formed world.
+    // The rows are good: sound rows of a well formed world, and petitions as they may be beside it.
     requires { IsGood (R.held rows.old).maps }
     // It does what `named_call` says of `Chparent`. At its errors nothing changes; out of memory the rows may be half changed.
     ensures { Does (named_call (world_in (R.held rows.old)) programmer Chparent args.now) (R.held rows.old) (R.held rows.new) result }

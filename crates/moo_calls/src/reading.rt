@@ -50,7 +50,7 @@ pub(crate) fn parent<R: Rows>(rows: &R, args: &[Value]) -> Result<Value, Fault>
 /// `children(object)`: the list of its children, ascending. E_ARGS and E_TYPE for other arguments; E_INVARG if there is no such object.
 /// LambdaMOO Programmer's Manual, 'Fundamental Operations on Objects'.
 pub(crate) fn children<R: Rows>(rows: &R, alloc: Global, args: &[Value]) -> Result<Value, Fault>
-    // The rows are those of a well formed world.
+    // The rows are good: sound rows of a well formed world, and petitions as they may be beside it.
     requires { IsGood (R.held rows.now).maps }
     // The answer, or the error, is that of the definition `children`.
     ensures comes { Answers (given (one_object args.now) (children (world_in (R.held rows.now)))) (R.held rows.now) result }
@@ -74,7 +74,7 @@ pub(crate) fn is_player<R: Rows>(rows: &R, args: &[Value]) -> Result<Value, Faul
 /// `players()`: the list of all players, ascending. E_ARGS if there are arguments.
 /// LambdaMOO Programmer's Manual, 'Operations on Player Objects'.
 pub(crate) fn players<R: Rows>(rows: &R, alloc: Global, args: &[Value]) -> Result<Value, Fault>
-    // The rows are those of a well formed world.
+    // The rows are good: sound rows of a well formed world, and petitions as they may be beside it.
     requires { IsGood (R.held rows.now).maps }
     // The answer, or the error, is that of the definition `players`.
     ensures comes { Answers (given (no_values args.now) (λ _. players (world_in (R.held rows.now)))) (R.held rows.now) result }

@@ -22,7 +22,7 @@ pub fn recycle<R: Rows>(
     programmer: ObjNo,
     x: ObjNo,
 ) -> Result<Value, Fault>
-    // The rows are those of a well formed world.
+    // The rows are good: sound rows of a well formed world, and petitions as they may be beside it.
     requires { IsGood (R.held rows.old).maps }
     // It does what the definition `recycle` says. At its errors nothing changes; out of memory the rows may be half changed.
     ensures { Does (recycle (world_in (R.held rows.old)) programmer x) (R.held rows.old) (R.held rows.new) result }
@@ -46,7 +46,7 @@ pub(crate) fn recycle_given<R: Rows>(
     programmer: ObjNo,
     args: &[Value],
 ) -> Result<Value, Fault>
-    // The rows are those of a well formed world.
+    // The rows are good: sound rows of a well formed world, and petitions as they may be beside it.
     requires { IsGood (R.held rows.old).maps }
     // It does what `named_call` says of `Recycle`. At its errors nothing changes; out of memory the rows may be half changed.
     ensures { Does (named_call (world_in (R.held rows.old)) programmer Recycle args.now) (R.held rows.old) (R.held rows.new) result }

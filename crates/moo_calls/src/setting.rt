@@ -90,7 +90,7 @@ pub fn set_built_in<R: Rows>(
     field: BuiltIn,
     value: &Value,
 ) -> Result<Value, Fault>
-    // The rows are those of a well formed world.
+    // The rows are good: sound rows of a well formed world, and petitions as they may be beside it.
     requires good { IsGood (R.held rows.old).maps }
     // x is an object.
     requires there { is_object (world_in (R.held rows.old)) x ≡ true }

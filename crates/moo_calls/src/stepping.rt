@@ -24,7 +24,7 @@ fn named_call<R: Rows>(
     name: CallName,
     args: &[Value],
 ) -> Result<Value, Fault>
-    // The rows are those of a well formed world.
+    // The rows are good: sound rows of a well formed world, and petitions as they may be beside it.
     requires good { IsGood (R.held rows.old).maps }
     // Each argument nests at most 32 deep, and its numbers and texts are within their limits.
     requires fit { list_all fits args.now ≡ true }
@@ -81,7 +81,7 @@ pub fn step<R: Rows>(
     programmer: ObjNo,
     call: &Call,
 ) -> Result<Value, Fault>
-    // The rows are those of a well formed world.
+    // The rows are good: sound rows of a well formed world, and petitions as they may be beside it.
     requires good { IsGood (R.held rows.old).maps }
     // It does what the definition `world_call` says. At its errors nothing changes; out of memory the rows may be half changed.
     ensures { Does (world_call (world_in (R.held rows.old)) programmer call.now) (R.held rows.old) (R.held rows.new) result }
@@ -98,7 +98,7 @@ pub fn step_named<R: Rows>(
     name: CallName,
     args: &[Value],
 ) -> Result<Value, Fault>
-    // The rows are those of a well formed world.
+    // The rows are good: sound rows of a well formed world, and petitions as they may be beside it.
     requires good { IsGood (R.held rows.old).maps }
     // Each argument nests at most 32 deep, and its numbers and texts are within their limits.
     requires fit { list_all fits args.now ≡ true }

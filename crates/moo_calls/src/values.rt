@@ -26,7 +26,7 @@ pub fn get<R: Rows>(
     x: ObjNo,
     name: &MooStr,
 ) -> Result<Value, Fault>
-    // The rows are those of a well formed world.
+    // The rows are good: sound rows of a well formed world, and petitions as they may be beside it.
     requires { IsGood (R.held rows.now).maps }
     // The answer, or the error, is that of the definition `get`.
     ensures comes { Answers (get (world_in (R.held rows.now)) programmer x name.now) (R.held rows.now) result }
@@ -51,7 +51,7 @@ pub fn set<R: Rows>(
     name: &MooStr,
     value: &Value,
 ) -> Result<Value, Fault>
-    // The rows are those of a well formed world.
+    // The rows are good: sound rows of a well formed world, and petitions as they may be beside it.
     requires good { IsGood (R.held rows.old).maps }
     // The value nests at most 32 deep, and its numbers and texts are within their limits.
     requires fit { fits value.now ≡ true }

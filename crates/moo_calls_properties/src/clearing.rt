@@ -33,7 +33,7 @@ pub fn is_clear_property<R: Rows>(
     x: ObjNo,
     name: &MooStr,
 ) -> Result<Value, Fault>
-    // The rows are those of a well formed world.
+    // The rows are good: sound rows of a well formed world, and petitions as they may be beside it.
     requires { IsGood (R.held rows.now).maps }
     // The answer, or the error, is that of the definition `is_clear_property`.
     ensures comes { Answers (is_clear_property (world_in (R.held rows.now)) programmer x name.now) (R.held rows.now) result }
@@ -55,7 +55,7 @@ pub fn clear_property<R: Rows>(
     x: ObjNo,
     name: &MooStr,
 ) -> Result<Value, Fault>
-    // The rows are those of a well formed world.
+    // The rows are good: sound rows of a well formed world, and petitions as they may be beside it.
     requires { IsGood (R.held rows.old).maps }
     // It does what the definition `clear_property` says. At its errors nothing changes; out of memory the rows may be half changed.
     ensures { Does (clear_property (world_in (R.held rows.old)) programmer x name.now) (R.held rows.old) (R.held rows.new) result }

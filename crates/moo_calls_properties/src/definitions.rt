@@ -37,7 +37,7 @@ fn is_property_name(name: &MooStr) -> bool
 /// Tests whether a new property of x may have the name. E_INVARG if no property may have it, then if x, an ancestor or a descendant defines
 /// one of that name.
 pub(crate) fn may_define<R: Rows>(rows: &R, x: ObjNo, name: &MooStr) -> Result<(), Reason>
-    // The rows are those of a well formed world.
+    // The rows are good: sound rows of a well formed world, and petitions as they may be beside it.
     requires { IsGood (R.held rows.now).maps }
     // There is an error if and only if x may not define a property of the name.
     ensures ok { OnOk result (may_define (world_in (R.held rows.now)) x name.now ≡ true) }
@@ -57,7 +57,7 @@ pub(crate) fn may_define<R: Rows>(rows: &R, x: ObjNo, name: &MooStr) -> Result<(
 /// The property of a name that x itself defines; `None` if x defines no property of the name. Names compare without ASCII case.
 /// (`slot_of` goes on to the ancestors of x.)
 pub(crate) fn own_property<R: Rows>(rows: &R, x: ObjNo, name: &MooStr) -> Option<PropId>
-    // The rows are those of a well formed world.
+    // The rows are good: sound rows of a well formed world, and petitions as they may be beside it.
     requires { IsGood (R.held rows.now).maps }
     // There is one if and only if x itself defines a property of the name.
     ensures exact { is_some result ≡ defines_name (world_in (R.held rows.now)) x name.now }
@@ -78,7 +78,7 @@ pub(crate) fn own_property<R: Rows>(rows: &R, x: ObjNo, name: &MooStr) -> Option
 
 /// Whether x itself defines a property of the name.
 pub(crate) fn defines_name<R: Rows>(rows: &R, x: ObjNo, name: &MooStr) -> bool
-    // The rows are those of a well formed world.
+    // The rows are good: sound rows of a well formed world, and petitions as they may be beside it.
     requires { IsGood (R.held rows.now).maps }
     ensures { result ≡ defines_name (world_in (R.held rows.now)) x name.now }
 {
@@ -119,7 +119,7 @@ fn bits_to_define<R: Rows>(
     name: &MooStr,
     info: Info<'_>,
 ) -> Result<Bits, Fault>
-    // The rows are those of a well formed world.
+    // The rows are good: sound rows of a well formed world, and petitions as they may be beside it.
     requires { IsGood (R.held rows.now).maps }
     // With these rights, `add_property` of any value answers 0, and x defines the property: its slot on x has owner, rights and value.
     ensures ok { IfOk result (λ bits. (v : Value) →
@@ -167,7 +167,7 @@ pub fn add_property<R: Rows>(
     value: &Value,
     info: Info<'_>,
 ) -> Result<Value, Fault>
-    // The rows are those of a well formed world.
+    // The rows are good: sound rows of a well formed world, and petitions as they may be beside it.
     requires good { IsGood (R.held rows.old).maps }
     // The value nests at most 32 deep, and its numbers and texts are within their limits.
     requires fit { fits value.now ≡ true }

@@ -24,7 +24,7 @@ pub fn delete_property<R: Rows>(
     x: ObjNo,
     name: &MooStr,
 ) -> Result<Value, Fault>
-    // The rows are those of a well formed world.
+    // The rows are good: sound rows of a well formed world, and petitions as they may be beside it.
     requires { IsGood (R.held rows.old).maps }
     // It does what the definition `delete_property` says. At its errors nothing changes; out of memory the rows may be half changed.
     ensures { Does (delete_property (world_in (R.held rows.old)) programmer x name.now) (R.held rows.old) (R.held rows.new) result }

@@ -39,7 +39,7 @@ fn may_rename<R: Rows>(
     name: &MooStr,
     new: Option<&MooStr>,
 ) -> Result<(), Reason>
-    // The rows are those of a well formed world.
+    // The rows are good: sound rows of a well formed world, and petitions as they may be beside it.
     requires { IsGood (R.held rows.now).maps }
     // There is an error if and only if the property may not have the new name.
     ensures ok { OnOk result (may_rename (world_in (R.held rows.now)) x name.now (option_map (λ n. n.now) new.entry) ≡ true) }
@@ -78,7 +78,7 @@ fn change_info<R: Rows>(
     bits: Bits,
     new: Option<MooStr>,
 ) -> Result<(), AllocError>
-    // The rows are those of a well formed world.
+    // The rows are good: sound rows of a well formed world, and petitions as they may be beside it.
     requires good { IsGood (R.held rows.old).maps }
     // x has the property.
     requires has { is_some (get (R.held rows.old).maps.slots (x, id)) ≡ true }
@@ -106,7 +106,7 @@ fn property_to_change<R: Rows>(
     info: Info<'_>,
     new_name: Option<&MooStr>,
 ) -> Result<(PropId, Bits), Fault>
-    // The rows are those of a well formed world.
+    // The rows are good: sound rows of a well formed world, and petitions as they may be beside it.
     requires { IsGood (R.held rows.now).maps }
     // With these rights, `set_property_info` answers 0: the slot has owner and rights, and the property the new name, if one is given.
     ensures ok { IfOk result (λ found. let w = world_in (R.held rows.now) in let new = option_map (λ n. n.now) new_name.entry in
@@ -156,7 +156,7 @@ pub fn set_property_info<R: Rows>(
     info: Info<'_>,
     new_name: Option<&MooStr>,
 ) -> Result<Value, Fault>
-    // The rows are those of a well formed world.
+    // The rows are good: sound rows of a well formed world, and petitions as they may be beside it.
     requires { IsGood (R.held rows.old).maps }
     // It does what the definition `set_property_info` says. At its errors nothing changes; out of memory the rows may be half changed.
     ensures { Does (set_property_info (world_in (R.held rows.old)) programmer x name.now (info_shown info.entry)

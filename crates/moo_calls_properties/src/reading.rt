@@ -28,7 +28,7 @@ pub fn get_property<R: Rows>(
     x: ObjNo,
     name: &MooStr,
 ) -> Result<Value, Fault>
-    // The rows are those of a well formed world.
+    // The rows are good: sound rows of a well formed world, and petitions as they may be beside it.
     requires { IsGood (R.held rows.now).maps }
     // The answer, or the error, is that of the definition `get_property`.
     ensures comes { Answers (get_property (world_in (R.held rows.now)) programmer x name.now) (R.held rows.now) result }
@@ -39,7 +39,7 @@ pub fn get_property<R: Rows>(
 
 /// The names of the properties that x defines, in the order of their definition. The only error is a lack of memory.
 fn property_names_of<R: Rows>(rows: &R, alloc: Global, x: ObjNo) -> Result<Vec<MooStr>, AllocError>
-    // The rows are those of a well formed world.
+    // The rows are good: sound rows of a well formed world, and petitions as they may be beside it.
     requires { IsGood (R.held rows.now).maps }
     ensures { IfOk result (λ names. names.items ≡ property_names_of (world_in (R.held rows.now)) x) }
 {
@@ -59,7 +59,7 @@ pub fn properties<R: Rows>(
     programmer: ObjNo,
     x: ObjNo,
 ) -> Result<Value, Fault>
-    // The rows are those of a well formed world.
+    // The rows are good: sound rows of a well formed world, and petitions as they may be beside it.
     requires { IsGood (R.held rows.now).maps }
     // The answer, or the error, is that of the definition `properties`.
     ensures comes { Answers (properties (world_in (R.held rows.now)) programmer x) (R.held rows.now) result }
@@ -101,7 +101,7 @@ pub fn property_info<R: Rows>(
     x: ObjNo,
     name: &MooStr,
 ) -> Result<Value, Fault>
-    // The rows are those of a well formed world.
+    // The rows are good: sound rows of a well formed world, and petitions as they may be beside it.
     requires { IsGood (R.held rows.now).maps }
     // The answer, or the error, is that of the definition `property_info`.
     ensures comes { Answers (property_info (world_in (R.held rows.now)) programmer x name.now) (R.held rows.now) result }

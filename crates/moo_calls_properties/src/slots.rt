@@ -38,7 +38,7 @@ pub(crate) fn readable_slot<'a, R: Rows>(
     x: ObjNo,
     name: &MooStr,
 ) -> Result<FoundSlot<'a>, Reason>
-    // The rows are those of a well formed world.
+    // The rows are good: sound rows of a well formed world, and petitions as they may be beside it.
     requires { IsGood (R.held rows.now).maps }
     // Each call that reads the property goes on with the slot that was found.
     ensures ok { IfOk result (λ found. (then : Slot → Outcome World) →
@@ -68,7 +68,7 @@ pub(crate) fn writable_slot<'a, R: Rows>(
     x: ObjNo,
     name: &MooStr,
 ) -> Result<FoundSlot<'a>, Reason>
-    // The rows are those of a well formed world.
+    // The rows are good: sound rows of a well formed world, and petitions as they may be beside it.
     requires { IsGood (R.held rows.now).maps }
     // What was found is the slot on x of the property of the name.
     ensures slot { IfOk result (λ found.

@@ -22,7 +22,7 @@ pub fn change_row<R: Rows>(
     x: ObjNo,
     change: Change,
 ) -> Result<(), AllocError>
-    // The rows are those of a well formed world.
+    // The rows are good: sound rows of a well formed world, and petitions as they may be beside it.
     requires good { IsGood (R.held rows.old).maps }
     // x is an object.
     requires there { is_object (world_in (R.held rows.old)) x ≡ true }

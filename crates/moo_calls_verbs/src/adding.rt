@@ -118,7 +118,7 @@ pub fn add_verb<R: Rows>(
     verb: VerbInfo<'_>,
     args: ArgTexts<'_>,
 ) -> Result<Value, Fault>
-    // The rows are those of a well formed world.
+    // The rows are good: sound rows of a well formed world, and petitions as they may be beside it.
     requires { IsGood (R.held rows.old).maps }
     // It does what the definition `add_verb` says. At its errors nothing changes; out of memory the rows may be half changed.
     ensures { Does

@@ -28,7 +28,7 @@ pub fn delete_verb<R: Rows>(
     x: ObjNo,
     desc: &Desc,
 ) -> Result<Value, Fault>
-    // The rows are those of a well formed world.
+    // The rows are good: sound rows of a well formed world, and petitions as they may be beside it.
     requires { IsGood (R.held rows.old).maps }
     // It does what the definition `delete_verb` says. At its errors nothing changes; out of memory the rows may be half changed.
     ensures does { Does (delete_verb (world_in (R.held rows.old)) programmer x desc.now) (R.held rows.old) (R.held rows.new) result }
@@ -65,7 +65,7 @@ pub fn set_verb_info<R: Rows>(
     desc: &Desc,
     verb: VerbInfo<'_>,
 ) -> Result<Value, Fault>
-    // The rows are those of a well formed world.
+    // The rows are good: sound rows of a well formed world, and petitions as they may be beside it.
     requires { IsGood (R.held rows.old).maps }
     // It does what the definition `set_verb_info` says. At its errors nothing changes; out of memory the rows may be half changed.
     ensures { Does (set_verb_info (world_in (R.held rows.old)) programmer x desc.now (info_shown verb.entry.info) verb.entry.names.now)
@@ -101,7 +101,7 @@ pub fn set_verb_args<R: Rows>(
     desc: &Desc,
     args: ArgTexts<'_>,
 ) -> Result<Value, Fault>
-    // The rows are those of a well formed world.
+    // The rows are good: sound rows of a well formed world, and petitions as they may be beside it.
     requires { IsGood (R.held rows.old).maps }
     // It does what the definition `set_verb_args` says. At its errors nothing changes; out of memory the rows may be half changed.
     ensures { Does (set_verb_args (world_in (R.held rows.old)) programmer x desc.now (args_shown args.entry))

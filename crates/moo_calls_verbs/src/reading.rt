@@ -26,7 +26,7 @@ use std::alloc::{AllocError, Global};
 /// E_INVARG if x isn't an object; E_PERM if the programmer may not read it.
 /// LambdaMOO Programmer's Manual, 'Operations on Verbs'.
 pub fn verbs<R: Rows>(rows: &R, alloc: Global, programmer: ObjNo, x: ObjNo) -> Result<Value, Fault>
-    // The rows are those of a well formed world.
+    // The rows are good: sound rows of a well formed world, and petitions as they may be beside it.
     requires { IsGood (R.held rows.now).maps }
     // The answer, or the error, is that of the definition `verbs`.
     ensures comes { Answers (verbs (world_in (R.held rows.now)) programmer x) (R.held rows.now) result }
@@ -60,7 +60,7 @@ fn readable_verb<'a, R: Rows>(
     x: ObjNo,
     desc: &Desc,
 ) -> Result<&'a VerbRow, Reason>
-    // The rows are those of a well formed world.
+    // The rows are good: sound rows of a well formed world, and petitions as they may be beside it.
     requires { IsGood (R.held rows.now).maps }
     // Each call that reads the verb goes on with the verb that was found.
     ensures ok { IfOk result (λ verb. (then : VerbRow → Outcome World) →
@@ -106,7 +106,7 @@ pub fn verb_info<R: Rows>(
     x: ObjNo,
     desc: &Desc,
 ) -> Result<Value, Fault>
-    // The rows are those of a well formed world.
+    // The rows are good: sound rows of a well formed world, and petitions as they may be beside it.
     requires { IsGood (R.held rows.now).maps }
     // The answer, or the error, is that of the definition `verb_info`.
     ensures comes { Answers (verb_info (world_in (R.held rows.now)) programmer x desc.now) (R.held rows.now) result }
@@ -138,7 +138,7 @@ pub fn verb_args<R: Rows>(
     x: ObjNo,
     desc: &Desc,
 ) -> Result<Value, Fault>
-    // The rows are those of a well formed world.
+    // The rows are good: sound rows of a well formed world, and petitions as they may be beside it.
     requires { IsGood (R.held rows.now).maps }
     // The answer, or the error, is that of the definition `verb_args`.
     ensures comes { Answers (verb_args (world_in (R.held rows.now)) programmer x desc.now) (R.held rows.now) result }

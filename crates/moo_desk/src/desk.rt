@@ -135,7 +135,8 @@ impl<'a, G: Gate + Drop, C: Clock> Desk<'a, G, C> {
             Admits 0 (book_of self.old.held, G.gave self.old.gate) (book_of self.new.held, G.gave self.new.gate) }
         // If the next may be taken, the gate is asked for it, and room is made for one that came.
         ensures takes { MayTake left now self.old.has_news self.old.held →
-            TakesIn G.takes now self.new.mark result self.old.gate self.new.gate (self.old.held, self.old.has_news) (self.new.held, self.new.has_news) }
+            TakesIn G.takes now self.new.mark result self.old.gate self.new.gate (self.old.held, self.old.has_news)
+            (self.new.held, self.new.has_news) }
         // Else the gate isn't asked, and nothing changes.
         ensures waits { ¬ (MayTake left now self.old.has_news self.old.held) → (result ≡ Took.Nobody) × (self.new ≡ self.old) }
     {

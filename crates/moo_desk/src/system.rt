@@ -138,7 +138,8 @@ impl<'a> Arrivals for SocketDesk<'a> {
         ensures back { TakesBack (self.old.desk.held, self.old.desk.gate.gave) connection (self.new.desk.held, self.new.desk.gate.gave) }
 
         // It is held with this route, to be closed in this way.
-        ensures gets { GetsBack (self.old.desk.held, self.old.desk.gate.gave) connection closing route (self.new.desk.held, self.new.desk.gate.gave) }
+        ensures gets { GetsBack (self.old.desk.held, self.old.desk.gate.gave) connection closing route
+            (self.new.desk.held, self.new.desk.gate.gave) }
     {
         self.desk.close(connection, closing, route)
     }

@@ -14,7 +14,7 @@ use std::alloc::{AllocError, Global};
 
 /// The first name among an object's own properties of which the new parent has a property too; `None` if none of the first 200 is so.
 fn name_shared<R: Rows>(rows: &R, definer: ObjNo, new: ObjNo) -> Option<&MooStr>
-    // The rows are those of a well formed world.
+    // The rows are good: sound rows of a well formed world, and petitions as they may be beside it.
     requires { IsGood (R.held rows.now).maps }
     ensures { option_map (λ name. name.now) result ≡ name_shared (world_of (R.held rows.now).maps) definer new }
 {
@@ -50,7 +50,7 @@ pub(crate) fn clash_name<R: Rows>(
     args: &[Value],
     reason: Reason,
 ) -> Result<Option<MooStr>, AllocError>
-    // The rows are those of a well formed world.
+    // The rows are good: sound rows of a well formed world, and petitions as they may be beside it.
     requires { IsGood (R.held rows.now).maps }
     ensures { IfOk result (λ name. name ≡ clash_name (world_of (R.held rows.now).maps) programmer args.now reason) }
 {

@@ -33,10 +33,13 @@ pub fn disclosure_of<R: Rows>(
 ) -> Result<Disclosure, AllocError>
     // The rows are good ones, unless a granted petition holds the call: then they may be half changed.
     requires { is_held ≡ false → IsGood (R.held rows.now).maps }
-    // If the call is one of the batch itself, `meant` has the names that it may have meant.
+    // If the call is one of the batch itself and fails for the want of a property, `meant` has the first 200 names that the programmer may
+    // list on the objects where the call looks for it; none if the object has a property of the name, or if the call fails for another
+    // reason.
     ensures meant { IfOk result (λ told. is_held ≡ false →
         told.meant.items ≡ names_meant (world_of (R.held rows.now).maps) programmer call args.now reason) }
-    // If the call is one of the batch itself, `clash` is the name that keeps an object from its new parent, if it may be told.
+    // If the call is one of the batch itself and fails as `NameShared`, `clash` is the first of the definer's first 200 names that the new
+    // parent has, if the programmer may read the definer; else there is none.
     ensures clash { IfOk result (λ told. is_held ≡ false →
         told.clash ≡ clash_name (world_of (R.held rows.now).maps) programmer args.now reason) }
     // Of a call that a granted petition holds no name is told.

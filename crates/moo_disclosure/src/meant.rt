@@ -25,7 +25,7 @@ fn add_names<R: Rows>(
     x: ObjNo,
     names: &mut Vec<MooStr>,
 ) -> Result<(), AllocError>
-    // The rows are those of a well formed world.
+    // The rows are good: sound rows of a well formed world, and petitions as they may be beside it.
     requires good { IsGood (R.held rows.now).maps }
     // There are at most 200 names yet.
     requires room { length names.old.items ≤ 200 }
@@ -49,7 +49,7 @@ fn add_listed<R: Rows>(
     x: ObjNo,
     names: &mut Vec<MooStr>,
 ) -> Result<(), AllocError>
-    // The rows are those of a well formed world.
+    // The rows are good: sound rows of a well formed world, and petitions as they may be beside it.
     requires good { IsGood (R.held rows.now).maps }
     // There are at most 200 names yet.
     requires room { length names.old.items ≤ 200 }
@@ -69,7 +69,7 @@ fn names_on<R: Rows>(
     programmer: ObjNo,
     objects: &[ObjNo],
 ) -> Result<Vec<MooStr>, AllocError>
-    // The rows are those of a well formed world.
+    // The rows are good: sound rows of a well formed world, and petitions as they may be beside it.
     requires { IsGood (R.held rows.now).maps }
     ensures { IfOk result (λ names. names.items
         ≡ take 200 (flat_map (names_listed (world_of (R.held rows.now).maps) programmer) objects.now)) }
@@ -89,7 +89,7 @@ fn objects_searched<R: Rows>(
     call: CallName,
     x: ObjNo,
 ) -> Result<Vec<ObjNo>, AllocError>
-    // The rows are those of a well formed world.
+    // The rows are good: sound rows of a well formed world, and petitions as they may be beside it.
     requires { IsGood (R.held rows.now).maps }
     ensures { IfOk result (λ objects. objects.items ≡ objects_searched call (chain (world_of (R.held rows.now).maps) x)) }
 {
@@ -138,7 +138,7 @@ pub(crate) fn names_meant<R: Rows>(
     args: &[Value],
     reason: Reason,
 ) -> Result<Vec<MooStr>, AllocError>
-    // The rows are those of a well formed world.
+    // The rows are good: sound rows of a well formed world, and petitions as they may be beside it.
     requires { IsGood (R.held rows.now).maps }
     ensures { IfOk result (λ names. names.items ≡ names_meant (world_of (R.held rows.now).maps) programmer call args.now reason) }
 {

@@ -78,7 +78,7 @@ fn after_objects<R: Rows>(
     text: &[u8],
     start: usize,
 ) -> Result<usize, CompareFault>
-    // The rows are those of a well formed world.
+    // The rows are good: sound rows of a well formed world, and petitions as they may be beside it.
     requires good { IsGood (R.held rows.now).maps }
     // The outline is that of the rows.
     requires outline { IsOutline (R.held rows.now).maps outline.now }
@@ -128,7 +128,7 @@ fn after_petitions<R: Rows>(
 ///
 /// Differs with the place of the first difference, if there is one; OutOfMemory if memory runs out. It takes the look-ups of a dump.
 pub fn compare<R: Rows>(alloc: Global, rows: &R, text: &[u8]) -> Result<(), CompareFault>
-    // The rows are those of a well formed world.
+    // The rows are good: sound rows of a well formed world, and petitions as they may be beside it.
     requires { IsGood (R.held rows.now).maps }
     // Without a fault the text is the dump, byte for byte.
     ensures ok { OnOk result (dump (state_of (R.held rows.now).maps) ≡ text.now) }

@@ -44,7 +44,7 @@ fn add_definition(
     Ok(())
 }
 
-/// The properties that an object defines, in the order of definition.
+/// The properties that an object defines by these definitions, in the order of definition; none if it isn't in them.
 pub(crate) fn ids_listed(definitions: &Definitions, definer: ObjNo) -> &[PropId]
     ensures { result.now ≡ ids_listed definitions.now definer }
 {

@@ -39,7 +39,7 @@ fn write_objects<R: Rows, W: Write>(
     outline: &Outline,
     output: &mut W,
 ) -> Result<(), RowsDumpFault>
-    // The rows are those of a well formed world.
+    // The rows are good: sound rows of a well formed world, and petitions as they may be beside it.
     requires good { IsGood (R.held rows.now).maps }
     // The outline is that of the rows.
     requires outline { IsOutline (R.held rows.now).maps outline.now }
@@ -83,7 +83,7 @@ fn put_petitions<R: Rows, W: Write>(
 /// All properties and all objects are gone over once, and then each object takes as many look-ups as it has lines. How long its chain
 /// is doesn't count.
 pub fn dump<R: Rows, W: Write>(alloc: Global, rows: &R, output: &mut W) -> Result<(), RowsDumpFault>
-    // The rows are those of a well formed world.
+    // The rows are good: sound rows of a well formed world, and petitions as they may be beside it.
     requires { IsGood (R.held rows.now).maps }
     // The dump of the rows is written after what the writer had, and nothing else.
     ensures ok { OnOk result (Appends (W.contents output.old) (W.contents output.new) (dump (state_of (R.held rows.now).maps))) }

@@ -120,7 +120,7 @@ pub(crate) fn object_lines<R: Rows>(
     outline: &Outline,
     x: ObjNo,
 ) -> Result<Vec<u8>, AllocError>
-    // The rows are those of a well formed world.
+    // The rows are good: sound rows of a well formed world, and petitions as they may be beside it.
     requires good { IsGood (R.held rows.now).maps }
     // The outline is that of the rows.
     requires outline { IsOutline (R.held rows.now).maps outline.now }

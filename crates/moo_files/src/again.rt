@@ -18,13 +18,13 @@ ghost use Rattle.moo_files.specs.Remains.{IsCleanRemains};
 use sqlite_disk::Disk;
 
 /// What is found if the files of a World are opened that a crash left.
-///
-/// `crashed` is the World before the crash, and `place` is where it was. The calls of a World say to which place they lead, and so which
-/// moment a crash leaves, with its rows and its cells. `image` is what the files hold after the crash: a database that the store may have
-/// left. `opened` is what `open_from` answers for such files: its clauses `opens` and `refuses` give the two premises `OpensHeld` and
-/// `RefusesHeld` (`moo_files/proofs/OpenedLemmas.antt`).
+///  `crashed` is the World before the crash, whose disk had returned what was written, and `place` is where it was, with known cells. The
+/// calls of a World say to which place they lead, and so which moment a crash leaves, with its rows and its cells. `image` is what the
+/// files hold after the crash: a database that the store may have left. `opened` is what `open_from` answers for such files: its clauses
+/// `opens` and `refuses` give the two premises `OpensHeld` and `RefusesHeld` (`moo_files/proofs/OpenedLemmas.antt`).
 pub fn open_again<C: Disk, T, D: Disk>()
-    // The files hold a moment that the place of the World may leave. A World that is opened works at it, brought to the present version.
+    // The files hold a moment that the place of the World may leave. A World that is opened works at it, brought to the present version, if
+    // its disk returned what was written.
     ensures found { (crashed : World (FileStore C C.Disk)) (place : Place) (image : Image) (opened : Attempt T D D.Disk) →
         Stands over_files crashed place → IsSome (moment_of place).cells → HasCleanDisk (store_of over_files crashed) →
         IsLeftBy (store_of over_files crashed) image → OpensHeld image opened →

@@ -138,14 +138,16 @@ pub fn open_or_make<D: Disk + Drop>(
     requires db { IsTrue (D.Disk.is_usable files.db) }
     // On a clean disk the connection works.
     ensures opened { IfOk result (λ c. HasCleanDisk (file_state c) → IsOpened c) }
-    // Of files that hold a database it shows what they hold; of files that hold none, a database without tables and rows.
+    // On a clean disk it shows of files that hold a database what they hold, and of files that hold none a database without tables and
+    // rows.
     ensures found { IfOk result (λ c. HasCleanDisk (file_state c) → MakesOrFinds files c) }
     // The connection is in no transaction, and allows any number of steps of SQL.
     ensures fresh { IfOk result IsNew }
-    // After an error files that held no database hold none still, or one without tables; others are left as `sqlite` leaves them.
+    // After an error, if the disk returned what was written (`IsCleanLeft`, here and below), files that held no database hold none still,
+    // or one without tables; others are left as `sqlite` leaves them (`LeavesFiles`).
     ensures spared { IfErr result (λ e. IsCleanLeft e.1 → SparesFiles files e.1) }
-    // Files that hold nothing, or a database, are refused only if memory ran out, a call of the disk failed, or they are as long as their
-    // format allows.
+    // If the disk returned what was written, files that hold nothing, or a database, are refused only if memory ran out, a call of the disk
+    // failed, or they are as long as their format allows.
     ensures cause { IfErr result (λ e. IsCleanLeft e.1 → IsOpenable (image_of D.Disk files) → IsRefused e.0 e.1) }
 {
     let size = PageSize::new(NEW_SIZE).unwrap();

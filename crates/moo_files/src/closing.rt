@@ -16,9 +16,10 @@ use sqlite_trees::store::Store;
 pub fn close_connection<D: Disk + Drop>(conn: Connection<FileStore<D>>) -> Leftover<D>
     // If the disk is clean after the closing, it was clean before.
     ensures clean { IsCleanLeft result → HasCleanDisk (file_state conn) }
-    // What the files then hold, and what a crash leaves of them, is a database that a crash might have left before.
+    // If the disk is clean after the closing (`IsCleanLeft`, here and below), what the files then hold, and what a crash leaves of them, is
+    // a database that a crash might have left before. If closing failed, so is what the next open finds.
     ensures left { IsCleanLeft result → IsLeftOf (file_state conn) result }
-    // The files then hold the last commit, in the database file alone, unless closing failed.
+    // On a clean disk the files then hold the last commit, in the database file alone; or closing failed, and the store came back.
     ensures copied { IsClosedAs conn result }
     // The trees of the connection were numbered. So if it had been stopped, what the disk left of its files was a database too
     // (`disk_leaves_a_database`).

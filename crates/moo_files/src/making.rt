@@ -29,7 +29,7 @@ pub fn make_in<S: Alter + Drop>(
 ) -> Result<World<S>, (StoreFault, Connection<S>)>
     // The connection is in no transaction.
     requires outside { (state S.Store conn).in_transaction ≡ false }
-    // The rows are those of a world.
+    // The rows are good: sound rows of a well formed world, and petitions as they may be beside it.
     requires good { IfSome rows (λ r. IsGood r.maps) }
     // The number of the last batch fits a cell, which is a signed number of 64 bits.
     requires limit { IfSome rows (λ r. r.maps.head.seq < 2 ^ 63) }
@@ -51,7 +51,7 @@ pub(crate) fn make_files<D: Disk + Drop>(
 ) -> Result<World<FileStore<D>>, (StoreFault, Connection<FileStore<D>>)>
     // The connection is in no transaction.
     requires outside { conn.in_transaction ≡ false }
-    // The rows are those of a world.
+    // The rows are good: sound rows of a well formed world, and petitions as they may be beside it.
     requires good { IfSome rows (λ r. IsGood r.maps) }
     // The number of the last batch fits a cell, which is a signed number of 64 bits.
     requires limit { IfSome rows (λ r. r.maps.head.seq < 2 ^ 63) }
@@ -78,19 +78,21 @@ pub fn make_from<T: Start, H: WorldFiles<T>>(
 ) -> Result<World<FileStore<H::Disk>>, (StoreFault, Remains<T, H::Disk>)>
     // The caller may open this path.
     requires may { H.may_open host.now path.now }
-    // The rows are those of a world.
+    // The rows are good: sound rows of a well formed world, and petitions as they may be beside it.
     requires good { IfSome rows (λ r. IsGood r.maps) }
     // The number of the last batch fits a cell, which is a signed number of 64 bits.
     requires limit { IfSome rows (λ r. r.maps.head.seq < 2 ^ 63) }
-    // The world of these rows is made only in files that have room for it: nothing, half a first page, or a database without any table. The
-    // World has the very rows, with their numbers, each in its printed cells, and no other row is in any table; a crash leaves these. At a
-    // fault the store failed or memory ran out, and the files hold what they held, or that world, whole, in the same cells.
+    // A World that is made has these very rows, with their numbers. If the disk returned what was written, the files had room for it
+    // (nothing, half a first page, or a database without any table), each row is in its printed cells, no other row is in any table, and a
+    // crash leaves these. At a fault the store failed or memory ran out. If the disk returned what was written, opened files that held no
+    // database hold none still, or one without rows, or that world, whole, in the same cells; and a database is held as it was, or, if it
+    // had no table, that world.
     ensures makes { Makes (rows_made rows) (image_at T.Start) result }
     // If the start was spent on files that couldn't be opened, the host said why.
     ensures by_host { IfErr result (λ e. IfNotOpened e.1 ((error : OpenError) × H.refuses host.now path.now error)) }
-    // Files that hold nothing or a database are refused only if the host denied them, memory ran out, a call of the disk failed, or they
-    // are as long as their format allows. Once a connection is open, and if they have room for a world, only if a call of the disk failed,
-    // memory ran out, or a row is too big or has no number left.
+    // If the disk returned what was written, files that hold nothing or a database are refused only if the host denied them, memory ran
+    // out, a call of the disk failed, or they are as long as their format allows. Once a connection is open, and if they have room for a
+    // world, only if a call of the disk failed, memory ran out, or a row is too big or has no number left.
     ensures cause { IsOpenable (image_at T.Start) →
         IfErr result (λ e. IsCleanRemains e.1 →
         HasCauseOr (StopsMaking (image_at T.Start) e.0) (IsDenied (H.denies host.now) path.now) e.0 e.1) }

@@ -85,28 +85,30 @@ pub fn open_from<T: Start, H: WorldFiles<T>>(
     // A World that is opened works, and its rows are good. If the disk returned what was written, the files read as a sound database with
     // tables of ours.
     ensures opened { IfOk result (IsOpenedOver (image_at T.Start)) }
-    // It works at the moment that their database shows, brought to the present version; a crash leaves the database, or what that was
-    // migrated to.
+    // If its disk returned what was written, it works at the moment that their database shows, brought to the present version; a crash
+    // leaves the database, or what that was migrated to; and the files held a database of ours.
     ensures opens { (held : Contents) → Hold (image_at T.Start) held →
         IfOk result (λ world. HasCleanDisk (store_of over_files world) → Opens held world) }
-    // If the disk returned what was written, files that held anything are spared, whatever it was: what a crash leaves of them is what they
-    // held, at most with checksums that its pages lacked (SQLite's cksumvfs); and a connection comes back only if they read as a sound
-    // database. If they weren't opened, the fault is CannotOpen, NotADatabase of an empty file, DatabaseBusy or OutOfMemory.
+    // If the files weren't opened, the fault is CannotOpen, NotADatabase of an empty file, DatabaseBusy or OutOfMemory. If they were, and
+    // the disk returned what was written, files that held anything are spared, whatever it was: if no connection comes back, what a crash
+    // leaves of them is what they held, at most with checksums that its pages lacked (SQLite's cksumvfs). A connection comes back only if
+    // they read as a sound database; what is held then the next clause says.
     ensures refused { IfErr result (λ e. IsRefusedFrom (image_at T.Start) e.0 e.1) }
-    // `IsCleanRemains`, here and below: as long as the files were open the disk returned what was written. Calls of it may have failed.
-    // No damage is told of files that hold a whole world, nothing, or tables that aren't ours; and the files still hold what they held, or
-    // what that was migrated to.
+    // `IsCleanRemains`, here and below: as long as the files were open the disk returned what was written. Calls of it may have failed. No
+    // damage is told of files that hold a whole world, nothing, tables that aren't ours, or no sound database; and once files are opened,
+    // no fault says of tables of ours that they aren't. A database is held still, or what it was migrated to; files that held nothing hold
+    // nothing still, or a database without rows. If `sqlite` calls a database malformed as it opens it, a call of the disk failed.
     ensures refuses { (held : Contents) → Hold (image_at T.Start) held →
         IfErr result (λ e. IsCleanRemains e.1 → Refuses held (image_at T.Start) e.0 e.1) }
     // If the start was spent on files that couldn't be opened, the host said why.
     ensures by_host { IfErr result (λ e. IfNotOpened e.1 ((error : OpenError) × H.refuses host.now path.now error)) }
-    // A database is refused before a connection to it is open only if the host denied the path, memory ran out, a call of the disk failed,
-    // or the files are as long as their format allows.
+    // A database is refused before a connection to it is open only if the name isn't a path, the host denied it, memory ran out, a call of
+    // the disk failed, or the files are as long as their format allows.
     ensures cause { (trees : Trees) → HoldsTrees (image_at T.Start) trees →
         IfErr result (λ e. IsCleanRemains e.1 → HasCause (IsDenied (H.denies host.now) path.now) e.0 e.1) }
-    // If the files hold tables of ours, the fault tells their first damage or their later version. If there is neither, the host denied the
-    // path, the disk refused or failed, or memory ran out; or, if the tables are migrated, a row is too big, or a table has no rowid left
-    // for a new row.
+    // If the files hold tables of ours, the fault tells their first damage or their later version. If there is neither, the name isn't a
+    // path, the host denied it, a call of the disk failed, the files are as long as their format allows, or memory ran out; or, if the
+    // tables are migrated, a row is too big, or a table has no rowid left for a new row.
     ensures stopped { (tables : Tables) → HoldsTables (image_at T.Start) tables → IfErr result (λ e. IsCleanRemains e.1 →
         SaysOr (HasCauseOr (StopsOver (AreMigrated tables) e.0) (IsDenied (H.denies host.now) path.now) e.0 e.1) tables e.0) }
 {

@@ -24,14 +24,15 @@ use sqlite_disk::Disk;
 
 /// A connection is stopped, at any call. Whatever the disk then leaves of the bytes of its two files, they hold a database that the
 /// connection may leave.
-///
-/// `image` is any contents of the log and of the database file that the disk allows (`DiskLeaves`). The disk was clean up to the stop.
-/// `close_connection` says of a connection that its trees are numbered.
+///  `image` is any contents of the log and of the database file that the disk allows (`DiskLeaves`). The disk was clean up to the stop, and
+/// the trees of the connection are numbered (`IsNumberedStore`): `close_connection` says so of a connection whose disk is clean until it is
+/// closed.
 pub fn disk_leaves_a_database<D: Disk>()
     // The files hold a database that the connection may leave, if all that it may leave are databases.
     ensures left { (conn : Held (FileStore D D.Disk)) (image : Image) → HasCleanDisk (file_state conn) → IsNumberedStore conn.store →
         AreDatabases (file_state conn).may_leave → DiskLeaves conn.store image → IsLeftBy (file_state conn) image }
-    // So they do if the connection is that of a World, at a place whose cells are known.
+    // So they do if a crash leaves of the connection what may be left at a place (`CrashLeavesAt`) whose cells are known, as of that of a
+    // World.
     ensures place { (conn : Held (FileStore D D.Disk)) (place : Place) (image : Image) → HasCleanDisk (file_state conn) →
         IsNumberedStore conn.store → IsSome (moment_of place).cells → CrashLeavesAt (file_state conn) place →
         DiskLeaves conn.store image → IsLeftBy (file_state conn) image }
@@ -57,15 +58,18 @@ pub fn disk_leaves_what_was_kept<T, D: Disk>()
         BytesLeave image rest next → (end : Moment) × IsSparedMoment m end × HoldsMoment next end }
 {}
 
-/// What is found if the files of a World that was stopped are opened: as `open_again`, from what the disk leaves of their bytes.
+/// What is found if the files of a World that was stopped are opened: as `open_again`, from what the disk leaves of their bytes. Up to the
+/// stop the disk had returned what was written; the cells of the place are known, and the trees of the connection are numbered.
 pub fn open_after_stop<C: Disk, T, D: Disk>()
-    // The files hold a moment that the place of the World may leave. A World that is opened works at it, brought to the present version.
+    // The files hold a moment that the place of the World may leave. A World that is opened works at it, brought to the present version, if
+    // its disk returned what was written.
     ensures found { (stopped : World (FileStore C C.Disk)) (place : Place) (image : Image) (opened : Attempt T D D.Disk) →
         Stands over_files stopped place → IsSome (moment_of place).cells → HasCleanDisk (store_of over_files stopped) →
         IsNumberedStore stopped.connection.store → DiskLeaves stopped.connection.store image → OpensHeld image opened →
         (m : Moment) × MayBeLeft place m × HoldsMoment image m
         × IfOk opened (λ world. HasCleanDisk (store_of over_files world) → OpensAt m world) }
-    // If no World is opened, the files aren't called damaged: the store failed or memory ran out.
+    // If no World is opened, and the disk returned what was written (`IsCleanRemains`), the files aren't called damaged: the store failed
+    // or memory ran out.
     ensures refused { (stopped : World (FileStore C C.Disk)) (place : Place) (image : Image) (opened : Attempt T D D.Disk) →
         Stands over_files stopped place → IsSome (moment_of place).cells → HasCleanDisk (store_of over_files stopped) →
         IsNumberedStore stopped.connection.store → DiskLeaves stopped.connection.store image → RefusesHeld image opened →

@@ -102,7 +102,7 @@ fn ask_each<S: Alter + Drop>(world: &World<S>, each: &Each, whys: &mut Whys) -> 
 
 /// What comes of a question to a World that works and has these rows. NoMemory if memory runs out.
 fn ask_rows<R: Rows>(alloc: Global, rows: &R, question: Question) -> RequestOutcome
-    // The rows are those of a well formed world.
+    // The rows are good: sound rows of a well formed world, and petitions as they may be beside it.
     requires { IsGood (R.held rows.now).maps }
     ensures { let place = Works (rows_alone (R.held rows.now).maps) in MayAnswer place (Asked.Question question) result place }
 {

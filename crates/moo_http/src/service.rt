@@ -155,9 +155,11 @@ pub fn serve_port<S: Alter + Drop, P: Ports, C: Clock + Eprint, W: Write>(
     duty: Duty,
     output: &mut W,
 ) -> Result<(), ServiceFault>
-    // The World was led on by what the connections to this port asked, as `serve_from` says it, and by nothing else: only the batches of
-    // these connections wrote to the tables. If the port can't be listened on, the World and the output are as they were. No other port was
-    // listened on, and no connection is taken after the last that is counted.
+    // The World was led on by what the connections to this port asked, one after another, and by nothing else: it is the very World, unless
+    // it accepted a batch of theirs or its store failed. The two lines tell the port, how many of so many connections were answered, and
+    // how many failed, with those whose answers were lost; at a fault the beginning of the lines is written, and none was taken or each
+    // was. If the port can't be listened on, the World and the output are as they were. No other port was listened on, and no connection is
+    // taken after the last that is counted.
     ensures serves { AdvancesBy S.Store world.old world.new (λ from to. ServesOn
         (attended_between P.Source.Arrivals P.Source.Reader.Read P.Source.Reader.fails P.Source.Writer.Write P.Ports ports.old ports.new)
         result duty.port duty.count from to (W.contents output.old) (W.contents output.new)) }

@@ -46,7 +46,7 @@ fn told_of_look(look: Option<Look>) -> Told
 
 /// All that the rows hold, as text, in memory that has room for a head. The only error is a lack of memory.
 fn dump_with_room<R: Rows>(alloc: Global, rows: &R) -> Result<Text, AllocError>
-    // The rows are those of a well formed world.
+    // The rows are good: sound rows of a well formed world, and petitions as they may be beside it.
     requires { IsGood (R.held rows.now).maps }
     ensures { IfOk result (λ text. text ≡ dump (state_of (R.held rows.now).maps)) }
 {
@@ -60,7 +60,7 @@ fn dump_with_room<R: Rows>(alloc: Global, rows: &R) -> Result<Text, AllocError>
 
 /// What the rows of a world tell of a question. The only error is a lack of memory.
 pub fn tell<R: Rows>(alloc: Global, rows: &R, question: Question) -> Result<Told, AllocError>
-    // The rows are those of a well formed world.
+    // The rows are good: sound rows of a well formed world, and petitions as they may be beside it.
     requires { IsGood (R.held rows.now).maps }
     // It is what the question is told at the state of these rows.
     ensures told { IfOk result (λ told. told ≡ told_of question (state_of (R.held rows.now).maps)) }

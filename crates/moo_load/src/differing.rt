@@ -63,7 +63,7 @@ pub(crate) fn difference_at<R: Rows>(
     text: &[u8],
     place: usize,
 ) -> Result<DumpReason, AllocError>
-    // The rows are those of a well formed world.
+    // The rows are good: sound rows of a well formed world, and petitions as they may be beside it.
     requires { IsGood (R.held rows.now).maps }
 {
     let mut whole = Vec::new(alloc);

@@ -22,7 +22,7 @@ use std::alloc::Global;
 
 /// Tests whether the dump of the rows is the text. NotADump with the first line that differs, and how; OutOfMemory if memory runs out.
 fn check_dump<R: Rows>(alloc: Global, rows: &R, text: &[u8]) -> Result<(), LoadFault>
-    // The rows are those of a well formed world.
+    // The rows are good: sound rows of a well formed world, and petitions as they may be beside it.
     requires { IsGood (R.held rows.now).maps }
     ensures same { OnOk result (dump (state_of (R.held rows.now).maps) ≡ text.now) }
     // The text has a line of the number that a fault names.

@@ -87,7 +87,8 @@ pub fn put<K: OrderedKey, V: Drop>(
     row: Option<V>,
 ) -> Result<(), AllocError>
     // The change is set, and counted as one write.
-    ensures ok { OnOk result ((contents K.cmp changes.new ≡ map.insert (contents K.cmp changes.old) key row) × (writes.new ≡ writes.old + 1)) }
+    ensures ok { OnOk result ((contents K.cmp changes.new ≡ map.insert (contents K.cmp changes.old) key row)
+        × (writes.new ≡ writes.old + 1)) }
     // After an error neither the changes nor the count have changed.
     ensures err { OnErr result ((contents K.cmp changes.new ≡ contents K.cmp changes.old) × (writes.new ≡ writes.old)) }
     // Writes that were within the ticks stay within them.

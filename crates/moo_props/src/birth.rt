@@ -45,7 +45,7 @@ pub fn make_object<R: Rows>(
     parent: ObjNo,
     owner: ObjNo,
 ) -> Result<(), AllocError>
-    // The rows are those of a well formed world.
+    // The rows are good: sound rows of a well formed world, and petitions as they may be beside it.
     requires good { IsGood (R.held rows.old).maps }
     // x has the number that a new object gets.
     requires next { next_object (world_of (R.held rows.old).maps) ≡ Some x }

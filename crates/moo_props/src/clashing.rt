@@ -35,7 +35,7 @@ fn defines_name<R: Rows>(rows: &R, y: ObjNo, name: &MooStr, hash: u64) -> bool
 
 /// The first of x and its descendants, each before its children, that itself defines a property of the name; `None` if none does.
 fn first_to_define_under<R: Rows>(rows: &R, x: ObjNo, name: &MooStr) -> Option<ObjNo>
-    // The rows are those of a well formed world.
+    // The rows are good: sound rows of a well formed world, and petitions as they may be beside it.
     requires { IsGood (R.held rows.now).maps }
     ensures { let w = world_of (R.held rows.now).maps in result ≡ find (λ y. defines_name w y name.now) (walk_down w x) }
 {
@@ -58,7 +58,7 @@ fn first_to_define_under<R: Rows>(rows: &R, x: ObjNo, name: &MooStr) -> Option<O
 ///
 /// LambdaMOO Programmer's Manual, 'Operations on Properties': `add_property`.
 pub fn clashes<R: Rows>(rows: &R, x: ObjNo, name: &MooStr) -> Option<ObjNo>
-    // The rows are those of a well formed world.
+    // The rows are good: sound rows of a well formed world, and petitions as they may be beside it.
     requires { IsGood (R.held rows.now).maps }
     ensures { let w = world_of (R.held rows.now).maps in
         result ≡ (if clashes w x name.now then Some (first_to_define w x name.now) else None) }
@@ -77,7 +77,7 @@ fn meets_on<R: Rows>(
     names: &BTreeMap<(u64, PropId), ()>,
     y: ObjNo,
 ) -> Result<bool, AllocError>
-    // The rows are those of a well formed world.
+    // The rows are good: sound rows of a well formed world, and petitions as they may be beside it.
     requires good { IsGood (R.held rows.now).maps }
     // `names` holds each property of which new has a slot, by the hash of its name.
     requires names { HoldsNames (R.held rows.now).maps new (contents hashed_cmp names.now) }
@@ -95,7 +95,7 @@ fn meets_on<R: Rows>(
 /// The first of x and its descendants, each before its children, that itself defines a property of any name; `None` if none does.
 /// The objects before it define nothing, and so share no name with a new parent. The only error is a lack of memory.
 fn first_definer<R: Rows>(rows: &R, x: ObjNo) -> Result<Option<ObjNo>, AllocError>
-    // The rows are those of a well formed world.
+    // The rows are good: sound rows of a well formed world, and petitions as they may be beside it.
     requires { IsGood (R.held rows.now).maps }
     // For any new parent, the first object that shares a name with it is the same on the walk from the answer on and on the whole walk.
     ensures rest { IfOk result (λ first. (new : ObjNo) → let maps = (R.held rows.now).maps in
@@ -128,7 +128,7 @@ pub fn sharing_definer<R: Rows>(
     x: ObjNo,
     new: ObjNo,
 ) -> Result<Option<ObjNo>, AllocError>
-    // The rows are those of a well formed world.
+    // The rows are good: sound rows of a well formed world, and petitions as they may be beside it.
     requires { IsGood (R.held rows.now).maps }
     ensures { let w = world_of (R.held rows.now).maps in
         IfOk result (λ found. found ≡ (if shares_property_name w x new then Some (first_to_meet w x new) else None)) }

@@ -49,7 +49,7 @@ pub fn define<R: Rows>(
     owner: ObjNo,
     bits: Bits,
 ) -> Result<PropId, AllocError>
-    // The rows are those of a well formed world.
+    // The rows are good: sound rows of a well formed world, and petitions as they may be beside it.
     requires good { IsGood (R.held rows.old).maps }
     // x is an object.
     requires object { is_object (world_of (R.held rows.old).maps) x ≡ true }

@@ -109,7 +109,7 @@ fn properties_defined_by<R: Rows>(
     rows: &R,
     x: ObjNo,
 ) -> Result<Vec<PropId>, AllocError>
-    // The rows are those of a well formed world.
+    // The rows are good: sound rows of a well formed world, and petitions as they may be beside it.
     requires { IsGood (R.held rows.now).maps }
     ensures { IfOk result (λ v. v.items ≡ props_of (x ∷ []) (R.held rows.now).maps.props) }
 {
@@ -127,7 +127,7 @@ fn verbs_among<R: Rows>(
     rows: &R,
     x: ObjNo,
 ) -> Result<Vec<(ObjNo, VerbId)>, AllocError>
-    // The rows are those of a well formed world.
+    // The rows are good: sound rows of a well formed world, and petitions as they may be beside it.
     requires { IsGood (R.held rows.now).maps }
     ensures { IfOk result (λ v. v.items ≡ verbs_among x (entries (R.held rows.now).maps.verbs)) }
 {
@@ -151,7 +151,7 @@ fn next_linked_to<R: Rows>(rows: &R, x: ObjNo, last: ObjNo) -> Option<ObjNo>
 
 /// The objects whose parent or location is x, ascending. The only error is a lack of memory.
 fn linked_among<R: Rows>(alloc: Global, rows: &R, x: ObjNo) -> Result<Vec<ObjNo>, AllocError>
-    // The rows are those of a well formed world.
+    // The rows are good: sound rows of a well formed world, and petitions as they may be beside it.
     requires { IsGood (R.held rows.now).maps }
     ensures { IfOk result (λ v. v.items ≡ linked_among x (entries (R.held rows.now).maps.objects)) }
 {
@@ -173,7 +173,7 @@ fn drop_slots_under<R: Rows>(
     x: ObjNo,
     own: &[PropId],
 ) -> Result<SlotKeys, AllocError>
-    // The rows are those of a well formed world.
+    // The rows are good: sound rows of a well formed world, and petitions as they may be beside it.
     requires { IsGood (R.held rows.old).maps }
     // From x the slots of all its properties are gone, and from each object under it those of the properties `own`.
     ensures rows { OnOk result (let old = (R.held rows.old).maps in R.held rows.new
@@ -285,7 +285,7 @@ fn drop_rows<R: Rows>(
 ///
 /// The only error is a lack of memory, after which the rows may be half changed.
 pub fn drop_object<R: Rows>(alloc: Global, rows: &mut R, x: ObjNo) -> Result<Dropped, AllocError>
-    // The rows are those of a well formed world.
+    // The rows are good: sound rows of a well formed world, and petitions as they may be beside it.
     requires good { IsGood (R.held rows.old).maps }
     // x is an object.
     requires object { is_object (world_of (R.held rows.old).maps) x ≡ true }

@@ -45,7 +45,7 @@ pub(crate) fn find_own_property<R: Rows>(
 /// The property of a name that x has, or `None`. Names compare without ASCII case. It climbs from x to the object that defines it, and to
 /// the root if none does. Each object on the way takes a look-up of the name, and one of its row if the climb goes on.
 pub(crate) fn find_property_named<R: Rows>(rows: &R, x: ObjNo, name: &[u8]) -> Option<PropId>
-    // The rows are those of a well formed world.
+    // The rows are good: sound rows of a well formed world, and petitions as they may be beside it.
     requires { IsGood (R.held rows.now).maps }
     // x has a slot of the property found.
     ensures held { IfSome result (λ id. is_some (get (R.held rows.now).maps.slots (x, id)) ≡ true) }
@@ -70,7 +70,7 @@ pub(crate) fn find_property_named<R: Rows>(rows: &R, x: ObjNo, name: &[u8]) -> O
 /// The property of a name that x has, which x or an ancestor of x defines; `None` if none of them defines one, or if x isn't an object.
 /// Names compare without ASCII case.
 pub fn find<R: Rows>(rows: &R, x: ObjNo, name: &MooStr) -> Option<PropId>
-    // The rows are those of a well formed world.
+    // The rows are good: sound rows of a well formed world, and petitions as they may be beside it.
     requires { IsGood (R.held rows.now).maps }
     // x has a slot of the property found.
     ensures held { IfSome result (λ id. is_some (get (R.held rows.now).maps.slots (x, id)) ≡ true) }
@@ -85,7 +85,7 @@ pub fn find<R: Rows>(rows: &R, x: ObjNo, name: &MooStr) -> Option<PropId>
 /// The slot on x of the property of a name, with the number and the definer of the property; `None` if x has no such property. Names
 /// compare without ASCII case.
 pub fn slot_of<'a, R: Rows>(rows: &'a R, x: ObjNo, name: &MooStr) -> Option<FoundSlot<'a>>
-    // The rows are those of a well formed world.
+    // The rows are good: sound rows of a well formed world, and petitions as they may be beside it.
     requires { IsGood (R.held rows.now).maps }
     // The slot and the definer are those that x has under the name in the world; none is found if it has none.
     ensures slot { option_map (λ f. slot_seen f.definer f.slot.now) result

@@ -43,7 +43,7 @@ pub(crate) fn names_of<R: Rows>(
     rows: &R,
     x: ObjNo,
 ) -> Result<BTreeMap<(u64, PropId), ()>, AllocError>
-    // The rows are those of a well formed world.
+    // The rows are good: sound rows of a well formed world, and petitions as they may be beside it.
     requires { IsGood (R.held rows.now).maps }
     ensures { IfOk result (λ names. HoldsNames (R.held rows.now).maps x (contents hashed_cmp names)) }
 {
@@ -80,7 +80,7 @@ pub(crate) fn has_name<R: Rows>(
     names: &BTreeMap<(u64, PropId), ()>,
     name: &MooStr,
 ) -> bool
-    // The rows are those of a well formed world.
+    // The rows are good: sound rows of a well formed world, and petitions as they may be beside it.
     requires good { IsGood (R.held rows.now).maps }
     // `names` holds each property of which x has a slot, by the hash of its name.
     requires names { HoldsNames (R.held rows.now).maps x (contents hashed_cmp names.now) }

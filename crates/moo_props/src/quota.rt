@@ -19,7 +19,7 @@ use std::alloc::AllocError;
 
 /// The integer that o reads as its quota, with the number of the property; `None` if o has no quota, as `quota_of` says.
 fn quota_here<R: Rows>(rows: &R, o: ObjNo) -> Option<(PropId, i64)>
-    // The rows are those of a well formed world.
+    // The rows are good: sound rows of a well formed world, and petitions as they may be beside it.
     requires { IsGood (R.held rows.now).maps }
     // The integer is the quota of o in the world; there is no answer if o has none.
     ensures quota { option_map (λ p. p.1) result ≡ quota_of (world_of (R.held rows.now).maps) o }
@@ -41,7 +41,7 @@ fn quota_here<R: Rows>(rows: &R, o: ObjNo) -> Option<(PropId, i64)>
 /// The quota of o: the integer that it reads for `ownership_quota`. `None` if o has no such property, if its value isn't an integer, or if
 /// o isn't an object.
 pub fn quota_of<R: Rows>(rows: &R, o: ObjNo) -> Option<i64>
-    // The rows are those of a well formed world.
+    // The rows are good: sound rows of a well formed world, and petitions as they may be beside it.
     requires { IsGood (R.held rows.now).maps }
     ensures { result ≡ quota_of (world_of (R.held rows.now).maps) o }
 {
@@ -62,7 +62,7 @@ fn set_to(quota: i64, by: i64) -> SlotState
 /// Adds `by` to the quota of o; nothing happens if o has none. The sum is set on o itself, and the owner and the bits of its slot stay. The
 /// only error is a lack of memory.
 pub fn change_quota<R: Rows>(rows: &mut R, o: ObjNo, by: i64) -> Result<(), AllocError>
-    // The rows are those of a well formed world.
+    // The rows are good: sound rows of a well formed world, and petitions as they may be beside it.
     requires good { IsGood (R.held rows.old).maps }
     // If o has a quota, its sum with `by` is an integer of 64 bits.
     requires room { HasRoom (quota_of (world_of (R.held rows.old).maps) o) by }
@@ -83,7 +83,7 @@ pub fn change_quota<R: Rows>(rows: &mut R, o: ObjNo, by: i64) -> Result<(), Allo
 
 /// Takes one from the quota of o, if it has one. The only error is a lack of memory.
 pub fn take_quota<R: Rows>(rows: &mut R, o: ObjNo) -> Result<(), AllocError>
-    // The rows are those of a well formed world.
+    // The rows are good: sound rows of a well formed world, and petitions as they may be beside it.
     requires good { IsGood (R.held rows.old).maps }
     // o has no quota, or one above 0.
     requires left { has_quota_left (world_of (R.held rows.old).maps) o ≡ true }
@@ -100,7 +100,7 @@ pub fn take_quota<R: Rows>(rows: &mut R, o: ObjNo) -> Result<(), AllocError>
 /// Gives one back to the quota of o, if it has one. A quota at the greatest integer, 9,223,372,036,854,775,807, stays. The only error is
 /// a lack of memory.
 pub fn return_quota<R: Rows>(rows: &mut R, o: ObjNo) -> Result<(), AllocError>
-    // The rows are those of a well formed world.
+    // The rows are good: sound rows of a well formed world, and petitions as they may be beside it.
     requires { IsGood (R.held rows.old).maps }
     // The world has one given back to the quota of o, if o has one below the greatest integer.
     ensures world { OnOk result (world_of (R.held rows.new).maps ≡ quota_returned (world_of (R.held rows.old).maps) o) }

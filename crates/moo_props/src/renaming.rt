@@ -20,7 +20,7 @@ use std::alloc::AllocError;
 ///
 /// LambdaMOO Programmer's Manual, 'Operations on Properties': `set_property_info`.
 pub fn rename<R: Rows>(rows: &mut R, x: ObjNo, id: PropId, name: MooStr) -> Result<(), AllocError>
-    // The rows are those of a well formed world.
+    // The rows are good: sound rows of a well formed world, and petitions as they may be beside it.
     requires good { IsGood (R.held rows.old).maps }
     // x defines the property.
     requires own { defines (R.held rows.old).maps x id ≡ true }

@@ -58,7 +58,7 @@ fn props_among<R: Rows>(
     these: &BTreeMap<ObjNo, ()>,
     others: &BTreeMap<ObjNo, ()>,
 ) -> Result<Vec<PropId>, AllocError>
-    // The rows are those of a well formed world.
+    // The rows are good: sound rows of a well formed world, and petitions as they may be beside it.
     requires good { IsGood (R.held rows.now).maps }
     // Each key of `these` is y or an ancestor of y.
     requires within { (d : ObjNo) → is_key these.now d ≡ true → is_among d (chain (world_of (R.held rows.now).maps) y) ≡ true }
@@ -83,7 +83,7 @@ fn lost_and_gained<R: Rows>(
     parent: ObjNo,
     new: ObjNo,
 ) -> Result<(Vec<PropId>, Vec<PropId>), AllocError>
-    // The rows are those of a well formed world.
+    // The rows are good: sound rows of a well formed world, and petitions as they may be beside it.
     requires good { IsGood (R.held rows.now).maps }
     // Each object of the chain of `parent` is in the chain of x.
     requires above { (d : ObjNo) → is_among d (chain (world_of (R.held rows.now).maps) parent) ≡ true →
@@ -112,7 +112,7 @@ fn exchange_under<R: Rows>(
     lost: &[PropId],
     gained: &[PropId],
 ) -> Result<(SlotKeys, SlotKeys), AllocError>
-    // The rows are those of a well formed world.
+    // The rows are good: sound rows of a well formed world, and petitions as they may be beside it.
     requires { IsGood (R.held rows.old).maps }
     // On x and on each object under it the slots of lost properties have gone, and then fresh ones of gained properties have come.
     ensures rows { OnOk result (let old = (R.held rows.old).maps in
@@ -166,7 +166,7 @@ pub fn reparent<R: Rows>(
     x: ObjNo,
     new: ObjNo,
 ) -> Result<Touched, AllocError>
-    // The rows are those of a well formed world.
+    // The rows are good: sound rows of a well formed world, and petitions as they may be beside it.
     requires good { IsGood (R.held rows.old).maps }
     // x is an object. The new parent is `#-1`, or an object that is neither x nor under x, and has no property of a name that x or a
     // descendant of x defines.

@@ -21,7 +21,7 @@ pub(crate) fn put_state<R: Rows>(
     id: PropId,
     state: SlotState,
 ) -> Result<(), AllocError>
-    // The rows are those of a well formed world.
+    // The rows are good: sound rows of a well formed world, and petitions as they may be beside it.
     requires good { IsGood (R.held rows.old).maps }
     // x has a slot of the property.
     requires has { is_some (get (R.held rows.old).maps.slots (x, id)) ≡ true }
@@ -55,7 +55,7 @@ pub fn set_value<R: Rows>(
     id: PropId,
     value: Value,
 ) -> Result<(), AllocError>
-    // The rows are those of a well formed world.
+    // The rows are good: sound rows of a well formed world, and petitions as they may be beside it.
     requires good { IsGood (R.held rows.old).maps }
     // Lists nest at most 32 deep in the value.
     requires fit { fits value ≡ true }
@@ -74,7 +74,7 @@ pub fn set_value<R: Rows>(
 ///
 /// LambdaMOO Programmer's Manual, 'Operations on Properties': `clear_property`.
 pub fn clear<R: Rows>(rows: &mut R, x: ObjNo, id: PropId) -> Result<(), AllocError>
-    // The rows are those of a well formed world.
+    // The rows are good: sound rows of a well formed world, and petitions as they may be beside it.
     requires good { IsGood (R.held rows.old).maps }
     // x has a slot of the property.
     requires has { is_some (get (R.held rows.old).maps.slots (x, id)) ≡ true }
@@ -101,7 +101,7 @@ pub fn set_info<R: Rows>(
     owner: ObjNo,
     bits: Bits,
 ) -> Result<(), AllocError>
-    // The rows are those of a well formed world.
+    // The rows are good: sound rows of a well formed world, and petitions as they may be beside it.
     requires good { IsGood (R.held rows.old).maps }
     // x has a slot of the property.
     requires has { is_some (get (R.held rows.old).maps.slots (x, id)) ≡ true }

@@ -24,7 +24,7 @@ pub fn undefine<R: Rows>(
     x: ObjNo,
     id: PropId,
 ) -> Result<(), AllocError>
-    // The rows are those of a well formed world.
+    // The rows are good: sound rows of a well formed world, and petitions as they may be beside it.
     requires good { IsGood (R.held rows.old).maps }
     // x defines the property.
     requires own { defines (R.held rows.old).maps x id ≡ true }

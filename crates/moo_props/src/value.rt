@@ -11,7 +11,7 @@ use moo_value::{ObjNo, Value};
 
 /// The value that x reads for a property that it has: its own, or if that is clear what its parent reads. Takes no memory.
 pub fn value_of<R: Rows>(rows: &R, x: ObjNo, id: PropId) -> &Value
-    // The rows are those of a well formed world.
+    // The rows are good: sound rows of a well formed world, and petitions as they may be beside it.
     requires good { IsGood (R.held rows.now).maps }
     // x has a slot of the property.
     requires has { is_some (get (R.held rows.now).maps.slots (x, id)) ≡ true }

@@ -30,7 +30,7 @@ pub struct Why {
 }
 
 impl Why {
-    /// The line of what is said of a refusal. AllocError: memory ran out.
+    /// A refusal with the line of what is said of it, shortened to 1,000 bytes. AllocError: memory ran out.
     pub(crate) fn new(refusal: Refusal, said: Said) -> Result<Why, AllocError>
         ensures { IfOk result (λ why. why.refusal ≡ refusal) }
     {

@@ -46,8 +46,8 @@ fn put_text<W: Write>(line: &str, output: &mut W) -> Result<u8, Failure>
     }
 }
 
-/// Tests the tables of a World, and writes its number and how many objects it has. A failure if they show other rows or no world, if the
-/// store or the writer fails, or if memory runs out.
+/// Tests the tables of a World, writes its number and how many objects it has, and answers the status 0. A failure if the World had failed,
+/// if the tables show other rows or no world, if the store or the writer fails, or if memory runs out.
 #[tactic(auto, using(moo_store::proofs::Causes::cause_of_store))]
 fn check<W: Write, B: Alter + Drop>(
     alloc: Global,

@@ -61,7 +61,7 @@ fn run_new<'s, S: Streams, B: Alter + Drop>(
     requires read { (path : List ℕ) → ReadsFile task path → S.Host.may_read session.old.host path }
     // The connection is in no transaction.
     requires outside { conn.in_transaction ≡ false }
-    // The rows are those of a world.
+    // The rows are good: sound rows of a well formed world, and petitions as they may be beside it.
     requires good { IfSome rows (λ r. IsGood r.maps) }
     // The number of the last batch fits a cell, which is a signed number of 64 bits.
     requires limit { IfSome rows (λ r. r.maps.head.seq < 2 ^ 63) }

@@ -25,8 +25,8 @@ impl<S: Alter + Drop> Answering for World<S> {
     }
 }
 
-/// Runs the batches of a text in turn, and writes each answer before the next batch is read. Answers how many batches the text had
-/// and how many met a fault; after a `fault` the text is read on, and its batches are answered `closed`.
+/// Runs the batches of a text in turn, and writes each answer before the next batch is read. Answers how many batches were read whole, and
+/// how many of them were answered `fault` or `closed`; after a `fault` the text is read on, and its batches are answered `closed`.
 ///
 /// If it is to stop, it ends after the first answer that isn't `accepted`, which is still written: the World is then that of the batches up
 /// to it, and what follows it in the text isn't run.

@@ -124,7 +124,13 @@ impl Column for VerbBits {
     ghost exact = { λ x y. is _ (and _ _ (booleans_Decides x.r y.r)
         (and _ _ (booleans_Decides x.w y.w) (and _ _ (booleans_Decides x.x y.x) (booleans_Decides x.d y.d))))
         (λ h i. record { r = h.0 i; w = h.1.0 i; x = h.1.1.0 i; d = h.1.1.1 i })
-        (λ e. (ap (λ (b : VerbBits). b.r) e, (ap (λ (b : VerbBits). b.w) e, (ap (λ (b : VerbBits). b.x) e, ap (λ (b : VerbBits). b.d) e)))) };
+        (λ e. (
+          ap (λ (b : VerbBits). b.r) e,
+          (
+            ap (λ (b : VerbBits). b.w) e,
+            (ap (λ (b : VerbBits). b.x) e, ap (λ (b : VerbBits). b.d) e),
+          ),
+        )) };
 }
 
 impl Column for ValueList {

@@ -26,7 +26,7 @@ pub(crate) fn reply_or_changes<N: Witness>(
     batch: &Batch,
     witness: &mut N,
 ) -> Result<(Answers, Changes), Reply>
-    // The rows are those of a world.
+    // The rows are good: sound rows of a well formed world, and petitions as they may be beside it.
     requires { IsGood rows.now.maps }
     // If the batch is accepted, the answers and the changes are those of its verdict.
     ensures accepted { IfOk result (λ taken. IsVerdict rows.now.maps batch.now (Accepted taken.0 taken.1)) }

@@ -37,7 +37,7 @@ pub fn load_in<S: Alter + Drop>(
 ) -> Result<World<S>, (StoreFault, Connection<S>)>
     // The connection is in no transaction.
     requires outside { (state S.Store conn).in_transaction ≡ false }
-    // The rows are those of a world.
+    // The rows are good: sound rows of a well formed world, and petitions as they may be beside it.
     requires good { IsGood rows.maps }
     // The number of the last batch fits a cell, which is a signed number of 64 bits.
     requires limit { rows.maps.head.seq < 2 ^ 63 }

@@ -81,8 +81,8 @@ impl<S: Alter + Drop> World<S> {
     }
 }
 
-/// Runs the batches of a text to its end, as `apply_until` does if it isn't to stop, and answers how many batches the text had and how
-/// many met a fault. The faults are those of `apply_until`.
+/// Runs the batches of a text to its end, as `apply_until` does if it isn't to stop, and answers how many batches were read whole, and how
+/// many of them were answered `fault` or `closed`. The faults are those of `apply_until`.
 pub fn apply_text<R: Read + Drop, W: Write, S: Alter + Drop, N: Notes + Witness>(
     reader: R,
     writer: &mut W,

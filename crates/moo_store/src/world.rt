@@ -70,7 +70,7 @@ impl<S: Alter + Drop> World<S> {
     pub fn over(alloc: Global, connection: Connection<S>, rows: Flat) -> World<S>
         // The connection is in no transaction.
         requires outside { connection.in_transaction ≡ false }
-        // The rows are those of a world.
+        // The rows are good: sound rows of a well formed world, and petitions as they may be beside it.
         requires good { IsGood rows.maps }
         ensures is { result ≡ record { connection = connection; rows = rows; failed = false } }
         // It works at any moment of these rows, if the connection has that moment at rest, or its disk didn't return what was written.
@@ -101,12 +101,14 @@ impl<S: Alter + Drop> World<S> {
         requires limit { cells.now.head.seq < 2 ^ 63 }
         // The changes lead to rows of a world.
         requires changes { (next : Maps) × AreChanges self.old.rows.maps next changes × IsGood next }
-        // The World works at the next moment, of these rows, or failed there; or its store failed between the two.
+        // If there is a reply, the World works at the next moment, of these rows, or failed there; else its store failed between the two.
+        // All that stays keeps its cells, if these are known, of the present version, and show the rows.
         ensures moves { (rows : Maps) → AreChanges self.old.rows.maps rows changes → IsGood rows →
             MovesBy S.Store self.old self.new (λ from to. CommitsTo answers changes rows from result to) }
         // If there is a reply, the cells were committed to the store; else the store failed, for a cause.
         ensures commits { CommitsInto cells.now (store_of S.Store self.old) (store_of S.Store self.new) result }
-        // A fault is Closed, or it is Store for one of the causes that stop any change.
+        // A fault is Closed (by `commits` it never is), or it is Store. If the World's cells are known and the disk returned what was
+        // written, what stopped the store is one of the causes that stop any change (`StopsChange`).
         ensures fault { IfErr result (FailsRun S.Store self.old self.new) }
         // The count of the disk's calls that failed gets no lower, and the connection allows as many steps of SQL as before.
         ensures kept { KeepsFaults (store_of S.Store self.old) (store_of S.Store self.new) }
@@ -133,7 +135,9 @@ impl<S: Alter + Drop> World<S> {
         witness: &mut N,
     ) -> Result<Reply, StoreFault>
         // A reply is that of the verdict at the moment where the World was; or `NoMemory`, but only to a batch whose calls are run. Only an
-        // accepted batch leads on from the moment. If the store failed, the World is between two moments.
+        // accepted batch leads on from the moment, to a next one (`LeadsBy`): of the state that the batch is judged to leave, with all
+        // numbers kept, and the cells of all that stays. There the World works or has failed; if the store failed, it is between the two. A
+        // World that had failed stays as it was, and the fault is Closed.
         ensures moves { MovesBy S.Store self.old self.new (λ from to. RunsAt from batch.now (answer_to result) to) }
         // A reply that isn't `accepted` leaves the World as it was.
         ensures still { IfOk result (λ reply. says_accepted (answer.Replied reply) ≡ false → self.new ≡ self.old) }

@@ -100,7 +100,7 @@ fn is_one_pair(keys: &[Items<usize>]) -> bool
     }
 }
 
-/// Whether a table has one index, and each of its columns is in plain order.
+/// Whether these orders, one for each index of a table, are of one index alone, and each of its columns is in plain order.
 fn is_one_plain(orders: &[Order]) -> bool
     ensures { IsTrue result ↔ orders.now ≡ plain ∷ [] }
 {

@@ -32,7 +32,7 @@ pub fn list<R: Rows>(alloc: Global, rows: &R, x: ObjNo) -> Result<Vec<MooStr>, A
 ///
 /// LambdaMOO Programmer's Manual, 'Operations on Verbs': `add_verb`.
 pub fn add<R: Rows>(rows: &mut R, x: ObjNo, verb: VerbRow) -> Result<VerbId, AllocError>
-    // The rows are those of a well formed world.
+    // The rows are good: sound rows of a well formed world, and petitions as they may be beside it.
     requires good { IsGood (R.held rows.old).maps }
     // x is an object.
     requires object { is_object (world_of (R.held rows.old).maps) x ≡ true }
@@ -66,7 +66,7 @@ pub fn add<R: Rows>(rows: &mut R, x: ObjNo, verb: VerbRow) -> Result<VerbId, All
 ///
 /// LambdaMOO Programmer's Manual, 'Operations on Verbs': `delete_verb`.
 pub fn delete<R: Rows>(rows: &mut R, x: ObjNo, id: VerbId) -> Result<(), AllocError>
-    // The rows are those of a well formed world.
+    // The rows are good: sound rows of a well formed world, and petitions as they may be beside it.
     requires good { IsGood (R.held rows.old).maps }
     // x has the verb.
     requires held { has_verb (R.held rows.old).maps x id ≡ true }
@@ -94,7 +94,7 @@ pub fn set_info<R: Rows>(
     bits: VerbBits,
     names: MooStr,
 ) -> Result<(), AllocError>
-    // The rows are those of a well formed world.
+    // The rows are good: sound rows of a well formed world, and petitions as they may be beside it.
     requires good { IsGood (R.held rows.old).maps }
     // x has the verb.
     requires held { has_verb (R.held rows.old).maps x id ≡ true }
@@ -134,7 +134,7 @@ pub fn set_args<R: Rows>(
     id: VerbId,
     args: ArgSpec,
 ) -> Result<(), AllocError>
-    // The rows are those of a well formed world.
+    // The rows are good: sound rows of a well formed world, and petitions as they may be beside it.
     requires good { IsGood (R.held rows.old).maps }
     // x has the verb.
     requires held { has_verb (R.held rows.old).maps x id ≡ true }
