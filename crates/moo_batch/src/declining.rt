@@ -25,8 +25,8 @@ fn may_decline<R: Rows>(rows: &R, programmer: ObjNo, who: ObjNo) -> bool
     who == programmer || is_wizard(rows, programmer)
 }
 
-/// `decline(number)`: takes a petition away, and answers 0. E_INVARG if no petition has this number; E_PERM if the programmer neither made
-/// the petition nor is a wizard. LambdaMOO has no such call.
+/// `decline(number)`: takes a petition away, and answers 0. E_ARGS and E_TYPE unless it is given one integer; then E_INVARG if no petition
+/// has this number; then E_PERM if the programmer neither made the petition nor is a wizard. LambdaMOO has no such call.
 pub(crate) fn decline<R: Rows>(
     rows: &mut R,
     programmer: ObjNo,

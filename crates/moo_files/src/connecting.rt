@@ -107,8 +107,8 @@ pub(crate) fn open_new<T: Start, H: WorldFiles<T>>(
     ensures connects { IfOk result (IsConnected (IsNewOrFound (image_at T.Start))) }
     // After a fault no world was begun, and the store failed or memory ran out.
     ensures unmade { IfErr result (λ e. IsUnmadeIn (λ _. ⊥) (image_at T.Start) e.0 e.1) }
-    // Files that hold nothing or a database are refused only if the host denied them, memory ran out, a call of the disk failed, or they
-    // are as long as their format allows.
+    // Files that hold nothing or a database are refused only if the name isn't a path, the host denied them, memory ran out, a call of the
+    // disk failed, or they are as long as their format allows.
     ensures cause { IsOpenable (image_at T.Start) →
         IfErr result (λ e. IsCleanRemains e.1 → HasCauseOr (λ _. ⊥) (IsDenied (H.denies host.now) path.now) e.0 e.1) }
     // If the start was spent on files that couldn't be opened, the host said why.
@@ -145,8 +145,8 @@ pub(crate) fn open_connection<T: Start, H: WorldFiles<T>>(
     // and it is called malformed only if the disk failed.
     ensures unconnects { (held : Contents) → Hold (image_at T.Start) held →
         IfErr result (λ e. IsCleanRemains e.1 → Unconnects held (image_at T.Start) e.0 e.1) }
-    // A database is refused only if the host denied it, memory ran out, a call of the disk failed, or the files are as long as their format
-    // allows.
+    // A database is refused only if the name isn't a path, the host denied it, memory ran out, a call of the disk failed, or the files are
+    // as long as their format allows.
     ensures cause { (trees : Trees) → HoldsTrees (image_at T.Start) trees →
         IfErr result (λ e. IsCleanRemains e.1 → HasCauseOr (λ _. ⊥) (IsDenied (H.denies host.now) path.now) e.0 e.1) }
     // If the start was spent on files that couldn't be opened, the host said why.

@@ -64,11 +64,10 @@ pub(crate) fn make_files<D: Disk + Drop>(
 /// Makes the world of these rows, or without any the opening one, in a file that holds no table, or makes the file. A file that it makes,
 /// or that held no database, has pages of 1,024 bytes. `T` stands for what the files hold: it is proved for all contents, and no code
 /// reads them.
-///
-/// The rows have to be good, and `seq` below 2^63. They are written in one transaction. Store with `ErrorCode::NameTaken`: the file
-/// has a table, an index or a view already, and stays as it is. Store with any other code: the file can't be made or opened, isn't
-/// a database, is open elsewhere, or the disk failed. OutOfMemory: memory ran out, and nothing was written. At each refusal what is
-/// left of the files is handed back.
+///  The rows have to be good, and `seq` below 2^63. They are written in one transaction. Store with `ErrorCode::NameTaken`: the file has a
+/// table, an index or a view already, and stays as it is. Store with any other code: the file can't be made or opened, isn't a database, is
+/// open elsewhere, or the disk failed. OutOfMemory: memory ran out, and no row was written; files that held no database may hold a blank
+/// one. At each refusal what is left of the files is handed back.
 pub fn make_from<T: Start, H: WorldFiles<T>>(
     alloc: Global,
     host: &H,
@@ -84,15 +83,16 @@ pub fn make_from<T: Start, H: WorldFiles<T>>(
     requires limit { IfSome rows (λ r. r.maps.head.seq < 2 ^ 63) }
     // A World that is made has these very rows, with their numbers. If the disk returned what was written, the files had room for it
     // (nothing, half a first page, or a database without any table), each row is in its printed cells, no other row is in any table, and a
-    // crash leaves these. At a fault the store failed or memory ran out. If the disk returned what was written, opened files that held no
-    // database hold none still, or one without rows, or that world, whole, in the same cells; and a database is held as it was, or, if it
-    // had no table, that world.
+    // crash leaves these. At a fault the store failed or memory ran out; if no file was opened, it is CannotOpen, NotADatabase,
+    // DatabaseBusy or OutOfMemory. If the disk returned what was written, files that held anything but nothing or half a first page are
+    // spared, sound or not, unless a connection comes back (`Spares`); opened files that held no database hold none still, or one without
+    // rows, or that world, whole, in the same cells; and a database is held as it was, or, if it had no table, that world.
     ensures makes { Makes (rows_made rows) (image_at T.Start) result }
     // If the start was spent on files that couldn't be opened, the host said why.
     ensures by_host { IfErr result (λ e. IfNotOpened e.1 ((error : OpenError) × H.refuses host.now path.now error)) }
-    // If the disk returned what was written, files that hold nothing or a database are refused only if the host denied them, memory ran
-    // out, a call of the disk failed, or they are as long as their format allows. Once a connection is open, and if they have room for a
-    // world, only if a call of the disk failed, memory ran out, or a row is too big or has no number left.
+    // If the disk returned what was written, files that hold nothing or a database are refused only if the name isn't a path, the host
+    // denied them, memory ran out, a call of the disk failed, or they are as long as their format allows. Once a connection is open, and if
+    // they have room for a world, only if a call of the disk failed, memory ran out, or a row is too big or has no number left.
     ensures cause { IsOpenable (image_at T.Start) →
         IfErr result (λ e. IsCleanRemains e.1 →
         HasCauseOr (StopsMaking (image_at T.Start) e.0) (IsDenied (H.denies host.now) path.now) e.0 e.1) }

@@ -29,7 +29,8 @@ impl<T: Drop, D: Disk + Drop> Remains<T, D> {
     /// Closes a connection, as `close_connection` does; anything else comes back as it is.
     pub fn close(self) -> Remains<T, D>
         ensures closed { IsClosedFrom self result }
-        // Files that held a state before they were closed hold it still, and so does what a crash leaves of them.
+        // If the disk returned what was written until they were closed (`IsCleanRemains`, here and below), files that held a state before
+        // that hold it still, and so does what a crash leaves of them.
         ensures state { (image : Image) (s : State) → (IsCleanRemains self → StillHolds image self s) → IsCleanRemains result →
             StillHolds image result s }
         // Files that held a database hold it still, or what it was migrated to.

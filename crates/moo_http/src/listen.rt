@@ -141,6 +141,8 @@ fn serve_each<'a, S: Alter + Drop, A: Arrivals, C: Clock + Eprint>(
 ) -> Served
     ensures count { result.answered + result.failed ≡ count }
     // The World was led on by what the connections asked, in their order, and by nothing else. So many were answered, and so many failed.
+    // Each connection is written the answer to what it asked (`Exchanged`): whole, if it counts as answered; else at most the beginning of
+    // it, unless the answer was lost later.
     ensures serves { AdvancesBy S.Store world.old world.new (λ from to. Attended A.Arrivals A.Reader.Read A.Reader.fails
         A.Writer.Write result.answered result.failed arrivals.old from arrivals.new to) }
 {

@@ -123,8 +123,9 @@ pub fn serve_from<S: Alter + Drop, A: Arrivals, C: Clock + Eprint, W: Write>(
     duty: Duty,
     output: &mut W,
 ) -> Result<(), ServiceFault>
-    // The World was led on by what the connections asked that the source handed out, and by nothing else. The two lines tell the port and
-    // how many were answered and failed; at a fault the beginning of them is written.
+    // The World was led on by what the connections asked that the source handed out, and by nothing else. Each connection is written the
+    // answer to what it asked (`Exchanged`): whole, if it counts as answered; else at most the beginning of it, unless the answer was lost
+    // later. The two lines tell the port and how many were answered and failed; at a fault the beginning of them is written.
     ensures serves { AdvancesBy S.Store world.old world.new (λ from to.
         ServesFrom A.Arrivals A.Reader.Read A.Reader.fails A.Writer.Write result duty.port duty.count
         arrivals.old from arrivals.new to (W.contents output.old) (W.contents output.new)) }
@@ -156,10 +157,11 @@ pub fn serve_port<S: Alter + Drop, P: Ports, C: Clock + Eprint, W: Write>(
     output: &mut W,
 ) -> Result<(), ServiceFault>
     // The World was led on by what the connections to this port asked, one after another, and by nothing else: it is the very World, unless
-    // it accepted a batch of theirs or its store failed. The two lines tell the port, how many of so many connections were answered, and
-    // how many failed, with those whose answers were lost; at a fault the beginning of the lines is written, and none was taken or each
-    // was. If the port can't be listened on, the World and the output are as they were. No other port was listened on, and no connection is
-    // taken after the last that is counted.
+    // it accepted a batch of theirs or its store failed. Each connection is written the answer to what it asked (`Exchanged`): whole, if it
+    // counts as answered, or if the answer was lost after that; else at most the beginning of it. The two lines tell the port, how many of
+    // so many connections were answered, and how many failed, with those whose answers were lost; at a fault the beginning of the lines is
+    // written, and none was taken or each was. If the port can't be listened on, the World and the output are as they were. No other port
+    // was listened on, and no connection is taken after the last that is counted.
     ensures serves { AdvancesBy S.Store world.old world.new (λ from to. ServesOn
         (attended_between P.Source.Arrivals P.Source.Reader.Read P.Source.Reader.fails P.Source.Writer.Write P.Ports ports.old ports.new)
         result duty.port duty.count from to (W.contents output.old) (W.contents output.new)) }

@@ -86,7 +86,7 @@ impl Said {
         self.put(digits.as_bytes())
     }
 
-    /// Adds a call as it is written, `name(value, ...)`. AllocError: memory ran out.
+    /// Adds a call as it is written, `name(value, ...)`, each value as `put_value` shows it. AllocError: memory ran out.
     pub(crate) fn put_call(&mut self, name: CallName, values: &[Value]) -> Result<(), AllocError> {
         self.put(name.spelling())?;
         self.put(b"(")?;

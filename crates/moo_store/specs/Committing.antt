@@ -25,7 +25,8 @@ CommitsTo answers changes rows from r to =
     (next : Moment) × (next.rows ≡ rows) × KeepsCellsAt (moment_of from).rows next.rows (moment_of from).cells next.cells
     × CommitsAs answers changes (moment_of from) next r to
 
--- The cells of the changes were committed to the store of the World, if there is a reply; or they weren't, for the error of the fault.
+-- The cells of the changes were committed to the store of the World, if there is a reply; else the store failed, with the error of the
+-- fault, and a crash may leave them or not.
 abbrev pub CommitsInto : CellChanges → Database → Database → Result Reply StoreFault → Type 0
 CommitsInto cells old new (Ok reply) = CommitsCells {A = Unit {0}} cells old new (Ok tt)
 CommitsInto cells old new (Err (Store error)) = CommitsCells {A = Unit {0}} cells old new (Err error)

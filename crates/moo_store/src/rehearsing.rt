@@ -86,7 +86,8 @@ impl Rehearsal {
         Answer::Replied(Reply::Accepted { seq, answers })
     }
 
-    /// Answers a batch as if it was run: its reply, or `closed` if the rehearsal has failed.
+    /// Answers a batch as if it was run, and makes the changes of an accepted one in the rows alone: its reply, or `closed` if the
+    /// rehearsal has failed. If the batch is refused, the witness sees why, once.
     fn rehearse<N: Witness>(&mut self, batch: &Batch, witness: &mut N) -> Answer
         // Running the batch where the rehearsal is may give this answer, and lead to where the rehearsal then is. It is never `fault`.
         ensures { (from : Place) → IsRehearsedAt self.old from → (to : Place) × IsRehearsedAt self.new to

@@ -105,7 +105,9 @@ impl<S: Alter + Drop> World<S> {
         // All that stays keeps its cells, if these are known, of the present version, and show the rows.
         ensures moves { (rows : Maps) → AreChanges self.old.rows.maps rows changes → IsGood rows →
             MovesBy S.Store self.old self.new (λ from to. CommitsTo answers changes rows from result to) }
-        // If there is a reply, the cells were committed to the store; else the store failed, for a cause.
+        // If there is a reply, the cells were committed to the store; else the store failed, for a cause: its tables, if it is open still,
+        // are those before, and a crash leaves those or the changed ones. Rows that no change names stay, and so does the table that isn't
+        // read. It is said of tables of the present version at rest, and of a disk that returned what was written (`CommitsCells`).
         ensures commits { CommitsInto cells.now (store_of S.Store self.old) (store_of S.Store self.new) result }
         // A fault is Closed (by `commits` it never is), or it is Store. If the World's cells are known and the disk returned what was
         // written, what stopped the store is one of the causes that stop any change (`StopsChange`).

@@ -19,7 +19,8 @@ fn is_required(column: &Column, name: &[u8], kind: Kind) -> bool
         && column.collation == Collation::Binary
 }
 
-/// Whether the columns of a table are the listed ones, in their order: each a name and a type, never empty, and without a default.
+/// Whether the columns of a table are the listed ones, in their order: each with its name and type, of a STRICT table, never empty, without
+/// a default, and compared byte for byte.
 pub(crate) fn are_required(columns: &[Column], listed: &[(&str, Kind)]) -> bool
     ensures { IsTrue result ↔ columns.now ≡ map (λ c. required c.1 c.0.now) listed.now }
 {

@@ -152,7 +152,8 @@ fn are_our_tables(tables: &[Table], ours: &[OurTable]) -> bool
     }
 }
 
-/// Whether an index is that of the key of a table whose key is its first two columns: with this name and tree, on this table.
+/// Whether an index is that of the key of a table whose key is its first two columns: with this name and tree, on the table whose tree is
+/// `table`.
 fn is_key_index(index: &Index, name: &[u8], tree: u32, table: u32) -> bool
     ensures { IsTrue result ↔ index.now ≡ key_index name.now tree table }
 {
