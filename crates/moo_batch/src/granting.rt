@@ -35,7 +35,8 @@ fn run_petitioned_call<R: Rows>(
     requires fit { fits held.now ≡ true }
     // The rows haven't said that their ticks are spent.
     requires leave { (R.held rows.old).base.is_spent ≡ false }
-    // It does what the definition `held_step` says. At its errors nothing changes; out of memory the rows may be half changed.
+    // It does what the definition `held_step` says. If it is done, the rows are good, petitions and the count of batches stay, and what
+    // stays keeps its number (`Does`). At its errors nothing changes; out of memory the rows may be half changed.
     ensures { Does (held_step (world_in (R.held rows.old)) wizard held.now) (R.held rows.old) (R.held rows.new) result }
 {
     match held_call(held) {

@@ -28,7 +28,8 @@ pub fn set_player_flag<R: Rows>(
 ) -> Result<Value, Fault>
     // The rows are good: sound rows of a well formed world, and petitions as they may be beside it.
     requires { IsGood (R.held rows.old).maps }
-    // It does what the definition `set_player_flag` says. At its errors nothing changes; out of memory the rows may be half changed.
+    // It does what the definition `set_player_flag` says. If it is done, the rows are good, petitions and the count of batches stay, and
+    // what stays keeps its number (`Does`). At its errors nothing changes; out of memory the rows may be half changed.
     ensures { Does (set_player_flag (world_in (R.held rows.old)) programmer x value.now) (R.held rows.old) (R.held rows.new) result }
 {
     if !valid(rows, x) {
@@ -66,7 +67,8 @@ pub fn set_accept<R: Rows>(
     requires good { IsGood (R.held rows.old).maps }
     // The objects of the list have numbers of 32 bits.
     requires numbers { list_all is_number (unwrap_or list []) ≡ true }
-    // It does what the definition `set_accept` says. At its errors nothing changes; out of memory the rows may be half changed.
+    // It does what the definition `set_accept` says. If it is done, the rows are good, petitions and the count of batches stay, and what
+    // stays keeps its number (`Does`). At its errors nothing changes; out of memory the rows may be half changed.
     ensures { Does (set_accept (world_in (R.held rows.old)) programmer x list) (R.held rows.old) (R.held rows.new) result }
 {
     if !valid(rows, x) {
@@ -91,7 +93,8 @@ pub(crate) fn set_player_flag_given<R: Rows>(
 ) -> Result<Value, Fault>
     // The rows are good: sound rows of a well formed world, and petitions as they may be beside it.
     requires { IsGood (R.held rows.old).maps }
-    // It does what `named_call` says of `SetPlayerFlag`. At its errors nothing changes; out of memory the rows may be half changed.
+    // It does what `named_call` says of `SetPlayerFlag`. If it is done, the rows are good, petitions and the count of batches stay, and
+    // what stays keeps its number (`Does`). At its errors nothing changes; out of memory the rows may be half changed.
     ensures { Does (named_call (world_in (R.held rows.old)) programmer SetPlayerFlag args.now) (R.held rows.old) (R.held rows.new) result }
 {
     let (x, value) = object_and_value(args)?;
@@ -109,7 +112,8 @@ pub(crate) fn set_accept_given<R: Rows>(
     requires good { IsGood (R.held rows.old).maps }
     // Each argument nests at most 32 deep, and its numbers and texts are within their limits.
     requires fit { list_all fits args.now ≡ true }
-    // It does what `named_call` says of `SetAccept`. At its errors nothing changes; out of memory the rows may be half changed.
+    // It does what `named_call` says of `SetAccept`. If it is done, the rows are good, petitions and the count of batches stay, and what
+    // stays keeps its number (`Does`). At its errors nothing changes; out of memory the rows may be half changed.
     ensures { Does (named_call (world_in (R.held rows.old)) programmer SetAccept args.now) (R.held rows.old) (R.held rows.new) result }
 {
     let (x, list) = object_and_accept(alloc, args)?;

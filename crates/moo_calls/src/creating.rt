@@ -109,7 +109,8 @@ pub fn create<R: Rows>(
 ) -> Result<Value, Fault>
     // The rows are good: sound rows of a well formed world, and petitions as they may be beside it.
     requires { IsGood (R.held rows.old).maps }
-    // It does what the definition `create` says. At its errors nothing changes; out of memory the rows may be half changed.
+    // It does what the definition `create` says. If it is done, the rows are good, petitions and the count of batches stay, and what stays
+    // keeps its number (`Does`). At its errors nothing changes; out of memory the rows may be half changed.
     ensures { Does (create (world_in (R.held rows.old)) programmer parent owner) (R.held rows.old) (R.held rows.new) result }
 {
     if !rights::may_be_parent(rows, programmer, parent) {
@@ -143,7 +144,8 @@ pub(crate) fn create_given<R: Rows>(
 ) -> Result<Value, Fault>
     // The rows are good: sound rows of a well formed world, and petitions as they may be beside it.
     requires { IsGood (R.held rows.old).maps }
-    // It does what `named_call` says of `Create`. At its errors nothing changes; out of memory the rows may be half changed.
+    // It does what `named_call` says of `Create`. If it is done, the rows are good, petitions and the count of batches stay, and what stays
+    // keeps its number (`Does`). At its errors nothing changes; out of memory the rows may be half changed.
     ensures { Does (named_call (world_in (R.held rows.old)) programmer Create args.now) (R.held rows.old) (R.held rows.new) result }
 {
     let (parent, owner) = parent_and_owner(args, programmer)?;

@@ -27,7 +27,8 @@ pub fn move_into<R: Rows>(
 ) -> Result<Value, Fault>
     // The rows are good: sound rows of a well formed world, and petitions as they may be beside it.
     requires { IsGood (R.held rows.old).maps }
-    // It does what the definition `move` says. At its errors nothing changes; out of memory the rows may be half changed.
+    // It does what the definition `move` says. If it is done, the rows are good, petitions and the count of batches stay, and what stays
+    // keeps its number (`Does`). At its errors nothing changes; out of memory the rows may be half changed.
     ensures { Does (move (world_in (R.held rows.old)) programmer x destination) (R.held rows.old) (R.held rows.new) result }
 {
     if !valid(rows, x) {
@@ -58,7 +59,8 @@ pub(crate) fn move_given<R: Rows>(
 ) -> Result<Value, Fault>
     // The rows are good: sound rows of a well formed world, and petitions as they may be beside it.
     requires { IsGood (R.held rows.old).maps }
-    // It does what `named_call` says of `Move`. At its errors nothing changes; out of memory the rows may be half changed.
+    // It does what `named_call` says of `Move`. If it is done, the rows are good, petitions and the count of batches stay, and what stays
+    // keeps its number (`Does`). At its errors nothing changes; out of memory the rows may be half changed.
     ensures { Does (named_call (world_in (R.held rows.old)) programmer Move args.now) (R.held rows.old) (R.held rows.new) result }
 {
     let (x, destination) = two_objects(args)?;

@@ -91,7 +91,8 @@ pub(crate) fn set_given<R: Rows>(
     requires good { IsGood (R.held rows.old).maps }
     // Each argument nests at most 32 deep, and its numbers and texts are within their limits.
     requires fit { list_all fits args.now ≡ true }
-    // It does what `named_call` says of `Set`. At its errors nothing changes; out of memory the rows may be half changed.
+    // It does what `named_call` says of `Set`. If it is done, the rows are good, petitions and the count of batches stay, and what stays
+    // keeps its number (`Does`). At its errors nothing changes; out of memory the rows may be half changed.
     ensures { Does (named_call (world_in (R.held rows.old)) programmer Set args.now) (R.held rows.old) (R.held rows.new) result }
 {
     let (x, property, value) = object_text_and_value(args)?;
@@ -109,7 +110,8 @@ pub(crate) fn add_property_given<R: Rows>(
     requires good { IsGood (R.held rows.old).maps }
     // Each argument nests at most 32 deep, and its numbers and texts are within their limits.
     requires fit { list_all fits args.now ≡ true }
-    // It does what `named_call` says of `AddProperty`. At its errors nothing changes; out of memory the rows may be half changed.
+    // It does what `named_call` says of `AddProperty`. If it is done, the rows are good, petitions and the count of batches stay, and what
+    // stays keeps its number (`Does`). At its errors nothing changes; out of memory the rows may be half changed.
     ensures { Does (named_call (world_in (R.held rows.old)) programmer AddProperty args.now) (R.held rows.old) (R.held rows.new) result }
 {
     let new = new_property(args)?;
@@ -127,7 +129,8 @@ pub(crate) fn delete_property_given<R: Rows>(
 ) -> Result<Value, Fault>
     // The rows are good: sound rows of a well formed world, and petitions as they may be beside it.
     requires { IsGood (R.held rows.old).maps }
-    // It does what `named_call` says of `DeleteProperty`. At its errors nothing changes; out of memory the rows may be half changed.
+    // It does what `named_call` says of `DeleteProperty`. If it is done, the rows are good, petitions and the count of batches stay, and
+    // what stays keeps its number (`Does`). At its errors nothing changes; out of memory the rows may be half changed.
     ensures { Does (named_call (world_in (R.held rows.old)) programmer DeleteProperty args.now)
         (R.held rows.old) (R.held rows.new) result }
 {
@@ -145,7 +148,8 @@ pub(crate) fn set_property_info_given<R: Rows>(
 ) -> Result<Value, Fault>
     // The rows are good: sound rows of a well formed world, and petitions as they may be beside it.
     requires { IsGood (R.held rows.old).maps }
-    // It does what `named_call` says of `SetPropertyInfo`. At its errors nothing changes; out of memory the rows may be half changed.
+    // It does what `named_call` says of `SetPropertyInfo`. If it is done, the rows are good, petitions and the count of batches stay, and
+    // what stays keeps its number (`Does`). At its errors nothing changes; out of memory the rows may be half changed.
     ensures { Does (named_call (world_in (R.held rows.old)) programmer SetPropertyInfo args.now)
         (R.held rows.old) (R.held rows.new) result }
 {
@@ -169,7 +173,8 @@ pub(crate) fn clear_property_given<R: Rows>(
 ) -> Result<Value, Fault>
     // The rows are good: sound rows of a well formed world, and petitions as they may be beside it.
     requires { IsGood (R.held rows.old).maps }
-    // It does what `named_call` says of `ClearProperty`. At its errors nothing changes; out of memory the rows may be half changed.
+    // It does what `named_call` says of `ClearProperty`. If it is done, the rows are good, petitions and the count of batches stay, and
+    // what stays keeps its number (`Does`). At its errors nothing changes; out of memory the rows may be half changed.
     ensures { Does (named_call (world_in (R.held rows.old)) programmer ClearProperty args.now) (R.held rows.old) (R.held rows.new) result }
 {
     let (x, property) = object_and_text(args)?;

@@ -71,7 +71,8 @@ pub(crate) fn add_verb_given<R: Rows>(
 ) -> Result<Value, Fault>
     // The rows are good: sound rows of a well formed world, and petitions as they may be beside it.
     requires { IsGood (R.held rows.old).maps }
-    // It does what `named_call` says of `AddVerb`. At its errors nothing changes; out of memory the rows may be half changed.
+    // It does what `named_call` says of `AddVerb`. If it is done, the rows are good, petitions and the count of batches stay, and what
+    // stays keeps its number (`Does`). At its errors nothing changes; out of memory the rows may be half changed.
     ensures { Does (named_call (world_in (R.held rows.old)) programmer AddVerb args.now) (R.held rows.old) (R.held rows.new) result }
 {
     let new = new_verb(args)?;
@@ -87,7 +88,8 @@ pub(crate) fn delete_verb_given<R: Rows>(
 ) -> Result<Value, Fault>
     // The rows are good: sound rows of a well formed world, and petitions as they may be beside it.
     requires { IsGood (R.held rows.old).maps }
-    // It does what `named_call` says of `DeleteVerb`. At its errors nothing changes; out of memory the rows may be half changed.
+    // It does what `named_call` says of `DeleteVerb`. If it is done, the rows are good, petitions and the count of batches stay, and what
+    // stays keeps its number (`Does`). At its errors nothing changes; out of memory the rows may be half changed.
     ensures { Does (named_call (world_in (R.held rows.old)) programmer DeleteVerb args.now) (R.held rows.old) (R.held rows.new) result }
 {
     let (x, desc) = object_and_desc(alloc, args)?;
@@ -103,7 +105,8 @@ pub(crate) fn set_verb_info_given<R: Rows>(
 ) -> Result<Value, Fault>
     // The rows are good: sound rows of a well formed world, and petitions as they may be beside it.
     requires { IsGood (R.held rows.old).maps }
-    // It does what `named_call` says of `SetVerbInfo`. At its errors nothing changes; out of memory the rows may be half changed.
+    // It does what `named_call` says of `SetVerbInfo`. If it is done, the rows are good, petitions and the count of batches stay, and what
+    // stays keeps its number (`Does`). At its errors nothing changes; out of memory the rows may be half changed.
     ensures { Does (named_call (world_in (R.held rows.old)) programmer SetVerbInfo args.now) (R.held rows.old) (R.held rows.new) result }
 {
     let new = new_verb_info(alloc, args)?;
@@ -119,7 +122,8 @@ pub(crate) fn set_verb_args_given<R: Rows>(
 ) -> Result<Value, Fault>
     // The rows are good: sound rows of a well formed world, and petitions as they may be beside it.
     requires { IsGood (R.held rows.old).maps }
-    // It does what `named_call` says of `SetVerbArgs`. At its errors nothing changes; out of memory the rows may be half changed.
+    // It does what `named_call` says of `SetVerbArgs`. If it is done, the rows are good, petitions and the count of batches stay, and what
+    // stays keeps its number (`Does`). At its errors nothing changes; out of memory the rows may be half changed.
     ensures { Does (named_call (world_in (R.held rows.old)) programmer SetVerbArgs args.now) (R.held rows.old) (R.held rows.new) result }
 {
     let new = new_verb_args(alloc, args)?;

@@ -28,7 +28,8 @@ pub fn chparent<R: Rows>(
 ) -> Result<Value, Fault>
     // The rows are good: sound rows of a well formed world, and petitions as they may be beside it.
     requires { IsGood (R.held rows.old).maps }
-    // It does what the definition `chparent` says. At its errors nothing changes; out of memory the rows may be half changed.
+    // It does what the definition `chparent` says. If it is done, the rows are good, petitions and the count of batches stay, and what
+    // stays keeps its number (`Does`). At its errors nothing changes; out of memory the rows may be half changed.
     ensures { Does (chparent (world_in (R.held rows.old)) programmer x new) (R.held rows.old) (R.held rows.new) result }
 {
     if !valid(rows, x) {
@@ -62,7 +63,8 @@ pub(crate) fn chparent_given<R: Rows>(
 ) -> Result<Value, Fault>
     // The rows are good: sound rows of a well formed world, and petitions as they may be beside it.
     requires { IsGood (R.held rows.old).maps }
-    // It does what `named_call` says of `Chparent`. At its errors nothing changes; out of memory the rows may be half changed.
+    // It does what `named_call` says of `Chparent`. If it is done, the rows are good, petitions and the count of batches stay, and what
+    // stays keeps its number (`Does`). At its errors nothing changes; out of memory the rows may be half changed.
     ensures { Does (named_call (world_in (R.held rows.old)) programmer Chparent args.now) (R.held rows.old) (R.held rows.new) result }
 {
     let (x, new) = two_objects(args)?;

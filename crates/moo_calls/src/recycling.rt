@@ -24,7 +24,8 @@ pub fn recycle<R: Rows>(
 ) -> Result<Value, Fault>
     // The rows are good: sound rows of a well formed world, and petitions as they may be beside it.
     requires { IsGood (R.held rows.old).maps }
-    // It does what the definition `recycle` says. At its errors nothing changes; out of memory the rows may be half changed.
+    // It does what the definition `recycle` says. If it is done, the rows are good, petitions and the count of batches stay, and what stays
+    // keeps its number (`Does`). At its errors nothing changes; out of memory the rows may be half changed.
     ensures { Does (recycle (world_in (R.held rows.old)) programmer x) (R.held rows.old) (R.held rows.new) result }
 {
     let owner = match rows.object(x) {
@@ -48,7 +49,8 @@ pub(crate) fn recycle_given<R: Rows>(
 ) -> Result<Value, Fault>
     // The rows are good: sound rows of a well formed world, and petitions as they may be beside it.
     requires { IsGood (R.held rows.old).maps }
-    // It does what `named_call` says of `Recycle`. At its errors nothing changes; out of memory the rows may be half changed.
+    // It does what `named_call` says of `Recycle`. If it is done, the rows are good, petitions and the count of batches stay, and what
+    // stays keeps its number (`Does`). At its errors nothing changes; out of memory the rows may be half changed.
     ensures { Does (named_call (world_in (R.held rows.old)) programmer Recycle args.now) (R.held rows.old) (R.held rows.new) result }
 {
     recycle(rows, alloc, programmer, one_object(args)?)

@@ -96,7 +96,8 @@ pub fn set_built_in<R: Rows>(
     requires there { is_object (world_in (R.held rows.old)) x ≡ true }
     // The value nests at most 32 deep, and its numbers and texts are within their limits.
     requires fit { fits value.now ≡ true }
-    // It does what the definition `set_built_in` says. At its errors nothing changes; out of memory the rows may be half changed.
+    // It does what the definition `set_built_in` says. If it is done, the rows are good, petitions and the count of batches stay, and what
+    // stays keeps its number (`Does`). At its errors nothing changes; out of memory the rows may be half changed.
     ensures { Does (set_built_in (world_in (R.held rows.old)) programmer x field value.now) (R.held rows.old) (R.held rows.new) result }
 {
     let change = change_of(alloc, field, value)?;

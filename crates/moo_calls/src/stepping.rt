@@ -28,7 +28,8 @@ fn named_call<R: Rows>(
     requires good { IsGood (R.held rows.old).maps }
     // Each argument nests at most 32 deep, and its numbers and texts are within their limits.
     requires fit { list_all fits args.now ≡ true }
-    // It does what `named_call` says of `name`. At its errors nothing changes; out of memory the rows may be half changed.
+    // It does what `named_call` says of `name`. If it is done, the rows are good, petitions and the count of batches stay, and what stays
+    // keeps its number (`Does`). At its errors nothing changes; out of memory the rows may be half changed.
     ensures { Does (named_call (world_in (R.held rows.old)) programmer name args.now) (R.held rows.old) (R.held rows.new) result }
 {
     match name {
@@ -83,7 +84,8 @@ pub fn step<R: Rows>(
 ) -> Result<Value, Fault>
     // The rows are good: sound rows of a well formed world, and petitions as they may be beside it.
     requires good { IsGood (R.held rows.old).maps }
-    // It does what the definition `world_call` says. At its errors nothing changes; out of memory the rows may be half changed.
+    // It does what the definition `world_call` says. If it is done, the rows are good, petitions and the count of batches stay, and what
+    // stays keeps its number (`Does`). At its errors nothing changes; out of memory the rows may be half changed.
     ensures { Does (world_call (world_in (R.held rows.old)) programmer call.now) (R.held rows.old) (R.held rows.new) result }
 {
     step_named(rows, alloc, programmer, call.name, call.args.items())
@@ -102,7 +104,8 @@ pub fn step_named<R: Rows>(
     requires good { IsGood (R.held rows.old).maps }
     // Each argument nests at most 32 deep, and its numbers and texts are within their limits.
     requires fit { list_all fits args.now ≡ true }
-    // It does what the definition `world_call` says. At its errors nothing changes; out of memory the rows may be half changed.
+    // It does what the definition `world_call` says. If it is done, the rows are good, petitions and the count of batches stay, and what
+    // stays keeps its number (`Does`). At its errors nothing changes; out of memory the rows may be half changed.
     ensures { Does (world_call (world_in (R.held rows.old)) programmer (record { name = name; args = args.now }))
         (R.held rows.old) (R.held rows.new) result }
 {

@@ -171,7 +171,8 @@ pub fn add_property<R: Rows>(
     requires good { IsGood (R.held rows.old).maps }
     // The value nests at most 32 deep, and its numbers and texts are within their limits.
     requires fit { fits value.now ≡ true }
-    // It does what the definition `add_property` says. At its errors nothing changes; out of memory the rows may be half changed.
+    // It does what the definition `add_property` says. If it is done, the rows are good, petitions and the count of batches stay, and what
+    // stays keeps its number (`Does`). At its errors nothing changes; out of memory the rows may be half changed.
     ensures { Does (add_property (world_in (R.held rows.old)) programmer x name.now value.now (info_shown info.entry))
         (R.held rows.old) (R.held rows.new) result }
 {

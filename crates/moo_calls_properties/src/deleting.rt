@@ -26,7 +26,8 @@ pub fn delete_property<R: Rows>(
 ) -> Result<Value, Fault>
     // The rows are good: sound rows of a well formed world, and petitions as they may be beside it.
     requires { IsGood (R.held rows.old).maps }
-    // It does what the definition `delete_property` says. At its errors nothing changes; out of memory the rows may be half changed.
+    // It does what the definition `delete_property` says. If it is done, the rows are good, petitions and the count of batches stay, and
+    // what stays keeps its number (`Does`). At its errors nothing changes; out of memory the rows may be half changed.
     ensures { Does (delete_property (world_in (R.held rows.old)) programmer x name.now) (R.held rows.old) (R.held rows.new) result }
 {
     if !valid(rows, x) {

@@ -158,7 +158,8 @@ pub fn set_property_info<R: Rows>(
 ) -> Result<Value, Fault>
     // The rows are good: sound rows of a well formed world, and petitions as they may be beside it.
     requires { IsGood (R.held rows.old).maps }
-    // It does what the definition `set_property_info` says. At its errors nothing changes; out of memory the rows may be half changed.
+    // It does what the definition `set_property_info` says. If it is done, the rows are good, petitions and the count of batches stay, and
+    // what stays keeps its number (`Does`). At its errors nothing changes; out of memory the rows may be half changed.
     ensures { Does (set_property_info (world_in (R.held rows.old)) programmer x name.now (info_shown info.entry)
         (option_map (λ n. n.now) new_name.entry)) (R.held rows.old) (R.held rows.new) result }
 {

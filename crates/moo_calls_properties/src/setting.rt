@@ -30,7 +30,8 @@ pub fn set_property<R: Rows>(
     requires good { IsGood (R.held rows.old).maps }
     // The value nests at most 32 deep, and its numbers and texts are within their limits.
     requires fit { fits value.now ≡ true }
-    // It does what the definition `set_property` says. At its errors nothing changes; out of memory the rows may be half changed.
+    // It does what the definition `set_property` says. If it is done, the rows are good, petitions and the count of batches stay, and what
+    // stays keeps its number (`Does`). At its errors nothing changes; out of memory the rows may be half changed.
     ensures { Does (set_property (world_in (R.held rows.old)) programmer x name.now value.now) (R.held rows.old) (R.held rows.new) result }
 {
     let found = writable_slot(rows, programmer, x, name)?;

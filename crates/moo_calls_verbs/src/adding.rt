@@ -120,7 +120,8 @@ pub fn add_verb<R: Rows>(
 ) -> Result<Value, Fault>
     // The rows are good: sound rows of a well formed world, and petitions as they may be beside it.
     requires { IsGood (R.held rows.old).maps }
-    // It does what the definition `add_verb` says. At its errors nothing changes; out of memory the rows may be half changed.
+    // It does what the definition `add_verb` says. If it is done, the rows are good, petitions and the count of batches stay, and what
+    // stays keeps its number (`Does`). At its errors nothing changes; out of memory the rows may be half changed.
     ensures { Does
         (add_verb (world_in (R.held rows.old)) programmer x (info_shown verb.entry.info) verb.entry.names.now (args_shown args.entry))
         (R.held rows.old) (R.held rows.new) result }

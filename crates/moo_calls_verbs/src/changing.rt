@@ -30,7 +30,8 @@ pub fn delete_verb<R: Rows>(
 ) -> Result<Value, Fault>
     // The rows are good: sound rows of a well formed world, and petitions as they may be beside it.
     requires { IsGood (R.held rows.old).maps }
-    // It does what the definition `delete_verb` says. At its errors nothing changes; out of memory the rows may be half changed.
+    // It does what the definition `delete_verb` says. If it is done, the rows are good, petitions and the count of batches stay, and what
+    // stays keeps its number (`Does`). At its errors nothing changes; out of memory the rows may be half changed.
     ensures does { Does (delete_verb (world_in (R.held rows.old)) programmer x desc.now) (R.held rows.old) (R.held rows.new) result }
     // If it is done, one row is gone, that of the verb which the descriptor means; all other verbs stay, with their numbers.
     ensures gone { OnOk result
@@ -67,7 +68,8 @@ pub fn set_verb_info<R: Rows>(
 ) -> Result<Value, Fault>
     // The rows are good: sound rows of a well formed world, and petitions as they may be beside it.
     requires { IsGood (R.held rows.old).maps }
-    // It does what the definition `set_verb_info` says. At its errors nothing changes; out of memory the rows may be half changed.
+    // It does what the definition `set_verb_info` says. If it is done, the rows are good, petitions and the count of batches stay, and what
+    // stays keeps its number (`Does`). At its errors nothing changes; out of memory the rows may be half changed.
     ensures { Does (set_verb_info (world_in (R.held rows.old)) programmer x desc.now (info_shown verb.entry.info) verb.entry.names.now)
         (R.held rows.old) (R.held rows.new) result }
 {
@@ -103,7 +105,8 @@ pub fn set_verb_args<R: Rows>(
 ) -> Result<Value, Fault>
     // The rows are good: sound rows of a well formed world, and petitions as they may be beside it.
     requires { IsGood (R.held rows.old).maps }
-    // It does what the definition `set_verb_args` says. At its errors nothing changes; out of memory the rows may be half changed.
+    // It does what the definition `set_verb_args` says. If it is done, the rows are good, petitions and the count of batches stay, and what
+    // stays keeps its number (`Does`). At its errors nothing changes; out of memory the rows may be half changed.
     ensures { Does (set_verb_args (world_in (R.held rows.old)) programmer x desc.now (args_shown args.entry))
         (R.held rows.old) (R.held rows.new) result }
 {

@@ -18,7 +18,8 @@ ghost use Rattle.moo_files.specs.Remains.{IsCleanRemains};
 use sqlite_disk::Disk;
 
 /// What is found if the files of a World are opened that a crash left.
-///  `crashed` is the World before the crash, whose disk had returned what was written, and `place` is where it was, with known cells. The
+///
+/// `crashed` is the World before the crash, whose disk had returned what was written, and `place` is where it was, with known cells. The
 /// calls of a World say to which place they lead, and so which moment a crash leaves, with its rows and its cells. `image` is what the
 /// files hold after the crash: a database that the store may have left. `opened` is what `open_from` answers for such files: its clauses
 /// `opens` and `refuses` give the two premises `OpensHeld` and `RefusesHeld` (`moo_files/proofs/OpenedLemmas.antt`).

@@ -144,7 +144,8 @@ pub fn open_or_make<D: Disk + Drop>(
     // The connection is in no transaction, and allows any number of steps of SQL.
     ensures fresh { IfOk result IsNew }
     // After an error, if the disk returned what was written (`IsCleanLeft`, here and below), files that held no database hold none still,
-    // or one without tables; others are left as `sqlite` leaves them (`LeavesFiles`).
+    // or one without tables. Of others a crash leaves what it could leave before, at most with checksums that their pages lacked (SQLite's
+    // cksumvfs); or, if `sqlite` had read all trees already, just these (`LeavesFiles`, a word of `sqlite`).
     ensures spared { IfErr result (λ e. IsCleanLeft e.1 → SparesFiles files e.1) }
     // If the disk returned what was written, files that hold nothing, or a database, are refused only if memory ran out, a call of the disk
     // failed, or they are as long as their format allows.

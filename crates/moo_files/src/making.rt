@@ -64,7 +64,8 @@ pub(crate) fn make_files<D: Disk + Drop>(
 /// Makes the world of these rows, or without any the opening one, in a file that holds no table, or makes the file. A file that it makes,
 /// or that held no database, has pages of 1,024 bytes. `T` stands for what the files hold: it is proved for all contents, and no code
 /// reads them.
-///  The rows have to be good, and `seq` below 2^63. They are written in one transaction. Store with `ErrorCode::NameTaken`: the file has a
+///
+/// The rows have to be good, and `seq` below 2^63. They are written in one transaction. Store with `ErrorCode::NameTaken`: the file has a
 /// table, an index or a view already, and stays as it is. Store with any other code: the file can't be made or opened, isn't a database, is
 /// open elsewhere, or the disk failed. OutOfMemory: memory ran out, and no row was written; files that held no database may hold a blank
 /// one. At each refusal what is left of the files is handed back.

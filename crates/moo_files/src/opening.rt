@@ -94,10 +94,11 @@ pub fn open_from<T: Start, H: WorldFiles<T>>(
     // leaves of them is what they held, at most with checksums that its pages lacked (SQLite's cksumvfs). A connection comes back only if
     // they read as a sound database; what is held then the next clause says.
     ensures refused { IfErr result (λ e. IsRefusedFrom (image_at T.Start) e.0 e.1) }
-    // `IsCleanRemains`, here and below: as long as the files were open the disk returned what was written. Calls of it may have failed. No
-    // damage is told of files that hold a whole world, nothing, tables that aren't ours, or no sound database; and once files are opened,
-    // no fault says of tables of ours that they aren't. A database is held still, or what it was migrated to; files that held nothing hold
-    // nothing still, or a database without rows. If `sqlite` calls a database malformed as it opens it, a call of the disk failed.
+    // `IsCleanRemains`, here and below: as long as the files were open the disk returned what was written. Calls of it may have failed.
+    // Neither a damage nor a later version is told of files that hold a whole world, nothing, tables that aren't ours, or no sound
+    // database; and once files are opened, no fault says of tables of ours that they aren't. A database is held still, or what it was
+    // migrated to; files that held nothing hold nothing still, or a database without rows. If `sqlite` calls a database malformed as it
+    // opens it, a call of the disk failed.
     ensures refuses { (held : Contents) → Hold (image_at T.Start) held →
         IfErr result (λ e. IsCleanRemains e.1 → Refuses held (image_at T.Start) e.0 e.1) }
     // If the start was spent on files that couldn't be opened, the host said why.

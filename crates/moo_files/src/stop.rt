@@ -24,7 +24,8 @@ use sqlite_disk::Disk;
 
 /// A connection is stopped, at any call. Whatever the disk then leaves of the bytes of its two files, they hold a database that the
 /// connection may leave.
-///  `image` is any contents of the log and of the database file that the disk allows (`DiskLeaves`). The disk was clean up to the stop, and
+///
+/// `image` is any contents of the log and of the database file that the disk allows (`DiskLeaves`). The disk was clean up to the stop, and
 /// the trees of the connection are numbered (`IsNumberedStore`): `close_connection` says so of a connection whose disk is clean until it is
 /// closed.
 pub fn disk_leaves_a_database<D: Disk>()

@@ -158,10 +158,12 @@ pub fn serve_port<S: Alter + Drop, P: Ports, C: Clock + Eprint, W: Write>(
 ) -> Result<(), ServiceFault>
     // The World was led on by what the connections to this port asked, one after another, and by nothing else: it is the very World, unless
     // it accepted a batch of theirs or its store failed. Each connection is written the answer to what it asked (`Exchanged`): whole, if it
-    // counts as answered, or if the answer was lost after that; else at most the beginning of it. The two lines tell the port, how many of
-    // so many connections were answered, and how many failed, with those whose answers were lost; at a fault the beginning of the lines is
-    // written, and none was taken or each was. If the port can't be listened on, the World and the output are as they were. No other port
-    // was listened on, and no connection is taken after the last that is counted.
+    // counts as answered, or if the answer was lost after that; else at most the beginning of it. A connection whose waits aren't limited
+    // is neither read nor written to; any other fails without being asked only if its reader failed or memory was refused. A turn for which
+    // the source hands out none counts as failed. The two lines tell the port, how many of so many connections were answered, and how many
+    // failed, with those whose answers were lost; at a fault the beginning of the lines is written, and none was taken or each was. If the
+    // port can't be listened on, the World and the output are as they were. No other port was listened on, and no connection is taken after
+    // the last that is counted.
     ensures serves { AdvancesBy S.Store world.old world.new (λ from to. ServesOn
         (attended_between P.Source.Arrivals P.Source.Reader.Read P.Source.Reader.fails P.Source.Writer.Write P.Ports ports.old ports.new)
         result duty.port duty.count from to (W.contents output.old) (W.contents output.new)) }

@@ -93,7 +93,8 @@ fn body_length(bytes: &[u8], lines: &[HeaderSpan]) -> Option<u64>
     }
 }
 
-/// Why a request whose body has no stated length is refused: a line names a coding, or else none states a length.
+/// Why a request whose body has no stated length is refused: a line names a coding, or else no line states a length in 1 to 10 digits, or
+/// more than one line does.
 fn length_refusal(bytes: &[u8], lines: &[HeaderSpan]) -> Refusal
     // The places of the lines are inside the bytes.
     requires within { All (IsHeaderWithin (length bytes.now)) lines.now }
@@ -106,7 +107,8 @@ fn length_refusal(bytes: &[u8], lines: &[HeaderSpan]) -> Refusal
     }
 }
 
-/// The plan of a request with a body, which is read by its stated length. It is refused if none is stated, or one over 1,048,576 bytes.
+/// The plan of a request with a body, which is read by its stated length. It is refused if `body_length` finds none (so also if a coding is
+/// beside it), or one over 1,048,576 bytes.
 fn plan_body(form: Form, bytes: &[u8], lines: &[HeaderSpan]) -> Plan
     // The places of the lines are inside the bytes.
     requires within { All (IsHeaderWithin (length bytes.now)) lines.now }

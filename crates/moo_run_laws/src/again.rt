@@ -40,15 +40,15 @@ pub fn run_and_run_again<'s, 'n, S: Streams, N: Streams>(
     // The file of batches or the dump that the next words name may be read.
     requires next_read { (task : Task) (path : List ℕ) → NamesTask (map (λ word. word.now) next_words.now) task →
         ReadsFile task path → N.Host.may_read next.old.host path }
-    // Each run tells how it ended. The second goes on where the first left off: from the moment after the accepted batches whose answers
-    // were written, or after these and one more. If its words take up the file (not `init`, `load` or `:memory:`), it runs from there, or
-    // fails for a cause and tells no damage. The first run started from the moment that its file held, or from a new world. If it ran no
-    // task over the file, the second goes on from what the file held, or, of version 1, from some moment of the same rows. What stays keeps
-    // its number and its cells, and no number is given again. After a service everything counts that its connections asked, also if the
-    // answer couldn't be sent. `FileRuns` has the words for this: `HandsOver` says it of two runs, by `GoesTo` of the first and
-    // `GoesOnFrom` of the second. The first record is the first run, the second the next one: the words, what the files held, the session
-    // before and after, how the words ended, and what was left once the file was closed. How they ended isn't handed out: there is an
-    // `ends` that fits.
+    // A run that opened or made no world of its file tells why (`TellsEnd`), and each closes its file. If the disk of the first returned
+    // what was written, the second goes on where the first left off: from the moment after the accepted batches whose answers were written,
+    // or after these and one more. If its words take up the file (not `init`, `load` or `:memory:`), it runs from there, or fails for a
+    // cause and tells no damage. The first run started from the moment that its file held, or from a new world. If it ran no task over the
+    // file, the second goes on from what the file held, or, of version 1, from some moment of the same rows. What stays keeps its number
+    // and its cells, and no number is given again. After a service everything counts that its connections asked, also if the answer
+    // couldn't be sent. `FileRuns` has the words for this: `HandsOver` says it of two runs, by `GoesTo` of the first and `GoesOnFrom` of
+    // the second. The first record is the first run, the second the next one: the words, what the files held, the session before and after,
+    // how the words ended, and what was left once the file was closed. How they ended isn't handed out: there is an `ends` that fits.
     ensures again { RunsTwice ⟦<Session<'s, S> as HasRun>⟧ ⟦<Session<'n, N> as HasRun>⟧
         (λ ends. record {
           words = map (λ word. word.now) words.now;

@@ -43,16 +43,16 @@ pub fn run_halted<'s, 'n, S: Streams, N: Streams>(
     // The file of batches or the dump that the next words name may be read.
     requires next_read { (task : Task) (path : List ℕ) → NamesTask (map (λ word. word.now) next_words.now) task →
         ReadsFile task path → N.Host.may_read next.old.host path }
-    // The first run begins with this session, whose files, output and connections stop after what `halt` grants. Each run tells how it
-    // ended. If the disk of the first returned what was written, the second goes on where the first left off (`HandsOver`, as in
-    // `run_and_run_again`), from any bytes that the disk may leave once the files are closed. `EndLeaves` supposes: if closing shut the
-    // store, or no task ran and its trees aren't numbered, the bytes hold a database; if `sqlite` was opening the files, their pages end in
-    // no checksums; files that it or the host couldn't open are as they were. If its words take up the file, it starts from what the files
-    // held, or, of version 1, from some moment of the same rows, if no task ran over them, and else after the batches that were answered
-    // `accepted` (of a service, after all that were accepted), or after one more; or it fails for a cause, and tells no damage. The first
-    // record is the halted run, the second the next one: the words, what the files held, the session before and after, how the words ended,
-    // and what was left once the file was closed. How the words ended isn't handed out, nor the session that the halted run began with:
-    // there are some that fit.
+    // The first run begins with this session, whose files, output and connections stop after what `halt` grants. A run that opened or made
+    // no world of its file tells why (`TellsEnd`). If the disk of the first returned what was written, the second goes on where the first
+    // left off (`HandsOver`, as in `run_and_run_again`), from any bytes that the disk may leave once the files are closed. `EndLeaves`
+    // supposes: if closing shut the store, or no task ran and its trees aren't numbered, the bytes hold a database that the store may
+    // leave; if `sqlite` was opening the files, their pages end in no checksums; files that it or the host couldn't open are as they were.
+    // If the words of the second run take up the file, that run starts from what the files held, or, of version 1, from some moment of the
+    // same rows, if no task ran over them, and else after the batches that were answered `accepted` (of a service, after all that were
+    // accepted), or after one more; or it fails for a cause, and tells no damage. The first record is the halted run, the second the next
+    // one: the words, what the files held, the session before and after, how the words ended, and what was left once the file was closed.
+    // How the words ended isn't handed out, nor the session that the halted run began with: there are some that fit.
     ensures halted { HaltsBefore ⟦<Session<'s, HaltingStreams<S>> as HasRun>⟧ ⟦<Session<'n, N> as HasRun>⟧
         (λ began. (began.host ≡ record { inner = session.entry.host; halt = halt }) × (began.input ≡ session.entry.input)
         × (began.output ≡ record { inner = session.entry.output; bytes_left = halt.bytes }))

@@ -170,8 +170,9 @@ fn read_whole<S: Alter>(
     }
 }
 
-/// Reads the rows that the tables of this version show, one table after another. Only if they show no world, or if memory ran out, all
-/// are read again at once. The faults are those of `read_whole`.
+/// Reads the rows that the tables of this version show, one table after another. Only if they show no world, or if memory ran out, all are
+/// read again at once. The faults: `Damaged` with the first damage, `NewerVersion`, `OutOfMemory`, and Store, but never with
+/// `NotADatabase`.
 #[tactic(auto, using(crate::proofs::Causes::readings))]
 fn read_each<S: Alter>(
     alloc: Global,

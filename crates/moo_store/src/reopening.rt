@@ -16,7 +16,8 @@ use sqlite::Alter;
 
 /// A World was stopped by a crash, at whichever call of its store. If what the crash leaves is opened again, the new World works at a
 /// moment that may be left at the place of the first, with all its cells, brought to the present version.
-///  `crashed` is at `place`, whose cells are known, by the clause of the call that moved it (`moves` of `run_one` and `run`, that of
+///
+/// `crashed` is at `place`, whose cells are known, by the clause of the call that moved it (`moves` of `run_one` and `run`, that of
 /// `apply_until`), `found` is a connection that was opened on one of the contents that the crash may have left, and `opened` is what
 /// `adopt` made of that.
 pub fn a_crash_is_taken_up<S: Alter, T: Alter>()
