@@ -76,9 +76,9 @@ fn links_descend<R: Rows>(rows: &R, link: TreeLink) -> bool
     first_bad::<ObjRow, R, _>(rows, |x, row| !goes_down(rows, link, x, row)).is_none()
 }
 
-/// The objects from x up its chain of links to one whose chain is known to end, or to the end; `None` if the chain doesn't end. The only
-/// error is a lack of memory.
-fn unended_chain<R: Rows>(
+/// The objects from x up its chain of links, before the first whose chain is known to end, or up to the end of the chain; `None` if the
+/// chain doesn't end: `count` steps, at least as many as there are objects, meet no end then. The only error is a lack of memory.
+fn path_to_end<R: Rows>(
     alloc: Global,
     rows: &R,
     link: TreeLink,
@@ -149,7 +149,7 @@ pub fn first_loop<R: Rows>(
     let count = object_count(rows);
     let mut known = BTreeMap::new(alloc);
     for (x, _row) in each_object(rows) {
-        match unended_chain(alloc, rows, link, &known, count, x)? {
+        match path_to_end(alloc, rows, link, &known, count, x)? {
             None => return Ok(Some(x)),
             Some(path) => note_path(&mut known, &path)?,
         }

@@ -24,7 +24,8 @@ pub fn gather_all<R: Inward, W: Outward>(
     routes: &Routes,
     now: Duration,
 ) -> bool
-    // Each connection keeps its peer, its writer and when it came; more of its request may be gathered.
+    // Each connection keeps its peer, its writer, when it came and whether its waits are limited; more of its request may be gathered. Once
+    // it is to be handed out nothing more is read of it, and it isn't given up.
     ensures gathers { Each IsGathered slots.old slots.new }
     // Each request that is due is read, or is to be handed out after this; from 32 MiB on only those up to the first unfinished one.
     ensures reads { ReadsDue (gathered_of slots.old < BUDGET) slots.old slots.new }
@@ -87,7 +88,8 @@ pub fn all_unsent_bytes<R: Inward + OpenStream, W: Outward + OpenStream>(
 
 /// Has each later wait of the gate end when bytes come of a request that isn't whole, if the gate can watch it.
 pub fn watch_all<G: Gate>(gate: &mut G, slots: &mut [Slot<G::Reader, G::Writer>])
-    // Each connection keeps its peer, its writer and when it came; more of its request may be gathered.
+    // Each connection keeps its peer, its writer, when it came and whether its waits are limited; more of its request may be gathered. Once
+    // it is to be handed out nothing more is read of it, and it isn't given up.
     ensures all { Each IsGathered slots.old slots.new }
     // The gate gives no connection.
     ensures gate { G.gave gate.new ≡ G.gave gate.old }

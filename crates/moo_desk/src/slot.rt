@@ -210,8 +210,8 @@ impl<R: Inward, W: Outward> Slot<R, W> {
         !self.rests && now.saturating_sub(self.since) > Duration::from_millis(GRACE)
     }
 
-    /// Why the request was waited for long enough: Silent if no byte came for over 10 seconds, Late if it came over 30 seconds ago. None if
-    /// it wasn't.
+    /// Why nothing more of the request is waited for: Silent if no byte came for over 10 seconds, else Late if its connection came over 30
+    /// seconds ago. None if neither is so.
     fn lateness(&self, now: Duration) -> Option<Cause>
         // It may be given up for this cause.
         ensures some { IfSome result (λ cause. MayGiveUp R.reads self.now.reader.reader self.now.since self.now.heard now cause) }

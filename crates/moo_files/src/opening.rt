@@ -107,9 +107,9 @@ pub fn open_from<T: Start, H: WorldFiles<T>>(
     // the disk failed, or the files are as long as their format allows.
     ensures cause { (trees : Trees) → HoldsTrees (image_at T.Start) trees →
         IfErr result (λ e. IsCleanRemains e.1 → HasCause (IsDenied (H.denies host.now) path.now) e.0 e.1) }
-    // If the files hold tables of ours, the fault tells their first damage or their later version. If there is neither, the name isn't a
-    // path, the host denied it, a call of the disk failed, the files are as long as their format allows, or memory ran out; or, if the
-    // tables are migrated, a row is too big, or a table has no rowid left for a new row.
+    // If the files hold tables of ours, a damage that the fault tells is their first, and a later version is told only of tables that have
+    // one. Any other fault has a cause: the name isn't a path, the host denied it, a call of the disk failed, the files are as long as
+    // their format allows, or memory ran out; or, if the tables are migrated, a row is too big, or a table has no rowid left for a new row.
     ensures stopped { (tables : Tables) → HoldsTables (image_at T.Start) tables → IfErr result (λ e. IsCleanRemains e.1 →
         SaysOr (HasCauseOr (StopsOver (AreMigrated tables) e.0) (IsDenied (H.denies host.now) path.now) e.0 e.1) tables e.0) }
 {

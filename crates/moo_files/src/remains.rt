@@ -28,9 +28,10 @@ pub enum Remains<T, D: Disk> {
 impl<T: Drop, D: Disk + Drop> Remains<T, D> {
     /// Closes a connection, as `close_connection` does; anything else comes back as it is.
     pub fn close(self) -> Remains<T, D>
-        // A connection is closed. On a clean disk its trees were numbered, and what the files then hold, or a crash leaves, is a database
-        // that a crash might have left before, with the last commit in the database file alone. Or closing failed, and a store came back
-        // that leaves such a database too (`IsClosedFrom`). Anything else is as it was.
+        // A connection is closed. On a clean disk each table had the place that SQLite's own list of tables gives it (`IsNumberedStore`),
+        // and what the files then hold, or a crash leaves, is a database that a crash might have left before, with the last commit in the
+        // database file alone. Or closing failed, and a store came back that leaves such a database too; its tables have such places too if
+        // it is open still, or was shut before the closing (`IsClosedFrom`). Anything else is as it was.
         ensures closed { IsClosedFrom self result }
         // If the disk returned what was written until they were closed (`IsCleanRemains`, here and below), files that held a state before
         // that hold it still, and so does what a crash leaves of them.

@@ -40,7 +40,7 @@ pub fn serve_connection<S: Alter + Drop, R: Incoming, W: Write>(
     // A connection whose waits aren't limited isn't read, nothing is written to it, and the World isn't asked.
     ensures unlimited { connection.old.is_limited ≡ false →
         (result ≡ false) × (world.new ≡ world.old) × (connection.new ≡ connection.old) }
-    // If it was answered by a refusal, the note says that it is to be closed gently.
+    // If it was answered, and its request is refused before the World is asked, the note says that it is to be closed gently.
     ensures gentle { result ≡ true →
         ClosesGently (R.remaining connection.old.reader) (R.remaining connection.new.reader) note.new.closing }
 {

@@ -77,8 +77,9 @@ pub fn serve_one<S: Alter + Drop, R: Incoming, W: Write>(
     world: &mut World<S>,
     note: &mut Note,
 ) -> Result<(), ServeFault>
-    // Wherever the World was, the answer to the bytes that the reader gave is written, and nothing else, and the World is where that leads.
-    // At the fault Write the beginning of the answer is written; at Read and OutOfMemory nothing is.
+    // Wherever the World was, the answer to the bytes that the reader gave is written, and nothing else, and the World is where that leads;
+    // it is the very World, unless it accepted a batch or its store failed. At the fault Write the beginning of the answer is written; at
+    // Read and OutOfMemory nothing is.
     ensures served { AdvancesBy S.Store world.old world.new (λ from to.
         Exchanged result from to (record {
           left = R.remaining reader.old;
@@ -90,7 +91,8 @@ pub fn serve_one<S: Alter + Drop, R: Incoming, W: Write>(
     ensures unwritten { IfErr result (λ fault. fault ≢ ServeFault.Write → writer.new ≡ writer.old) }
     // The fault is Read only if the reader failed, at its last read, and then the World isn't asked.
     ensures unread { IfErr result (λ fault. fault ≡ ServeFault.Read → (world.new ≡ world.old) × HasFailed R.fails reader.new) }
-    // If the answer is a refusal, and all of it is written, the note says that the connection is to be closed gently.
+    // If the request is refused before the World is asked, and all of the answer is written, the note says that the connection is to be
+    // closed gently.
     ensures gentle { OnOk result (ClosesGently (R.remaining reader.old) (R.remaining reader.new) note.new.closing) }
 {
     match read_request(means.alloc, means.routes, reader)? {

@@ -83,8 +83,8 @@ fn bad_texts(
     Ok(bad)
 }
 
-/// A batch of each text, and the texts that aren't calls, which are left out if memory for them is refused. AllocError if memory for the
-/// batches runs out.
+/// A batch of each text, by this programmer, and None in the place of a text that isn't a call; beside them the texts that aren't calls, or
+/// none of those if memory for them is refused. AllocError if memory for the batches runs out.
 pub(crate) fn read_each(
     alloc: Global,
     programmer: ObjNo,

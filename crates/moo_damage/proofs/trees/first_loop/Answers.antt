@@ -21,7 +21,7 @@ pub returns-in-None-2 : goal.returns-in-None-2
 returns-in-None-2 g c =
     let m = (g.R.Rows.held c.args.rows.now).maps in
     stopped (λ x _. HasEnd c.args.link m x) (λ x _. Loops c.args.link m x) object_total object_exact m.objects _ _ (c.in-Some.x, c.in-Some._row.now) c.in-Some.ensures.steps c.loop-x.invariant.first
-    (subst (λ o. IfNone o (Loops c.args.link m c.in-Some.x)) c.in-None-2.is c.in_ok-unended_chain.ensures.loops)
+    (subst (λ o. IfNone o (Loops c.args.link m c.in-Some.x)) c.in-None-2.is c.in_ok-path_to_end.ensures.loops)
 
 pub returns : goal.returns
 returns g c =

@@ -1,5 +1,5 @@
 use Rattle.moo_damage.proofs.Words.{◌≡◌, ◌+◌, true, ◌⊎◌, List, length, is_some, AllEnd, get, ObjNo, nothing, Climbs, next_of, HasEnd}
-use Rattle.moo_damage.proofs.trees.unended_chain.Given as goal
+use Rattle.moo_damage.proofs.trees.path_to_end.Given as goal
 
 -- where the chain ends from here, it does from each object on the way; and it has as many fewer objects
 abbrev pub invariant-loop : goal.invariant-loop

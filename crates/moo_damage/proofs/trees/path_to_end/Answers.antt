@@ -1,5 +1,5 @@
 use Rattle.moo_damage.{proofs.Words.{◌≡◌, true, Option, None, Some, refl, ◌⊎◌, sym, ap, ◌∙◌, subst, arith, is_some, option_map, AllByRecursion, get, object_cmp, contents, some_of, nothing, Climbs, next_of, HasEnd, all_then}, proofs.Ending.{ends_here, step_up, step_down, bound}}
-use Rattle.moo_damage.proofs.trees.unended_chain.Goals as goal
+use Rattle.moo_damage.proofs.trees.path_to_end.Goals as goal
 
 some_still : {A B : Type 0} (o : Option A) (f : A → B) → is_some o ≡ true → is_some (option_map f o) ≡ true
 some_still o f h1 = grind arith
