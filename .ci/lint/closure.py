@@ -15,6 +15,7 @@ CONTRACT = re.compile(r"^pub fn run_and_run_again\b.*?^\{", re.MULTILINE | re.DO
 TOLD = re.compile(r"reach at most\s+(\d+)\s+definitions")
 COMMENT = re.compile(r"(?:--|//)[^\n]*")
 IMPORT = re.compile(r"^\s*(?:pub |unfoldable |ghost )*use (Rattle\..+?);?$", re.MULTILINE)
+BETWEEN = re.compile(r", (?![^{]*\})")
 DEFINED = re.compile(r"(?:(?:abbrev|unfoldable|pub|record|data) )+(\S+)")
 CASE = re.compile(r"^ +([^\W\d]\w*) :", re.MULTILINE)
 WORD = re.compile(r"(?<![\w'.-])(-?\w[\w'-]*)(?:\.([^\W\d][\w'-]*))?")
@@ -43,10 +44,10 @@ def spoken(name: str) -> str:
 
 
 def imported(path: str) -> Iterator[tuple[str, Place]]:
-    """Each word that an import brings, and its place."""
+    """Each word that an import brings, and its place. Braces may have braces in them."""
     if path.endswith("}"):
         module, _, names = path[:-1].partition(".{")
-        for name in names.split(", "):
+        for name in BETWEEN.split(names):
             yield from imported(f"{module}.{name}")
     else:
         path, _, other = path.partition(" as ")

@@ -1,18 +1,12 @@
 -- What a witness is told of the rows if a batch is refused.
 use Rattle.std.specs.Prelude.{◌≡◌, ℕ, zero, suc, ◌-◌, true, List, [], ◌∷◌, Option, None, is_some, Ok, Err, if◌then◌else◌, slice_get, IfSome}
 use Rattle.std.specs.Option.{option_and_then, option_map}
-use Rattle.moo_value.specs.declared.value.ObjNo.{ObjNo}
-use Rattle.moo_value.specs.Values.{Values}
+use Rattle.moo_value.specs.{declared.value.ObjNo.{ObjNo}, Values.{Values}}
 use Rattle.moo_rows.specs.Maps.{Maps}
-use Rattle.moo_world.specs.declared.call.Batch.{Batch}
-use Rattle.moo_world.specs.declared.call.Call.{Call}
-use Rattle.moo_world.specs.Names.{is_grant}
-use Rattle.moo_world.specs.Outcomes.{Done, Failed, Full}
-use Rattle.moo_world.specs.Requests.{State, batch_call, one_integer, petition_at, state_of}
-use Rattle.moo_world.specs.World.{World}
+use Rattle.moo_world.specs.{declared.call.Batch.{Batch}, declared.call.Call.{Call}, Names.{is_grant}, Outcomes.{Done, Failed, Full}}
+use Rattle.moo_world.specs.{Requests.{State, batch_call, one_integer, petition_at, state_of}, World.{World}}
 use Rattle.moo_disclosure.specs.Disclosed.{calls_seen, clash_name, names_meant}
-use Rattle.moo_batch.specs.declared.witness.Facts.{Facts}
-use Rattle.moo_batch.specs.declared.witness.Refusal.{Refusal}
+use Rattle.moo_batch.specs.{declared.witness.Facts.{Facts}, declared.witness.Refusal.{Refusal}}
 
 -- the state on which the call at this place of a batch is made, from 0: the state after the calls before it
 abbrev pub state_before_call : State → ObjNo → List Call → ℕ → State

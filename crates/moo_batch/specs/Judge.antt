@@ -1,18 +1,11 @@
 -- What the calls of a batch and a batch come to on rows.
 use Rattle.std.specs.Prelude.{◌≡◌, ◌≢◌, ◌<◌, ◌-◌, true, List, [], None, Result, Ok, Err, ⊤}
-use Rattle.moo_value.specs.declared.value.Value.{Value}
-use Rattle.moo_value.specs.declared.value.ObjNo.{ObjNo}
+use Rattle.moo_value.specs.{declared.value.Value.{Value}, declared.value.ObjNo.{ObjNo}}
 use Rattle.moo_rows.specs.Maps.{Maps, Held}
-use Rattle.moo_world.specs.declared.call.Batch.{Batch}
-use Rattle.moo_world.specs.declared.call.Call.{Call}
-use Rattle.moo_world.specs.Between.{CallsLead, BatchLeads}
-use Rattle.moo_world.specs.Rows.{IsGood}
+use Rattle.moo_world.specs.{declared.call.Batch.{Batch}, declared.call.Call.{Call}, Between.{CallsLead, BatchLeads}, Rows.{IsGood}}
 use Rattle.moo_world.specs.Judge as model
-use Rattle.moo_world.specs.Judge.{State, state_of}
-use Rattle.moo_world.specs.Outcomes.{Failure}
-use Rattle.moo_batch.specs.declared.witness.Refusal.{Refusal}
-use Rattle.moo_batch.specs.Facts.{state_before_call}
-use Rattle.moo_batch.specs.declared.judging.Stop.{Stop}
+use Rattle.moo_world.specs.{Judge.{State, state_of}, Outcomes.{Failure}}
+use Rattle.moo_batch.specs.{declared.witness.Refusal.{Refusal}, Facts.{state_before_call}, declared.judging.Stop.{Stop}}
 use Rattle.moo_batch.specs.declared.judging.Stop.TheVariants.{Refused as refused_at, Full as full_at, OutOfMemory as no_memory}
 use Rattle.moo_batch.specs.declared.judging.Verdict.{Verdict}
 use Rattle.moo_batch.specs.declared.judging.Verdict.TheVariants.{Accepted, Refused, Full, Stale, OutOfMemory}

@@ -1,16 +1,11 @@
 -- What the outcome of any call of a batch is on rows.
 use Rattle.std.specs.Prelude.{◌≡◌, ℕ, List, Result, Ok, Err, ⊤}
-use Rattle.moo_value.specs.declared.value.ObjNo.{ObjNo}
-use Rattle.moo_value.specs.declared.value.Value.{Value}
+use Rattle.moo_value.specs.{declared.value.ObjNo.{ObjNo}, declared.value.Value.{Value}}
 use Rattle.moo_rows.specs.Maps.{Maps, Held}
-use Rattle.moo_world.specs.Between.{HeldCallsLead}
-use Rattle.moo_world.specs.Keeps.{beside_world}
-use Rattle.moo_world.specs.Outcomes.{Outcome, Done, Failed, Full as none_left, fails, in_petition, of_itself}
-use Rattle.moo_world.specs.Requests.{State, state_of}
-use Rattle.moo_world.specs.Rows.{IsGood}
-use Rattle.moo_world.specs.World.{World}
-use Rattle.moo_calls_shared.specs.Outcomes.{world_in}
-use Rattle.moo_calls_shared.specs.declared.fault.Fault.{Fault}
+use Rattle.moo_world.specs.{Between.{HeldCallsLead}, Keeps.{beside_world}}
+use Rattle.moo_world.specs.{Outcomes.{Outcome, Done, Failed, Full as none_left, fails, in_petition, of_itself}, Requests.{State, state_of}}
+use Rattle.moo_world.specs.{Rows.{IsGood}, World.{World}}
+use Rattle.moo_calls_shared.specs.{Outcomes.{world_in}, declared.fault.Fault.{Fault}}
 use Rattle.moo_calls_shared.specs.declared.fault.Fault.TheVariants.{Moo, Held as of_held, Full, OutOfMemory}
 
 -- the state of the rows that are held: the world, the petitions and the sequence number

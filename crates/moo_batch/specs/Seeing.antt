@@ -2,15 +2,10 @@
 use Rattle.std.specs.Prelude.{◌≡◌, ℕ, Option, IfSome}
 use Rattle.moo_rows.specs.Maps.{Maps}
 use Rattle.moo_value.specs.declared.code.Code.{Code}
-use Rattle.moo_world.specs.declared.call.Batch.{Batch}
-use Rattle.moo_world.specs.Judge.{FailedAt, run_calls, state_of}
-use Rattle.moo_world.specs.Reasons.{error_of}
+use Rattle.moo_world.specs.{declared.call.Batch.{Batch}, Judge.{FailedAt, run_calls, state_of}, Reasons.{error_of}}
 use Rattle.moo_batch.specs.declared.judging.Verdict.{Verdict}
 use Rattle.moo_batch.specs.declared.judging.Verdict.TheVariants.{Accepted, Refused, Full, Stale, OutOfMemory}
-use Rattle.moo_batch.specs.declared.witness.Facts.{Facts}
-use Rattle.moo_batch.specs.declared.witness.Refusal.{Refusal}
-use Rattle.moo_batch.specs.Facts.{AreFactsOf}
-use Rattle.moo_batch.specs.Judge.{failure_of}
+use Rattle.moo_batch.specs.{declared.witness.Facts.{Facts}, declared.witness.Refusal.{Refusal}, Facts.{AreFactsOf}, Judge.{failure_of}}
 
 -- the refusal is that of the batch on these rows: its first call that fails, and why
 abbrev pub IsRefusalOf : Maps → Batch → Refusal → Type 0

@@ -1,19 +1,12 @@
 //! The call `petition`, which keeps calls for a wizard to grant.
 
-ghost use Rattle.std.specs.Prelude.{◌≡◌, true, OnOk, IfErr};
-ghost use Rattle.std.specs.List.{list_all};
-ghost use Rattle.moo_value.specs.Value.{spread};
-ghost use Rattle.moo_value.specs.declared.value.Value.TheVariants.{List as a_list};
-ghost use Rattle.moo_world.specs.Arguments.{fits};
-ghost use Rattle.moo_world.specs.Numbers.{KeepsNumbers};
-ghost use Rattle.moo_world.specs.Petitions.{is_named, are_few, are_shallow, petition_fits};
-ghost use Rattle.moo_world.specs.Outcomes.{Outcome, fails, given};
-ghost use Rattle.moo_world.specs.Requests.{State, are_on_world, petition_filed, one_list, petition};
-ghost use Rattle.moo_world.specs.Rows.{IsGood};
-ghost use Rattle.moo_world.specs.World.{is_object};
+ghost use Rattle.std.specs.{Prelude.{◌≡◌, true, OnOk, IfErr}, List.{list_all}};
+ghost use Rattle.moo_value.specs.{Value.{spread}, declared.value.Value.TheVariants.{List as a_list}};
+ghost use Rattle.moo_world.specs.{Arguments.{fits}, Numbers.{KeepsNumbers}, Petitions.{is_named, are_few, are_shallow, petition_fits}};
+ghost use Rattle.moo_world.specs.{Outcomes.{Outcome, fails, given}, Requests.{State, are_on_world, petition_filed, one_list, petition}};
+ghost use Rattle.moo_world.specs.{Rows.{IsGood}, World.{is_object}};
 ghost use Rattle.moo_calls_shared.specs.Outcomes.{world_in};
-ghost use Rattle.moo_batch.specs.Checks.{taking_calls};
-ghost use Rattle.moo_batch.specs.Outcomes.{state_in, KeepsGoodRows, Reaches, Stays};
+ghost use Rattle.moo_batch.specs.{Checks.{taking_calls}, Outcomes.{state_in, KeepsGoodRows, Reaches, Stays}};
 
 use crate::args::one_list;
 use crate::held::are_calls;

@@ -1,12 +1,8 @@
 //! The call `decline`, which takes a petition away.
 
 ghost use Rattle.std.specs.Prelude.{◌≡◌, ◌||◌, OnOk};
-ghost use Rattle.moo_world.specs.Numbers.{KeepsNumbers};
-ghost use Rattle.moo_world.specs.Objects.{same_object};
-ghost use Rattle.moo_world.specs.Outcomes.{given};
-ghost use Rattle.moo_world.specs.Requests.{decline, one_integer};
-ghost use Rattle.moo_world.specs.Rights.{is_wizard};
-ghost use Rattle.moo_world.specs.Rows.{IsGood};
+ghost use Rattle.moo_world.specs.{Numbers.{KeepsNumbers}, Objects.{same_object}, Outcomes.{given}, Requests.{decline, one_integer}};
+ghost use Rattle.moo_world.specs.{Rights.{is_wizard}, Rows.{IsGood}};
 ghost use Rattle.moo_calls_shared.specs.Outcomes.{world_in};
 ghost use Rattle.moo_batch.specs.Outcomes.{state_in, KeepsGoodRows, Reaches, Stays};
 

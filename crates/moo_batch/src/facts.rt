@@ -2,8 +2,7 @@
 
 ghost use Rattle.std.specs.Prelude.{◌≡◌, None, Option, IfOk, IfSome, option_map};
 ghost use Rattle.moo_world.specs.Rows.{IsGood, world_of};
-ghost use Rattle.moo_batch.specs.declared.witness.Facts.{Facts};
-ghost use Rattle.moo_batch.specs.Facts.{AreFacts, petition_granted};
+ghost use Rattle.moo_batch.specs.{declared.witness.Facts.{Facts}, Facts.{AreFacts, petition_granted}};
 
 use crate::args::one_integer;
 use crate::looking::petition_at;

@@ -1,15 +1,11 @@
 //! The call `grant`, which makes the calls of a petition.
 
-ghost use Rattle.std.specs.Prelude.{◌≡◌, ◌≤◌, true, false, length, OnOk, IfErr};
-ghost use Rattle.std.specs.List.{list_all};
-ghost use Rattle.moo_world.specs.Arguments.{fits};
-ghost use Rattle.moo_world.specs.Between.{GrantLeads};
-ghost use Rattle.moo_world.specs.Outcomes.{given};
-ghost use Rattle.moo_world.specs.Requests.{grant, held_step, held_steps, one_integer};
-ghost use Rattle.moo_world.specs.Rows.{IsGood};
+ghost use Rattle.std.specs.{Prelude.{◌≡◌, ◌≤◌, true, false, length, OnOk, IfErr}, List.{list_all}};
+ghost use Rattle.moo_world.specs.{Arguments.{fits}, Between.{GrantLeads}, Outcomes.{given}};
+ghost use Rattle.moo_world.specs.{Requests.{grant, held_step, held_steps, one_integer}, Rows.{IsGood}};
+ghost use Rattle.moo_world.specs.declared.petition.TheConstants.{MOST_HELD};
 ghost use Rattle.moo_calls_shared.specs.Outcomes.{world_in, Does};
 ghost use Rattle.moo_batch.specs.Outcomes.{state_in, ComesInTurn, KeepInTurn, KeepsGoodRows, Reaches, StaysAtCheck, held_at};
-ghost use Rattle.moo_world.specs.declared.petition.TheConstants.{MOST_HELD};
 
 use crate::args::one_integer;
 use crate::held::held_call;

@@ -1,12 +1,9 @@
 //! Calls as petitions hold them: lists that begin with the name of a call.
 
-ghost use Rattle.std.specs.Prelude.{◌≡◌, ◌∷◌, false, Some, None, is_some, if◌then◌else◌, IfSome, IfNone};
-ghost use Rattle.std.specs.List.{list_all};
+ghost use Rattle.std.specs.{Prelude.{◌≡◌, ◌∷◌, false, Some, None, is_some, if◌then◌else◌, IfSome, IfNone}, List.{list_all}};
 ghost use Rattle.std.specs.Option.{option_and_then};
 ghost use Rattle.moo_value.specs.declared.value.Value.TheVariants.{Str};
-ghost use Rattle.moo_world.specs.Names.{call_name_of, petition_call};
-ghost use Rattle.moo_world.specs.Petitions.{begins_with_text};
-ghost use Rattle.moo_world.specs.Requests.{held_call};
+ghost use Rattle.moo_world.specs.{Names.{call_name_of, petition_call}, Petitions.{begins_with_text}, Requests.{held_call}};
 
 use moo_value::{MooStr, Value};
 use moo_world::CallName;

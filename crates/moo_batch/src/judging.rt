@@ -1,22 +1,13 @@
 //! What a batch comes to.
 
 ghost use Rattle.std.specs.Prelude.{◌≡◌, ◌+◌, ◌<◌, ◌≤◌, ℕ, Option, Some, true, false, length, OnOk, IfSome, IfErr};
-ghost use Rattle.moo_batch.specs.declared.witness.Facts.{Facts};
-ghost use Rattle.moo_batch.specs.declared.witness.Refusal.{Refusal};
-ghost use Rattle.moo_world.specs.declared.call.TheConstants.{MOST_CALLS};
-ghost use Rattle.moo_world.specs.Reasons.{error_of};
+ghost use Rattle.moo_batch.specs.{declared.witness.Facts.{Facts}, declared.witness.Refusal.{Refusal}};
+ghost use Rattle.moo_batch.specs.{Outcomes.{state_in, KeepsGoodRows, Reaches, StaysAtCheck}, Ticks.{TakesOne, TakesTicks}};
+ghost use Rattle.moo_batch.specs.{Judge.{ComeTo, HaveKept, IsGoodAt, IsVerdict, StandsAtCheck}, Facts.{AreFacts}, Seeing.{HasSeen}};
+ghost use Rattle.moo_world.specs.{declared.call.TheConstants.{MOST_CALLS}, Reasons.{error_of}, Rows.{IsGood, world_of}};
+ghost use Rattle.moo_world.specs.{Between.{CallKeepsNumbers}, Judge.{run_calls}, Names.{is_grant}, Requests.{batch_call}};
 ghost use Rattle.moo_rows.specs.Maps.{Maps};
 ghost use Rattle.moo_memory.specs.Changes.{AreChanges};
-ghost use Rattle.moo_world.specs.Rows.{IsGood, world_of};
-ghost use Rattle.moo_world.specs.Between.{CallKeepsNumbers};
-ghost use Rattle.moo_world.specs.Judge.{run_calls};
-ghost use Rattle.moo_world.specs.Names.{is_grant};
-ghost use Rattle.moo_world.specs.Requests.{batch_call};
-ghost use Rattle.moo_batch.specs.Outcomes.{state_in, KeepsGoodRows, Reaches, StaysAtCheck};
-ghost use Rattle.moo_batch.specs.Ticks.{TakesOne, TakesTicks};
-ghost use Rattle.moo_batch.specs.Judge.{ComeTo, HaveKept, IsGoodAt, IsVerdict, StandsAtCheck};
-ghost use Rattle.moo_batch.specs.Facts.{AreFacts};
-ghost use Rattle.moo_batch.specs.Seeing.{HasSeen};
 
 use crate::charging::ticks_of;
 use crate::facts::show_refusal;

@@ -1,14 +1,8 @@
 //! The call `petitions`, which lists petitions.
 
-ghost use Rattle.std.specs.Prelude.{◌≡◌, map, ◌||◌, IfOk, OnOk};
-ghost use Rattle.std.specs.List.{filter};
-ghost use Rattle.std.specs.FinMap.{entries};
-ghost use Rattle.moo_world.specs.Arguments.{no_values};
-ghost use Rattle.moo_world.specs.Numbers.{KeepsNumbers};
-ghost use Rattle.moo_world.specs.Objects.{same_object};
-ghost use Rattle.moo_world.specs.Outcomes.{given};
-ghost use Rattle.moo_world.specs.Requests.{listed, petitions};
-ghost use Rattle.moo_world.specs.Rows.{IsGood};
+ghost use Rattle.std.specs.{Prelude.{◌≡◌, map, ◌||◌, IfOk, OnOk}, List.{filter}, FinMap.{entries}};
+ghost use Rattle.moo_world.specs.{Arguments.{no_values}, Numbers.{KeepsNumbers}, Objects.{same_object}, Outcomes.{given}};
+ghost use Rattle.moo_world.specs.{Requests.{listed, petitions}, Rows.{IsGood}};
 ghost use Rattle.moo_batch.specs.Outcomes.{state_in, KeepsGoodRows, Reaches};
 
 use moo_calls_shared::rights::is_wizard;

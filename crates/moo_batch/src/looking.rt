@@ -1,8 +1,7 @@
 //! Looking up petitions by number.
 
 ghost use Rattle.std.specs.Prelude.{◌≡◌, Some, None, IfSome, IfNone};
-ghost use Rattle.moo_world.specs.Requests.{petition_at};
-ghost use Rattle.moo_world.specs.Rows.{IsGood};
+ghost use Rattle.moo_world.specs.{Requests.{petition_at}, Rows.{IsGood}};
 ghost use Rattle.moo_batch.specs.Outcomes.{state_in};
 
 use moo_rows::{PetitionId, PetitionRow, Rows};

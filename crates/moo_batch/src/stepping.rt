@@ -1,13 +1,8 @@
 //! Making any call of a batch.
 
-ghost use Rattle.std.specs.Prelude.{◌≡◌, true, false, OnOk, IfErr};
-ghost use Rattle.std.specs.List.{list_all};
-ghost use Rattle.moo_world.specs.Arguments.{fits};
-ghost use Rattle.moo_world.specs.Between.{CallKeepsNumbers};
-ghost use Rattle.moo_world.specs.Names.{grants, is_grant};
-ghost use Rattle.moo_world.specs.Requests.{petition_call_by, batch_call};
-ghost use Rattle.moo_world.specs.Rows.{IsGood};
-ghost use Rattle.moo_world.specs.World.{is_object};
+ghost use Rattle.std.specs.{Prelude.{◌≡◌, true, false, OnOk, IfErr}, List.{list_all}};
+ghost use Rattle.moo_world.specs.{Arguments.{fits}, Between.{CallKeepsNumbers}, Names.{grants, is_grant}};
+ghost use Rattle.moo_world.specs.{Requests.{petition_call_by, batch_call}, Rows.{IsGood}, World.{is_object}};
 ghost use Rattle.moo_calls_shared.specs.Outcomes.{world_in};
 ghost use Rattle.moo_batch.specs.Outcomes.{state_in, KeepsGoodRows, Reaches, Stays, StaysAtCheck};
 

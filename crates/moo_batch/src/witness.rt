@@ -1,8 +1,7 @@
 //! Witnesses, who see how batches are judged.
 
 ghost use Rattle.std.specs.Prelude.{◌≡◌, ℕ, Option, option_map};
-ghost use Rattle.moo_batch.specs.declared.witness.Facts.{Facts};
-ghost use Rattle.moo_batch.specs.declared.witness.Refusal.{Refusal};
+ghost use Rattle.moo_batch.specs.{declared.witness.Facts.{Facts}, declared.witness.Refusal.{Refusal}};
 ghost use Rattle.moo_world.specs.declared.call.Batch.{Batch};
 
 use moo_disclosure::Disclosure;

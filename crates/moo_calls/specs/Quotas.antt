@@ -1,10 +1,7 @@
 -- The quota that is asked when an object is made.
-use Rattle.std.specs.Prelude.{ℤ, pos, int_lt, Bool, true, Option, None, unwrap_or, if◌then◌else◌}
-use Rattle.std.specs.Option.{option_map}
+use Rattle.std.specs.{Prelude.{ℤ, pos, int_lt, Bool, true, Option, None, unwrap_or, if◌then◌else◌}, Option.{option_map}}
 use Rattle.moo_value.specs.declared.value.ObjNo.{ObjNo}
-use Rattle.moo_world.specs.Objects.{nothing, same_object}
-use Rattle.moo_world.specs.Quota.{quota_of}
-use Rattle.moo_world.specs.World.{World}
+use Rattle.moo_world.specs.{Objects.{nothing, same_object}, Quota.{quota_of}, World.{World}}
 
 -- how many objects may still be made for the owner given; `None` if #-1 was given, or if the owner has no quota
 abbrev pub quota_given : World → ObjNo → Option ℤ

@@ -1,11 +1,8 @@
 //! The calls `set_player_flag` and `set_accept`, each of which changes one field of an object.
 
-ghost use Rattle.std.specs.Prelude.{◌≡◌, true, [], length, nat_le, unwrap_or};
-ghost use Rattle.std.specs.List.{list_all};
-ghost use Rattle.moo_world.specs.Arguments.{fits, is_number};
-ghost use Rattle.moo_world.specs.Calls.{set_accept, set_player_flag, named_call};
-ghost use Rattle.moo_world.specs.declared.name.CallName.TheVariants.{SetPlayerFlag, SetAccept};
-ghost use Rattle.moo_world.specs.Rows.{IsGood};
+ghost use Rattle.std.specs.{Prelude.{◌≡◌, true, [], length, nat_le, unwrap_or}, List.{list_all}};
+ghost use Rattle.moo_world.specs.{Arguments.{fits, is_number}, Calls.{set_accept, set_player_flag, named_call}};
+ghost use Rattle.moo_world.specs.{declared.name.CallName.TheVariants.{SetPlayerFlag, SetAccept}, Rows.{IsGood}};
 ghost use Rattle.moo_calls_shared.specs.Outcomes.{world_in, Does};
 
 use moo_calls_shared::{Fault, Reason, change_row, object_and_accept, object_and_value, rights};

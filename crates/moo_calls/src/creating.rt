@@ -1,14 +1,10 @@
 //! Making objects.
 
 ghost use Rattle.std.specs.Prelude.{◌≡◌, true, OnOk};
-ghost use Rattle.moo_world.specs.Rows.{IsGood};
-ghost use Rattle.moo_world.specs.Creation.{next_object, owner_or_self};
-ghost use Rattle.moo_world.specs.Quota.{may_afford, charged};
-ghost use Rattle.moo_world.specs.Calls.{create, named_call, unfit_parent};
-ghost use Rattle.moo_world.specs.declared.name.CallName.TheVariants.{Create};
-ghost use Rattle.moo_calls_shared.specs.Outcomes.{world_in, Does};
-ghost use Rattle.moo_world.specs.Keeps.{Keeps};
+ghost use Rattle.moo_world.specs.{Rows.{IsGood}, Creation.{next_object, owner_or_self}, Quota.{may_afford, charged}};
+ghost use Rattle.moo_world.specs.{Calls.{create, named_call, unfit_parent}, declared.name.CallName.TheVariants.{Create}, Keeps.{Keeps}};
 ghost use Rattle.moo_world.specs.Numbers.{IsSameButSlots};
+ghost use Rattle.moo_calls_shared.specs.Outcomes.{world_in, Does};
 ghost use Rattle.moo_calls.specs.Quotas.{has_one_left, quota_given};
 
 use moo_calls_shared::{Fault, Reason, parent_and_owner, rights};

@@ -1,10 +1,7 @@
 //! What the built-in properties read as.
 
 ghost use Rattle.std.specs.Prelude.{◌≡◌, true};
-ghost use Rattle.moo_world.specs.BuiltIns.{field_of};
-ghost use Rattle.moo_world.specs.Outcomes.{Done};
-ghost use Rattle.moo_world.specs.Rows.{IsGood};
-ghost use Rattle.moo_world.specs.World.{is_object};
+ghost use Rattle.moo_world.specs.{BuiltIns.{field_of}, Outcomes.{Done}, Rows.{IsGood}, World.{is_object}};
 ghost use Rattle.moo_calls_shared.specs.Outcomes.{world_in, Answers};
 
 use moo_calls_shared::Fault;

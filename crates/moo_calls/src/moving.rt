@@ -1,8 +1,6 @@
 //! Moving objects from place to place.
 
-ghost use Rattle.moo_world.specs.Calls.{move, named_call};
-ghost use Rattle.moo_world.specs.declared.name.CallName.TheVariants.{Move};
-ghost use Rattle.moo_world.specs.Rows.{IsGood};
+ghost use Rattle.moo_world.specs.{Calls.{move, named_call}, declared.name.CallName.TheVariants.{Move}, Rows.{IsGood}};
 ghost use Rattle.moo_calls_shared.specs.Outcomes.{world_in, Does};
 
 use moo_calls_shared::{Fault, Reason, accepts, change_row, rights, two_objects};

@@ -1,14 +1,11 @@
 //! The calls on properties, each made with a list of arguments. E_ARGS is for another number of arguments, and then E_TYPE for one of
 //! another type. Each has a function of its own, since a proof grows with what a function holds where it may end early.
 
-ghost use Rattle.std.specs.Prelude.{◌≡◌, true};
-ghost use Rattle.std.specs.List.{list_all};
+ghost use Rattle.std.specs.{Prelude.{◌≡◌, true}, List.{list_all}};
 ghost use Rattle.moo_calls_shared.specs.Outcomes.{world_in, Answers, Does};
-ghost use Rattle.moo_world.specs.Arguments.{fits};
-ghost use Rattle.moo_world.specs.Rows.{IsGood};
-ghost use Rattle.moo_world.specs.Calls.{named_call};
-ghost use Rattle.moo_world.specs.declared.name.CallName.TheVariants.{Get, Properties, PropertyInfo, IsClearProperty, Set};
-ghost use Rattle.moo_world.specs.declared.name.CallName.TheVariants.{AddProperty, DeleteProperty, SetPropertyInfo, ClearProperty};
+ghost use Rattle.moo_world.specs.{Arguments.{fits}, Rows.{IsGood}, Calls.{named_call}};
+ghost use Rattle.moo_world.specs.declared.name.CallName.TheVariants.{Get, Properties, PropertyInfo, IsClearProperty, Set, AddProperty};
+ghost use Rattle.moo_world.specs.declared.name.CallName.TheVariants.{DeleteProperty, SetPropertyInfo, ClearProperty};
 
 use crate::values;
 use moo_calls_shared::{

@@ -2,10 +2,9 @@
 //! type. Each has a function of its own, since a proof grows with what a function holds where it may end early.
 
 ghost use Rattle.moo_calls_shared.specs.Outcomes.{world_in, Answers, Does};
-ghost use Rattle.moo_world.specs.Rows.{IsGood};
-ghost use Rattle.moo_world.specs.Calls.{named_call};
-ghost use Rattle.moo_world.specs.declared.name.CallName.TheVariants.{Verbs, VerbInfo, VerbArgs, AddVerb};
-ghost use Rattle.moo_world.specs.declared.name.CallName.TheVariants.{DeleteVerb, SetVerbInfo, SetVerbArgs};
+ghost use Rattle.moo_world.specs.{Rows.{IsGood}, Calls.{named_call}};
+ghost use Rattle.moo_world.specs.declared.name.CallName.TheVariants.{Verbs, VerbInfo, VerbArgs, AddVerb, DeleteVerb, SetVerbInfo};
+ghost use Rattle.moo_world.specs.declared.name.CallName.TheVariants.{SetVerbArgs};
 
 use moo_calls_shared::{
     Fault, new_verb, new_verb_args, new_verb_info, object_and_desc, one_object,

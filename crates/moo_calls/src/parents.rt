@@ -1,8 +1,6 @@
 //! Changes of parent.
 
-ghost use Rattle.moo_world.specs.Calls.{chparent, named_call};
-ghost use Rattle.moo_world.specs.declared.name.CallName.TheVariants.{Chparent};
-ghost use Rattle.moo_world.specs.Rows.{IsGood};
+ghost use Rattle.moo_world.specs.{Calls.{chparent, named_call}, declared.name.CallName.TheVariants.{Chparent}, Rows.{IsGood}};
 ghost use Rattle.moo_calls_shared.specs.Outcomes.{world_in, Does};
 
 use moo_calls_shared::{Fault, Reason, rights, two_objects};

@@ -3,13 +3,9 @@
 
 ghost use Rattle.std.specs.Prelude.{◌≡◌, false, Some, IfOk, IfErr};
 ghost use Rattle.moo_world.specs.declared.reason.Reason.TheVariants.{NoObject};
-ghost use Rattle.moo_calls_shared.specs.declared.fault.Fault.TheVariants.{Moo};
-ghost use Rattle.moo_world.specs.Calls.{valid, parent, children, is_player, players, max_object, accept_list};
-ghost use Rattle.moo_world.specs.Rows.{IsGood};
-ghost use Rattle.moo_world.specs.World.{is_object, row_of};
-ghost use Rattle.moo_world.specs.Arguments.{no_values, one_object};
-ghost use Rattle.moo_world.specs.Outcomes.{given};
-ghost use Rattle.moo_calls_shared.specs.Outcomes.{world_in, Answers};
+ghost use Rattle.moo_world.specs.{Calls.{valid, parent, children, is_player, players, max_object, accept_list}, Rows.{IsGood}};
+ghost use Rattle.moo_world.specs.{World.{is_object, row_of}, Arguments.{no_values, one_object}, Outcomes.{given}};
+ghost use Rattle.moo_calls_shared.specs.{declared.fault.Fault.TheVariants.{Moo}, Outcomes.{world_in, Answers}};
 
 use moo_calls_shared::{Fault, Reason, no_values, one_object};
 use moo_rows::{ObjRow, Rows};

@@ -1,8 +1,6 @@
 //! Removing objects.
 
-ghost use Rattle.moo_world.specs.Calls.{recycle, named_call};
-ghost use Rattle.moo_world.specs.declared.name.CallName.TheVariants.{Recycle};
-ghost use Rattle.moo_world.specs.Rows.{IsGood};
+ghost use Rattle.moo_world.specs.{Calls.{recycle, named_call}, declared.name.CallName.TheVariants.{Recycle}, Rows.{IsGood}};
 ghost use Rattle.moo_calls_shared.specs.Outcomes.{world_in, Does};
 
 use moo_calls_shared::{Fault, Reason, one_object, rights};

@@ -1,11 +1,9 @@
 //! Setting built-in properties.
 
 ghost use Rattle.std.specs.Prelude.{◌≡◌, true, None, Some, if◌then◌else◌};
-ghost use Rattle.moo_world.specs.Arguments.{fits};
-ghost use Rattle.moo_world.specs.declared.built_in.BuiltIn.TheVariants.{Name};
+ghost use Rattle.moo_world.specs.{Arguments.{fits}, declared.built_in.BuiltIn.TheVariants.{Name}};
 ghost use Rattle.moo_world.specs.PropertyCalls.{change_of, may_set, owner_given, owner_is_object, set_built_in, unset_reason};
-ghost use Rattle.moo_world.specs.Rows.{IsGood};
-ghost use Rattle.moo_world.specs.World.{is_object};
+ghost use Rattle.moo_world.specs.{Rows.{IsGood}, World.{is_object}};
 ghost use Rattle.moo_calls_shared.specs.Outcomes.{world_in, TakenOrNot, Does};
 
 use moo_calls_shared::{Fault, Reason, change_row, rights};

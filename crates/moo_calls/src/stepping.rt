@@ -1,11 +1,8 @@
 //! Making one call.
 
-ghost use Rattle.std.specs.Prelude.{◌≡◌, true};
-ghost use Rattle.std.specs.List.{list_all};
+ghost use Rattle.std.specs.{Prelude.{◌≡◌, true}, List.{list_all}};
 ghost use Rattle.moo_calls_shared.specs.Outcomes.{world_in, Does};
-ghost use Rattle.moo_world.specs.Arguments.{fits};
-ghost use Rattle.moo_world.specs.Rows.{IsGood};
-ghost use Rattle.moo_world.specs.Calls.{world_call, named_call};
+ghost use Rattle.moo_world.specs.{Arguments.{fits}, Rows.{IsGood}, Calls.{world_call, named_call}};
 
 use crate::{changing, creating, moving, on_properties, on_verbs, parents, reading, recycling};
 use moo_calls_shared::{Fault, Reason};

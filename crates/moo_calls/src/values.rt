@@ -2,9 +2,7 @@
 
 ghost use Rattle.std.specs.Prelude.{◌≡◌, true};
 ghost use Rattle.moo_calls_shared.specs.Outcomes.{world_in, Answers, Does};
-ghost use Rattle.moo_world.specs.Arguments.{fits};
-ghost use Rattle.moo_world.specs.PropertyCalls.{get, set};
-ghost use Rattle.moo_world.specs.Rows.{IsGood};
+ghost use Rattle.moo_world.specs.{Arguments.{fits}, PropertyCalls.{get, set}, Rows.{IsGood}};
 
 use crate::fields::field_of;
 use crate::setting::set_built_in;

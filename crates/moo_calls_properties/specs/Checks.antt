@@ -1,14 +1,10 @@
 -- The checks that several calls share, and the outcome of such a call by them: the first check that fails,
 -- else what the call goes on to with what the checks found.
 use Rattle.moo_value.specs.declared.value.ObjNo.{ObjNo}
-use Rattle.moo_rows.specs.Bits.{bits_of}
-use Rattle.moo_rows.specs.declared.row.Bits.{Bits}
-use Rattle.moo_world.specs.Objects.{Name, folded}
-use Rattle.moo_world.specs.World.{World, Slot, is_object, slot_of}
-use Rattle.moo_world.specs.Arguments.{Info}
+use Rattle.moo_rows.specs.{Bits.{bits_of}, declared.row.Bits.{Bits}}
+use Rattle.moo_world.specs.{Objects.{Name, folded}, World.{World, Slot, is_object, slot_of}, Arguments.{Info}}
 use Rattle.moo_world.specs.declared.reason.Reason.TheVariants.{NoObject, NoProperty, NoPropertyR, NoPropertyW, PropertyPerms}
-use Rattle.moo_world.specs.Outcomes.{Outcome, require◌else◌, ◌>>◌, ◌or_else◌, ◌>>=◌}
-use Rattle.moo_world.specs.Rights.{may_read_slot, may_write_slot}
+use Rattle.moo_world.specs.{Outcomes.{Outcome, require◌else◌, ◌>>◌, ◌or_else◌, ◌>>=◌}, Rights.{may_read_slot, may_write_slot}}
 
 -- a call that reads a slot: it fails unless the object has a property of the name and the programmer may read its slot on that object;
 -- then it goes on with the slot

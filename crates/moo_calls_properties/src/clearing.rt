@@ -1,8 +1,7 @@
 //! Clear properties, which have no value of their own.
 
 ghost use Rattle.std.specs.Prelude.{◌≡◌};
-ghost use Rattle.moo_world.specs.PropertyCalls.{clear_property, is_clear, is_clear_property};
-ghost use Rattle.moo_world.specs.Rows.{IsGood};
+ghost use Rattle.moo_world.specs.{PropertyCalls.{clear_property, is_clear, is_clear_property}, Rows.{IsGood}};
 ghost use Rattle.moo_calls_shared.specs.Outcomes.{world_in, Answers, Does};
 
 use crate::slots::{readable_slot, writable_slot};

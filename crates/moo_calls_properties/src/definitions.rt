@@ -1,22 +1,14 @@
 //! Defining properties.
 
 ghost use Rattle.std.specs.Prelude.{◌≡◌, true, is_some, nat_lt, Some, Err, IfSome, IfOk, IfErr, OnOk, OnErr, false};
-ghost use Rattle.moo_rows.specs.Bits.{bits_of};
-ghost use Rattle.moo_rows.specs.declared.row.Bits.{Bits};
-ghost use Rattle.moo_rows.specs.declared.row.SlotState.TheVariants.{Set};
+ghost use Rattle.moo_rows.specs.{Bits.{bits_of}, declared.row.Bits.{Bits}, declared.row.SlotState.TheVariants.{Set}};
 ghost use Rattle.moo_value.specs.declared.value.Value.{Value};
-ghost use Rattle.moo_world.specs.Arguments.{fits};
-ghost use Rattle.moo_world.specs.PropertyCalls.{add_property, defines_name, may_define, undefined_reason};
-ghost use Rattle.moo_world.specs.Rows.{IsGood};
-ghost use Rattle.moo_world.specs.Objects.{folded};
-ghost use Rattle.moo_world.specs.Answers.{zero};
-ghost use Rattle.moo_world.specs.Outcomes.{Outcome, Done, fails};
-ghost use Rattle.moo_world.specs.Changes.{property_added};
-ghost use Rattle.moo_world.specs.World.{World, is_object, is_property_name};
+ghost use Rattle.moo_world.specs.{Arguments.{fits}, PropertyCalls.{add_property, defines_name, may_define, undefined_reason}};
+ghost use Rattle.moo_world.specs.{Rows.{IsGood}, Objects.{folded}, Answers.{zero}, Outcomes.{Outcome, Done, fails}};
+ghost use Rattle.moo_world.specs.{Changes.{property_added}, World.{World, is_object, is_property_name}};
 ghost use Rattle.moo_props.specs.Names.{defines, name_of};
-ghost use Rattle.moo_calls_shared.specs.Outcomes.{world_in, Answers, Does};
+ghost use Rattle.moo_calls_shared.specs.{Outcomes.{world_in, Answers, Does}, Shown.{info_shown}};
 ghost use Rattle.moo_calls_properties.specs.Checks.{taking_property_info};
-ghost use Rattle.moo_calls_shared.specs.Shown.{info_shown};
 
 use moo_calls_shared::{Fault, Info, Reason, rights};
 use moo_props::{clashes, define, slot_of};

@@ -1,7 +1,6 @@
 //! Deleting properties.
 
-ghost use Rattle.moo_world.specs.PropertyCalls.{delete_property};
-ghost use Rattle.moo_world.specs.Rows.{IsGood};
+ghost use Rattle.moo_world.specs.{PropertyCalls.{delete_property}, Rows.{IsGood}};
 ghost use Rattle.moo_calls_shared.specs.Outcomes.{world_in, Does};
 
 use crate::definitions::own_property;

@@ -1,18 +1,11 @@
 //! Changing the owner, the rights and the name of a property.
 
-ghost use Rattle.std.specs.Prelude.{◌≡◌, ◌||◌, true, is_some, option_map, Err, IfOk, IfErr, OnOk, OnErr, false};
-ghost use Rattle.std.specs.FinMap.{get};
-ghost use Rattle.moo_world.specs.Answers.{zero};
-ghost use Rattle.moo_world.specs.Changes.{info_set};
-ghost use Rattle.moo_world.specs.Keeps.{Keeps};
-ghost use Rattle.moo_world.specs.Objects.{folded, same_object};
-ghost use Rattle.moo_world.specs.Outcomes.{Done};
-ghost use Rattle.moo_world.specs.PropertyCalls.{may_rename, renamed_to, set_property_info, unrenamed_reason};
-ghost use Rattle.moo_world.specs.Rights.{is_wizard};
+ghost use Rattle.std.specs.{Prelude.{◌≡◌, ◌||◌, true, is_some, option_map, Err, IfOk, IfErr, OnOk, OnErr, false}, FinMap.{get}};
+ghost use Rattle.moo_world.specs.{Answers.{zero}, Changes.{info_set}, Keeps.{Keeps}, Objects.{folded, same_object}, Outcomes.{Done}};
+ghost use Rattle.moo_world.specs.{PropertyCalls.{may_rename, renamed_to, set_property_info, unrenamed_reason}, Rights.{is_wizard}};
 ghost use Rattle.moo_world.specs.Rows.{world_of, IsGood};
 ghost use Rattle.moo_props.specs.Names.{name_of, spelling_of};
-ghost use Rattle.moo_calls_shared.specs.Outcomes.{world_in, Answers, Does};
-ghost use Rattle.moo_calls_shared.specs.Shown.{info_shown};
+ghost use Rattle.moo_calls_shared.specs.{Outcomes.{world_in, Answers, Does}, Shown.{info_shown}};
 
 use crate::definitions::{bits_taken, defines_name, may_define};
 use crate::slots::may_write_slot;

@@ -3,9 +3,7 @@
 ghost use Rattle.std.specs.Prelude.{◌≡◌, [], ◌∷◌, IfOk};
 ghost use Rattle.moo_value.specs.declared.value.Value.TheVariants.{Obj, Str};
 ghost use Rattle.moo_rows.specs.Bits.{letters_of};
-ghost use Rattle.moo_world.specs.Answers.{list_of};
-ghost use Rattle.moo_world.specs.PropertyCalls.{get_property, properties, property_info};
-ghost use Rattle.moo_world.specs.Rows.{IsGood};
+ghost use Rattle.moo_world.specs.{Answers.{list_of}, PropertyCalls.{get_property, properties, property_info}, Rows.{IsGood}};
 ghost use Rattle.moo_world.specs.World.{property_names_of};
 ghost use Rattle.moo_calls_shared.specs.Outcomes.{world_in, Answers};
 

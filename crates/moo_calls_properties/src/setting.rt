@@ -1,9 +1,7 @@
 //! Setting properties.
 
 ghost use Rattle.std.specs.Prelude.{◌≡◌, true};
-ghost use Rattle.moo_world.specs.Arguments.{fits};
-ghost use Rattle.moo_world.specs.PropertyCalls.{set_property};
-ghost use Rattle.moo_world.specs.Rows.{IsGood};
+ghost use Rattle.moo_world.specs.{Arguments.{fits}, PropertyCalls.{set_property}, Rows.{IsGood}};
 ghost use Rattle.moo_calls_shared.specs.Outcomes.{world_in, Does};
 
 use crate::slots::writable_slot;

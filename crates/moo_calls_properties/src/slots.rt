@@ -1,12 +1,8 @@
 //! Rights on the slots that are found by a property's name.
 
-ghost use Rattle.std.specs.Prelude.{◌≡◌, true, is_some, Some, IfOk, IfErr};
-ghost use Rattle.std.specs.FinMap.{get};
-ghost use Rattle.moo_world.specs.Objects.{folded};
-ghost use Rattle.moo_world.specs.Outcomes.{Outcome, fails};
-ghost use Rattle.moo_world.specs.Rights.{may_read_slot, may_write_slot};
-ghost use Rattle.moo_world.specs.Rows.{slot_seen, IsGood};
-ghost use Rattle.moo_world.specs.World.{World, Slot, slot_of};
+ghost use Rattle.std.specs.{Prelude.{◌≡◌, true, is_some, Some, IfOk, IfErr}, FinMap.{get}};
+ghost use Rattle.moo_world.specs.{Objects.{folded}, Outcomes.{Outcome, fails}, Rights.{may_read_slot, may_write_slot}};
+ghost use Rattle.moo_world.specs.{Rows.{slot_seen, IsGood}, World.{World, Slot, slot_of}};
 ghost use Rattle.moo_props.specs.Names.{name_of};
 ghost use Rattle.moo_calls_shared.specs.Outcomes.{world_in};
 ghost use Rattle.moo_calls_properties.specs.Checks.{reading_slot, writing_slot};

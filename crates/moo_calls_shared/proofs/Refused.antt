@@ -1,7 +1,6 @@
 -- A call whose check fails, or that doesn't find what it looks for, fails for the reason of that check.
 use Rattle.std.proofs.Common.{◌≡◌, Bool, false, Option, None, ap}
-use Rattle.moo_world.specs.declared.reason.Reason.{Reason}
-use Rattle.moo_world.specs.Outcomes.{Outcome, fails, check, found_or}
+use Rattle.moo_world.specs.{declared.reason.Reason.{Reason}, Outcomes.{Outcome, fails, check, found_or}}
 
 pub check_failed : {S : Type 0} (b : Bool) (failed rest : Outcome S) → b ≡ false → check b failed rest ≡ failed
 check_failed b failed rest not_so = ap (λ b. check b failed rest) not_so

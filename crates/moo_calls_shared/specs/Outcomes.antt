@@ -1,14 +1,9 @@
 -- What the outcome of a call is on rows.
 use Rattle.std.specs.Prelude.{◌≡◌, Result, Ok, Err, OnOk, ⊤}
-use Rattle.moo_value.specs.declared.code.Code.{Code}
-use Rattle.moo_value.specs.declared.value.Value.{Value}
+use Rattle.moo_value.specs.{declared.code.Code.{Code}, declared.value.Value.{Value}}
 use Rattle.moo_rows.specs.Maps.{Held}
-use Rattle.moo_world.specs.Keeps.{Keeps}
-use Rattle.moo_world.specs.World.{World}
-use Rattle.moo_world.specs.Rows.{world_of}
-use Rattle.moo_world.specs.declared.reason.Reason.{Reason}
-use Rattle.moo_world.specs.declared.reason.Reason.TheVariants.{Given}
-use Rattle.moo_world.specs.Outcomes.{Outcome, Done, Full, fails}
+use Rattle.moo_world.specs.{Keeps.{Keeps}, World.{World}, Rows.{world_of}, declared.reason.Reason.{Reason}}
+use Rattle.moo_world.specs.{declared.reason.Reason.TheVariants.{Given}, Outcomes.{Outcome, Done, Full, fails}}
 use Rattle.moo_calls_shared.specs.declared.fault.Fault.{Fault}
 use Rattle.moo_calls_shared.specs.declared.fault.Fault.TheVariants.{Moo, Held as of_held, Full as NoneLeft, OutOfMemory}
 

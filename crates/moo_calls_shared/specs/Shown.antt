@@ -1,8 +1,7 @@
 -- What the texts of a call show the model.
 use Rattle.moo_world.specs.Objects.{Name}
 use Rattle.moo_world.specs.Arguments as arguments
-use Rattle.moo_calls_shared.specs.declared.infos.Info.{Info}
-use Rattle.moo_calls_shared.specs.declared.verb_args.VerbInfo.{VerbInfo}
+use Rattle.moo_calls_shared.specs.{declared.infos.Info.{Info}, declared.verb_args.VerbInfo.{VerbInfo}}
 use Rattle.moo_calls_shared.specs.declared.verb_args.ArgTexts.{ArgTexts}
 
 -- an owner and the letters of rights

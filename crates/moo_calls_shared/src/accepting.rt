@@ -1,10 +1,7 @@
 //! What an object takes in.
 
-ghost use Rattle.std.specs.Prelude.{◌≡◌, option_map};
-ghost use Rattle.std.specs.List.{list_any};
-ghost use Rattle.moo_world.specs.Objects.{is_among};
-ghost use Rattle.moo_world.specs.World.{IsTree, chain};
-ghost use Rattle.moo_world.specs.Rights.{accept_along, accepts};
+ghost use Rattle.std.specs.{Prelude.{◌≡◌, option_map}, List.{list_any}};
+ghost use Rattle.moo_world.specs.{Objects.{is_among}, World.{IsTree, chain}, Rights.{accept_along, accepts}};
 ghost use Rattle.moo_calls_shared.specs.Outcomes.{world_in};
 
 use moo_rows::{ObjList, Rows, ordered};

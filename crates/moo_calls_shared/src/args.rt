@@ -1,9 +1,8 @@
 //! What a call is given: objects, names and values. A wrong number of arguments is E_ARGS, and a wrong type E_TYPE.
 
-ghost use Rattle.std.specs.Prelude.{◌≡◌, true, IfOk, IfErr, Ok, Err};
-ghost use Rattle.std.specs.List.{list_all};
-ghost use Rattle.moo_world.specs.Arguments.{fits, no_values, one_object, two_objects, object_and_text};
-ghost use Rattle.moo_world.specs.Arguments.{object_and_value, object_text_and_value, parent_and_owner};
+ghost use Rattle.std.specs.{Prelude.{◌≡◌, true, IfOk, IfErr, Ok, Err}, List.{list_all}};
+ghost use Rattle.moo_world.specs.Arguments.{fits, no_values, one_object, two_objects, object_and_text, object_and_value};
+ghost use Rattle.moo_world.specs.Arguments.{object_text_and_value, parent_and_owner};
 
 use moo_value::{Code, MooStr, ObjNo, Value};
 

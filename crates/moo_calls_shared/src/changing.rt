@@ -1,10 +1,7 @@
 //! Writing one field of an object.
 
 ghost use Rattle.std.specs.Prelude.{◌≡◌, true, OnOk};
-ghost use Rattle.moo_world.specs.Fields.{field_changed, is_allowed_change};
-ghost use Rattle.moo_world.specs.Keeps.{Keeps};
-ghost use Rattle.moo_world.specs.Rows.{IsGood};
-ghost use Rattle.moo_world.specs.World.{is_object};
+ghost use Rattle.moo_world.specs.{Fields.{field_changed, is_allowed_change}, Keeps.{Keeps}, Rows.{IsGood}, World.{is_object}};
 ghost use Rattle.moo_calls_shared.specs.Outcomes.{world_in};
 
 use moo_rows::{Row, Rows};

@@ -1,10 +1,8 @@
 //! What a call is given: owners, rights, names and arguments in lists. A list of another length, or with something of another
 //! type in it, is E_TYPE.
 
-ghost use Rattle.std.specs.List.{list_all};
-ghost use Rattle.std.specs.Prelude.{◌≡◌, true, IfOk, IfErr, Ok, Err, option_map};
-ghost use Rattle.moo_world.specs.Arguments.{fits, info_in, info_and_name_in, new_property};
-ghost use Rattle.moo_world.specs.Arguments.{new_property_info};
+ghost use Rattle.std.specs.{List.{list_all}, Prelude.{◌≡◌, true, IfOk, IfErr, Ok, Err, option_map}};
+ghost use Rattle.moo_world.specs.Arguments.{fits, info_in, info_and_name_in, new_property, new_property_info};
 ghost use Rattle.moo_calls_shared.specs.Shown.{info_shown};
 
 use moo_value::{Code, MooStr, ObjNo, Value};

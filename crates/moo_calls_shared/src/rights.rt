@@ -1,12 +1,10 @@
 //! Who may do what.
 
 ghost use Rattle.std.specs.Prelude.{◌≡◌, ◌||◌};
-ghost use Rattle.moo_world.specs.Objects.{nothing, same_object};
-ghost use Rattle.moo_value.specs.declared.value.ObjNo.{ObjNo};
-ghost use Rattle.moo_world.specs.World.{is_object, row_passes};
-ghost use Rattle.moo_world.specs.Rows.{slot_seen};
+ghost use Rattle.moo_world.specs.{Objects.{nothing, same_object}, World.{is_object, row_passes}, Rows.{slot_seen}};
 ghost use Rattle.moo_world.specs.Rights.{is_wizard, controls, may_be_parent, may_make_owner, may_set_name, may_read_object};
 ghost use Rattle.moo_world.specs.Rights.{may_write_object, may_read_slot, may_write_slot, may_read_verb, may_write_verb};
+ghost use Rattle.moo_value.specs.declared.value.ObjNo.{ObjNo};
 ghost use Rattle.moo_calls_shared.specs.Outcomes.{world_in};
 
 use moo_rows::{Rows, SlotRow, VerbRow};

@@ -1,11 +1,9 @@
 //! What a call on verbs is given: descriptors, and owners, rights, names and arguments in lists. A list of another length, or
 //! with something of another type in it, is E_TYPE, and so is a descriptor that is neither a number nor a word.
 
-ghost use Rattle.std.specs.Prelude.{◌≡◌, IfOk, IfErr, Ok, Err, option_map};
-ghost use Rattle.std.specs.Result.{result_map_both};
+ghost use Rattle.std.specs.{Prelude.{◌≡◌, IfOk, IfErr, Ok, Err, option_map}, Result.{result_map_both}};
 ghost use Rattle.moo_world.specs.Arguments.{desc_of, verb_info_in, texts_in, object_and_desc, new_verb, new_verb_info, new_verb_args};
-ghost use Rattle.moo_calls_shared.specs.Outcomes.{GivenOrNot};
-ghost use Rattle.moo_calls_shared.specs.Shown.{verb_info_shown, args_shown};
+ghost use Rattle.moo_calls_shared.specs.{Outcomes.{GivenOrNot}, Shown.{verb_info_shown, args_shown}};
 
 use crate::fault::Fault;
 use crate::infos::Info;

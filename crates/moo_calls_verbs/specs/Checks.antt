@@ -1,17 +1,10 @@
 -- The checks that several calls share, and the outcome of such a call by them: the first check that fails,
 -- else what the call goes on to with what the checks found.
 use Rattle.moo_value.specs.declared.value.ObjNo.{ObjNo}
-use Rattle.moo_rows.specs.Bits.{verb_bits_of}
-use Rattle.moo_rows.specs.declared.row.VerbBits.{VerbBits}
-use Rattle.moo_rows.specs.declared.row.VerbRow.{VerbRow}
-use Rattle.moo_world.specs.declared.descriptor.Desc.{Desc}
-use Rattle.moo_world.specs.Objects.{Name}
-use Rattle.moo_world.specs.World.{World, is_object, has_word}
-use Rattle.moo_world.specs.Arguments.{Info}
+use Rattle.moo_rows.specs.{Bits.{verb_bits_of}, declared.row.VerbBits.{VerbBits}, declared.row.VerbRow.{VerbRow}}
+use Rattle.moo_world.specs.{declared.descriptor.Desc.{Desc}, Objects.{Name}, World.{World, is_object, has_word}, Arguments.{Info}}
 use Rattle.moo_world.specs.declared.reason.Reason.TheVariants.{NoObject, NoVerb, NoVerbR, VerbPerms, VerbNames}
-use Rattle.moo_world.specs.Outcomes.{Outcome, require◌else◌, ◌>>◌, ◌or_else◌, ◌>>=◌}
-use Rattle.moo_world.specs.Rights.{may_read_verb}
-use Rattle.moo_world.specs.Descriptors.{found_verb}
+use Rattle.moo_world.specs.{Outcomes.{Outcome, require◌else◌, ◌>>◌, ◌or_else◌, ◌>>=◌}, Rights.{may_read_verb}, Descriptors.{found_verb}}
 
 -- a call that reads a verb: it fails unless there is the object, the descriptor means a verb of that object itself, and the programmer may
 -- read the verb; then it goes on with the verb

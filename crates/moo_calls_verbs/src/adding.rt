@@ -1,18 +1,11 @@
 //! Adding verbs.
 
 ghost use Rattle.std.specs.Prelude.{◌≡◌, true, nat_lt, Some, Err, OnOk, IfOk, IfErr};
-ghost use Rattle.moo_rows.specs.Bits.{verb_bits_of};
-ghost use Rattle.moo_rows.specs.declared.row.VerbBits.{VerbBits};
-ghost use Rattle.moo_world.specs.Rows.{IsGood};
-ghost use Rattle.moo_world.specs.World.{World, is_object, has_word};
-ghost use Rattle.moo_world.specs.Answers.{zero};
-ghost use Rattle.moo_world.specs.Directories.{verb_added};
-ghost use Rattle.moo_world.specs.Outcomes.{Outcome, Done, fails};
-ghost use Rattle.moo_world.specs.VerbReading.{args_of};
-ghost use Rattle.moo_world.specs.VerbCalls.{add_verb};
-ghost use Rattle.moo_calls_shared.specs.Outcomes.{world_in, Answers, Does};
+ghost use Rattle.moo_rows.specs.{Bits.{verb_bits_of}, declared.row.VerbBits.{VerbBits}};
+ghost use Rattle.moo_world.specs.{Rows.{IsGood}, World.{World, is_object, has_word}, Answers.{zero}, Directories.{verb_added}};
+ghost use Rattle.moo_world.specs.{Outcomes.{Outcome, Done, fails}, VerbReading.{args_of}, VerbCalls.{add_verb}};
+ghost use Rattle.moo_calls_shared.specs.{Outcomes.{world_in, Answers, Does}, Shown.{info_shown, args_shown}};
 ghost use Rattle.moo_calls_verbs.specs.Checks.{taking_verb_info};
-ghost use Rattle.moo_calls_shared.specs.Shown.{info_shown, args_shown};
 
 use moo_calls_shared::{ArgTexts, Fault, Reason, VerbInfo, rights};
 use moo_rows::{ArgSpec, Rows, VerbBits, VerbRow};

@@ -1,14 +1,10 @@
 //! Changing and deleting verbs.
 
-ghost use Rattle.std.specs.Prelude.{◌≡◌, Some, option_map, OnOk};
-ghost use Rattle.std.specs.FinMap.{remove};
+ghost use Rattle.std.specs.{Prelude.{◌≡◌, Some, option_map, OnOk}, FinMap.{remove}};
 ghost use Rattle.moo_rows.specs.declared.row.VerbId.{VerbId};
-ghost use Rattle.moo_world.specs.Descriptors.{found_verb};
-ghost use Rattle.moo_world.specs.Rows.{IsGood};
-ghost use Rattle.moo_world.specs.VerbCalls.{delete_verb, set_verb_info, set_verb_args};
-ghost use Rattle.moo_calls_shared.specs.Outcomes.{world_in, Does};
+ghost use Rattle.moo_world.specs.{Descriptors.{found_verb}, Rows.{IsGood}, VerbCalls.{delete_verb, set_verb_info, set_verb_args}};
+ghost use Rattle.moo_calls_shared.specs.{Outcomes.{world_in, Does}, Shown.{info_shown, args_shown}};
 ghost use Rattle.moo_verbs.specs.Places.{verb_place};
-ghost use Rattle.moo_calls_shared.specs.Shown.{info_shown, args_shown};
 
 use crate::adding::{args_named, bits_taken};
 use moo_calls_shared::{ArgTexts, Fault, Reason, VerbInfo, rights};

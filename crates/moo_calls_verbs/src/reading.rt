@@ -1,16 +1,10 @@
 //! Reading verbs.
 
 ghost use Rattle.std.specs.Prelude.{◌≡◌, [], ◌∷◌, IfOk, IfErr};
-ghost use Rattle.moo_value.specs.Text.{IsText};
-ghost use Rattle.moo_value.specs.declared.value.Value.TheVariants.{Obj, Str};
-ghost use Rattle.moo_rows.specs.Bits.{verb_letters_of};
-ghost use Rattle.moo_rows.specs.declared.row.VerbRow.{VerbRow};
-ghost use Rattle.moo_world.specs.Rows.{IsGood};
-ghost use Rattle.moo_world.specs.Answers.{list_of};
-ghost use Rattle.moo_world.specs.Outcomes.{Outcome, fails};
-ghost use Rattle.moo_world.specs.World.{World};
-ghost use Rattle.moo_world.specs.Prepositions.{prep_text, object_spec_text};
-ghost use Rattle.moo_world.specs.VerbCalls.{verbs, verb_info, verb_args};
+ghost use Rattle.moo_value.specs.{Text.{IsText}, declared.value.Value.TheVariants.{Obj, Str}};
+ghost use Rattle.moo_rows.specs.{Bits.{verb_letters_of}, declared.row.VerbRow.{VerbRow}};
+ghost use Rattle.moo_world.specs.{Rows.{IsGood}, Answers.{list_of}, Outcomes.{Outcome, fails}, World.{World}};
+ghost use Rattle.moo_world.specs.{Prepositions.{prep_text, object_spec_text}, VerbCalls.{verbs, verb_info, verb_args}};
 ghost use Rattle.moo_calls_shared.specs.Outcomes.{world_in, Answers};
 ghost use Rattle.moo_calls_verbs.specs.Checks.{reading_verb};
 

@@ -1,7 +1,5 @@
 -- Rows of a table in any order, no two of them with one key.
-use Rattle.std.specs.Prelude.{Bool, List, IsTrue}
-use Rattle.std.specs.List.{AllByRecursion, IsDistinct}
-use Rattle.std.specs.Ordering.{is_eq, ordering_then}
+use Rattle.std.specs.{Prelude.{Bool, List, IsTrue}, List.{AllByRecursion, IsDistinct}, Ordering.{is_eq, ordering_then}}
 use Rattle.sqlite.specs.Order.{Row, column, value_cmp}
 use Rattle.sqlite_trees.specs.View.{is_int}
 

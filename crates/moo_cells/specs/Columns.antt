@@ -1,7 +1,6 @@
 -- Columns of the table of verbs.
 use Rattle.std.specs.Prelude.{◌≡◌}
-use Rattle.sqlite.specs.Order.{Row, column}
-use Rattle.sqlite.specs.declared.types.Value.TheVariants.{Text}
+use Rattle.sqlite.specs.{Order.{Row, column}, declared.types.Value.TheVariants.{Text}}
 use Rattle.moo_rows.specs.declared.row.ArgSpec.{ArgSpec}
 use Rattle.moo_world.specs.Prepositions.{prep_text, object_spec_text}
 

@@ -1,20 +1,13 @@
 -- What reading the cells of tables comes to: the rows that they show, or the first kind of damage with its least key.
 use Rattle.std.specs.Prelude.{⊤}
 use Rattle.moo_rows.specs.Maps.{Maps}
-use Rattle.moo_tables_rows.specs.Tables.{Tables}
-use Rattle.moo_tables_rows.specs.Version.{version_number}
-use Rattle.moo_damage.specs.declared.kind.Kind.{Kind}
-use Rattle.moo_damage.specs.declared.kind.Kind.TheVariants.{BadHead, BadCell}
-use Rattle.moo_damage.specs.declared.kind.Key.{Key}
-use Rattle.moo_damage.specs.declared.kind.Key.TheVariants.{Head, Object, Prop, Slot, Verb, Petition}
-use Rattle.moo_damage.specs.Kinds.{InRows, IsFirstMet}
+use Rattle.moo_tables_rows.specs.{Tables.{Tables}, Version.{version_number}}
+use Rattle.moo_damage.specs.{declared.kind.Kind.{Kind}, declared.kind.Kind.TheVariants.{BadHead, BadCell}, declared.kind.Key.{Key}}
+use Rattle.moo_damage.specs.{declared.kind.Key.TheVariants.{Head, Object, Prop, Slot, Verb, Petition}, Kinds.{InRows, IsFirstMet}}
 use Rattle.moo_damage.specs.Limits.{AreWithin}
 use Rattle.moo_cells.specs.Head.{greatest_version, IsNewerThan, HasHead, HasCounter}
-use Rattle.moo_cells.specs.Reading.{ReadsObject, ReadsProp, ReadsSlot, ReadsVerb, ReadsPetition}
-use Rattle.moo_cells.specs.Shows.{ShowsRows}
-use Rattle.moo_cells.specs.Unread.{IsUnread}
-use Rattle.moo_cells.specs.declared.fault.CellFault.{CellFault}
-use Rattle.moo_cells.specs.declared.fault.CellFault.TheVariants.{Damaged, NewerVersion, OutOfMemory}
+use Rattle.moo_cells.specs.{Reading.{ReadsObject, ReadsProp, ReadsSlot, ReadsVerb, ReadsPetition}, Shows.{ShowsRows}, Unread.{IsUnread}}
+use Rattle.moo_cells.specs.{declared.fault.CellFault.{CellFault}, declared.fault.CellFault.TheVariants.{Damaged, NewerVersion, OutOfMemory}}
 
 -- the head is that of a version later than the greatest that is known
 abbrev pub IsNewer : Tables → Type 0

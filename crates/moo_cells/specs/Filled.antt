@@ -1,8 +1,5 @@
 -- Tables that are put into maps, a row after another.
-use Rattle.std.specs.Prelude.{◌≡◌, List, Option}
-use Rattle.std.specs.FinMap.{FinMap, empty}
-use Rattle.std.specs.List.Sorted.{IsPermutation}
-use Rattle.std.specs.declared.cmp.Ordering.{Ordering}
+use Rattle.std.specs.{Prelude.{◌≡◌, List, Option}, FinMap.{FinMap, empty}, List.Sorted.{IsPermutation}, declared.cmp.Ordering.{Ordering}}
 use Rattle.sqlite.specs.Order.{Row}
 use Rattle.moo_rows.specs.Maps.{Maps}
 use Rattle.moo_cells.specs.Holding.{FillsTable}

@@ -1,11 +1,8 @@
 -- The numbers in the cells of the head.
-use Rattle.std.specs.Prelude.{◌≡◌, pos, [], ◌∷◌, FitsSigned}
-use Rattle.std.specs.Int.{w64}
-use Rattle.sqlite.specs.Order.{Row}
-use Rattle.sqlite.specs.declared.types.Value.TheVariants.{Int}
+use Rattle.std.specs.{Prelude.{◌≡◌, pos, [], ◌∷◌, FitsSigned}, Int.{w64}}
+use Rattle.sqlite.specs.{Order.{Row}, declared.types.Value.TheVariants.{Int}}
 use Rattle.moo_rows.specs.declared.row.Head.{Head}
-use Rattle.moo_cells.specs.Head.{HeadFits}
-use Rattle.moo_cells.specs.declared.head.HeadCells.{HeadCells}
+use Rattle.moo_cells.specs.{Head.{HeadFits}, declared.head.HeadCells.{HeadCells}}
 
 -- the cells of these six numbers, in the order of the columns of `head`
 abbrev pub cells_of : HeadCells → Row

@@ -1,17 +1,10 @@
 -- What was read of the tables of a connection, one table after another.
-use Rattle.std.specs.Prelude.{◌≡◌, List, Option}
-use Rattle.std.specs.FinMap.{FinMap}
-use Rattle.std.specs.declared.cmp.Ordering.{Ordering}
-use Rattle.sqlite.specs.Order.{Row}
-use Rattle.sqlite.specs.State.{State, HasCleanDisk}
-use Rattle.sqlite.specs.Tree.{has_rowid}
+use Rattle.std.specs.{Prelude.{◌≡◌, List, Option}, FinMap.{FinMap}, declared.cmp.Ordering.{Ordering}}
+use Rattle.sqlite.specs.{Order.{Row}, State.{State, HasCleanDisk}, Tree.{has_rowid}}
 use Rattle.moo_rows.specs.Maps.{Maps}
-use Rattle.moo_tables_rows.specs.declared.version.Version.{Version}
-use Rattle.moo_tables_rows.specs.Tables.{Tables}
-use Rattle.moo_tables_rows.specs.Inside.{Rests}
+use Rattle.moo_tables_rows.specs.{declared.version.Version.{Version}, Tables.{Tables}, Inside.{Rests}}
 use Rattle.moo_tables.specs.declared.cell_table.CellTable.{CellTable}
-use Rattle.moo_tables.specs.declared.cell_table.CellTable.TheVariants.{Object, Prop, Slot, Verb}
-use Rattle.moo_tables.specs.Listing.{ListsTable, has_key_pair}
+use Rattle.moo_tables.specs.{declared.cell_table.CellTable.TheVariants.{Object, Prop, Slot, Verb}, Listing.{ListsTable, has_key_pair}}
 use Rattle.moo_cells.specs.Apart.{HaveNumbers, HavePairs}
 use Rattle.moo_cells.specs.Holding.{FillsTable, HoldsEachRow, object_number, prop_number, slot_number, verb_number}
 use Rattle.moo_cells.specs.Reading.{ReadsObject, ReadsProp, ReadsSlot, ReadsVerb}

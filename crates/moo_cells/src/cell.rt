@@ -1,22 +1,14 @@
 //! Single cells.
 
-ghost use Rattle.std.specs.Prelude.{◌≡◌, ◌≢◌, ℕ, ℤ, pos, ◌<◌, Bool, true, false, List, Some, IfOk, IfErr, IsTrue, FitsSigned};
-ghost use Rattle.std.specs.Int.{w64};
-ghost use Rattle.sqlite.specs.Order.{column};
-ghost use Rattle.sqlite.specs.declared.types.Value.TheVariants.{Int, Text};
+ghost use Rattle.std.specs.{Prelude.{◌≡◌, ◌≢◌, ℕ, ℤ, pos, ◌<◌, Bool, true, false, List, Some, IfOk, IfErr, IsTrue, FitsSigned}, Int.{w64}};
+ghost use Rattle.sqlite.specs.{Order.{column}, declared.types.Value.TheVariants.{Int, Text}};
 ghost use Rattle.sqlite_trees.specs.View.{is_int};
 ghost use Rattle.moo_value.specs.declared.value.ObjNo.{ObjNo};
-ghost use Rattle.moo_rows.specs.declared.row.Bits.{Bits};
-ghost use Rattle.moo_rows.specs.declared.row.VerbBits.{VerbBits};
-ghost use Rattle.moo_rows.specs.declared.row.ObjectSpec.{ObjectSpec};
-ghost use Rattle.moo_rows.specs.declared.row.Preposition.{Preposition};
-ghost use Rattle.moo_rows.specs.Bits.{verb_bits_of};
-ghost use Rattle.moo_world.specs.Arguments.{is_number, is_text};
-ghost use Rattle.moo_world.specs.Prepositions.{prep_text, object_spec_text};
+ghost use Rattle.moo_rows.specs.{declared.row.Bits.{Bits}, declared.row.VerbBits.{VerbBits}, declared.row.ObjectSpec.{ObjectSpec}};
+ghost use Rattle.moo_rows.specs.{declared.row.Preposition.{Preposition}, Bits.{verb_bits_of}};
+ghost use Rattle.moo_world.specs.{Arguments.{is_number, is_text}, Prepositions.{prep_text, object_spec_text}};
 ghost use Rattle.moo_tables_rows.specs.Cells.{flag_cell};
-ghost use Rattle.moo_cells.specs.Reading.{IsId};
-ghost use Rattle.moo_cells.specs.RowCells.{ShowsBits, ShowsRights};
-ghost use Rattle.moo_cells.specs.declared.fault.RowFault.TheVariants.{Unreadable};
+ghost use Rattle.moo_cells.specs.{Reading.{IsId}, RowCells.{ShowsBits, ShowsRights}, declared.fault.RowFault.TheVariants.{Unreadable}};
 
 use crate::fault::RowFault;
 use moo_rows::{Bits, ObjectSpec, Preposition, VerbBits};

@@ -4,10 +4,8 @@ ghost use Rattle.std.specs.Prelude.{◌≡◌, ◌<◌, ◌^◌, IfOk, IfErr};
 ghost use Rattle.moo_rows.specs.Maps.{Maps};
 ghost use Rattle.moo_world.specs.Rows.{IsGood};
 ghost use Rattle.moo_tables.specs.Listing.{AreListed, tables_of};
-ghost use Rattle.moo_cells.specs.Shows.{ShowsRows};
-ghost use Rattle.moo_cells.specs.Damage.{IsMet, IsNewer, SaysOfCells};
-ghost use Rattle.moo_damage.specs.declared.kind.Kind.{Kind};
-ghost use Rattle.moo_damage.specs.declared.kind.Key.{Key};
+ghost use Rattle.moo_cells.specs.{Shows.{ShowsRows}, Damage.{IsMet, IsNewer, SaysOfCells}};
+ghost use Rattle.moo_damage.specs.{declared.kind.Kind.{Kind}, declared.kind.Key.{Key}};
 
 use crate::fault::CellFault;
 use crate::rows::read_rows;

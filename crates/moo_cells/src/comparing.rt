@@ -4,10 +4,7 @@ ghost use Rattle.std.specs.Prelude.{◌≡◌, true, IfOk, IfErr, IfSome, IfNone
 ghost use Rattle.moo_world.specs.Rows.{IsGood};
 ghost use Rattle.moo_tables_rows.specs.Inside.{AreKeyed};
 ghost use Rattle.moo_tables.specs.Listing.{AreListed, tables_of};
-ghost use Rattle.moo_cells.specs.Head.{by_rowid, HoldsHead, ReadsCounter};
-ghost use Rattle.moo_cells.specs.Shows.{ShowsRows};
-ghost use Rattle.moo_cells.specs.Damage.{SaysOfCells};
-ghost use Rattle.moo_cells.specs.Compared.{IsMismatch};
+ghost use Rattle.moo_cells.specs.{Head.{by_rowid, HoldsHead, ReadsCounter}, Shows.{ShowsRows}, Damage.{SaysOfCells}, Compared.{IsMismatch}};
 
 use crate::cells::read_cells;
 use crate::fault::CellFault;

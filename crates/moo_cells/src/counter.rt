@@ -1,8 +1,7 @@
 //! The counters, and the table of the number of the next petition.
 
 ghost use Rattle.std.specs.Prelude.{◌≡◌, ◌≢◌, ℕ, pos, IfSome, IfNone};
-ghost use Rattle.moo_tables_rows.specs.Cells.{petition_head_cells};
-ghost use Rattle.moo_tables_rows.specs.Inside.{AreKeyed};
+ghost use Rattle.moo_tables_rows.specs.{Cells.{petition_head_cells}, Inside.{AreKeyed}};
 ghost use Rattle.moo_cells.specs.Head.{IsCounter, by_rowid, ReadsCounter, HasCounter};
 
 use crate::cell::int_at;

@@ -4,8 +4,7 @@ ghost use Rattle.std.specs.Prelude.{◌≡◌, List, ◌++◌, IfSome, true};
 ghost use Rattle.sqlite.specs.Order.{Row as Cells};
 ghost use Rattle.moo_rows.specs.Maps.{Maps};
 ghost use Rattle.moo_tables_rows.specs.declared.version.Version.{Version};
-ghost use Rattle.moo_cells.specs.Filled.{FillsInSomeOrder, FillsMap};
-ghost use Rattle.moo_cells.specs.Holding.{KeepsTable};
+ghost use Rattle.moo_cells.specs.{Filled.{FillsInSomeOrder, FillsMap}, Holding.{KeepsTable}};
 
 use crate::filling_order::in_filling_order;
 use crate::read_row::{ReadRow, take_row};

@@ -1,12 +1,10 @@
 //! The head: its table, and that of the number of the next petition.
 
-ghost use Rattle.std.specs.Prelude.{◌≡◌, ◌≢◌, ℕ, ◌<◌, ◌≤◌, ◌^◌, pos, negsuc, ◌≤ℤ◌, FitsSigned, IfOk, IfErr, IfSome, IfNone};
-ghost use Rattle.std.specs.Int.{w32};
+ghost use Rattle.std.specs.{Prelude.{◌≡◌, ◌≢◌, ℕ, ◌<◌, ◌≤◌, ◌^◌, pos, negsuc, ◌≤ℤ◌, FitsSigned, IfOk, IfErr, IfSome, IfNone}, Int.{w32}};
 ghost use Rattle.moo_rows.specs.declared.row.Head.{Head};
-ghost use Rattle.moo_tables_rows.specs.Inside.{AreKeyed};
-ghost use Rattle.moo_tables_rows.specs.Version.{version_number};
-ghost use Rattle.moo_cells.specs.Head.{greatest_version, by_rowid, HoldsHead, ReadsHead, ReadsNewer, ReadsKnown, IsNewerThan, HasHead, ReadsCounter, HasCounter, SaysOfHead};
-ghost use Rattle.moo_cells.specs.HeadCells.{cells_of, AreWords, IsHead};
+ghost use Rattle.moo_tables_rows.specs.{Inside.{AreKeyed}, Version.{version_number}};
+ghost use Rattle.moo_cells.specs.Head.{greatest_version, by_rowid, HoldsHead, ReadsHead, ReadsNewer, ReadsKnown, IsNewerThan, HasHead};
+ghost use Rattle.moo_cells.specs.{Head.{ReadsCounter, HasCounter, SaysOfHead}, HeadCells.{cells_of, AreWords, IsHead}};
 ghost use Rattle.moo_cells.specs.declared.head.HeadCells.{HeadCells};
 
 use crate::cell::int_at;

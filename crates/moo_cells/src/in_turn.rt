@@ -3,20 +3,14 @@
 //!
 //! What is wrong with tables isn't told here. Whoever wants to know it reads them all (`read_tables` of `moo_tables`, `read_cells`).
 
-ghost use Rattle.std.specs.Prelude.{◌≡◌, ◌<◌, ◌^◌, IfOk, IfSome, true};
-ghost use Rattle.std.specs.FinMap.{empty};
-ghost use Rattle.sqlite.specs.Held.{state};
-ghost use Rattle.sqlite.specs.State.{HasCleanDisk};
+ghost use Rattle.std.specs.{Prelude.{◌≡◌, ◌<◌, ◌^◌, IfOk, IfSome, true}, FinMap.{empty}};
+ghost use Rattle.sqlite.specs.{Held.{state}, State.{HasCleanDisk}};
 ghost use Rattle.moo_rows.specs.Maps.{Maps, no_maps};
 ghost use Rattle.moo_world.specs.Rows.{IsGood};
-ghost use Rattle.moo_tables_rows.specs.Tables.{Tables};
-ghost use Rattle.moo_tables_rows.specs.Inside.{AreKeyed, Rests};
-ghost use Rattle.moo_tables.specs.Listing.{HasTable};
-ghost use Rattle.moo_tables.specs.Reading.{OnlyReads};
+ghost use Rattle.moo_tables_rows.specs.{Tables.{Tables}, Inside.{AreKeyed, Rests}};
+ghost use Rattle.moo_tables.specs.{Listing.{HasTable}, Reading.{OnlyReads}};
 ghost use Rattle.moo_damage.specs.Limits.{AreWithin};
-ghost use Rattle.moo_cells.specs.Shows.{ShowsRows};
-ghost use Rattle.moo_cells.specs.Holding.{KeepsTable};
-ghost use Rattle.moo_cells.specs.Taken.{TakesTable, TakesTables};
+ghost use Rattle.moo_cells.specs.{Shows.{ShowsRows}, Holding.{KeepsTable}, Taken.{TakesTable, TakesTables}};
 
 use crate::filling::Filling;
 use crate::head::read_head;

@@ -3,12 +3,9 @@
 ghost use Rattle.std.specs.Prelude.{◌≡◌};
 ghost use Rattle.moo_rows.specs.Maps.{Maps};
 ghost use Rattle.moo_tables_rows.specs.Tables.{Tables};
-ghost use Rattle.moo_damage.specs.Limits.{AreWithin};
+ghost use Rattle.moo_damage.specs.{Limits.{AreWithin}, declared.kind.Kind.{Kind}, declared.kind.Key.{Key}};
 ghost use Rattle.moo_world.specs.Rows.{IsGood};
-ghost use Rattle.moo_damage.specs.declared.kind.Kind.{Kind};
-ghost use Rattle.moo_damage.specs.declared.kind.Key.{Key};
-ghost use Rattle.moo_cells.specs.Shows.{ShowsRows};
-ghost use Rattle.moo_cells.specs.Damage.{IsMet, IsNewer, Damage};
+ghost use Rattle.moo_cells.specs.{Shows.{ShowsRows}, Damage.{IsMet, IsNewer, Damage}};
 
 /// Tables show at most one set of rows within the limits.
 pub fn one_set_of_rows()

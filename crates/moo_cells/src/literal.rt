@@ -1,18 +1,11 @@
 //! Cells that hold literals.
 
-ghost use Rattle.std.specs.Prelude.{◌≡◌, ◌≢◌, ◌≤◌, ℕ, true, ◌&&◌, List, Some, map, length, IfOk, IfErr};
-ghost use Rattle.std.specs.List.{list_all};
-ghost use Rattle.sqlite.specs.Order.{column};
-ghost use Rattle.sqlite.specs.declared.types.Value.TheVariants.{Text};
-ghost use Rattle.moo_value.specs.declared.value.ObjNo.{ObjNo};
-ghost use Rattle.moo_value.specs.declared.value.Value.TheVariants.{Obj, List as a_list};
-ghost use Rattle.moo_value.specs.Value.{spread};
+ghost use Rattle.std.specs.{Prelude.{◌≡◌, ◌≢◌, ◌≤◌, ℕ, true, ◌&&◌, List, Some, map, length, IfOk, IfErr}, List.{list_all}};
+ghost use Rattle.sqlite.specs.{Order.{column}, declared.types.Value.TheVariants.{Text}};
+ghost use Rattle.moo_value.specs.{declared.value.ObjNo.{ObjNo}, declared.value.Value.TheVariants.{Obj, List as a_list}, Value.{spread}};
 ghost use Rattle.moo_value.specs.Literal.{Spells};
-ghost use Rattle.moo_world.specs.Answers.{object_list};
-ghost use Rattle.moo_world.specs.Petitions.{is_named, are_few, are_shallow};
-ghost use Rattle.moo_world.specs.World.{accept_fits, state_fits};
-ghost use Rattle.moo_cells.specs.Reading.{calls_fit, SpellsNone, ShowsNone};
-ghost use Rattle.moo_cells.specs.RowCells.{ShowsAccept, ShowsSlotState};
+ghost use Rattle.moo_world.specs.{Answers.{object_list}, Petitions.{is_named, are_few, are_shallow}, World.{accept_fits, state_fits}};
+ghost use Rattle.moo_cells.specs.{Reading.{calls_fit, SpellsNone, ShowsNone}, RowCells.{ShowsAccept, ShowsSlotState}};
 ghost use Rattle.moo_cells.specs.declared.fault.RowFault.TheVariants.{Unreadable};
 
 use crate::cell::text_at;

@@ -2,12 +2,10 @@
 
 ghost use Rattle.std.specs.Prelude.{IfOk, IfErr};
 ghost use Rattle.moo_rows.specs.declared.row.ObjRow.{ObjRow};
-ghost use Rattle.moo_cells.specs.Object.{HasFlags};
-ghost use Rattle.moo_cells.specs.Reading.{ReadsObject};
+ghost use Rattle.moo_cells.specs.{Object.{HasFlags}, Reading.{ReadsObject}, Apart.{HaveNumbers}};
+ghost use Rattle.moo_cells.specs.Holding.{object_number, object_key, IsLess, HasWholeNumber, HoldsEachRow, SaysUnread, TellsKey};
 ghost use Rattle.sqlite.specs.Tree.{has_rowid};
 ghost use Rattle.moo_tables_rows.specs.Inside.{AreKeyed};
-ghost use Rattle.moo_cells.specs.Apart.{HaveNumbers};
-ghost use Rattle.moo_cells.specs.Holding.{object_number, object_key, IsLess, HasWholeNumber, HoldsEachRow, SaysUnread, TellsKey};
 
 use crate::cell::{flag_at, int_in, object_at, string_at};
 use crate::fault::RowFault;

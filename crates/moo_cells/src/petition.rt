@@ -1,10 +1,9 @@
 //! The table of petitions.
 
-ghost use Rattle.moo_cells.specs.Reading.{ReadsPetition};
+ghost use Rattle.moo_cells.specs.{Reading.{ReadsPetition}, Apart.{HaveNumbers}};
+ghost use Rattle.moo_cells.specs.Holding.{petition_number, petition_key, IsLess, HasWholeNumber, HoldsEachRow, SaysUnread, TellsKey};
 ghost use Rattle.sqlite.specs.Tree.{has_rowid};
 ghost use Rattle.moo_tables_rows.specs.Inside.{AreKeyed};
-ghost use Rattle.moo_cells.specs.Apart.{HaveNumbers};
-ghost use Rattle.moo_cells.specs.Holding.{petition_number, petition_key, IsLess, HasWholeNumber, HoldsEachRow, SaysUnread, TellsKey};
 
 use crate::cell::{id_at, int_in, object_at};
 use crate::fault::RowFault;

@@ -2,11 +2,10 @@
 
 ghost use Rattle.std.specs.Prelude.{◌≡◌};
 ghost use Rattle.moo_world.specs.World.{is_property_name};
-ghost use Rattle.moo_cells.specs.Reading.{ReadsProp};
+ghost use Rattle.moo_cells.specs.{Reading.{ReadsProp}, Apart.{HaveNumbers}};
+ghost use Rattle.moo_cells.specs.Holding.{prop_number, prop_key, IsLess, HasWholeNumber, HoldsEachRow, SaysUnread, TellsKey};
 ghost use Rattle.sqlite.specs.Tree.{has_rowid};
 ghost use Rattle.moo_tables_rows.specs.Inside.{AreKeyed};
-ghost use Rattle.moo_cells.specs.Apart.{HaveNumbers};
-ghost use Rattle.moo_cells.specs.Holding.{prop_number, prop_key, IsLess, HasWholeNumber, HoldsEachRow, SaysUnread, TellsKey};
 
 use crate::cell::{id_at, int_in, object_at, string_at};
 use crate::fault::RowFault;

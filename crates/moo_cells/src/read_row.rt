@@ -1,13 +1,10 @@
 //! What a table asks of the rows of its kind.
 
-ghost use Rattle.std.specs.Prelude.{◌≡◌, List, Option, IfOk, IfErr, OnOk};
-ghost use Rattle.std.specs.FinMap.{empty, get};
+ghost use Rattle.std.specs.{Prelude.{◌≡◌, List, Option, IfOk, IfErr, OnOk}, FinMap.{empty, get}};
 ghost use Rattle.sqlite.specs.Order.{Row as Cells};
 ghost use Rattle.moo_tables_rows.specs.declared.version.Version.{Version};
 ghost use Rattle.moo_damage.specs.declared.kind.Key.{Key};
-ghost use Rattle.moo_cells.specs.Reading.{IsRead};
-ghost use Rattle.moo_cells.specs.Holding.{KeepsTable, TakesRow};
-ghost use Rattle.moo_cells.specs.declared.fault.CellFault.{CellFault};
+ghost use Rattle.moo_cells.specs.{Reading.{IsRead}, Holding.{KeepsTable, TakesRow}, declared.fault.CellFault.{CellFault}};
 ghost use Rattle.moo_cells.specs.declared.fault.RowFault.TheVariants.{Unreadable};
 
 use crate::fault::{CellFault, RowFault};

@@ -3,11 +3,8 @@
 ghost use Rattle.std.specs.Prelude.{◌≡◌, ◌<◌, ◌^◌, IfOk, IfErr, OnOk};
 ghost use Rattle.moo_rows.specs.Maps.{no_maps};
 ghost use Rattle.moo_tables.specs.Listing.{AreListed, tables_of};
-ghost use Rattle.moo_damage.specs.Kinds.{NoneBefore};
-ghost use Rattle.moo_damage.specs.Limits.{AreWithin};
-ghost use Rattle.moo_cells.specs.Head.{by_rowid, HoldsHead, ReadsCounter};
-ghost use Rattle.moo_cells.specs.Shows.{ShowsRows};
-ghost use Rattle.moo_cells.specs.Damage.{IsMet, IsNewer, SaysOfCells};
+ghost use Rattle.moo_damage.specs.{Kinds.{NoneBefore}, Limits.{AreWithin}};
+ghost use Rattle.moo_cells.specs.{Head.{by_rowid, HoldsHead, ReadsCounter}, Shows.{ShowsRows}, Damage.{IsMet, IsNewer, SaysOfCells}};
 
 use crate::fault::CellFault;
 use crate::head::read_head;

@@ -1,7 +1,6 @@
 //! The rows of a table, compared with rows that were known before.
 
-ghost use Rattle.std.specs.Prelude.{◌≡◌, true, None, IfOk};
-ghost use Rattle.std.specs.FinMap.{entries};
+ghost use Rattle.std.specs.{Prelude.{◌≡◌, true, None, IfOk}, FinMap.{entries}};
 ghost use Rattle.moo_cells.specs.Each.{ShowEach};
 
 use crate::fault::RowFault;

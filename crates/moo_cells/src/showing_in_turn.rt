@@ -3,18 +3,11 @@
 //!
 //! Where they differ isn't told here. Whoever wants to know it reads them all (`read_tables` of `moo_tables`, `compare_cells`).
 
-ghost use Rattle.std.specs.Prelude.{◌≡◌, IfOk, true};
-ghost use Rattle.std.specs.FinMap.{entries};
-ghost use Rattle.sqlite.specs.Held.{state};
-ghost use Rattle.sqlite.specs.State.{HasCleanDisk};
-ghost use Rattle.moo_tables_rows.specs.Tables.{Tables};
-ghost use Rattle.moo_tables_rows.specs.Inside.{Rests};
-ghost use Rattle.moo_tables.specs.Listing.{HasTable};
-ghost use Rattle.moo_tables.specs.Reading.{OnlyReads};
-ghost use Rattle.moo_cells.specs.Each.{ShowEach};
-ghost use Rattle.moo_cells.specs.Holding.{KeepsTable};
-ghost use Rattle.moo_cells.specs.Shows.{ShowsRows};
-ghost use Rattle.moo_cells.specs.Taken.{TakesTable, TakesTables};
+ghost use Rattle.std.specs.{Prelude.{◌≡◌, IfOk, true}, FinMap.{entries}};
+ghost use Rattle.sqlite.specs.{Held.{state}, State.{HasCleanDisk}};
+ghost use Rattle.moo_tables_rows.specs.{Tables.{Tables}, Inside.{Rests}};
+ghost use Rattle.moo_tables.specs.{Listing.{HasTable}, Reading.{OnlyReads}};
+ghost use Rattle.moo_cells.specs.{Each.{ShowEach}, Holding.{KeepsTable}, Shows.{ShowsRows}, Taken.{TakesTable, TakesTables}};
 
 use crate::comparing::shows_head;
 use crate::in_turn::are_each_numbered;

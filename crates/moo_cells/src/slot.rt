@@ -1,9 +1,8 @@
 //! The table of slots.
 
-ghost use Rattle.moo_cells.specs.Reading.{ReadsSlot};
-ghost use Rattle.moo_tables.specs.Listing.{has_key_pair, ArePaired};
-ghost use Rattle.moo_cells.specs.Apart.{HavePairs};
+ghost use Rattle.moo_cells.specs.{Reading.{ReadsSlot}, Apart.{HavePairs}};
 ghost use Rattle.moo_cells.specs.Holding.{slot_number, slot_key, IsPairLess, HasWholePair, HoldsEachRow, SaysUnread, TellsKey};
+ghost use Rattle.moo_tables.specs.Listing.{has_key_pair, ArePaired};
 
 use crate::cell::{bits_at, id_at, int_in, object_at};
 use crate::fault::RowFault;

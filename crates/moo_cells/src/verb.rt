@@ -1,12 +1,10 @@
 //! The table of verbs.
 
 ghost use Rattle.std.specs.Prelude.{IfOk, IfErr};
-ghost use Rattle.moo_cells.specs.Columns.{HasArgs};
-ghost use Rattle.moo_cells.specs.Reading.{ReadsVerb};
+ghost use Rattle.moo_cells.specs.{Columns.{HasArgs}, Reading.{ReadsVerb}, Apart.{HavePairs}};
+ghost use Rattle.moo_cells.specs.Holding.{verb_number, verb_key, IsPairLess, HasWholePair, HoldsEachRow, SaysUnread, TellsKey};
 ghost use Rattle.moo_rows.specs.declared.row.ArgSpec.{ArgSpec};
 ghost use Rattle.moo_tables.specs.Listing.{has_key_pair, ArePaired};
-ghost use Rattle.moo_cells.specs.Apart.{HavePairs};
-ghost use Rattle.moo_cells.specs.Holding.{verb_number, verb_key, IsPairLess, HasWholePair, HoldsEachRow, SaysUnread, TellsKey};
 
 use crate::cell::{id_at, int_in, object_at, object_spec_at, prep_at, string_at, verb_bits_at};
 use crate::fault::RowFault;

@@ -1,22 +1,11 @@
 -- The task that words name, by the matches of the program's command.
 use Rattle.std.specs.Prelude.{◌≡◌, ◌<◌, ◌≤◌, ◌⊎◌, ℕ, Bool, false, List, [], Option, Some, None, MatchOption, codes, length, ⊤}
-use Rattle.std.specs.Int.{IsInRange}
-use Rattle.std.specs.Option.{option_map_or}
-use Rattle.std.specs.Str.{bytes_eq}
-use Rattle.std.specs.Str.Parse.{IsNumeral, digits_value, without_leading_plus}
-use Rattle.clap.specs.Walk.{Row, Text, first_of, one_of}
-use Rattle.clap.specs.Simple.{subcommand_of}
-use Rattle.clap.specs.Kinds.{Kinds, HasKind}
-use Rattle.clap.specs.Faults.{fault_of}
-use Rattle.moo_cli.specs.Commands.{moo_app}
-use Rattle.moo_cli.specs.declared.task.Task.{Task}
-use Rattle.moo_cli.specs.declared.task.Batches.{Batches}
-use Rattle.moo_cli.specs.declared.task.Options.{Options}
-use Rattle.moo_cli.specs.declared.task.Service.{Service}
-use Rattle.moo_cli.specs.declared.task.Action.{Action}
+use Rattle.std.specs.{Int.{IsInRange}, Option.{option_map_or}, Str.{bytes_eq}, Str.Parse.{IsNumeral, digits_value, without_leading_plus}}
+use Rattle.clap.specs.{Walk.{Row, Text, first_of, one_of}, Simple.{subcommand_of}, Kinds.{Kinds, HasKind}, Faults.{fault_of}}
+use Rattle.moo_cli.specs.{Commands.{moo_app}, declared.task.Task.{Task}, declared.task.Batches.{Batches}, declared.task.Options.{Options}}
+use Rattle.moo_cli.specs.{declared.task.Service.{Service}, declared.task.Action.{Action}}
 use Rattle.moo_cli.specs.declared.task.Action.TheVariants.{Init, Apply, Rehearse, Ask, Dump, Load, Check, Serve}
-use Rattle.moo_cli.specs.declared.task.Usage.{Usage}
-use Rattle.moo_cli.specs.declared.task.Usage.TheVariants.{Refused, Absent}
+use Rattle.moo_cli.specs.{declared.task.Usage.{Usage}, declared.task.Usage.TheVariants.{Refused, Absent}}
 
 -- the argument of that name is this text
 abbrev pub HasText : List Row → Text → Text → Type 0

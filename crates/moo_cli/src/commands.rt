@@ -1,7 +1,6 @@
 //! The commands of the program.
 ghost use Rattle.std.specs.Prelude.{◌≡◌, true, false, codes, Some, IfOk};
-ghost use Rattle.clap.specs.Walk.{rule_of};
-ghost use Rattle.clap.specs.Simple.{App, app_of, new_app, new_rule, on_top, with_rule, with_subcommand};
+ghost use Rattle.clap.specs.{Walk.{rule_of}, Simple.{App, app_of, new_app, new_rule, on_top, with_rule, with_subcommand}};
 ghost use Rattle.clap.specs.declared.builder.action.ArgAction.TheVariants.{SetTrue};
 ghost use Rattle.clap.specs.declared.builder.command.Command.TheViews.{out-Command as fields_of};
 ghost use Rattle.moo_cli.specs.Commands.{text_rule, number_rule, file_app, batches_app, running_app, serve_app, moo_app};

@@ -1,10 +1,8 @@
 //! The task that the words of the command line name.
 ghost use Rattle.std.specs.Prelude.{◌≡◌, ◌<◌, ◌^◌, true, List, Some, map, IfOk, IfErr, IsErr, is_some, option_map, codes, length};
-ghost use Rattle.clap.specs.Simple.{subcommand_rows_of};
-ghost use Rattle.clap.specs.Walk.{Row, Text, first_of, rows_of};
-ghost use Rattle.clap.specs.Matches.{found_of};
-ghost use Rattle.moo_cli.specs.Tasks.{HasNumber, is_set, AreBatches, HasNumberOr, IsService, HasArguments, IsTask};
-ghost use Rattle.moo_cli.specs.Tasks.{IsAny, IsRefusal, NamesTask, NamesAlone, command_of, text_word};
+ghost use Rattle.clap.specs.{Simple.{subcommand_rows_of}, Walk.{Row, Text, first_of, rows_of}, Matches.{found_of}};
+ghost use Rattle.moo_cli.specs.Tasks.{HasNumber, is_set, AreBatches, HasNumberOr, IsService, HasArguments, IsTask, IsAny, IsRefusal};
+ghost use Rattle.moo_cli.specs.Tasks.{NamesTask, NamesAlone, command_of, text_word};
 
 use crate::commands::moo_command;
 use clap::{ArgMatches, Error};

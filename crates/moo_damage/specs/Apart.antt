@@ -1,13 +1,8 @@
 -- Names that stand once on an object.
-use Rattle.std.specs.Prelude.{◌≡◌, ◌<◌, ℕ, Bool, true, Option, None, Some, nat_eq, if◌then◌else◌}
-use Rattle.std.specs.BTreeMap.{BTreeMap}
-use Rattle.std.specs.FinMap.{FinMap, get}
-use Rattle.std.specs.Global.{Vec}
-use Rattle.std.specs.Map.{lookup}
+use Rattle.std.specs.{Prelude.{◌≡◌, ◌<◌, ℕ, Bool, true, Option, None, Some, nat_eq, if◌then◌else◌}, BTreeMap.{BTreeMap}}
+use Rattle.std.specs.{FinMap.{FinMap, get}, Global.{Vec}, Map.{lookup}}
 use Rattle.moo_value.specs.declared.value.ObjNo.{ObjNo}
-use Rattle.moo_rows.specs.declared.row.PropId.{PropId}
-use Rattle.moo_rows.specs.declared.row.PropRow.{PropRow}
-use Rattle.moo_rows.specs.Maps.{Maps, object_cmp}
+use Rattle.moo_rows.specs.{declared.row.PropId.{PropId}, declared.row.PropRow.{PropRow}, Maps.{Maps, object_cmp}}
 use Rattle.moo_world.specs.Objects.{Name, same_text, folded}
 use Rattle.moo_damage.specs.Local.{has_slot}
 

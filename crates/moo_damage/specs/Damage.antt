@@ -1,28 +1,15 @@
 -- What can be wrong with rows. Each kind is a test of one row, or what a chain of links leads to.
-use Rattle.std.specs.Prelude.{◌≡◌, ◌⊎◌, Bool, true, false, not, ◌&&◌, ◌||◌, pos, nat_lt, nat_le, int_lt}
-use Rattle.std.specs.Prelude.{List, Option, None, Some, is_some, unwrap_or}
-use Rattle.std.specs.Option.{option_map}
-use Rattle.std.specs.List.{list_any}
-use Rattle.std.specs.FinMap.{get, entries}
-use Rattle.std.specs.Ordering.{is_lt}
+use Rattle.std.specs.Prelude.{◌≡◌, ◌⊎◌, Bool, true, false, not, ◌&&◌, ◌||◌, pos, nat_lt, nat_le, int_lt, List, Option, None, Some, is_some}
+use Rattle.std.specs.{Prelude.{unwrap_or}, Option.{option_map}, List.{list_any}, FinMap.{get, entries}, Ordering.{is_lt}}
 use Rattle.moo_value.specs.declared.value.ObjNo.{ObjNo}
-use Rattle.moo_rows.specs.declared.row.Head.{Head}
-use Rattle.moo_rows.specs.declared.row.ObjRow.{ObjRow}
-use Rattle.moo_rows.specs.declared.row.PetitionId.{PetitionId}
-use Rattle.moo_rows.specs.declared.row.PetitionRow.{PetitionRow}
-use Rattle.moo_rows.specs.declared.row.PropId.{PropId}
-use Rattle.moo_rows.specs.declared.row.PropRow.{PropRow}
-use Rattle.moo_rows.specs.declared.row.SlotRow.{SlotRow}
-use Rattle.moo_rows.specs.declared.row.VerbId.{VerbId}
-use Rattle.moo_rows.specs.declared.row.VerbRow.{VerbRow}
+use Rattle.moo_rows.specs.{declared.row.Head.{Head}, declared.row.ObjRow.{ObjRow}, declared.row.PetitionId.{PetitionId}}
+use Rattle.moo_rows.specs.{declared.row.PetitionRow.{PetitionRow}, declared.row.PropId.{PropId}, declared.row.PropRow.{PropRow}}
+use Rattle.moo_rows.specs.{declared.row.SlotRow.{SlotRow}, declared.row.VerbId.{VerbId}, declared.row.VerbRow.{VerbRow}}
 use Rattle.moo_rows.specs.Maps.{Maps, object_cmp}
-use Rattle.moo_world.specs.Objects.{nothing, same_object, same_text, folded, is_among}
-use Rattle.moo_world.specs.PropertyCalls.{is_clear}
-use Rattle.moo_world.specs.Rows.{world_of}
+use Rattle.moo_world.specs.{Objects.{nothing, same_object, same_text, folded, is_among}, PropertyCalls.{is_clear}, Rows.{world_of}}
 use Rattle.moo_world.specs.World.{World, Climbs, is_object, chain}
 use Rattle.moo_props.specs.Names.{defines}
-use Rattle.moo_damage.specs.declared.trees.TreeLink.{TreeLink}
-use Rattle.moo_damage.specs.declared.trees.TreeLink.TheVariants.{Parent, Location}
+use Rattle.moo_damage.specs.{declared.trees.TreeLink.{TreeLink}, declared.trees.TreeLink.TheVariants.{Parent, Location}}
 
 -- past-head: the number of an object was never given
 abbrev pub is_object_past : Head → ObjNo → Bool

@@ -1,13 +1,9 @@
 -- The first row in which two sets of rows differ.
-use Rattle.std.specs.Prelude.{◌≡◌, ◌≢◌, Bool, true, false, pos, negsuc, Option, None, Some, ⊤}
-use Rattle.std.specs.declared.cmp.Ordering.{Ordering}
-use Rattle.std.specs.declared.cmp.Ordering.TheVariants.{Less}
-use Rattle.std.specs.FinMap.{FinMap, get}
+use Rattle.std.specs.{Prelude.{◌≡◌, ◌≢◌, Bool, true, false, pos, negsuc, Option, None, Some, ⊤}, declared.cmp.Ordering.{Ordering}}
+use Rattle.std.specs.{declared.cmp.Ordering.TheVariants.{Less}, FinMap.{FinMap, get}}
 use Rattle.moo_rows.specs.Maps.{Maps}
-use Rattle.moo_damage.specs.declared.kind.Key.{Key}
-use Rattle.moo_damage.specs.declared.kind.Key.TheVariants.{Head, Object, Prop, Slot, Verb, Petition}
-use Rattle.moo_damage.specs.First.{IsLeastBad}
-use Rattle.moo_damage.specs.Kinds.{IsBelow}
+use Rattle.moo_damage.specs.{declared.kind.Key.{Key}, declared.kind.Key.TheVariants.{Head, Object, Prop, Slot, Verb, Petition}}
+use Rattle.moo_damage.specs.{First.{IsLeastBad}, Kinds.{IsBelow}}
 
 -- both have the same row at this key, or neither has one
 abbrev pub AgreeAt : Maps → Maps → Key → Type 0

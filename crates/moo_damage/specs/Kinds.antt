@@ -1,20 +1,14 @@
 -- Which damage is told: the first kind that is met, with the least key at which it is.
-use Rattle.std.specs.Prelude.{◌≡◌, ℕ, pos, negsuc, ◌<ℤ◌, ◌<◌, true, Option, None, Some, IsSome, ◌⊎◌}
-use Rattle.std.specs.FinMap.{get}
+use Rattle.std.specs.{Prelude.{◌≡◌, ℕ, pos, negsuc, ◌<ℤ◌, ◌<◌, true, Option, None, Some, IsSome, ◌⊎◌}, FinMap.{get}}
 use Rattle.moo_value.specs.declared.value.ObjNo.{ObjNo}
-use Rattle.moo_rows.specs.declared.row.PetitionId.{PetitionId}
-use Rattle.moo_rows.specs.declared.row.PropId.{PropId}
-use Rattle.moo_rows.specs.declared.row.VerbId.{VerbId}
-use Rattle.moo_rows.specs.Maps.{Maps}
+use Rattle.moo_rows.specs.{declared.row.PetitionId.{PetitionId}, declared.row.PropId.{PropId}, declared.row.VerbId.{VerbId}, Maps.{Maps}}
 use Rattle.moo_damage.specs.declared.kind.Kind.{Kind}
 use Rattle.moo_damage.specs.declared.kind.Kind.TheVariants.{BadHead, BadCell, PastHead, NoParent, ParentLoop, NoPlace, PlaceLoop, NoDefiner}
 use Rattle.moo_damage.specs.declared.kind.Kind.TheVariants.{DoubleName, StrangeSlot, MissingSlot, ClearDefiner, StrangeVerb, Mismatch}
-use Rattle.moo_damage.specs.declared.kind.Key.{Key}
-use Rattle.moo_damage.specs.declared.kind.Key.TheVariants.{Head, Object, Prop, Slot, Verb, Petition}
-use Rattle.moo_damage.specs.declared.trees.TreeLink.{TreeLink}
-use Rattle.moo_damage.specs.declared.trees.TreeLink.TheVariants.{Parent, Location}
-use Rattle.moo_damage.specs.Damage.{is_object_past, is_prop_past, is_verb_past, is_petition_past, is_lost, Loops, lacks_definer}
-use Rattle.moo_damage.specs.Damage.{is_double, is_strange, is_missing, is_clear_definer, is_strange_verb}
+use Rattle.moo_damage.specs.{declared.kind.Key.{Key}, declared.kind.Key.TheVariants.{Head, Object, Prop, Slot, Verb, Petition}}
+use Rattle.moo_damage.specs.{declared.trees.TreeLink.{TreeLink}, declared.trees.TreeLink.TheVariants.{Parent, Location}}
+use Rattle.moo_damage.specs.Damage.{is_object_past, is_prop_past, is_verb_past, is_petition_past, is_lost, Loops, lacks_definer, is_double}
+use Rattle.moo_damage.specs.Damage.{is_strange, is_missing, is_clear_definer, is_strange_verb}
 
 -- ---- the order of kinds and of keys
 

@@ -1,11 +1,7 @@
 -- What is proved of the definitions.
 use Rattle.moo_rows.specs.Maps.{Maps}
 use Rattle.moo_world.specs.Rows.{IsGood}
-use Rattle.moo_damage.specs.declared.kind.Kind.{Kind}
-use Rattle.moo_damage.specs.declared.kind.Key.{Key}
-use Rattle.moo_damage.specs.Damage.{IsClean}
-use Rattle.moo_damage.specs.Kinds.{InRows}
-use Rattle.moo_damage.specs.Limits.{AreWithin}
+use Rattle.moo_damage.specs.{declared.kind.Kind.{Kind}, declared.kind.Key.{Key}, Damage.{IsClean}, Kinds.{InRows}, Limits.{AreWithin}}
 
 -- rows within the limits that have no damage are good ones: sound rows of a well formed world, with petitions as they may be beside it
 abbrev pub CleanRowsAreGood : Type 0

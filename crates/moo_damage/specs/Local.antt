@@ -1,18 +1,10 @@
 -- What each slot and its neighbours must be so that the slots are just those that are owed.
-use Rattle.std.specs.Prelude.{◌≡◌, ◌<◌, Bool, true, false, not, ◌||◌, Some, is_some, unwrap_or}
-use Rattle.std.specs.Option.{option_map}
-use Rattle.std.specs.List.{list_any}
+use Rattle.std.specs.{Prelude.{◌≡◌, ◌<◌, Bool, true, false, not, ◌||◌, Some, is_some, unwrap_or}, Option.{option_map}, List.{list_any}}
 use Rattle.std.specs.FinMap.{get}
 use Rattle.moo_value.specs.declared.value.ObjNo.{ObjNo}
-use Rattle.moo_rows.specs.declared.row.ObjRow.{ObjRow}
-use Rattle.moo_rows.specs.declared.row.PropId.{PropId}
-use Rattle.moo_rows.specs.declared.row.PropRow.{PropRow}
-use Rattle.moo_rows.specs.declared.row.SlotRow.{SlotRow}
-use Rattle.moo_rows.specs.Maps.{Maps}
-use Rattle.moo_rows.specs.Walk.{slots_of_left}
-use Rattle.moo_world.specs.Objects.{folded}
-use Rattle.moo_world.specs.Rows.{world_of}
-use Rattle.moo_world.specs.World.{IsTree}
+use Rattle.moo_rows.specs.{declared.row.ObjRow.{ObjRow}, declared.row.PropId.{PropId}, declared.row.PropRow.{PropRow}}
+use Rattle.moo_rows.specs.{declared.row.SlotRow.{SlotRow}, Maps.{Maps}, Walk.{slots_of_left}}
+use Rattle.moo_world.specs.{Objects.{folded}, Rows.{world_of}, World.{IsTree}}
 use Rattle.moo_props.specs.Names.{defines}
 use Rattle.moo_damage.specs.Damage.{lacks_definer, is_double, is_strange, is_missing}
 

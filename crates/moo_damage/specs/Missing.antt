@@ -1,10 +1,8 @@
 -- The first slot that is owed and isn't there.
 use Rattle.std.specs.Prelude.{Option, None, Some}
 use Rattle.moo_value.specs.declared.value.ObjNo.{ObjNo}
-use Rattle.moo_rows.specs.declared.row.PropId.{PropId}
-use Rattle.moo_rows.specs.Maps.{Maps}
-use Rattle.moo_damage.specs.First.{IsLeastBad, IsLeastPassing}
-use Rattle.moo_damage.specs.Damage.{is_missing}
+use Rattle.moo_rows.specs.{declared.row.PropId.{PropId}, Maps.{Maps}}
+use Rattle.moo_damage.specs.{First.{IsLeastBad, IsLeastPassing}, Damage.{is_missing}}
 
 -- the first property whose slot x misses, or none
 abbrev pub Misses : Maps → ObjNo → Option PropId → Type 0

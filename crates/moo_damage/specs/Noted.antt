@@ -1,12 +1,8 @@
 -- Objects whose chains are known to end, and the first whose chain doesn't.
-use Rattle.std.specs.Prelude.{◌≡◌, List, Option, Some}
-use Rattle.std.specs.List.{AllByRecursion}
-use Rattle.std.specs.FinMap.{FinMap, get}
+use Rattle.std.specs.{Prelude.{◌≡◌, List, Option, Some}, List.{AllByRecursion}, FinMap.{FinMap, get}}
 use Rattle.moo_value.specs.declared.value.ObjNo.{ObjNo}
 use Rattle.moo_rows.specs.Maps.{Maps, object_cmp}
-use Rattle.moo_damage.specs.declared.trees.TreeLink.{TreeLink}
-use Rattle.moo_damage.specs.Damage.{HasEnd, Loops}
-use Rattle.moo_damage.specs.First.{IsLeastBad}
+use Rattle.moo_damage.specs.{declared.trees.TreeLink.{TreeLink}, Damage.{HasEnd, Loops}, First.{IsLeastBad}}
 
 -- the chains of the objects that are known end
 abbrev pub AreEnding : TreeLink → Maps → FinMap object_cmp (Unit {0}) → Type 0

@@ -1,10 +1,7 @@
 -- Clear slots of properties.
-use Rattle.std.specs.Prelude.{Bool, false, unwrap_or}
-use Rattle.std.specs.Option.{option_map}
-use Rattle.std.specs.FinMap.{get}
+use Rattle.std.specs.{Prelude.{Bool, false, unwrap_or}, Option.{option_map}, FinMap.{get}}
 use Rattle.moo_value.specs.declared.value.ObjNo.{ObjNo}
-use Rattle.moo_rows.specs.declared.row.PropId.{PropId}
-use Rattle.moo_rows.specs.Maps.{Maps}
+use Rattle.moo_rows.specs.{declared.row.PropId.{PropId}, Maps.{Maps}}
 use Rattle.moo_world.specs.PropertyCalls.{is_clear}
 
 -- the object has a clear slot of the property

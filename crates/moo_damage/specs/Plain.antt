@@ -1,11 +1,8 @@
 -- Objects of which one look shows that their numbers and links are right.
-use Rattle.std.specs.Prelude.{◌≡◌, Bool, true, not, ◌&&◌, Some}
-use Rattle.std.specs.FinMap.{get}
+use Rattle.std.specs.{Prelude.{◌≡◌, Bool, true, not, ◌&&◌, Some}, FinMap.{get}}
 use Rattle.moo_value.specs.declared.value.ObjNo.{ObjNo}
-use Rattle.moo_rows.specs.declared.row.ObjRow.{ObjRow}
-use Rattle.moo_rows.specs.Maps.{Maps}
-use Rattle.moo_damage.specs.declared.trees.TreeLink.TheVariants.{Parent, Location}
-use Rattle.moo_damage.specs.Damage.{is_object_past, goes_down}
+use Rattle.moo_rows.specs.{declared.row.ObjRow.{ObjRow}, Maps.{Maps}}
+use Rattle.moo_damage.specs.{declared.trees.TreeLink.TheVariants.{Parent, Location}, Damage.{is_object_past, goes_down}}
 
 -- one look shows that the object is right: its number was given, and both links go down
 abbrev pub is_plain_object : Maps → ObjNo → ObjRow → Bool

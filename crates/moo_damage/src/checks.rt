@@ -1,17 +1,13 @@
 //! Testing each row of a map for one kind of damage.
 
-ghost use Rattle.std.specs.Prelude.{◌≡◌, Bool};
-ghost use Rattle.std.specs.List.{list_any};
-ghost use Rattle.std.specs.FinMap.{entries};
+ghost use Rattle.std.specs.{Prelude.{◌≡◌, Bool}, List.{list_any}, FinMap.{entries}};
 ghost use Rattle.moo_rows.specs.declared.row.Head.{Head};
-ghost use Rattle.moo_world.specs.PropertyCalls.{is_clear};
-ghost use Rattle.moo_world.specs.Rows.{world_of};
-ghost use Rattle.moo_world.specs.World.{IsTree};
+ghost use Rattle.moo_world.specs.{PropertyCalls.{is_clear}, Rows.{world_of}, World.{IsTree}};
 ghost use Rattle.moo_props.specs.Names.{defines};
 ghost use Rattle.moo_damage.specs.First.{IsLeastPassing};
-ghost use Rattle.moo_damage.specs.Damage.{is_object_past, is_prop_past, is_verb_past, is_petition_past, is_lost, lacks_definer, share_name, is_double, is_owed, is_strange, is_missing, is_clear_definer, is_strange_verb};
-ghost use Rattle.moo_damage.specs.OwnClear.{has_clear};
-ghost use Rattle.moo_damage.specs.Missing.{IsFirstMissing, Misses};
+ghost use Rattle.moo_damage.specs.Damage.{is_object_past, is_prop_past, is_verb_past, is_petition_past, is_lost, lacks_definer, share_name};
+ghost use Rattle.moo_damage.specs.Damage.{is_double, is_owed, is_strange, is_missing, is_clear_definer, is_strange_verb};
+ghost use Rattle.moo_damage.specs.{OwnClear.{has_clear}, Missing.{IsFirstMissing, Misses}};
 
 use crate::first::{any_bad, first_bad};
 use crate::trees::TreeLink;

@@ -1,13 +1,10 @@
 //! Finding what is wrong with rows.
 
 ghost use Rattle.std.specs.Prelude.{◌≡◌, suc, true, IfOk, IfSome, IfNone};
-ghost use Rattle.moo_world.specs.Rows.{world_of, IsGood};
-ghost use Rattle.moo_world.specs.World.{IsTree};
+ghost use Rattle.moo_world.specs.{Rows.{world_of, IsGood}, World.{IsTree}};
 ghost use Rattle.moo_damage.specs.Damage.{NumbersGiven, LinksEnd, PropsRight, SlotsRight};
 ghost use Rattle.moo_damage.specs.Kinds.{rank, lost_kind, loop_kind, InRows, NoneBefore, IsFirstBefore, IsFirstInRows};
-ghost use Rattle.moo_damage.specs.Limits.{AreWithin};
-ghost use Rattle.moo_damage.specs.Local.{SlotsHold};
-ghost use Rattle.moo_damage.specs.Plain.{ArePlain};
+ghost use Rattle.moo_damage.specs.{Limits.{AreWithin}, Local.{SlotsHold}, Plain.{ArePlain}};
 
 use crate::checks::{first_clear, first_past, first_strange_verb, first_undefined};
 use crate::kind::{Key, Kind, object_key, petition_key, prop_key, slot_key, verb_key};

@@ -1,8 +1,6 @@
 //! The first row of a kind that a test finds.
 
-ghost use Rattle.std.specs.Prelude.{◌≡◌, Bool, true, false};
-ghost use Rattle.std.specs.List.{list_any};
-ghost use Rattle.std.specs.FinMap.{entries};
+ghost use Rattle.std.specs.{Prelude.{◌≡◌, Bool, true, false}, List.{list_any}, FinMap.{entries}};
 ghost use Rattle.moo_damage.specs.First.{IsLeastBad, MaySay, SaysOfRow};
 
 use moo_rows::{KeyedRow, Rows};

@@ -1,14 +1,9 @@
 //! Testing whether the slots are just those that are owed, by a look at each row and its neighbours.
 
-ghost use Rattle.std.specs.Prelude.{◌≡◌, ◌<◌, true, not, IfOk, Some};
-ghost use Rattle.std.specs.List.{list_any};
-ghost use Rattle.std.specs.FinMap.{entries, get};
+ghost use Rattle.std.specs.{Prelude.{◌≡◌, ◌<◌, true, not, IfOk, Some}, List.{list_any}, FinMap.{entries, get}};
 ghost use Rattle.moo_rows.specs.declared.row.PropRow.{PropRow};
-ghost use Rattle.moo_world.specs.Rows.{world_of, IsGood};
-ghost use Rattle.moo_world.specs.World.{IsTree};
-ghost use Rattle.moo_damage.specs.First.{IsLeastPassing};
-ghost use Rattle.moo_damage.specs.Damage.{is_double, is_strange};
-ghost use Rattle.moo_damage.specs.Missing.{IsFirstMissing};
+ghost use Rattle.moo_world.specs.{Rows.{world_of, IsGood}, World.{IsTree}};
+ghost use Rattle.moo_damage.specs.{First.{IsLeastPassing}, Damage.{is_double, is_strange}, Missing.{IsFirstMissing}};
 ghost use Rattle.moo_damage.specs.Local.{SlotsHold, has_slot, comes_down, lacks_slot_of};
 
 use crate::checks::{defines, first_missing, is_double, is_strange};

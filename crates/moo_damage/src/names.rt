@@ -1,11 +1,8 @@
 //! Testing whether no two properties of an object have one name, in time that grows with the slots of the objects that define properties.
 
-ghost use Rattle.std.specs.Prelude.{◌≡◌, IfOk, OnOk, true};
-ghost use Rattle.std.specs.FinMap.{get};
-ghost use Rattle.moo_rows.specs.Maps.{object_cmp};
-ghost use Rattle.moo_rows.specs.Ordered.{contents};
-ghost use Rattle.moo_world.specs.Objects.{folded};
-ghost use Rattle.moo_world.specs.Rows.{IsSound};
+ghost use Rattle.std.specs.{Prelude.{◌≡◌, IfOk, OnOk, true}, FinMap.{get}};
+ghost use Rattle.moo_rows.specs.{Maps.{object_cmp}, Ordered.{contents}};
+ghost use Rattle.moo_world.specs.{Objects.{folded}, Rows.{IsSound}};
 ghost use Rattle.moo_damage.specs.Apart.{AreApart, DefinersApart, NamesApart, NotesName, NotesProp, is_alone, noted_as};
 
 use moo_rows::{PropId, Rows, each_prop, each_slot_of, ordered};

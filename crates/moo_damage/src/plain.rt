@@ -1,9 +1,7 @@
 //! One look at each object, by which the numbers and the links of most worlds are known to be right.
 
 ghost use Rattle.std.specs.Prelude.{◌≡◌, IsTrue, IfOk, true};
-ghost use Rattle.moo_damage.specs.Damage.{is_object_past, is_lost, LinksHold};
-ghost use Rattle.moo_damage.specs.First.{IsLeastPassing};
-ghost use Rattle.moo_damage.specs.Noted.{IsFirstLoop};
+ghost use Rattle.moo_damage.specs.{Damage.{is_object_past, is_lost, LinksHold}, First.{IsLeastPassing}, Noted.{IsFirstLoop}};
 ghost use Rattle.moo_damage.specs.Plain.{ArePlain, is_plain_object};
 
 use crate::checks::{NumberedRow, first_lost, first_past};

@@ -1,11 +1,8 @@
 //! Finding chains of links that don't end.
 
-ghost use Rattle.std.specs.Prelude.{◌≡◌, ◌≤◌, IsTrue, IfOk, IfSome, IfNone, OnOk, true, is_some, length};
-ghost use Rattle.std.specs.FinMap.{entries, get};
-ghost use Rattle.moo_rows.specs.Ordered.{contents};
-ghost use Rattle.moo_rows.specs.Maps.{object_cmp};
-ghost use Rattle.moo_damage.specs.Damage.{link_of, goes_down, HasEnd, Loops, LinksHold, LinksDescend};
-ghost use Rattle.moo_damage.specs.Kinds.{lost_kind, loop_kind};
+ghost use Rattle.std.specs.{Prelude.{◌≡◌, ◌≤◌, IsTrue, IfOk, IfSome, IfNone, OnOk, true, is_some, length}, FinMap.{entries, get}};
+ghost use Rattle.moo_rows.specs.{Ordered.{contents}, Maps.{object_cmp}};
+ghost use Rattle.moo_damage.specs.{Damage.{link_of, goes_down, HasEnd, Loops, LinksHold, LinksDescend}, Kinds.{lost_kind, loop_kind}};
 ghost use Rattle.moo_damage.specs.Noted.{AllEnd, AreEnding, IsFirstLoop, NotesEnding};
 
 use crate::first::first_bad;

@@ -1,11 +1,7 @@
 -- What a gate says of a connection that wasn't accepted.
-use Rattle.std.proofs.Common.{◌≡◌, ℕ, ℤ, Bool, inl, inr}
-use Rattle.std.specs.Prelude.{Err}
-use Rattle.std.specs.declared.io.Error.{Error}
-use Rattle.moo_desk.specs.declared.gate.Taken.{Taken}
-use Rattle.moo_desk.specs.declared.gate.Taken.TheVariants.{Came, Nobody, NoRoom, Failed}
-use Rattle.moo_desk.specs.Pairs.{CountsTaken, IsOfOnePeer}
-use Rattle.moo_desk.specs.Calls.{SocketCall, accepts, Asks, SaysWhy, TakesSocket}
+use Rattle.std.{proofs.Common.{◌≡◌, ℕ, ℤ, Bool, inl, inr}, specs.Prelude.{Err}, specs.declared.io.Error.{Error}}
+use Rattle.moo_desk.specs.{declared.gate.Taken.{Taken}, declared.gate.Taken.TheVariants.{Came, Nobody, NoRoom, Failed}}
+use Rattle.moo_desk.specs.{Pairs.{CountsTaken, IsOfOnePeer}, Calls.{SocketCall, accepts, Asks, SaysWhy, TakesSocket}}
 
 pub none_paired : {R W : Type 0} (from : R → ℤ) (to : W → ℤ) (error : Error) (taken : Taken R W) → SaysWhy error taken → IsOfOnePeer from to taken
 none_paired from to error (Came reader writer is_limited) why = absurd why

@@ -8,13 +8,9 @@ use Rattle.std.specs.declared.io.Write as Writing
 use Rattle.moo_http_request.specs.declared.incoming.Incoming as Incoming
 use Rattle.moo_desk.specs.declared.gate.Inward as Inward
 use Rattle.moo_desk.specs.declared.gate.Outward as Outward
-use Rattle.moo_desk.specs.declared.slot.Slot.{Slot}
-use Rattle.moo_desk.specs.declared.leaving.Leaving.{Leaving}
-use Rattle.moo_desk.specs.Each.{Each}
-use Rattle.moo_desk.specs.Later.{IsGathered, IsLater, IsOnlyWoken}
-use Rattle.moo_desk.specs.declared.leaving.Stage.{Stage}
-use Rattle.moo_desk.specs.declared.leaving.Stage.TheVariants.{Sending, Lingering, Done, Lost}
-use Rattle.moo_desk.specs.Stages.{MayFollow}
+use Rattle.moo_desk.specs.{declared.slot.Slot.{Slot}, declared.leaving.Leaving.{Leaving}, Each.{Each}}
+use Rattle.moo_desk.specs.{Later.{IsGathered, IsLater, IsOnlyWoken}, declared.leaving.Stage.{Stage}}
+use Rattle.moo_desk.specs.{declared.leaving.Stage.TheVariants.{Sending, Lingering, Done, Lost}, Stages.{MayFollow}}
 
 -- ---- two lists
 

@@ -7,10 +7,8 @@ use Rattle.std.specs.declared.time.Duration.{Duration}
 use Rattle.moo_http_request.specs.declared.incoming.Incoming as Incoming
 use Rattle.moo_desk.specs.declared.gate.Inward as Inward
 use Rattle.moo_desk.specs.declared.gate.Outward as Outward
-use Rattle.moo_desk.specs.declared.slot.Slot.{Slot}
-use Rattle.std.proofs.lemmas.Bool.{leb-true}
-use Rattle.std.proofs.lemmas.List.Sums.{sum_by-drop_more}
-use Rattle.moo_desk.specs.Rounds.{IsReadIfDue, IsTimed, ReadsDue, gathered_of}
+use Rattle.moo_desk.specs.{declared.slot.Slot.{Slot}, Rounds.{IsReadIfDue, IsTimed, ReadsDue, gathered_of}}
+use Rattle.std.{proofs.lemmas.Bool.{leb-true}, proofs.lemmas.List.Sums.{sum_by-drop_more}}
 
 pub saturated : (sum more rest left most : ℕ) → left ≡ more + rest → min (min (sum + more) most + rest) most ≡ min (sum + left) most
 saturated sum more rest left most is = omega (arith, is)

@@ -1,15 +1,10 @@
 -- The calls on sockets that a gate makes, and what it makes of them.
 use Rattle.std.specs.Prelude.{◌≡◌, ◌≢◌, ◌⊎◌, ◌^◌, ◌-◌, ℕ, ℤ, pos, Bool, true, false, List, map, Option, Some, None, Result, Ok, Err}
-use Rattle.std.specs.IoError.{error_kind, raw_os_error}
-use Rattle.std.specs.declared.io.Error.{Error}
-use Rattle.std.specs.declared.io.ErrorKind.TheVariants.{WouldBlock}
+use Rattle.std.specs.{IoError.{error_kind, raw_os_error}, declared.io.Error.{Error}, declared.io.ErrorKind.TheVariants.{WouldBlock}}
 use Rattle.std.specs.declared.time.Duration.{Duration}
-use Rattle.mio.specs.Event.{event_token}
-use Rattle.mio.specs.Interest.{is_readable, is_writable}
-use Rattle.mio.specs.declared.event.event.Event.{Event}
+use Rattle.mio.specs.{Event.{event_token}, Interest.{is_readable, is_writable}, declared.event.event.Event.{Event}}
 use Rattle.mio.specs.declared.interest.Interest.{Interest}
-use Rattle.moo_desk.specs.declared.gate.Taken.{Taken}
-use Rattle.moo_desk.specs.declared.gate.Taken.TheVariants.{Came, Nobody, NoRoom, Failed}
+use Rattle.moo_desk.specs.{declared.gate.Taken.{Taken}, declared.gate.Taken.TheVariants.{Came, Nobody, NoRoom, Failed}}
 use Rattle.moo_desk.specs.declared.gate.TheConstants.{NEWS}
 
 -- A connection is accepted; it is told not to wait; its reader and its writer are made of it; the source of this number is watched under a

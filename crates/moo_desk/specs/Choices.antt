@@ -1,7 +1,6 @@
 -- Which connections make room for others, and when.
-use Rattle.std.specs.Prelude.{◌≡◌, ◌⊎◌, ◌≤◌, ◌<◌, ◌+◌, ◌-◌, ◌*◌, ◌^◌, ℕ, min, max, true, false, List, [], ◌∷◌, length, get_or, set, Option, Some, None}
-use Rattle.std.specs.Duration.{as_nanos}
-use Rattle.std.specs.List.{sum_by}
+use Rattle.std.specs.Prelude.{◌≡◌, ◌⊎◌, ◌≤◌, ◌<◌, ◌+◌, ◌-◌, ◌*◌, ◌^◌, ℕ, min, max, true, false, List, [], ◌∷◌, length, get_or, set, Option}
+use Rattle.std.specs.{Prelude.{Some, None}, Duration.{as_nanos}, List.{sum_by}}
 use Rattle.std.specs.declared.io.Read as Reading
 use Rattle.std.specs.declared.io.Write as Writing
 use Rattle.std.specs.declared.time.Duration.{Duration}
@@ -9,18 +8,10 @@ use Rattle.moo_arrivals.specs.declared.cause.Cause.TheVariants.{Crowded}
 use Rattle.moo_http_request.specs.declared.incoming.Incoming as Incoming
 use Rattle.moo_desk.specs.declared.gate.Inward as Inward
 use Rattle.moo_desk.specs.declared.gate.Outward as Outward
-use Rattle.moo_desk.specs.declared.gathered.Coming.TheVariants.{Unread}
-use Rattle.moo_desk.specs.declared.held.Held.{Held}
-use Rattle.moo_desk.specs.declared.held.TheConstants.{GRACE}
-use Rattle.moo_desk.specs.declared.leaving.Leaving.{Leaving}
-use Rattle.moo_desk.specs.declared.leaving.Stage.TheVariants.{Sending, Lingering, Done, Lost}
-use Rattle.moo_desk.specs.declared.leaving.TheConstants.{STALL}
-use Rattle.moo_desk.specs.declared.rounds.TheConstants.{BUDGET}
-use Rattle.moo_desk.specs.declared.slot.Slot.{Slot}
-use Rattle.moo_desk.specs.Each.{HoldsOfNone, TurnsFirst}
-use Rattle.moo_desk.specs.Read.{IsLonger}
-use Rattle.moo_desk.specs.Rounds.{IsEndable}
-use Rattle.moo_desk.specs.Stages.{ended, patience_of, unsent_at}
+use Rattle.moo_desk.specs.{declared.gathered.Coming.TheVariants.{Unread}, declared.held.Held.{Held}, declared.held.TheConstants.{GRACE}}
+use Rattle.moo_desk.specs.{declared.leaving.Leaving.{Leaving}, declared.leaving.Stage.TheVariants.{Sending, Lingering, Done, Lost}}
+use Rattle.moo_desk.specs.{declared.leaving.TheConstants.{STALL}, declared.rounds.TheConstants.{BUDGET}, declared.slot.Slot.{Slot}}
+use Rattle.moo_desk.specs.{Each.{HoldsOfNone, TurnsFirst}, Read.{IsLonger}, Rounds.{IsEndable}, Stages.{ended, patience_of, unsent_at}}
 
 module _ {R W : Type 0} where
   -- it only waits for its peer's last bytes

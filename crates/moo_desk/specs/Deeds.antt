@@ -6,13 +6,8 @@ use Rattle.moo_arrivals.specs.declared.cause.Cause.{Cause}
 use Rattle.moo_http_request.specs.declared.incoming.Incoming as Incoming
 use Rattle.moo_desk.specs.declared.gate.Inward as Inward
 use Rattle.moo_desk.specs.declared.gate.Outward as Outward
-use Rattle.moo_desk.specs.declared.held.Held.{Held}
-use Rattle.moo_desk.specs.declared.leaving.Leaving.{Leaving}
-use Rattle.moo_desk.specs.declared.leaving.Stage.TheVariants.{Done, Lost}
-use Rattle.moo_desk.specs.declared.losses.Losses.{Losses}
-use Rattle.moo_desk.specs.declared.slot.Slot.{Slot}
-use Rattle.moo_desk.specs.Each.{Each, TakesOut}
-use Rattle.moo_desk.specs.Later.{IsGathered, IsLater}
+use Rattle.moo_desk.specs.{declared.held.Held.{Held}, declared.leaving.Leaving.{Leaving}, declared.leaving.Stage.TheVariants.{Done, Lost}}
+use Rattle.moo_desk.specs.{declared.losses.Losses.{Losses}, declared.slot.Slot.{Slot}, Each.{Each, TakesOut}, Later.{IsGathered, IsLater}}
 use Rattle.moo_desk.specs.Told.{NotesLoss}
 
 -- A connection is let go: all of its answer was sent; or its answer was lost, and that is noted once, with its route and cause.

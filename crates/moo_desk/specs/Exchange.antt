@@ -2,24 +2,14 @@
 use Rattle.std.specs.Prelude.{◌≡◌, ◌++◌, ℕ, true, [], ◌∷◌, Option, Some, None}
 use Rattle.std.specs.declared.io.Read as Reading
 use Rattle.std.specs.declared.io.Write as Writing
-use Rattle.moo_arrivals.specs.declared.arrivals.Closing.{Closing}
-use Rattle.moo_arrivals.specs.declared.arrivals.Connection.{Connection}
-use Rattle.moo_arrivals.specs.declared.cause.Loss.{Loss}
+use Rattle.moo_arrivals.specs.{declared.arrivals.Closing.{Closing}, declared.arrivals.Connection.{Connection}, declared.cause.Loss.{Loss}}
 use Rattle.moo_arrivals.specs.declared.route.Route.{Route}
 use Rattle.moo_http_request.specs.declared.incoming.Incoming as Incoming
 use Rattle.moo_desk.specs.declared.gate.Inward as Inward
 use Rattle.moo_desk.specs.declared.gate.Outward as Outward
-use Rattle.moo_desk.specs.declared.gathered.Gathered.{Gathered}
-use Rattle.moo_desk.specs.declared.held.Held.{Held}
-use Rattle.moo_desk.specs.declared.leaving.Leaving.{Leaving}
-use Rattle.moo_desk.specs.declared.leaving.Stage.TheVariants.{Sending}
-use Rattle.moo_desk.specs.declared.outgoing.Outgoing.{Outgoing}
-use Rattle.moo_desk.specs.declared.slot.Slot.{Slot}
-use Rattle.moo_desk.specs.Choices.{IsReady}
-use Rattle.moo_desk.specs.Each.{TakesOutFirst}
-use Rattle.moo_desk.specs.Deeds.{Book, book_of, Keep, Admits}
-use Rattle.moo_desk.specs.Ripe.{IsRipe}
-use Rattle.moo_desk.specs.Told.{TellsOf}
+use Rattle.moo_desk.specs.{declared.gathered.Gathered.{Gathered}, declared.held.Held.{Held}, declared.leaving.Leaving.{Leaving}}
+use Rattle.moo_desk.specs.{declared.leaving.Stage.TheVariants.{Sending}, declared.outgoing.Outgoing.{Outgoing}, declared.slot.Slot.{Slot}}
+use Rattle.moo_desk.specs.{Choices.{IsReady}, Each.{TakesOutFirst}, Deeds.{Book, book_of, Keep, Admits}, Ripe.{IsRipe}, Told.{TellsOf}}
 
 -- A connection that is given back, as it is when nothing was sent yet.
 pub record Begins {R W : Type 0} (given : Connection (Gathered R) (Outgoing W))

@@ -1,14 +1,9 @@
 -- What came of gathering more of a request.
-use Rattle.std.specs.Prelude.{◌≡◌, ◌≢◌, ℕ, ⊤, Ok, Err}
-use Rattle.std.specs.IoError.{error_kind}
-use Rattle.std.specs.declared.io.Error.{Error}
+use Rattle.std.specs.{Prelude.{◌≡◌, ◌≢◌, ℕ, ⊤, Ok, Err}, IoError.{error_kind}, declared.io.Error.{Error}}
 use Rattle.std.specs.declared.io.ErrorKind.TheVariants.{WouldBlock}
-use Rattle.moo_arrivals.specs.declared.cause.Cause.{Cause}
-use Rattle.moo_arrivals.specs.declared.cause.Cause.TheVariants.{BrokenOff, OutOfMemory}
-use Rattle.moo_desk.specs.declared.gathered.Filled.{Filled}
-use Rattle.moo_desk.specs.declared.gathered.Filled.TheVariants.{Grew, Waits, Ended, Failed}
-use Rattle.moo_desk.specs.declared.gathered.Gathered.{Gathered}
-use Rattle.moo_desk.specs.Read.{Gave}
+use Rattle.moo_arrivals.specs.{declared.cause.Cause.{Cause}, declared.cause.Cause.TheVariants.{BrokenOff, OutOfMemory}}
+use Rattle.moo_desk.specs.{declared.gathered.Filled.{Filled}, declared.gathered.Filled.TheVariants.{Grew, Waits, Ended, Failed}}
+use Rattle.moo_desk.specs.{declared.gathered.Gathered.{Gathered}, Read.{Gave}}
 
 module _ {R : Type 0} (reads : R → Gave → R → Type 0) where
   -- the reader failed, or memory ran out

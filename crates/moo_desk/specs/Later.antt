@@ -1,16 +1,12 @@
 -- A connection of a desk, and the same one later.
-use Rattle.std.specs.Prelude.{◌≡◌, ℤ, true, drop}
-use Rattle.std.specs.Io.KnownBytes.{Keeps, append_known, prepend_known}
+use Rattle.std.specs.{Prelude.{◌≡◌, ℤ, true, drop}, Io.KnownBytes.{Keeps, append_known, prepend_known}}
 use Rattle.std.specs.declared.io.Read as Reading
 use Rattle.std.specs.declared.io.Write as Writing
 use Rattle.moo_http_request.specs.declared.incoming.Incoming as Incoming
 use Rattle.moo_desk.specs.declared.gate.Inward as Inward
 use Rattle.moo_desk.specs.declared.gate.Outward as Outward
-use Rattle.moo_desk.specs.declared.gathered.Gathered.{Gathered}
-use Rattle.moo_desk.specs.declared.leaving.Leaving.{Leaving}
-use Rattle.moo_desk.specs.declared.outgoing.Outgoing.{Outgoing}
-use Rattle.moo_desk.specs.declared.slot.Slot.{Slot}
-use Rattle.moo_desk.specs.Stages.{MayFollow}
+use Rattle.moo_desk.specs.{declared.gathered.Gathered.{Gathered}, declared.leaving.Leaving.{Leaving}, declared.outgoing.Outgoing.{Outgoing}}
+use Rattle.moo_desk.specs.{declared.slot.Slot.{Slot}, Stages.{MayFollow}}
 
 -- More of a request was gathered: the bytes gathered and not read yet, and then those that the reader still has, are the same as before.
 abbrev pub GathersOn : {R : Type 0} → Reading.Ghosts R → Gathered R → Gathered R → Type 0

@@ -1,7 +1,6 @@
 -- What a gate gives: the reader and the writer of one peer.
 use Rattle.std.specs.Prelude.{◌≡◌, ◌+◌, ℕ, ℤ, ⊤}
-use Rattle.moo_desk.specs.declared.gate.Taken.{Taken}
-use Rattle.moo_desk.specs.declared.gate.Taken.TheVariants.{Came}
+use Rattle.moo_desk.specs.{declared.gate.Taken.{Taken}, declared.gate.Taken.TheVariants.{Came}}
 
 -- what came, if a connection did, is of one peer
 abbrev pub IsOfOnePeer : {R W : Type 0} → (R → ℤ) → (W → ℤ) → Taken R W → Type 0

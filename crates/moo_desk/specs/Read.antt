@@ -1,17 +1,12 @@
 -- What reads gave, and why nothing more is read of a request.
-use Rattle.std.specs.Prelude.{◌≡◌, ◌≢◌, ◌<◌, ◌-◌, ◌*◌, ℕ, ⊤, Option, Some, None, Result, Ok, Err}
-use Rattle.std.specs.Duration.{as_nanos}
-use Rattle.std.specs.IoError.{error_kind}
-use Rattle.std.specs.declared.io.Error.{Error}
-use Rattle.std.specs.declared.io.ErrorKind.TheVariants.{WouldBlock}
+use Rattle.std.specs.{Prelude.{◌≡◌, ◌≢◌, ◌<◌, ◌-◌, ◌*◌, ℕ, ⊤, Option, Some, None, Result, Ok, Err}, Duration.{as_nanos}}
+use Rattle.std.specs.{IoError.{error_kind}, declared.io.Error.{Error}, declared.io.ErrorKind.TheVariants.{WouldBlock}}
 use Rattle.std.specs.declared.time.Duration.{Duration}
 use Rattle.moo_arrivals.specs.declared.cause.Cause.{Cause}
 use Rattle.moo_arrivals.specs.declared.cause.Cause.TheVariants.{BrokenOff, Silent, Late, Crowded, OutOfMemory}
 use Rattle.moo_http_request.specs.declared.head.TheConstants.{MAX_HEAD}
-use Rattle.moo_desk.specs.declared.gathered.Coming.{Coming}
-use Rattle.moo_desk.specs.declared.gathered.Coming.TheVariants.{More, Nothing, Unread}
-use Rattle.moo_desk.specs.declared.held.TheConstants.{GRACE}
-use Rattle.moo_desk.specs.declared.slot.TheConstants.{SILENCE, PATIENCE}
+use Rattle.moo_desk.specs.{declared.gathered.Coming.{Coming}, declared.gathered.Coming.TheVariants.{More, Nothing, Unread}}
+use Rattle.moo_desk.specs.{declared.held.TheConstants.{GRACE}, declared.slot.TheConstants.{SILENCE, PATIENCE}}
 
 -- what a read gives: how many bytes, or an error
 abbrev pub Gave : Type 0

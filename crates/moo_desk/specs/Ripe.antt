@@ -1,8 +1,7 @@
 -- When a connection may be handed out.
 use Rattle.std.specs.Prelude.{◌≡◌, ◌≢◌, ◌⊎◌, ℕ, Bool, false, List, Option, Some}
 use Rattle.moo_http_request.specs.Whole.{IsWhole, IsWholeFrom}
-use Rattle.moo_desk.specs.declared.gathered.Coming.{Coming}
-use Rattle.moo_desk.specs.declared.gathered.Coming.TheVariants.{More}
+use Rattle.moo_desk.specs.{declared.gathered.Coming.{Coming}, declared.gathered.Coming.TheVariants.{More}}
 
 -- these bytes are a whole request; or nothing more of it comes; or its waits aren't limited, so that it isn't read at all
 abbrev pub IsRipe : Bool → Coming → List ℕ → Type 0

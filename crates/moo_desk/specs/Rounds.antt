@@ -1,17 +1,13 @@
 -- What a round does with the connections whose requests are gathered.
-use Rattle.std.specs.Prelude.{◌≡◌, ◌⊎◌, ◌*◌, ℕ, ⊤, true, false, List, [], ◌∷◌, length}
-use Rattle.std.specs.List.{sum_by}
+use Rattle.std.specs.{Prelude.{◌≡◌, ◌⊎◌, ◌*◌, ℕ, ⊤, true, false, List, [], ◌∷◌, length}, List.{sum_by}}
 use Rattle.std.specs.declared.io.Read as Reading
 use Rattle.std.specs.declared.io.Write as Writing
 use Rattle.std.specs.declared.time.Duration.{Duration}
 use Rattle.moo_http_request.specs.declared.incoming.Incoming as Incoming
 use Rattle.moo_desk.specs.declared.gate.Inward as Inward
 use Rattle.moo_desk.specs.declared.gate.Outward as Outward
-use Rattle.moo_desk.specs.declared.held.TheConstants.{GRACE}
-use Rattle.moo_desk.specs.declared.leaving.Leaving.{Leaving}
-use Rattle.moo_desk.specs.declared.slot.Slot.{Slot}
-use Rattle.moo_desk.specs.Later.{IsOnlyWoken}
-use Rattle.moo_desk.specs.Read.{Gave, IsLonger}
+use Rattle.moo_desk.specs.{declared.held.TheConstants.{GRACE}, declared.leaving.Leaving.{Leaving}, declared.slot.Slot.{Slot}}
+use Rattle.moo_desk.specs.{Later.{IsOnlyWoken}, Read.{Gave, IsLonger}}
 
 -- Nothing changed of an answer but, at most, whether the next round looks at it. It does if this holds of the answer's mark, and if it was
 -- to be looked at before: so an answer is sent on once its peer may take more.

@@ -1,8 +1,7 @@
 -- The stages of a connection whose request was judged.
 use Rattle.std.specs.Prelude.{◌≡◌, ◌⊎◌, ◌+◌, ◌/◌, ℕ, ⊤}
 use Rattle.moo_arrivals.specs.declared.cause.Cause.{Cause}
-use Rattle.moo_desk.specs.declared.leaving.TheConstants.{PATIENCE, MEGABYTE, LINGER}
-use Rattle.moo_desk.specs.declared.leaving.Stage.{Stage}
+use Rattle.moo_desk.specs.{declared.leaving.TheConstants.{PATIENCE, MEGABYTE, LINGER}, declared.leaving.Stage.{Stage}}
 use Rattle.moo_desk.specs.declared.leaving.Stage.TheVariants.{Sending, Lingering, Done, Lost}
 
 -- all of its answer was sent

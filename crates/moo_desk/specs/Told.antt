@@ -1,7 +1,6 @@
 -- Losses that are noted, and told of.
 use Rattle.std.specs.Prelude.{◌≡◌, ◌⊎◌, ◌+◌, ◌-◌, ◌^◌, min, [], ◌∷◌, ◌++◌, Option, Some, None}
-use Rattle.moo_arrivals.specs.declared.cause.Cause.TheVariants.{OutOfMemory}
-use Rattle.moo_arrivals.specs.declared.cause.Loss.{Loss}
+use Rattle.moo_arrivals.specs.{declared.cause.Cause.TheVariants.{OutOfMemory}, declared.cause.Loss.{Loss}}
 use Rattle.moo_arrivals.specs.declared.route.Route.TheVariants.{Unknown}
 use Rattle.moo_desk.specs.declared.losses.Losses.{Losses}
 

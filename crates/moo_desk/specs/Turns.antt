@@ -1,24 +1,17 @@
 -- When a desk takes a connection, waits, and looks at what it holds.
-use Rattle.std.specs.Prelude.{◌≡◌, ◌⊎◌, ◌≤◌, ◌<◌, ◌*◌, ◌++◌, ℕ, Bool, true, false, not, List, [], ◌∷◌, length}
-use Rattle.std.specs.Duration.{as_nanos}
+use Rattle.std.specs.{Prelude.{◌≡◌, ◌⊎◌, ◌≤◌, ◌<◌, ◌*◌, ◌++◌, ℕ, Bool, true, false, not, List, [], ◌∷◌, length}, Duration.{as_nanos}}
 use Rattle.std.specs.declared.io.Read as Reading
 use Rattle.std.specs.declared.io.Write as Writing
 use Rattle.std.specs.declared.time.Duration.{Duration}
 use Rattle.moo_http_request.specs.declared.incoming.Incoming as Incoming
-use Rattle.moo_desk.specs.declared.desk.TheConstants.{PAUSE, PERIOD, TURNS}
-use Rattle.moo_desk.specs.declared.desk.Took.{Took}
+use Rattle.moo_desk.specs.{declared.desk.TheConstants.{PAUSE, PERIOD, TURNS}, declared.desk.Took.{Took}}
 use Rattle.moo_desk.specs.declared.desk.Took.TheVariants.{One, Nobody as NotOne, Lost}
 use Rattle.moo_desk.specs.declared.gate.Inward as Inward
 use Rattle.moo_desk.specs.declared.gate.Outward as Outward
-use Rattle.moo_desk.specs.declared.gate.Taken.{Taken}
-use Rattle.moo_desk.specs.declared.gate.Taken.TheVariants.{Came, Nobody, NoRoom, Failed}
-use Rattle.moo_desk.specs.declared.held.Held.{Held}
-use Rattle.moo_desk.specs.declared.held.TheConstants.{GRACE, MOST}
-use Rattle.moo_desk.specs.declared.leaving.Leaving.{Leaving}
-use Rattle.moo_desk.specs.declared.slot.Slot.{Slot}
-use Rattle.moo_desk.specs.Choices.{EndsOne, HasNoSpare, HasWhole, IsUnfinished, count_of, spared_for}
-use Rattle.moo_desk.specs.Each.{OfFirst}
-use Rattle.moo_desk.specs.Read.{IsLonger}
+use Rattle.moo_desk.specs.{declared.gate.Taken.{Taken}, declared.gate.Taken.TheVariants.{Came, Nobody, NoRoom, Failed}}
+use Rattle.moo_desk.specs.{declared.held.Held.{Held}, declared.held.TheConstants.{GRACE, MOST}, declared.leaving.Leaving.{Leaving}}
+use Rattle.moo_desk.specs.{declared.slot.Slot.{Slot}, Choices.{EndsOne, HasNoSpare, HasWhole, IsUnfinished, count_of, spared_for}}
+use Rattle.moo_desk.specs.{Each.{OfFirst}, Read.{IsLonger}}
 
 -- How many nanoseconds a desk waits at most, and doesn't look at a connection of which nothing was told: less while answers are sent.
 abbrev pub period_of : {R W : Type 0} → List (Leaving R W) → ℕ

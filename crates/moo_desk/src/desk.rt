@@ -1,12 +1,9 @@
 //! The desk: connections side by side, and the next one whose request is whole.
 
-ghost use Rattle.std.specs.Prelude.{◌≡◌, ◌≢◌, ◌≤◌, ◌<◌, ◌+◌, ◌-◌, ◌^◌, ⊤, [], true, false, vec_capacity, IfOk};
-ghost use Rattle.std.specs.Duration.{as_nanos};
+ghost use Rattle.std.specs.{Prelude.{◌≡◌, ◌≢◌, ◌≤◌, ◌<◌, ◌+◌, ◌-◌, ◌^◌, ⊤, [], true, false, vec_capacity, IfOk}, Duration.{as_nanos}};
 ghost use Rattle.moo_desk.specs.Deeds.{Admits, Goes, HoldsNone, Keep, book_of};
-ghost use Rattle.moo_desk.specs.Exchange.{GetsBack, Hands, TakesBack, TellsNext, with_back};
-ghost use Rattle.moo_desk.specs.declared.held.TheConstants.{MOST};
-ghost use Rattle.moo_desk.specs.Each.{Each};
-ghost use Rattle.moo_desk.specs.Rounds.{IsAnswerWokenFor, IsWokenFor};
+ghost use Rattle.moo_desk.specs.{Exchange.{GetsBack, Hands, TakesBack, TellsNext, with_back}, declared.held.TheConstants.{MOST}};
+ghost use Rattle.moo_desk.specs.{Each.{Each}, Rounds.{IsAnswerWokenFor, IsWokenFor}};
 ghost use Rattle.moo_desk.specs.Turns.{ComesIn, EndsInTime, HasWaited, IsDueToAsk, MayTake, TakesIn, period_of};
 
 use crate::gate::{Gate, NEWS, Taken};

@@ -1,8 +1,7 @@
 //! The first connection of which something holds.
 
 ghost use Rattle.std.specs.Prelude.{◌≡◌, ◌<◌, true, false, length, IfSome};
-ghost use Rattle.moo_desk.specs.Choices.{IsLingering, IsReady, IsStuck, IsUnfinished};
-ghost use Rattle.moo_desk.specs.Each.{IsFirstPlace, HoldsOfNone};
+ghost use Rattle.moo_desk.specs.{Choices.{IsLingering, IsReady, IsStuck, IsUnfinished}, Each.{IsFirstPlace, HoldsOfNone}};
 ghost use Rattle.moo_desk.specs.Rounds.{IsEndable};
 
 use crate::gate::{Inward, Outward};

@@ -1,10 +1,8 @@
 //! Where connections come from.
 
-ghost use Rattle.std.specs.Prelude.{◌≡◌, ◌<◌, ◌≤◌, ℕ, ℤ, List, length, vec_capacity};
-ghost use Rattle.std.specs.Io.{ReadsAtMost, WritesAtMost};
+ghost use Rattle.std.specs.{Prelude.{◌≡◌, ◌<◌, ◌≤◌, ℕ, ℤ, List, length, vec_capacity}, Io.{ReadsAtMost, WritesAtMost}};
 ghost use Rattle.std.specs.Io.KnownBytes.{ReadConsumes, WriteAppends};
-ghost use Rattle.moo_desk.specs.Pairs.{CountsTaken, IsOfOnePeer};
-ghost use Rattle.moo_desk.specs.Read.{Gave};
+ghost use Rattle.moo_desk.specs.{Pairs.{CountsTaken, IsOfOnePeer}, Read.{Gave}};
 
 use crate::held::MOST;
 use moo_http_request::Incoming;

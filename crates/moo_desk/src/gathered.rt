@@ -1,7 +1,6 @@
 //! A reader whose bytes are gathered before they are read.
 
-ghost use Rattle.std.specs.Prelude.{◌≡◌, ◌≤◌, ◌<◌, ◌++◌, ℕ, List, [], length, drop};
-ghost use Rattle.std.specs.Io.KnownBytes.{Keeps, prepend_known};
+ghost use Rattle.std.specs.{Prelude.{◌≡◌, ◌≤◌, ◌<◌, ◌++◌, ℕ, List, [], length, drop}, Io.KnownBytes.{Keeps, prepend_known}};
 
 use crate::gate::Inward;
 use moo_arrivals::Cause;

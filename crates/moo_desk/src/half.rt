@@ -1,7 +1,6 @@
 //! A socket as a reader and as a writer.
 
-ghost use Rattle.std.specs.Prelude.{◌≡◌, ⊤, Some, IfSome};
-ghost use Rattle.std.specs.Net.Tcp.{stream_raw_fd};
+ghost use Rattle.std.specs.{Prelude.{◌≡◌, ⊤, Some, IfSome}, Net.Tcp.{stream_raw_fd}};
 
 use crate::gate::{Inward, Outward};
 use moo_http_request::Incoming;

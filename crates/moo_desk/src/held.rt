@@ -1,12 +1,10 @@
 //! The connections that a desk holds: those whose requests are gathered, those whose answers are sent, and the losses that were noted.
 
 ghost use Rattle.std.specs.Prelude.{◌≡◌, ◌⊎◌, ◌+◌, ◌≤◌, ◌<◌, ⊤, [], true, false, length, min, Some, None, IfOk};
-ghost use Rattle.moo_desk.specs.declared.leaving.Stage.TheVariants.{Done, Lost};
-ghost use Rattle.moo_desk.specs.Deeds.{LetsGo, Goes, HoldsNone, book_of};
-ghost use Rattle.moo_desk.specs.Choices.{CutsAt, EndsOne, HasNoSpare, HasWhole, IsCrowdedOut, IsLingering, IsReady, IsSpared, IsUnfinished, Relieves, count_of};
-ghost use Rattle.moo_desk.specs.Each.{Each, IsFirstPlace, HoldsOfNone, OfFirst, TurnsFirst};
-ghost use Rattle.moo_desk.specs.Exchange.{TakesSlot};
-ghost use Rattle.moo_desk.specs.Rounds.{IsAnswerWokenFor, IsEndable, IsTimed, IsWokenFor, ReadsDue, gathered_of};
+ghost use Rattle.moo_desk.specs.{declared.leaving.Stage.TheVariants.{Done, Lost}, Deeds.{LetsGo, Goes, HoldsNone, book_of}};
+ghost use Rattle.moo_desk.specs.Choices.{CutsAt, EndsOne, HasNoSpare, HasWhole, IsCrowdedOut, IsLingering, IsReady, IsSpared, IsUnfinished};
+ghost use Rattle.moo_desk.specs.{Choices.{Relieves, count_of}, Each.{Each, IsFirstPlace, HoldsOfNone, OfFirst, TurnsFirst}};
+ghost use Rattle.moo_desk.specs.{Exchange.{TakesSlot}, Rounds.{IsAnswerWokenFor, IsEndable, IsTimed, IsWokenFor, ReadsDue, gathered_of}};
 
 use crate::first::{Endable, Lingerer, Ready, Stuck, Unfinished, any_item, first_place};
 use crate::gate::{Inward, Outward};

@@ -2,8 +2,7 @@
 
 ghost use Rattle.std.specs.Prelude.{◌≡◌, ◌≢◌, ◌≤◌, ◌<◌, ◌+◌, ◌-◌, ◌*◌, ◌/◌, ◌⊎◌, ⊤, ℕ, List, length, drop, true, false, IfSome, IfNone};
 ghost use Rattle.std.specs.Io.KnownBytes.{Consumes, Keeps, append_known};
-ghost use Rattle.moo_desk.specs.declared.leaving.Stage.TheVariants.{Lingering, Done, Lost};
-ghost use Rattle.moo_desk.specs.Read.{IsLonger};
+ghost use Rattle.moo_desk.specs.{declared.leaving.Stage.TheVariants.{Lingering, Done, Lost}, Read.{IsLonger}};
 ghost use Rattle.moo_desk.specs.Stages.{IsSentAt, MayFollow, ended, patience_of};
 
 use crate::gate::{Inward, Outward};

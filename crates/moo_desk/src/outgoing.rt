@@ -1,7 +1,6 @@
 //! A writer that never waits: what it doesn't take yet is kept.
 
-ghost use Rattle.std.specs.Prelude.{◌≡◌, ◌≤◌, ◌-◌, Bool, [], length, drop, nat_eq};
-ghost use Rattle.std.specs.Io.KnownBytes.{Keeps, append_known};
+ghost use Rattle.std.specs.{Prelude.{◌≡◌, ◌≤◌, ◌-◌, Bool, [], length, drop, nat_eq}, Io.KnownBytes.{Keeps, append_known}};
 
 use crate::gate::Outward;
 use std::alloc::Global;

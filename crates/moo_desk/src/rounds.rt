@@ -1,9 +1,7 @@
 //! What a round does for all connections.
 
 ghost use Rattle.std.specs.Prelude.{◌≡◌, ◌<◌, ⊤, min};
-ghost use Rattle.moo_desk.specs.Choices.{answers_of};
-ghost use Rattle.moo_desk.specs.Each.{Each};
-ghost use Rattle.moo_desk.specs.Later.{IsGathered, IsLater};
+ghost use Rattle.moo_desk.specs.{Choices.{answers_of}, Each.{Each}, Later.{IsGathered, IsLater}};
 ghost use Rattle.moo_desk.specs.Rounds.{IsAnswerWokenFor, IsTimed, IsWokenFor, ReadsDue, gathered_of};
 
 use crate::gate::{Gate, Inward, Outward};

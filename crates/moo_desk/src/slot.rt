@@ -3,9 +3,8 @@
 ghost use Rattle.std.specs.Prelude.{◌≡◌, ◌≤◌, ◌<◌, true, false, not, [], drop, length, IfSome, IfNone, Ok};
 ghost use Rattle.std.specs.Io.KnownBytes.{Keeps, prepend_known};
 ghost use Rattle.moo_desk.specs.declared.gathered.Coming.TheVariants.{More, Unread};
+ghost use Rattle.moo_desk.specs.{Read.{HasFoundNothing, LastGave, MayGiveUp, MayStop, limit_of}, Ripe.{IsKnownFrom, IsRipe}};
 ghost use Rattle.moo_http_request.specs.Whole.{IsWhole};
-ghost use Rattle.moo_desk.specs.Read.{HasFoundNothing, LastGave, MayGiveUp, MayStop, limit_of};
-ghost use Rattle.moo_desk.specs.Ripe.{IsKnownFrom, IsRipe};
 
 use crate::gate::{Gate, Inward, Outward};
 use crate::gathered::{Coming, Filled, Gathered};

@@ -1,9 +1,7 @@
 //! The one place with the system's sockets.
 
-ghost use Rattle.std.specs.Prelude.{◌≡◌, ⊤, [], true, IfOk};
-ghost use Rattle.std.specs.Net.Tcp.{listener_raw_fd, stream_raw_fd};
-ghost use Rattle.moo_desk.specs.Deeds.{HoldsNone};
-ghost use Rattle.moo_desk.specs.Exchange.{GetsBack, Hands, TakesBack, TellsNext};
+ghost use Rattle.std.specs.{Prelude.{◌≡◌, ⊤, [], true, IfOk}, Net.Tcp.{listener_raw_fd, stream_raw_fd}};
+ghost use Rattle.moo_desk.specs.{Deeds.{HoldsNone}, Exchange.{GetsBack, Hands, TakesBack, TellsNext}};
 
 use crate::desk::Desk;
 use crate::gathered::Gathered;

@@ -1,21 +1,13 @@
 -- What a refusal tells of the world besides its reason and what the call was given.
 use Rattle.std.specs.Prelude.{Bool, true, false, ◌||◌, List, [], ◌∷◌, Option, Some, None, is_some, if◌then◌else◌, take}
-use Rattle.std.specs.List.{find, flat_map}
-use Rattle.std.specs.Option.{option_and_then}
-use Rattle.std.specs.FinMap.{get}
-use Rattle.moo_value.specs.declared.value.ObjNo.{ObjNo}
-use Rattle.moo_value.specs.declared.value.Value.{Value}
-use Rattle.moo_value.specs.declared.value.Value.TheVariants.{Obj, Str}
+use Rattle.std.specs.{List.{find, flat_map}, Option.{option_and_then}, FinMap.{get}}
+use Rattle.moo_value.specs.{declared.value.ObjNo.{ObjNo}, declared.value.Value.{Value}, declared.value.Value.TheVariants.{Obj, Str}}
 use Rattle.moo_value.specs.Values.{Values}
-use Rattle.moo_rows.specs.Maps.{Maps}
-use Rattle.moo_rows.specs.declared.row.PetitionId.{PetitionId}
+use Rattle.moo_rows.specs.{Maps.{Maps}, declared.row.PetitionId.{PetitionId}}
 use Rattle.moo_world.specs.declared.name.CallName.{CallName}
-use Rattle.moo_world.specs.declared.name.CallName.TheVariants.{Get, Set, PropertyInfo, ClearProperty, IsClearProperty}
-use Rattle.moo_world.specs.declared.name.CallName.TheVariants.{DeleteProperty, SetPropertyInfo}
-use Rattle.moo_world.specs.Objects.{Name, folded, same_object}
-use Rattle.moo_world.specs.Rights.{is_wizard, may_read_object}
-use Rattle.moo_world.specs.Rows.{world_of}
-use Rattle.moo_world.specs.World.{World, chain, property_names_of, slot_of}
+use Rattle.moo_world.specs.declared.name.CallName.TheVariants.{Get, Set, PropertyInfo, ClearProperty, IsClearProperty, DeleteProperty}
+use Rattle.moo_world.specs.{declared.name.CallName.TheVariants.{SetPropertyInfo}, Objects.{Name, folded, same_object}}
+use Rattle.moo_world.specs.{Rights.{is_wizard, may_read_object}, Rows.{world_of}, World.{World, chain, property_names_of, slot_of}}
 use Rattle.moo_world.specs.declared.reason.Reason.{Reason}
 use Rattle.moo_world.specs.declared.reason.Reason.TheVariants.{NoProperty, NotDefined, NotRenamed, NameShared}
 

@@ -1,9 +1,7 @@
 //! The names among which a call may have meant one.
 
-ghost use Rattle.std.specs.Prelude.{◌≡◌, ◌++◌, ◌≤◌, length, option_map, take, IfOk};
-ghost use Rattle.std.specs.List.{flat_map};
-ghost use Rattle.moo_world.specs.Rows.{IsGood, world_of};
-ghost use Rattle.moo_world.specs.World.{chain, property_names_of};
+ghost use Rattle.std.specs.{Prelude.{◌≡◌, ◌++◌, ◌≤◌, length, option_map, take, IfOk}, List.{flat_map}};
+ghost use Rattle.moo_world.specs.{Rows.{IsGood, world_of}, World.{chain, property_names_of}};
 ghost use Rattle.moo_disclosure.specs.Disclosed.{lacks_property, names_listed, names_meant, objects_searched, property_given};
 
 use moo_calls_shared::rights::may_read_object;

@@ -1,25 +1,12 @@
 -- The text that a world is dumped as.
-use Rattle.std.specs.Prelude.{ℕ, pos, List, [], ◌∷◌, ◌++◌, Some, None, codes}
-use Rattle.std.specs.List.{flat_map}
-use Rattle.std.specs.FinMap.{entries}
-use Rattle.std.specs.Fmt.{decimal}
-use Rattle.moo_value.specs.declared.value.ObjNo.{ObjNo}
-use Rattle.moo_value.specs.declared.value.Value.{Value}
-use Rattle.moo_value.specs.declared.value.Value.TheVariants.{Int, Obj, Str, List as a_list}
-use Rattle.moo_value.specs.Literal.{print}
-use Rattle.moo_rows.specs.declared.row.ObjRow.{ObjRow}
-use Rattle.moo_rows.specs.declared.row.PetitionId.{PetitionId}
-use Rattle.moo_rows.specs.declared.row.PetitionRow.{PetitionRow}
-use Rattle.moo_rows.specs.declared.row.SlotState.{SlotState}
-use Rattle.moo_rows.specs.declared.row.SlotState.TheVariants.{Clear, Set}
-use Rattle.moo_rows.specs.declared.row.VerbRow.{VerbRow}
-use Rattle.moo_rows.specs.Bits.{letters_of, verb_letters_of}
-use Rattle.moo_world.specs.Answers.{flag, list_of}
-use Rattle.moo_world.specs.Calls.{accept_value}
-use Rattle.moo_world.specs.Judge.{State}
-use Rattle.moo_world.specs.ObjectLists.{objects_of}
-use Rattle.moo_world.specs.Objects.{Name, Property, folded}
-use Rattle.moo_world.specs.Prepositions.{prep_text, object_spec_text}
+use Rattle.std.specs.{Prelude.{ℕ, pos, List, [], ◌∷◌, ◌++◌, Some, None, codes}, List.{flat_map}, FinMap.{entries}, Fmt.{decimal}}
+use Rattle.moo_value.specs.{declared.value.ObjNo.{ObjNo}, declared.value.Value.{Value}}
+use Rattle.moo_value.specs.{declared.value.Value.TheVariants.{Int, Obj, Str, List as a_list}, Literal.{print}}
+use Rattle.moo_rows.specs.{declared.row.ObjRow.{ObjRow}, declared.row.PetitionId.{PetitionId}, declared.row.PetitionRow.{PetitionRow}}
+use Rattle.moo_rows.specs.{declared.row.SlotState.{SlotState}, declared.row.SlotState.TheVariants.{Clear, Set}}
+use Rattle.moo_rows.specs.{declared.row.VerbRow.{VerbRow}, Bits.{letters_of, verb_letters_of}}
+use Rattle.moo_world.specs.{Answers.{flag, list_of}, Calls.{accept_value}, Judge.{State}, ObjectLists.{objects_of}}
+use Rattle.moo_world.specs.{Objects.{Name, Property, folded}, Prepositions.{prep_text, object_spec_text}}
 use Rattle.moo_world.specs.World.{World, WorldObject, Slot, slot_of, chain, defined_by_any}
 
 -- a word and a literal list of these values, as a line

@@ -1,20 +1,11 @@
 -- The lines of objects and of petitions, by the rows that they are printed from.
-use Rattle.std.specs.Prelude.{◌≡◌, ◌<◌, ℕ, length, List, [], Option, Some, None, map, unwrap_or}
-use Rattle.std.specs.BTreeMap.{BTreeMap, get as tree_get}
-use Rattle.std.specs.FinMap.{get, entries}
-use Rattle.std.specs.List.{filter, flat_map}
-use Rattle.std.specs.Option.{option_map}
-use Rattle.std.specs.Global.{Vec}
+use Rattle.std.specs.{Prelude.{◌≡◌, ◌<◌, ℕ, length, List, [], Option, Some, None, map, unwrap_or}, BTreeMap.{BTreeMap, get as tree_get}}
+use Rattle.std.specs.{FinMap.{get, entries}, List.{filter, flat_map}, Option.{option_map}, Global.{Vec}}
 use Rattle.moo_value.specs.declared.value.ObjNo.{ObjNo}
-use Rattle.moo_rows.specs.declared.row.PropId.{PropId}
-use Rattle.moo_rows.specs.declared.row.PropRow.{PropRow}
-use Rattle.moo_rows.specs.declared.row.SlotRow.{SlotRow}
+use Rattle.moo_rows.specs.{declared.row.PropId.{PropId}, declared.row.PropRow.{PropRow}, declared.row.SlotRow.{SlotRow}}
 use Rattle.moo_rows.specs.Maps.{Maps, object_cmp}
 use Rattle.moo_dump.specs.Dump.{property_line, slot_line, object_lines, petition_line}
-use Rattle.moo_world.specs.ObjectLists.{objects_of}
-use Rattle.moo_world.specs.Objects.{same_object}
-use Rattle.moo_world.specs.Rows.{slot_seen, world_of}
-use Rattle.moo_world.specs.World.{chain}
+use Rattle.moo_world.specs.{ObjectLists.{objects_of}, Objects.{same_object}, Rows.{slot_seen, world_of}, World.{chain}}
 
 -- the numbers of the properties that d defines, of some properties
 abbrev pub ids_defined_by : ObjNo → List (PropId × PropRow) → List PropId

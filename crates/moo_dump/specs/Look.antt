@@ -1,10 +1,8 @@
 -- What one object looks like.
-use Rattle.std.specs.Prelude.{Option}
-use Rattle.std.specs.Option.{option_map}
+use Rattle.std.specs.{Prelude.{Option}, Option.{option_map}}
 use Rattle.moo_value.specs.declared.value.ObjNo.{ObjNo}
 use Rattle.moo_dump.specs.declared.seen.Look.{Look}
-use Rattle.moo_world.specs.ObjectLists.{children_of, contents_of}
-use Rattle.moo_world.specs.World.{World, WorldObject}
+use Rattle.moo_world.specs.{ObjectLists.{children_of, contents_of}, World.{World, WorldObject}}
 
 -- the fields of an object's record, its children and what is in it
 abbrev pub look_at : World → ObjNo → WorldObject → Look

@@ -1,13 +1,9 @@
 //! Comparing a text with the dump of rows.
 
 ghost use Rattle.std.specs.Prelude.{◌≡◌, ◌≢◌, ◌≤◌, ◌<◌, ◌++◌, ℕ, List, length, take, slice_get, IfOk, IfErr, OnOk};
-ghost use Rattle.moo_dump.specs.Difference.{TellsDifference};
-ghost use Rattle.moo_dump.specs.Dump.{dump};
-ghost use Rattle.moo_dump.specs.Lines.{objects_text, petitions_text};
-ghost use Rattle.moo_dump.specs.declared.comparing.CompareFault.TheVariants.{OutOfMemory};
-ghost use Rattle.moo_dump.specs.Outlined.{IsOutline};
-ghost use Rattle.moo_world.specs.Judge.{state_of};
-ghost use Rattle.moo_world.specs.Rows.{IsGood};
+ghost use Rattle.moo_dump.specs.{Difference.{TellsDifference}, Dump.{dump}, Lines.{objects_text, petitions_text}};
+ghost use Rattle.moo_dump.specs.{declared.comparing.CompareFault.TheVariants.{OutOfMemory}, Outlined.{IsOutline}};
+ghost use Rattle.moo_world.specs.{Judge.{state_of}, Rows.{IsGood}};
 
 use crate::dumping::heading_text;
 use crate::lines::petition_line;

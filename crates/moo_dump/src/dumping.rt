@@ -1,13 +1,8 @@
 //! Dumping rows as text.
 
-ghost use Rattle.std.specs.Prelude.{◌≡◌, ℕ, take, IfOk, OnOk, OnErr};
-ghost use Rattle.std.specs.Io.KnownBytes.{Appends};
-ghost use Rattle.moo_dump.specs.Dump.{heading, dump};
-ghost use Rattle.moo_dump.specs.Lines.{objects_text, petitions_text};
-ghost use Rattle.moo_dump.specs.Written.{AppendsFront};
-ghost use Rattle.moo_dump.specs.Outlined.{IsOutline};
-ghost use Rattle.moo_world.specs.Judge.{state_of};
-ghost use Rattle.moo_world.specs.Rows.{IsGood};
+ghost use Rattle.std.specs.{Prelude.{◌≡◌, ℕ, take, IfOk, OnOk, OnErr}, Io.KnownBytes.{Appends}};
+ghost use Rattle.moo_dump.specs.{Dump.{heading, dump}, Lines.{objects_text, petitions_text}, Written.{AppendsFront}, Outlined.{IsOutline}};
+ghost use Rattle.moo_world.specs.{Judge.{state_of}, Rows.{IsGood}};
 
 use crate::fault::RowsDumpFault;
 use crate::lines::petition_line;

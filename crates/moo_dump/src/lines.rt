@@ -3,8 +3,7 @@
 ghost use Rattle.std.specs.Prelude.{◌≡◌, ◌++◌, OnOk, IfOk};
 ghost use Rattle.moo_value.specs.Text.{IsText};
 ghost use Rattle.moo_dump.specs.Dump.{line, object_line, property_line, slot_line, verb_line, petition_line};
-ghost use Rattle.moo_world.specs.Prepositions.{object_spec_text, prep_text};
-ghost use Rattle.moo_world.specs.Rows.{slot_seen};
+ghost use Rattle.moo_world.specs.{Prepositions.{object_spec_text, prep_text}, Rows.{slot_seen}};
 
 use moo_rows::{ArgSpec, ObjRow, PetitionId, PetitionRow, PropRow, SlotRow, SlotState, VerbRow};
 use moo_value::{MooStr, ObjNo, Value, print_literal};

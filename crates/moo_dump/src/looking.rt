@@ -2,8 +2,7 @@
 
 ghost use Rattle.std.specs.Prelude.{◌≡◌, IfOk};
 ghost use Rattle.moo_dump.specs.Look.{look_of};
-ghost use Rattle.moo_world.specs.Rows.{world_of};
-ghost use Rattle.moo_world.specs.World.{IsTree};
+ghost use Rattle.moo_world.specs.{Rows.{world_of}, World.{IsTree}};
 
 use crate::seen::Look;
 use moo_rows::{ObjList, Rows};

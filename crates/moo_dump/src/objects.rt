@@ -1,12 +1,9 @@
 //! The lines of one object.
 
-ghost use Rattle.std.specs.Prelude.{◌≡◌, ◌++◌, OnOk, IfOk};
-ghost use Rattle.std.specs.List.{flat_map};
-ghost use Rattle.moo_dump.specs.Dump.{verb_line, object_lines};
-ghost use Rattle.moo_dump.specs.Lines.{property_line_of, slot_line_of, slot_lines_over};
+ghost use Rattle.std.specs.{Prelude.{◌≡◌, ◌++◌, OnOk, IfOk}, List.{flat_map}};
+ghost use Rattle.moo_dump.specs.{Dump.{verb_line, object_lines}, Lines.{property_line_of, slot_line_of, slot_lines_over}};
 ghost use Rattle.moo_dump.specs.Outlined.{IsOutline};
-ghost use Rattle.moo_world.specs.Rows.{world_of, IsSound, IsGood};
-ghost use Rattle.moo_world.specs.World.{IsTree, chain, directory_of};
+ghost use Rattle.moo_world.specs.{Rows.{world_of, IsSound, IsGood}, World.{IsTree, chain, directory_of}};
 
 use crate::definitions::ids_listed;
 use crate::lines::{put_object_line, put_property_line, put_slot_line, put_verb_line};

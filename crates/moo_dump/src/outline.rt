@@ -1,10 +1,8 @@
 //! What is gathered of all objects before the lines of each are printed.
 
 ghost use Rattle.std.specs.Prelude.{IfOk};
-ghost use Rattle.moo_dump.specs.Lines.{ListsDefinitions, SkipUp};
-ghost use Rattle.moo_dump.specs.Outlined.{IsOutline};
-ghost use Rattle.moo_world.specs.Rows.{world_of};
-ghost use Rattle.moo_world.specs.World.{IsTree};
+ghost use Rattle.moo_dump.specs.{Lines.{ListsDefinitions, SkipUp}, Outlined.{IsOutline}};
+ghost use Rattle.moo_world.specs.{Rows.{world_of}, World.{IsTree}};
 
 use crate::definitions::{Definitions, all_definitions};
 use crate::skips::{Skips, all_skips};

@@ -1,11 +1,9 @@
 //! Skipping the objects of a chain that define nothing.
 
-ghost use Rattle.std.specs.Prelude.{◌≡◌, ◌⊎◌, OnOk, IfOk};
-ghost use Rattle.std.specs.List.{AllByRecursion};
+ghost use Rattle.std.specs.{Prelude.{◌≡◌, ◌⊎◌, OnOk, IfOk}, List.{AllByRecursion}};
 ghost use Rattle.moo_dump.specs.Lines.{ListsDefinitions, LeadsUp, SkipUp};
 ghost use Rattle.moo_rows.specs.Maps.{Maps};
-ghost use Rattle.moo_world.specs.Rows.{world_of};
-ghost use Rattle.moo_world.specs.World.{IsTree};
+ghost use Rattle.moo_world.specs.{Rows.{world_of}, World.{IsTree}};
 
 use crate::definitions::{Definitions, ids_listed};
 use moo_rows::{Rows, each_object};

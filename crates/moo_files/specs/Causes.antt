@@ -1,21 +1,14 @@
 -- Why no world is opened: what refused it.
-use Rattle.std.specs.Prelude.{◌≡◌, ◌⊎◌, ◌==◌, ◌||◌, ℕ, Bool, IsTrue, ◌<◌, List, Result, Ok, Err, codes, ⊤}
-use Rattle.std.specs.Str.{bytes_eq}
-use Rattle.std.specs.List.{starts_with}
-use Rattle.std.specs.Fs.{file_type, metadata_len, IsFile}
-use Rattle.std.specs.declared.fs.attrs.Metadata.{Metadata}
+use Rattle.std.specs.{Prelude.{◌≡◌, ◌⊎◌, ◌==◌, ◌||◌, ℕ, Bool, IsTrue, ◌<◌, List, Result, Ok, Err, codes, ⊤}, Str.{bytes_eq}}
+use Rattle.std.specs.{List.{starts_with}, Fs.{file_type, metadata_len, IsFile}, declared.fs.attrs.Metadata.{Metadata}}
 use Rattle.sqlite_disk.specs.declared.Disk.{Ghosts}
 use Rattle.sqlite_wal.specs.Recovery.{Image}
-use Rattle.sqlite.specs.Tree.{Trees}
-use Rattle.sqlite.specs.Files.{faults_left, file_state, HoldsDatabase, IsFullLeft, IsNothing}
-use Rattle.sqlite.specs.Held.{Held}
+use Rattle.sqlite.specs.{Tree.{Trees}, Files.{faults_left, file_state, HoldsDatabase, IsFullLeft, IsNothing}, Held.{Held}}
+use Rattle.sqlite.specs.{declared.error.Error.{Error}, declared.error.Error.TheVariants.{SqliteFailure}}
 use Rattle.sqlite_store.specs.declared.store.FileStore.{FileStore}
-use Rattle.sqlite.specs.declared.error.Error.{Error}
-use Rattle.sqlite.specs.declared.error.Error.TheVariants.{SqliteFailure}
 use Rattle.sqlite.specs.declared.error.ErrorCode.TheVariants as code
 use Rattle.sqlite.specs.declared.file.Leftover.{Leftover}
-use Rattle.moo_store.specs.declared.fault.StoreFault.{StoreFault}
-use Rattle.moo_store.specs.declared.fault.StoreFault.TheVariants.{Store, OutOfMemory}
+use Rattle.moo_store.specs.{declared.fault.StoreFault.{StoreFault}, declared.fault.StoreFault.TheVariants.{Store, OutOfMemory}}
 use Rattle.moo_files.specs.declared.remains.Remains.{Remains}
 use Rattle.moo_files.specs.declared.remains.Remains.TheVariants as remains
 

@@ -1,21 +1,12 @@
 -- What is left of the files once they are closed.
 use Rattle.std.specs.Prelude.{◌≡◌}
 use Rattle.sqlite_disk.specs.declared.Disk.{Ghosts}
-use Rattle.sqlite_wal.specs.Recovery.{Image}
-use Rattle.sqlite_wal.specs.Files.{outcomes}
-use Rattle.sqlite_wal.specs.Reads.{AreClean}
-use Rattle.sqlite_store.specs.declared.store.FileStore.{FileStore}
-use Rattle.sqlite_store.specs.FileStore.{recovers}
-use Rattle.sqlite.specs.Tree.{Trees}
-use Rattle.sqlite.specs.State.{State as Database, HasCleanDisk}
-use Rattle.sqlite.specs.Held.{Held}
-use Rattle.sqlite.specs.Files.{IsCleanLeft, IsClosed, file_state, image_of}
-use Rattle.sqlite.specs.Closing.{IsCopied}
-use Rattle.sqlite.specs.declared.file.Leftover.{Leftover}
+use Rattle.sqlite_wal.specs.{Recovery.{Image}, Files.{outcomes}, Reads.{AreClean}}
+use Rattle.sqlite_store.specs.{declared.store.FileStore.{FileStore}, FileStore.{recovers}}
+use Rattle.sqlite.specs.{Tree.{Trees}, State.{State as Database, HasCleanDisk}, Held.{Held}}
+use Rattle.sqlite.specs.{Files.{IsCleanLeft, IsClosed, file_state, image_of}, Closing.{IsCopied}, declared.file.Leftover.{Leftover}}
 use Rattle.sqlite.specs.declared.file.Leftover.TheVariants as left
-use Rattle.moo_files.specs.Contents.{IsLeftBy}
-use Rattle.moo_files.specs.Stop.{IsNumberedStore, KeepsTreesNumbered}
-use Rattle.moo_files.specs.declared.remains.Remains.{Remains}
+use Rattle.moo_files.specs.{Contents.{IsLeftBy}, Stop.{IsNumberedStore, KeepsTreesNumbered}, declared.remains.Remains.{Remains}}
 use Rattle.moo_files.specs.declared.remains.Remains.TheVariants as remains
 
 module _ {D : Type 0} {g : Ghosts D} where

@@ -3,17 +3,11 @@ use Rattle.std.specs.Prelude.{◌≡◌, ◌≢◌, ◌⊎◌, IsTrue, None, fal
 use Rattle.sqlite_disk.specs.declared.Disk.{Ghosts}
 use Rattle.sqlite_store.specs.declared.store.FileStore.{FileStore}
 use Rattle.sqlite_wal.specs.Recovery.{Image}
-use Rattle.sqlite.specs.Tree.{Trees}
-use Rattle.sqlite.specs.State.{State as Database, HasCleanDisk}
-use Rattle.sqlite.specs.Held.{Held}
-use Rattle.sqlite.specs.Files.{IsEmpty, IsOpened, file_state}
+use Rattle.sqlite.specs.{Tree.{Trees}, State.{State as Database, HasCleanDisk}, Held.{Held}, Files.{IsEmpty, IsOpened, file_state}}
 use Rattle.sqlite.specs.Start.{FindsIn}
-use Rattle.moo_store.specs.OpeningRows.{not_ours}
-use Rattle.moo_store.specs.declared.fault.StoreFault.{StoreFault}
-use Rattle.moo_files.specs.Blank.{IsBlank}
-use Rattle.moo_files.specs.Opened.{Contents, Nothing, Database as Holds, Unfit}
-use Rattle.moo_files.specs.Remains.{ExcusesMalformed, KeepsNothingBut, KeepsSuch}
-use Rattle.moo_files.specs.declared.remains.Remains.{Remains}
+use Rattle.moo_store.specs.{OpeningRows.{not_ours}, declared.fault.StoreFault.{StoreFault}}
+use Rattle.moo_files.specs.{Blank.{IsBlank}, Opened.{Contents, Nothing, Database as Holds, Unfit}}
+use Rattle.moo_files.specs.{Remains.{ExcusesMalformed, KeepsNothingBut, KeepsSuch}, declared.remains.Remains.{Remains}}
 
 -- the files held no database, or half a first page of one, and the connection shows no rows; or it shows what `sqlite` finds in them
 abbrev pub IsNewOrFound : Image → Database → Type 0

@@ -2,21 +2,14 @@
 use Rattle.std.specs.Prelude.{◌≡◌, ◌⊎◌, ℕ, false}
 use Rattle.sqlite_wal.specs.Recovery.{Image}
 use Rattle.sqlite_pool.specs.Stored.{is_summed}
-use Rattle.sqlite.specs.Tree.{Trees}
-use Rattle.sqlite.specs.State.{State as Database}
-use Rattle.sqlite.specs.Files.{HoldsDatabase, IsNothing, IsEmpty}
-use Rattle.sqlite.specs.Opening.{HoldsIn}
+use Rattle.sqlite.specs.{Tree.{Trees}, State.{State as Database}, Files.{HoldsDatabase, IsNothing, IsEmpty}, Opening.{HoldsIn}}
 use Rattle.sqlite.specs.Effect.{IsDatabase}
 use Rattle.moo_rows.specs.Maps.{Maps}
-use Rattle.moo_world.specs.Judge.{State}
-use Rattle.moo_world.specs.Rows.{IsGood}
-use Rattle.moo_tables_rows.specs.declared.version.Version.{Version}
-use Rattle.moo_tables_rows.specs.Tables.{Tables, schema_of, no_schema}
-use Rattle.moo_tables_rows.specs.Inside.{Leaves}
+use Rattle.moo_world.specs.{Judge.{State}, Rows.{IsGood}}
+use Rattle.moo_tables_rows.specs.{declared.version.Version.{Version}, Tables.{Tables, schema_of, no_schema}, Inside.{Leaves}}
 use Rattle.moo_tables_rows.specs.Version.{IsEarlier}
 use Rattle.moo_cells.specs.Shows.{ShowsRows}
-use Rattle.moo_store.specs.Moment.{Moment, AreTreesOf}
-use Rattle.moo_store.specs.States.{LeavesRows, LeavesState}
+use Rattle.moo_store.specs.{Moment.{Moment, AreTreesOf}, States.{LeavesRows, LeavesState}}
 use Rattle.moo_files.specs.Blank.{IsBlank}
 
 -- a log and its file hold this database

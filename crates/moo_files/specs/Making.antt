@@ -3,25 +3,12 @@ use Rattle.std.specs.Prelude.{◌≡◌, ◌⊎◌, ⊤, Option, None, Some, Ok,
 use Rattle.sqlite_disk.specs.declared.Disk.{Ghosts}
 use Rattle.sqlite_store.specs.declared.store.FileStore.{FileStore}
 use Rattle.sqlite_wal.specs.Recovery.{Image}
-use Rattle.sqlite.specs.State.{HasCleanDisk}
-use Rattle.sqlite.specs.Held.{Held}
-use Rattle.sqlite.specs.Files.{over_files}
-use Rattle.sqlite.specs.Tree.{Trees}
-use Rattle.moo_rows.specs.Maps.{Maps, Held as Rows}
-use Rattle.moo_rows.specs.Opening.{opening_maps}
-use Rattle.moo_store.specs.Kept.{World}
-use Rattle.moo_store.specs.OpeningRows.{IsOfStore}
-use Rattle.moo_store.specs.Moment.{Moment, rows_alone}
-use Rattle.moo_store.specs.NewTables.{IsMadeOf, LeavesAsMade}
-use Rattle.moo_store.specs.Place.{Works}
-use Rattle.moo_store.specs.Moves.{Stands}
-use Rattle.moo_store.specs.World.{store_of}
-use Rattle.moo_store.specs.declared.fault.StoreFault.{StoreFault}
-use Rattle.moo_files.specs.Causes.{StopsOver}
-use Rattle.moo_files.specs.Contents.{HoldsTrees, HasAnyTable, HoldsNoDatabase, HoldsNoTable}
-use Rattle.moo_files.specs.Opened.{Attempt}
-use Rattle.moo_files.specs.Remains.{IsCleanRemains, MayStopAs, KeepsNothingBut, KeepsSuch, Spares}
-use Rattle.moo_files.specs.declared.remains.Remains.{Remains}
+use Rattle.sqlite.specs.{State.{HasCleanDisk}, Held.{Held}, Files.{over_files}, Tree.{Trees}}
+use Rattle.moo_rows.specs.{Maps.{Maps, Held as Rows}, Opening.{opening_maps}}
+use Rattle.moo_store.specs.{Kept.{World}, OpeningRows.{IsOfStore}, Moment.{Moment, rows_alone}, NewTables.{IsMadeOf, LeavesAsMade}}
+use Rattle.moo_store.specs.{Place.{Works}, Moves.{Stands}, World.{store_of}, declared.fault.StoreFault.{StoreFault}}
+use Rattle.moo_files.specs.{Causes.{StopsOver}, Contents.{HoldsTrees, HasAnyTable, HoldsNoDatabase, HoldsNoTable}, Opened.{Attempt}}
+use Rattle.moo_files.specs.{Remains.{IsCleanRemains, MayStopAs, KeepsNothingBut, KeepsSuch, Spares}, declared.remains.Remains.{Remains}}
 
 -- these rows, or without any those of the opening world
 abbrev pub rows_made : Option Rows → Maps

@@ -3,22 +3,13 @@ use Rattle.std.specs.Prelude.{Result, IfOk, IfErr}
 use Rattle.sqlite_disk.specs.declared.Disk.{Ghosts}
 use Rattle.sqlite_store.specs.declared.store.FileStore.{FileStore}
 use Rattle.sqlite_wal.specs.Recovery.{Image}
-use Rattle.sqlite.specs.State.{HasCleanDisk}
-use Rattle.sqlite.specs.Files.{over_files, IsNothing}
-use Rattle.sqlite.specs.Tree.{Trees}
+use Rattle.sqlite.specs.{State.{HasCleanDisk}, Files.{over_files, IsNothing}, Tree.{Trees}}
 use Rattle.moo_rows.specs.Maps.{Maps}
-use Rattle.moo_world.specs.Judge.{State}
-use Rattle.moo_world.specs.Rows.{IsGood}
-use Rattle.moo_tables_rows.specs.Tables.{Tables}
-use Rattle.moo_tables_rows.specs.Inside.{Leaves}
+use Rattle.moo_world.specs.{Judge.{State}, Rows.{IsGood}}
+use Rattle.moo_tables_rows.specs.{Tables.{Tables}, Inside.{Leaves}}
 use Rattle.moo_cells.specs.Shows.{ShowsRows}
-use Rattle.moo_store.specs.Kept.{World}
-use Rattle.moo_store.specs.OpeningRows.{IsOfStore}
-use Rattle.moo_store.specs.States.{LeavesState}
-use Rattle.moo_store.specs.Moment.{Moment, rows_alone, AreTreesOf, BecomesPresent}
-use Rattle.moo_store.specs.Place.{Works}
-use Rattle.moo_store.specs.Moves.{Stands}
-use Rattle.moo_store.specs.World.{store_of}
+use Rattle.moo_store.specs.{Kept.{World}, OpeningRows.{IsOfStore}, States.{LeavesState}}
+use Rattle.moo_store.specs.{Moment.{Moment, rows_alone, AreTreesOf, BecomesPresent}, Place.{Works}, Moves.{Stands}, World.{store_of}}
 use Rattle.moo_store.specs.declared.fault.StoreFault.{StoreFault}
 use Rattle.moo_files.specs.Contents.{HoldsTrees, HoldsMoment, HasOtherTables, ReadsAsOurs, IsKept}
 use Rattle.moo_files.specs.Remains.{IsCleanRemains, MayStopAs, TakesForOurs, ExcusesMalformed, KeepsNothingBut, Spares, StillHoldsTrees}

@@ -1,26 +1,19 @@
 -- What a refusal leaves of the files.
 use Rattle.std.specs.Prelude.{◌≡◌, ◌≢◌, ◌⊎◌, ◌<◌, ⊤}
 use Rattle.sqlite_disk.specs.declared.Disk.{Ghosts}
-use Rattle.sqlite_wal.specs.Recovery.{Image}
-use Rattle.sqlite_wal.specs.Files.{outcomes}
+use Rattle.sqlite_wal.specs.{Recovery.{Image}, Files.{outcomes}}
 use Rattle.sqlite_pool.specs.Stored.{stored_size, StandsAs, IsUnreadable}
-use Rattle.sqlite_store.specs.FileStore.{recovers}
-use Rattle.sqlite_store.specs.Unopened.{state_of}
-use Rattle.sqlite_store.specs.declared.store.open.Unopened.{Unopened}
-use Rattle.sqlite.specs.Tree.{Trees}
-use Rattle.sqlite.specs.State.{HasCleanDisk}
+use Rattle.sqlite_store.specs.{FileStore.{recovers}, Unopened.{state_of}, declared.store.open.Unopened.{Unopened}}
+use Rattle.sqlite.specs.{Tree.{Trees}, State.{HasCleanDisk}}
 use Rattle.sqlite.specs.Files.{AreFoundIn, IsCleanLeft, IsEmpty, IsNothing, NamesSize, faults_left, file_state}
 use Rattle.sqlite.specs.declared.file.Leftover.{Leftover}
 use Rattle.sqlite.specs.declared.file.Leftover.TheVariants as left
 use Rattle.sqlite.specs.declared.error.Error.TheVariants.{SqliteFailure}
 use Rattle.sqlite.specs.declared.error.ErrorCode.TheVariants.{CannotOpen, DatabaseBusy, DatabaseCorrupt}
 use Rattle.moo_world.specs.Judge.{State}
-use Rattle.moo_store.specs.States.{LeavesState}
-use Rattle.moo_store.specs.OpeningRows.{not_ours}
-use Rattle.moo_store.specs.declared.fault.StoreFault.{StoreFault}
+use Rattle.moo_store.specs.{States.{LeavesState}, OpeningRows.{not_ours}, declared.fault.StoreFault.{StoreFault}}
 use Rattle.moo_store.specs.declared.fault.StoreFault.TheVariants.{Store, OutOfMemory}
-use Rattle.moo_files.specs.Contents.{HoldsSuch, HoldsNothingBut, HasNoSums, IsKept, ReadsAs}
-use Rattle.moo_files.specs.declared.remains.Remains.{Remains}
+use Rattle.moo_files.specs.{Contents.{HoldsSuch, HoldsNothingBut, HasNoSums, IsKept, ReadsAs}, declared.remains.Remains.{Remains}}
 use Rattle.moo_files.specs.declared.remains.Remains.TheVariants as remains
 
 -- the fault of a file that can't be opened: there is none of this name, or the host refused it

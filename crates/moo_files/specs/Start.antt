@@ -3,9 +3,7 @@ use Rattle.std.specs.Prelude.{◌≡◌}
 use Rattle.sqlite_disk.specs.declared.Disk as disk
 use Rattle.sqlite_disk.specs.declared.Files.{Files}
 use Rattle.sqlite_disk.specs.declared.start.Start as start
-use Rattle.sqlite_wal.specs.Recovery.{Image}
-use Rattle.sqlite_wal.specs.Files.{image_at, outcomes}
-use Rattle.sqlite_wal.specs.Reads.{AreClean}
+use Rattle.sqlite_wal.specs.{Recovery.{Image}, Files.{image_at, outcomes}, Reads.{AreClean}}
 use Rattle.sqlite.specs.Files.{faults_of, image_of}
 
 -- The two files hold what a start says of them, and so does what a crash leaves of them. Their disk is clean, and no call on them failed.

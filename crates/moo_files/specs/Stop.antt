@@ -4,16 +4,11 @@
 -- model of the disk allows. The second is what a machine does; that it implies the first is proved, but for the cases named here.
 use Rattle.std.specs.Prelude.{◌≡◌, ◌⊎◌, false, IsTrue, ⊤}
 use Rattle.sqlite_disk.specs.declared.Disk.{Ghosts}
-use Rattle.sqlite_wal.specs.Recovery.{Image}
-use Rattle.sqlite_wal.specs.Files.{outcomes}
-use Rattle.sqlite_store.specs.declared.store.FileStore.{FileStore}
-use Rattle.sqlite_store.specs.FileStore.{view, files, recovers}
-use Rattle.sqlite_store.specs.Unopened.{files_of}
-use Rattle.sqlite.specs.Held.{Held}
-use Rattle.sqlite.specs.declared.file.Leftover.{Leftover}
+use Rattle.sqlite_wal.specs.{Recovery.{Image}, Files.{outcomes}}
+use Rattle.sqlite_store.specs.{declared.store.FileStore.{FileStore}, FileStore.{view, files, recovers}, Unopened.{files_of}}
+use Rattle.sqlite.specs.{Held.{Held}, declared.file.Leftover.{Leftover}}
 use Rattle.sqlite.specs.declared.file.Leftover.TheVariants as left
-use Rattle.moo_files.specs.Contents.{HoldsSuch, HasNoSums}
-use Rattle.moo_files.specs.declared.remains.Remains.{Remains}
+use Rattle.moo_files.specs.{Contents.{HoldsSuch, HasNoSums}, declared.remains.Remains.{Remains}}
 use Rattle.moo_files.specs.declared.remains.Remains.TheVariants as remains
 
 module _ {D : Type 0} {g : Ghosts D} where

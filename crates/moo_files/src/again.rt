@@ -3,16 +3,10 @@
 ghost use Rattle.std.specs.Prelude.{IfOk, IfErr, IsSome};
 ghost use Rattle.sqlite_store.specs.declared.store.FileStore.{FileStore};
 ghost use Rattle.sqlite_wal.specs.Recovery.{Image};
-ghost use Rattle.sqlite.specs.State.{HasCleanDisk};
-ghost use Rattle.sqlite.specs.Files.{over_files};
-ghost use Rattle.moo_store.specs.Moment.{Moment};
-ghost use Rattle.moo_store.specs.OpeningRows.{IsOfStore};
-ghost use Rattle.moo_store.specs.Place.{Place, moment_of, MayBeLeft};
-ghost use Rattle.moo_store.specs.Kept.{World};
-ghost use Rattle.moo_store.specs.Moves.{Stands};
-ghost use Rattle.moo_store.specs.World.{store_of};
-ghost use Rattle.moo_files.specs.Contents.{HoldsMoment, IsLeftBy};
-ghost use Rattle.moo_files.specs.Opened.{Attempt, OpensAt, OpensHeld, RefusesHeld};
+ghost use Rattle.sqlite.specs.{State.{HasCleanDisk}, Files.{over_files}};
+ghost use Rattle.moo_store.specs.{Moment.{Moment}, OpeningRows.{IsOfStore}, Place.{Place, moment_of, MayBeLeft}, Kept.{World}};
+ghost use Rattle.moo_store.specs.{Moves.{Stands}, World.{store_of}};
+ghost use Rattle.moo_files.specs.{Contents.{HoldsMoment, IsLeftBy}, Opened.{Attempt, OpensAt, OpensHeld, RefusesHeld}};
 ghost use Rattle.moo_files.specs.Remains.{IsCleanRemains};
 
 use sqlite_disk::Disk;

@@ -1,15 +1,11 @@
 //! New files, with small pages.
 
 ghost use Rattle.std.specs.Prelude.{◌≡◌, [], IsTrue, IfOk, IfErr, false};
-ghost use Rattle.sqlite_wal.specs.PageSize.{bytes_of};
-ghost use Rattle.sqlite_wal.specs.Reads.{AreClean};
+ghost use Rattle.sqlite_wal.specs.{PageSize.{bytes_of}, Reads.{AreClean}};
 ghost use Rattle.sqlite_wal.specs.declared.error.Error.TheVariants as log_error;
 ghost use Rattle.sqlite_store.specs.Unopened.{state_of, files_of, wanted_by};
-ghost use Rattle.sqlite.specs.State.{HasCleanDisk};
-ghost use Rattle.sqlite.specs.Held.{IsNew};
-ghost use Rattle.sqlite.specs.Files.{file_state, IsOpened, IsEmpty, IsCleanLeft, image_of};
-ghost use Rattle.moo_files.specs.Causes.{IsOpenable, IsRefused};
-ghost use Rattle.moo_files.specs.Blank.{IsBlank, MakesOrFinds, LeavesBlank, SparesFiles};
+ghost use Rattle.sqlite.specs.{State.{HasCleanDisk}, Held.{IsNew}, Files.{file_state, IsOpened, IsEmpty, IsCleanLeft, image_of}};
+ghost use Rattle.moo_files.specs.{Causes.{IsOpenable, IsRefused}, Blank.{IsBlank, MakesOrFinds, LeavesBlank, SparesFiles}};
 
 use sqlite::{Connection, Error, ErrorCode, FileStore, Files, Leftover, Options};
 use sqlite_disk::Disk;

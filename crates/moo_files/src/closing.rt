@@ -1,9 +1,7 @@
 //! Closing a connection to the files of a world.
 
-ghost use Rattle.sqlite.specs.State.{HasCleanDisk};
-ghost use Rattle.sqlite.specs.Files.{file_state, IsCleanLeft};
-ghost use Rattle.moo_files.specs.Closing.{IsLeftOf, IsClosedAs};
-ghost use Rattle.moo_files.specs.Stop.{IsNumberedStore, KeepsTreesNumbered};
+ghost use Rattle.sqlite.specs.{State.{HasCleanDisk}, Files.{file_state, IsCleanLeft}};
+ghost use Rattle.moo_files.specs.{Closing.{IsLeftOf, IsClosedAs}, Stop.{IsNumberedStore, KeepsTreesNumbered}};
 
 use sqlite::{Connection, FileStore, Leftover};
 use sqlite_disk::Disk;

@@ -1,16 +1,11 @@
 //! Opening a connection to the files of a world, or making one.
 
 ghost use Rattle.std.specs.Prelude.{◌≡◌, ◌≢◌, ◌⊎◌, IfOk, IfErr, IsErr, IsTrue};
-ghost use Rattle.sqlite.specs.Start.{FindsIn};
-ghost use Rattle.sqlite.specs.Tree.{Trees};
-ghost use Rattle.sqlite.specs.WalFiles.{image_at};
+ghost use Rattle.sqlite.specs.{Start.{FindsIn}, Tree.{Trees}, WalFiles.{image_at}};
 ghost use Rattle.sqlite_std_file.specs.declared.pair.OpenError.{OpenError};
 ghost use Rattle.moo_store.specs.OpeningRows.{IsOfStore, not_ours};
-ghost use Rattle.moo_files.specs.Causes.{HasCauseOr, IsDenied, IsOpenable};
-ghost use Rattle.moo_files.specs.Connected.{IsConnected, IsNewOrFound, Unconnects};
-ghost use Rattle.moo_files.specs.Contents.{HoldsTrees};
-ghost use Rattle.moo_files.specs.Making.{IsUnmadeIn};
-ghost use Rattle.moo_files.specs.Opened.{Contents, Hold, IsRefusedFrom};
+ghost use Rattle.moo_files.specs.{Causes.{HasCauseOr, IsDenied, IsOpenable}, Connected.{IsConnected, IsNewOrFound, Unconnects}};
+ghost use Rattle.moo_files.specs.{Contents.{HoldsTrees}, Making.{IsUnmadeIn}, Opened.{Contents, Hold, IsRefusedFrom}};
 ghost use Rattle.moo_files.specs.Remains.{cannot_open, busy, malformed, IfNotOpened, IsCleanRemains, IsUnopened, MayStopAs};
 ghost use Rattle.moo_files.specs.Start.{HoldStart};
 

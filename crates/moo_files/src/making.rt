@@ -1,14 +1,11 @@
 //! Making a world in a file, a new one or one of given rows.
 
 ghost use Rattle.std.specs.Prelude.{◌≡◌, ◌<◌, ◌^◌, IfSome, IfErr, false};
-ghost use Rattle.sqlite.specs.Held.{state};
-ghost use Rattle.sqlite.specs.Files.{over_files};
-ghost use Rattle.sqlite.specs.WalFiles.{image_at};
+ghost use Rattle.sqlite.specs.{Held.{state}, Files.{over_files}, WalFiles.{image_at}};
 ghost use Rattle.sqlite_std_file.specs.declared.pair.OpenError.{OpenError};
 ghost use Rattle.moo_world.specs.Rows.{IsGood};
 ghost use Rattle.moo_store.specs.Loading.{Loads};
-ghost use Rattle.moo_files.specs.Causes.{HasCauseOr, IsDenied, IsOpenable};
-ghost use Rattle.moo_files.specs.Making.{rows_made, Makes, StopsMaking};
+ghost use Rattle.moo_files.specs.{Causes.{HasCauseOr, IsDenied, IsOpenable}, Making.{rows_made, Makes, StopsMaking}};
 ghost use Rattle.moo_files.specs.Remains.{IfNotOpened, IsCleanRemains};
 
 use crate::connecting::open_new;

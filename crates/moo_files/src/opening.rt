@@ -2,17 +2,11 @@
 
 ghost use Rattle.std.specs.Prelude.{◌≡◌, ◌≢◌, ◌⊎◌, IfOk, IfErr, IsErr, IsSome, Some, None, IfSome, false};
 ghost use Rattle.std.specs.Fs.{file_type, metadata_len, IsFile};
-ghost use Rattle.sqlite.specs.State.{HasCleanDisk};
-ghost use Rattle.sqlite.specs.Files.{over_files};
-ghost use Rattle.sqlite.specs.Tree.{Trees};
-ghost use Rattle.sqlite.specs.WalFiles.{image_at};
+ghost use Rattle.sqlite.specs.{State.{HasCleanDisk}, Files.{over_files}, Tree.{Trees}, WalFiles.{image_at}};
 ghost use Rattle.sqlite_std_file.specs.declared.pair.OpenError.{OpenError};
 ghost use Rattle.moo_tables_rows.specs.Tables.{Tables};
-ghost use Rattle.moo_store.specs.Opening.{Adopting};
-ghost use Rattle.moo_store.specs.OpeningRows.{SaysOr, AreMigrated, not_ours};
-ghost use Rattle.moo_store.specs.World.{store_of};
-ghost use Rattle.moo_files.specs.Causes.{HasCause, HasCauseOr, StopsOver, IsDenied, IsUnfit};
-ghost use Rattle.moo_files.specs.Contents.{HoldsTrees, HoldsTables};
+ghost use Rattle.moo_store.specs.{Opening.{Adopting}, OpeningRows.{SaysOr, AreMigrated, not_ours}, World.{store_of}};
+ghost use Rattle.moo_files.specs.{Causes.{HasCause, HasCauseOr, StopsOver, IsDenied, IsUnfit}, Contents.{HoldsTrees, HoldsTables}};
 ghost use Rattle.moo_files.specs.Opened.{Contents, Hold, IsOpenedOver, Opens, IsRefusedFrom, Refuses};
 ghost use Rattle.moo_files.specs.Remains.{cannot_open, IfNotOpened, IsCleanRemains};
 

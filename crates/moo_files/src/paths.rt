@@ -2,8 +2,7 @@
 
 ghost use Rattle.std.specs.Prelude.{◌≡◌, IsTrue, IsErr, IfOk, IfErr, ℕ, List};
 ghost use Rattle.sqlite_std_file.specs.declared.pair.OpenError.{OpenError};
-ghost use Rattle.moo_files.specs.Causes.{names_no_file, IsUnfit};
-ghost use Rattle.moo_files.specs.Start.{HoldStart};
+ghost use Rattle.moo_files.specs.{Causes.{names_no_file, IsUnfit}, Start.{HoldStart}};
 
 use sqlite::{Files, Start};
 use sqlite_disk::Disk;

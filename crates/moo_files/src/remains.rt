@@ -3,8 +3,7 @@
 ghost use Rattle.sqlite.specs.Tree.{Trees};
 ghost use Rattle.sqlite_wal.specs.Recovery.{Image};
 ghost use Rattle.moo_world.specs.Judge.{State};
-ghost use Rattle.moo_files.specs.Contents.{ReadsAs};
-ghost use Rattle.moo_files.specs.Closing.{IsClosedFrom};
+ghost use Rattle.moo_files.specs.{Contents.{ReadsAs}, Closing.{IsClosedFrom}};
 ghost use Rattle.moo_files.specs.Remains.{IsCleanRemains, StillHolds, StillHoldsTrees, KeepsNothingBut, Spares};
 
 use crate::closing::close_connection;

@@ -3,22 +3,14 @@
 ghost use Rattle.std.specs.Prelude.{IfOk, IfErr, IsSome};
 ghost use Rattle.sqlite_store.specs.declared.store.FileStore.{FileStore};
 ghost use Rattle.sqlite_wal.specs.Recovery.{Image};
-ghost use Rattle.sqlite.specs.Tree.{Trees};
-ghost use Rattle.sqlite.specs.State.{HasCleanDisk};
-ghost use Rattle.sqlite.specs.Held.{Held, AreDatabases};
-ghost use Rattle.sqlite.specs.Files.{over_files, file_state};
+ghost use Rattle.sqlite.specs.{Tree.{Trees}, State.{HasCleanDisk}, Held.{Held, AreDatabases}, Files.{over_files, file_state}};
 ghost use Rattle.moo_world.specs.Judge.{State};
-ghost use Rattle.moo_store.specs.Moment.{Moment, AreTreesOf, IsSparedMoment};
-ghost use Rattle.moo_store.specs.OpeningRows.{IsOfStore};
-ghost use Rattle.moo_store.specs.Place.{Place, moment_of, MayBeLeft, CrashLeavesAt};
-ghost use Rattle.moo_store.specs.Kept.{World};
-ghost use Rattle.moo_store.specs.Moves.{Stands};
-ghost use Rattle.moo_store.specs.World.{store_of};
+ghost use Rattle.moo_store.specs.{Moment.{Moment, AreTreesOf, IsSparedMoment}, OpeningRows.{IsOfStore}};
+ghost use Rattle.moo_store.specs.{Place.{Place, moment_of, MayBeLeft, CrashLeavesAt}, Kept.{World}, Moves.{Stands}, World.{store_of}};
 ghost use Rattle.moo_files.specs.Contents.{HoldsSuch, HoldsMoment, HoldsState, HoldsTrees, IsKept, IsLeftBy};
 ghost use Rattle.moo_files.specs.Opened.{Attempt, OpensAt, OpensHeld, RefusesHeld};
 ghost use Rattle.moo_files.specs.Remains.{IsCleanRemains, KeepsSuch, StillHolds, StillHoldsTrees};
-ghost use Rattle.moo_files.specs.Stop.{DiskLeaves, IsNumberedStore, BytesLeave, AreNumbered};
-ghost use Rattle.moo_files.specs.declared.remains.Remains.{Remains};
+ghost use Rattle.moo_files.specs.{Stop.{DiskLeaves, IsNumberedStore, BytesLeave, AreNumbered}, declared.remains.Remains.{Remains}};
 
 use sqlite_disk::Disk;
 

@@ -2,15 +2,10 @@
 //! and hands on what is left of a file that they refuse.
 
 ghost use Rattle.std.specs.Prelude.{IfOk, IfErr};
-ghost use Rattle.sqlite.specs.State.{HasCleanDisk};
-ghost use Rattle.sqlite.specs.Files.{over_files};
+ghost use Rattle.sqlite.specs.{State.{HasCleanDisk}, Files.{over_files}};
 ghost use Rattle.moo_rows.specs.Opening.{opening_maps};
-ghost use Rattle.moo_store.specs.Moment.{Moment, rows_alone};
-ghost use Rattle.moo_store.specs.NewTables.{IsMadeOf};
-ghost use Rattle.moo_store.specs.OpeningRows.{IsOfStore};
-ghost use Rattle.moo_store.specs.Place.{Works};
-ghost use Rattle.moo_store.specs.Moves.{Stands};
-ghost use Rattle.moo_store.specs.World.{store_of};
+ghost use Rattle.moo_store.specs.{Moment.{Moment, rows_alone}, NewTables.{IsMadeOf}, OpeningRows.{IsOfStore}, Place.{Works}};
+ghost use Rattle.moo_store.specs.{Moves.{Stands}, World.{store_of}};
 
 use crate::making::make_from;
 use crate::opening::open_from;

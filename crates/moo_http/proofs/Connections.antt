@@ -1,9 +1,7 @@
 -- What the service says of its connections.
 use Rattle.moo_http.proofs.Words.{◌≡◌, ◌≢◌, false, inl, inr, ℕ, ◌+◌, List, ◌++◌, length, take, Option, refl, sym, subst, Result, Ok, Err, OnOk, OnErr, IfErr, IsErrAnd, Appends, ServiceFault, WritesFront, SaysByResult, listening_line, served_line}
 use Rattle.moo_http.specs.declared.service.ServiceFault.TheVariants as service
-use Rattle.std.specs.Prelude.{is_err}
-use Rattle.std.proofs.KnownBytes.{Appends-trans}
-use Rattle.std.proofs.Math.Seq.{take-append-add}
+use Rattle.std.{specs.Prelude.{is_err}, proofs.KnownBytes.{Appends-trans}, proofs.Math.Seq.{take-append-add}}
 
 -- what holds of a call that went well
 pub when_ok : {T E P : Type 0} (r : Result T E) → false ≡ is_err r → OnOk r P → P

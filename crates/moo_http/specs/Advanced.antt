@@ -1,9 +1,7 @@
 -- The very World that was asked, or one that was led on.
 use Rattle.std.specs.Prelude.{◌≡◌, ◌⊎◌, ◌<◌, true, false}
 use Rattle.sqlite.specs.Store.{Ghosts}
-use Rattle.moo_store.specs.Kept.{World}
-use Rattle.moo_store.specs.Moves.{Stands, MovesBy}
-use Rattle.moo_store.specs.Place.{Place}
+use Rattle.moo_store.specs.{Kept.{World}, Moves.{Stands, MovesBy}, Place.{Place}}
 
 -- a World that worked has failed, or its number is greater: its store failed, or it accepted a batch
 abbrev pub HasAdvanced : {S : Type 0} → World S → World S → Type 0

@@ -1,20 +1,14 @@
 -- What is answered at a state, and what a World that is asked answers and where that leads.
 use Rattle.std.specs.Prelude.{◌≡◌, ◌⊎◌, ⊤, if◌then◌else◌}
-use Rattle.moo_text.specs.declared.reply.Answer.{Answer}
-use Rattle.moo_text.specs.declared.reply.Reply.TheVariants.{Stale}
+use Rattle.moo_text.specs.{declared.reply.Answer.{Answer}, declared.reply.Reply.TheVariants.{Stale}}
 use Rattle.moo_world.specs.Judge.{State, judge, is_due}
-use Rattle.moo_store.specs.Answered.{reply_of, answer_of, answers_alone, state_behind}
-use Rattle.moo_store.specs.Moves.{RunsAt, AsksAt}
-use Rattle.moo_store.specs.Moment.{state_of_moment}
+use Rattle.moo_store.specs.{Answered.{reply_of, answer_of, answers_alone, state_behind}, Moves.{RunsAt, AsksAt}, Moment.{state_of_moment}}
 use Rattle.moo_store.specs.Place.{Place, Works}
-use Rattle.moo_http_request.specs.declared.asked.Asked.{Asked}
-use Rattle.moo_http_request.specs.declared.asked.Asked.TheVariants.{Refused, Calls, Each, Question}
-use Rattle.moo_http_request.specs.declared.each.Each.{Each as Apart}
-use Rattle.moo_http_request.specs.declared.asked.Mode.TheVariants.{Run, Ask}
+use Rattle.moo_http_request.specs.{declared.asked.Asked.{Asked}, declared.asked.Asked.TheVariants.{Refused, Calls, Each, Question}}
+use Rattle.moo_http_request.specs.{declared.each.Each.{Each as Apart}, declared.asked.Mode.TheVariants.{Run, Ask}}
 use Rattle.moo_http_response.specs.declared.outcome.RequestOutcome.{RequestOutcome}
 use Rattle.moo_http_response.specs.declared.outcome.RequestOutcome.TheVariants as outcome
-use Rattle.moo_http_response.specs.Outcomes.{outcome_of}
-use Rattle.moo_http_response.specs.Told.{told_of, TellingTakesMemory}
+use Rattle.moo_http_response.specs.{Outcomes.{outcome_of}, Told.{told_of, TellingTakesMemory}}
 
 -- what comes of calls that are asked each alone: each answer, if the present number is the one that they are meant for
 abbrev pub each_outcome : Apart → State → RequestOutcome

@@ -1,8 +1,6 @@
 -- What connections, taken in turn, make of what the service says of itself.
-use Rattle.std.specs.Prelude.{◌≡◌, ◌+◌, ◌++◌, ◌⊎◌, ℕ, List, take, Option, Result, Ok, Err}
-use Rattle.std.specs.Io.KnownBytes.{Appends}
-use Rattle.moo_http.specs.declared.service.ServiceFault.{ServiceFault}
-use Rattle.moo_http.specs.declared.service.ServiceFault.TheVariants.{Port}
+use Rattle.std.specs.{Prelude.{◌≡◌, ◌+◌, ◌++◌, ◌⊎◌, ℕ, List, take, Option, Result, Ok, Err}, Io.KnownBytes.{Appends}}
+use Rattle.moo_http.specs.{declared.service.ServiceFault.{ServiceFault}, declared.service.ServiceFault.TheVariants.{Port}}
 use Rattle.moo_http.specs.Lines.{listening_line, served_line}
 
 -- the beginning of a text is written, of any length

@@ -1,15 +1,10 @@
 -- What is seen of what was asked, and with which lines its answer is told.
-use Rattle.std.specs.Prelude.{◌≡◌, ◌⊎◌, ℕ, ⊤, List, [], ◌∷◌, Option, String}
-use Rattle.std.specs.declared.alloc.Global.{Global}
+use Rattle.std.specs.{Prelude.{◌≡◌, ◌⊎◌, ℕ, ⊤, List, [], ◌∷◌, Option, String}, declared.alloc.Global.{Global}}
 use Rattle.moo_rows.specs.Maps.{Maps}
 use Rattle.moo_store.specs.Seeing.{HasSeenReply, HasSeenEach}
-use Rattle.moo_reasons.specs.Seen.{Seen, SeesRefusal}
-use Rattle.moo_reasons.specs.Told.{AreTold, TellsReply}
-use Rattle.moo_reasons.specs.declared.line.Why.{Why}
-use Rattle.moo_http_request.specs.declared.asked.Asked.{Asked}
-use Rattle.moo_http_request.specs.declared.asked.Asked.TheVariants.{Calls, Each}
-use Rattle.moo_http_response.specs.Whys.{whys_shown}
-use Rattle.moo_http_response.specs.declared.outcome.RequestOutcome.{RequestOutcome}
+use Rattle.moo_reasons.specs.{Seen.{Seen, SeesRefusal}, Told.{AreTold, TellsReply}, declared.line.Why.{Why}}
+use Rattle.moo_http_request.specs.{declared.asked.Asked.{Asked}, declared.asked.Asked.TheVariants.{Calls, Each}}
+use Rattle.moo_http_response.specs.{Whys.{whys_shown}, declared.outcome.RequestOutcome.{RequestOutcome}}
 use Rattle.moo_http_response.specs.declared.outcome.RequestOutcome.TheVariants.{Replied, Each as each_replied}
 
 -- Of a batch, or of each call that is asked alone, in their order, one refusal is seen if it is refused, and else none. `kept` and `next`

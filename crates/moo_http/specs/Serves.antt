@@ -1,19 +1,13 @@
 -- What a request makes of its bytes, of the World and of what is written.
-use Rattle.std.specs.Prelude.{◌≡◌, ⊤, ℕ, Option, List, [], take, Result, Ok, Err, Bool, false}
-use Rattle.std.specs.Io.KnownBytes.{Appends}
+use Rattle.std.specs.{Prelude.{◌≡◌, ⊤, ℕ, Option, List, [], take, Result, Ok, Err, Bool, false}, Io.KnownBytes.{Appends}}
 use Rattle.moo_store.specs.Place.{Place}
-use Rattle.moo_http_request.specs.Request.{Takes}
-use Rattle.moo_http_request.specs.declared.asked.Asked.{Asked}
+use Rattle.moo_http_request.specs.{Request.{Takes}, declared.asked.Asked.{Asked}}
 use Rattle.moo_http_request.specs.declared.asked.Asked.TheVariants as asked
-use Rattle.moo_arrivals.specs.declared.arrivals.Closing.{Closing}
-use Rattle.moo_arrivals.specs.declared.arrivals.Closing.TheVariants.{Gently}
-use Rattle.moo_http_request.specs.declared.request.Received.{Received}
-use Rattle.moo_http_request.specs.declared.request.Received.TheVariants.{Nothing, Request}
-use Rattle.moo_http.specs.declared.fault.ServeFault.{ServeFault}
-use Rattle.moo_http.specs.declared.fault.ServeFault.TheVariants.{Read, Write, OutOfMemory}
-use Rattle.moo_http_response.specs.declared.outcome.RequestOutcome.{RequestOutcome}
-use Rattle.moo_http_response.specs.Responses.{response_with, response_text}
+use Rattle.moo_arrivals.specs.{declared.arrivals.Closing.{Closing}, declared.arrivals.Closing.TheVariants.{Gently}}
+use Rattle.moo_http_request.specs.{declared.request.Received.{Received}, declared.request.Received.TheVariants.{Nothing, Request}}
+use Rattle.moo_http.specs.{declared.fault.ServeFault.{ServeFault}, declared.fault.ServeFault.TheVariants.{Read, Write, OutOfMemory}}
 use Rattle.moo_http.specs.Answers.{MayAnswer}
+use Rattle.moo_http_response.specs.{declared.outcome.RequestOutcome.{RequestOutcome}, Responses.{response_with, response_text}}
 
 -- what is received is refused, before the World is asked
 abbrev pub HasRefusal : Received → Type 0

@@ -1,10 +1,7 @@
 -- What passes between a peer and the service through a desk, which gathers a request before it is judged and sends the answer after that.
-use Rattle.std.specs.Prelude.{◌≡◌, ◌⊎◌, ℕ, List, [], Ok, Err}
-use Rattle.std.specs.Io.KnownBytes.{Keeps, Appends, append_known, prepend_known}
+use Rattle.std.specs.{Prelude.{◌≡◌, ◌⊎◌, ℕ, List, [], Ok, Err}, Io.KnownBytes.{Keeps, Appends, append_known, prepend_known}}
 use Rattle.moo_store.specs.Place.{Place}
-use Rattle.moo_http.specs.Traffic.{Traffic}
-use Rattle.moo_http.specs.Turns.{Exchanged, Yields}
-use Rattle.moo_http.specs.declared.fault.ServeFault.{ServeFault}
+use Rattle.moo_http.specs.{Traffic.{Traffic}, Turns.{Exchanged, Yields}, declared.fault.ServeFault.{ServeFault}}
 use Rattle.moo_http.specs.declared.fault.ServeFault.TheVariants.{Read, Write, OutOfMemory}
 
 -- The bytes of a connection as its peer sees them and as its judge does, and those of the answer that wait to be sent. A desk between the

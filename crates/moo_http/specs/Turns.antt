@@ -1,25 +1,16 @@
 -- The connections that a source hands out, served one after another.
-use Rattle.std.specs.Prelude.{◌≡◌, ◌⊎◌, ◌+◌, ℕ, suc, List, [], ◌∷◌, take, Option, Some, None, Result, Ok, Err}
-use Rattle.std.specs.Prelude.{Bool, true, false}
+use Rattle.std.specs.Prelude.{◌≡◌, ◌⊎◌, ◌+◌, ℕ, suc, List, [], ◌∷◌, take, Option, Some, None, Result, Ok, Err, Bool, true, false}
 use Rattle.std.specs.Io.KnownBytes.{Appends}
 use Rattle.std.specs.declared.io.Read as Reading
 use Rattle.std.specs.declared.io.Write as Writing
 use Rattle.moo_store.specs.Place.{Place}
-use Rattle.moo_http_request.specs.Given.{HasFailed}
-use Rattle.moo_http_request.specs.Request.{Takes}
-use Rattle.moo_http_request.specs.declared.request.Received.{Received}
+use Rattle.moo_http_request.specs.{Given.{HasFailed}, Request.{Takes}, declared.request.Received.{Received}}
 use Rattle.moo_arrivals.specs.declared.arrivals.Arrivals as Arrivals
-use Rattle.moo_arrivals.specs.declared.arrivals.Connection.{Connection}
-use Rattle.moo_arrivals.specs.declared.cause.Loss.{Loss}
-use Rattle.moo_http.specs.declared.fault.ServeFault.{ServeFault}
-use Rattle.moo_http.specs.declared.fault.ServeFault.TheVariants.{Read, Write, OutOfMemory}
-use Rattle.moo_http.specs.declared.service.ServiceFault.{ServiceFault}
-use Rattle.moo_http.specs.declared.service.ServiceFault.TheVariants.{Port}
+use Rattle.moo_arrivals.specs.{declared.arrivals.Connection.{Connection}, declared.cause.Loss.{Loss}}
+use Rattle.moo_http.specs.{declared.fault.ServeFault.{ServeFault}, declared.fault.ServeFault.TheVariants.{Read, Write, OutOfMemory}}
+use Rattle.moo_http.specs.{declared.service.ServiceFault.{ServiceFault}, declared.service.ServiceFault.TheVariants.{Port}}
 use Rattle.moo_http.specs.declared.ports.Ports as Ports
-use Rattle.moo_http.specs.Traffic.{Traffic, traffic_of}
-use Rattle.moo_http.specs.Serves.{Gets}
-use Rattle.moo_http.specs.Connections.{SaysAll, SaysByResult}
-use Rattle.moo_http.specs.Settling.{HasNoneLeft}
+use Rattle.moo_http.specs.{Traffic.{Traffic, traffic_of}, Serves.{Gets}, Connections.{SaysAll, SaysByResult}, Settling.{HasNoneLeft}}
 
 -- ---- one connection
 

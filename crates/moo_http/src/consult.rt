@@ -2,13 +2,8 @@
 
 ghost use Rattle.std.specs.Prelude.{◌≡◌};
 ghost use Rattle.moo_world.specs.Rows.{IsGood};
-ghost use Rattle.moo_store.specs.Moves.{Stands};
-ghost use Rattle.moo_store.specs.Moment.{Moment, state_of_moment, rows_alone};
-ghost use Rattle.moo_store.specs.Place.{Place, Works};
-ghost use Rattle.moo_http.specs.Advanced.{AdvancesBy};
-ghost use Rattle.moo_http.specs.Answers.{MayAnswer};
-ghost use Rattle.moo_http.specs.Seen.{HasSeenAsked};
-ghost use Rattle.moo_http.specs.Settled.{lost_by, came_of};
+ghost use Rattle.moo_store.specs.{Moves.{Stands}, Moment.{Moment, state_of_moment, rows_alone}, Place.{Place, Works}};
+ghost use Rattle.moo_http.specs.{Advanced.{AdvancesBy}, Answers.{MayAnswer}, Seen.{HasSeenAsked}, Settled.{lost_by, came_of}};
 ghost use Rattle.moo_reasons.specs.Seen.{seen_by};
 
 use moo_http_request::{Asked, Each, Mode, Question};

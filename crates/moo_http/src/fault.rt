@@ -1,8 +1,7 @@
 //! Why a connection wasn't served.
 
 ghost use Rattle.std.specs.Prelude.{◌≡◌};
-ghost use Rattle.moo_http.specs.declared.fault.ServeFault.TheVariants.{OutOfMemory};
-ghost use Rattle.moo_http.specs.Faults.{fault_of};
+ghost use Rattle.moo_http.specs.{declared.fault.ServeFault.TheVariants.{OutOfMemory}, Faults.{fault_of}};
 
 use moo_http_request::ReadFault;
 use std::alloc::AllocError;

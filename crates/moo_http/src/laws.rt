@@ -1,14 +1,10 @@
 //! What holds of answers.
 
 ghost use Rattle.std.specs.Prelude.{◌≡◌, ◌≢◌, ℕ};
-ghost use Rattle.moo_store.specs.Moment.{Moment, state_of_moment};
-ghost use Rattle.moo_store.specs.Place.{Place, Works, moment_of};
+ghost use Rattle.moo_store.specs.{Moment.{Moment, state_of_moment}, Place.{Place, Works, moment_of}};
 ghost use Rattle.moo_http_request.specs.declared.asked.Asked.{Asked};
-ghost use Rattle.moo_http_response.specs.declared.outcome.RequestOutcome.{RequestOutcome};
-ghost use Rattle.moo_http.specs.Answers.{MayAnswer, answer};
-ghost use Rattle.moo_http_response.specs.Responses.{response_of};
-ghost use Rattle.moo_http.specs.Leading.{LeadsTo};
-ghost use Rattle.moo_http.specs.Through.{AnswersPass, FrontsPass, FaultsPass};
+ghost use Rattle.moo_http_response.specs.{declared.outcome.RequestOutcome.{RequestOutcome}, Responses.{response_of}};
+ghost use Rattle.moo_http.specs.{Answers.{MayAnswer, answer}, Leading.{LeadsTo}, Through.{AnswersPass, FrontsPass, FaultsPass}};
 ghost use Rattle.moo_http.specs.Turns.{Attended};
 
 use moo_arrivals::Arrivals;

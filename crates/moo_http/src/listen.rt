@@ -2,11 +2,8 @@
 
 ghost use Rattle.std.specs.Prelude.{◌≡◌, ◌⊎◌, ◌+◌, ◌^◌, ◌<◌, ℕ, true, false};
 ghost use Rattle.moo_http_request.specs.Given.{HasFailed};
-ghost use Rattle.moo_http.specs.Advanced.{AdvancesBy};
-ghost use Rattle.moo_http.specs.Traffic.{traffic_of};
-ghost use Rattle.moo_http.specs.Serves.{ClosesGently};
-ghost use Rattle.moo_http.specs.Turns.{Visited, Visit, Attended, AttendsAll};
-ghost use Rattle.moo_http.specs.Settling.{TellsLoss, TellsLosses, HasNoneLeft};
+ghost use Rattle.moo_http.specs.{Advanced.{AdvancesBy}, Traffic.{traffic_of}, Serves.{ClosesGently}};
+ghost use Rattle.moo_http.specs.{Turns.{Visited, Visit, Attended, AttendsAll}, Settling.{TellsLoss, TellsLosses, HasNoneLeft}};
 
 use crate::log::Log;
 use crate::note::{Note, Trouble};

@@ -1,12 +1,9 @@
 //! One request of a connection, and its answer.
 
 ghost use Rattle.std.specs.Prelude.{◌≡◌, ◌≢◌, IfErr, OnOk};
-ghost use Rattle.moo_http_request.specs.Given.{HasFailed};
-ghost use Rattle.moo_http_request.specs.declared.asked.Refusal.{Refusal};
+ghost use Rattle.moo_http_request.specs.{Given.{HasFailed}, declared.asked.Refusal.{Refusal}};
 ghost use Rattle.moo_arrivals.specs.declared.arrivals.Closing.{Closing};
-ghost use Rattle.moo_http.specs.Advanced.{AdvancesBy};
-ghost use Rattle.moo_http.specs.Serves.{AnswersAsked, ClosesGently};
-ghost use Rattle.moo_http.specs.Turns.{Exchanged};
+ghost use Rattle.moo_http.specs.{Advanced.{AdvancesBy}, Serves.{AnswersAsked, ClosesGently}, Turns.{Exchanged}};
 
 use crate::consult::consult;
 use crate::fault::ServeFault;

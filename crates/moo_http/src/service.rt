@@ -1,11 +1,8 @@
 //! The service on a port of this machine, from binding to its last line.
 
-ghost use Rattle.std.specs.Prelude.{◌≡◌, ◌≢◌, IfOk, IfErr, OnOk, OnErr, string_bytes};
-ghost use Rattle.moo_http.specs.Advanced.{AdvancesBy};
-ghost use Rattle.moo_http.specs.declared.service.ServiceFault.TheVariants.{OutOfMemory};
-ghost use Rattle.std.specs.Io.KnownBytes.{Appends};
-ghost use Rattle.moo_http.specs.Lines.{listening_line, served_line};
-ghost use Rattle.moo_http.specs.Connections.{WritesFront};
+ghost use Rattle.std.specs.{Prelude.{◌≡◌, ◌≢◌, IfOk, IfErr, OnOk, OnErr, string_bytes}, Io.KnownBytes.{Appends}};
+ghost use Rattle.moo_http.specs.{Advanced.{AdvancesBy}, declared.service.ServiceFault.TheVariants.{OutOfMemory}};
+ghost use Rattle.moo_http.specs.{Lines.{listening_line, served_line}, Connections.{WritesFront}};
 ghost use Rattle.moo_http.specs.Turns.{ServesFrom, attended_between, ServesOn};
 
 use crate::listen::{Served, serve_on};

@@ -21,12 +21,7 @@ pub use Rattle.moo_http_request.specs.Questions.{all_topics}
 pub use Rattle.moo_http_request.specs.Request.{IsSparing, PlanAsks, Receives, StopsReading, Takes, body, no_head, nothing, request, small}
 pub use Rattle.moo_http_request.specs.Routes.{with_route, with_topics}
 unfoldable pub use Rattle.moo_http_request.specs.Routes.{service_rows}
-pub use Rattle.moo_http_request.specs.Settled.{Settles}
-pub use Rattle.moo_http_request.specs.Shape.{are_within, shape_of, texts_of}
-pub use Rattle.moo_http_request.specs.declared.asked.Asked.{Asked}
-pub use Rattle.moo_http_request.specs.declared.asked.Form.{Form}
-pub use Rattle.moo_http_request.specs.declared.head.HeadSpans.{HeadSpans}
-pub use Rattle.moo_http_request.specs.declared.plan.Plan.{Plan}
-pub use Rattle.moo_http_request.specs.declared.plan.Plan.TheVariants.{Body, Decided}
-pub use Rattle.moo_http_request.specs.declared.request.Received.TheVariants.{Request}
+pub use Rattle.moo_http_request.specs.{Settled.{Settles}, Shape.{are_within, shape_of, texts_of}, declared.asked.Asked.{Asked}}
+pub use Rattle.moo_http_request.specs.{declared.asked.Form.{Form}, declared.head.HeadSpans.{HeadSpans}, declared.plan.Plan.{Plan}}
+pub use Rattle.moo_http_request.specs.{declared.plan.Plan.TheVariants.{Body, Decided}, declared.request.Received.TheVariants.{Request}}
 pub use Rattle.moo_value.specs.Literal.{is_digit, value_after}

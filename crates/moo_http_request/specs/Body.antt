@@ -1,17 +1,11 @@
 -- What a body asks.
-use Rattle.std.specs.Prelude.{◌≡◌, ℕ, List, Option, Some, None, map, option_and_then, IsUtf8}
-use Rattle.std.specs.Option.{option_map_or}
-use Rattle.serde_json.specs.Data.{Data}
-use Rattle.serde_json.specs.Read.{read}
+use Rattle.std.specs.{Prelude.{◌≡◌, ℕ, List, Option, Some, None, map, option_and_then, IsUtf8}, Option.{option_map_or}}
+use Rattle.serde_json.specs.{Data.{Data}, Read.{read}}
 use Rattle.moo_http_request.specs.declared.asked.Asked.{Asked}
 use Rattle.moo_http_request.specs.declared.asked.Asked.TheVariants as asks
-use Rattle.moo_http_request.specs.declared.asked.Form.{Form}
-use Rattle.moo_http_request.specs.declared.asked.Form.TheVariants.{Batch, Each}
-use Rattle.moo_http_request.specs.declared.asked.Mode.{Mode}
-use Rattle.moo_http_request.specs.declared.asked.Refusal.TheVariants.{BadRequest, Malformed}
-use Rattle.moo_http_request.specs.Alone.{alone}
-use Rattle.moo_http_request.specs.Calls.{Calls, Whole, Bad, calls_from}
-use Rattle.moo_http_request.specs.Shape.{Shape, shape_of}
+use Rattle.moo_http_request.specs.{declared.asked.Form.{Form}, declared.asked.Form.TheVariants.{Batch, Each}, declared.asked.Mode.{Mode}}
+use Rattle.moo_http_request.specs.{declared.asked.Refusal.TheVariants.{BadRequest, Malformed}, Alone.{alone}}
+use Rattle.moo_http_request.specs.{Calls.{Calls, Whole, Bad, calls_from}, Shape.{Shape, shape_of}}
 
 -- what calls that were read ask: to run or ask one batch of them; or, if a text isn't a call, a refusal with its number
 abbrev pub calls_asked : Mode → Shape → Calls → Asked

@@ -1,6 +1,5 @@
 -- The calls of a body.
-use Rattle.std.specs.Prelude.{ℕ, ◌+◌, List, [], ◌∷◌}
-use Rattle.std.specs.Option.{option_map_or}
+use Rattle.std.specs.{Prelude.{ℕ, ◌+◌, List, [], ◌∷◌}, Option.{option_map_or}}
 use Rattle.moo_world.specs.declared.call.Call.{Call}
 use Rattle.moo_text.specs.LineReading.{call_of}
 

@@ -1,13 +1,8 @@
 -- What was found of a head.
-use Rattle.std.specs.Prelude.{◌≡◌, ◌≢◌, ◌<◌, ◌+◌, ℕ, List, [], ◌++◌, length, drop, Option, ⊤}
-use Rattle.std.specs.Io.KnownBytes.{IsAtEnd}
-use Rattle.httparse.specs.Grammar.{RequestHead}
-use Rattle.httparse.specs.Spans.{IsRequestAt, IsRequestWithin}
-use Rattle.moo_http_request.specs.Head.{BeginsWithHead, HasNoHead}
-use Rattle.moo_http_request.specs.Settled.{Settles}
-use Rattle.moo_http_request.specs.declared.head.HeadSpans.{HeadSpans}
-use Rattle.moo_http_request.specs.declared.head.HeadRead.{HeadRead}
-use Rattle.moo_http_request.specs.declared.head.HeadRead.TheVariants.{Whole, Refused, Empty}
+use Rattle.std.specs.{Prelude.{◌≡◌, ◌≢◌, ◌<◌, ◌+◌, ℕ, List, [], ◌++◌, length, drop, Option, ⊤}, Io.KnownBytes.{IsAtEnd}}
+use Rattle.httparse.specs.{Grammar.{RequestHead}, Spans.{IsRequestAt, IsRequestWithin}}
+use Rattle.moo_http_request.specs.{Head.{BeginsWithHead, HasNoHead}, Settled.{Settles}, declared.head.HeadSpans.{HeadSpans}}
+use Rattle.moo_http_request.specs.{declared.head.HeadRead.{HeadRead}, declared.head.HeadRead.TheVariants.{Whole, Refused, Empty}}
 
 -- a head is at the front of the bytes, whichever bytes follow, and its parts are where they were found
 pub record HeadStands (bytes : List ℕ) (found : HeadSpans) : Type 0 where

@@ -1,6 +1,5 @@
 -- What reading takes from a reader, if it tells its bytes.
-use Rattle.std.specs.Prelude.{◌≡◌, ◌≤◌, ℕ, List, ◌++◌, length, Option}
-use Rattle.std.specs.Io.KnownBytes.{Consumes}
+use Rattle.std.specs.{Prelude.{◌≡◌, ◌≤◌, ℕ, List, ◌++◌, length, Option}, Io.KnownBytes.{Consumes}}
 
 -- the reader gave some bytes, which are after those that were there before
 pub record Grows (old new : Option (List ℕ)) (before behind : List ℕ) : Type 0 where

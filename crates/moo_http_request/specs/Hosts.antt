@@ -1,7 +1,6 @@
 -- Which machine the lines of a head name.
 use Rattle.std.specs.Prelude.{◌==◌, ◌&&◌, ◌||◌, ℕ, List, [], ◌∷◌, Bool, true, take, drop, length, codes, nat_le, not, is_some}
-use Rattle.moo_http_request.specs.Lines.{Line, is_same_name}
-use Rattle.moo_http_request.specs.Numbers.{bounded_of}
+use Rattle.moo_http_request.specs.{Lines.{Line, is_same_name}, Numbers.{bounded_of}}
 
 -- nothing, or a colon and a port
 abbrev pub is_port : List ℕ → Bool

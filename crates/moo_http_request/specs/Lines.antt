@@ -1,9 +1,7 @@
 -- What the lines of a head say of who sent it, and of the length of a body.
 use Rattle.std.specs.Prelude.{◌≡◌, ◌<◌, ℕ, List, [], ◌∷◌, Bool, Option, Some, None, map, codes, bytes_eq, nat_lt, length, if◌then◌else◌}
-use Rattle.std.specs.List.{filter}
-use Rattle.std.specs.Char.{to_ascii_lowercase}
-use Rattle.moo_http_request.specs.declared.lines.FoundLine.{FoundLine}
-use Rattle.moo_http_request.specs.declared.lines.FoundLine.TheVariants.{Nothing, One, Several}
+use Rattle.std.specs.{List.{filter}, Char.{to_ascii_lowercase}}
+use Rattle.moo_http_request.specs.{declared.lines.FoundLine.{FoundLine}, declared.lines.FoundLine.TheVariants.{Nothing, One, Several}}
 
 -- a line of a head: its name and its value
 abbrev pub Line : Type 0

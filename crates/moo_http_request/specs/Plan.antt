@@ -1,28 +1,18 @@
 -- What the head of a request alone decides.
-use Rattle.std.specs.Prelude.{◌==◌, ◌&&◌, ◌||◌, true, false, not, ℕ, List, length, map, Option, Some, None, option_and_then, codes, bytes_eq, nat_lt, nat_le, if◌then◌else◌, Bool}
-use Rattle.std.specs.List.{before_first, after_first, list_all}
-use Rattle.httparse.specs.Grammar.{RequestHead}
-use Rattle.httparse.specs.Spans.{name_and_value}
-use Rattle.moo_http_request.specs.declared.asked.Asked.TheVariants.{Refused, Question as Asks}
-use Rattle.moo_http_request.specs.declared.asked.Method.{Method}
-use Rattle.moo_http_request.specs.declared.asked.Method.TheVariants.{Get, Post}
-use Rattle.moo_http_request.specs.declared.asked.Form.{Form}
+use Rattle.std.specs.Prelude.{◌==◌, ◌&&◌, ◌||◌, true, false, not, ℕ, List, length, map, Option, Some, None, option_and_then, codes}
+use Rattle.std.specs.{Prelude.{bytes_eq, nat_lt, nat_le, if◌then◌else◌, Bool}, List.{before_first, after_first, list_all}}
+use Rattle.httparse.specs.{Grammar.{RequestHead}, Spans.{name_and_value}}
+use Rattle.moo_http_request.specs.{declared.asked.Asked.TheVariants.{Refused, Question as Asks}, declared.asked.Method.{Method}}
+use Rattle.moo_http_request.specs.{declared.asked.Method.TheVariants.{Get, Post}, declared.asked.Form.{Form}}
 use Rattle.moo_http_request.specs.declared.asked.Form.TheVariants as form
 use Rattle.moo_http_request.specs.declared.asked.Refusal.{Refusal}
 use Rattle.moo_http_request.specs.declared.asked.Refusal.TheVariants.{Coded, NoLength, Forbidden, NotFound, NoNumber, NotAllowed, TooLarge}
-use Rattle.moo_http_request.specs.declared.routes.Endpoint.{Endpoint}
-use Rattle.moo_http_request.specs.declared.routes.Endpoint.TheVariants.{Batch, Each, About}
-use Rattle.moo_http_request.specs.declared.question.Question.{Question}
-use Rattle.moo_http_request.specs.declared.plan.Plan.{Plan}
-use Rattle.moo_http_request.specs.declared.plan.Plan.TheVariants.{Decided, Body}
-use Rattle.moo_http_request.specs.declared.question.Topic.{Topic}
-use Rattle.moo_http_request.specs.declared.question.Topic.TheVariants.{Seq, Object, Objects}
-use Rattle.moo_http_request.specs.Hosts.{is_own_line}
-use Rattle.moo_http_request.specs.Lines.{Line, is_from_page, is_coded, length_text}
-use Rattle.moo_http_request.specs.Numbers.{bounded_of}
-use Rattle.moo_http_request.specs.Questions.{question_of}
-use Rattle.moo_http_request.specs.Routes.{endpoint_of}
-use Rattle.moo_http_request.specs.declared.plan.TheConstants.{MAX_BODY}
+use Rattle.moo_http_request.specs.{declared.routes.Endpoint.{Endpoint}, declared.routes.Endpoint.TheVariants.{Batch, Each, About}}
+use Rattle.moo_http_request.specs.{declared.question.Question.{Question}, declared.plan.Plan.{Plan}}
+use Rattle.moo_http_request.specs.{declared.plan.Plan.TheVariants.{Decided, Body}, declared.question.Topic.{Topic}}
+use Rattle.moo_http_request.specs.{declared.question.Topic.TheVariants.{Seq, Object, Objects}, Hosts.{is_own_line}}
+use Rattle.moo_http_request.specs.{Lines.{Line, is_from_page, is_coded, length_text}, Numbers.{bounded_of}, Questions.{question_of}}
+use Rattle.moo_http_request.specs.{Routes.{endpoint_of}, declared.plan.TheConstants.{MAX_BODY}}
 
 -- the path is the target before its first question mark
 abbrev pub path_of : List ℕ → List ℕ

@@ -2,8 +2,7 @@
 use Rattle.std.specs.Prelude.{ℕ, List, [], ◌∷◌, Option, Some, codes, drop, option_map}
 use Rattle.moo_http_request.specs.declared.question.Question.{Question}
 use Rattle.moo_http_request.specs.declared.question.Question.TheVariants as ask
-use Rattle.moo_http_request.specs.declared.question.Topic.{Topic}
-use Rattle.moo_http_request.specs.declared.question.Topic.TheVariants.{Seq, Object, Objects, Dump}
+use Rattle.moo_http_request.specs.{declared.question.Topic.{Topic}, declared.question.Topic.TheVariants.{Seq, Object, Objects, Dump}}
 use Rattle.moo_http_request.specs.Numbers.{number_of}
 
 -- every topic once

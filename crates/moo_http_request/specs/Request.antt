@@ -1,18 +1,11 @@
 -- What the bytes of a connection ask.
-use Rattle.std.specs.Prelude.{◌≡◌, ◌≢◌, ◌⊎◌, ◌≤◌, ◌<◌, ◌+◌, ℕ, List, [], length, take, Option, false, max}
-use Rattle.std.specs.Io.KnownBytes.{Consumes}
+use Rattle.std.specs.{Prelude.{◌≡◌, ◌≢◌, ◌⊎◌, ◌≤◌, ◌<◌, ◌+◌, ℕ, List, [], length, take, Option, false, max}, Io.KnownBytes.{Consumes}}
 use Rattle.httparse.specs.Grammar.{RequestHead, print_request}
-use Rattle.moo_http_request.specs.declared.asked.Asked.{Asked}
-use Rattle.moo_http_request.specs.declared.asked.Asked.TheVariants.{Refused}
-use Rattle.moo_http_request.specs.declared.asked.Refusal.TheVariants.{BadRequest}
-use Rattle.moo_http_request.specs.declared.plan.Plan.{Plan}
-use Rattle.moo_http_request.specs.declared.plan.Plan.TheVariants.{Decided, Body}
-use Rattle.moo_http_request.specs.declared.request.Received.{Received}
-use Rattle.moo_http_request.specs.declared.request.Received.TheVariants.{Nothing, Request}
-use Rattle.moo_http_request.specs.Body.{BodyAsks}
-use Rattle.moo_http_request.specs.Head.{BeginsWithHead, HasNoHead}
-use Rattle.moo_http_request.specs.Plan.{plan_by, body_size, is_head, asks_why}
-use Rattle.moo_http_request.specs.Settled.{Settles}
+use Rattle.moo_http_request.specs.{declared.asked.Asked.{Asked}, declared.asked.Asked.TheVariants.{Refused}}
+use Rattle.moo_http_request.specs.{declared.asked.Refusal.TheVariants.{BadRequest}, declared.plan.Plan.{Plan}}
+use Rattle.moo_http_request.specs.{declared.plan.Plan.TheVariants.{Decided, Body}, declared.request.Received.{Received}}
+use Rattle.moo_http_request.specs.{declared.request.Received.TheVariants.{Nothing, Request}, Body.{BodyAsks}}
+use Rattle.moo_http_request.specs.{Head.{BeginsWithHead, HasNoHead}, Plan.{plan_by, body_size, is_head, asks_why}, Settled.{Settles}}
 use Rattle.moo_http_request.specs.declared.head.TheConstants.{MAX_HEAD}
 
 -- What is planned, done with what follows the head: a body of n bytes is its first n, and without so many the request is cut off.

@@ -1,15 +1,9 @@
 -- The routes of the service, and the endpoint that a path names.
 use Rattle.std.specs.Prelude.{ℕ, List, [], ◌∷◌, Option, Result, Ok, Err, codes, option_map}
-use Rattle.matchit.specs.Rows.{RowsOf}
-use Rattle.matchit.specs.Order.{placed}
-use Rattle.matchit.specs.Route.{Scan, parse_route}
-use Rattle.matchit.specs.Router.{RouteOf, route_from}
-use Rattle.matchit.specs.Seek.{first}
+use Rattle.matchit.specs.{Rows.{RowsOf}, Order.{placed}, Route.{Scan, parse_route}, Router.{RouteOf, route_from}, Seek.{first}}
 use Rattle.matchit.specs.declared.error.InsertError.{InsertError}
-use Rattle.moo_http_request.specs.declared.routes.Endpoint.{Endpoint}
-use Rattle.moo_http_request.specs.declared.routes.Endpoint.TheVariants.{Batch, Each, About}
-use Rattle.moo_http_request.specs.declared.asked.Mode.TheVariants.{Run, Ask}
-use Rattle.moo_http_request.specs.declared.question.Topic.{Topic}
+use Rattle.moo_http_request.specs.{declared.routes.Endpoint.{Endpoint}, declared.routes.Endpoint.TheVariants.{Batch, Each, About}}
+use Rattle.moo_http_request.specs.{declared.asked.Mode.TheVariants.{Run, Ask}, declared.question.Topic.{Topic}}
 use Rattle.moo_http_request.specs.Questions.{all_topics, pattern}
 
 -- the rows with a route that was read

@@ -1,6 +1,5 @@
 -- What the first bytes of an input say, whichever bytes follow.
-use Rattle.std.specs.Prelude.{◌≡◌, ℕ, List, [], ◌++◌, Bool, true, Option}
-use Rattle.std.specs.Io.KnownBytes.{IsAtEnd}
+use Rattle.std.specs.{Prelude.{◌≡◌, ℕ, List, [], ◌++◌, Bool, true, Option}, Io.KnownBytes.{IsAtEnd}}
 
 -- P holds of the bytes that were given with any bytes after them; or of them alone, if the reader has ended.
 pub record Settles (left : Option (List ℕ)) (given : List ℕ) (P : List ℕ → Type 0) : Type 0 where

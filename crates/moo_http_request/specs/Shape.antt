@@ -1,12 +1,10 @@
 -- The shape of a body: who asks, the texts of the calls, and the number that the batch is for.
-use Rattle.std.specs.Prelude.{ℕ, ◌^◌, ◌&&◌, List, [], ◌∷◌, Bool, Option, Some, None, if◌then◌else◌, nat_lt, nat_le, length, codes, option_and_then, option_map, is_some}
-use Rattle.std.specs.List.{list_all}
-use Rattle.serde_json.specs.Data.{Data, Items, no_items, item}
-use Rattle.serde_json.specs.Find.{get, as_str, as_array, as_null, as_number, as_u64}
+use Rattle.std.specs.Prelude.{ℕ, ◌^◌, ◌&&◌, List, [], ◌∷◌, Bool, Option, Some, None, if◌then◌else◌, nat_lt, nat_le, length, codes}
+use Rattle.std.specs.{Prelude.{option_and_then, option_map, is_some}, List.{list_all}}
+use Rattle.serde_json.specs.{Data.{Data, Items, no_items, item}, Find.{get, as_str, as_array, as_null, as_number, as_u64}}
 use Rattle.moo_value.specs.declared.value.ObjNo.{ObjNo}
-use Rattle.moo_text.specs.LineReading.{object_of}
+use Rattle.moo_text.specs.{LineReading.{object_of}, declared.line.TheConstants.{LONGEST_LINE}}
 use Rattle.moo_world.specs.declared.call.TheConstants.{MOST_CALLS}
-use Rattle.moo_text.specs.declared.line.TheConstants.{LONGEST_LINE}
 
 -- who asks, the texts of the calls, and the number that they are meant for, if the body states one
 pub record Shape : Type 0 where

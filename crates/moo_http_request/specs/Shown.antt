@@ -2,10 +2,8 @@
 use Rattle.std.specs.Prelude.{Option, Some, None, map}
 use Rattle.moo_http_request.specs.Calls as calls
 use Rattle.moo_http_request.specs.Shape as parts
-use Rattle.moo_http_request.specs.declared.body.CallsRead.{CallsRead}
-use Rattle.moo_http_request.specs.declared.body.CallsRead.TheVariants.{Whole, Bad}
-use Rattle.moo_http_request.specs.declared.shape.Shape.{Shape}
-use Rattle.moo_http_request.specs.declared.shape.ShapeRead.{ShapeRead}
+use Rattle.moo_http_request.specs.{declared.body.CallsRead.{CallsRead}, declared.body.CallsRead.TheVariants.{Whole, Bad}}
+use Rattle.moo_http_request.specs.{declared.shape.Shape.{Shape}, declared.shape.ShapeRead.{ShapeRead}}
 use Rattle.moo_http_request.specs.declared.shape.ShapeRead.TheVariants as shape_read
 
 -- the shape that the code's shape is

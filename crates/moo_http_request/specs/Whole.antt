@@ -1,14 +1,9 @@
 -- When a request is whole.
 use Rattle.std.specs.Prelude.{◌≡◌, ◌≤◌, ◌<◌, ℕ, Bool, List, ◌++◌, length}
-use Rattle.moo_http_request.specs.declared.asked.Asked.TheVariants.{Refused}
-use Rattle.moo_http_request.specs.declared.asked.Refusal.TheVariants.{BadRequest}
-use Rattle.moo_http_request.specs.declared.request.Received.{Received}
-use Rattle.moo_http_request.specs.declared.request.Received.TheVariants.{Request}
-use Rattle.moo_http_request.specs.declared.whole.Wanted.{Wanted}
-use Rattle.moo_http_request.specs.declared.whole.Wanted.TheVariants.{Head, Total}
-use Rattle.moo_http_request.specs.Found.{Lacks}
-use Rattle.moo_http_request.specs.Request.{Receives}
-use Rattle.moo_http_request.specs.declared.head.TheConstants.{MAX_HEAD}
+use Rattle.moo_http_request.specs.{declared.asked.Asked.TheVariants.{Refused}, declared.asked.Refusal.TheVariants.{BadRequest}}
+use Rattle.moo_http_request.specs.{declared.request.Received.{Received}, declared.request.Received.TheVariants.{Request}}
+use Rattle.moo_http_request.specs.{declared.whole.Wanted.{Wanted}, declared.whole.Wanted.TheVariants.{Head, Total}, Found.{Lacks}}
+use Rattle.moo_http_request.specs.{Request.{Receives}, declared.head.TheConstants.{MAX_HEAD}}
 
 -- a request that is whole: bytes that follow these change nothing of what these ask
 abbrev pub IsWhole : List ℕ → Type 0

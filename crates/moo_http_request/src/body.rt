@@ -1,19 +1,11 @@
 //! What a body asks.
 
-ghost use Rattle.std.specs.Prelude.{◌≡◌, ◌≤◌, ◌+◌, ◌-◌, Some, length, drop, map, max, IfOk, OnOk, IfErr, OnErr};
-ghost use Rattle.moo_http_request.specs.Body.{form_asked, BodyAsks};
+ghost use Rattle.std.specs.{Prelude.{◌≡◌, ◌≤◌, ◌+◌, ◌-◌, Some, length, drop, map, max, IfOk, OnOk, IfErr, OnErr}, Option.{option_map_or}};
+ghost use Rattle.moo_http_request.specs.{Body.{form_asked, BodyAsks}, Calls.{calls_from}, Given.{Grows, HasFailed, TakesAtMost}};
+ghost use Rattle.moo_http_request.specs.{Plan.{body_size}, Planned.{IsBounded}, Request.{PlanAsks}, Settled.{Settles}, Shape.{shape_of}};
+ghost use Rattle.moo_http_request.specs.{Shown.{shape_shown, calls_shown}, declared.head.TheConstants.{MAX_HEAD}};
 ghost use Rattle.moo_world.specs.declared.call.TheConstants.{MOST_CALLS};
 ghost use Rattle.serde_json.specs.View.{view};
-ghost use Rattle.std.specs.Option.{option_map_or};
-ghost use Rattle.moo_http_request.specs.Calls.{calls_from};
-ghost use Rattle.moo_http_request.specs.Given.{Grows, HasFailed, TakesAtMost};
-ghost use Rattle.moo_http_request.specs.Plan.{body_size};
-ghost use Rattle.moo_http_request.specs.Planned.{IsBounded};
-ghost use Rattle.moo_http_request.specs.Request.{PlanAsks};
-ghost use Rattle.moo_http_request.specs.Settled.{Settles};
-ghost use Rattle.moo_http_request.specs.Shape.{shape_of};
-ghost use Rattle.moo_http_request.specs.Shown.{shape_shown, calls_shown};
-ghost use Rattle.moo_http_request.specs.declared.head.TheConstants.{MAX_HEAD};
 
 use crate::asked::{Asked, Form, Mode, Refusal};
 use crate::each::{Each, read_each};

@@ -1,10 +1,8 @@
 //! The head of a request, read in pieces.
 
-ghost use Rattle.std.specs.Prelude.{◌≡◌, ◌≤◌, ◌<◌, [], length, None, IfOk, OnOk, IfErr, OnErr, IfSome};
-ghost use Rattle.std.specs.Io.KnownBytes.{Consumes};
+ghost use Rattle.std.specs.{Prelude.{◌≡◌, ◌≤◌, ◌<◌, [], length, None, IfOk, OnOk, IfErr, OnErr, IfSome}, Io.KnownBytes.{Consumes}};
 ghost use Rattle.httparse.specs.Grammar.{HasNoRequest};
-ghost use Rattle.moo_http_request.specs.Found.{FindsHead, ShowsHead, IsClose};
-ghost use Rattle.moo_http_request.specs.Given.{HasFailed, TakesAtMost};
+ghost use Rattle.moo_http_request.specs.{Found.{FindsHead, ShowsHead, IsClose}, Given.{HasFailed, TakesAtMost}};
 
 use crate::fault::ReadFault;
 use crate::incoming::Incoming;

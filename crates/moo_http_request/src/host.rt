@@ -1,10 +1,8 @@
 //! Which machine the lines of a head name.
 
-ghost use Rattle.std.specs.Prelude.{◌≡◌, ◌≤◌, length, take, map, All};
-ghost use Rattle.std.specs.List.{list_all};
+ghost use Rattle.std.specs.{Prelude.{◌≡◌, ◌≤◌, length, take, map, All}, List.{list_all}};
 ghost use Rattle.httparse.specs.Spans.{IsHeaderWithin, header_bytes};
-ghost use Rattle.moo_http_request.specs.Hosts.{is_port, is_name_of, is_own_host, is_own_line};
-ghost use Rattle.moo_http_request.specs.Lines.{is_same_name};
+ghost use Rattle.moo_http_request.specs.{Hosts.{is_port, is_name_of, is_own_host, is_own_line}, Lines.{is_same_name}};
 
 use crate::lines::has_name;
 use crate::numbers::number_at_most;

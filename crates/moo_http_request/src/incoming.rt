@@ -1,8 +1,6 @@
 //! Readers that requests come from.
 
-ghost use Rattle.std.specs.Prelude.{OnErr};
-ghost use Rattle.std.specs.Io.{ReadsAtMost};
-ghost use Rattle.std.specs.Io.KnownBytes.{ReadConsumes};
+ghost use Rattle.std.specs.{Prelude.{OnErr}, Io.{ReadsAtMost}, Io.KnownBytes.{ReadConsumes}};
 
 use std::io::{Read, Result};
 

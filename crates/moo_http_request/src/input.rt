@@ -1,7 +1,6 @@
 //! Bytes of a connection, read in pieces and no further than a limit.
 
-ghost use Rattle.std.specs.Prelude.{◌≡◌, ◌≤◌, ◌<◌, ◌+◌, ◌-◌, max, length, true, false, IfOk, OnOk, IfErr, OnErr};
-ghost use Rattle.std.specs.Io.KnownBytes.{IsAtEnd};
+ghost use Rattle.std.specs.{Prelude.{◌≡◌, ◌≤◌, ◌<◌, ◌+◌, ◌-◌, max, length, true, false, IfOk, OnOk, IfErr, OnErr}, Io.KnownBytes.{IsAtEnd}};
 ghost use Rattle.moo_http_request.specs.Given.{Grows, HasFailed, TakesAtMost};
 
 use crate::fault::ReadFault;

@@ -1,12 +1,9 @@
 //! What holds of what is received.
 
 ghost use Rattle.std.specs.Prelude.{◌≡◌, ℕ, List, [], Some, None, codes, map};
-ghost use Rattle.moo_http_request.specs.Request.{Receives};
-ghost use Rattle.moo_http_request.specs.Routes.{endpoint_of};
-ghost use Rattle.moo_http_request.specs.declared.request.Received.{Received};
+ghost use Rattle.moo_http_request.specs.{Request.{Receives}, Routes.{endpoint_of}, declared.request.Received.{Received}};
 ghost use Rattle.moo_http_request.specs.declared.routes.Endpoint.TheVariants.{Batch, Each, About};
-ghost use Rattle.moo_http_request.specs.declared.asked.Mode.TheVariants.{Run, Ask};
-ghost use Rattle.moo_http_request.specs.declared.question.Topic.TheVariants.{Seq, Object};
+ghost use Rattle.moo_http_request.specs.{declared.asked.Mode.TheVariants.{Run, Ask}, declared.question.Topic.TheVariants.{Seq, Object}};
 ghost use Rattle.moo_http_request.specs.Questions.{all_topics, sample_path};
 
 /// The bytes of a connection ask one thing: they can't be received in two ways.

@@ -2,10 +2,9 @@
 
 ghost use Rattle.std.specs.Prelude.{◌≡◌, All, IsUtf8, length, map, bytes_eq, if◌then◌else◌};
 ghost use Rattle.httparse.specs.Spans.{IsHeaderWithin, header_bytes};
-ghost use Rattle.moo_http_request.specs.Plan.{path_of, is_why_query, is_why, method_of, method_text, length_of, body_plan, question_plan, endpoint_plan, path_refusal, routed_plan, is_guarded, allowed_plan, plan_of};
-ghost use Rattle.moo_http_request.specs.Planned.{IsBounded};
-ghost use Rattle.moo_http_request.specs.Lines.{is_coded, is_from_page};
-ghost use Rattle.moo_http_request.specs.Routes.{endpoint_of};
+ghost use Rattle.moo_http_request.specs.Plan.{path_of, is_why_query, is_why, method_of, method_text, length_of, body_plan, question_plan};
+ghost use Rattle.moo_http_request.specs.Plan.{endpoint_plan, path_refusal, routed_plan, is_guarded, allowed_plan, plan_of};
+ghost use Rattle.moo_http_request.specs.{Planned.{IsBounded}, Lines.{is_coded, is_from_page}, Routes.{endpoint_of}};
 
 use crate::asked::{Asked, Form, Method, Refusal};
 use crate::host::is_for_us;

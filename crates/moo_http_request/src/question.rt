@@ -1,8 +1,7 @@
 //! What a GET asks: the topics, each with its route, and the questions about them.
 
 ghost use Rattle.std.specs.Prelude.{◌≡◌, drop};
-ghost use Rattle.moo_http_request.specs.Numbers.{number_of};
-ghost use Rattle.moo_http_request.specs.Questions.{all_topics, pattern as pattern_of, question_of};
+ghost use Rattle.moo_http_request.specs.{Numbers.{number_of}, Questions.{all_topics, pattern as pattern_of, question_of}};
 
 use crate::numbers::number_of;
 use moo_value::ObjNo;

@@ -1,12 +1,9 @@
 //! What the bytes of a connection ask.
 
 ghost use Rattle.std.specs.Prelude.{◌≡◌, IfOk, IfErr, OnErr};
-ghost use Rattle.httparse.specs.Grammar.{RequestHead};
-ghost use Rattle.httparse.specs.Spans.{IsRequestAt, IsRequestWithin, IsRequestOf};
-ghost use Rattle.moo_http_request.specs.Given.{HasFailed};
-ghost use Rattle.moo_http_request.specs.Plan.{plan_by, is_head as is_head_of, asks_why as asks_why_of};
-ghost use Rattle.moo_http_request.specs.Planned.{IsBounded};
-ghost use Rattle.moo_http_request.specs.Request.{Takes, StopsReading};
+ghost use Rattle.httparse.specs.{Grammar.{RequestHead}, Spans.{IsRequestAt, IsRequestWithin, IsRequestOf}};
+ghost use Rattle.moo_http_request.specs.{Given.{HasFailed}, Plan.{plan_by, is_head as is_head_of, asks_why as asks_why_of}};
+ghost use Rattle.moo_http_request.specs.{Planned.{IsBounded}, Request.{Takes, StopsReading}};
 
 use crate::asked::{Asked, Refusal};
 use crate::body::follow_plan;

@@ -1,10 +1,8 @@
 //! The routes of the service.
 
 ghost use Rattle.std.specs.Prelude.{◌≡◌, OnOk, codes};
-ghost use Rattle.moo_http_request.specs.declared.asked.Mode.TheVariants.{Run, Ask};
-ghost use Rattle.moo_http_request.specs.declared.routes.Endpoint.TheVariants.{Batch, Each};
-ghost use Rattle.moo_http_request.specs.Routes.{service_rows, with_route, with_topics, endpoint_of};
-ghost use Rattle.moo_http_request.specs.Questions.{all_topics};
+ghost use Rattle.moo_http_request.specs.{declared.asked.Mode.TheVariants.{Run, Ask}, declared.routes.Endpoint.TheVariants.{Batch, Each}};
+ghost use Rattle.moo_http_request.specs.{Routes.{service_rows, with_route, with_topics, endpoint_of}, Questions.{all_topics}};
 
 use crate::asked::Mode;
 use crate::question::Topic;

@@ -1,11 +1,8 @@
 //! The JSON of a body, and its shape.
 
-ghost use Rattle.std.specs.Prelude.{◌≡◌, Some, None, map, option_map, IfOk, MatchOption, IsUtf8, nat_le, length};
-ghost use Rattle.std.specs.List.{list_all};
-ghost use Rattle.serde_json.specs.Read.{read};
-ghost use Rattle.serde_json.specs.View.{view, items_view};
-ghost use Rattle.moo_http_request.specs.Shape.{texts_of, stated_at, are_within, shape_of};
-ghost use Rattle.moo_http_request.specs.Shown.{shape_read_shown};
+ghost use Rattle.std.specs.{Prelude.{◌≡◌, Some, None, map, option_map, IfOk, MatchOption, IsUtf8, nat_le, length}, List.{list_all}};
+ghost use Rattle.serde_json.specs.{Read.{read}, View.{view, items_view}};
+ghost use Rattle.moo_http_request.specs.{Shape.{texts_of, stated_at, are_within, shape_of}, Shown.{shape_read_shown}};
 
 use crate::wrong::ShapeFault;
 use moo_text::{LONGEST_LINE, object_of};

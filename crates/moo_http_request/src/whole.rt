@@ -1,9 +1,7 @@
 //! How many bytes a request has.
 
 ghost use Rattle.std.specs.Prelude.{◌≡◌, ◌≤◌, ◌<◌, ℕ, length};
-ghost use Rattle.moo_http_request.specs.Plan.{body_size};
-ghost use Rattle.moo_http_request.specs.Whole.{ShowsEnd};
-ghost use Rattle.moo_http_request.specs.declared.whole.Wanted.TheVariants.{Total};
+ghost use Rattle.moo_http_request.specs.{Plan.{body_size}, Whole.{ShowsEnd}, declared.whole.Wanted.TheVariants.{Total}};
 
 use crate::head::{HeadRead, MAX_HEAD, parse_head};
 use crate::plan::Plan;

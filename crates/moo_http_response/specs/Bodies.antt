@@ -1,10 +1,7 @@
 -- The bodies of answers, as JSON. The members are in the order of their keys.
 use Rattle.std.specs.Prelude.{ℕ, Bool, List, Option, Some, None, map, codes, cond}
-use Rattle.serde_json.specs.Data.{Data, unsigned, number, string, array, object, Items, member, no_members}
-use Rattle.serde_json.specs.View.{items_of}
-use Rattle.moo_value.specs.declared.value.ObjNo.{ObjNo}
-use Rattle.moo_value.specs.declared.value.Value.{Value}
-use Rattle.moo_value.specs.declared.value.Value.TheVariants.{Obj}
+use Rattle.serde_json.specs.{Data.{Data, unsigned, number, string, array, object, Items, member, no_members}, View.{items_of}}
+use Rattle.moo_value.specs.{declared.value.ObjNo.{ObjNo}, declared.value.Value.{Value}, declared.value.Value.TheVariants.{Obj}}
 use Rattle.moo_value.specs.Literal.{print}
 use Rattle.moo_dump.specs.declared.seen.Look.{Look}
 

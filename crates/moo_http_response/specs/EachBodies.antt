@@ -1,13 +1,9 @@
 -- The body that tells what calls are answered, each alone, as JSON.
 use Rattle.std.specs.Prelude.{ℕ, List, [], ◌∷◌, Option, Some, None, codes, drop}
-use Rattle.serde_json.specs.Data.{Data, unsigned, number, string, array, object, null, member, no_members}
-use Rattle.serde_json.specs.View.{items_of}
-use Rattle.moo_value.specs.declared.value.Value.{Value}
-use Rattle.moo_value.specs.Literal.{name, print}
-use Rattle.moo_text.specs.declared.reply.Reply.{Reply}
-use Rattle.moo_text.specs.declared.reply.Reply.TheVariants.{Accepted, Refused, Full, Stale, NoMemory}
-use Rattle.moo_http_response.specs.Bodies.{error_body}
-use Rattle.moo_http_response.specs.Whys.{first_why}
+use Rattle.serde_json.specs.{Data.{Data, unsigned, number, string, array, object, null, member, no_members}, View.{items_of}}
+use Rattle.moo_value.specs.{declared.value.Value.{Value}, Literal.{name, print}}
+use Rattle.moo_text.specs.{declared.reply.Reply.{Reply}, declared.reply.Reply.TheVariants.{Accepted, Refused, Full, Stale, NoMemory}}
+use Rattle.moo_http_response.specs.{Bodies.{error_body}, Whys.{first_why}}
 
 -- the first answer as its printed literal, or null
 abbrev pub first_answer : List Value → Data

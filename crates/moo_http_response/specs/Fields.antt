@@ -2,8 +2,7 @@
 use Rattle.std.specs.Prelude.{codes}
 use Rattle.serde_json.specs.Data.{Members, string, put}
 use Rattle.moo_dump.specs.declared.seen.Look.{Look}
-use Rattle.moo_http_response.specs.declared.entry.Entry.{Entry}
-use Rattle.moo_http_response.specs.Bodies.{object_text, objects, flag_data}
+use Rattle.moo_http_response.specs.{declared.entry.Entry.{Entry}, Bodies.{object_text, objects, flag_data}}
 
 -- the name of an object and the objects that its fields name, put among other members
 abbrev pub with_links : Look → Members → Members

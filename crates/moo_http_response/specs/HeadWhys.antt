@@ -1,10 +1,8 @@
 -- Why a head is refused, in sentences for people.
 use Rattle.std.specs.Prelude.{List, ℕ, Bool, Option, Some, None, codes, if◌then◌else◌}
-use Rattle.moo_http_request.specs.declared.asked.Mode.TheVariants.{Run, Ask}
-use Rattle.moo_http_request.specs.declared.asked.Refusal.{Refusal}
+use Rattle.moo_http_request.specs.{declared.asked.Mode.TheVariants.{Run, Ask}, declared.asked.Refusal.{Refusal}}
 use Rattle.moo_http_request.specs.declared.asked.Refusal.TheVariants.{Coded, NoLength, NotFound, NoNumber, NotAllowed}
-use Rattle.moo_http_request.specs.declared.question.Topic.TheVariants.{Seq, Object, Objects, Dump}
-use Rattle.moo_http_request.specs.declared.routes.Endpoint.{Endpoint}
+use Rattle.moo_http_request.specs.{declared.question.Topic.TheVariants.{Seq, Object, Objects, Dump}, declared.routes.Endpoint.{Endpoint}}
 use Rattle.moo_http_request.specs.declared.routes.Endpoint.TheVariants.{Batch, Each, About}
 
 -- the sentence that tells the method of a route

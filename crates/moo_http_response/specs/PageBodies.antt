@@ -1,11 +1,8 @@
 -- The body that tells a page of objects, as JSON. The members are in the order of their keys.
 use Rattle.std.specs.Prelude.{ℕ, Option, Some, None, map, codes}
-use Rattle.serde_json.specs.Data.{Data, unsigned, number, string, array, object, null, member, no_members}
-use Rattle.serde_json.specs.View.{items_of}
+use Rattle.serde_json.specs.{Data.{Data, unsigned, number, string, array, object, null, member, no_members}, View.{items_of}}
 use Rattle.moo_value.specs.declared.value.ObjNo.{ObjNo}
-use Rattle.moo_http_response.specs.declared.entry.Entry.{Entry}
-use Rattle.moo_http_response.specs.declared.page.Page.{Page}
-use Rattle.moo_http_response.specs.Bodies.{object_text, flag_data}
+use Rattle.moo_http_response.specs.{declared.entry.Entry.{Entry}, declared.page.Page.{Page}, Bodies.{object_text, flag_data}}
 
 -- an object in a list, with its number and its fields
 abbrev pub entry_body : Entry → Data

@@ -1,15 +1,10 @@
 -- Pages of the list of all objects.
-use Rattle.std.specs.Prelude.{pos, ◌-ℤ◌, List, [], ◌∷◌, Option, Some, None, take, drop}
-use Rattle.std.specs.Int.{int_max}
-use Rattle.std.specs.List.{filter, filter_map}
+use Rattle.std.specs.{Prelude.{pos, ◌-ℤ◌, List, [], ◌∷◌, Option, Some, None, take, drop}, Int.{int_max}, List.{filter, filter_map}}
 use Rattle.std.specs.Option.{option_map}
 use Rattle.moo_value.specs.declared.value.ObjNo.{ObjNo}
-use Rattle.moo_rows.specs.Maps.{object_cmp}
-use Rattle.moo_rows.specs.Walk.{is_past}
-use Rattle.moo_world.specs.ObjectLists.{objects_of}
-use Rattle.moo_world.specs.World.{World}
-use Rattle.moo_http_response.specs.declared.entry.Entry.{Entry}
-use Rattle.moo_http_response.specs.declared.page.Page.{Page}
+use Rattle.moo_rows.specs.{Maps.{object_cmp}, Walk.{is_past}}
+use Rattle.moo_world.specs.{ObjectLists.{objects_of}, World.{World}}
+use Rattle.moo_http_response.specs.{declared.entry.Entry.{Entry}, declared.page.Page.{Page}}
 
 -- the fields of an object's record; None if x isn't an object
 abbrev pub entry_of : World → ObjNo → Option Entry

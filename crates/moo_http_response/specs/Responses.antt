@@ -1,23 +1,19 @@
 -- The status and the body of each answer.
 use Rattle.std.specs.Prelude.{ℕ, List, [], ◌++◌, Bool, false, Option, Some, None, length, codes, if◌then◌else◌}
-use Rattle.serde_json.specs.Data.{Data, unsigned, number, object, member, no_members}
-use Rattle.serde_json.specs.Written.{compact_text}
+use Rattle.serde_json.specs.{Data.{Data, unsigned, number, object, member, no_members}, Written.{compact_text}}
 use Rattle.moo_value.specs.Literal.{name}
 use Rattle.moo_text.specs.declared.reply.Reply.{Reply}
 use Rattle.moo_text.specs.declared.reply.Reply.TheVariants as reply
 use Rattle.moo_http_request.specs.declared.asked.Refusal.{Refusal}
-use Rattle.moo_http_request.specs.declared.asked.Refusal.TheVariants.{BadRequest, Coded, NoLength, Forbidden, NotFound, NoNumber, NotAllowed, TooLarge, Malformed}
-use Rattle.moo_http_request.specs.Plan.{method_of, method_text}
+use Rattle.moo_http_request.specs.declared.asked.Refusal.TheVariants.{BadRequest, Coded, NoLength, Forbidden, NotFound, NoNumber}
+use Rattle.moo_http_request.specs.{declared.asked.Refusal.TheVariants.{NotAllowed, TooLarge, Malformed}, Plan.{method_of, method_text}}
 use Rattle.moo_http_response.specs.declared.outcome.RequestOutcome.{RequestOutcome}
-use Rattle.moo_http_response.specs.declared.outcome.RequestOutcome.TheVariants.{Refused, Closed, Fault, NoMemory, Replied, Each, Told as Tells}
-use Rattle.moo_http_response.specs.Bodies.{error_body, call_body, stale_body, accepted_body, look_body}
-use Rattle.moo_http_response.specs.EachBodies.{each_body}
-use Rattle.moo_http_response.specs.Whys.{first_why}
-use Rattle.moo_http_response.specs.HeadWhys.{head_told}
-use Rattle.moo_http_response.specs.declared.told.Told.{Told}
+use Rattle.moo_http_response.specs.declared.outcome.RequestOutcome.TheVariants.{Refused, Closed, Fault, NoMemory, Replied, Each}
+use Rattle.moo_http_response.specs.declared.outcome.RequestOutcome.TheVariants.{Told as Tells}
+use Rattle.moo_http_response.specs.{Bodies.{error_body, call_body, stale_body, accepted_body, look_body}, EachBodies.{each_body}}
+use Rattle.moo_http_response.specs.{Whys.{first_why}, HeadWhys.{head_told}, declared.told.Told.{Told}}
 use Rattle.moo_http_response.specs.declared.told.Told.TheVariants as told
-use Rattle.moo_http_response.specs.PageBodies.{page_body}
-use Rattle.moo_http_response.specs.Bytes.{head_text}
+use Rattle.moo_http_response.specs.{PageBodies.{page_body}, Bytes.{head_text}}
 
 -- a status, the method to name in a line `allow`, and a body with its kind
 pub record Response : Type 0 where

@@ -1,9 +1,7 @@
 -- What a question is told at a state, and the status, the kind and the body of that.
-use Rattle.std.specs.Prelude.{⊤}
-use Rattle.std.specs.Option.{option_map_or}
+use Rattle.std.specs.{Prelude.{⊤}, Option.{option_map_or}}
 use Rattle.moo_world.specs.Judge.{State}
-use Rattle.moo_dump.specs.Look.{look_of}
-use Rattle.moo_dump.specs.Dump.{dump}
+use Rattle.moo_dump.specs.{Look.{look_of}, Dump.{dump}}
 use Rattle.moo_http_request.specs.declared.question.Question.{Question}
 use Rattle.moo_http_request.specs.declared.question.Question.TheVariants.{Seq, Object, Objects, Dump}
 use Rattle.moo_http_response.specs.declared.told.Told.{Told}

@@ -1,6 +1,5 @@
 -- Why what was asked is refused, in sentences for people: of a batch or a body the first, of calls alone one for each.
-use Rattle.std.specs.Prelude.{ℕ, List, [], ◌∷◌, Option, None, map, option_map, String, string_bytes}
-use Rattle.std.specs.declared.alloc.Global.{Global}
+use Rattle.std.specs.{Prelude.{ℕ, List, [], ◌∷◌, Option, None, map, option_map, String, string_bytes}, declared.alloc.Global.{Global}}
 
 -- the first sentence, if it is told
 abbrev pub first_why : List (Option (List ℕ)) → Option (List ℕ)

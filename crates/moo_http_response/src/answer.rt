@@ -1,8 +1,7 @@
 //! The bytes of an answer.
 
 ghost use Rattle.std.specs.Prelude.{◌≡◌, IfOk};
-ghost use Rattle.moo_http_response.specs.Responses.{response_with, response_text};
-ghost use Rattle.moo_http_response.specs.Whys.{whys_shown};
+ghost use Rattle.moo_http_response.specs.{Responses.{response_with, response_text}, Whys.{whys_shown}};
 
 use crate::outcome::RequestOutcome;
 use crate::respond::respond;

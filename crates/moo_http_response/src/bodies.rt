@@ -2,8 +2,7 @@
 
 ghost use Rattle.std.specs.Prelude.{◌≡◌, None, map, IfOk, option_map, string_bytes, codes, false};
 ghost use Rattle.serde_json.specs.Data.{object, string, unsigned, number as a_number, member, no_members};
-ghost use Rattle.serde_json.specs.View.{items_view, members_view};
-ghost use Rattle.serde_json.specs.Written.{compact_text, members_have_float};
+ghost use Rattle.serde_json.specs.{View.{items_view, members_view}, Written.{compact_text, members_have_float}};
 ghost use Rattle.moo_value.specs.Literal.{print};
 ghost use Rattle.moo_http_response.specs.Bodies.{strings, error_body, call_body, stale_body, accepted_body};
 

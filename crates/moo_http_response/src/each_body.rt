@@ -1,11 +1,8 @@
 //! The JSON of what calls are answered, each alone.
 
 ghost use Rattle.std.specs.Prelude.{◌≡◌, IfOk, codes, option_map, string_bytes};
-ghost use Rattle.serde_json.specs.Data.{object, member, no_members};
-ghost use Rattle.serde_json.specs.View.{items_of, items_view, view};
-ghost use Rattle.serde_json.specs.Written.{compact_text};
-ghost use Rattle.moo_http_response.specs.Bodies.{error_body};
-ghost use Rattle.moo_http_response.specs.EachBodies.{first_answer, reply_body, alone_body, each_items, each_body};
+ghost use Rattle.serde_json.specs.{Data.{object, member, no_members}, View.{items_of, items_view, view}, Written.{compact_text}};
+ghost use Rattle.moo_http_response.specs.{Bodies.{error_body}, EachBodies.{first_answer, reply_body, alone_body, each_items, each_body}};
 ghost use Rattle.moo_http_response.specs.Whys.{whys_shown};
 
 use crate::bodies::{error_fields, literal_text, print_object};

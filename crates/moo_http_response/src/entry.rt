@@ -1,7 +1,6 @@
 //! Objects in a list, each with its own fields.
 
-ghost use Rattle.std.specs.Prelude.{◌≡◌, ◌++◌, [], ◌∷◌, IfOk, OnOk};
-ghost use Rattle.std.specs.List.{filter_map};
+ghost use Rattle.std.specs.{Prelude.{◌≡◌, ◌++◌, [], ◌∷◌, IfOk, OnOk}, List.{filter_map}};
 ghost use Rattle.moo_http_response.specs.Pages.{entry_of};
 ghost use Rattle.moo_world.specs.Rows.{world_of};
 

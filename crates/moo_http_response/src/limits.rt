@@ -1,7 +1,6 @@
 //! The limits that the types of a value keep.
 
-ghost use Rattle.moo_value.specs.Text.{IsText};
-ghost use Rattle.moo_value.specs.Literal.{HoldIn, HoldInside, InRange};
+ghost use Rattle.moo_value.specs.{Text.{IsText}, Literal.{HoldIn, HoldInside, InRange}};
 
 use moo_value::{ObjNo, Value, ValueList};
 

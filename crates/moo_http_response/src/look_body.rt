@@ -1,9 +1,7 @@
 //! The JSON of an object.
 
 ghost use Rattle.std.specs.Prelude.{◌≡◌, map, IfOk, OnOk, string_bytes};
-ghost use Rattle.serde_json.specs.Data.{string, put as insert};
-ghost use Rattle.serde_json.specs.View.{items_view, members_view};
-ghost use Rattle.serde_json.specs.Written.{compact_text};
+ghost use Rattle.serde_json.specs.{Data.{string, put as insert}, View.{items_view, members_view}, Written.{compact_text}};
 ghost use Rattle.moo_http_response.specs.Bodies.{strings, object_text, objects as objects_of, flag_data, look_body};
 ghost use Rattle.moo_http_response.specs.Fields.{with_links, with_flags};
 

@@ -3,8 +3,7 @@
 ghost use Rattle.std.specs.Prelude.{◌≡◌, ◌<◌, ◌≤◌, ◌⊎◌, Some, None, IfOk, MatchOption};
 ghost use Rattle.moo_http_response.specs.Pages.{before_page, page_of};
 ghost use Rattle.moo_rows.specs.Ordered.{IsNext};
-ghost use Rattle.moo_world.specs.Rows.{world_of};
-ghost use Rattle.moo_world.specs.World.{IsTree};
+ghost use Rattle.moo_world.specs.{Rows.{world_of}, World.{IsTree}};
 
 use crate::entry::{Entries, list_object};
 use moo_rows::Rows;

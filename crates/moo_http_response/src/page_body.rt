@@ -1,11 +1,8 @@
 //! The JSON of a page of objects.
 
 ghost use Rattle.std.specs.Prelude.{◌≡◌, map, IfOk, OnOk, string_bytes, codes};
-ghost use Rattle.serde_json.specs.Data.{put as insert};
-ghost use Rattle.serde_json.specs.View.{items_of, items_view, members_view, view};
-ghost use Rattle.serde_json.specs.Written.{compact_text};
-ghost use Rattle.moo_http_response.specs.PageBodies.{entry_body, next_data, page_body};
-ghost use Rattle.moo_http_response.specs.Fields.{with_entry_links, with_entry_flags};
+ghost use Rattle.serde_json.specs.{Data.{put as insert}, View.{items_of, items_view, members_view, view}, Written.{compact_text}};
+ghost use Rattle.moo_http_response.specs.{PageBodies.{entry_body, next_data, page_body}, Fields.{with_entry_links, with_entry_flags}};
 
 use crate::bodies::print_object;
 use crate::entry::Entry;

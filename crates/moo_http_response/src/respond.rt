@@ -3,11 +3,8 @@
 ghost use Rattle.std.specs.Prelude.{◌≡◌, Some, None, IfOk, option_map, codes, string_bytes};
 ghost use Rattle.moo_http_request.specs.Plan.{method_of, method_text};
 ghost use Rattle.moo_http_response.specs.Responses.{plain, json, told_refusal, told_reply, told_response, response_with};
-ghost use Rattle.moo_http_response.specs.Bodies.{error_body, call_body, stale_body, accepted_body};
-ghost use Rattle.moo_http_response.specs.EachBodies.{each_body};
-ghost use Rattle.moo_http_response.specs.HeadWhys.{head_told};
-ghost use Rattle.moo_http_response.specs.Whys.{whys_shown};
-ghost use Rattle.moo_http_response.specs.Shown.{Shows};
+ghost use Rattle.moo_http_response.specs.{Bodies.{error_body, call_body, stale_body, accepted_body}, EachBodies.{each_body}};
+ghost use Rattle.moo_http_response.specs.{HeadWhys.{head_told}, Whys.{whys_shown}, Shown.{Shows}};
 
 use crate::bodies::{
     accepted_text, call_text_with_why, error_text, error_text_with_why, stale_text,

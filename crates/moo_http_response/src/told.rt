@@ -1,12 +1,9 @@
 //! What a question is told, and the status and the body that tell it.
 
-ghost use Rattle.std.specs.Prelude.{◌≡◌, IfOk, OnErr};
-ghost use Rattle.std.specs.Option.{option_map_or};
-ghost use Rattle.moo_world.specs.Judge.{state_of};
+ghost use Rattle.std.specs.{Prelude.{◌≡◌, IfOk, OnErr}, Option.{option_map_or}};
+ghost use Rattle.moo_world.specs.{Judge.{state_of}, Rows.{IsGood}};
 ghost use Rattle.moo_dump.specs.Dump.{dump};
-ghost use Rattle.moo_world.specs.Rows.{IsGood};
-ghost use Rattle.moo_http_response.specs.Told.{told_of, TellingTakesMemory};
-ghost use Rattle.moo_http_response.specs.Responses.{told_response};
+ghost use Rattle.moo_http_response.specs.{Told.{told_of, TellingTakesMemory}, Responses.{told_response}};
 
 use crate::bodies::{error_text, number_text};
 use crate::look_body::look_text;

@@ -6,9 +6,7 @@ use Rattle.moo_world.specs.Rows.{numbers_below}
 use Rattle.moo_world.specs.declared.built_in.BuiltIn.{BuiltIn}
 use Rattle.moo_world.specs.declared.change.Change.{Change}
 use Rattle.moo_world.specs.declared.change.Change.TheVariants as to
-use Rattle.moo_laws.specs.Reading.{emptied_slot}
-use Rattle.moo_laws.specs.Guarded.{SameButGuarded, is_shut}
-use Rattle.moo_laws.proofs.Asking.{same_rows}
+use Rattle.moo_laws.{specs.Reading.{emptied_slot}, specs.Guarded.{SameButGuarded, is_shut}, proofs.Asking.{same_rows}}
 use Rattle.moo_laws.proofs.Both.{Both, on_bare}
 
 -- ---- what doesn't read slots

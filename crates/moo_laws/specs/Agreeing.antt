@@ -1,20 +1,11 @@
 -- What two states have to share for a programmer, so that no batch of theirs that only reads tells them apart.
 use Rattle.std.specs.Prelude.{◌≡◌, ◌↔◌, ℕ, Bool, true, false, ◌&&◌, ◌||◌, List, Option, Some, None, if◌then◌else◌}
-use Rattle.std.specs.Option.{option_and_then}
-use Rattle.std.specs.List.{list_all, AllZip}
-use Rattle.std.specs.FinMap.{get}
-use Rattle.moo_value.specs.declared.value.ObjNo.{ObjNo}
-use Rattle.moo_value.specs.declared.value.Value.{Value}
-use Rattle.moo_rows.specs.declared.row.PetitionId.{PetitionId}
-use Rattle.moo_rows.specs.declared.row.PetitionRow.{PetitionRow}
-use Rattle.moo_world.specs.declared.call.Batch.{Batch}
-use Rattle.moo_world.specs.declared.name.CallName.{CallName}
-use Rattle.moo_world.specs.declared.name.CallName.TheVariants.{Petitions}
-use Rattle.moo_world.specs.Changes.{value_set}
-use Rattle.moo_world.specs.Judge.{State, Verdict, Accepted, Refused, NoRoom, Stale, verdicts, FailedAt, run_calls}
-use Rattle.moo_world.specs.Objects.{Name, same_object}
-use Rattle.moo_world.specs.Outcomes.{Failure}
-use Rattle.moo_world.specs.Rights.{is_wizard}
+use Rattle.std.specs.{Option.{option_and_then}, List.{list_all, AllZip}, FinMap.{get}}
+use Rattle.moo_value.specs.{declared.value.ObjNo.{ObjNo}, declared.value.Value.{Value}}
+use Rattle.moo_rows.specs.{declared.row.PetitionId.{PetitionId}, declared.row.PetitionRow.{PetitionRow}}
+use Rattle.moo_world.specs.{declared.call.Batch.{Batch}, declared.name.CallName.{CallName}, declared.name.CallName.TheVariants.{Petitions}}
+use Rattle.moo_world.specs.{Changes.{value_set}, Judge.{State, Verdict, Accepted, Refused, NoRoom, Stale, verdicts, FailedAt, run_calls}}
+use Rattle.moo_world.specs.{Objects.{Name, same_object}, Outcomes.{Failure}, Rights.{is_wizard}}
 use Rattle.moo_laws.specs.Reading.{is_question, LookAlike}
 
 -- ---- batches that only read

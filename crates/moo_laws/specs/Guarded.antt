@@ -1,17 +1,10 @@
 -- What two states may differ in, so that no batch of a programmer who isn't a wizard tells them apart, no matter what it changes.
 use Rattle.std.specs.Prelude.{◌≡◌, Bool, true, not, ◌&&◌, ◌||◌, ◌⊎◌, Option, Some, None, is_some, if◌then◌else◌}
-use Rattle.std.specs.Option.{option_map, option_and_then}
-use Rattle.std.specs.List.{list_all}
-use Rattle.std.specs.FinMap.{get}
+use Rattle.std.specs.{Option.{option_map, option_and_then}, List.{list_all}, FinMap.{get}}
 use Rattle.moo_value.specs.declared.value.ObjNo.{ObjNo}
-use Rattle.moo_rows.specs.declared.row.PetitionId.{PetitionId}
-use Rattle.moo_rows.specs.declared.row.PetitionRow.{PetitionRow}
-use Rattle.moo_world.specs.declared.call.Batch.{Batch}
-use Rattle.moo_world.specs.Judge.{State}
-use Rattle.moo_world.specs.KeptForm.{arguments_fit}
-use Rattle.moo_world.specs.Objects.{Name, same_object, same_text}
-use Rattle.moo_world.specs.Quota.{quota_name}
-use Rattle.moo_world.specs.World.{World, Slot, SameButSlots, slot_of}
+use Rattle.moo_rows.specs.{declared.row.PetitionId.{PetitionId}, declared.row.PetitionRow.{PetitionRow}}
+use Rattle.moo_world.specs.{declared.call.Batch.{Batch}, Judge.{State}, KeptForm.{arguments_fit}, Objects.{Name, same_object, same_text}}
+use Rattle.moo_world.specs.{Quota.{quota_name}, World.{World, Slot, SameButSlots, slot_of}}
 use Rattle.moo_laws.specs.Reading.{emptied_slot}
 
 -- ---- guarded properties

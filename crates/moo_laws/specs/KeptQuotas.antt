@@ -1,16 +1,10 @@
 -- Quotas that wizards keep, over any batches.
 use Rattle.std.specs.Prelude.{◌≡◌, ◌≤ℤ◌, ◌≤◌, ℕ, ◌+◌, ℤ, pos, ◌+ℤ◌, cond, ◌&&◌, Bool, true, false, List, [], ◌∷◌, Some}
-use Rattle.moo_value.specs.declared.value.ObjNo.{ObjNo}
-use Rattle.moo_value.specs.declared.value.Value.TheVariants.{Int}
+use Rattle.moo_value.specs.{declared.value.ObjNo.{ObjNo}, declared.value.Value.TheVariants.{Int}}
 use Rattle.moo_rows.specs.declared.row.SlotState.TheVariants.{Set}
-use Rattle.moo_world.specs.declared.call.Call.{Call}
-use Rattle.moo_world.specs.declared.call.Batch.{Batch}
-use Rattle.moo_world.specs.declared.name.CallName.{CallName}
-use Rattle.moo_world.specs.declared.name.CallName.TheVariants.{Create, Recycle}
-use Rattle.moo_world.specs.Judge.{State, judge, left_by, is_accepted}
-use Rattle.moo_world.specs.Objects.{same_object, is_among}
-use Rattle.moo_world.specs.Quota.{quota_name}
-use Rattle.moo_world.specs.Rights.{is_wizard}
+use Rattle.moo_world.specs.{declared.call.Call.{Call}, declared.call.Batch.{Batch}, declared.name.CallName.{CallName}}
+use Rattle.moo_world.specs.{declared.name.CallName.TheVariants.{Create, Recycle}, Judge.{State, judge, left_by, is_accepted}}
+use Rattle.moo_world.specs.{Objects.{same_object, is_among}, Quota.{quota_name}, Rights.{is_wizard}}
 use Rattle.moo_world.specs.World.{World, Slot, is_object, row_passes, owner_of, slot_of, chain}
 
 -- ---- quotas that wizards keep

@@ -1,10 +1,7 @@
 -- Names that somebody may list.
-use Rattle.std.specs.Prelude.{◌≡◌, true}
-use Rattle.std.specs.List.{Contains}
+use Rattle.std.specs.{Prelude.{◌≡◌, true}, List.{Contains}}
 use Rattle.moo_value.specs.declared.value.ObjNo.{ObjNo}
-use Rattle.moo_world.specs.Objects.{Name}
-use Rattle.moo_world.specs.Rights.{may_read_object}
-use Rattle.moo_world.specs.World.{World, property_names_of}
+use Rattle.moo_world.specs.{Objects.{Name}, Rights.{may_read_object}, World.{World, property_names_of}}
 
 -- `properties` of some object, which the programmer may read, has the name in its answer
 abbrev pub IsListed : World → ObjNo → Name → Type 0

@@ -1,16 +1,9 @@
 -- Who isn't a wizard makes nobody a wizard, a programmer or a player, and takes no object and no property from anybody.
-use Rattle.std.specs.Prelude.{◌≡◌, true, false, List, [], ◌∷◌, Option, Some, None, if◌then◌else◌, ⊤}
-use Rattle.std.specs.Option.{option_and_then}
+use Rattle.std.specs.{Prelude.{◌≡◌, true, false, List, [], ◌∷◌, Option, Some, None, if◌then◌else◌, ⊤}, Option.{option_and_then}}
 use Rattle.moo_value.specs.declared.value.ObjNo.{ObjNo}
-use Rattle.moo_world.specs.declared.call.Call.{Call}
-use Rattle.moo_world.specs.declared.call.Batch.{Batch}
-use Rattle.moo_world.specs.Judge.{State, judge, left_by, is_accepted}
-use Rattle.moo_world.specs.Objects.{Name, same_object}
-use Rattle.moo_world.specs.Outcomes.{Done, Failed, Full}
-use Rattle.moo_world.specs.Ownership.{SameRights, name_after}
-use Rattle.moo_world.specs.Requests.{batch_call}
-use Rattle.moo_world.specs.Rights.{is_wizard}
-use Rattle.moo_world.specs.World.{World, Slot, is_object, row_passes, slot_of}
+use Rattle.moo_world.specs.{declared.call.Call.{Call}, declared.call.Batch.{Batch}, Judge.{State, judge, left_by, is_accepted}}
+use Rattle.moo_world.specs.{Objects.{Name, same_object}, Outcomes.{Done, Failed, Full}, Ownership.{SameRights, name_after}}
+use Rattle.moo_world.specs.{Requests.{batch_call}, Rights.{is_wizard}, World.{World, Slot, is_object, row_passes, slot_of}}
 
 -- no accepted one of the batches is a wizard's at its turn
 abbrev pub NoWizardActs : State → List Batch → Type 0

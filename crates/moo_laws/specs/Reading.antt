@@ -1,16 +1,12 @@
 -- What somebody may learn by calls that only read.
-use Rattle.std.specs.Prelude.{◌≡◌, Bool, true, false, Some, ⊤}
-use Rattle.std.specs.Option.{option_map}
+use Rattle.std.specs.{Prelude.{◌≡◌, Bool, true, false, Some, ⊤}, Option.{option_map}}
 use Rattle.moo_value.specs.declared.value.ObjNo.{ObjNo}
 use Rattle.moo_rows.specs.declared.row.SlotState.TheVariants.{Clear}
 use Rattle.moo_world.specs.declared.name.CallName.{CallName}
 use Rattle.moo_world.specs.declared.name.CallName.TheVariants.{Valid, Parent, Children, IsPlayer, Players, MaxObject, Get, Properties}
 use Rattle.moo_world.specs.declared.name.CallName.TheVariants.{PropertyInfo, IsClearProperty, Verbs, VerbInfo, VerbArgs, AcceptList}
-use Rattle.moo_world.specs.Objects.{Name, folded, is_among}
-use Rattle.moo_world.specs.Outcomes.{Outcome, Done, Failed, Full}
-use Rattle.moo_world.specs.PropertyCalls.{is_clear}
-use Rattle.moo_world.specs.Rights.{may_read_slot}
-use Rattle.moo_world.specs.World.{World, Slot, SameButSlots, chain, slot_of, read_of}
+use Rattle.moo_world.specs.{Objects.{Name, folded, is_among}, Outcomes.{Outcome, Done, Failed, Full}, PropertyCalls.{is_clear}}
+use Rattle.moo_world.specs.{Rights.{may_read_slot}, World.{World, Slot, SameButSlots, chain, slot_of, read_of}}
 
 -- the call is one on the world that changes nothing
 abbrev pub is_question : CallName → Bool

@@ -1,13 +1,8 @@
 //! What somebody learns by batches that only read.
 
-ghost use Rattle.std.specs.Prelude.{◌≡◌, List, true, false};
-ghost use Rattle.std.specs.List.{list_all};
-ghost use Rattle.moo_value.specs.declared.value.ObjNo.{ObjNo};
-ghost use Rattle.moo_value.specs.declared.value.Value.{Value};
-ghost use Rattle.moo_world.specs.declared.call.Batch.{Batch};
-ghost use Rattle.moo_world.specs.Judge.{State, judge, left_by};
-ghost use Rattle.moo_world.specs.Objects.{Name};
-ghost use Rattle.moo_world.specs.Rights.{is_wizard};
+ghost use Rattle.std.specs.{Prelude.{◌≡◌, List, true, false}, List.{list_all}};
+ghost use Rattle.moo_value.specs.{declared.value.ObjNo.{ObjNo}, declared.value.Value.{Value}};
+ghost use Rattle.moo_world.specs.{declared.call.Batch.{Batch}, Judge.{State, judge, left_by}, Objects.{Name}, Rights.{is_wizard}};
 ghost use Rattle.moo_world.specs.World.{IsWellFormed};
 ghost use Rattle.moo_laws.specs.Agreeing.{AgreeFor, SameVerdict, TellTheSame, SameOwnPetitions, only_asks, with_value};
 ghost use Rattle.moo_laws.specs.Reading.{IsHidden, LookAlike};

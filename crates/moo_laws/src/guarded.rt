@@ -1,20 +1,11 @@
 //! What somebody who isn't a wizard learns by any batches.
 
-ghost use Rattle.std.specs.Prelude.{◌≡◌, List, Some, true, false};
-ghost use Rattle.std.specs.List.{list_all};
-ghost use Rattle.std.specs.FinMap.{get, insert};
-ghost use Rattle.moo_value.specs.declared.value.ObjNo.{ObjNo};
-ghost use Rattle.moo_value.specs.declared.value.Value.{Value};
-ghost use Rattle.moo_rows.specs.declared.row.PetitionId.{PetitionId};
-ghost use Rattle.moo_rows.specs.declared.row.PetitionRow.{PetitionRow};
-ghost use Rattle.moo_world.specs.declared.call.Batch.{Batch};
-ghost use Rattle.moo_world.specs.Judge.{State, after};
-ghost use Rattle.moo_world.specs.Objects.{Name, folded, same_object};
-ghost use Rattle.moo_world.specs.Requests.{IsFormed};
-ghost use Rattle.moo_world.specs.Rights.{is_wizard};
-ghost use Rattle.moo_world.specs.World.{Slot, slot_of};
-ghost use Rattle.moo_laws.specs.Agreeing.{TellTheSame, with_value};
-ghost use Rattle.moo_laws.specs.Guarded.{AlikeFor, IsGuarded, is_batch_of};
+ghost use Rattle.std.specs.{Prelude.{◌≡◌, List, Some, true, false}, List.{list_all}, FinMap.{get, insert}};
+ghost use Rattle.moo_value.specs.{declared.value.ObjNo.{ObjNo}, declared.value.Value.{Value}};
+ghost use Rattle.moo_rows.specs.{declared.row.PetitionId.{PetitionId}, declared.row.PetitionRow.{PetitionRow}};
+ghost use Rattle.moo_world.specs.{declared.call.Batch.{Batch}, Judge.{State, after}, Objects.{Name, folded, same_object}};
+ghost use Rattle.moo_world.specs.{Requests.{IsFormed}, Rights.{is_wizard}, World.{Slot, slot_of}};
+ghost use Rattle.moo_laws.specs.{Agreeing.{TellTheSame, with_value}, Guarded.{AlikeFor, IsGuarded, is_batch_of}};
 
 /// What somebody who isn't a wizard is told by any batches depends on no guarded value, and on nothing of the petitions of others but their
 /// numbers: from two states that are alike for the programmer the batches have the same verdicts, one after another, and leave states that

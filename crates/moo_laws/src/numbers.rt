@@ -1,8 +1,7 @@
 //! What becomes of the numbers of objects, over any batches.
 
 ghost use Rattle.std.specs.Prelude.{List};
-ghost use Rattle.moo_world.specs.declared.call.Batch.{Batch};
-ghost use Rattle.moo_world.specs.Judge.{State, after};
+ghost use Rattle.moo_world.specs.{declared.call.Batch.{Batch}, Judge.{State, after}};
 ghost use Rattle.moo_laws.specs.ObjectNumbers.{KeepsObjectNumbers};
 
 /// Over any batches, a wizard's too, the number of an object isn't given again: under a number that was given there is the object that was

@@ -1,12 +1,8 @@
 //! What somebody learns by calls that only read.
 
 ghost use Rattle.std.specs.Prelude.{◌≡◌, true};
-ghost use Rattle.moo_value.specs.declared.value.ObjNo.{ObjNo};
-ghost use Rattle.moo_value.specs.declared.value.Value.{Value};
-ghost use Rattle.moo_world.specs.declared.call.Call.{Call};
-ghost use Rattle.moo_world.specs.Changes.{value_set};
-ghost use Rattle.moo_world.specs.Objects.{Name};
-ghost use Rattle.moo_world.specs.World.{World, IsWellFormed};
+ghost use Rattle.moo_value.specs.{declared.value.ObjNo.{ObjNo}, declared.value.Value.{Value}};
+ghost use Rattle.moo_world.specs.{declared.call.Call.{Call}, Changes.{value_set}, Objects.{Name}, World.{World, IsWellFormed}};
 ghost use Rattle.moo_world.specs.Calls.{world_call};
 ghost use Rattle.moo_laws.specs.Reading.{is_question, IsHidden, LookAlike, SameAnswer};
 

@@ -1,14 +1,9 @@
 //! What becomes of the quota of somebody who isn't a wizard, over any batches.
 
-ghost use Rattle.std.specs.Prelude.{◌≡◌, ℤ, List, true};
-ghost use Rattle.std.specs.List.{list_all};
+ghost use Rattle.std.specs.{Prelude.{◌≡◌, ℤ, List, true}, List.{list_all}};
 ghost use Rattle.moo_value.specs.declared.value.ObjNo.{ObjNo};
-ghost use Rattle.moo_world.specs.declared.call.Batch.{Batch};
-ghost use Rattle.moo_world.specs.Judge.{State, after};
-ghost use Rattle.moo_world.specs.KeptForm.{arguments_fit};
-ghost use Rattle.moo_world.specs.Requests.{IsFormed};
-ghost use Rattle.moo_laws.specs.KeptQuotas.{HasKeptQuota, QuotaMoves, calls_of_kind, ends, makes};
-ghost use Rattle.moo_laws.specs.NobodyRises.{NoWizardActs};
+ghost use Rattle.moo_world.specs.{declared.call.Batch.{Batch}, Judge.{State, after}, KeptForm.{arguments_fit}, Requests.{IsFormed}};
+ghost use Rattle.moo_laws.specs.{KeptQuotas.{HasKeptQuota, QuotaMoves, calls_of_kind, ends, makes}, NobodyRises.{NoWizardActs}};
 
 /// If no accepted batch is a wizard's at its turn, a quota that wizards keep falls by one for each object that its owner makes, and rises
 /// by one for each that its owner recycles, unless it may have come to the greatest integer. Nothing else moves it. What the batches give

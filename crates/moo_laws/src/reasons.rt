@@ -2,12 +2,8 @@
 
 ghost use Rattle.std.specs.Prelude.{◌≡◌, true, false};
 ghost use Rattle.moo_value.specs.declared.value.ObjNo.{ObjNo};
-ghost use Rattle.moo_world.specs.declared.call.Batch.{Batch};
-ghost use Rattle.moo_world.specs.Judge.{State};
-ghost use Rattle.moo_world.specs.Requests.{IsFormed};
-ghost use Rattle.moo_world.specs.Rights.{is_wizard};
-ghost use Rattle.moo_laws.specs.Agreeing.{AgreeFor, only_asks, refusal_of};
-ghost use Rattle.moo_laws.specs.Guarded.{AlikeFor, is_batch_of};
+ghost use Rattle.moo_world.specs.{declared.call.Batch.{Batch}, Judge.{State}, Requests.{IsFormed}, Rights.{is_wizard}};
+ghost use Rattle.moo_laws.specs.{Agreeing.{AgreeFor, only_asks, refusal_of}, Guarded.{AlikeFor, is_batch_of}};
 
 /// Why a batch is refused depends on nothing that its programmer may not see: from states that are alike, or that agree, the same call is
 /// refused for the same reason, about the same objects.

@@ -1,20 +1,11 @@
 //! What somebody learns by a refusal.
 
-ghost use Rattle.std.specs.Prelude.{◌≡◌, ℕ, List, IfSome, true, false};
-ghost use Rattle.std.specs.List.{All};
-ghost use Rattle.moo_value.specs.declared.value.ObjNo.{ObjNo};
-ghost use Rattle.moo_value.specs.declared.value.Value.{Value};
-ghost use Rattle.moo_world.specs.declared.call.Batch.{Batch};
-ghost use Rattle.moo_world.specs.declared.name.CallName.{CallName};
-ghost use Rattle.moo_world.specs.declared.reason.Reason.{Reason};
-ghost use Rattle.moo_world.specs.Judge.{State};
-ghost use Rattle.moo_world.specs.Requests.{IsFormed};
-ghost use Rattle.moo_world.specs.Rights.{is_wizard};
-ghost use Rattle.moo_world.specs.World.{World};
+ghost use Rattle.std.specs.{Prelude.{◌≡◌, ℕ, List, IfSome, true, false}, List.{All}};
+ghost use Rattle.moo_value.specs.{declared.value.ObjNo.{ObjNo}, declared.value.Value.{Value}};
+ghost use Rattle.moo_world.specs.{declared.call.Batch.{Batch}, declared.name.CallName.{CallName}, declared.reason.Reason.{Reason}};
+ghost use Rattle.moo_world.specs.{Judge.{State}, Requests.{IsFormed}, Rights.{is_wizard}, World.{World}};
 ghost use Rattle.moo_batch.specs.Facts.{state_before_call};
-ghost use Rattle.moo_laws.specs.Agreeing.{AgreeFor, only_asks};
-ghost use Rattle.moo_laws.specs.Guarded.{AlikeFor, is_batch_of};
-ghost use Rattle.moo_laws.specs.Listed.{IsListed};
+ghost use Rattle.moo_laws.specs.{Agreeing.{AgreeFor, only_asks}, Guarded.{AlikeFor, is_batch_of}, Listed.{IsListed}};
 ghost use Rattle.moo_disclosure.specs.Disclosed.{clash_name, names_meant};
 
 /// What a refusal tells besides its reason and what the call was given depends on nothing that its programmer may not see, and each name

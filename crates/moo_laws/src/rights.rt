@@ -1,15 +1,9 @@
 //! What somebody who isn't a wizard can't do, over any batches.
 
-ghost use Rattle.std.specs.Prelude.{◌≡◌, List, [], ◌∷◌, true, false};
-ghost use Rattle.std.specs.List.{list_all};
+ghost use Rattle.std.specs.{Prelude.{◌≡◌, List, [], ◌∷◌, true, false}, List.{list_all}};
 ghost use Rattle.moo_rows.specs.Maps.{Maps};
-ghost use Rattle.moo_world.specs.declared.call.Batch.{Batch};
-ghost use Rattle.moo_world.specs.Between.{BatchLeads};
-ghost use Rattle.moo_world.specs.Judge.{State, judge, left_by, after, state_of};
-ghost use Rattle.moo_world.specs.KeptForm.{arguments_fit};
-ghost use Rattle.moo_world.specs.Requests.{IsFormed};
-ghost use Rattle.moo_world.specs.Rights.{is_wizard};
-ghost use Rattle.moo_world.specs.Rows.{IsGood, world_of};
+ghost use Rattle.moo_world.specs.{declared.call.Batch.{Batch}, Between.{BatchLeads}, Judge.{State, judge, left_by, after, state_of}};
+ghost use Rattle.moo_world.specs.{KeptForm.{arguments_fit}, Requests.{IsFormed}, Rights.{is_wizard}, Rows.{IsGood, world_of}};
 ghost use Rattle.moo_laws.specs.NobodyRises.{NoWizardActs, KeepsRights};
 
 /// If no accepted batch is a wizard's at its turn, nobody rises. Whoever is a player, a programmer or a wizard in the end was one before.

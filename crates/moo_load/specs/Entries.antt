@@ -1,22 +1,12 @@
 -- What the lines of a dump tell, and what rows each of them puts.
-use Rattle.std.specs.Prelude.{◌≡◌, ◌<◌, ℕ, true, List, ◌∷◌, ◌++◌, [], codes}
-use Rattle.std.specs.List.{AllByRecursion, flat_map}
-use Rattle.std.specs.FinMap.{insert}
-use Rattle.moo_value.specs.declared.value.ObjNo.{ObjNo}
-use Rattle.moo_value.specs.declared.value.Value.{Value}
-use Rattle.moo_value.specs.declared.value.Value.TheVariants.{Obj, Str}
+use Rattle.std.specs.{Prelude.{◌≡◌, ◌<◌, ℕ, true, List, ◌∷◌, ◌++◌, [], codes}, List.{AllByRecursion, flat_map}, FinMap.{insert}}
+use Rattle.moo_value.specs.{declared.value.ObjNo.{ObjNo}, declared.value.Value.{Value}, declared.value.Value.TheVariants.{Obj, Str}}
 use Rattle.moo_value.specs.Literal.{Fits}
-use Rattle.moo_rows.specs.declared.row.ObjRow.{ObjRow}
-use Rattle.moo_rows.specs.declared.row.PetitionId.{PetitionId}
-use Rattle.moo_rows.specs.declared.row.PetitionRow.{PetitionRow}
-use Rattle.moo_rows.specs.declared.row.VerbRow.{VerbRow}
-use Rattle.moo_rows.specs.Bits.{letters_of}
-use Rattle.moo_rows.specs.Maps.{Maps}
+use Rattle.moo_rows.specs.{declared.row.ObjRow.{ObjRow}, declared.row.PetitionId.{PetitionId}, declared.row.PetitionRow.{PetitionRow}}
+use Rattle.moo_rows.specs.{declared.row.VerbRow.{VerbRow}, Bits.{letters_of}, Maps.{Maps}}
 use Rattle.moo_dump.specs.Dump.{object_values, state_values, verb_values, object_line, property_line, slot_line, verb_line, petition_line}
-use Rattle.moo_load.specs.Printed.{petition_values}
-use Rattle.moo_load.specs.Rows.{property_taken, verb_taken, petition_taken}
-use Rattle.moo_world.specs.Objects.{Name, Property}
-use Rattle.moo_world.specs.Petitions.{petition_fits}
+use Rattle.moo_load.specs.{Printed.{petition_values}, Rows.{property_taken, verb_taken, petition_taken}}
+use Rattle.moo_world.specs.{Objects.{Name, Property}, Petitions.{petition_fits}}
 use Rattle.moo_world.specs.World.{Slot, row_fits, state_fits, verb_fits, is_property_name}
 
 -- what a line tells: an object, a name that it defines, a slot of it, a verb of it, or a petition

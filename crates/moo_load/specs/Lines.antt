@@ -1,6 +1,5 @@
 -- The lines of a text.
-use Rattle.std.specs.Prelude.{◌≡◌, ℕ, ◌+◌, ◌==◌, List, ◌++◌}
-use Rattle.std.specs.List.{count_by}
+use Rattle.std.specs.{Prelude.{◌≡◌, ℕ, ◌+◌, ◌==◌, List, ◌++◌}, List.{count_by}}
 
 -- how many lines end in a text
 abbrev pub line_ends : List ℕ → ℕ

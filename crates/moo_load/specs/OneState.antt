@@ -1,7 +1,6 @@
 -- What a dump tells of a state.
 use Rattle.std.specs.Prelude.{◌≡◌, ◌<◌, ◌^◌}
-use Rattle.moo_world.specs.Judge.{State}
-use Rattle.moo_world.specs.Requests.{IsFormed}
+use Rattle.moo_world.specs.{Judge.{State}, Requests.{IsFormed}}
 
 -- a well formed state after fewer than 2^63 batches that were accepted
 pub record IsHeld (s : State) : Type 0 where

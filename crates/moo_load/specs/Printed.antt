@@ -1,17 +1,11 @@
 -- The values of a line.
-use Rattle.std.specs.Prelude.{◌≡◌, ℕ, ◌==◌, not, true, pos, List, [], ◌∷◌, codes}
-use Rattle.std.specs.List.{AllByRecursion, list_all}
-use Rattle.moo_value.specs.declared.value.ObjNo.{ObjNo}
-use Rattle.moo_value.specs.declared.value.Value.{Value}
-use Rattle.moo_value.specs.declared.value.Value.TheVariants.{Int, Obj, Str, List as a_list}
-use Rattle.moo_value.specs.Literal.{Fits, print}
-use Rattle.moo_rows.specs.declared.row.PetitionId.{PetitionId}
-use Rattle.moo_rows.specs.declared.row.PetitionRow.{PetitionRow}
-use Rattle.moo_rows.specs.declared.row.SlotRow.{SlotRow}
+use Rattle.std.specs.{Prelude.{◌≡◌, ℕ, ◌==◌, not, true, pos, List, [], ◌∷◌, codes}, List.{AllByRecursion, list_all}}
+use Rattle.moo_value.specs.{declared.value.ObjNo.{ObjNo}, declared.value.Value.{Value}}
+use Rattle.moo_value.specs.{declared.value.Value.TheVariants.{Int, Obj, Str, List as a_list}, Literal.{Fits, print}}
+use Rattle.moo_rows.specs.{declared.row.PetitionId.{PetitionId}, declared.row.PetitionRow.{PetitionRow}, declared.row.SlotRow.{SlotRow}}
 use Rattle.moo_rows.specs.Bits.{letters_of}
 use Rattle.moo_dump.specs.Dump.{state_values}
-use Rattle.moo_world.specs.Answers.{list_of}
-use Rattle.moo_world.specs.Objects.{Name}
+use Rattle.moo_world.specs.{Answers.{list_of}, Objects.{Name}}
 use Rattle.moo_load.specs.declared.line.Word.{Word}
 use Rattle.moo_load.specs.declared.line.Word.TheVariants.{Object, Property as PropertyWord, Slot, Verb, Petition}
 

@@ -1,13 +1,8 @@
 -- Rows as far as a text is read.
-use Rattle.std.specs.Prelude.{◌<◌, ◌^◌, ◌+◌, max}
-use Rattle.std.specs.FinMap.{insert}
+use Rattle.std.specs.{Prelude.{◌<◌, ◌^◌, ◌+◌, max}, FinMap.{insert}}
 use Rattle.moo_value.specs.declared.value.ObjNo.{ObjNo}
-use Rattle.moo_rows.specs.declared.row.Head.{Head}
-use Rattle.moo_rows.specs.declared.row.PetitionId.{PetitionId}
-use Rattle.moo_rows.specs.declared.row.PetitionRow.{PetitionRow}
-use Rattle.moo_rows.specs.declared.row.PropRow.{PropRow}
-use Rattle.moo_rows.specs.declared.row.VerbRow.{VerbRow}
-use Rattle.moo_rows.specs.Maps.{Maps}
+use Rattle.moo_rows.specs.{declared.row.Head.{Head}, declared.row.PetitionId.{PetitionId}, declared.row.PetitionRow.{PetitionRow}}
+use Rattle.moo_rows.specs.{declared.row.PropRow.{PropRow}, declared.row.VerbRow.{VerbRow}, Maps.{Maps}}
 use Rattle.moo_world.specs.Judge.{State}
 use Rattle.moo_damage.specs.Limits.{AreWithin}
 

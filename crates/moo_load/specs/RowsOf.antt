@@ -1,21 +1,11 @@
 -- The rows that the dump of a state is read as.
-use Rattle.std.specs.Prelude.{◌≡◌, ℕ, zero, suc, ◌+◌, ◌<◌, ◌≤◌, true, List, map, length}
-use Rattle.std.specs.Prelude.{Option, Some, None, is_some, slice_get, if◌then◌else◌}
-use Rattle.std.specs.Option.{option_map, option_and_then}
-use Rattle.std.specs.List.{flat_map}
-use Rattle.std.specs.FinMap.{FinMap, get}
+use Rattle.std.specs.Prelude.{◌≡◌, ℕ, zero, suc, ◌+◌, ◌<◌, ◌≤◌, true, List, map, length, Option, Some, None, is_some, slice_get}
+use Rattle.std.specs.{Prelude.{if◌then◌else◌}, Option.{option_map, option_and_then}, List.{flat_map}, FinMap.{FinMap, get}}
 use Rattle.moo_value.specs.declared.value.ObjNo.{ObjNo}
-use Rattle.moo_rows.specs.declared.row.PetitionId.{PetitionId}
-use Rattle.moo_rows.specs.declared.row.PetitionRow.{PetitionRow}
-use Rattle.moo_rows.specs.declared.row.PropId.{PropId}
-use Rattle.moo_rows.specs.declared.row.PropRow.{PropRow}
-use Rattle.moo_rows.specs.declared.row.SlotRow.{SlotRow}
-use Rattle.moo_rows.specs.declared.row.VerbId.{VerbId}
-use Rattle.moo_rows.specs.declared.row.VerbRow.{VerbRow}
-use Rattle.moo_rows.specs.Maps.{Maps, petition_cmp}
-use Rattle.moo_world.specs.Judge.{State}
-use Rattle.moo_world.specs.ObjectLists.{objects_of}
-use Rattle.moo_world.specs.Objects.{Property, same_object, folded}
+use Rattle.moo_rows.specs.{declared.row.PetitionId.{PetitionId}, declared.row.PetitionRow.{PetitionRow}, declared.row.PropId.{PropId}}
+use Rattle.moo_rows.specs.{declared.row.PropRow.{PropRow}, declared.row.SlotRow.{SlotRow}, declared.row.VerbId.{VerbId}}
+use Rattle.moo_rows.specs.{declared.row.VerbRow.{VerbRow}, Maps.{Maps, petition_cmp}}
+use Rattle.moo_world.specs.{Judge.{State}, ObjectLists.{objects_of}, Objects.{Property, same_object, folded}}
 use Rattle.moo_world.specs.World.{World, Slot, row_of, slot_of, defined_by_any, directory_of}
 
 -- every property, by objects in ascending order, and of one object in the order of definition

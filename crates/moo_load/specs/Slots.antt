@@ -1,15 +1,9 @@
 -- The slots that the lines of a dump put, by the numbers of their properties.
-use Rattle.std.specs.Prelude.{◌≡◌, ◌&&◌, negsuc, Some, if◌then◌else◌}
-use Rattle.std.specs.FinMap.{get, insert}
-use Rattle.std.specs.Ordering.{int_eq}
+use Rattle.std.specs.{Prelude.{◌≡◌, ◌&&◌, negsuc, Some, if◌then◌else◌}, FinMap.{get, insert}, Ordering.{int_eq}}
 use Rattle.moo_value.specs.declared.value.ObjNo.{ObjNo}
-use Rattle.moo_rows.specs.declared.row.PropId.{PropId}
-use Rattle.moo_rows.specs.Links.{IsFirst, is_definer}
-use Rattle.moo_rows.specs.Maps.{Maps, prop_cmp}
+use Rattle.moo_rows.specs.{declared.row.PropId.{PropId}, Links.{IsFirst, is_definer}, Maps.{Maps, prop_cmp}}
 use Rattle.moo_world.specs.Objects.{Property}
-use Rattle.moo_load.specs.declared.taking.LastSlot.{LastSlot}
-use Rattle.moo_load.specs.Entries.{Entry, a_slot}
-use Rattle.moo_load.specs.RowsOf.{property_row, dumped_slot}
+use Rattle.moo_load.specs.{declared.taking.LastSlot.{LastSlot}, Entries.{Entry, a_slot}, RowsOf.{property_row, dumped_slot}}
 
 -- the slot that was put last, before any is: on no object
 abbrev pub no_slot : LastSlot

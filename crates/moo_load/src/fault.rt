@@ -2,8 +2,7 @@
 
 ghost use Rattle.std.specs.Prelude.{◌≡◌, ◌≢◌, ◌≤◌, length};
 ghost use Rattle.moo_value.specs.declared.fault.LiteralFault.TheVariants.{OutOfMemory as no_memory};
-ghost use Rattle.moo_load.specs.Loaded.{SaysOfText};
-ghost use Rattle.moo_load.specs.declared.fault.LineFault.TheVariants.{OutOfMemory as none_left};
+ghost use Rattle.moo_load.specs.{Loaded.{SaysOfText}, declared.fault.LineFault.TheVariants.{OutOfMemory as none_left}};
 ghost use Rattle.moo_load.specs.declared.fault.LoadFault.TheVariants.{OutOfMemory};
 
 use crate::place::line_at;

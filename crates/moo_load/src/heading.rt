@@ -1,19 +1,13 @@
 //! Reading the first two lines of a dump.
 
-ghost use Rattle.std.specs.Prelude.{◌≡◌, ◌≢◌, ◌<◌, ◌≤◌, ◌^◌, ◌++◌, ℕ, List, pos, negsuc};
-ghost use Rattle.std.specs.Prelude.{◌≤ℤ◌, length, drop, FitsSigned, IfOk, IfErr, codes};
-ghost use Rattle.std.specs.Fmt.{decimal};
-ghost use Rattle.std.specs.Int.{w32};
-ghost use Rattle.moo_value.specs.declared.value.ObjNo.{ObjNo};
-ghost use Rattle.moo_value.specs.declared.value.Value.{Value};
-ghost use Rattle.moo_value.specs.declared.value.Value.TheVariants.{Int, Obj};
+ghost use Rattle.std.specs.Prelude.{◌≡◌, ◌≢◌, ◌<◌, ◌≤◌, ◌^◌, ◌++◌, ℕ, List, pos, negsuc, ◌≤ℤ◌, length, drop, FitsSigned, IfOk, IfErr};
+ghost use Rattle.std.specs.{Prelude.{codes}, Fmt.{decimal}, Int.{w32}};
+ghost use Rattle.moo_value.specs.{declared.value.ObjNo.{ObjNo}, declared.value.Value.{Value}, declared.value.Value.TheVariants.{Int, Obj}};
 ghost use Rattle.moo_value.specs.Literal.{Fits, print};
 ghost use Rattle.moo_rows.specs.Maps.{no_maps};
 ghost use Rattle.moo_dump.specs.Dump.{heading};
 ghost use Rattle.moo_world.specs.Judge.{State};
-ghost use Rattle.moo_load.specs.Loaded.{SaysOfText};
-ghost use Rattle.moo_load.specs.OneState.{IsHeld};
-ghost use Rattle.moo_load.specs.Rows.{AreRead, first_head};
+ghost use Rattle.moo_load.specs.{Loaded.{SaysOfText}, OneState.{IsHeld}, Rows.{AreRead, first_head}};
 
 use crate::fault::{LineFault, LineResult, LoadFault};
 use crate::line::{after_prefix, next_line};

@@ -1,7 +1,6 @@
 //! Reading the whole text that a reader gives.
 
-ghost use Rattle.std.specs.Prelude.{◌≡◌, ◌≤◌, ◌<◌, length, IfOk, IfErr, IfSome, OnOk};
-ghost use Rattle.std.specs.Io.KnownBytes.{Consumes, IsAtEnd};
+ghost use Rattle.std.specs.{Prelude.{◌≡◌, ◌≤◌, ◌<◌, length, IfOk, IfErr, IfSome, OnOk}, Io.KnownBytes.{Consumes, IsAtEnd}};
 ghost use Rattle.moo_load.specs.declared.input.InputFault.TheVariants.{TooLong, OutOfMemory};
 
 use moo_text::LONGEST_TEXT;

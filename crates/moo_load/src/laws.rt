@@ -2,11 +2,9 @@
 
 ghost use Rattle.std.specs.Prelude.{◌≡◌, ◌<◌, length};
 ghost use Rattle.moo_dump.specs.Dump.{dump};
-ghost use Rattle.moo_world.specs.Judge.{State, state_of};
-ghost use Rattle.moo_load.specs.OneState.{IsHeld, AreTheSame};
-ghost use Rattle.moo_load.specs.RowsOf.{HasNumbers, AreRowsOf};
+ghost use Rattle.moo_world.specs.{Judge.{State, state_of}, Rows.{IsGood}};
+ghost use Rattle.moo_load.specs.{OneState.{IsHeld, AreTheSame}, RowsOf.{HasNumbers, AreRowsOf}};
 ghost use Rattle.moo_rows.specs.Maps.{Maps};
-ghost use Rattle.moo_world.specs.Rows.{IsGood};
 
 /// A dump names one state: two well formed states with the same dump have the same objects, with their rows, definitions, slots
 /// and verbs, the same petitions, and the same counts. Only the numbers of the next property, verb and petition may differ.

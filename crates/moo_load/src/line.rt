@@ -2,9 +2,7 @@
 
 ghost use Rattle.std.specs.Prelude.{◌≡◌, ◌≢◌, ◌≤◌, ◌<◌, ◌+◌, ◌∷◌, ◌++◌, ℕ, List, length, drop, IfOk, IfErr, IsOkAnd, IsTrue, ◌↔◌, codes};
 ghost use Rattle.moo_value.specs.declared.value.Value.{Value};
-ghost use Rattle.moo_load.specs.Loaded.{SaysOfText};
-ghost use Rattle.moo_load.specs.Printed.{ArePrinted, IsOneLine, word_text};
-ghost use Rattle.moo_load.specs.declared.line.Word.{Word};
+ghost use Rattle.moo_load.specs.{Loaded.{SaysOfText}, Printed.{ArePrinted, IsOneLine, word_text}, declared.line.Word.{Word}};
 
 use crate::fault::{LineFault, LineResult, LoadFault};
 use crate::place::line_from;

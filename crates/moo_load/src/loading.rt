@@ -1,13 +1,10 @@
 //! Loading a world from its dump.
 
 ghost use Rattle.std.specs.Prelude.{◌≡◌, ◌≢◌, ◌<◌, ◌^◌, length, IfOk, IfErr, OnOk};
-ghost use Rattle.moo_world.specs.Rows.{IsGood};
-ghost use Rattle.moo_world.specs.Judge.{State, state_of};
+ghost use Rattle.moo_world.specs.{Rows.{IsGood}, Judge.{State, state_of}};
 ghost use Rattle.moo_damage.specs.Limits.{AreWithin};
 ghost use Rattle.moo_dump.specs.Dump.{dump};
-ghost use Rattle.moo_load.specs.Loaded.{SaysOfText};
-ghost use Rattle.moo_load.specs.OneState.{IsHeld};
-ghost use Rattle.moo_load.specs.RowsOf.{HasNumbers, AreRowsOf};
+ghost use Rattle.moo_load.specs.{Loaded.{SaysOfText}, OneState.{IsHeld}, RowsOf.{HasNumbers, AreRowsOf}};
 
 use crate::differing::difference_at;
 use crate::fault::LoadFault;

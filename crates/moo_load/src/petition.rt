@@ -1,15 +1,10 @@
 //! Reading the values of a petition's line.
 
-ghost use Rattle.std.specs.Prelude.{◌≡◌, ◌≢◌, ◌<◌, ℕ, pos, true, ◌&&◌, IfOk, IfErr};
-ghost use Rattle.std.specs.List.{list_all};
-ghost use Rattle.moo_value.specs.declared.value.Value.TheVariants.{Int, List as a_list};
-ghost use Rattle.moo_value.specs.Value.{spread};
-ghost use Rattle.moo_value.specs.Values.{Values};
-ghost use Rattle.moo_rows.specs.declared.row.PetitionId.{PetitionId};
-ghost use Rattle.moo_rows.specs.declared.row.PetitionRow.{PetitionRow};
+ghost use Rattle.std.specs.{Prelude.{◌≡◌, ◌≢◌, ◌<◌, ℕ, pos, true, ◌&&◌, IfOk, IfErr}, List.{list_all}};
+ghost use Rattle.moo_value.specs.{declared.value.Value.TheVariants.{Int, List as a_list}, Value.{spread}, Values.{Values}};
+ghost use Rattle.moo_rows.specs.{declared.row.PetitionId.{PetitionId}, declared.row.PetitionRow.{PetitionRow}};
 ghost use Rattle.moo_load.specs.Printed.{petition_values};
-ghost use Rattle.moo_world.specs.Arguments.{all_within_limits};
-ghost use Rattle.moo_world.specs.Petitions.{are_few, are_shallow, is_named, petition_fits};
+ghost use Rattle.moo_world.specs.{Arguments.{all_within_limits}, Petitions.{are_few, are_shallow, is_named, petition_fits}};
 
 use crate::fault::{LineFault, LineResult};
 use crate::reason::DumpReason;

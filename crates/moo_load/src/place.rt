@@ -1,9 +1,7 @@
 //! Finding lines of a text by the places at which they begin.
 
-ghost use Rattle.std.specs.Prelude.{◌≡◌, ◌==◌, ◌≤◌, ◌<◌, ◌+◌, ◌∷◌, ◌++◌, ℕ, List, length, drop, IfSome, IsSomeAnd};
-ghost use Rattle.std.specs.List.{position_from};
-ghost use Rattle.moo_load.specs.Lines.{IsLineOf};
-ghost use Rattle.moo_load.specs.Printed.{IsOneLine};
+ghost use Rattle.std.specs.{Prelude.{◌≡◌, ◌==◌, ◌≤◌, ◌<◌, ◌+◌, ◌∷◌, ◌++◌, ℕ, List, length, drop, IfSome, IsSomeAnd}, List.{position_from}};
+ghost use Rattle.moo_load.specs.{Lines.{IsLineOf}, Printed.{IsOneLine}};
 
 /// The number of the line that a place of the text is in, from 1.
 pub(crate) fn line_at(text: &[u8], at: usize) -> u64

@@ -1,19 +1,13 @@
 //! Reading the rows of a dump. Its lines are gone over twice: the slots name their properties by definers that may come later, and are
 //! put once all properties are.
 
-ghost use Rattle.std.specs.Prelude.{◌≡◌, ◌≢◌, ◌≤◌, ◌∷◌, ◌++◌, [], List, length, drop, IfOk, IfErr, OnOk};
-ghost use Rattle.std.specs.List.{AllByRecursion};
+ghost use Rattle.std.specs.{Prelude.{◌≡◌, ◌≢◌, ◌≤◌, ◌∷◌, ◌++◌, [], List, length, drop, IfOk, IfErr, OnOk}, List.{AllByRecursion}};
 ghost use Rattle.moo_rows.specs.declared.row.PropId.{PropId};
-ghost use Rattle.moo_load.specs.Entries.{Entry, entry_text, entry_lines, EntryFits, NumberIsLeft};
-ghost use Rattle.moo_load.specs.Entries.{NumbersAreLeft, entry_taken, entries_taken, carried, EachHas};
-ghost use Rattle.moo_load.specs.Loaded.{SaysOfText};
-ghost use Rattle.moo_load.specs.OneState.{IsHeld};
-ghost use Rattle.moo_load.specs.Rows.{AreRead};
-ghost use Rattle.moo_load.specs.RowsOf.{AreRowsOf, HasNumbers};
-ghost use Rattle.moo_load.specs.Slots.{no_slot, SlotIsNext, slot_line_put};
+ghost use Rattle.moo_load.specs.Entries.{Entry, entry_text, entry_lines, EntryFits, NumberIsLeft, NumbersAreLeft, entry_taken};
+ghost use Rattle.moo_load.specs.{Entries.{entries_taken, carried, EachHas}, Loaded.{SaysOfText}, OneState.{IsHeld}, Rows.{AreRead}};
+ghost use Rattle.moo_load.specs.{RowsOf.{AreRowsOf, HasNumbers}, Slots.{no_slot, SlotIsNext, slot_line_put}};
 ghost use Rattle.moo_dump.specs.Dump.{dump};
-ghost use Rattle.moo_world.specs.Judge.{State};
-ghost use Rattle.moo_world.specs.Objects.{Property};
+ghost use Rattle.moo_world.specs.{Judge.{State}, Objects.{Property}};
 
 use crate::fault::{LineFault, LineResult, LoadFault};
 use crate::heading::read_heading;

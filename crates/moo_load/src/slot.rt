@@ -1,17 +1,12 @@
 //! Reading the values of a slot's line.
 
 ghost use Rattle.std.specs.Prelude.{◌≡◌, ◌≢◌, true, ◌&&◌, IfOk, IfErr};
-ghost use Rattle.moo_value.specs.declared.value.ObjNo.{ObjNo};
-ghost use Rattle.moo_value.specs.declared.value.Value.TheVariants.{Str};
-ghost use Rattle.moo_rows.specs.declared.row.Bits.{Bits};
-ghost use Rattle.moo_rows.specs.declared.row.SlotRow.{SlotRow};
-ghost use Rattle.moo_rows.specs.declared.row.SlotState.{SlotState};
+ghost use Rattle.moo_value.specs.{declared.value.ObjNo.{ObjNo}, declared.value.Value.TheVariants.{Str}};
+ghost use Rattle.moo_rows.specs.{declared.row.Bits.{Bits}, declared.row.SlotRow.{SlotRow}, declared.row.SlotState.{SlotState}};
 ghost use Rattle.moo_rows.specs.Bits.{letters_of};
 ghost use Rattle.moo_dump.specs.Dump.{state_values};
 ghost use Rattle.moo_load.specs.Printed.{slot_values};
-ghost use Rattle.moo_world.specs.Arguments.{is_number};
-ghost use Rattle.moo_world.specs.Objects.{Name};
-ghost use Rattle.moo_world.specs.World.{state_fits};
+ghost use Rattle.moo_world.specs.{Arguments.{is_number}, Objects.{Name}, World.{state_fits}};
 
 use crate::fault::{LineFault, LineResult};
 use crate::reason::DumpReason;

@@ -1,22 +1,14 @@
 //! Putting rows as the lines of a dump say.
 
 ghost use Rattle.std.specs.Prelude.{◌≡◌, ◌≢◌, ◌<◌, ◌∷◌, [], true, Some, OnOk, IfOk, IfErr};
-ghost use Rattle.moo_value.specs.declared.value.ObjNo.{ObjNo};
-ghost use Rattle.moo_value.specs.declared.value.Value.TheVariants.{Obj, Str};
-ghost use Rattle.moo_rows.specs.declared.row.ObjRow.{ObjRow};
-ghost use Rattle.moo_rows.specs.declared.row.PetitionId.{PetitionId};
-ghost use Rattle.moo_rows.specs.declared.row.PetitionRow.{PetitionRow};
-ghost use Rattle.moo_rows.specs.declared.row.PropId.{PropId};
-ghost use Rattle.moo_rows.specs.declared.row.PropRow.{PropRow};
-ghost use Rattle.moo_rows.specs.declared.row.VerbRow.{VerbRow};
-ghost use Rattle.moo_rows.specs.Maps.{with_object, with_slot};
+ghost use Rattle.moo_value.specs.{declared.value.ObjNo.{ObjNo}, declared.value.Value.TheVariants.{Obj, Str}};
+ghost use Rattle.moo_rows.specs.{declared.row.ObjRow.{ObjRow}, declared.row.PetitionId.{PetitionId}};
+ghost use Rattle.moo_rows.specs.{declared.row.PetitionRow.{PetitionRow}, declared.row.PropId.{PropId}, declared.row.PropRow.{PropRow}};
+ghost use Rattle.moo_rows.specs.{declared.row.VerbRow.{VerbRow}, Maps.{with_object, with_slot}};
 ghost use Rattle.moo_dump.specs.Dump.{object_values, verb_values};
-ghost use Rattle.moo_load.specs.Printed.{petition_values, slot_values};
-ghost use Rattle.moo_load.specs.Rows.{AreRead, property_taken, verb_taken, petition_taken};
-ghost use Rattle.moo_load.specs.RowsOf.{dumped_slot};
-ghost use Rattle.moo_load.specs.Slots.{IsNextProperty, number_before};
-ghost use Rattle.moo_world.specs.Objects.{Property};
-ghost use Rattle.moo_world.specs.Petitions.{petition_fits};
+ghost use Rattle.moo_load.specs.{Printed.{petition_values, slot_values}, Rows.{AreRead, property_taken, verb_taken, petition_taken}};
+ghost use Rattle.moo_load.specs.{RowsOf.{dumped_slot}, Slots.{IsNextProperty, number_before}};
+ghost use Rattle.moo_world.specs.{Objects.{Property}, Petitions.{petition_fits}};
 ghost use Rattle.moo_world.specs.World.{Slot, row_fits, state_fits, verb_fits, is_property_name};
 
 use crate::fault::{LineFault, LineResult};

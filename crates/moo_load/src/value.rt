@@ -1,12 +1,8 @@
 //! Reading single values of a line.
 
 ghost use Rattle.std.specs.Prelude.{◌≡◌, ◌≢◌, ◌≤◌, ◌<◌, ℕ, true, Bool, List, Option, Some, map, length, IfOk, IfErr};
-ghost use Rattle.moo_value.specs.declared.value.ObjNo.{ObjNo};
-ghost use Rattle.moo_value.specs.declared.value.Value.TheVariants.{Int, Obj, Str};
-ghost use Rattle.moo_world.specs.Answers.{flag};
-ghost use Rattle.moo_world.specs.Arguments.{is_number, is_text};
-ghost use Rattle.moo_world.specs.Calls.{accept_value};
-ghost use Rattle.moo_world.specs.World.{accept_fits};
+ghost use Rattle.moo_value.specs.{declared.value.ObjNo.{ObjNo}, declared.value.Value.TheVariants.{Int, Obj, Str}};
+ghost use Rattle.moo_world.specs.{Answers.{flag}, Arguments.{is_number, is_text}, Calls.{accept_value}, World.{accept_fits}};
 
 use crate::fault::{LineFault, LineResult};
 use crate::reason::DumpReason;

@@ -1,16 +1,11 @@
 //! Reading the values of a verb's line.
 
 ghost use Rattle.std.specs.Prelude.{◌≡◌, ◌≢◌, true, IfOk, IfErr};
-ghost use Rattle.moo_value.specs.declared.value.ObjNo.{ObjNo};
-ghost use Rattle.moo_value.specs.declared.value.Value.TheVariants.{Str};
-ghost use Rattle.moo_rows.specs.declared.row.ObjectSpec.{ObjectSpec};
-ghost use Rattle.moo_rows.specs.declared.row.Preposition.{Preposition};
-ghost use Rattle.moo_rows.specs.declared.row.VerbBits.{VerbBits};
-ghost use Rattle.moo_rows.specs.declared.row.VerbRow.{VerbRow};
-ghost use Rattle.moo_rows.specs.Bits.{verb_letters_of};
+ghost use Rattle.moo_value.specs.{declared.value.ObjNo.{ObjNo}, declared.value.Value.TheVariants.{Str}};
+ghost use Rattle.moo_rows.specs.{declared.row.ObjectSpec.{ObjectSpec}, declared.row.Preposition.{Preposition}};
+ghost use Rattle.moo_rows.specs.{declared.row.VerbBits.{VerbBits}, declared.row.VerbRow.{VerbRow}, Bits.{verb_letters_of}};
 ghost use Rattle.moo_dump.specs.Dump.{verb_values};
-ghost use Rattle.moo_world.specs.Prepositions.{prep_text, object_spec_text};
-ghost use Rattle.moo_world.specs.World.{verb_fits};
+ghost use Rattle.moo_world.specs.{Prepositions.{prep_text, object_spec_text}, World.{verb_fits}};
 
 use crate::fault::{LineFault, LineResult};
 use crate::reason::DumpReason;

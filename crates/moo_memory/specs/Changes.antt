@@ -1,11 +1,8 @@
 -- What changed from some rows to others.
-use Rattle.std.specs.Prelude.{◌≡◌, ◌≢◌, T, List, [], ◌∷◌, Option, Some, None}
-use Rattle.std.specs.declared.cmp.Ordering.{Ordering}
+use Rattle.std.specs.{Prelude.{◌≡◌, ◌≢◌, T, List, [], ◌∷◌, Option, Some, None}, declared.cmp.Ordering.{Ordering}}
 use Rattle.std.specs.FinMap.{FinMap, find, get, is_sorted}
-use Rattle.moo_rows.specs.declared.row.Head.{Head}
-use Rattle.moo_rows.specs.Maps.{Maps, object_cmp, prop_cmp, slot_cmp, verb_cmp, petition_cmp}
-use Rattle.moo_memory.specs.Overlay.{changed}
-use Rattle.moo_memory.specs.declared.changes.Changes.{Changes}
+use Rattle.moo_rows.specs.{declared.row.Head.{Head}, Maps.{Maps, object_cmp, prop_cmp, slot_cmp, verb_cmp, petition_cmp}}
+use Rattle.moo_memory.specs.{Overlay.{changed}, declared.changes.Changes.{Changes}}
 
 -- exactly the keys whose rows differ, each once with its new row or `None`, in ascending order
 pub record IsChanges {K X : Type 0} (cmp : K → K → Ordering) (base new : K → Option X) (changes : List (K × Option X)) : Type 0 where

@@ -1,12 +1,8 @@
 -- What the changed rows of a draft may have.
-use Rattle.std.specs.Prelude.{◌≡◌, Bool, false, ◌||◌, Option, None, Some, unwrap_or}
-use Rattle.std.specs.Ordering.{eq_by_cmp}
-use Rattle.std.specs.declared.cmp.Ordering.{Ordering}
-use Rattle.std.specs.FinMap.{FinMap, get}
+use Rattle.std.specs.{Prelude.{◌≡◌, Bool, false, ◌||◌, Option, None, Some, unwrap_or}, Ordering.{eq_by_cmp}}
+use Rattle.std.specs.{declared.cmp.Ordering.{Ordering}, FinMap.{FinMap, get}}
 use Rattle.moo_value.specs.declared.value.ObjNo.{ObjNo}
-use Rattle.moo_rows.specs.declared.row.ObjRow.{ObjRow}
-use Rattle.moo_rows.specs.declared.row.Link.{Link}
-use Rattle.moo_rows.specs.Links.{may_have, is_candidate, row_has}
+use Rattle.moo_rows.specs.{declared.row.ObjRow.{ObjRow}, declared.row.Link.{Link}, Links.{may_have, is_candidate, row_has}}
 use Rattle.moo_rows.specs.Maps.{object_cmp}
 use Rattle.moo_memory.specs.declared.own_links.OwnLinks.{OwnLinks}
 

@@ -1,15 +1,9 @@
 -- What maps keep of links, definers and names, and what is forgotten of it.
-use Rattle.std.specs.Prelude.{◌≡◌, ◌⊎◌, ◌↔◌, Bool, true, false, Option, Some, is_some, option_map, ⊤}
-use Rattle.std.specs.BTreeMap.{BTreeMap}
-use Rattle.std.specs.FinMap.{FinMap, get}
-use Rattle.std.specs.declared.cmp.Ordering.{Ordering}
+use Rattle.std.specs.{Prelude.{◌≡◌, ◌⊎◌, ◌↔◌, Bool, true, false, Option, Some, is_some, option_map, ⊤}, BTreeMap.{BTreeMap}}
+use Rattle.std.specs.{FinMap.{FinMap, get}, declared.cmp.Ordering.{Ordering}}
 use Rattle.moo_value.specs.declared.value.ObjNo.{ObjNo}
-use Rattle.moo_rows.specs.declared.row.Link.{Link}
-use Rattle.moo_rows.specs.declared.row.PropId.{PropId}
-use Rattle.moo_rows.specs.declared.row.PropRow.{PropRow}
-use Rattle.moo_rows.specs.declared.row.Ties.{Ties}
-use Rattle.moo_rows.specs.declared.row.ObjRow.{ObjRow}
-use Rattle.moo_rows.specs.Links.{LinkSets, has_link, is_kept, is_to_nothing, may_have, row_has, ties_have}
+use Rattle.moo_rows.specs.{declared.row.Link.{Link}, declared.row.PropId.{PropId}, declared.row.PropRow.{PropRow}, declared.row.Ties.{Ties}}
+use Rattle.moo_rows.specs.{declared.row.ObjRow.{ObjRow}, Links.{LinkSets, has_link, is_kept, is_to_nothing, may_have, row_has, ties_have}}
 use Rattle.moo_rows.specs.Ordered.{contents}
 
 -- the map has the key

@@ -1,8 +1,7 @@
 -- The laws of the definitions that functions of this crate promise.
 use Rattle.std.specs.Prelude.{◌≡◌}
 use Rattle.moo_rows.specs.Maps.{Maps}
-use Rattle.moo_memory.specs.declared.changes.Changes.{Changes}
-use Rattle.moo_memory.specs.Changes.{AreChanges, only_head}
+use Rattle.moo_memory.specs.{declared.changes.Changes.{Changes}, Changes.{AreChanges, only_head}}
 
 -- from some rows to others there are no two sets of changes
 abbrev pub ChangesAreUnique : Type 0

@@ -1,8 +1,6 @@
 -- A finite map with changes over it.
-use Rattle.std.specs.Prelude.{◌≡◌, ◌||◌, List, [], ◌∷◌, Option, None, Some, is_some, unwrap_or, IsTrue}
-use Rattle.std.specs.declared.cmp.Ordering.{Ordering}
-use Rattle.std.specs.declared.cmp.Ordering.TheVariants.{Less}
-use Rattle.std.specs.FinMap.{FinMap, get, insert, remove, entries}
+use Rattle.std.specs.{Prelude.{◌≡◌, ◌||◌, List, [], ◌∷◌, Option, None, Some, is_some, unwrap_or, IsTrue}, declared.cmp.Ordering.{Ordering}}
+use Rattle.std.specs.{declared.cmp.Ordering.TheVariants.{Less}, FinMap.{FinMap, get, insert, remove, entries}}
 use Rattle.moo_rows.specs.Ordered.{IsPast}
 
 module _ {K X : Type 0} {cmp : K → K → Ordering} where

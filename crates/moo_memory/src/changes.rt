@@ -2,10 +2,8 @@
 
 ghost use Rattle.std.specs.Prelude.{◌≡◌, ◌↔◌, IsTrue, IfOk, OnOk, option_map};
 ghost use Rattle.std.specs.FinMap as map;
-ghost use Rattle.moo_rows.specs.Ordered.{contents};
-ghost use Rattle.moo_rows.specs.Maps.{Maps};
-ghost use Rattle.moo_memory.specs.Overlay.{row_over};
-ghost use Rattle.moo_memory.specs.Changes.{IsChanges, AreChanges, changed_each};
+ghost use Rattle.moo_rows.specs.{Ordered.{contents}, Maps.{Maps}};
+ghost use Rattle.moo_memory.specs.{Overlay.{row_over}, Changes.{IsChanges, AreChanges, changed_each}};
 
 use crate::flat::Flat;
 use moo_rows::{

@@ -2,12 +2,9 @@
 
 ghost use Rattle.std.specs.Prelude.{◌≡◌, ◌||◌};
 ghost use Rattle.std.specs.FinMap as map;
-ghost use Rattle.moo_rows.specs.Links.{IsFirst, is_definer};
-ghost use Rattle.moo_rows.specs.Maps.{object_cmp, prop_cmp, slot_cmp};
-ghost use Rattle.moo_rows.specs.Named.{is_named_by, name_hash, named_cmp};
-ghost use Rattle.moo_rows.specs.Ordered.{contents};
-ghost use Rattle.moo_memory.specs.Either.{is_candidate_of_either};
-ghost use Rattle.moo_memory.specs.Forgotten.{has_key};
+ghost use Rattle.moo_rows.specs.{Links.{IsFirst, is_definer}, Maps.{object_cmp, prop_cmp, slot_cmp}};
+ghost use Rattle.moo_rows.specs.{Named.{is_named_by, name_hash, named_cmp}, Ordered.{contents}};
+ghost use Rattle.moo_memory.specs.{Either.{is_candidate_of_either}, Forgotten.{has_key}};
 
 use crate::links::next_defined;
 use crate::names::next_tagged;

@@ -2,11 +2,10 @@
 
 ghost use Rattle.std.specs.Prelude.{◌≡◌, ◌≢◌, ◌⊎◌, ◌↔◌, true, false, Some, option_map, IfOk, IfSome, IsTrue, OnOk};
 ghost use Rattle.moo_value.specs.declared.value.ObjNo.{ObjNo};
-ghost use Rattle.moo_rows.specs.declared.row.Link.{Link};
-ghost use Rattle.moo_rows.specs.declared.row.PropId.{PropId};
-ghost use Rattle.moo_rows.specs.Maps.{object_cmp, prop_cmp, slot_cmp};
+ghost use Rattle.moo_rows.specs.{declared.row.Link.{Link}, declared.row.PropId.{PropId}, Maps.{object_cmp, prop_cmp, slot_cmp}};
 ghost use Rattle.moo_rows.specs.Ordered.{contents};
-ghost use Rattle.moo_rows.specs.Links.{IsFirst, tie_cmp, has_link, is_candidate, is_kept, is_to_nothing, may_have, row_defined, row_has, ties_have, ties_of};
+ghost use Rattle.moo_rows.specs.Links.{IsFirst, tie_cmp, has_link, is_candidate, is_kept, is_to_nothing, may_have, row_defined, row_has};
+ghost use Rattle.moo_rows.specs.Links.{ties_have, ties_of};
 ghost use Rattle.moo_memory.specs.Forgotten.{AddsOnly, Forgets, ForgetsKey, ForgetsOnly, has_key};
 
 use moo_rows::{Link, ObjRow, PropId, PropRow, Ties, ordered};

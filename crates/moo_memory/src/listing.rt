@@ -1,9 +1,7 @@
 //! Objects that have a link, listed.
 
 ghost use Rattle.std.specs.Prelude.{◌≡◌, ◌++◌, map as map_list, OnOk};
-ghost use Rattle.moo_rows.specs.declared.row.Link.{Link};
-ghost use Rattle.moo_rows.specs.Links.{is_linked, linked_left, tie_cmp};
-ghost use Rattle.moo_rows.specs.Maps.{Maps};
+ghost use Rattle.moo_rows.specs.{declared.row.Link.{Link}, Links.{is_linked, linked_left, tie_cmp}, Maps.{Maps}};
 ghost use Rattle.moo_memory.specs.Forgotten.{has_key};
 
 use moo_value::ObjNo;

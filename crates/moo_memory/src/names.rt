@@ -1,10 +1,7 @@
 //! Properties that may have a name, and whose rows are still to be looked at. They are kept by tag: a definer, and the hash of a name.
 
 ghost use Rattle.std.specs.Prelude.{◌≡◌, ◌↔◌, true, Some, option_map, IsTrue, OnOk};
-ghost use Rattle.moo_rows.specs.declared.row.PropId.{PropId};
-ghost use Rattle.moo_rows.specs.Links.{IsFirst};
-ghost use Rattle.moo_rows.specs.Maps.{prop_cmp, slot_cmp};
-ghost use Rattle.moo_rows.specs.Ordered.{contents};
+ghost use Rattle.moo_rows.specs.{declared.row.PropId.{PropId}, Links.{IsFirst}, Maps.{prop_cmp, slot_cmp}, Ordered.{contents}};
 ghost use Rattle.moo_rows.specs.Named.{is_alike, named_cmp, row_named, tag_of};
 ghost use Rattle.moo_memory.specs.Forgotten.{AddsAtMost, ForgetsKey, has_key};
 

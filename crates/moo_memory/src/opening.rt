@@ -1,8 +1,7 @@
 //! The rows that a new world begins with.
 
 ghost use Rattle.std.specs.Prelude.{◌≡◌, IfOk, OnOk};
-ghost use Rattle.moo_rows.specs.Maps.{no_maps, with_object};
-ghost use Rattle.moo_rows.specs.Opening.{opening_maps, root_class, first_room, wizard};
+ghost use Rattle.moo_rows.specs.{Maps.{no_maps, with_object}, Opening.{opening_maps, root_class, first_room, wizard}};
 ghost use Rattle.moo_rows.specs.declared.row.ObjRow.{ObjRow};
 
 use crate::flat::Flat;

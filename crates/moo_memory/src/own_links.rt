@@ -2,10 +2,7 @@
 
 ghost use Rattle.std.specs.Prelude.{◌≡◌, true, false, OnOk};
 ghost use Rattle.moo_value.specs.declared.value.ObjNo.{ObjNo};
-ghost use Rattle.moo_rows.specs.declared.row.Link.{Link};
-ghost use Rattle.moo_rows.specs.Links.{IsFirst, has_link, is_linked};
-ghost use Rattle.moo_rows.specs.Maps.{object_cmp};
-ghost use Rattle.moo_rows.specs.Ordered.{contents};
+ghost use Rattle.moo_rows.specs.{declared.row.Link.{Link}, Links.{IsFirst, has_link, is_linked}, Maps.{object_cmp}, Ordered.{contents}};
 ghost use Rattle.moo_memory.specs.Either.{is_own_candidate, is_that, may_have_own};
 
 use crate::links::{Links, same_ties, ties_of};

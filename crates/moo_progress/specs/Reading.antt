@@ -1,7 +1,5 @@
 -- When reading is told of, by the instants at which the clock is read.
-use Rattle.std.specs.Prelude.{◌≡◌, ℕ, ◌+◌, ◌≤◌}
-use Rattle.std.specs.Time.{instant_nanos}
-use Rattle.std.specs.declared.time.Instant.{Instant}
+use Rattle.std.specs.{Prelude.{◌≡◌, ℕ, ◌+◌, ◌≤◌}, Time.{instant_nanos}, declared.time.Instant.{Instant}}
 use Rattle.moo_progress.specs.declared.reading.Run.{Run}
 
 -- a run of reads that begins now, after this many changes of the files

@@ -1,10 +1,7 @@
 -- A new object, at the level of the rows.
-use Rattle.std.specs.Prelude.{[]}
-use Rattle.std.specs.FinMap.{insert}
+use Rattle.std.specs.{Prelude.{[]}, FinMap.{insert}}
 use Rattle.moo_value.specs.declared.value.ObjNo.{ObjNo}
-use Rattle.moo_rows.specs.declared.row.ObjRow.{ObjRow}
-use Rattle.moo_rows.specs.Maps.{Held, wrote}
-use Rattle.moo_rows.specs.PlainRow.{plain_row}
+use Rattle.moo_rows.specs.{declared.row.ObjRow.{ObjRow}, Maps.{Held, wrote}, PlainRow.{plain_row}}
 
 -- the row of a new object under a parent
 abbrev pub new_row : ObjNo → ObjNo → ObjRow

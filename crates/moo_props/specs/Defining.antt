@@ -1,10 +1,8 @@
 -- A new property, at the level of the rows.
-use Rattle.std.specs.Prelude.{◌+◌}
-use Rattle.std.specs.FinMap.{insert}
+use Rattle.std.specs.{Prelude.{◌+◌}, FinMap.{insert}}
 use Rattle.moo_value.specs.declared.value.ObjNo.{ObjNo}
 use Rattle.moo_rows.specs.Maps.{Held, wrote}
-use Rattle.moo_world.specs.Objects.{Name}
-use Rattle.moo_world.specs.Rows.{prop_id}
+use Rattle.moo_world.specs.{Objects.{Name}, Rows.{prop_id}}
 
 -- what is held once the object defines a property of the next number
 abbrev pub with_definition : ObjNo → Name → Held → Held

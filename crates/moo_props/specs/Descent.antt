@@ -1,14 +1,8 @@
 -- The walk down from an object, which takes no memory: each object comes before its children, and these in ascending order.
-use Rattle.std.specs.Prelude.{List, [], ◌∷◌, ◌++◌, map, drop, Option, None, Some, if◌then◌else◌}
-use Rattle.std.specs.List.{flat_map}
+use Rattle.std.specs.{Prelude.{List, [], ◌∷◌, ◌++◌, map, drop, Option, None, Some, if◌then◌else◌}, List.{flat_map}}
 use Rattle.moo_value.specs.declared.value.ObjNo.{ObjNo}
-use Rattle.moo_rows.specs.declared.row.Link.TheVariants.{ChildOf}
-use Rattle.moo_rows.specs.Links.{linked_left}
-use Rattle.moo_rows.specs.Maps.{Maps}
-use Rattle.moo_world.specs.ObjectLists.{below, levels_below}
-use Rattle.moo_world.specs.Objects.{same_object}
-use Rattle.moo_world.specs.Rows.{world_of}
-use Rattle.moo_world.specs.World.{World, chain}
+use Rattle.moo_rows.specs.{declared.row.Link.TheVariants.{ChildOf}, Links.{linked_left}, Maps.{Maps}}
+use Rattle.moo_world.specs.{ObjectLists.{below, levels_below}, Objects.{same_object}, Rows.{world_of}, World.{World, chain}}
 
 -- the children of an object past one of them
 abbrev pub children_past : Maps → ObjNo → ObjNo → List ObjNo

@@ -1,25 +1,13 @@
 -- What the end of an object touches, key by key.
-use Rattle.std.specs.Prelude.{◌≡◌, Bool, ◌&&◌, ◌||◌, ℕ, ◌+◌, List, [], ◌∷◌, length, map}
-use Rattle.std.specs.Prelude.{Option, None, unwrap_or, if◌then◌else◌}
-use Rattle.std.specs.Option.{option_map}
-use Rattle.std.specs.List.{filter}
-use Rattle.std.specs.FinMap.{get, entries}
+use Rattle.std.specs.Prelude.{◌≡◌, Bool, ◌&&◌, ◌||◌, ℕ, ◌+◌, List, [], ◌∷◌, length, map, Option, None, unwrap_or, if◌then◌else◌}
+use Rattle.std.specs.{Option.{option_map}, List.{filter}, FinMap.{get, entries}}
 use Rattle.moo_value.specs.declared.value.ObjNo.{ObjNo}
-use Rattle.moo_rows.specs.declared.row.ObjRow.{ObjRow}
-use Rattle.moo_rows.specs.declared.row.PropId.{PropId}
-use Rattle.moo_rows.specs.declared.row.PropRow.{PropRow}
-use Rattle.moo_rows.specs.declared.row.SlotRow.{SlotRow}
-use Rattle.moo_rows.specs.declared.row.VerbId.{VerbId}
-use Rattle.moo_rows.specs.declared.row.VerbRow.{VerbRow}
+use Rattle.moo_rows.specs.{declared.row.ObjRow.{ObjRow}, declared.row.PropId.{PropId}, declared.row.PropRow.{PropRow}}
+use Rattle.moo_rows.specs.{declared.row.SlotRow.{SlotRow}, declared.row.VerbId.{VerbId}, declared.row.VerbRow.{VerbRow}}
 use Rattle.moo_rows.specs.Maps.{Maps, object_cmp, prop_cmp, slot_cmp, verb_cmp}
-use Rattle.moo_world.specs.Objects.{nothing, same_object, is_among}
-use Rattle.moo_world.specs.World.{chain}
-use Rattle.moo_world.specs.Rows.{world_of}
-use Rattle.moo_props.specs.Dropping.{released_row, linked_among, verbs_among}
-use Rattle.moo_props.specs.Names.{defines}
-use Rattle.moo_props.specs.Present.{ArePresent, AreAbsent, AreAscending}
-use Rattle.moo_props.specs.Touched.{props_of}
-use Rattle.moo_props.specs.declared.dropping.Dropped.{Dropped}
+use Rattle.moo_world.specs.{Objects.{nothing, same_object, is_among}, World.{chain}, Rows.{world_of}}
+use Rattle.moo_props.specs.{Dropping.{released_row, linked_among, verbs_among}, Names.{defines}}
+use Rattle.moo_props.specs.{Present.{ArePresent, AreAbsent, AreAscending}, Touched.{props_of}, declared.dropping.Dropped.{Dropped}}
 
 -- the slot goes with the object: it is on it, or it is on a descendant and of a property that the object defines
 abbrev pub goes_with : Maps → ObjNo → ObjNo × PropId → Bool

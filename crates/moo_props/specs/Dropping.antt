@@ -1,16 +1,9 @@
 -- The end of an object, at the level of the rows.
-use Rattle.std.specs.Prelude.{Bool, false, ◌||◌, List, map, Option, Some, None, unwrap_or, if◌then◌else◌}
-use Rattle.std.specs.Option.{option_map}
-use Rattle.std.specs.Ordering.{int_eq}
-use Rattle.std.specs.List.{filter}
-use Rattle.std.specs.FinMap.{get, insert}
+use Rattle.std.specs.{Prelude.{Bool, false, ◌||◌, List, map, Option, Some, None, unwrap_or, if◌then◌else◌}, Option.{option_map}}
+use Rattle.std.specs.{Ordering.{int_eq}, List.{filter}, FinMap.{get, insert}}
 use Rattle.moo_value.specs.declared.value.ObjNo.{ObjNo}
-use Rattle.moo_rows.specs.declared.row.ObjRow.{ObjRow}
-use Rattle.moo_rows.specs.declared.row.PropId.{PropId}
-use Rattle.moo_rows.specs.declared.row.SlotRow.{SlotRow}
-use Rattle.moo_rows.specs.declared.row.VerbId.{VerbId}
-use Rattle.moo_rows.specs.declared.row.VerbRow.{VerbRow}
-use Rattle.moo_rows.specs.Maps.{Held, wrote, without_prop, without_verb}
+use Rattle.moo_rows.specs.{declared.row.ObjRow.{ObjRow}, declared.row.PropId.{PropId}, declared.row.SlotRow.{SlotRow}}
+use Rattle.moo_rows.specs.{declared.row.VerbId.{VerbId}, declared.row.VerbRow.{VerbRow}, Maps.{Held, wrote, without_prop, without_verb}}
 use Rattle.moo_world.specs.Objects.{nothing, same_object}
 use Rattle.moo_props.specs.Slots.{after_each}
 

@@ -1,14 +1,8 @@
 -- The properties that an object has, by the hashes of their names.
-use Rattle.std.specs.Prelude.{◌≡◌, ℕ, Bool, true, false, ◌&&◌, Some, ⊤, is_some, unwrap_or}
-use Rattle.std.specs.FinMap.{FinMap, get}
-use Rattle.std.specs.Option.{option_map}
-use Rattle.std.specs.Ordering.{nat_cmp, ordering_then}
-use Rattle.std.specs.declared.cmp.Ordering.{Ordering}
+use Rattle.std.specs.{Prelude.{◌≡◌, ℕ, Bool, true, false, ◌&&◌, Some, ⊤, is_some, unwrap_or}, FinMap.{FinMap, get}, Option.{option_map}}
+use Rattle.std.specs.{Ordering.{nat_cmp, ordering_then}, declared.cmp.Ordering.{Ordering}}
 use Rattle.moo_value.specs.declared.value.ObjNo.{ObjNo}
-use Rattle.moo_rows.specs.declared.row.PropId.{PropId}
-use Rattle.moo_rows.specs.declared.row.PropRow.{PropRow}
-use Rattle.moo_rows.specs.Maps.{Maps, prop_cmp}
-use Rattle.moo_rows.specs.Named.{is_alike, name_hash}
+use Rattle.moo_rows.specs.{declared.row.PropId.{PropId}, declared.row.PropRow.{PropRow}, Maps.{Maps, prop_cmp}, Named.{is_alike, name_hash}}
 use Rattle.moo_world.specs.Objects.{Name}
 
 -- by hash, and then by property

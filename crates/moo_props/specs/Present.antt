@@ -1,9 +1,6 @@
 -- Keys that have rows, and keys in order.
-use Rattle.std.specs.Prelude.{◌≡◌, true, List, [], ◌∷◌, None, is_some}
-use Rattle.std.specs.List.{AllByRecursion}
-use Rattle.std.specs.FinMap.{FinMap, get}
-use Rattle.std.specs.declared.cmp.Ordering.{Ordering}
-use Rattle.std.specs.declared.cmp.Ordering.TheVariants.{Less}
+use Rattle.std.specs.{Prelude.{◌≡◌, true, List, [], ◌∷◌, None, is_some}, List.{AllByRecursion}, FinMap.{FinMap, get}}
+use Rattle.std.specs.{declared.cmp.Ordering.{Ordering}, declared.cmp.Ordering.TheVariants.{Less}}
 
 -- each of these keys has a row
 abbrev pub ArePresent : {K X : Type 0} {cmp : K → K → Ordering} → FinMap cmp X → List K → Type 0

@@ -1,8 +1,7 @@
 -- Another name for a property, at the level of the rows.
 use Rattle.std.specs.FinMap.{insert}
 use Rattle.moo_value.specs.declared.value.ObjNo.{ObjNo}
-use Rattle.moo_rows.specs.declared.row.PropId.{PropId}
-use Rattle.moo_rows.specs.Maps.{Held, wrote}
+use Rattle.moo_rows.specs.{declared.row.PropId.{PropId}, Maps.{Held, wrote}}
 use Rattle.moo_world.specs.Objects.{Name}
 
 -- what is held once a property that the object defines has the name

@@ -1,15 +1,9 @@
 -- A change of parent, at the level of the rows: which slots go and which come.
-use Rattle.std.specs.Prelude.{Bool, false, not, ◌&&◌, List, [], ◌∷◌, map, ⊤, is_some, unwrap_or, if◌then◌else◌}
-use Rattle.std.specs.BTreeMap.{BTreeMap}
-use Rattle.std.specs.Option.{option_map}
-use Rattle.std.specs.List.{filter}
-use Rattle.std.specs.FinMap.{get, insert}
+use Rattle.std.specs.{Prelude.{Bool, false, not, ◌&&◌, List, [], ◌∷◌, map, ⊤, is_some, unwrap_or, if◌then◌else◌}, BTreeMap.{BTreeMap}}
+use Rattle.std.specs.{Option.{option_map}, List.{filter}, FinMap.{get, insert}}
 use Rattle.moo_value.specs.declared.value.ObjNo.{ObjNo}
-use Rattle.moo_rows.specs.declared.row.ObjRow.{ObjRow}
-use Rattle.moo_rows.specs.declared.row.PropId.{PropId}
-use Rattle.moo_rows.specs.declared.row.PropRow.{PropRow}
-use Rattle.moo_rows.specs.Maps.{Maps, Held, object_cmp, wrote}
-use Rattle.moo_rows.specs.Ordered.{contents}
+use Rattle.moo_rows.specs.{declared.row.ObjRow.{ObjRow}, declared.row.PropId.{PropId}, declared.row.PropRow.{PropRow}}
+use Rattle.moo_rows.specs.{Maps.{Maps, Held, object_cmp, wrote}, Ordered.{contents}}
 use Rattle.moo_world.specs.Objects.{same_object, is_among}
 
 -- ---- which properties are concerned

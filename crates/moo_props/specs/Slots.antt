@@ -1,16 +1,10 @@
 -- Slots that go and slots that come, at the level of the rows.
-use Rattle.std.specs.Prelude.{List, map, if◌then◌else◌}
-use Rattle.std.specs.Option.{option_map}
-use Rattle.std.specs.List.{filter_map, flat_map, fold}
+use Rattle.std.specs.{Prelude.{List, map, if◌then◌else◌}, Option.{option_map}, List.{filter_map, flat_map, fold}}
 use Rattle.std.specs.FinMap.{FinMap, get, insert, remove}
 use Rattle.moo_value.specs.declared.value.ObjNo.{ObjNo}
-use Rattle.moo_rows.specs.declared.row.PropId.{PropId}
-use Rattle.moo_rows.specs.declared.row.SlotRow.{SlotRow}
-use Rattle.moo_rows.specs.declared.row.SlotState.TheVariants.{Clear}
+use Rattle.moo_rows.specs.{declared.row.PropId.{PropId}, declared.row.SlotRow.{SlotRow}, declared.row.SlotState.TheVariants.{Clear}}
 use Rattle.moo_rows.specs.Maps.{Held, wrote, slot_cmp}
-use Rattle.moo_world.specs.Objects.{nothing, same_object}
-use Rattle.moo_world.specs.Rows.{slot_seen}
-use Rattle.moo_world.specs.World.{Slot, fresh}
+use Rattle.moo_world.specs.{Objects.{nothing, same_object}, Rows.{slot_seen}, World.{Slot, fresh}}
 use Rattle.moo_props.specs.declared.slots.Origin.{Origin}
 
 -- ---- fresh slots

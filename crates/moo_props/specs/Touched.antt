@@ -1,22 +1,12 @@
 -- What a change of parent touches, key by key.
 use Rattle.std.specs.Prelude.{◌≡◌, Bool, false, ℕ, ◌+◌, List, [], length, map, Option, None, unwrap_or, if◌then◌else◌}
-use Rattle.std.specs.Option.{option_map}
-use Rattle.std.specs.List.{filter}
-use Rattle.std.specs.FinMap.{FinMap, get, entries}
+use Rattle.std.specs.{Option.{option_map}, List.{filter}, FinMap.{FinMap, get, entries}}
 use Rattle.moo_value.specs.declared.value.ObjNo.{ObjNo}
-use Rattle.moo_rows.specs.declared.row.ObjRow.{ObjRow}
-use Rattle.moo_rows.specs.declared.row.PropId.{PropId}
-use Rattle.moo_rows.specs.declared.row.PropRow.{PropRow}
-use Rattle.moo_rows.specs.declared.row.SlotRow.{SlotRow}
-use Rattle.moo_rows.specs.Maps.{Maps, prop_cmp, slot_cmp}
-use Rattle.moo_world.specs.Objects.{same_object, is_among}
-use Rattle.moo_world.specs.World.{chain, owner_of}
-use Rattle.moo_world.specs.Rows.{world_of}
-use Rattle.moo_world.specs.Manual.{lost, gained}
+use Rattle.moo_rows.specs.{declared.row.ObjRow.{ObjRow}, declared.row.PropId.{PropId}, declared.row.PropRow.{PropRow}}
+use Rattle.moo_rows.specs.{declared.row.SlotRow.{SlotRow}, Maps.{Maps, prop_cmp, slot_cmp}}
+use Rattle.moo_world.specs.{Objects.{same_object, is_among}, World.{chain, owner_of}, Rows.{world_of}, Manual.{lost, gained}}
 use Rattle.moo_tree.specs.Under.{owners_under}
-use Rattle.moo_props.specs.Present.{ArePresent, AreAbsent, AreAscending}
-use Rattle.moo_props.specs.Reparent.{relinked_list}
-use Rattle.moo_props.specs.Slots.{fresh_row, keys_over}
+use Rattle.moo_props.specs.{Present.{ArePresent, AreAbsent, AreAscending}, Reparent.{relinked_list}, Slots.{fresh_row, keys_over}}
 use Rattle.moo_props.specs.declared.reparenting.Touched.{Touched}
 
 -- the properties of these entries that objects of a list define

@@ -2,12 +2,9 @@
 //! LambdaMOO Programmer's Manual, 'Fundamental Operations on Objects': `create`.
 
 ghost use Rattle.std.specs.Prelude.{◌≡◌, ◌||◌, true, Some, OnOk};
-ghost use Rattle.moo_world.specs.Creation.{created, next_object};
-ghost use Rattle.moo_world.specs.Objects.{Name, nothing, same_object};
-ghost use Rattle.moo_world.specs.Rows.{world_of, IsGood};
-ghost use Rattle.moo_world.specs.World.{is_object, read_of};
+ghost use Rattle.moo_world.specs.{Creation.{created, next_object}, Objects.{Name, nothing, same_object}, Rows.{world_of, IsGood}};
+ghost use Rattle.moo_world.specs.{World.{is_object, read_of}, Keeps.{Keeps}};
 ghost use Rattle.moo_props.specs.Birth.{with_new_row};
-ghost use Rattle.moo_world.specs.Keeps.{Keeps};
 
 use crate::slots::{origins_among, put_fresh};
 use moo_rows::{ObjRow, Rows};

@@ -1,18 +1,12 @@
 //! Names that keep out a new property, or a change of parent.
 
-ghost use Rattle.std.specs.Prelude.{◌≡◌, true, None, Some, IfOk, IfSome, if◌then◌else◌};
-ghost use Rattle.std.specs.List.{find};
+ghost use Rattle.std.specs.{Prelude.{◌≡◌, true, None, Some, IfOk, IfSome, if◌then◌else◌}, List.{find}};
 ghost use Rattle.moo_value.specs.declared.value.ObjNo.{ObjNo};
-ghost use Rattle.moo_rows.specs.Named.{name_hash};
-ghost use Rattle.moo_rows.specs.Ordered.{contents};
-ghost use Rattle.moo_world.specs.Changes.{clashes};
-ghost use Rattle.moo_world.specs.ObjectLists.{first_to_meet, meets_on, shares_property_name, walk_down};
-ghost use Rattle.moo_world.specs.Objects.{is_among};
-ghost use Rattle.moo_world.specs.PropertyCalls.{defines_name, first_to_define};
-ghost use Rattle.moo_world.specs.Rows.{world_of, IsGood, IsSound};
+ghost use Rattle.moo_rows.specs.{Named.{name_hash}, Ordered.{contents}};
+ghost use Rattle.moo_world.specs.{Changes.{clashes}, ObjectLists.{first_to_meet, meets_on, shares_property_name, walk_down}};
+ghost use Rattle.moo_world.specs.{Objects.{is_among}, PropertyCalls.{defines_name, first_to_define}, Rows.{world_of, IsGood, IsSound}};
 ghost use Rattle.moo_world.specs.World.{chain};
-ghost use Rattle.moo_props.specs.Descent.{from_here};
-ghost use Rattle.moo_props.specs.Hashed.{HoldsNames, hashed_cmp};
+ghost use Rattle.moo_props.specs.{Descent.{from_here}, Hashed.{HoldsNames, hashed_cmp}};
 
 use crate::descent::{next_under, subtree_top};
 use crate::finding::{find_own_property, slot_of};

@@ -1,13 +1,9 @@
 //! New properties.
 
-ghost use Rattle.std.specs.Prelude.{◌≡◌, ◌<◌, true, false, IfOk, OnOk};
-ghost use Rattle.std.specs.FinMap.{insert};
-ghost use Rattle.moo_world.specs.Arguments.{fits};
-ghost use Rattle.moo_world.specs.Changes.{clashes, property_added};
-ghost use Rattle.moo_world.specs.Rows.{world_of, prop_id, IsGood};
-ghost use Rattle.moo_world.specs.World.{is_object, is_property_name};
+ghost use Rattle.std.specs.{Prelude.{◌≡◌, ◌<◌, true, false, IfOk, OnOk}, FinMap.{insert}};
+ghost use Rattle.moo_world.specs.{Arguments.{fits}, Changes.{clashes, property_added}, Rows.{world_of, prop_id, IsGood}};
+ghost use Rattle.moo_world.specs.{World.{is_object, is_property_name}, Keeps.{Keeps}};
 ghost use Rattle.moo_props.specs.Defining.{with_definition};
-ghost use Rattle.moo_world.specs.Keeps.{Keeps};
 
 use crate::slots::{Origin, exchange_slots};
 use moo_rows::{Bits, PropId, PropRow, Rows, SlotRow, SlotState};

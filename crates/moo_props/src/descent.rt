@@ -1,10 +1,7 @@
 //! Going down a subtree without taking memory: each object comes before its children, and children ascend.
 
 ghost use Rattle.std.specs.Prelude.{◌≡◌, true, IfSome};
-ghost use Rattle.moo_world.specs.ObjectLists.{walk_down};
-ghost use Rattle.moo_world.specs.Objects.{is_among};
-ghost use Rattle.moo_world.specs.Rows.{world_of};
-ghost use Rattle.moo_world.specs.World.{IsTree, chain};
+ghost use Rattle.moo_world.specs.{ObjectLists.{walk_down}, Objects.{is_among}, Rows.{world_of}, World.{IsTree, chain}};
 ghost use Rattle.moo_props.specs.Descent.{walk_after, after_below, from_here};
 
 use moo_rows::{Link, Rows};

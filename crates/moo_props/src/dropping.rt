@@ -1,22 +1,13 @@
 //! The end of an object.
 //! LambdaMOO Programmer's Manual, 'Fundamental Operations on Objects': `recycle`.
 
-ghost use Rattle.std.specs.Prelude.{◌≡◌, ◌≤◌, ◌+◌, [], ◌∷◌, true, if◌then◌else◌, IfOk, OnOk};
-ghost use Rattle.std.specs.FinMap.{get, entries};
-ghost use Rattle.moo_rows.specs.Links.{IsFirst};
-ghost use Rattle.moo_rows.specs.Maps.{object_cmp, without_object};
-ghost use Rattle.moo_rows.specs.Walk.{slots_of_left};
+ghost use Rattle.std.specs.{Prelude.{◌≡◌, ◌≤◌, ◌+◌, [], ◌∷◌, true, if◌then◌else◌, IfOk, OnOk}, FinMap.{get, entries}};
+ghost use Rattle.moo_rows.specs.{Links.{IsFirst}, Maps.{object_cmp, without_object}, Walk.{slots_of_left}};
 ghost use Rattle.moo_tree.specs.Under.{owners_under};
-ghost use Rattle.moo_world.specs.Objects.{same_object};
-ghost use Rattle.moo_world.specs.Recycling.{recycled};
-ghost use Rattle.moo_world.specs.Rows.{world_of, IsGood};
-ghost use Rattle.moo_world.specs.World.{is_object};
+ghost use Rattle.moo_world.specs.{Objects.{same_object}, Recycling.{recycled}, Rows.{world_of, IsGood}, World.{is_object}, Keeps.{Keeps}};
 ghost use Rattle.moo_props.specs.Dropped.{ListsDropped, LeavesDropped, rows_dropped};
-ghost use Rattle.moo_props.specs.Dropping.{row_linked, row_released, rows_released, linked_among, verbs_among, ids_among};
-ghost use Rattle.moo_props.specs.Dropping.{props_removed, verbs_removed};
-ghost use Rattle.moo_props.specs.Slots.{ids_for, keys_by, slots_moved};
-ghost use Rattle.moo_world.specs.Keeps.{Keeps};
-ghost use Rattle.moo_props.specs.Touched.{props_of};
+ghost use Rattle.moo_props.specs.Dropping.{row_linked, row_released, rows_released, linked_among, verbs_among, ids_among, props_removed};
+ghost use Rattle.moo_props.specs.{Dropping.{verbs_removed}, Slots.{ids_for, keys_by, slots_moved}, Touched.{props_of}};
 
 use crate::slots::{SlotKeys, exchange_slots, keys_by};
 use moo_rows::ordered::least;

@@ -1,11 +1,8 @@
 //! Finding a property by its name.
 
-ghost use Rattle.std.specs.Prelude.{◌≡◌, true, is_some, option_map, IfSome};
-ghost use Rattle.std.specs.FinMap.{get};
+ghost use Rattle.std.specs.{Prelude.{◌≡◌, true, is_some, option_map, IfSome}, FinMap.{get}};
 ghost use Rattle.moo_rows.specs.Named.{name_hash};
-ghost use Rattle.moo_world.specs.Objects.{folded};
-ghost use Rattle.moo_world.specs.PropertyCalls.{defines_name};
-ghost use Rattle.moo_world.specs.World.{slot_of};
+ghost use Rattle.moo_world.specs.{Objects.{folded}, PropertyCalls.{defines_name}, World.{slot_of}};
 ghost use Rattle.moo_world.specs.Rows.{world_of, slot_seen, IsGood, IsSound};
 ghost use Rattle.moo_props.specs.Names.{name_of, defines};
 

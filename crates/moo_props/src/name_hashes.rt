@@ -1,16 +1,9 @@
 //! The properties that an object has, by the hashes of their names. Many names are looked up among them in one walk over its slots.
 
-ghost use Rattle.std.specs.Prelude.{◌≡◌, true, Some, is_some, IfOk, OnOk};
-ghost use Rattle.std.specs.FinMap.{get};
-ghost use Rattle.moo_rows.specs.declared.row.PropId.{PropId};
-ghost use Rattle.moo_rows.specs.declared.row.PropRow.{PropRow};
-ghost use Rattle.moo_rows.specs.Links.{IsFirst};
-ghost use Rattle.moo_rows.specs.Maps.{prop_cmp};
-ghost use Rattle.moo_rows.specs.Named.{name_hash};
-ghost use Rattle.moo_rows.specs.Ordered.{contents};
-ghost use Rattle.moo_world.specs.Objects.{folded};
-ghost use Rattle.moo_world.specs.Rows.{world_of, IsGood};
-ghost use Rattle.moo_world.specs.World.{slot_of};
+ghost use Rattle.std.specs.{Prelude.{◌≡◌, true, Some, is_some, IfOk, OnOk}, FinMap.{get}};
+ghost use Rattle.moo_rows.specs.{declared.row.PropId.{PropId}, declared.row.PropRow.{PropRow}, Links.{IsFirst}, Maps.{prop_cmp}};
+ghost use Rattle.moo_rows.specs.{Named.{name_hash}, Ordered.{contents}};
+ghost use Rattle.moo_world.specs.{Objects.{folded}, Rows.{world_of, IsGood}, World.{slot_of}};
 ghost use Rattle.moo_props.specs.Hashed.{HoldsNames, hashed_cmp, has_under_name};
 
 use moo_rows::{PropId, Rows, each_slot_of, go_on, name_hash, ordered};

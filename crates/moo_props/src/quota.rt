@@ -1,14 +1,10 @@
 //! The quota of an owner: how many more objects may be made for it.
 //! LambdaMOO Programmer's Manual, 'Fundamental Operations on Objects': `create` and `recycle`.
 
-ghost use Rattle.std.specs.Prelude.{◌≡◌, ◌+ℤ◌, is_some, true, option_map, negsuc, IfSome, OnOk};
-ghost use Rattle.std.specs.FinMap.{get};
-ghost use Rattle.moo_world.specs.Quota.{quota_name, quota_of, quota_changed, quota_returned, has_quota_left};
-ghost use Rattle.moo_world.specs.Rows.{world_of, IsGood};
-ghost use Rattle.moo_world.specs.Keeps.{Keeps};
-ghost use Rattle.moo_world.specs.Numbers.{IsSameButSlots};
-ghost use Rattle.moo_props.specs.Names.{name_of};
-ghost use Rattle.moo_props.specs.Quotas.{HasRoom};
+ghost use Rattle.std.specs.{Prelude.{◌≡◌, ◌+ℤ◌, is_some, true, option_map, negsuc, IfSome, OnOk}, FinMap.{get}};
+ghost use Rattle.moo_world.specs.{Quota.{quota_name, quota_of, quota_changed, quota_returned, has_quota_left}, Rows.{world_of, IsGood}};
+ghost use Rattle.moo_world.specs.{Keeps.{Keeps}, Numbers.{IsSameButSlots}};
+ghost use Rattle.moo_props.specs.{Names.{name_of}, Quotas.{HasRoom}};
 
 use crate::finding::find_property_named;
 use crate::state::put_state;

@@ -1,12 +1,8 @@
 //! Another name for a property.
 
 ghost use Rattle.std.specs.Prelude.{◌≡◌, true, false, OnOk, OnErr};
-ghost use Rattle.moo_world.specs.Changes.{clashes, property_renamed};
-ghost use Rattle.moo_world.specs.Rows.{world_of, IsGood};
-ghost use Rattle.moo_world.specs.World.{is_property_name};
-ghost use Rattle.moo_world.specs.Keeps.{Keeps};
-ghost use Rattle.moo_props.specs.Names.{defines, spelling_of};
-ghost use Rattle.moo_props.specs.Renaming.{with_name};
+ghost use Rattle.moo_world.specs.{Changes.{clashes, property_renamed}, Rows.{world_of, IsGood}, World.{is_property_name}, Keeps.{Keeps}};
+ghost use Rattle.moo_props.specs.{Names.{defines, spelling_of}, Renaming.{with_name}};
 
 use moo_rows::{PropId, PropRow, Rows};
 use moo_value::{MooStr, ObjNo};

@@ -1,16 +1,11 @@
 //! A change of parent.
 
-ghost use Rattle.std.specs.Prelude.{◌≡◌, true, ◌+◌, ◌≤◌, IfOk, OnOk};
-ghost use Rattle.std.specs.FinMap.{entries};
+ghost use Rattle.std.specs.{Prelude.{◌≡◌, true, ◌+◌, ◌≤◌, IfOk, OnOk}, FinMap.{entries}};
 ghost use Rattle.moo_tree.specs.Under.{owners_under};
-ghost use Rattle.moo_world.specs.Objects.{is_among};
-ghost use Rattle.moo_world.specs.World.{chain, reparented};
-ghost use Rattle.moo_world.specs.Rows.{world_of, IsGood};
-ghost use Rattle.moo_world.specs.Laws.{MayReparent};
+ghost use Rattle.moo_world.specs.{Objects.{is_among}, World.{chain, reparented}, Rows.{world_of, IsGood}, Laws.{MayReparent}};
 ghost use Rattle.moo_world.specs.Keeps.{Keeps};
 ghost use Rattle.moo_props.specs.Reparent.{defined_only, is_defined_only, is_key, props_only_of, relinked, relinked_list};
-ghost use Rattle.moo_props.specs.Slots.{keys_over, origins, slots_moved};
-ghost use Rattle.moo_props.specs.Touched.{ListsTouched, LeavesTouched, rows_touched};
+ghost use Rattle.moo_props.specs.{Slots.{keys_over, origins, slots_moved}, Touched.{ListsTouched, LeavesTouched, rows_touched}};
 
 use crate::slots::{SlotKeys, exchange_slots, keys_by, origins};
 use moo_rows::{ObjList, ObjRow, PropId, Row, Rows, each_slot_of, go_on, ordered};

@@ -1,13 +1,8 @@
 //! The slot that an object has of a property: its value, and its owner and bits.
 
-ghost use Rattle.std.specs.Prelude.{◌≡◌, is_some, true, false, OnOk};
-ghost use Rattle.std.specs.FinMap.{get};
-ghost use Rattle.moo_world.specs.Changes.{cleared, value_set, info_set, with_slot_of};
-ghost use Rattle.moo_world.specs.Rows.{world_of, IsGood};
-ghost use Rattle.moo_world.specs.Arguments.{fits};
-ghost use Rattle.moo_world.specs.World.{state_fits};
-ghost use Rattle.moo_world.specs.Keeps.{Keeps};
-ghost use Rattle.moo_world.specs.Numbers.{IsSameButSlots};
+ghost use Rattle.std.specs.{Prelude.{◌≡◌, is_some, true, false, OnOk}, FinMap.{get}};
+ghost use Rattle.moo_world.specs.{Changes.{cleared, value_set, info_set, with_slot_of}, Rows.{world_of, IsGood}, Arguments.{fits}};
+ghost use Rattle.moo_world.specs.{World.{state_fits}, Keeps.{Keeps}, Numbers.{IsSameButSlots}};
 ghost use Rattle.moo_props.specs.Names.{defines, spelling_of};
 
 use moo_rows::{Bits, PropId, Row, Rows, SlotRow, SlotState};

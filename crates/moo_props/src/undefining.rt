@@ -1,10 +1,7 @@
 //! The end of a property.
 
-ghost use Rattle.std.specs.Prelude.{◌≡◌, true, OnOk};
-ghost use Rattle.std.specs.FinMap.{remove};
-ghost use Rattle.moo_world.specs.Changes.{property_removed};
-ghost use Rattle.moo_world.specs.Rows.{world_of, IsGood};
-ghost use Rattle.moo_world.specs.Keeps.{Keeps};
+ghost use Rattle.std.specs.{Prelude.{◌≡◌, true, OnOk}, FinMap.{remove}};
+ghost use Rattle.moo_world.specs.{Changes.{property_removed}, Rows.{world_of, IsGood}, Keeps.{Keeps}};
 ghost use Rattle.moo_props.specs.Names.{defines, spelling_of};
 
 use crate::slots::exchange_slots;

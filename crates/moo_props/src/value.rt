@@ -1,9 +1,7 @@
 //! What an object reads for a property.
 
-ghost use Rattle.std.specs.Prelude.{◌≡◌, is_some, true};
-ghost use Rattle.std.specs.FinMap.{get};
-ghost use Rattle.moo_world.specs.World.{read_of};
-ghost use Rattle.moo_world.specs.Rows.{world_of, IsGood};
+ghost use Rattle.std.specs.{Prelude.{◌≡◌, is_some, true}, FinMap.{get}};
+ghost use Rattle.moo_world.specs.{World.{read_of}, Rows.{world_of, IsGood}};
 ghost use Rattle.moo_props.specs.Names.{name_of};
 
 use moo_rows::{PropId, Rows, SlotState};

@@ -1,8 +1,7 @@
 -- What is kept of the refusals that were seen, in their order.
 use Rattle.std.specs.Prelude.{◌≡◌, ◌⊎◌, Bool, true, false, List, [], ◌∷◌, ◌++◌, map, Option}
 use Rattle.moo_world.specs.declared.call.Batch.{Batch}
-use Rattle.moo_batch.specs.declared.witness.Facts.{Facts}
-use Rattle.moo_batch.specs.declared.witness.Refusal.{Refusal}
+use Rattle.moo_batch.specs.{declared.witness.Facts.{Facts}, declared.witness.Refusal.{Refusal}}
 use Rattle.moo_reasons.specs.declared.why.Whys.{Whys}
 
 -- whether lines are wanted, whether memory ran out for one, and the refusals of which there is a line

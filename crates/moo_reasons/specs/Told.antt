@@ -1,8 +1,6 @@
 -- Which line a reply is told with.
-use Rattle.std.specs.Prelude.{◌≡◌, String, List, [], ◌∷◌, Option, Some, None}
-use Rattle.std.specs.declared.alloc.Global.{Global}
-use Rattle.moo_text.specs.declared.reply.Reply.{Reply}
-use Rattle.moo_text.specs.declared.reply.Reply.TheVariants.{Accepted, Refused, Full, Stale, NoMemory}
+use Rattle.std.specs.{Prelude.{◌≡◌, String, List, [], ◌∷◌, Option, Some, None}, declared.alloc.Global.{Global}}
+use Rattle.moo_text.specs.{declared.reply.Reply.{Reply}, declared.reply.Reply.TheVariants.{Accepted, Refused, Full, Stale, NoMemory}}
 use Rattle.moo_reasons.specs.declared.line.Why.{Why}
 
 -- the first of these lines, and those after it

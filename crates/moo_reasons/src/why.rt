@@ -1,9 +1,7 @@
 //! Saying why a batch isn't accepted, in one line of at most 1,000 bytes: tabs and printing ASCII.
 
 ghost use Rattle.std.specs.Prelude.{◌≡◌, [], false, IfOk};
-ghost use Rattle.moo_reasons.specs.Lines.{IsShort};
-ghost use Rattle.moo_reasons.specs.Seen.{Seen, SeesRefusal, seen_by};
-ghost use Rattle.moo_reasons.specs.Told.{IsFirstLine, TellsReply};
+ghost use Rattle.moo_reasons.specs.{Lines.{IsShort}, Seen.{Seen, SeesRefusal, seen_by}, Told.{IsFirstLine, TellsReply}};
 
 use crate::faults::put_call_reason;
 use crate::line::{Why, shortened_text};

@@ -1,6 +1,5 @@
 -- Numbers of objects that compare alike are one.
-use Rattle.std.specs.Ordering.{int_cmp}
-use Rattle.std.proofs.lemmas.Map.Lookups.{CmpEqualImpliesEq, exact_signed}
+use Rattle.std.{specs.Ordering.{int_cmp}, proofs.lemmas.Map.Lookups.{CmpEqualImpliesEq, exact_signed}}
 use Rattle.moo_value.specs.declared.value.ObjNo.{ObjNo}
 
 pub object_one : CmpEqualImpliesEq (λ (a b : ObjNo). int_cmp a.0 b.0)

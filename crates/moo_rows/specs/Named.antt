@@ -1,16 +1,10 @@
 -- Properties by their definer and their name, ASCII case aside.
 use Rattle.std.specs.Prelude.{◌≡◌, ℕ, Bool, true, false, ◌&&◌, List, [], ◌∷◌, map, nat_eq, ⊤, Option, Some, is_some, unwrap_or, option_map}
-use Rattle.std.specs.Char.{to_ascii_lowercase}
-use Rattle.std.specs.Cmp.Lexicographic.{pointwise}
-use Rattle.std.specs.FinMap.{FinMap, get}
+use Rattle.std.specs.{Char.{to_ascii_lowercase}, Cmp.Lexicographic.{pointwise}, FinMap.{FinMap, get}}
 use Rattle.std.specs.Hash.DefaultHasher as sip
-use Rattle.std.specs.List.{fold}
-use Rattle.std.specs.Ordering.{int_eq, nat_cmp, ordering_then}
-use Rattle.std.specs.declared.cmp.Ordering.{Ordering}
+use Rattle.std.specs.{List.{fold}, Ordering.{int_eq, nat_cmp, ordering_then}, declared.cmp.Ordering.{Ordering}}
 use Rattle.moo_value.specs.declared.value.ObjNo.{ObjNo}
-use Rattle.moo_rows.specs.declared.row.PropId.{PropId}
-use Rattle.moo_rows.specs.declared.row.PropRow.{PropRow}
-use Rattle.moo_rows.specs.Maps.{Maps, object_cmp, prop_cmp}
+use Rattle.moo_rows.specs.{declared.row.PropId.{PropId}, declared.row.PropRow.{PropRow}, Maps.{Maps, object_cmp, prop_cmp}}
 
 -- a name with its ASCII letters in lower case
 abbrev pub in_lower_case : List ℕ → List ℕ

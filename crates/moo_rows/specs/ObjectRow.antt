@@ -1,10 +1,7 @@
 -- Rows of objects: two that compare equal are one, and so is a clone.
-use Rattle.std.specs.Prelude.{◌≡◌}
-use Rattle.std.proofs.Common.{rules}
+use Rattle.std.{specs.Prelude.{◌≡◌}, proofs.Common.{rules}}
 use Rattle.moo_value.specs.Equal.{IsExact}
-use Rattle.moo_rows.specs.Equal.{list_eq-exact}
-use Rattle.moo_rows.specs.SameRows.{field_tests, option-exact}
-use Rattle.moo_rows.specs.declared.row.ObjRow.{ObjRow}
+use Rattle.moo_rows.specs.{Equal.{list_eq-exact}, SameRows.{field_tests, option-exact}, declared.row.ObjRow.{ObjRow}}
 use Rattle.moo_rows.specs.contracts.row.ObjRowPartialEq.TheImpl as equal
 use Rattle.moo_rows.specs.contracts.row.ObjRowClone.TheImpl as copied
 

@@ -1,12 +1,9 @@
 //! Rows of any kind: what is the same for all of them.
 
-ghost use Rattle.std.specs.Prelude.{◌≡◌, [], ◌∷◌, Some, IfSome, IfNone, OnOk, OnErr, option_map};
-ghost use Rattle.std.specs.declared.cmp.Ordering.{Ordering};
+ghost use Rattle.std.specs.{Prelude.{◌≡◌, [], ◌∷◌, Some, IfSome, IfNone, OnOk, OnErr, option_map}, declared.cmp.Ordering.{Ordering}};
 ghost use Rattle.std.specs.FinMap as map;
 ghost use Rattle.std.specs.FinMap.{FinMap};
-ghost use Rattle.moo_rows.specs.Ordered.{IsNext};
-ghost use Rattle.moo_rows.specs.Maps.{Maps, wrote};
-ghost use Rattle.moo_rows.specs.Walk.{rows_left};
+ghost use Rattle.moo_rows.specs.{Ordered.{IsNext}, Maps.{Maps, wrote}, Walk.{rows_left}};
 
 use crate::ordered::OrderedKey;
 use crate::rows::Rows;

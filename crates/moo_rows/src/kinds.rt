@@ -2,11 +2,10 @@
 
 ghost use Rattle.std.specs.Prelude.{refl};
 ghost use Rattle.moo_rows.specs.Exact.{prop_exact, verb_id_exact, petition_exact};
-ghost use Rattle.moo_rows.specs.Maps.{object_cmp, prop_cmp, slot_cmp, verb_cmp, petition_cmp};
-ghost use Rattle.moo_rows.specs.ObjectRow.{object_row-exact, object_clone};
+ghost use Rattle.moo_rows.specs.{Maps.{object_cmp, prop_cmp, slot_cmp, verb_cmp, petition_cmp}, ObjectRow.{object_row-exact, object_clone}};
 ghost use Rattle.moo_rows.specs.Ordered.{IsNext};
-ghost use Rattle.moo_rows.specs.SameRows.{prop_row-exact, slot_row-exact, verb_row-exact, petition_row-exact};
-ghost use Rattle.moo_rows.specs.SameRows.{prop_clone, slot_clone, verb_clone, petition_clone};
+ghost use Rattle.moo_rows.specs.SameRows.{prop_row-exact, slot_row-exact, verb_row-exact, petition_row-exact, prop_clone, slot_clone};
+ghost use Rattle.moo_rows.specs.SameRows.{verb_clone, petition_clone};
 
 use crate::keyed::{KeyedRow, Row};
 use crate::ordered::OrderedKey;

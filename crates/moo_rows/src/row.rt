@@ -2,9 +2,7 @@
 
 ghost use Rattle.std.specs.Prelude.{◌≡◌, IfOk};
 ghost use Rattle.moo_value.specs.Text.{IsText};
-ghost use Rattle.moo_rows.specs.Equal.{list_eq, list_laws};
-ghost use Rattle.moo_rows.specs.PlainRow.{plain_row};
-ghost use Rattle.moo_rows.specs.Links.{ties_of, has_link, is_to_nothing};
+ghost use Rattle.moo_rows.specs.{Equal.{list_eq, list_laws}, PlainRow.{plain_row}, Links.{ties_of, has_link, is_to_nothing}};
 
 use moo_value::{MooStr, ObjNo, Value, ValueList};
 use std::alloc::{AllocError, Global};

@@ -2,11 +2,9 @@
 
 ghost use Rattle.std.specs.Prelude.{◌≡◌, ◌++◌, true, false, map as map_list, option_map, OnErr, OnOk};
 ghost use Rattle.std.specs.FinMap as map;
-ghost use Rattle.moo_rows.specs.Ordered.{IsNext};
-ghost use Rattle.moo_rows.specs.Links.{IsFirst, is_linked, is_definer, linked_left};
-ghost use Rattle.moo_rows.specs.Named.{is_named_by, name_hash};
-ghost use Rattle.moo_rows.specs.Maps.{Held, object_cmp, prop_cmp, spent, with_object, without_object, with_prop, without_prop};
-ghost use Rattle.moo_rows.specs.Maps.{with_slot, without_slot, with_verb, without_verb, with_petition, without_petition};
+ghost use Rattle.moo_rows.specs.{Ordered.{IsNext}, Links.{IsFirst, is_linked, is_definer, linked_left}, Named.{is_named_by, name_hash}};
+ghost use Rattle.moo_rows.specs.Maps.{Held, object_cmp, prop_cmp, spent, with_object, without_object, with_prop, without_prop, with_slot};
+ghost use Rattle.moo_rows.specs.Maps.{without_slot, with_verb, without_verb, with_petition, without_petition};
 
 use crate::row::{
     Head, Link, ObjRow, PetitionId, PetitionRow, PropId, PropRow, SlotRow, VerbId, VerbRow,

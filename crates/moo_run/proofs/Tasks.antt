@@ -1,12 +1,10 @@
 -- From what was done to a World to how a task ends.
 use Rattle.moo_run.{proofs.Words.{◌≡◌, ◌≢◌, NoBatches, Read, inl, inr, ℕ, Bool, true, false, List, Option, Result, Ok, Err, IfOk, IfErr, IfSome, IsSome, MatchResult, refl, sym, ap, ap₂, subst, if◌then◌else◌, HasCleanDisk, State, state_of, Moment, Place, Works, Failed, LeavesJust, rows_alone, state_of_moment, World, store_of, state_of_world, Stands, MovesBy, RunsAt, AsksAt, RehearsesAt, text_failure, store_failure, checked_line, None, Some, true≢false, ◌∙◌, course_status, line_of, AnswersText, AnswersAs, StopsAs, StopsIn, StopsChecking, ComesOf, EndsTask, Failure}, specs.Run.{EndsCheck, EndsText, TellsLack}, specs.declared.texts.Manner.{Manner}}
 use Rattle.moo_run.specs.declared.texts.Manner.TheVariants as manner
-use Rattle.sqlite.{specs.Store.{Ghosts}, specs.Held.{state}}
-use Rattle.moo_text.specs.declared.fault.TextFault.{TextFault}
-use Rattle.moo_text.specs.declared.reply.Answer.{Answer}
+use Rattle.sqlite.specs.{Store.{Ghosts}, Held.{state}}
+use Rattle.moo_text.specs.{declared.fault.TextFault.{TextFault}, declared.reply.Answer.{Answer}}
 use Rattle.moo_world.specs.declared.call.Batch.{Batch}
-use Rattle.std.specs.Prelude.{◌==◌}
-use Rattle.std.specs.Io.KnownBytes.{Appends}
+use Rattle.std.specs.{Prelude.{◌==◌}, Io.KnownBytes.{Appends}}
 use Rattle.moo_text.specs.declared.fault.TextFault.TheVariants as text_fault
 use Rattle.moo_cells.specs.Shows.{ShowsRows}
 use Rattle.moo_http.{specs.Leading.{LeadsTo}, proofs.Leading.{leads_start, leads_just}}

@@ -1,42 +1,28 @@
 -- The outcome of a run over a file, by what the file holds.
-use Rattle.std.specs.Prelude.{IsTrue, ◌≡◌, ◌<◌, ◌⊎◌, ℕ, true, false, List, length, codes, ⊤}
-use Rattle.std.specs.Str.{bytes_eq}
+use Rattle.std.specs.{Prelude.{IsTrue, ◌≡◌, ◌<◌, ◌⊎◌, ℕ, true, false, List, length, codes, ⊤}, Str.{bytes_eq}}
 use Rattle.sqlite_disk.specs.declared.Disk.{Ghosts}
 use Rattle.sqlite_store.specs.declared.store.FileStore.{FileStore}
 use Rattle.sqlite_wal.specs.Recovery.{Image}
-use Rattle.sqlite.specs.Tree.{Trees}
-use Rattle.sqlite.specs.State.{HasCleanDisk}
-use Rattle.sqlite.specs.Held.{Held}
-use Rattle.sqlite.specs.Files.{IsNothing, file_state}
+use Rattle.sqlite.specs.{Tree.{Trees}, State.{HasCleanDisk}, Held.{Held}, Files.{IsNothing, file_state}}
 use Rattle.moo_rows.specs.Maps.{Maps}
-use Rattle.moo_world.specs.Rows.{IsGood}
-use Rattle.moo_world.specs.Judge.{State}
-use Rattle.moo_tables_rows.specs.Tables.{Tables}
+use Rattle.moo_world.specs.{Rows.{IsGood}, Judge.{State}}
+use Rattle.moo_tables_rows.specs.{Tables.{Tables}, Inside.{Leaves}}
 use Rattle.moo_cells.specs.Shows.{ShowsRows}
 use Rattle.moo_store.specs.OpeningRows.{SaysOr, AreMigrated, IsOfStore}
-use Rattle.moo_store.specs.Moment.{Moment, rows_alone, AreTreesOf, BecomesPresent, IsSparedMoment}
-use Rattle.moo_store.specs.NewTables.{LeavesAsMade}
-use Rattle.moo_store.specs.States.{LeavesState}
-use Rattle.moo_tables_rows.specs.Inside.{Leaves}
+use Rattle.moo_store.specs.{Moment.{Moment, rows_alone, AreTreesOf, BecomesPresent, IsSparedMoment}, NewTables.{LeavesAsMade}}
+use Rattle.moo_store.specs.{States.{LeavesState}, declared.fault.StoreFault.{StoreFault}}
 use Rattle.moo_files.specs.Opened.{Contents, Nothing, Database, Unfit, Hold}
-use Rattle.moo_store.specs.declared.fault.StoreFault.{StoreFault}
-use Rattle.moo_files.specs.Contents.{HoldsTrees, HoldsTables, HoldsMoment, HoldsSuch, HoldsNoDatabase, HoldsNoTable}
-use Rattle.moo_files.specs.Contents.{HasOtherTables, HasEarlierTables, HasAnyTable, IsKept, ReadsAsOurs}
-use Rattle.moo_files.specs.Remains.{IsCleanRemains, MayStopAs, Spares, KeepsSuch, KeepsNothingBut, StillHoldsTrees}
-use Rattle.moo_files.specs.Blank.{IsBlank}
-use Rattle.moo_files.specs.Causes.{HasCauseOr, StopsOver, IsDenied, IsOpenable}
-use Rattle.moo_files.specs.Making.{StopsMaking}
-use Rattle.moo_files.specs.Closing.{IsClosedFrom}
+use Rattle.moo_files.specs.Contents.{HoldsTrees, HoldsTables, HoldsMoment, HoldsSuch, HoldsNoDatabase, HoldsNoTable, HasOtherTables}
+use Rattle.moo_files.specs.Contents.{HasEarlierTables, HasAnyTable, IsKept, ReadsAsOurs}
+use Rattle.moo_files.specs.{Remains.{IsCleanRemains, MayStopAs, Spares, KeepsSuch, KeepsNothingBut, StillHoldsTrees}, Blank.{IsBlank}}
+use Rattle.moo_files.specs.{Causes.{HasCauseOr, StopsOver, IsDenied, IsOpenable}, Making.{StopsMaking}, Closing.{IsClosedFrom}}
 use Rattle.moo_files.specs.declared.remains.Remains.{Remains}
 use Rattle.moo_files.specs.declared.remains.Remains.TheVariants as remains
-use Rattle.moo_cli.specs.declared.task.Task.{Task}
-use Rattle.moo_cli.specs.Tasks.{NamesTask, NamesAlone}
-use Rattle.moo_run_lines.specs.Lines.{Reports, store_failure}
+use Rattle.moo_cli.specs.{declared.task.Task.{Task}, Tasks.{NamesTask, NamesAlone}}
+use Rattle.moo_run_lines.specs.{Lines.{Reports, store_failure}, declared.failure.Failure.{Failure}}
 use Rattle.moo_run.specs.Given.{Run}
-use Rattle.moo_run.specs.Run.{begins_anew, only_reads, is_load, RefusesTask, BeginsFrom, FailsToBegin}
-use Rattle.moo_run.specs.Run.{RunsIn, RunsMade, RunsUnseen, RunsTask, FailsAtOnce, EndsUsage}
-use Rattle.moo_run_lines.specs.declared.failure.Failure.{Failure}
-use Rattle.moo_run.specs.declared.ends.Ends.{Ends}
+use Rattle.moo_run.specs.Run.{begins_anew, only_reads, is_load, RefusesTask, BeginsFrom, FailsToBegin, RunsIn, RunsMade, RunsUnseen}
+use Rattle.moo_run.specs.{Run.{RunsTask, FailsAtOnce, EndsUsage}, declared.ends.Ends.{Ends}}
 use Rattle.moo_run.specs.declared.ends.Ends.TheVariants as variant
 
 -- a database of the new world that the task begins with, each row in its printed cells

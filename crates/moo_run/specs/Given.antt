@@ -1,6 +1,5 @@
 -- What a run is given beside its words and their file: texts, and what comes of the ports.
-use Rattle.std.specs.Prelude.{ℕ, List, Option, codes, if◌then◌else◌}
-use Rattle.std.specs.Str.{bytes_eq}
+use Rattle.std.specs.{Prelude.{ℕ, List, Option, codes, if◌then◌else◌}, Str.{bytes_eq}}
 use Rattle.std.specs.declared.io.Read as Reading
 use Rattle.std.specs.declared.io.Write as Writing
 use Rattle.moo_http.specs.Turns.{Attendance, attended_between}

@@ -1,55 +1,33 @@
 -- What a run of the program writes, the status that it ends with, and the place to which it leads.
-use Rattle.std.specs.Prelude.{◌≡◌, ◌<◌, ◌≤◌, ◌⊎◌, ◌==◌, ◌||◌, ℕ, Bool, true, false, IsTrue, ⊤, if◌then◌else◌}
-use Rattle.std.specs.Prelude.{List, [], take, length, Option, Some, None, IfSome, IsSome, Result, MatchResult, codes}
-use Rattle.std.specs.Str.{bytes_eq}
-use Rattle.std.specs.Io.KnownBytes.{Appends}
-use Rattle.clap.specs.Kinds.{IsAmong}
-use Rattle.clap.specs.declared.error.kind.ErrorKind.{ErrorKind}
+use Rattle.std.specs.Prelude.{◌≡◌, ◌<◌, ◌≤◌, ◌⊎◌, ◌==◌, ◌||◌, ℕ, Bool, true, false, IsTrue, ⊤, if◌then◌else◌, List, [], take, length}
+use Rattle.std.specs.{Prelude.{Option, Some, None, IfSome, IsSome, Result, MatchResult, codes}, Str.{bytes_eq}, Io.KnownBytes.{Appends}}
+use Rattle.clap.specs.{Kinds.{IsAmong}, declared.error.kind.ErrorKind.{ErrorKind}}
 use Rattle.clap.specs.declared.error.kind.ErrorKind.TheVariants.{DisplayHelp, DisplayVersion}
-use Rattle.sqlite.specs.State.{State as Database, HasCleanDisk}
-use Rattle.sqlite.specs.Tree.{Trees}
-use Rattle.sqlite.specs.Store.{Ghosts}
-use Rattle.moo_world.specs.declared.call.Batch.{Batch}
-use Rattle.moo_rows.specs.Maps.{Maps, Held as Rows}
+use Rattle.sqlite.specs.{State.{State as Database, HasCleanDisk}, Tree.{Trees}, Store.{Ghosts}}
+use Rattle.moo_world.specs.{declared.call.Batch.{Batch}, Rows.{IsGood}, Judge.{State, state_of}, ObjectLists.{objects_of}}
+use Rattle.moo_rows.specs.{Maps.{Maps, Held as Rows}, Opening.{opening_maps}}
 use Rattle.moo_files.specs.Making.{rows_made}
-use Rattle.moo_rows.specs.Opening.{opening_maps}
-use Rattle.moo_world.specs.Rows.{IsGood}
-use Rattle.moo_world.specs.Judge.{State, state_of}
-use Rattle.moo_world.specs.ObjectLists.{objects_of}
-use Rattle.moo_tables_rows.specs.Tables.{Tables}
-use Rattle.moo_tables_rows.specs.Inside.{Rests}
+use Rattle.moo_tables_rows.specs.{Tables.{Tables}, Inside.{Rests}}
 use Rattle.moo_cells.specs.Shows.{ShowsRows}
-use Rattle.moo_text.specs.declared.fault.TextFault.{TextFault}
-use Rattle.moo_text.specs.declared.lines.TheConstants.{LONGEST_TEXT}
+use Rattle.moo_text.specs.{declared.fault.TextFault.{TextFault}, declared.lines.TheConstants.{LONGEST_TEXT}, declared.reply.Answer.{Answer}}
 use Rattle.moo_dump.specs.Dump.{dump as dump_of}
-use Rattle.moo_load.specs.OneState.{IsHeld}
-use Rattle.moo_load.specs.RowsOf.{AreRowsOf}
-use Rattle.moo_store.specs.declared.fault.StoreFault.{StoreFault}
-use Rattle.moo_store.specs.declared.course.Course.{Course}
-use Rattle.moo_text.specs.declared.reply.Answer.{Answer}
-use Rattle.moo_store.specs.Stopping.{CompletesUntil, HaltsUntil, EndsEarly, AnswersBy}
-use Rattle.moo_store.specs.Rehearsed.{RehearsesAt}
-use Rattle.moo_store.specs.Moment.{Moment, state_of_moment, rows_alone}
-use Rattle.moo_store.specs.NewTables.{IsMadeOf}
-use Rattle.moo_store.specs.OpeningRows.{IsOfStore}
-use Rattle.moo_store.specs.Place.{Place, Works, MayBeLeft, LeavesJust, CrashLeavesAt}
-use Rattle.moo_store.specs.Kept.{World}
-use Rattle.moo_store.specs.Moves.{Stands, RunsAt, AsksAt}
+use Rattle.moo_load.specs.{OneState.{IsHeld}, RowsOf.{AreRowsOf}}
+use Rattle.moo_store.specs.{declared.fault.StoreFault.{StoreFault}, declared.course.Course.{Course}}
+use Rattle.moo_store.specs.{Stopping.{CompletesUntil, HaltsUntil, EndsEarly, AnswersBy}, Rehearsed.{RehearsesAt}}
+use Rattle.moo_store.specs.{Moment.{Moment, state_of_moment, rows_alone}, NewTables.{IsMadeOf}, OpeningRows.{IsOfStore}}
+use Rattle.moo_store.specs.{Place.{Place, Works, MayBeLeft, LeavesJust, CrashLeavesAt}, Kept.{World}, Moves.{Stands, RunsAt, AsksAt}}
 use Rattle.moo_store.specs.World.{store_of}
-use Rattle.moo_cli.specs.declared.task.Task.{Task}
-use Rattle.moo_cli.specs.declared.task.Action.{Action}
+use Rattle.moo_cli.specs.{declared.task.Task.{Task}, declared.task.Action.{Action}}
 use Rattle.moo_cli.specs.declared.task.Action.TheVariants.{Init, Apply, Rehearse, Ask, Dump, Load, Check, Serve}
 use Rattle.moo_run.specs.declared.texts.Manner.{Manner}
 use Rattle.moo_run.specs.declared.texts.Manner.TheVariants as manner
-use Rattle.moo_http.specs.Lines.{listening_line}
-use Rattle.moo_http.specs.Leading.{LeadsTo}
-use Rattle.moo_http.specs.Turns.{Attendance, SaysAttended}
+use Rattle.moo_http.specs.{Lines.{listening_line}, Leading.{LeadsTo}, Turns.{Attendance, SaysAttended}}
 use Rattle.moo_run.specs.Given.{Given, Run}
 use Rattle.moo_cli.specs.Tasks.{NamesTask, NamesAlone, NamesNone, text_word, mistakes}
 use Rattle.moo_run_lines.specs.Lines.{Reports, WritesLine, text_failure, store_failure, loaded_line, checked_line}
 use Rattle.moo_run_lines.specs.declared.failure.Failure.{Failure}
-use Rattle.moo_run_lines.specs.declared.failure.Failure.TheVariants.{Usage, NoFile, Store, Damaged, NewerVersion, NotADump, NoBatches}
-use Rattle.moo_run_lines.specs.declared.failure.Failure.TheVariants.{Read, TooLong, Write, Port, OutOfMemory}
+use Rattle.moo_run_lines.specs.declared.failure.Failure.TheVariants.{Usage, NoFile, Store, Damaged, NewerVersion, NotADump, NoBatches, Read}
+use Rattle.moo_run_lines.specs.declared.failure.Failure.TheVariants.{TooLong, Write, Port, OutOfMemory}
 
 -- ---- tasks
 

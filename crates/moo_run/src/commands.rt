@@ -1,15 +1,11 @@
 //! What each command does over a world.
 
-ghost use Rattle.std.specs.Prelude.{◌≡◌, ℕ, List, true, false, IfOk, IfErr, OnOk};
-ghost use Rattle.std.specs.Io.KnownBytes.{Appends};
+ghost use Rattle.std.specs.{Prelude.{◌≡◌, ℕ, List, true, false, IfOk, IfErr, OnOk}, Io.KnownBytes.{Appends}};
 ghost use Rattle.moo_dump.specs.Dump.{dump};
-ghost use Rattle.moo_store.specs.Moment.{Moment};
-ghost use Rattle.moo_store.specs.Place.{Works};
-ghost use Rattle.moo_store.specs.Moves.{Stands};
-ghost use Rattle.moo_store.specs.World.{store_of, state_of_world};
+ghost use Rattle.moo_store.specs.{Moment.{Moment}, Place.{Works}, Moves.{Stands}, World.{store_of, state_of_world}};
 ghost use Rattle.moo_run_lines.specs.Lines.{loaded_line};
-ghost use Rattle.moo_run.specs.Run.{RunsAction, EndsCheck, line_of, StopsIn, ShowsTables, LeavesNothingNew};
-ghost use Rattle.moo_run.specs.Run.{only_reads, serves, reads_input, ReadsFile};
+ghost use Rattle.moo_run.specs.Run.{RunsAction, EndsCheck, line_of, StopsIn, ShowsTables, LeavesNothingNew, only_reads, serves};
+ghost use Rattle.moo_run.specs.Run.{reads_input, ReadsFile};
 
 use crate::session::{HasRun, Session, Streams};
 use crate::texts::{Manner, answer_batches};

@@ -1,16 +1,10 @@
 //! The file of a task.
 
 ghost use Rattle.std.specs.Prelude.{◌≡◌, ℕ, List, true, false};
-ghost use Rattle.sqlite.specs.State.{HasCleanDisk};
-ghost use Rattle.sqlite.specs.Files.{over_files, file_state};
-ghost use Rattle.sqlite.specs.WalFiles.{image_at};
-ghost use Rattle.moo_store.specs.Moment.{Moment};
-ghost use Rattle.moo_store.specs.Place.{Works};
-ghost use Rattle.moo_store.specs.Moves.{Stands};
-ghost use Rattle.moo_store.specs.World.{store_of};
+ghost use Rattle.sqlite.specs.{State.{HasCleanDisk}, Files.{over_files, file_state}, WalFiles.{image_at}};
+ghost use Rattle.moo_store.specs.{Moment.{Moment}, Place.{Works}, Moves.{Stands}, World.{store_of}};
 ghost use Rattle.moo_run_lines.specs.Lines.{Tells, store_failure};
-ghost use Rattle.moo_run.specs.Run.{begins_anew, reads_input, ReadsFile, only_reads};
-ghost use Rattle.moo_run.specs.Run.{LeavesNothingNew, RunsIn, RunsTask};
+ghost use Rattle.moo_run.specs.Run.{begins_anew, reads_input, ReadsFile, only_reads, LeavesNothingNew, RunsIn, RunsTask};
 ghost use Rattle.moo_run.specs.Ends.{RunsFile, EndsWith};
 
 use crate::ends::Ends;

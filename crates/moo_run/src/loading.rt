@@ -2,14 +2,10 @@
 
 ghost use Rattle.std.specs.Prelude.{◌≡◌, ◌≢◌, ◌<◌, ◌^◌, ℕ, List, true, false, length, codes, IfOk, IfErr, IfSome, MatchOption};
 ghost use Rattle.std.specs.Str.{bytes_eq};
-ghost use Rattle.moo_world.specs.Rows.{IsGood};
-ghost use Rattle.moo_world.specs.Judge.{State, state_of};
+ghost use Rattle.moo_world.specs.{Rows.{IsGood}, Judge.{State, state_of}};
 ghost use Rattle.moo_dump.specs.Dump.{dump as dump_of};
-ghost use Rattle.moo_load.specs.OneState.{IsHeld};
-ghost use Rattle.moo_load.specs.RowsOf.{AreRowsOf};
-ghost use Rattle.moo_load.specs.declared.fault.LoadFault.TheVariants.{OutOfMemory};
-ghost use Rattle.moo_run.specs.Given.{texts_by};
-ghost use Rattle.moo_run.specs.Run.{RefusesDump, TellsLack, FindsRows, ReadsFile, dump_word, is_load, reads_input};
+ghost use Rattle.moo_load.specs.{OneState.{IsHeld}, RowsOf.{AreRowsOf}, declared.fault.LoadFault.TheVariants.{OutOfMemory}};
+ghost use Rattle.moo_run.specs.{Given.{texts_by}, Run.{RefusesDump, TellsLack, FindsRows, ReadsFile, dump_word, is_load, reads_input}};
 
 use crate::host::BatchFiles;
 use crate::session::{HasRun, Session, Streams};

@@ -1,16 +1,12 @@
 //! A task over a connection.
 
 ghost use Rattle.std.specs.Prelude.{◌≡◌, ◌⊎◌, ◌<◌, ◌^◌, ℕ, List, true, false, IfSome};
-ghost use Rattle.sqlite.specs.State.{HasCleanDisk};
-ghost use Rattle.sqlite.specs.Held.{state};
+ghost use Rattle.sqlite.specs.{State.{HasCleanDisk}, Held.{state}};
 ghost use Rattle.moo_world.specs.Rows.{IsGood};
-ghost use Rattle.moo_store.specs.Moment.{Moment};
-ghost use Rattle.moo_store.specs.Place.{Works};
-ghost use Rattle.moo_store.specs.Moves.{Stands};
-ghost use Rattle.moo_store.specs.World.{store_of};
+ghost use Rattle.moo_store.specs.{Moment.{Moment}, Place.{Works}, Moves.{Stands}, World.{store_of}};
 ghost use Rattle.moo_files.specs.Making.{rows_made};
-ghost use Rattle.moo_run.specs.Run.{FailsAtOnce, RunsIn, RunsMade, RunsAnew};
-ghost use Rattle.moo_run.specs.Run.{LeavesNothingNew, ShowsTables, only_reads, reads_input, ReadsFile};
+ghost use Rattle.moo_run.specs.Run.{FailsAtOnce, RunsIn, RunsMade, RunsAnew, LeavesNothingNew, ShowsTables, only_reads, reads_input};
+ghost use Rattle.moo_run.specs.Run.{ReadsFile};
 
 use crate::commands::do_task;
 use crate::loading::find_rows;

@@ -2,11 +2,9 @@
 
 ghost use Rattle.std.specs.Prelude.{◌≡◌, ℕ, List, map};
 ghost use Rattle.clap.specs.Kinds.{HasKind};
-ghost use Rattle.moo_cli.specs.declared.task.Task.{Task};
-ghost use Rattle.moo_cli.specs.Tasks.{NamesTask, IsRefusal, mistakes};
+ghost use Rattle.moo_cli.specs.{declared.task.Task.{Task}, Tasks.{NamesTask, IsRefusal, mistakes}};
 ghost use Rattle.sqlite.specs.WalFiles.{image_at};
-ghost use Rattle.moo_run.specs.Run.{mistake_status, EndsUsage, ReadsFile, KeepsInput, RunsWords};
-ghost use Rattle.moo_run.specs.Ends.{RunsOver, RunsClosed};
+ghost use Rattle.moo_run.specs.{Run.{mistake_status, EndsUsage, ReadsFile, KeepsInput, RunsWords}, Ends.{RunsOver, RunsClosed}};
 
 use crate::ends::Ends;
 use crate::files::run_task;

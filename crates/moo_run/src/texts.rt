@@ -1,11 +1,7 @@
 //! What is done with a text of batches: they are run, rehearsed or asked.
 
-ghost use Rattle.std.specs.Prelude.{◌≡◌, ◌==◌, false, codes, if◌then◌else◌};
-ghost use Rattle.std.specs.Str.{bytes_eq};
-ghost use Rattle.moo_store.specs.Moment.{Moment};
-ghost use Rattle.moo_store.specs.Place.{Works};
-ghost use Rattle.moo_store.specs.Moves.{Stands};
-ghost use Rattle.moo_store.specs.World.{store_of};
+ghost use Rattle.std.specs.{Prelude.{◌≡◌, ◌==◌, false, codes, if◌then◌else◌}, Str.{bytes_eq}};
+ghost use Rattle.moo_store.specs.{Moment.{Moment}, Place.{Works}, Moves.{Stands}, World.{store_of}};
 ghost use Rattle.moo_run.specs.Run.{course_status, changes_world, ComesOf, EndsTask, EndsText, LeavesNothingNew};
 
 use crate::host::BatchFiles;

@@ -1,11 +1,10 @@
 -- From the law of the program to two runs of it.
 use Rattle.std.proofs.Common.{◌≡◌, ◌⊎◌, inl, inr, Bool, true, false, IsTrue, codes, refl, sym, subst}
-use Rattle.std.proofs.lemmas.Bool.{false_from_ne_true, true_from_ne_false}
-use Rattle.std.specs.Str.{bytes_eq}
+use Rattle.std.{proofs.lemmas.Bool.{false_from_ne_true, true_from_ne_false}, specs.Str.{bytes_eq}}
 use Rattle.sqlite_disk.specs.declared.Disk.{Ghosts}
 use Rattle.sqlite_store.specs.declared.store.FileStore.{FileStore}
 use Rattle.sqlite_wal.specs.Recovery.{Image}
-use Rattle.sqlite.{specs.Held.{Held}, specs.declared.file.Leftover.{Leftover}}
+use Rattle.sqlite.specs.{Held.{Held}, declared.file.Leftover.{Leftover}}
 use Rattle.sqlite.specs.declared.file.Leftover.TheVariants as left
 use Rattle.moo_files.{specs.Closing.{IsClosedAs, IsClosedFrom}, specs.Remains.{IsCleanRemains}, specs.Stop.{KeepsTreesNumbered}, specs.declared.remains.Remains.{Remains}}
 use Rattle.moo_files.specs.declared.remains.Remains.TheVariants as remains

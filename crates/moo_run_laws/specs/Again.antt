@@ -1,26 +1,16 @@
 -- The start of a run over a file, what may be found of the file after the run, and how the next run takes that up.
 use Rattle.std.specs.Prelude.{◌≡◌, ◌<◌, ◌⊎◌, ℕ, true, false, List, length, IsSome}
 use Rattle.sqlite_disk.specs.declared.Disk.{Ghosts}
-use Rattle.sqlite_store.specs.declared.store.FileStore.{FileStore}
-use Rattle.sqlite_store.specs.FileStore.{recovers}
-use Rattle.sqlite_store.specs.Unopened.{state_of as unopened_state}
-use Rattle.sqlite_wal.specs.Files.{outcomes}
-use Rattle.sqlite_wal.specs.Recovery.{Image}
-use Rattle.sqlite.specs.State.{HasCleanDisk}
-use Rattle.sqlite.specs.Held.{Held}
-use Rattle.sqlite.specs.Files.{file_state, image_of}
+use Rattle.sqlite_store.specs.{declared.store.FileStore.{FileStore}, FileStore.{recovers}, Unopened.{state_of as unopened_state}}
+use Rattle.sqlite_wal.specs.{Files.{outcomes}, Recovery.{Image}}
+use Rattle.sqlite.specs.{State.{HasCleanDisk}, Held.{Held}, Files.{file_state, image_of}}
 use Rattle.sqlite.specs.declared.file.Leftover.TheVariants as left
 use Rattle.moo_store.specs.Moment.{Moment, BecomesPresent}
-use Rattle.moo_files.specs.Contents.{HoldsSuch, HoldsMoment, HasNoSums, IsLeftBy}
-use Rattle.moo_files.specs.Remains.{IsCleanRemains}
-use Rattle.moo_files.specs.Stop.{LeftStoreLeaves, BytesLeave}
-use Rattle.moo_files.specs.declared.remains.Remains.{Remains}
+use Rattle.moo_files.specs.{Contents.{HoldsSuch, HoldsMoment, HasNoSums, IsLeftBy}, Remains.{IsCleanRemains}}
+use Rattle.moo_files.specs.{Stop.{LeftStoreLeaves, BytesLeave}, declared.remains.Remains.{Remains}}
 use Rattle.moo_files.specs.declared.remains.Remains.TheVariants as remains
-use Rattle.moo_cli.specs.declared.task.Task.{Task}
-use Rattle.moo_cli.specs.Tasks.{NamesTask}
-use Rattle.moo_run.specs.Given.{Given, Run}
-use Rattle.moo_run.specs.Run.{begins_anew, BeginsFrom, RunsIn, EndsUsage}
-use Rattle.moo_run.specs.Ends.{MatchFile, HasNoFile, FailsFor}
+use Rattle.moo_cli.specs.{declared.task.Task.{Task}, Tasks.{NamesTask}}
+use Rattle.moo_run.specs.{Given.{Given, Run}, Run.{begins_anew, BeginsFrom, RunsIn, EndsUsage}, Ends.{MatchFile, HasNoFile, FailsFor}}
 use Rattle.moo_run.specs.declared.ends.Ends.{Ends}
 use Rattle.moo_run.specs.declared.ends.Ends.TheVariants as variant
 

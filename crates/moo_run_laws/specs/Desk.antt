@@ -1,30 +1,18 @@
 -- What passes between a peer and the service through a desk.
-use Rattle.std.specs.Prelude.{◌≡◌, ◌⊎◌, ℕ, ℤ, List, length, Ok, Err}
-use Rattle.std.specs.Io.KnownBytes.{Appends}
+use Rattle.std.specs.{Prelude.{◌≡◌, ◌⊎◌, ℕ, ℤ, List, length, Ok, Err}, Io.KnownBytes.{Appends}}
 use Rattle.std.specs.declared.io.Read as Reading
 use Rattle.std.specs.declared.io.Write as Writing
-use Rattle.moo_arrivals.specs.declared.arrivals.Closing.{Closing}
-use Rattle.moo_arrivals.specs.declared.arrivals.Connection.{Connection}
-use Rattle.moo_arrivals.specs.declared.route.Route.{Route}
+use Rattle.moo_arrivals.specs.{declared.arrivals.Closing.{Closing}, declared.arrivals.Connection.{Connection}, declared.route.Route.{Route}}
 use Rattle.moo_http_request.specs.Given.{HasFailed}
 use Rattle.moo_http_request.specs.declared.incoming.Incoming as Incoming
 use Rattle.moo_desk.specs.declared.gate.Inward as Inward
 use Rattle.moo_desk.specs.declared.gate.Outward as Outward
-use Rattle.moo_desk.specs.declared.gathered.Coming.TheVariants.{Unread}
-use Rattle.moo_desk.specs.declared.gathered.Gathered.{Gathered}
-use Rattle.moo_desk.specs.declared.leaving.Leaving.{Leaving}
-use Rattle.moo_desk.specs.declared.outgoing.Outgoing.{Outgoing}
-use Rattle.moo_desk.specs.declared.slot.Slot.{Slot}
-use Rattle.moo_desk.specs.Deeds.{IsFresh}
-use Rattle.moo_desk.specs.Exchange.{Begins, IsHandedOut}
-use Rattle.moo_desk.specs.Later.{IsGathered, IsLater}
-use Rattle.moo_desk.specs.Read.{Gave}
+use Rattle.moo_desk.specs.{declared.gathered.Coming.TheVariants.{Unread}, declared.gathered.Gathered.{Gathered}}
+use Rattle.moo_desk.specs.{declared.leaving.Leaving.{Leaving}, declared.outgoing.Outgoing.{Outgoing}, declared.slot.Slot.{Slot}}
+use Rattle.moo_desk.specs.{Deeds.{IsFresh}, Exchange.{Begins, IsHandedOut}, Later.{IsGathered, IsLater}, Read.{Gave}}
 use Rattle.moo_store.specs.Place.{Place}
-use Rattle.moo_http.specs.Traffic.{Traffic, traffic_of}
-use Rattle.moo_http.specs.Turns.{Exchanged}
-use Rattle.moo_http.specs.Through.{FailedThrough}
-use Rattle.moo_http.specs.declared.fault.ServeFault.{ServeFault}
-use Rattle.moo_http.specs.declared.fault.ServeFault.TheVariants.{Write}
+use Rattle.moo_http.specs.{Traffic.{Traffic, traffic_of}, Turns.{Exchanged}, Through.{FailedThrough}}
+use Rattle.moo_http.specs.{declared.fault.ServeFault.{ServeFault}, declared.fault.ServeFault.TheVariants.{Write}}
 
 -- A connection as it came to a desk, and was gathered; as it was handed out and given back; and as it is held after that, and later. These
 -- are the steps that `accept`, `close` and `settle` of a desk allow (`Hands`, `GetsBack`, `TellsNext`).

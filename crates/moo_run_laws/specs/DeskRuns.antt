@@ -5,12 +5,10 @@ use Rattle.std.specs.declared.io.Write as Writing
 use Rattle.moo_http_request.specs.declared.incoming.Incoming as Incoming
 use Rattle.moo_desk.specs.declared.gate.Inward as Inward
 use Rattle.moo_desk.specs.declared.gate.Outward as Outward
-use Rattle.moo_desk.specs.declared.held.Held.{Held}
-use Rattle.moo_desk.specs.declared.leaving.Leaving.{Leaving}
-use Rattle.moo_desk.specs.Deeds.{HoldsNone}
-use Rattle.moo_desk.specs.Exchange.{Hands, GetsBack, TellsNext}
-use Rattle.moo_desk.specs.Read.{Gave}
-use Rattle.moo_run_laws.specs.Fates.{Call, calls_accept, calls_close, calls_settle, handed_in, missed_in, given_in, told_in, in_all, AreGivenBack, Fate, Becomes, still_held, count_lost, count_noted}
+use Rattle.moo_desk.specs.{declared.held.Held.{Held}, declared.leaving.Leaving.{Leaving}, Deeds.{HoldsNone}}
+use Rattle.moo_desk.specs.{Exchange.{Hands, GetsBack, TellsNext}, Read.{Gave}}
+use Rattle.moo_run_laws.specs.Fates.{Call, calls_accept, calls_close, calls_settle, handed_in, missed_in, given_in, told_in, in_all}
+use Rattle.moo_run_laws.specs.Fates.{AreGivenBack, Fate, Becomes, still_held, count_lost, count_noted}
 
 module _ {R W : Type 0}
     {inward : Inward.Ghosts R} {incoming : Incoming.Ghosts R} {reader : Reading.Ghosts R} {outward : Outward.Ghosts W}

@@ -1,19 +1,11 @@
 -- What becomes of the connections that are given back to a desk.
 use Rattle.std.specs.Prelude.{◌≡◌, ◌⊎◌, ◌+◌, ◌++◌, ℕ, ℤ, ⊤, Bool, List, [], ◌∷◌, Option, Some, None, length}
 use Rattle.std.specs.declared.io.Write as Writing
-use Rattle.moo_arrivals.specs.declared.arrivals.Closing.{Closing}
-use Rattle.moo_arrivals.specs.declared.arrivals.Connection.{Connection}
-use Rattle.moo_arrivals.specs.declared.cause.Cause.{Cause}
-use Rattle.moo_arrivals.specs.declared.cause.Loss.{Loss}
-use Rattle.moo_arrivals.specs.declared.route.Route.{Route}
-use Rattle.moo_desk.specs.declared.gathered.Gathered.{Gathered}
-use Rattle.moo_desk.specs.declared.leaving.Leaving.{Leaving}
-use Rattle.moo_desk.specs.declared.leaving.Stage.{Stage}
-use Rattle.moo_desk.specs.declared.leaving.Stage.TheVariants.{Done, Lost}
-use Rattle.moo_desk.specs.declared.losses.Losses.{Losses}
-use Rattle.moo_desk.specs.declared.outgoing.Outgoing.{Outgoing}
-use Rattle.moo_desk.specs.Exchange.{Begins}
-use Rattle.moo_desk.specs.Later.{IsLater}
+use Rattle.moo_arrivals.specs.{declared.arrivals.Closing.{Closing}, declared.arrivals.Connection.{Connection}, declared.cause.Cause.{Cause}}
+use Rattle.moo_arrivals.specs.{declared.cause.Loss.{Loss}, declared.route.Route.{Route}}
+use Rattle.moo_desk.specs.{declared.gathered.Gathered.{Gathered}, declared.leaving.Leaving.{Leaving}, declared.leaving.Stage.{Stage}}
+use Rattle.moo_desk.specs.{declared.leaving.Stage.TheVariants.{Done, Lost}, declared.losses.Losses.{Losses}}
+use Rattle.moo_desk.specs.{declared.outgoing.Outgoing.{Outgoing}, Exchange.{Begins}, Later.{IsLater}}
 
 -- A call of a desk: what `accept` hands out; what `close` is given; whether a `settle` is the last, and the loss that it tells of.
 pub data Call (R W : Type 0) : Type 0 where

@@ -2,22 +2,14 @@
 use Rattle.std.specs.Prelude.{◌≡◌, ◌⊎◌, ℕ, List}
 use Rattle.sqlite_disk.specs.declared.Disk.{Ghosts}
 use Rattle.sqlite_wal.specs.Recovery.{Image}
-use Rattle.sqlite.specs.State.{HasCleanDisk}
-use Rattle.sqlite.specs.Files.{file_state}
-use Rattle.moo_store.specs.Moment.{Moment, IsSparedMoment}
-use Rattle.moo_store.specs.Place.{Place, Works, MayBeLeft}
-use Rattle.moo_files.specs.Contents.{HoldsMoment, IsLeftBy}
-use Rattle.moo_files.specs.Remains.{IsCleanRemains}
-use Rattle.moo_files.specs.Stop.{DiskLeaves}
+use Rattle.sqlite.specs.{State.{HasCleanDisk}, Files.{file_state}}
+use Rattle.moo_store.specs.{Moment.{Moment, IsSparedMoment}, Place.{Place, Works, MayBeLeft}}
+use Rattle.moo_files.specs.{Contents.{HoldsMoment, IsLeftBy}, Remains.{IsCleanRemains}, Stop.{DiskLeaves}}
 use Rattle.moo_files.specs.declared.remains.Remains.{Remains}
-use Rattle.moo_cli.specs.declared.task.Task.{Task}
-use Rattle.moo_cli.specs.Tasks.{NamesTask}
+use Rattle.moo_cli.specs.{declared.task.Task.{Task}, Tasks.{NamesTask}}
 use Rattle.moo_http.specs.Turns.{Attendance}
-use Rattle.moo_run.specs.Given.{Run}
-use Rattle.moo_run.specs.Run.{RunsIn}
-use Rattle.moo_run.specs.Ends.{RunsOver, IsClosedEnd}
+use Rattle.moo_run.specs.{Given.{Run}, Run.{RunsIn}, Ends.{RunsOver, IsClosedEnd}, declared.ends.Ends.{Ends}}
 use Rattle.moo_run_laws.specs.Again.{StartsFrom, IfRan, TakesUp, IsLeftAfter, IsFoundOf, IsFoundIn}
-use Rattle.moo_run.specs.declared.ends.Ends.{Ends}
 use Rattle.moo_run.specs.declared.session.HasRun as HasRun
 
 -- A run of the program over a file: its words, what the two files held, its session before it and after it, and what it left of the file,

@@ -1,19 +1,14 @@
 -- The law of a run that comes to a stop at any call.
 use Rattle.std.specs.Prelude.{◌≡◌, ◌⊎◌, IsTrue, false}
 use Rattle.sqlite_disk.specs.declared.Disk.{Ghosts}
-use Rattle.sqlite_store.specs.declared.store.FileStore.{FileStore}
-use Rattle.sqlite_store.specs.FileStore.{view, recovers}
+use Rattle.sqlite_store.specs.{declared.store.FileStore.{FileStore}, FileStore.{view, recovers}}
 use Rattle.sqlite_wal.specs.Recovery.{Image}
 use Rattle.sqlite.specs.Held.{Held}
 use Rattle.sqlite.specs.declared.file.Leftover.TheVariants as left
-use Rattle.moo_files.specs.Contents.{HoldsSuch}
-use Rattle.moo_files.specs.Remains.{IsCleanRemains}
-use Rattle.moo_files.specs.Stop.{DiskLeaves, BytesLeave}
+use Rattle.moo_files.specs.{Contents.{HoldsSuch}, Remains.{IsCleanRemains}, Stop.{DiskLeaves, BytesLeave}}
 use Rattle.moo_files.specs.declared.remains.Remains.{Remains}
 use Rattle.moo_files.specs.declared.remains.Remains.TheVariants as remains
-use Rattle.moo_run_laws.specs.Again.{IfRan}
-use Rattle.moo_run_laws.specs.FileRuns.{FileRun, HandsOver}
-use Rattle.moo_run_laws.specs.Twice.{EndsClosed}
+use Rattle.moo_run_laws.specs.{Again.{IfRan}, FileRuns.{FileRun, HandsOver}, Twice.{EndsClosed}}
 use Rattle.moo_run.specs.declared.ends.Ends.{Ends}
 use Rattle.moo_run.specs.declared.session.HasRun as HasRun
 

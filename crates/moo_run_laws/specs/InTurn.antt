@@ -4,13 +4,10 @@ use Rattle.sqlite_disk.specs.declared.Disk.{Ghosts}
 use Rattle.sqlite_wal.specs.Recovery.{Image}
 use Rattle.sqlite.specs.Files.{file_state}
 use Rattle.moo_world.specs.declared.call.Batch.{Batch}
-use Rattle.moo_store.specs.Moment.{Moment, BecomesPresent, IsSparedMoment, LeadsByEach}
-use Rattle.moo_store.specs.Place.{MayBeLeft}
-use Rattle.moo_cli.specs.declared.task.Task.{Task}
-use Rattle.moo_cli.specs.Tasks.{NamesTask}
+use Rattle.moo_store.specs.{Moment.{Moment, BecomesPresent, IsSparedMoment, LeadsByEach}, Place.{MayBeLeft}}
+use Rattle.moo_cli.specs.{declared.task.Task.{Task}, Tasks.{NamesTask}}
 use Rattle.moo_run.specs.Run.{RunsIn}
-use Rattle.moo_run_laws.specs.Again.{IfRan}
-use Rattle.moo_run_laws.specs.FileRuns.{FileRun, run_of, IsFileRun, IsFoundOnCleanDisk}
+use Rattle.moo_run_laws.specs.{Again.{IfRan}, FileRuns.{FileRun, run_of, IsFileRun, IsFoundOnCleanDisk}}
 use Rattle.moo_run.specs.declared.session.HasRun as HasRun
 
 module _ {S T D : Type 0} {g : HasRun.Ghosts S T D} {disk : Ghosts D} where

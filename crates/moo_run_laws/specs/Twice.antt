@@ -1,18 +1,11 @@
 -- The law of the program, as two runs of it.
-use Rattle.std.specs.Prelude.{◌≡◌, ◌⊎◌, true, ℕ, List, codes, ⊤}
-use Rattle.std.specs.Str.{bytes_eq}
+use Rattle.std.specs.{Prelude.{◌≡◌, ◌⊎◌, true, ℕ, List, codes, ⊤}, Str.{bytes_eq}}
 use Rattle.sqlite_disk.specs.declared.Disk.{Ghosts}
-use Rattle.moo_cli.specs.declared.task.Task.{Task}
-use Rattle.moo_cli.specs.Tasks.{NamesTask}
-use Rattle.moo_files.specs.Remains.{IsCleanRemains}
-use Rattle.moo_files.specs.declared.remains.Remains.{Remains}
-use Rattle.moo_run_lines.specs.Lines.{Reports}
-use Rattle.moo_run_lines.specs.declared.failure.Failure.{Failure}
-use Rattle.moo_run.specs.Given.{Run}
-use Rattle.moo_run.specs.Run.{EndsUsage}
-use Rattle.moo_run.specs.Ends.{IsClosedEnd}
+use Rattle.moo_cli.specs.{declared.task.Task.{Task}, Tasks.{NamesTask}}
+use Rattle.moo_files.specs.{Remains.{IsCleanRemains}, declared.remains.Remains.{Remains}}
+use Rattle.moo_run_lines.specs.{Lines.{Reports}, declared.failure.Failure.{Failure}}
+use Rattle.moo_run.specs.{Given.{Run}, Run.{EndsUsage}, Ends.{IsClosedEnd}, declared.ends.Ends.{Ends}}
 use Rattle.moo_run_laws.specs.FileRuns.{FileRun, run_of, IsFoundAfter, IsFoundOnCleanDisk, HandsOver}
-use Rattle.moo_run.specs.declared.ends.Ends.{Ends}
 use Rattle.moo_run.specs.declared.ends.Ends.TheVariants as variant
 use Rattle.moo_run.specs.declared.session.HasRun as HasRun
 

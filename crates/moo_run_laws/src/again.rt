@@ -2,8 +2,7 @@
 
 ghost use Rattle.std.specs.Prelude.{ℕ, List, map};
 ghost use Rattle.sqlite.specs.WalFiles.{image_at};
-ghost use Rattle.moo_cli.specs.declared.task.Task.{Task};
-ghost use Rattle.moo_cli.specs.Tasks.{NamesTask};
+ghost use Rattle.moo_cli.specs.{declared.task.Task.{Task}, Tasks.{NamesTask}};
 ghost use Rattle.moo_run.specs.Run.{ReadsFile};
 ghost use Rattle.moo_run_laws.specs.Twice.{RunsTwice, StopsAndRuns};
 

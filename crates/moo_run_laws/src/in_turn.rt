@@ -1,15 +1,11 @@
 //! The law of the program, of any list of runs.
 
-ghost use Rattle.std.specs.Prelude.{◌≡◌, ◌+◌, ℕ, ◌≤◌, List, length};
-ghost use Rattle.std.specs.List.{filter};
+ghost use Rattle.std.specs.{Prelude.{◌≡◌, ◌+◌, ℕ, ◌≤◌, List, length}, List.{filter}};
 ghost use Rattle.sqlite_wal.specs.Recovery.{Image};
-ghost use Rattle.moo_world.specs.declared.call.Batch.{Batch};
-ghost use Rattle.moo_world.specs.Judge.{after, is_for};
-ghost use Rattle.moo_world.specs.Rows.{IsGood};
+ghost use Rattle.moo_world.specs.{declared.call.Batch.{Batch}, Judge.{after, is_for}, Rows.{IsGood}};
 ghost use Rattle.moo_store.specs.Moment.{Moment, state_of_moment};
 ghost use Rattle.moo_files.specs.Contents.{HoldsMoment};
-ghost use Rattle.moo_run_laws.specs.FileRuns.{FileRun};
-ghost use Rattle.moo_run_laws.specs.InTurn.{RunInTurn, LeadInTurn};
+ghost use Rattle.moo_run_laws.specs.{FileRuns.{FileRun}, InTurn.{RunInTurn, LeadInTurn}};
 ghost use Rattle.moo_laws.specs.NobodyRises.{NoWizardActs, KeepsRights};
 
 use moo_run::HasRun;

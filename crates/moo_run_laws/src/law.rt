@@ -1,19 +1,14 @@
 //! The law of the program, of any two runs.
 
 ghost use Rattle.std.specs.Prelude.{◌≡◌};
-ghost use Rattle.sqlite.specs.Files.{file_state};
-ghost use Rattle.sqlite.specs.Held.{Held};
+ghost use Rattle.sqlite.specs.{Files.{file_state}, Held.{Held}};
 ghost use Rattle.sqlite_store.specs.declared.store.FileStore.{FileStore};
 ghost use Rattle.sqlite_wal.specs.Recovery.{Image};
-ghost use Rattle.moo_cli.specs.declared.task.Task.{Task};
-ghost use Rattle.moo_cli.specs.declared.task.Service.{Service};
-ghost use Rattle.moo_cli.specs.declared.task.Action.TheVariants.{Serve};
+ghost use Rattle.moo_cli.specs.{declared.task.Task.{Task}, declared.task.Service.{Service}, declared.task.Action.TheVariants.{Serve}};
 ghost use Rattle.moo_store.specs.Moment.{Moment};
 ghost use Rattle.moo_files.specs.Remains.{IsCleanRemains};
-ghost use Rattle.moo_run.specs.Ends.{IsClosedEnd};
-ghost use Rattle.moo_run.specs.Run.{RunsIn};
-ghost use Rattle.moo_run_laws.specs.FileRuns.{FileRun, Follows, HandsOver, IsFoundAfter, run_of, ServedTo};
-ghost use Rattle.moo_run_laws.specs.Halted.{EndLeaves};
+ghost use Rattle.moo_run.specs.{Ends.{IsClosedEnd}, Run.{RunsIn}};
+ghost use Rattle.moo_run_laws.specs.{FileRuns.{FileRun, Follows, HandsOver, IsFoundAfter, run_of, ServedTo}, Halted.{EndLeaves}};
 
 use moo_run::HasRun;
 

@@ -1,8 +1,7 @@
 //! Nobody rises: of the batches that a text, a service or a run of the program runs.
 
 ghost use Rattle.std.specs.Prelude.{List};
-ghost use Rattle.moo_world.specs.declared.call.Batch.{Batch};
-ghost use Rattle.moo_world.specs.Rows.{IsGood};
+ghost use Rattle.moo_world.specs.{declared.call.Batch.{Batch}, Rows.{IsGood}};
 ghost use Rattle.moo_store.specs.Moment.{Moment, state_of_moment, LeadsByEach};
 ghost use Rattle.moo_laws.specs.NobodyRises.{NoWizardActs, KeepsRights};
 

@@ -1,8 +1,6 @@
 -- How a failure is reported.
-use Rattle.std.proofs.Common.{◌≡◌, ◌⊎◌, inl, inr, ℕ, List, Option, Result, Ok, Err, IfOk, subst₂}
-use Rattle.std.specs.Prelude.{MatchResult}
-use Rattle.moo_run_lines.specs.Lines.{WritesLine, word_of, status_of}
-use Rattle.moo_run_lines.specs.declared.failure.Failure.TheVariants.{OutOfMemory}
+use Rattle.std.{proofs.Common.{◌≡◌, ◌⊎◌, inl, inr, ℕ, List, Option, Result, Ok, Err, IfOk, subst₂}, specs.Prelude.{MatchResult}}
+use Rattle.moo_run_lines.specs.{Lines.{WritesLine, word_of, status_of}, declared.failure.Failure.TheVariants.{OutOfMemory}}
 
 -- a line that was made is written, or that memory ran out
 pub writes_made : {A E : Type 0} (made : Result A E) (bytes : A → List ℕ) (line : List ℕ) (known wanted : ℕ) (old new : Option (List ℕ)) (status : ℕ)

@@ -1,9 +1,7 @@
 //! What is written of a failure, and the lines with numbers.
 
-ghost use Rattle.std.specs.Prelude.{MatchResult, ◌≡◌, ◌++◌, IfOk, codes};
-ghost use Rattle.moo_run_lines.specs.Lines.{WritesLine, Reports, word_of, status_of};
-ghost use Rattle.moo_run_lines.specs.Lines.{checked_line, loaded_line};
-ghost use Rattle.std.specs.Fmt.{decimal};
+ghost use Rattle.std.specs.{Prelude.{MatchResult, ◌≡◌, ◌++◌, IfOk, codes}, Fmt.{decimal}};
+ghost use Rattle.moo_run_lines.specs.Lines.{WritesLine, Reports, word_of, status_of, checked_line, loaded_line};
 ghost use Rattle.moo_damage.specs.Words.{kind_text, key_text};
 
 use crate::failure::Failure;

@@ -1,13 +1,10 @@
 //! The program over the words of the command line and the standard streams.
 
-ghost use Rattle.std.specs.Prelude.{◌≡◌, ◌≢◌, ◌⊎◌, ◌∷◌, ℕ, List, codes, map, drop, string_bytes, IfOk, IfErr};
-ghost use Rattle.std.specs.IoError.{error_kind};
+ghost use Rattle.std.specs.{Prelude.{◌≡◌, ◌≢◌, ◌⊎◌, ◌∷◌, ℕ, List, codes, map, drop, string_bytes, IfOk, IfErr}, IoError.{error_kind}};
 ghost use Rattle.moo_run_lines.specs.Lines.{Reports};
 ghost use Rattle.sqlite.specs.WalFiles.{image_at};
-ghost use Rattle.moo_cli.specs.declared.task.Task.{Task};
-ghost use Rattle.moo_cli.specs.Tasks.{NamesTask};
-ghost use Rattle.moo_run.specs.Run.{ReadsFile, KeepsInput};
-ghost use Rattle.moo_run.specs.Ends.{IsUntouched, RunsClosed};
+ghost use Rattle.moo_cli.specs.{declared.task.Task.{Task}, Tasks.{NamesTask}};
+ghost use Rattle.moo_run.specs.{Run.{ReadsFile, KeepsInput}, Ends.{IsUntouched, RunsClosed}};
 
 use crate::host::System;
 use moo_files::{Remains, WorldFiles};

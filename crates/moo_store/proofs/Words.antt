@@ -55,11 +55,6 @@ pub use Rattle.moo_value.specs.declared.value.Value.{Value}
 pub use Rattle.moo_value.specs.declared.value.ObjNo.{ObjNo}
 pub use Rattle.moo_world.specs.Judge.{Accepted, NoRoom, Ran, Stale, State, Verdict, after, is_due, last_seq, left_by, run_calls, state_of, verdict_of}
 unfoldable pub use Rattle.moo_world.specs.Judge.{judge}
-pub use Rattle.moo_world.specs.Rows.{IsGood, numbers_below, world_of}
-pub use Rattle.moo_world.specs.declared.call.Batch.{Batch}
-pub use Rattle.sqlite.specs.Held.{Held, state}
-pub use Rattle.sqlite.specs.State.{HasCleanDisk, Survives}
-pub use Rattle.sqlite.specs.Store.{Ghosts}
-pub use Rattle.sqlite.specs.Order.{Row, column}
-pub use Rattle.sqlite.specs.Tree.{Trees}
+pub use Rattle.moo_world.specs.{Rows.{IsGood, numbers_below, world_of}, declared.call.Batch.{Batch}}
+pub use Rattle.sqlite.specs.{Held.{Held, state}, State.{HasCleanDisk, Survives}, Store.{Ghosts}, Order.{Row, column}, Tree.{Trees}}
 pub use Rattle.moo_tables.specs.Migrated.{migrated}

@@ -4,14 +4,10 @@ use Rattle.sqlite.specs.State.{State as Database}
 use Rattle.moo_rows.specs.Maps.{Maps}
 use Rattle.moo_memory.specs.declared.changes.Changes.{Changes}
 use Rattle.moo_value.specs.declared.value.Value.{Value}
-use Rattle.moo_text.specs.declared.reply.Reply.{Reply}
-use Rattle.moo_text.specs.declared.reply.Reply.TheVariants.{Accepted}
+use Rattle.moo_text.specs.{declared.reply.Reply.{Reply}, declared.reply.Reply.TheVariants.{Accepted}}
 use Rattle.moo_tables_rows.specs.declared.cells.CellChanges.{CellChanges}
-use Rattle.moo_store.specs.CommittingCells.{CommitsCells}
-use Rattle.moo_store.specs.Moment.{Moment, KeepsCellsAt}
-use Rattle.moo_store.specs.Place.{Place, Works, Failed, Between, moment_of}
-use Rattle.moo_store.specs.declared.fault.StoreFault.{StoreFault}
-use Rattle.moo_store.specs.declared.fault.StoreFault.TheVariants.{Store}
+use Rattle.moo_store.specs.{CommittingCells.{CommitsCells}, Moment.{Moment, KeepsCellsAt}, Place.{Place, Works, Failed, Between, moment_of}}
+use Rattle.moo_store.specs.{declared.fault.StoreFault.{StoreFault}, declared.fault.StoreFault.TheVariants.{Store}}
 
 -- the changes were committed, and the reply is this; or the store failed
 abbrev pub CommitsAs : List Value → Changes → Moment → Moment → Result Reply StoreFault → Place → Type 0

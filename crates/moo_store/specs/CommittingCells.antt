@@ -1,17 +1,11 @@
 -- What committing printed changes of rows leaves of a store.
 use Rattle.std.specs.Prelude.{◌≡◌, Some, Result, MatchResult}
-use Rattle.sqlite.specs.declared.error.Error.{Error}
-use Rattle.sqlite.specs.State.{State as Database, HasCleanDisk}
+use Rattle.sqlite.specs.{declared.error.Error.{Error}, State.{State as Database, HasCleanDisk}}
 use Rattle.moo_rows.specs.Maps.{Maps}
-use Rattle.moo_memory.specs.declared.changes.Changes.{Changes}
-use Rattle.moo_memory.specs.Changes.{AreChanges}
-use Rattle.moo_tables_rows.specs.declared.cells.CellChanges.{CellChanges}
-use Rattle.moo_tables_rows.specs.Tables.{Tables}
-use Rattle.moo_tables_rows.specs.Inside.{Rests, IsCurrent, SparesUnread}
+use Rattle.moo_memory.specs.{declared.changes.Changes.{Changes}, Changes.{AreChanges}}
+use Rattle.moo_tables_rows.specs.{declared.cells.CellChanges.{CellChanges}, Tables.{Tables}, Inside.{Rests, IsCurrent, SparesUnread}}
 use Rattle.moo_tables.specs.Transaction.{CommitsTables}
-use Rattle.moo_store.specs.Moment.{Moment, KeepsCellsAt}
-use Rattle.moo_store.specs.Place.{Works, Between, IsAtPlace}
-use Rattle.moo_store.specs.Printed.{Prints}
+use Rattle.moo_store.specs.{Moment.{Moment, KeepsCellsAt}, Place.{Works, Between, IsAtPlace}, Printed.{Prints}}
 
 -- These cells were committed, or the store failed for a cause. That is said of any tables at rest, and the table that isn't read stays.
 -- From a moment at rest the store comes to the next one, of the rows that the changes give; or it failed between the two.

@@ -1,23 +1,12 @@
 -- What making the tables of a world answers.
 use Rattle.std.specs.Prelude.{◌≡◌, ◌≢◌, ◌⊎◌, IsTrue, false, Ok, Err}
-use Rattle.sqlite.specs.declared.error.Error.{Error}
-use Rattle.sqlite.specs.declared.error.Error.TheVariants.{SqliteFailure}
-use Rattle.sqlite.specs.declared.error.ErrorCode.TheVariants.{NameTaken}
-use Rattle.sqlite.specs.State.{State as Database, HasCleanDisk, Survives}
-use Rattle.sqlite.specs.Held.{Held, state}
-use Rattle.sqlite.specs.Store.{Ghosts}
+use Rattle.sqlite.specs.{declared.error.Error.{Error}, declared.error.Error.TheVariants.{SqliteFailure}}
+use Rattle.sqlite.specs.{declared.error.ErrorCode.TheVariants.{NameTaken}, State.{State as Database, HasCleanDisk, Survives}}
+use Rattle.sqlite.specs.{Held.{Held, state}, Store.{Ghosts}}
 use Rattle.moo_rows.specs.Maps.{Maps}
-use Rattle.moo_tables_rows.specs.Tables.{no_schema}
-use Rattle.moo_tables_rows.specs.Inside.{RestsAt}
-use Rattle.moo_tables_rows.specs.Cause.{StopsChange}
-use Rattle.moo_store.specs.Kept.{World}
-use Rattle.moo_store.specs.Opening.{Adoption}
-use Rattle.moo_store.specs.Moment.{Moment, rows_alone}
-use Rattle.moo_store.specs.Place.{Works}
-use Rattle.moo_store.specs.NewTables.{LeavesAsMade, IsMadeOf}
-use Rattle.moo_store.specs.Moves.{Stands}
-use Rattle.moo_store.specs.World.{store_of}
-use Rattle.moo_store.specs.declared.fault.StoreFault.{StoreFault}
+use Rattle.moo_tables_rows.specs.{Tables.{no_schema}, Inside.{RestsAt}, Cause.{StopsChange}}
+use Rattle.moo_store.specs.{Kept.{World}, Opening.{Adoption}, Moment.{Moment, rows_alone}, Place.{Works}}
+use Rattle.moo_store.specs.{NewTables.{LeavesAsMade, IsMadeOf}, Moves.{Stands}, World.{store_of}, declared.fault.StoreFault.{StoreFault}}
 use Rattle.moo_store.specs.declared.fault.StoreFault.TheVariants.{Store, OutOfMemory}
 
 -- the fault of a database that has a table, an index or a view already

@@ -1,23 +1,16 @@
 -- At which place a World is, and what moves it from one to another.
 use Rattle.std.specs.Prelude.{◌≡◌, ◌⊎◌, false, IsTrue, IsSome}
-use Rattle.sqlite.specs.State.{HasCleanDisk}
-use Rattle.sqlite.specs.Store.{Ghosts}
-use Rattle.sqlite.specs.declared.error.Error.{Error}
-use Rattle.moo_world.specs.declared.call.Batch.{Batch}
-use Rattle.moo_world.specs.Rows.{IsGood}
+use Rattle.sqlite.specs.{State.{HasCleanDisk}, Store.{Ghosts}, declared.error.Error.{Error}}
+use Rattle.moo_world.specs.{declared.call.Batch.{Batch}, Rows.{IsGood}}
 use Rattle.moo_world.specs.Judge as model
 use Rattle.moo_world.specs.Judge.{State, judge}
 use Rattle.moo_text.specs.declared.reply.Answer.{Answer}
 use Rattle.moo_text.specs.declared.reply.Answer.TheVariants as answer
-use Rattle.moo_text.specs.declared.reply.Reply.{Reply}
-use Rattle.moo_text.specs.declared.reply.Reply.TheVariants.{NoMemory}
+use Rattle.moo_text.specs.{declared.reply.Reply.{Reply}, declared.reply.Reply.TheVariants.{NoMemory}}
 use Rattle.moo_store.specs.Moment.{Moment, state_of_moment, LeadsBy, HasAtRest}
 use Rattle.moo_store.specs.Place.{Place, Works, Failed, Between, moment_of, has_failed, MayBeLeft, CrashLeavesAt, IsOpenAt}
-use Rattle.moo_store.specs.Stopped.{IsStopped}
-use Rattle.moo_store.specs.declared.fault.StoreFault.{StoreFault}
-use Rattle.moo_store.specs.declared.fault.StoreFault.TheVariants.{Store, Closed}
-use Rattle.moo_store.specs.Answered.{reply_of, answer_of, IsRun}
-use Rattle.moo_store.specs.Kept.{World}
+use Rattle.moo_store.specs.{Stopped.{IsStopped}, declared.fault.StoreFault.{StoreFault}}
+use Rattle.moo_store.specs.{declared.fault.StoreFault.TheVariants.{Store, Closed}, Answered.{reply_of, answer_of, IsRun}, Kept.{World}}
 use Rattle.moo_store.specs.World.{store_of}
 
 -- The World is at this place: it works or it has failed, what a crash may leave are good rows, and while it works its own are those of the

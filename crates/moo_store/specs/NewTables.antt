@@ -1,15 +1,11 @@
 -- Which cells the tables of a world have that was just made, at rest and after a crash.
 use Rattle.std.specs.Prelude.{◌≡◌, [], Some}
-use Rattle.sqlite.specs.State.{State as Database}
-use Rattle.sqlite.specs.Tree.{Trees}
+use Rattle.sqlite.specs.{State.{State as Database}, Tree.{Trees}}
 use Rattle.moo_rows.specs.Maps.{Maps}
 use Rattle.moo_world.specs.Rows.{IsGood}
-use Rattle.moo_tables_rows.specs.declared.cells.CellChanges.{CellChanges}
-use Rattle.moo_tables_rows.specs.Cells.{tables_with}
-use Rattle.moo_tables_rows.specs.Inside.{Rests, Leaves, no_tables}
+use Rattle.moo_tables_rows.specs.{declared.cells.CellChanges.{CellChanges}, Cells.{tables_with}, Inside.{Rests, Leaves, no_tables}}
 use Rattle.moo_tables.specs.Migrated.{HasNoSlot}
-use Rattle.moo_store.specs.Printed.{PrintsAll}
-use Rattle.moo_store.specs.Moment.{Moment}
+use Rattle.moo_store.specs.{Printed.{PrintsAll}, Moment.{Moment}}
 
 -- The connection is open and in no transaction, and its tables hold these rows and no other, each in its printed cells. The table `slot`,
 -- which isn't read, has no row.

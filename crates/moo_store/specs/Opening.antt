@@ -1,19 +1,11 @@
 -- What opening the world of a store may answer.
 use Rattle.std.specs.Prelude.{◌≡◌, Some, Result, Ok, Err}
-use Rattle.sqlite.specs.State.{State as Database, HasCleanDisk, Survives}
-use Rattle.sqlite.specs.Held.{Held, state}
-use Rattle.sqlite.specs.Store.{Ghosts}
-use Rattle.moo_tables_rows.specs.Tables.{Tables}
-use Rattle.moo_tables_rows.specs.Inside.{Rests}
+use Rattle.sqlite.specs.{State.{State as Database, HasCleanDisk, Survives}, Held.{Held, state}, Store.{Ghosts}}
+use Rattle.moo_tables_rows.specs.{Tables.{Tables}, Inside.{Rests}}
 use Rattle.moo_cells.specs.Shows.{ShowsRows}
-use Rattle.moo_store.specs.Current.{unread_of}
-use Rattle.moo_store.specs.Moment.{Moment, rows_alone, BecomesPresent}
-use Rattle.moo_store.specs.Place.{Works}
-use Rattle.moo_store.specs.OpeningRows.{Adopts, HasOthers, IsUnadopted}
-use Rattle.moo_store.specs.declared.fault.StoreFault.{StoreFault}
-use Rattle.moo_store.specs.Kept.{World}
-use Rattle.moo_store.specs.Moves.{Stands}
-use Rattle.moo_store.specs.World.{store_of}
+use Rattle.moo_store.specs.{Current.{unread_of}, Moment.{Moment, rows_alone, BecomesPresent}, Place.{Works}}
+use Rattle.moo_store.specs.{OpeningRows.{Adopts, HasOthers, IsUnadopted}, declared.fault.StoreFault.{StoreFault}, Kept.{World}}
+use Rattle.moo_store.specs.{Moves.{Stands}, World.{store_of}}
 
 -- what opening a World over a connection answers, or making one
 abbrev pub Adoption : Type 0 → Type 0

@@ -1,31 +1,18 @@
 -- Cells that are printed from changes of rows.
 use Rattle.std.specs.Prelude.{◌≡◌, ◌≢◌, ◌==◌, if◌then◌else◌, ℕ, List, [], ◌∷◌, map, Option, Some, None, option_map, Vec, ⊤}
-use Rattle.std.specs.FinMap.{FinMap, entries, get}
-use Rattle.std.specs.declared.alloc.Global.{Global}
-use Rattle.std.specs.declared.cmp.Ordering.{Ordering}
-use Rattle.moo_rows.specs.declared.row.ObjRow.{ObjRow}
-use Rattle.moo_rows.specs.declared.row.PropRow.{PropRow}
-use Rattle.moo_rows.specs.declared.row.SlotRow.{SlotRow}
-use Rattle.moo_rows.specs.declared.row.SlotState.{SlotState}
-use Rattle.moo_rows.specs.declared.row.SlotState.TheVariants.{Clear, Set}
-use Rattle.moo_rows.specs.declared.row.VerbRow.{VerbRow}
-use Rattle.moo_rows.specs.declared.row.PetitionRow.{PetitionRow}
-use Rattle.moo_rows.specs.Maps.{Maps, no_maps}
-use Rattle.moo_tables_rows.specs.declared.object.ObjectCells.{ObjectCells}
-use Rattle.moo_tables_rows.specs.declared.prop.PropCells.{PropCells}
-use Rattle.moo_tables_rows.specs.declared.slot.SlotCells.{SlotCells}
-use Rattle.moo_tables_rows.specs.declared.verb.VerbCells.{VerbCells}
-use Rattle.moo_tables_rows.specs.declared.petition.PetitionCells.{PetitionCells}
-use Rattle.moo_tables_rows.specs.declared.cells.CellChanges.{CellChanges}
+use Rattle.std.specs.{FinMap.{FinMap, entries, get}, declared.alloc.Global.{Global}, declared.cmp.Ordering.{Ordering}}
+use Rattle.moo_rows.specs.{declared.row.ObjRow.{ObjRow}, declared.row.PropRow.{PropRow}, declared.row.SlotRow.{SlotRow}}
+use Rattle.moo_rows.specs.{declared.row.SlotState.{SlotState}, declared.row.SlotState.TheVariants.{Clear, Set}}
+use Rattle.moo_rows.specs.{declared.row.VerbRow.{VerbRow}, declared.row.PetitionRow.{PetitionRow}, Maps.{Maps, no_maps}}
+use Rattle.moo_rows.specs.Bits.{bits_number, verb_bits_of, verb_letters_of}
+use Rattle.moo_tables_rows.specs.{declared.object.ObjectCells.{ObjectCells}, declared.prop.PropCells.{PropCells}}
+use Rattle.moo_tables_rows.specs.{declared.slot.SlotCells.{SlotCells}, declared.verb.VerbCells.{VerbCells}}
+use Rattle.moo_tables_rows.specs.{declared.petition.PetitionCells.{PetitionCells}, declared.cells.CellChanges.{CellChanges}}
 use Rattle.moo_memory.specs.declared.changes.Changes.{Changes}
 use Rattle.moo_cells.specs.Shows.{ShowsAccept, ShowsSlotState, ShowsOrNone}
-use Rattle.moo_rows.specs.Bits.{bits_number, verb_bits_of, verb_letters_of}
-use Rattle.moo_value.specs.Literal.{Spells, print}
-use Rattle.moo_value.specs.Values.{Values}
-use Rattle.moo_value.specs.declared.value.ObjNo.{ObjNo}
+use Rattle.moo_value.specs.{Literal.{Spells, print}, Values.{Values}, declared.value.ObjNo.{ObjNo}}
 use Rattle.moo_value.specs.declared.value.Value.TheVariants.{List as a_list}
-use Rattle.moo_world.specs.Answers.{object_list}
-use Rattle.moo_world.specs.Prepositions.{prep_text, object_spec_text}
+use Rattle.moo_world.specs.{Answers.{object_list}, Prepositions.{prep_text, object_spec_text}}
 
 -- the printed cell of an accept list, which has other spellings too: empty for none, else the printed list
 abbrev pub accept_text : Option (List ObjNo) → List ℕ

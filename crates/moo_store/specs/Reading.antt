@@ -1,17 +1,13 @@
 -- What reading the rows of the tables of a connection answers.
 use Rattle.std.specs.Prelude.{◌≡◌, ◌≢◌, ◌⊎◌, ◌<◌, ◌^◌, Result, Ok, Err}
-use Rattle.sqlite.specs.State.{State as Database, HasCleanDisk}
-use Rattle.sqlite.specs.Held.{Held, state}
-use Rattle.sqlite.specs.Store.{Ghosts}
+use Rattle.sqlite.specs.{State.{State as Database, HasCleanDisk}, Held.{Held, state}, Store.{Ghosts}}
 use Rattle.moo_rows.specs.Maps.{Maps, Held as Rows}
 use Rattle.moo_world.specs.Rows.{IsGood}
-use Rattle.moo_tables_rows.specs.Tables.{Tables, schema_of}
-use Rattle.moo_tables_rows.specs.Inside.{Rests, HasTables, ReadsTables, FailsToRead}
-use Rattle.moo_tables.specs.ReadCause.{StopsQuery}
+use Rattle.moo_tables_rows.specs.{Tables.{Tables, schema_of}, Inside.{Rests, HasTables, ReadsTables, FailsToRead}}
 use Rattle.moo_tables_rows.specs.declared.version.Version.{Version}
+use Rattle.moo_tables.specs.ReadCause.{StopsQuery}
 use Rattle.moo_cells.specs.Shows.{ShowsRows}
-use Rattle.moo_store.specs.OpeningRows.{SaysOr, IsOfStore, StopsBy, HasOthers, not_ours}
-use Rattle.moo_store.specs.declared.fault.StoreFault.{StoreFault}
+use Rattle.moo_store.specs.{OpeningRows.{SaysOr, IsOfStore, StopsBy, HasOthers, not_ours}, declared.fault.StoreFault.{StoreFault}}
 
 -- Rows were found in tables, of which this is known. They are good, the tables show them, and they show no other good rows.
 pub record AreFound (Known : Tables → Type 0) (rows : Maps) : Type 0 where

@@ -1,14 +1,8 @@
 -- What a crash left of a World was opened again.
 use Rattle.std.specs.Prelude.{IsSome}
-use Rattle.sqlite.specs.State.{HasCleanDisk}
-use Rattle.sqlite.specs.Held.{Held, state}
-use Rattle.sqlite.specs.Store.{Ghosts}
+use Rattle.sqlite.specs.{State.{HasCleanDisk}, Held.{Held, state}, Store.{Ghosts}}
 use Rattle.moo_tables_rows.specs.Inside.{MayOpenAs}
-use Rattle.moo_store.specs.Place.{Place, moment_of}
-use Rattle.moo_store.specs.Kept.{World}
-use Rattle.moo_store.specs.Moves.{Stands}
-use Rattle.moo_store.specs.Opening.{Adoption, Adopting}
-use Rattle.moo_store.specs.World.{store_of}
+use Rattle.moo_store.specs.{Place.{Place, moment_of}, Kept.{World}, Moves.{Stands}, Opening.{Adoption, Adopting}, World.{store_of}}
 
 -- A World was at a place whose cells are known, and a connection was opened on what a crash of it may have left. This is what `adopt` made
 -- of that.

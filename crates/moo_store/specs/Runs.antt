@@ -1,13 +1,10 @@
 -- How a list of batches is run, and a World is checked.
 use Rattle.std.specs.Prelude.{◌≡◌, ◌≢◌, ℕ, Bool, true, false, IsTrue, List, [], ◌∷◌, length, take, drop, map, Result, Ok, Err}
 use Rattle.moo_world.specs.declared.call.Batch.{Batch}
-use Rattle.moo_text.specs.declared.next.Next.TheVariants.{Batch as Whole}
-use Rattle.moo_text.specs.declared.reply.Reply.{Reply}
+use Rattle.moo_text.specs.{declared.next.Next.TheVariants.{Batch as Whole}, declared.reply.Reply.{Reply}}
 use Rattle.moo_text.specs.declared.reply.Answer.TheVariants as answer
-use Rattle.moo_store.specs.Place.{Place, Works, Between, has_failed}
-use Rattle.moo_store.specs.declared.fault.StoreFault.{StoreFault}
-use Rattle.moo_store.specs.declared.fault.StoreFault.TheVariants.{Store, Damaged, NewerVersion, OutOfMemory, Closed}
-use Rattle.moo_store.specs.Turns.{Turns}
+use Rattle.moo_store.specs.{Place.{Place, Works, Between, has_failed}, declared.fault.StoreFault.{StoreFault}}
+use Rattle.moo_store.specs.{declared.fault.StoreFault.TheVariants.{Store, Damaged, NewerVersion, OutOfMemory, Closed}, Turns.{Turns}}
 use Rattle.moo_store.specs.Moves.{RunsAt}
 
 -- How a list of batches ends: each has had its turn; or the store failed in the next one; or the World had failed, at first or before the

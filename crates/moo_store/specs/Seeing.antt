@@ -2,11 +2,8 @@
 use Rattle.std.specs.Prelude.{◌≡◌, List, [], ◌∷◌, Option, Some, None}
 use Rattle.moo_rows.specs.Maps.{Maps}
 use Rattle.moo_world.specs.declared.call.Batch.{Batch}
-use Rattle.moo_text.specs.declared.reply.Reply.{Reply}
-use Rattle.moo_text.specs.declared.reply.Reply.TheVariants.{Accepted, Refused, Full, Stale, NoMemory}
-use Rattle.moo_batch.specs.declared.witness.Facts.{Facts}
-use Rattle.moo_batch.specs.declared.witness.Refusal.{Refusal}
-use Rattle.moo_batch.specs.Seeing.{HasSeenRefusal}
+use Rattle.moo_text.specs.{declared.reply.Reply.{Reply}, declared.reply.Reply.TheVariants.{Accepted, Refused, Full, Stale, NoMemory}}
+use Rattle.moo_batch.specs.{declared.witness.Facts.{Facts}, declared.witness.Refusal.{Refusal}, Seeing.{HasSeenRefusal}}
 
 -- Of a batch that is refused the witness has seen one refusal, which is the reply's, and of another none. `kept` and `next` are what it
 -- keeps before and after.

@@ -1,12 +1,9 @@
 -- What a store at rest and what a crash leave: the rows that their tables show, and the world of these rows.
 use Rattle.std.specs.Prelude.{◌≡◌}
-use Rattle.sqlite.specs.State.{State as Database}
-use Rattle.sqlite.specs.Tree.{Trees}
+use Rattle.sqlite.specs.{State.{State as Database}, Tree.{Trees}}
 use Rattle.moo_rows.specs.Maps.{Maps}
-use Rattle.moo_world.specs.Rows.{IsGood}
-use Rattle.moo_world.specs.Judge.{State, state_of}
-use Rattle.moo_tables_rows.specs.Tables.{Tables}
-use Rattle.moo_tables_rows.specs.Inside.{Rests, Leaves, IsCurrent}
+use Rattle.moo_world.specs.{Rows.{IsGood}, Judge.{State, state_of}}
+use Rattle.moo_tables_rows.specs.{Tables.{Tables}, Inside.{Rests, Leaves, IsCurrent}}
 use Rattle.moo_cells.specs.Shows.{ShowsRows}
 
 -- the connection is open and in no transaction, and its tables, of the present version, show these rows

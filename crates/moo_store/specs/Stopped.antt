@@ -2,8 +2,7 @@
 use Rattle.std.specs.Prelude.{◌≡◌, ◌≤◌, ⊤}
 use Rattle.sqlite.specs.State.{State as Database}
 use Rattle.moo_tables_rows.specs.Cause.{StopsChange}
-use Rattle.moo_store.specs.declared.fault.StoreFault.{StoreFault}
-use Rattle.moo_store.specs.declared.fault.StoreFault.TheVariants.{Store}
+use Rattle.moo_store.specs.{declared.fault.StoreFault.{StoreFault}, declared.fault.StoreFault.TheVariants.{Store}}
 
 -- the count of the disk's calls that failed gets no lower, and the connection allows as many steps of SQL as before
 pub record KeepsFaults (old new : Database) : Type 0 where

@@ -1,12 +1,8 @@
 -- What a World shows: the state of its store, and that of its own rows.
 use Rattle.std.specs.Prelude.{Result, Ok, Err}
-use Rattle.sqlite.specs.State.{State as Database}
-use Rattle.sqlite.specs.Store.{Ghosts}
-use Rattle.sqlite.specs.Held.{state}
+use Rattle.sqlite.specs.{State.{State as Database}, Store.{Ghosts}, Held.{state}}
 use Rattle.moo_world.specs.Judge.{State, state_of}
-use Rattle.moo_store.specs.Kept.{World}
-use Rattle.moo_store.specs.declared.fault.StoreFault.{StoreFault}
-use Rattle.moo_store.specs.declared.fault.StoreFault.TheVariants.{Store}
+use Rattle.moo_store.specs.{Kept.{World}, declared.fault.StoreFault.{StoreFault}, declared.fault.StoreFault.TheVariants.{Store}}
 
 -- what the connection of a World shows
 abbrev pub store_of : {S : Type 0} (g : Ghosts S) → World S → Database

@@ -1,13 +1,9 @@
 //! Answering the items of a text in turn.
 
-ghost use Rattle.std.specs.Prelude.{◌≡◌, ◌≢◌, ◌⊎◌, ℕ, take, IfOk, IfErr, IfSome, IfNone};
-ghost use Rattle.std.specs.Io.KnownBytes.{Appends};
+ghost use Rattle.std.specs.{Prelude.{◌≡◌, ◌≢◌, ◌⊎◌, ℕ, take, IfOk, IfErr, IfSome, IfNone}, Io.KnownBytes.{Appends}};
 ghost use Rattle.moo_world.specs.declared.call.Batch.{Batch};
-ghost use Rattle.moo_text.specs.declared.reply.Answer.{Answer};
-ghost use Rattle.moo_text.specs.Replies.{answer_text};
-ghost use Rattle.moo_store.specs.Text.{answer_to};
-ghost use Rattle.moo_store.specs.Turns.{Turn};
-ghost use Rattle.moo_store.specs.Stopping.{AnswersBy};
+ghost use Rattle.moo_text.specs.{declared.reply.Answer.{Answer}, Replies.{answer_text}};
+ghost use Rattle.moo_store.specs.{Text.{answer_to}, Turns.{Turn}, Stopping.{AnswersBy}};
 
 use crate::course::{Course, stops_after};
 use crate::fault::StoreFault;

@@ -1,7 +1,6 @@
 //! Running a text of batches.
 
-ghost use Rattle.moo_store.specs.Moves.{MovesBy, RunsAt};
-ghost use Rattle.moo_store.specs.Stopping.{AnswersBy};
+ghost use Rattle.moo_store.specs.{Moves.{MovesBy, RunsAt}, Stopping.{AnswersBy}};
 
 use crate::answering::{Answering, answer_to, answer_until};
 use crate::course::Course;

@@ -1,9 +1,7 @@
 //! Asking a text of batches, which changes nothing.
 
 ghost use Rattle.std.specs.Prelude.{◌≡◌, false};
-ghost use Rattle.moo_store.specs.Place.{Place};
-ghost use Rattle.moo_store.specs.Moves.{Stands, AsksAt};
-ghost use Rattle.moo_store.specs.Stopping.{AnswersBy, to_the_end};
+ghost use Rattle.moo_store.specs.{Place.{Place}, Moves.{Stands, AsksAt}, Stopping.{AnswersBy, to_the_end}};
 
 use crate::answering::{Answering, answer_to, answer_until};
 use crate::tally::Tally;

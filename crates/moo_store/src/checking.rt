@@ -1,10 +1,7 @@
 //! Whether the tables of a World still show its rows.
 
 ghost use Rattle.std.specs.Prelude.{◌≡◌};
-ghost use Rattle.moo_store.specs.Checked.{KeepsTables, Checks};
-ghost use Rattle.moo_store.specs.Moves.{MovesBy};
-ghost use Rattle.moo_store.specs.Runs.{LeavesChecked, fails_by};
-ghost use Rattle.moo_store.specs.World.{store_of};
+ghost use Rattle.moo_store.specs.{Checked.{KeepsTables, Checks}, Moves.{MovesBy}, Runs.{LeavesChecked, fails_by}, World.{store_of}};
 
 use crate::comparing::check_rows;
 use crate::fault::StoreFault;

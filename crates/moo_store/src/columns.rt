@@ -1,15 +1,9 @@
 //! Columns of rows of which a value has several spellings, each printed only if its value changes.
 
-ghost use Rattle.std.specs.Prelude.{◌≡◌, ◌↔◌, IsTrue, List, ℕ, Some, IfOk, option_map};
-ghost use Rattle.std.specs.Cmp.{booleans_Decides};
-ghost use Rattle.std.proofs.Common.{ap};
-ghost use Rattle.moo_value.specs.Equal.{IsExact, same_by-exact};
-ghost use Rattle.moo_value.specs.Literal.{Spells, print};
-ghost use Rattle.moo_value.specs.Values.{coded_values};
+ghost use Rattle.std.{specs.Prelude.{◌≡◌, ◌↔◌, IsTrue, List, ℕ, Some, IfOk, option_map}, specs.Cmp.{booleans_Decides}, proofs.Common.{ap}};
+ghost use Rattle.moo_value.specs.{Equal.{IsExact, same_by-exact}, Literal.{Spells, print}, Values.{coded_values}};
 ghost use Rattle.moo_value.specs.declared.value.Value.TheVariants.{List as a_list};
-ghost use Rattle.moo_rows.specs.Bits.{verb_bits_of, verb_letters_of};
-ghost use Rattle.moo_rows.specs.declared.row.VerbBits.{VerbBits};
-ghost use Rattle.moo_rows.specs.Equal.{list_eq-exact};
+ghost use Rattle.moo_rows.specs.{Bits.{verb_bits_of, verb_letters_of}, declared.row.VerbBits.{VerbBits}, Equal.{list_eq-exact}};
 ghost use Rattle.moo_rows.specs.SameRows.{and, is, option-exact, state-exact};
 ghost use Rattle.moo_cells.specs.Shows.{ShowsAccept, ShowsSlotState};
 ghost use Rattle.moo_store.specs.Printed.{PrintsOver, accept_text, calls_text, state_text};

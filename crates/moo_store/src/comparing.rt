@@ -2,12 +2,10 @@
 
 ghost use Rattle.std.specs.Prelude.{◌≡◌, ◌≢◌, IfOk, IfErr, OnOk, false, length};
 ghost use Rattle.sqlite.specs.Held.{state};
-ghost use Rattle.moo_world.specs.ObjectLists.{objects_of};
-ghost use Rattle.moo_world.specs.Rows.{IsGood, world_of};
+ghost use Rattle.moo_world.specs.{ObjectLists.{objects_of}, Rows.{IsGood, world_of}};
 ghost use Rattle.moo_tables.specs.Listing.{AreListed, tables_of};
 ghost use Rattle.moo_cells.specs.Shows.{ShowsRows};
-ghost use Rattle.moo_store.specs.OpeningRows.{IsOfStore};
-ghost use Rattle.moo_store.specs.Checked.{SaysInCheck, KeepsTables, Checks};
+ghost use Rattle.moo_store.specs.{OpeningRows.{IsOfStore}, Checked.{SaysInCheck, KeepsTables, Checks}};
 
 use crate::fault::StoreFault;
 use crate::reading::{failure_of, read_lists, test_current};

@@ -1,7 +1,6 @@
 //! Writing all that a World holds.
 
-ghost use Rattle.std.specs.Prelude.{◌≡◌, ◌≢◌, ℕ, take, false, IsTrue, OnOk, IfErr, IsErrOf};
-ghost use Rattle.std.specs.Io.KnownBytes.{Appends};
+ghost use Rattle.std.specs.{Prelude.{◌≡◌, ◌≢◌, ℕ, take, false, IsTrue, OnOk, IfErr, IsErrOf}, Io.KnownBytes.{Appends}};
 ghost use Rattle.moo_dump.specs.Dump.{dump};
 ghost use Rattle.moo_store.specs.World.{state_of_world};
 

@@ -3,8 +3,7 @@
 ghost use Rattle.std.specs.Prelude.{◌≡◌, ◌≢◌, false, IfOk, IsErrOf, IsTrue, MatchResult, option_map};
 ghost use Rattle.moo_batch.specs.Ticks.{NoneComeBack};
 ghost use Rattle.moo_world.specs.Judge.{judge};
-ghost use Rattle.moo_store.specs.Answered.{answer_of, answers_alone};
-ghost use Rattle.moo_store.specs.Seeing.{HasSeenEach, HasSeenPlace, HasSeenReply};
+ghost use Rattle.moo_store.specs.{Answered.{answer_of, answers_alone}, Seeing.{HasSeenEach, HasSeenPlace, HasSeenReply}};
 ghost use Rattle.moo_store.specs.World.{state_of_world};
 
 use crate::fault::StoreFault;

@@ -1,15 +1,9 @@
 //! What rows answer to a batch, before anything of it is kept.
 
 ghost use Rattle.std.specs.Prelude.{◌≡◌, IfOk, IfErr, MatchResult};
-ghost use Rattle.moo_batch.specs.Judge.{IsVerdict};
-ghost use Rattle.moo_batch.specs.Ticks.{NoneComeBack};
-ghost use Rattle.moo_batch.specs.declared.judging.Verdict.TheVariants.{Accepted};
-ghost use Rattle.moo_world.specs.Judge.{state_of};
-ghost use Rattle.moo_world.specs.Rows.{IsGood};
-ghost use Rattle.moo_store.specs.Seeing.{HasSeenReply};
-ghost use Rattle.moo_store.specs.Moment.{Moment};
-ghost use Rattle.moo_store.specs.Place.{Works};
-ghost use Rattle.moo_store.specs.Moves.{RunsAt, MayReplyAsked};
+ghost use Rattle.moo_batch.specs.{Judge.{IsVerdict}, Ticks.{NoneComeBack}, declared.judging.Verdict.TheVariants.{Accepted}};
+ghost use Rattle.moo_world.specs.{Judge.{state_of}, Rows.{IsGood}};
+ghost use Rattle.moo_store.specs.{Seeing.{HasSeenReply}, Moment.{Moment}, Place.{Works}, Moves.{RunsAt, MayReplyAsked}};
 
 use moo_batch::{Verdict, Witness, judge};
 use moo_memory::{Changes, Flat};

@@ -1,21 +1,12 @@
 //! What holds of runs as wholes.
 
-ghost use Rattle.std.specs.Prelude.{◌≡◌, ◌++◌, false, true, List};
-ghost use Rattle.std.specs.List.{AllByRecursion};
-ghost use Rattle.moo_world.specs.declared.call.Batch.{Batch};
-ghost use Rattle.moo_text.specs.declared.next.Next.{Next};
-ghost use Rattle.moo_text.specs.declared.reply.Answer.{Answer};
-ghost use Rattle.moo_world.specs.Judge.{after};
-ghost use Rattle.moo_world.specs.Numbers.{NumbersStay};
-ghost use Rattle.moo_world.specs.Requests.{PetitionsStay, state_of};
-ghost use Rattle.moo_store.specs.Text.{accepted, is_plain, replies, answers_asked, batches_of};
-ghost use Rattle.moo_store.specs.Turns.{Turns};
-ghost use Rattle.moo_store.specs.Stopping.{AreAccepted, EndAtFirst, up_to_first};
-ghost use Rattle.moo_store.specs.Rehearsed.{RehearsesAt};
+ghost use Rattle.std.specs.{Prelude.{◌≡◌, ◌++◌, false, true, List}, List.{AllByRecursion}};
+ghost use Rattle.moo_world.specs.{declared.call.Batch.{Batch}, Judge.{after}, Numbers.{NumbersStay}, Requests.{PetitionsStay, state_of}};
 ghost use Rattle.moo_world.specs.Rows.{IsGood};
-ghost use Rattle.moo_store.specs.Moment.{Moment, state_of_moment, LeadsByEach};
-ghost use Rattle.moo_store.specs.Place.{Place, moment_of};
-ghost use Rattle.moo_store.specs.Kept.{World};
+ghost use Rattle.moo_text.specs.{declared.next.Next.{Next}, declared.reply.Answer.{Answer}};
+ghost use Rattle.moo_store.specs.{Text.{accepted, is_plain, replies, answers_asked, batches_of}, Turns.{Turns}};
+ghost use Rattle.moo_store.specs.{Stopping.{AreAccepted, EndAtFirst, up_to_first}, Rehearsed.{RehearsesAt}};
+ghost use Rattle.moo_store.specs.{Moment.{Moment, state_of_moment, LeadsByEach}, Place.{Place, moment_of}, Kept.{World}};
 ghost use Rattle.moo_store.specs.Moves.{Stands, RunsAt, AsksAt, state_at};
 
 use sqlite::Alter;

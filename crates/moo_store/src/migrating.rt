@@ -1,17 +1,11 @@
 //! Tables of an earlier version, migrated to the present one.
 
 ghost use Rattle.std.specs.Prelude.{◌≡◌, ◌≢◌, ◌⊎◌, ◌<◌, ◌^◌, None, IfOk, IfErr, IsTrue, OnOk, OnErr, false};
-ghost use Rattle.sqlite.specs.State.{HasCleanDisk, Survives};
-ghost use Rattle.sqlite.specs.Held.{state};
-ghost use Rattle.moo_tables_rows.specs.Tables.{Tables, schema_of};
-ghost use Rattle.moo_tables_rows.specs.Cause.{StopsChange};
-ghost use Rattle.moo_tables_rows.specs.Inside.{Rests, RestsAt, HasTables};
-ghost use Rattle.moo_tables_rows.specs.Version.{IsEarlier};
-ghost use Rattle.moo_tables_rows.specs.declared.version.Version.{Version};
+ghost use Rattle.sqlite.specs.{State.{HasCleanDisk, Survives}, Held.{state}};
+ghost use Rattle.moo_tables_rows.specs.{Tables.{Tables, schema_of}, Cause.{StopsChange}, Inside.{Rests, RestsAt, HasTables}};
+ghost use Rattle.moo_tables_rows.specs.{Version.{IsEarlier}, declared.version.Version.{Version}};
 ghost use Rattle.moo_cells.specs.Shows.{ShowsRows};
-ghost use Rattle.moo_store.specs.States.{KeepsRows};
-ghost use Rattle.moo_store.specs.Current.{RestsCurrent};
-ghost use Rattle.moo_store.specs.OpeningRows.{IsOfStore, StopsBy, TakesOver, not_ours};
+ghost use Rattle.moo_store.specs.{States.{KeepsRows}, Current.{RestsCurrent}, OpeningRows.{IsOfStore, StopsBy, TakesOver, not_ours}};
 ghost use Rattle.moo_store.specs.Printed.{PrintEach, PrintsSlot, all_of};
 
 use crate::fault::StoreFault;

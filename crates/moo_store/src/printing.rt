@@ -1,9 +1,9 @@
 //! Rows that change, printed as the cells of their tables.
 
-ghost use Rattle.std.specs.Prelude.{◌≡◌, Option, Some, None, IfOk, option_map};
-ghost use Rattle.std.specs.FinMap.{get};
+ghost use Rattle.std.specs.{Prelude.{◌≡◌, Option, Some, None, IfOk, option_map}, FinMap.{get}};
 ghost use Rattle.moo_cells.specs.Shows.{ShowsOrNone};
-ghost use Rattle.moo_store.specs.Printed.{PrintEach, Prints, PrintsObject, PrintsProp, PrintsSlot, PrintsVerb, PrintsPetition, PrintsAll, new_number, all_of};
+ghost use Rattle.moo_store.specs.Printed.{PrintEach, Prints, PrintsObject, PrintsProp, PrintsSlot, PrintsVerb, PrintsPetition, PrintsAll};
+ghost use Rattle.moo_store.specs.Printed.{new_number, all_of};
 
 use crate::columns::text_over;
 use moo_memory::{ChangeList, Changes, Flat};

@@ -1,18 +1,14 @@
 //! The rows that the tables of a connection show.
 
 ghost use Rattle.std.specs.Prelude.{◌≡◌, ◌≢◌, ◌⊎◌, ◌<◌, ◌^◌, IfOk, IfErr, IsTrue, OnOk, OnErr, false};
-ghost use Rattle.sqlite.specs.State.{HasCleanDisk};
-ghost use Rattle.sqlite.specs.Held.{state};
+ghost use Rattle.sqlite.specs.{State.{HasCleanDisk}, Held.{state}};
 ghost use Rattle.moo_rows.specs.Maps.{Maps};
 ghost use Rattle.moo_world.specs.Rows.{IsGood};
 ghost use Rattle.moo_tables_rows.specs.Tables.{Tables, present_schema, schema_of};
-ghost use Rattle.moo_tables_rows.specs.Inside.{Rests, IsCurrent, HasTables, ReadsTables, FailsToRead};
-ghost use Rattle.moo_tables.specs.ReadCause.{StopsQuery};
-ghost use Rattle.moo_tables.specs.Listing.{AreListed, tables_of};
-ghost use Rattle.moo_tables_rows.specs.declared.version.Version.{Version};
+ghost use Rattle.moo_tables_rows.specs.{Inside.{Rests, IsCurrent, HasTables, ReadsTables, FailsToRead}, declared.version.Version.{Version}};
+ghost use Rattle.moo_tables.specs.{ReadCause.{StopsQuery}, Listing.{AreListed, tables_of}};
 ghost use Rattle.moo_cells.specs.Shows.{ShowsRows};
-ghost use Rattle.moo_store.specs.OpeningRows.{SaysOr, IsOfStore, StopsBy, not_ours};
-ghost use Rattle.moo_store.specs.Reading.{ReadsRowsAs, ReadsRows};
+ghost use Rattle.moo_store.specs.{OpeningRows.{SaysOr, IsOfStore, StopsBy, not_ours}, Reading.{ReadsRowsAs, ReadsRows}};
 
 use crate::fault::StoreFault;
 use moo_cells::{CellFault, read_cells, read_in_turn};

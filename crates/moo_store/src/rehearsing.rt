@@ -1,10 +1,7 @@
 //! Rehearsing a text of batches: what running it would answer, and nothing is committed.
 
 ghost use Rattle.std.specs.Prelude.{◌≡◌};
-ghost use Rattle.moo_store.specs.Moment.{Moment, rows_alone};
-ghost use Rattle.moo_store.specs.Place.{Place, Works, Failed};
-ghost use Rattle.moo_store.specs.Moves.{Stands};
-ghost use Rattle.moo_store.specs.Stopping.{AnswersBy};
+ghost use Rattle.moo_store.specs.{Moment.{Moment, rows_alone}, Place.{Place, Works, Failed}, Moves.{Stands}, Stopping.{AnswersBy}};
 ghost use Rattle.moo_store.specs.Rehearsed.{IsRehearsedAt, RehearsesAt};
 
 use crate::answering::{Answering, answer_until};

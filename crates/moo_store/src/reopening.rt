@@ -1,16 +1,9 @@
 //! A crash, and the opening of what it left.
 
 ghost use Rattle.std.specs.Prelude.{IfOk, IfErr, IsSome};
-ghost use Rattle.sqlite.specs.State.{HasCleanDisk};
-ghost use Rattle.sqlite.specs.Held.{Held, state};
-ghost use Rattle.moo_store.specs.Moment.{Moment, BecomesPresent};
-ghost use Rattle.moo_store.specs.OpeningRows.{IsOfStore};
-ghost use Rattle.moo_store.specs.Place.{Place, Works, MayBeLeft};
-ghost use Rattle.moo_store.specs.Kept.{World};
-ghost use Rattle.moo_store.specs.Moves.{Stands};
-ghost use Rattle.moo_store.specs.Opening.{Adoption};
-ghost use Rattle.moo_store.specs.Reopened.{IsOpenedAgain};
-ghost use Rattle.moo_store.specs.World.{store_of};
+ghost use Rattle.sqlite.specs.{State.{HasCleanDisk}, Held.{Held, state}};
+ghost use Rattle.moo_store.specs.{Moment.{Moment, BecomesPresent}, OpeningRows.{IsOfStore}, Place.{Place, Works, MayBeLeft}, Kept.{World}};
+ghost use Rattle.moo_store.specs.{Moves.{Stands}, Opening.{Adoption}, Reopened.{IsOpenedAgain}, World.{store_of}};
 
 use sqlite::Alter;
 

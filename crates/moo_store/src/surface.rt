@@ -2,12 +2,8 @@
 //! `apply_until`, and looks at an object over its rows.
 
 ghost use Rattle.std.specs.Prelude.{◌≡◌, ◌⊎◌, [], false, ⊤, IsTrue, IfErr, IsErrOf, MatchResult, length, take};
-ghost use Rattle.moo_store.specs.Stopped.{KeepsFaults};
-ghost use Rattle.moo_store.specs.Answered.{acknowledged, added};
-ghost use Rattle.moo_store.specs.Moves.{MovesBy, RunsAt, FailsRun};
-ghost use Rattle.moo_store.specs.Runs.{RunsEach};
-ghost use Rattle.moo_store.specs.Stopping.{AnswersBy, to_the_end};
-ghost use Rattle.moo_store.specs.World.{store_of, state_of_world, MatchStore};
+ghost use Rattle.moo_store.specs.{Stopped.{KeepsFaults}, Answered.{acknowledged, added}, Moves.{MovesBy, RunsAt, FailsRun}};
+ghost use Rattle.moo_store.specs.{Runs.{RunsEach}, Stopping.{AnswersBy, to_the_end}, World.{store_of, state_of_world, MatchStore}};
 ghost use Rattle.moo_dump.specs.Look.{look_of};
 
 use crate::answering::answer_until;

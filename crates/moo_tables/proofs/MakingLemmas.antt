@@ -6,8 +6,7 @@ use Rattle.sqlite.specs.Change.{created, next_tree}
 use Rattle.sqlite_catalog.{specs.Calls.{RefusesTable}, specs.Change.{automatics, is_reserved, is_used}, specs.Listing.{is_fit, is_formed}}
 use Rattle.sqlite_catalog.specs.declared.error.Refusal as alter
 use Rattle.sqlite_catalog.specs.declared.error.Refusal.TheVariants as why
-use Rattle.sqlite_schema.specs.Rules.{index_reals, table_reals}
-use Rattle.sqlite_schema.specs.Names.{same_name}
+use Rattle.sqlite_schema.specs.{Rules.{index_reals, table_reals}, Names.{same_name}}
 use Rattle.sqlite_trees.specs.Sound as sound
 use Rattle.sqlite.specs.declared.run.Mode.{Mode}
 

@@ -2,8 +2,7 @@
 use Rattle.std.specs.Prelude.{◌≡◌, ℕ, false, if◌then◌else◌, map, List, [], ◌∷◌, Some, None}
 use Rattle.sqlite.specs.Table.{Table}
 use Rattle.sqlite_value.specs.Keys.{plain}
-use Rattle.moo_tables_rows.specs.declared.our_table.OurTable.{OurTable}
-use Rattle.moo_tables_rows.specs.Columns.{numbered, paired, required}
+use Rattle.moo_tables_rows.specs.{declared.our_table.OurTable.{OurTable}, Columns.{numbered, paired, required}}
 
 -- a table has no constraint but its key, and no column that is computed
 pub record HasNoRules (t : Table) : Type 0 where

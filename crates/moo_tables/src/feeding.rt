@@ -1,17 +1,11 @@
 //! The rows of a table, handed on while they are read, so that no list of a whole table need be held.
 
 ghost use Rattle.std.specs.Prelude.{◌≡◌, List, [], ◌∷◌, ◌++◌, IfOk, OnOk, true, false};
-ghost use Rattle.sqlite.specs.Held.{state};
-ghost use Rattle.sqlite.specs.Given.{IsPlain};
-ghost use Rattle.sqlite.specs.Listing.{understood};
-ghost use Rattle.sqlite.specs.Order.{Row as Cells};
+ghost use Rattle.sqlite.specs.{Held.{state}, Given.{IsPlain}, Listing.{understood}, Order.{Row as Cells}};
 ghost use Rattle.sqlite.specs.State.{HasCleanDisk, Shown, Survives, CommitsShowing, IsUnchanged};
-ghost use Rattle.moo_tables.specs.Feeding.{AreTaken, AreFed};
-ghost use Rattle.moo_tables_rows.specs.Inside.{Rests};
-ghost use Rattle.moo_tables.specs.Listing.{HasTable, ListsTable};
-ghost use Rattle.moo_tables.specs.ReadCause.{HasCauseIfNotShown};
+ghost use Rattle.moo_tables.specs.{Feeding.{AreTaken, AreFed}, Listing.{HasTable, ListsTable}, ReadCause.{HasCauseIfNotShown}};
 ghost use Rattle.moo_tables.specs.Reading.{KeepsIfNotShown, OnlyReads};
-ghost use Rattle.moo_tables_rows.specs.Tables.{Tables};
+ghost use Rattle.moo_tables_rows.specs.{Inside.{Rests}, Tables.{Tables}};
 
 use crate::cell_table::CellTable;
 use moo_tables_rows::Version;

@@ -3,12 +3,10 @@
 //! The order of a query's rows is proved only if the disk returned what was written: so it is tested here.
 
 ghost use Rattle.std.specs.Prelude.{◌≡◌, ◌↔◌, false, option_map, IsTrue, IfSome, IfNone};
-ghost use Rattle.sqlite.specs.Order.{column, value_cmp};
-ghost use Rattle.sqlite.specs.declared.types.Value.TheVariants.{Int};
+ghost use Rattle.sqlite.specs.{Order.{column, value_cmp}, declared.types.Value.TheVariants.{Int}};
 ghost use Rattle.sqlite_trees.specs.View.{is_int};
 ghost use Rattle.moo_tables_rows.specs.Inside.{AreKeyed};
-ghost use Rattle.moo_tables.specs.Listing.{ArePaired, AreListed};
-ghost use Rattle.moo_tables.specs.Rising.{has_two_numbers, is_above, pair_cmp, pair_of_ints};
+ghost use Rattle.moo_tables.specs.{Listing.{ArePaired, AreListed}, Rising.{has_two_numbers, is_above, pair_cmp, pair_of_ints}};
 
 use crate::reading::CellLists;
 use sqlite::Row;

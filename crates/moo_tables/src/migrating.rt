@@ -1,11 +1,9 @@
 //! The tables of an earlier version made those of the present one.
 
 ghost use Rattle.std.specs.Prelude.{◌≡◌, ◌<◌, ◌^◌, IsTrue, OnOk, false};
-ghost use Rattle.sqlite.specs.State.{HasCleanDisk};
-ghost use Rattle.sqlite.specs.Held.{state};
+ghost use Rattle.sqlite.specs.{State.{HasCleanDisk}, Held.{state}};
 ghost use Rattle.moo_tables_rows.specs.Inside.{StaysInside};
-ghost use Rattle.moo_tables.specs.Migrated.{GrowsTables, HasCauseOfMigrating, MigratesInside};
-ghost use Rattle.moo_tables.specs.Transaction.{MigratesTables};
+ghost use Rattle.moo_tables.specs.{Migrated.{GrowsTables, HasCauseOfMigrating, MigratesInside}, Transaction.{MigratesTables}};
 
 use moo_rows::{Head, PropId};
 use moo_tables_rows::{

@@ -1,7 +1,6 @@
 //! Which version of the tables a database has.
 
-ghost use Rattle.std.specs.Prelude.{◌≡◌, ◌≢◌, ◌↔◌, [], ◌∷◌, map, IsTrue, IfOk, IfSome, IfNone};
-ghost use Rattle.std.specs.List.{AllByRecursion};
+ghost use Rattle.std.specs.{Prelude.{◌≡◌, ◌≢◌, ◌↔◌, [], ◌∷◌, map, IsTrue, IfOk, IfSome, IfNone}, List.{AllByRecursion}};
 ghost use Rattle.sqlite_value.specs.Keys.{plain};
 ghost use Rattle.moo_tables_rows.specs.Tables.{key_index, first_schema, second_schema, schema_of};
 ghost use Rattle.moo_tables.specs.Ours.{HasNoRules, IsNumbered, IsPaired, our_table};

@@ -2,8 +2,7 @@
 
 ghost use Rattle.std.specs.Prelude.{◌≡◌, ◌++◌, IfOk};
 ghost use Rattle.sqlite.specs.Held.{state};
-ghost use Rattle.moo_tables.specs.Listing.{HasTable, ListsTable, ListsNumbers, ListsTables};
-ghost use Rattle.moo_tables.specs.Reading.{Lists, OnlyReads};
+ghost use Rattle.moo_tables.specs.{Listing.{HasTable, ListsTable, ListsNumbers, ListsTables}, Reading.{Lists, OnlyReads}};
 
 use crate::cell_table::CellTable;
 use crate::feeding::{TakeRows, feed_table};

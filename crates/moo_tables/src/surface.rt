@@ -1,8 +1,7 @@
 //! The program doesn't come this way. After a crash a new start opens the file. The law `a_crash_is_taken_up` speaks of this call.
 
 ghost use Rattle.std.specs.Prelude.{◌≡◌, false, IfSome};
-ghost use Rattle.sqlite.specs.Held.{state};
-ghost use Rattle.sqlite.specs.State.{HasCleanDisk};
+ghost use Rattle.sqlite.specs.{Held.{state}, State.{HasCleanDisk}};
 ghost use Rattle.moo_tables_rows.specs.Inside.{MayOpenAs};
 
 use sqlite::{Alter, Connection};

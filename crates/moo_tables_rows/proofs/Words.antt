@@ -80,10 +80,8 @@ pub use Rattle.sqlite_sql.proofs.QueryLemmas.{no_fold_overflows, output_cmp_tota
 pub use Rattle.sqlite_sql.specs.declared.ops.BinaryOp.TheVariants.{Compare}
 pub use Rattle.sqlite_sql.specs.declared.ops.CompareOp.TheVariants.{Eq, Ne}
 unfoldable pub use Rattle.sqlite_tied.specs.Compute.{everything}
-pub use Rattle.sqlite_trees.specs.Tree.{IsAscending, with_tree}
-pub use Rattle.sqlite_trees.specs.View.{IsClean, is_int}
+pub use Rattle.sqlite_trees.specs.{Tree.{IsAscending, with_tree}, View.{IsClean, is_int}}
 pub use Rattle.sqlite_typing.specs.Types.{accepts_program, accepts_terms}
-pub use Rattle.sqlite_value.proofs.OrderLemmas.{then-Equal, value_cmp-Int, value_cmp_total}
-pub use Rattle.sqlite_value.specs.Keys.{ascending, plain}
+pub use Rattle.sqlite_value.{proofs.OrderLemmas.{then-Equal, value_cmp-Int, value_cmp_total}, specs.Keys.{ascending, plain}}
 unfoldable pub use Rattle.sqlite_value.specs.Keys.{first_key}
 pub use Rattle.sqlite_value.specs.declared.keys.Order.{Order}

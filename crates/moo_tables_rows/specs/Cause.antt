@@ -1,12 +1,10 @@
 -- Why a change of the tables fails.
 use Rattle.std.specs.Prelude.{◌≡◌, ◌⊎◌, ⊤, Bool, true, false, MatchBool, IsSome, Result, IfErr}
 use Rattle.sqlite_trees.specs.declared.error.StoreError.{StoreError}
-use Rattle.sqlite.specs.declared.error.Error.{Error}
-use Rattle.sqlite.specs.declared.error.Error.TheVariants.{SqliteFailure}
+use Rattle.sqlite.specs.{declared.error.Error.{Error}, declared.error.Error.TheVariants.{SqliteFailure}}
 use Rattle.sqlite.specs.declared.error.ErrorCode.TheVariants as code
 use Rattle.sqlite.specs.State.{State, HasCleanDisk, HasCause, store_error}
-use Rattle.moo_tables_rows.specs.Tables.{Tables}
-use Rattle.moo_tables_rows.specs.Inside.{Sees, KeepsUnread}
+use Rattle.moo_tables_rows.specs.{Tables.{Tables}, Inside.{Sees, KeepsUnread}}
 
 -- The store failed: memory ran out, the disk failed or refused, the connection was shut, or a row is too big to be stored.
 abbrev pub StoreStops : State → State → Error → Type 0

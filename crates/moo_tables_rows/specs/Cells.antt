@@ -1,27 +1,15 @@
 -- The changes of rows, told by their cells.
-use Rattle.std.specs.Prelude.{◌≡◌, ◌≢◌, ℕ, ℤ, pos, List, Option, Some, None, fold}
-use Rattle.std.specs.List.{AllByRecursion}
+use Rattle.std.specs.{Prelude.{◌≡◌, ◌≢◌, ℕ, ℤ, pos, List, Option, Some, None, fold}, List.{AllByRecursion}}
 use Rattle.sqlite.specs.Order.{Row}
-use Rattle.moo_rows.specs.declared.row.Head.{Head}
-use Rattle.moo_tables_rows.specs.declared.object.ObjectCells.{ObjectCells}
-use Rattle.moo_tables_rows.specs.declared.prop.PropCells.{PropCells}
-use Rattle.moo_tables_rows.specs.declared.petition.PetitionCells.{PetitionCells}
-use Rattle.moo_tables_rows.specs.declared.slot.SlotCells.{SlotCells}
-use Rattle.moo_tables_rows.specs.declared.verb.VerbCells.{VerbCells}
-use Rattle.moo_value.specs.declared.value.ObjNo.{ObjNo}
-use Rattle.moo_rows.specs.declared.row.PetitionId.{PetitionId}
-use Rattle.moo_rows.specs.declared.row.PropId.{PropId}
+use Rattle.moo_rows.specs.{declared.row.Head.{Head}, declared.row.PetitionId.{PetitionId}, declared.row.PropId.{PropId}}
 use Rattle.moo_rows.specs.declared.row.VerbId.{VerbId}
-use Rattle.moo_tables_rows.specs.declared.cells.CellChanges.{CellChanges}
-use Rattle.moo_tables_rows.specs.Version.{present}
+use Rattle.moo_tables_rows.specs.{declared.object.ObjectCells.{ObjectCells}, declared.prop.PropCells.{PropCells}}
+use Rattle.moo_tables_rows.specs.{declared.petition.PetitionCells.{PetitionCells}, declared.slot.SlotCells.{SlotCells}}
+use Rattle.moo_tables_rows.specs.{declared.verb.VerbCells.{VerbCells}, declared.cells.CellChanges.{CellChanges}, Version.{present}}
 use Rattle.moo_tables_rows.specs.Tables.{Tables, numbered_with, numbered_over, paired_over}
-pub use Rattle.moo_tables_rows.specs.Columns.{flag_cell}
-pub use Rattle.moo_tables_rows.specs.Head.{head_cells, petition_head_cells}
-pub use Rattle.moo_tables_rows.specs.Object.{object_cells}
-pub use Rattle.moo_tables_rows.specs.Petition.{petition_cells}
-pub use Rattle.moo_tables_rows.specs.Prop.{prop_cells}
-pub use Rattle.moo_tables_rows.specs.Slot.{slot_cells}
-pub use Rattle.moo_tables_rows.specs.Verb.{verb_cells}
+use Rattle.moo_value.specs.declared.value.ObjNo.{ObjNo}
+pub use Rattle.moo_tables_rows.specs.{Columns.{flag_cell}, Head.{head_cells, petition_head_cells}, Object.{object_cells}}
+pub use Rattle.moo_tables_rows.specs.{Petition.{petition_cells}, Prop.{prop_cells}, Slot.{slot_cells}, Verb.{verb_cells}}
 
 -- ---- a change of one key, with its new cells or none
 

@@ -1,15 +1,8 @@
 -- What the calls of one transaction leave of a connection, and what a whole one leaves.
-use Rattle.std.specs.Prelude.{◌≡◌, ◌⊎◌, ℕ, false, IsTrue, List, [], None, Result, IfOk}
-use Rattle.std.specs.List.{AllByRecursion}
-use Rattle.sqlite.specs.Schema.{Schema}
-use Rattle.sqlite.specs.Order.{Row}
-use Rattle.sqlite.specs.Tree.{Trees}
-use Rattle.sqlite.specs.Effect.{Database, IsDatabase}
-use Rattle.sqlite.specs.declared.error.Error.{Error}
+use Rattle.std.specs.{Prelude.{◌≡◌, ◌⊎◌, ℕ, false, IsTrue, List, [], None, Result, IfOk}, List.{AllByRecursion}}
+use Rattle.sqlite.specs.{Schema.{Schema}, Order.{Row}, Tree.{Trees}, Effect.{Database, IsDatabase}, declared.error.Error.{Error}}
 use Rattle.sqlite.specs.State.{State, HasCleanDisk, Executes, IsUnchanged, IsRolledBack, KeepsCommit, Survives, Opens}
-use Rattle.moo_tables_rows.specs.declared.version.Version.{Version}
-use Rattle.moo_tables_rows.specs.declared.version.Version.TheVariants.{First}
-use Rattle.moo_tables_rows.specs.Version.{present}
+use Rattle.moo_tables_rows.specs.{declared.version.Version.{Version}, declared.version.Version.TheVariants.{First}, Version.{present}}
 use Rattle.moo_tables_rows.specs.Tables.{Tables, no_schema, schema_of, slot_tree}
 pub use Rattle.moo_tables_rows.specs.Tables.{AreKeyed, Holds, KeepsUnread}
 

@@ -1,11 +1,7 @@
 -- What a statement does that writes a row of a table.
 use Rattle.std.specs.Prelude.{◌≡◌, ◌≢◌, ℕ, List, Result, IfOk, OnOk}
-use Rattle.sqlite.specs.State.{State}
-use Rattle.sqlite.specs.Table.{Table}
-use Rattle.sqlite.specs.declared.error.Error.{Error}
-use Rattle.moo_tables_rows.specs.Cause.{HasCauseIn, MeetsRowIn}
-use Rattle.moo_tables_rows.specs.Tables.{Tables}
-use Rattle.moo_tables_rows.specs.Inside.{Changes}
+use Rattle.sqlite.specs.{State.{State}, Table.{Table}, declared.error.Error.{Error}}
+use Rattle.moo_tables_rows.specs.{Cause.{HasCauseIn, MeetsRowIn}, Tables.{Tables}, Inside.{Changes}}
 use Rattle.moo_tables_rows.specs.Texts.{insert_text, put_text, update_text}
 
 -- The tables are changed so if a statement wrote over a row, and stay if it wrote over none.

@@ -1,12 +1,8 @@
 -- The table `prop`: its columns, and the cells of a row.
 use Rattle.std.specs.Prelude.{◌≡◌, [], ◌∷◌, codes, List, ℕ, pos, Option, Some}
-use Rattle.sqlite.specs.Order.{Row, column}
-use Rattle.sqlite.specs.Table.{Table}
-use Rattle.sqlite.specs.declared.types.Value.TheVariants.{Int, Text}
-use Rattle.moo_rows.specs.declared.row.PropId.{PropId}
-use Rattle.moo_rows.specs.declared.row.PropRow.{PropRow}
-use Rattle.moo_tables_rows.specs.declared.prop.PropCells.{PropCells}
-use Rattle.moo_tables_rows.specs.Columns.{numbered, number, text, KeepsCell}
+use Rattle.sqlite.specs.{Order.{Row, column}, Table.{Table}, declared.types.Value.TheVariants.{Int, Text}}
+use Rattle.moo_rows.specs.{declared.row.PropId.{PropId}, declared.row.PropRow.{PropRow}}
+use Rattle.moo_tables_rows.specs.{declared.prop.PropCells.{PropCells}, Columns.{numbered, number, text, KeepsCell}}
 
 -- the table `prop`, whose key is the property's number
 abbrev pub prop_table : Table

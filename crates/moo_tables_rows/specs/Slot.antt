@@ -1,14 +1,9 @@
 -- The tables of the slots, `slot` in the first version and `slot2` after it: their columns, and the cells of a row of `slot2`.
 use Rattle.std.specs.Prelude.{◌≡◌, [], ◌∷◌, codes, List, ℕ, pos, Option}
-use Rattle.sqlite.specs.Order.{Row, column}
-use Rattle.sqlite.specs.Table.{Table}
-use Rattle.sqlite.specs.declared.types.Value.{Value}
-use Rattle.sqlite.specs.declared.types.Value.TheVariants.{Int}
+use Rattle.sqlite.specs.{Order.{Row, column}, Table.{Table}, declared.types.Value.{Value}, declared.types.Value.TheVariants.{Int}}
 use Rattle.moo_value.specs.declared.value.ObjNo.{ObjNo}
-use Rattle.moo_rows.specs.declared.row.PropId.{PropId}
-use Rattle.moo_rows.specs.declared.row.SlotRow.{SlotRow}
-use Rattle.moo_tables_rows.specs.declared.slot.SlotCells.{SlotCells}
-use Rattle.moo_tables_rows.specs.Columns.{paired, number, text, cells_over, KeepsCell}
+use Rattle.moo_rows.specs.{declared.row.PropId.{PropId}, declared.row.SlotRow.{SlotRow}}
+use Rattle.moo_tables_rows.specs.{declared.slot.SlotCells.{SlotCells}, Columns.{paired, number, text, cells_over, KeepsCell}}
 
 -- the table `slot` of the first version, whose key is an object and a property; the bits are letters
 abbrev pub slot_table : Table

@@ -1,27 +1,17 @@
 -- The tables of the store, as the schema has them, and their rows.
-use Rattle.std.specs.Prelude.{◌≡◌, Bool, true, if◌then◌else◌, ◌&&◌, ℕ, ℤ, codes}
-use Rattle.std.specs.Prelude.{Option, option_map, List, [], ◌∷◌, find}
+use Rattle.std.specs.Prelude.{◌≡◌, Bool, true, if◌then◌else◌, ◌&&◌, ℕ, ℤ, codes, Option, option_map, List, [], ◌∷◌, find}
 use Rattle.std.specs.Ordering.{is_eq, int_cmp}
-use Rattle.sqlite.specs.declared.types.Value.TheVariants.{Int}
-use Rattle.sqlite.specs.Order.{Row, column, value_cmp}
-use Rattle.sqlite.specs.Tree.{Trees, has_rowid}
-use Rattle.sqlite.specs.Schema.{Schema}
-use Rattle.sqlite.specs.Table.{Table}
-use Rattle.sqlite.specs.Effect.{Database, IsDatabase}
+use Rattle.sqlite.specs.{declared.types.Value.TheVariants.{Int}, Order.{Row, column, value_cmp}, Tree.{Trees, has_rowid}, Schema.{Schema}}
+use Rattle.sqlite.specs.{Table.{Table}, Effect.{Database, IsDatabase}}
 use Rattle.sqlite_trees.specs.View.{IsShaped}
 use Rattle.sqlite_trees.specs.declared.store.Shape.TheVariants as shape
 use Rattle.sqlite_value.specs.Keys.{plain}
 use Rattle.sqlite_schema.specs.declared.schema.Index.{Index}
-use Rattle.moo_tables_rows.specs.declared.version.Version.{Version}
-use Rattle.moo_tables_rows.specs.declared.version.Version.TheVariants.{First, Second}
+use Rattle.moo_tables_rows.specs.{declared.version.Version.{Version}, declared.version.Version.TheVariants.{First, Second}}
 use Rattle.moo_tables_rows.specs.Version.{present, has_petitions, has_lettered_bits}
 pub use Rattle.moo_tables_rows.specs.Columns.{required, number, text, table_of, numbered, paired, cells_at, number_places, pair_places}
-pub use Rattle.moo_tables_rows.specs.Head.{head_table, petition_head_table}
-pub use Rattle.moo_tables_rows.specs.Object.{object_table}
-pub use Rattle.moo_tables_rows.specs.Petition.{petition_table}
-pub use Rattle.moo_tables_rows.specs.Prop.{prop_table}
-pub use Rattle.moo_tables_rows.specs.Slot.{slot_table, slot2_table}
-pub use Rattle.moo_tables_rows.specs.Verb.{verb_table}
+pub use Rattle.moo_tables_rows.specs.{Head.{head_table, petition_head_table}, Object.{object_table}, Petition.{petition_table}}
+pub use Rattle.moo_tables_rows.specs.{Prop.{prop_table}, Slot.{slot_table, slot2_table}, Verb.{verb_table}}
 
 -- the index of the key of a table whose key is its first two columns
 abbrev pub key_index : List ℕ → ℕ → ℕ → Index

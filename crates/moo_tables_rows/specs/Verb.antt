@@ -1,14 +1,9 @@
 -- The table `verb`: its columns, and the cells of a row.
 use Rattle.std.specs.Prelude.{◌≡◌, [], ◌∷◌, codes, List, ℕ, pos, Option}
-use Rattle.sqlite.specs.Order.{Row, column}
-use Rattle.sqlite.specs.Table.{Table}
-use Rattle.sqlite.specs.declared.types.Value.{Value}
-use Rattle.sqlite.specs.declared.types.Value.TheVariants.{Int, Text}
+use Rattle.sqlite.specs.{Order.{Row, column}, Table.{Table}, declared.types.Value.{Value}, declared.types.Value.TheVariants.{Int, Text}}
 use Rattle.moo_value.specs.declared.value.ObjNo.{ObjNo}
-use Rattle.moo_rows.specs.declared.row.VerbId.{VerbId}
-use Rattle.moo_rows.specs.declared.row.VerbRow.{VerbRow}
-use Rattle.moo_tables_rows.specs.declared.verb.VerbCells.{VerbCells}
-use Rattle.moo_tables_rows.specs.Columns.{paired, number, text, cells_over, KeepsCell}
+use Rattle.moo_rows.specs.{declared.row.VerbId.{VerbId}, declared.row.VerbRow.{VerbRow}}
+use Rattle.moo_tables_rows.specs.{declared.verb.VerbCells.{VerbCells}, Columns.{paired, number, text, cells_over, KeepsCell}}
 
 -- the table `verb`, whose key is an object and the verb's number
 abbrev pub verb_table : Table

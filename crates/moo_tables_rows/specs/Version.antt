@@ -1,7 +1,6 @@
 -- The versions of the tables: the number of each, the one that is written, and what each has.
 use Rattle.std.specs.Prelude.{◌≢◌, Bool, true, false, ℤ, pos}
-use Rattle.moo_tables_rows.specs.declared.version.Version.{Version}
-use Rattle.moo_tables_rows.specs.declared.version.Version.TheVariants.{First, Second}
+use Rattle.moo_tables_rows.specs.{declared.version.Version.{Version}, declared.version.Version.TheVariants.{First, Second}}
 
 -- the number of a version, as the column `version` of `head` has it
 abbrev pub version_number : Version → ℤ

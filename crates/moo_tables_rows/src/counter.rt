@@ -2,9 +2,7 @@
 
 ghost use Rattle.std.specs.Prelude.{◌≡◌, OnOk};
 ghost use Rattle.sqlite.specs.Values.{bound};
-ghost use Rattle.moo_tables_rows.specs.Cells.{with_counter, with_next_petition};
-ghost use Rattle.moo_tables_rows.specs.Cause.{HasCauseIn};
-ghost use Rattle.moo_tables_rows.specs.Head.{petition_head_cells};
+ghost use Rattle.moo_tables_rows.specs.{Cells.{with_counter, with_next_petition}, Cause.{HasCauseIn}, Head.{petition_head_cells}};
 ghost use Rattle.moo_tables_rows.specs.Inside.{StaysInside, Changes};
 
 use crate::our_table::OurTable;

@@ -2,10 +2,7 @@
 
 ghost use Rattle.std.specs.Prelude.{◌≡◌, ◌<◌, ◌^◌, OnOk};
 ghost use Rattle.sqlite.specs.Values.{bound};
-ghost use Rattle.moo_tables_rows.specs.Cells.{with_head_cells};
-ghost use Rattle.moo_tables_rows.specs.Cause.{HasCauseIn};
-ghost use Rattle.moo_tables_rows.specs.Head.{head_cells};
-ghost use Rattle.moo_tables_rows.specs.Inside.{StaysInside, Changes};
+ghost use Rattle.moo_tables_rows.specs.{Cells.{with_head_cells}, Cause.{HasCauseIn}, Head.{head_cells}, Inside.{StaysInside, Changes}};
 ghost use Rattle.moo_tables_rows.specs.Version.{present};
 
 use crate::our_table::OurTable;

@@ -1,11 +1,8 @@
 //! The table `object`: what it is, and the writing of its rows.
 
 ghost use Rattle.std.specs.Prelude.{◌≡◌};
-ghost use Rattle.sqlite.specs.Values.{bound};
-ghost use Rattle.sqlite.specs.declared.types.Value.TheVariants.{Null, Text};
-ghost use Rattle.moo_tables_rows.specs.Cells.{with_object_cells};
-ghost use Rattle.moo_tables_rows.specs.Columns.{all_but};
-ghost use Rattle.moo_tables_rows.specs.Object.{object_row, object_table};
+ghost use Rattle.sqlite.specs.{Values.{bound}, declared.types.Value.TheVariants.{Null, Text}};
+ghost use Rattle.moo_tables_rows.specs.{Cells.{with_object_cells}, Columns.{all_but}, Object.{object_row, object_table}};
 
 use crate::our_table::OurTable;
 use crate::statement::{Run, flag_value, object_value, text_value};

@@ -1,11 +1,8 @@
 //! The table `petition`: what it is, and the writing of its rows.
 
 ghost use Rattle.std.specs.Prelude.{◌≡◌};
-ghost use Rattle.sqlite.specs.Values.{bound};
-ghost use Rattle.sqlite.specs.declared.types.Value.TheVariants.{Null, Text};
-ghost use Rattle.moo_tables_rows.specs.Cells.{with_petition_cells};
-ghost use Rattle.moo_tables_rows.specs.Columns.{all_but};
-ghost use Rattle.moo_tables_rows.specs.Petition.{petition_row, petition_table};
+ghost use Rattle.sqlite.specs.{Values.{bound}, declared.types.Value.TheVariants.{Null, Text}};
+ghost use Rattle.moo_tables_rows.specs.{Cells.{with_petition_cells}, Columns.{all_but}, Petition.{petition_row, petition_table}};
 
 use crate::our_table::OurTable;
 use crate::statement::{Run, counter_value, object_value, text_value};

@@ -2,8 +2,7 @@
 
 ghost use Rattle.std.specs.Prelude.{◌≡◌};
 ghost use Rattle.sqlite.specs.Values.{bound};
-ghost use Rattle.moo_tables_rows.specs.Cells.{with_prop_cells};
-ghost use Rattle.moo_tables_rows.specs.Prop.{prop_row, prop_table};
+ghost use Rattle.moo_tables_rows.specs.{Cells.{with_prop_cells}, Prop.{prop_row, prop_table}};
 
 use crate::our_table::OurTable;
 use crate::statement::{Run, counter_value, object_value, text_value};

@@ -2,11 +2,8 @@
 //! version.
 
 ghost use Rattle.std.specs.Prelude.{◌≡◌, ◌∷◌, [], pos};
-ghost use Rattle.sqlite.specs.Values.{bound};
-ghost use Rattle.sqlite.specs.declared.types.Value.TheVariants.{Null, Int, Text};
-ghost use Rattle.moo_tables_rows.specs.Cells.{with_slot_cells};
-ghost use Rattle.moo_tables_rows.specs.Columns.{all_but};
-ghost use Rattle.moo_tables_rows.specs.Slot.{slot_row, slot2_table};
+ghost use Rattle.sqlite.specs.{Values.{bound}, declared.types.Value.TheVariants.{Null, Int, Text}};
+ghost use Rattle.moo_tables_rows.specs.{Cells.{with_slot_cells}, Columns.{all_but}, Slot.{slot_row, slot2_table}};
 
 use crate::our_table::OurTable;
 use crate::statement::{Run, counter_value, object_value, text_value};

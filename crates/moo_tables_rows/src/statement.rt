@@ -1,15 +1,10 @@
 //! The statements of a transaction, and the values that they take.
 
-ghost use Rattle.std.specs.Prelude.{◌≡◌, IsTrue, IfOk, pos};
-ghost use Rattle.std.specs.Borrow.{GName};
-ghost use Rattle.sqlite.specs.State.{State, HasCleanDisk, Executes, ExecutesInside};
-ghost use Rattle.sqlite.specs.Held.{state as state_of};
-ghost use Rattle.sqlite.specs.Values.{bound};
-ghost use Rattle.sqlite_value.specs.Value.{owned};
+ghost use Rattle.std.specs.{Prelude.{◌≡◌, IsTrue, IfOk, pos}, Borrow.{GName}};
+ghost use Rattle.sqlite.specs.{State.{State, HasCleanDisk, Executes, ExecutesInside}, Held.{state as state_of}, Values.{bound}};
 ghost use Rattle.sqlite.specs.declared.types.Value.TheVariants.{Int, Text};
-ghost use Rattle.moo_tables_rows.specs.Cause.{is_conflict};
-ghost use Rattle.moo_tables_rows.specs.Cells.{flag_cell};
-ghost use Rattle.moo_tables_rows.specs.Inside.{StaysInside};
+ghost use Rattle.sqlite_value.specs.Value.{owned};
+ghost use Rattle.moo_tables_rows.specs.{Cause.{is_conflict}, Cells.{flag_cell}, Inside.{StaysInside}};
 
 use moo_value::ObjNo;
 use sqlite::{Alter, Error, ErrorCode, Transaction};

@@ -2,11 +2,8 @@
 
 ghost use Rattle.std.specs.Prelude.{◌≡◌, Option, Some, None, IfOk, OnOk};
 ghost use Rattle.sqlite.specs.Table.{Table};
-ghost use Rattle.moo_tables_rows.specs.Cause.{HasCauseIn, MeetsRowIn};
-ghost use Rattle.moo_tables_rows.specs.Tables.{Tables};
-ghost use Rattle.moo_tables_rows.specs.Texts.{insert_text, put_text, update_text};
-ghost use Rattle.moo_tables_rows.specs.Over.{WritesOver, WritesRow};
-ghost use Rattle.moo_tables_rows.specs.Inside.{StaysInside, Changes};
+ghost use Rattle.moo_tables_rows.specs.{Cause.{HasCauseIn, MeetsRowIn}, Tables.{Tables}, Texts.{insert_text, put_text, update_text}};
+ghost use Rattle.moo_tables_rows.specs.{Over.{WritesOver, WritesRow}, Inside.{StaysInside, Changes}};
 
 use crate::statement::Run;
 use sqlite::Error;

@@ -1,11 +1,8 @@
 //! The table `verb`: what it is, and the writing of its rows.
 
 ghost use Rattle.std.specs.Prelude.{◌≡◌, ◌∷◌, [], pos};
-ghost use Rattle.sqlite.specs.Values.{bound};
-ghost use Rattle.sqlite.specs.declared.types.Value.TheVariants.{Null, Int, Text};
-ghost use Rattle.moo_tables_rows.specs.Cells.{with_verb_cells};
-ghost use Rattle.moo_tables_rows.specs.Columns.{all_but};
-ghost use Rattle.moo_tables_rows.specs.Verb.{verb_row, verb_table};
+ghost use Rattle.sqlite.specs.{Values.{bound}, declared.types.Value.TheVariants.{Null, Int, Text}};
+ghost use Rattle.moo_tables_rows.specs.{Cells.{with_verb_cells}, Columns.{all_but}, Verb.{verb_row, verb_table}};
 
 use crate::our_table::OurTable;
 use crate::statement::{Run, counter_value, object_value, text_value};

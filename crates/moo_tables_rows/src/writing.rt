@@ -1,9 +1,7 @@
 //! A change of the rows of one table, whichever it is.
 
 ghost use Rattle.std.specs.Prelude.{◌≡◌, Some, OnOk};
-ghost use Rattle.moo_tables_rows.specs.Cells.{with_each};
-ghost use Rattle.moo_tables_rows.specs.Cause.{HasCauseIn};
-ghost use Rattle.moo_tables_rows.specs.Inside.{StaysInside, Changes};
+ghost use Rattle.moo_tables_rows.specs.{Cells.{with_each}, Cause.{HasCauseIn}, Inside.{StaysInside, Changes}};
 
 use crate::statement::{Run, is_conflict};
 use crate::table_row::TableRow;

@@ -23,6 +23,4 @@ pub use Rattle.moo_value.specs.Literal.{AreBlanks, AreDigits, BeginsNo, Ends, Fi
 pub use Rattle.moo_value.specs.Reading.{after_blanks, after_mark, after_word, behind_mark, items_at, opened_at, value_at, word}
 unfoldable pub use Rattle.moo_value.specs.Reading.{literal_at}
 pub use Rattle.moo_value.specs.declared.value.Value.{Value}
-pub use Rattle.moo_world.specs.Arguments.{fits}
-pub use Rattle.moo_world.specs.Objects.{folded, same_text, same_text-Decides}
-pub use Rattle.moo_world.specs.declared.call.Call.{Call}
+pub use Rattle.moo_world.specs.{Arguments.{fits}, Objects.{folded, same_text, same_text-Decides}, declared.call.Call.{Call}}

@@ -1,14 +1,8 @@
 -- How a whole text is cut into batches.
-use Rattle.std.specs.Prelude.{◌≡◌, ◌≤◌, ◌+◌, ℕ, true, false, List, [], ◌∷◌, ◌++◌, length, ◌⊎◌}
-use Rattle.std.specs.List.{AllByRecursion}
-use Rattle.moo_world.specs.declared.call.Call.{Call}
-use Rattle.moo_world.specs.declared.call.Batch.{Batch}
-use Rattle.moo_text.specs.Line.{is_blank_line, is_end_line}
-use Rattle.moo_text.specs.Grammar.{SpellsHeader, SpellsCall}
-use Rattle.moo_text.specs.declared.header.Header.{Header}
-use Rattle.moo_text.specs.declared.next.Next.{Next}
-use Rattle.moo_text.specs.declared.next.Next.TheVariants.{Batch as Whole, Malformed, Truncated, End}
-use Rattle.moo_world.specs.declared.call.TheConstants.{MOST_CALLS}
+use Rattle.std.specs.{Prelude.{◌≡◌, ◌≤◌, ◌+◌, ℕ, true, false, List, [], ◌∷◌, ◌++◌, length, ◌⊎◌}, List.{AllByRecursion}}
+use Rattle.moo_world.specs.{declared.call.Call.{Call}, declared.call.Batch.{Batch}, declared.call.TheConstants.{MOST_CALLS}}
+use Rattle.moo_text.specs.{Line.{is_blank_line, is_end_line}, Grammar.{SpellsHeader, SpellsCall}, declared.header.Header.{Header}}
+use Rattle.moo_text.specs.{declared.next.Next.{Next}, declared.next.Next.TheVariants.{Batch as Whole, Malformed, Truncated, End}}
 
 -- each line is blank
 abbrev pub AreBlankLines : List (List ℕ) → Type 0

@@ -1,9 +1,6 @@
 -- What reading in pieces does to the bytes of a text that are not used yet.
-use Rattle.std.specs.Prelude.{◌≡◌, ◌<◌, ℕ, List, [], ◌∷◌, length, Option, Some, None, ◌⊎◌}
-use Rattle.std.specs.Str.Lines.{lines}
-use Rattle.moo_text.specs.Items.{between}
-use Rattle.moo_text.specs.declared.next.Next.{Next}
-use Rattle.moo_text.specs.declared.next.Next.TheVariants.{End}
+use Rattle.std.specs.{Prelude.{◌≡◌, ◌<◌, ℕ, List, [], ◌∷◌, length, Option, Some, None, ◌⊎◌}, Str.Lines.{lines}}
+use Rattle.moo_text.specs.{Items.{between}, declared.next.Next.{Next}, declared.next.Next.TheVariants.{End}}
 use Rattle.moo_text.specs.declared.line.TheConstants.{LONGEST_LINE}
 
 -- a line is read whole, or, if it is longer than a line may be, the beginning of it by which that is seen

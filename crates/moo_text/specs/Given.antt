@@ -1,14 +1,9 @@
 -- What reading does to the bytes of a text, said of the bytes that the reader gave, whether or not it tells them beforehand.
-use Rattle.std.specs.Prelude.{◌≡◌, ◌<◌, ◌≤◌, ◌+◌, ℕ, true, List, [], ◌++◌, length, Option, option_map, IfSome, MatchOption}
-use Rattle.std.specs.Global.{Vec}
+use Rattle.std.specs.{Prelude.{◌≡◌, ◌<◌, ◌≤◌, ◌+◌, ℕ, true, List, [], ◌++◌, length, Option, option_map, IfSome, MatchOption}, Global.{Vec}}
 use Rattle.std.specs.Io.KnownBytes.{Consumes, IsAtEnd}
-use Rattle.moo_text.specs.Items.{items}
-use Rattle.moo_text.specs.Feed.{TakesLine, Carries, TakesFirst, TakesNext}
-use Rattle.moo_text.specs.Side.{Side, untouched, lines_side, lines_room}
-use Rattle.moo_text.specs.declared.fault.TextFault.{TextFault}
-use Rattle.moo_text.specs.declared.fault.TextFault.TheVariants.{Read, Write, OutOfMemory, Long}
-use Rattle.moo_text.specs.declared.lines.LineReader.{LineReader}
-use Rattle.moo_text.specs.declared.next.Next.{Next}
+use Rattle.moo_text.specs.{Items.{items}, Feed.{TakesLine, Carries, TakesFirst, TakesNext}, Side.{Side, untouched, lines_side, lines_room}}
+use Rattle.moo_text.specs.{declared.fault.TextFault.{TextFault}, declared.fault.TextFault.TheVariants.{Read, Write, OutOfMemory, Long}}
+use Rattle.moo_text.specs.{declared.lines.LineReader.{LineReader}, declared.next.Next.{Next}}
 
 -- Between old and new the reader gave these bytes. If it tells its bytes, they were the first and are gone. Once it has ended, it gives
 -- none, and if it tells its bytes, none are left then.

@@ -3,14 +3,10 @@ use Prim.Native.Char.{code}
 use Rattle.std.specs.Prelude.{◌≡◌, ℕ, ◌<◌, ◌≤◌, Bool, true, false, List, [], ◌∷◌, ◌++◌, length, Option, Some, None, IsTrue, codes}
 use Rattle.std.specs.List.{AllByRecursion}
 use Rattle.moo_value.specs.declared.value.Value.{Value}
-use Rattle.moo_value.specs.Literal.{is_word, AreBlanks, AreDigits, value_after, SpellsObject, Spaced, Item, SpellsToken, Fits, InRange, an_object}
-use Rattle.moo_world.specs.Objects.{folded}
-use Rattle.moo_world.specs.Names.{spelling}
-use Rattle.moo_world.specs.declared.name.CallName.{CallName}
-use Rattle.moo_world.specs.declared.call.Call.{Call}
-use Rattle.moo_text.specs.Line.{words_of_line}
-use Rattle.moo_text.specs.declared.header.Header.{Header}
-use Rattle.moo_text.specs.declared.line.TheConstants.{LONGEST_LINE}
+use Rattle.moo_value.specs.Literal.{is_word, AreBlanks, AreDigits, value_after, SpellsObject, Spaced, Item, SpellsToken, Fits, InRange}
+use Rattle.moo_value.specs.Literal.{an_object}
+use Rattle.moo_world.specs.{Objects.{folded}, Names.{spelling}, declared.name.CallName.{CallName}, declared.call.Call.{Call}}
+use Rattle.moo_text.specs.{Line.{words_of_line}, declared.header.Header.{Header}, declared.line.TheConstants.{LONGEST_LINE}}
 
 -- 1 to 19 digits, with a value of at most 9223372036854775807
 pub record SpellsPlace (n : ℕ) (word : List ℕ) : Type 0 where

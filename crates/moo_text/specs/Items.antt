@@ -1,14 +1,8 @@
 -- The items of a list of lines, line by line.
-use Rattle.std.specs.Prelude.{ℕ, ◌+◌, nat_lt, List, [], ◌∷◌, ◌++◌, length, if◌then◌else◌}
-use Rattle.std.specs.Option.{option_map_or}
-use Rattle.std.specs.Str.Lines.{lines}
-use Rattle.moo_world.specs.declared.call.Call.{Call}
-use Rattle.moo_text.specs.Line.{is_blank_line, is_end_line}
-use Rattle.moo_text.specs.LineReading.{header_of, call_of}
-use Rattle.moo_text.specs.declared.header.Header.{Header}
-use Rattle.moo_text.specs.declared.next.Next.{Next}
-use Rattle.moo_text.specs.declared.next.Next.TheVariants.{Batch as Whole, Malformed, Truncated}
-use Rattle.moo_world.specs.declared.call.TheConstants.{MOST_CALLS}
+use Rattle.std.specs.{Prelude.{ℕ, ◌+◌, nat_lt, List, [], ◌∷◌, ◌++◌, length, if◌then◌else◌}, Option.{option_map_or}, Str.Lines.{lines}}
+use Rattle.moo_world.specs.{declared.call.Call.{Call}, declared.call.TheConstants.{MOST_CALLS}}
+use Rattle.moo_text.specs.{Line.{is_blank_line, is_end_line}, LineReading.{header_of, call_of}, declared.header.Header.{Header}}
+use Rattle.moo_text.specs.{declared.next.Next.{Next}, declared.next.Next.TheVariants.{Batch as Whole, Malformed, Truncated}}
 
 abbrev mutual
   -- the items of lines between two batches

@@ -1,9 +1,7 @@
 -- What one line of a batch text is: blank, `end`, or words.
 use Prim.Native.Char.{code}
-use Rattle.std.specs.Prelude.{ℕ, ◌==◌, ◌&&◌, Bool, false, not, nat_le, List, [], ◌∷◌, length, if◌then◌else◌}
-use Rattle.std.specs.List.{filter, slice_split}
-use Rattle.moo_value.specs.Literal.{is_blank}
-use Rattle.moo_value.specs.Reading.{after_blanks}
+use Rattle.std.specs.{Prelude.{ℕ, ◌==◌, ◌&&◌, Bool, false, not, nat_le, List, [], ◌∷◌, length, if◌then◌else◌}, List.{filter, slice_split}}
+use Rattle.moo_value.specs.{Literal.{is_blank}, Reading.{after_blanks}}
 use Rattle.moo_text.specs.declared.line.TheConstants.{LONGEST_LINE}
 
 -- no line over this is blank, `end`, a header or a call

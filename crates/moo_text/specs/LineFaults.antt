@@ -1,12 +1,8 @@
 -- What the fault of a line says of the bytes that it points at.
 use Rattle.std.specs.Prelude.{◌≡◌, ◌≢◌, false, None, codes, ⊤}
-use Rattle.moo_value.specs.Fault.{HasFault}
-use Rattle.moo_value.specs.Reading.{after_mark, word}
-use Rattle.moo_world.specs.Objects.{same_text}
-use Rattle.moo_world.specs.Names.{call_name_of}
-use Rattle.moo_text.specs.Line.{is_all_blank}
-use Rattle.moo_text.specs.LineReading.{object_of}
-use Rattle.moo_text.specs.declared.line_fault.LineFault.{LineFault}
+use Rattle.moo_value.specs.{Fault.{HasFault}, Reading.{after_mark, word}}
+use Rattle.moo_world.specs.{Objects.{same_text}, Names.{call_name_of}}
+use Rattle.moo_text.specs.{Line.{is_all_blank}, LineReading.{object_of}, declared.line_fault.LineFault.{LineFault}}
 use Rattle.moo_text.specs.declared.line_fault.LineFault.TheVariants.{NoObject, NoAt, NoName, NoBracket, NoValue, NoMark, NoEnd}
 
 -- the fault is true of the bytes that it points at: this word isn't an object, these bytes don't begin with a literal, and so on

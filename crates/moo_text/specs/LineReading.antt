@@ -1,17 +1,10 @@
 -- Reading the header of a batch and a call from left to right.
-use Rattle.std.specs.Prelude.{ℕ, zero, suc, ◌==◌, ◌&&◌, Bool, false, nat_le, List, [], ◌∷◌, length, Option, Some, None, Ok, Err, codes, if◌then◌else◌}
-use Rattle.std.specs.Option.{option_map, option_map_or, option_and_then}
-use Rattle.std.specs.List.{list_all}
-use Rattle.moo_value.specs.declared.value.ObjNo.{ObjNo}
-use Rattle.moo_value.specs.declared.value.Value.{Value}
-use Rattle.moo_value.specs.declared.value.Value.TheVariants.{Obj}
-use Rattle.moo_value.specs.Literal.{is_digit, value_after}
-use Rattle.moo_value.specs.Reading.{after_blanks, after_mark, word, after_word, literal_at, Read}
-use Rattle.moo_world.specs.Objects.{same_text}
-use Rattle.moo_world.specs.Names.{call_name_of}
-use Rattle.moo_world.specs.declared.call.Call.{Call}
-use Rattle.moo_text.specs.Line.{is_within_line, is_all_blank, words_of_line}
-use Rattle.moo_text.specs.declared.header.Header.{Header}
+use Rattle.std.specs.Prelude.{ℕ, zero, suc, ◌==◌, ◌&&◌, Bool, false, nat_le, List, [], ◌∷◌, length, Option, Some, None, Ok, Err, codes}
+use Rattle.std.specs.{Prelude.{if◌then◌else◌}, Option.{option_map, option_map_or, option_and_then}, List.{list_all}}
+use Rattle.moo_value.specs.{declared.value.ObjNo.{ObjNo}, declared.value.Value.{Value}, declared.value.Value.TheVariants.{Obj}}
+use Rattle.moo_value.specs.{Literal.{is_digit, value_after}, Reading.{after_blanks, after_mark, word, after_word, literal_at, Read}}
+use Rattle.moo_world.specs.{Objects.{same_text}, Names.{call_name_of}, declared.call.Call.{Call}}
+use Rattle.moo_text.specs.{Line.{is_within_line, is_all_blank, words_of_line}, declared.header.Header.{Header}}
 
 -- the value that was read and the bytes after it, without the fault if none was
 abbrev pub found : Read Value → Option (Value × List ℕ)

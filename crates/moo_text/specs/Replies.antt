@@ -1,14 +1,8 @@
 -- The lines of a reply, and those that answer a batch of a text.
-use Rattle.std.specs.Prelude.{ℕ, List, [], ◌∷◌, ◌++◌, codes}
-use Rattle.std.specs.List.{flat_map}
-use Rattle.std.specs.Fmt.{decimal}
-use Rattle.moo_value.specs.Literal.{print, name}
-use Rattle.moo_value.specs.declared.code.Code.{Code}
-use Rattle.moo_value.specs.declared.value.Value.{Value}
-use Rattle.moo_text.specs.declared.reply.Reply.{Reply}
-use Rattle.moo_text.specs.declared.reply.Reply.TheVariants.{Accepted, Refused, Full, Stale, NoMemory}
-use Rattle.moo_text.specs.declared.reply.Answer.{Answer}
-use Rattle.moo_text.specs.declared.reply.Answer.TheVariants.{Replied, Malformed, Truncated, Fault, Closed}
+use Rattle.std.specs.{Prelude.{ℕ, List, [], ◌∷◌, ◌++◌, codes}, List.{flat_map}, Fmt.{decimal}}
+use Rattle.moo_value.specs.{Literal.{print, name}, declared.code.Code.{Code}, declared.value.Value.{Value}}
+use Rattle.moo_text.specs.{declared.reply.Reply.{Reply}, declared.reply.Reply.TheVariants.{Accepted, Refused, Full, Stale, NoMemory}}
+use Rattle.moo_text.specs.{declared.reply.Answer.{Answer}, declared.reply.Answer.TheVariants.{Replied, Malformed, Truncated, Fault, Closed}}
 
 -- a value as a literal on a line
 abbrev pub answer_line : Value → List ℕ

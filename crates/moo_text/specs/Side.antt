@@ -1,8 +1,6 @@
 -- The reader's side of a text.
 use Rattle.std.specs.Prelude.{◌≡◌, ◌+◌, ℕ, Bool, true, false, List, [], length, Option, ⊤}
-use Rattle.moo_text.specs.declared.lines.LineReader.{LineReader}
-use Rattle.moo_text.specs.declared.feed.Feed.{Feed}
-use Rattle.moo_text.specs.declared.next.Next.{Next}
+use Rattle.moo_text.specs.{declared.lines.LineReader.{LineReader}, declared.feed.Feed.{Feed}, declared.next.Next.{Next}}
 use Rattle.moo_text.specs.declared.next.Next.TheVariants.{Batch as Whole, Malformed, Truncated, End}
 
 -- the bytes that the reader will give, if it tells them; how many may still be read; whether the reader has given no bytes, so that

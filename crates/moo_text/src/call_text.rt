@@ -1,8 +1,7 @@
 //! Reading a call from a line.
 
 ghost use Rattle.std.specs.Prelude.{◌≡◌, ◌≢◌, length, IfOk, IfErr, None, Some};
-ghost use Rattle.moo_text.specs.LineFaults.{Says};
-ghost use Rattle.moo_text.specs.declared.line_fault.LineFault.TheVariants.{OutOfMemory};
+ghost use Rattle.moo_text.specs.{LineFaults.{Says}, declared.line_fault.LineFault.TheVariants.{OutOfMemory}};
 ghost use Rattle.moo_text.specs.LineReading.{arguments_of, values_at, call_of};
 ghost use Rattle.moo_world.specs.Names.{call_name_of};
 

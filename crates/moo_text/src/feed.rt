@@ -1,8 +1,7 @@
 //! The batches of a text, read in pieces.
 
 ghost use Rattle.std.specs.Prelude.{◌≤◌, ◌<◌, ◌≢◌, [], IfOk, IfErr, OnOk};
-ghost use Rattle.moo_text.specs.Given.{GivesFirst, ReadsNext, LinesBreakOff};
-ghost use Rattle.moo_text.specs.Items.{within, skipping};
+ghost use Rattle.moo_text.specs.{Given.{GivesFirst, ReadsNext, LinesBreakOff}, Items.{within, skipping}};
 ghost use Rattle.moo_text.specs.Side.{lines_side, lines_room, EndsAt};
 
 use crate::call_text::call_of;

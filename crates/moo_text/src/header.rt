@@ -1,13 +1,10 @@
 //! The header of a batch.
 
-ghost use Rattle.std.specs.Prelude.{◌≡◌, ◌≢◌, ◌≤◌, ◌-◌, true, false, Some, None, IfOk, IfErr, MatchOption};
+ghost use Rattle.std.specs.{Prelude.{◌≡◌, ◌≢◌, ◌≤◌, ◌-◌, true, false, Some, None, IfOk, IfErr, MatchOption}, Option.{option_map}};
 ghost use Rattle.moo_value.specs.Literal.{is_digit};
-ghost use Rattle.std.specs.Option.{option_map};
-ghost use Rattle.moo_text.specs.Line.{words_of_line};
-ghost use Rattle.moo_text.specs.LineFaults.{Says};
-ghost use Rattle.moo_text.specs.declared.line_fault.LineFault.TheVariants.{OutOfMemory};
-ghost use Rattle.moo_text.specs.LineReading.{behind_word, begins_with_byte, object_value, object_of, place_number, last_place};
-ghost use Rattle.moo_text.specs.LineReading.{at_of, header_of};
+ghost use Rattle.moo_text.specs.{Line.{words_of_line}, LineFaults.{Says}, declared.line_fault.LineFault.TheVariants.{OutOfMemory}};
+ghost use Rattle.moo_text.specs.LineReading.{behind_word, begins_with_byte, object_value, object_of, place_number, last_place, at_of};
+ghost use Rattle.moo_text.specs.LineReading.{header_of};
 
 use crate::line::{is_within_line, next_word};
 use crate::line_fault::LineFault;

@@ -1,7 +1,6 @@
 //! The lines of a text, read in pieces.
 
-ghost use Rattle.std.specs.Prelude.{◌≡◌, ◌==◌, ◌<◌, ◌≤◌, ◌+◌, ◌++◌, length, take, IfSome, OnOk};
-ghost use Rattle.std.specs.List.{position_from};
+ghost use Rattle.std.specs.{Prelude.{◌≡◌, ◌==◌, ◌<◌, ◌≤◌, ◌+◌, ◌++◌, length, take, IfSome, OnOk}, List.{position_from}};
 ghost use Rattle.std.specs.Str.Lines.{strip_carriage_return};
 ghost use Rattle.moo_text.specs.declared.lines.TheConstants.{LONGEST_TEXT};
 

@@ -2,9 +2,7 @@
 
 ghost use Rattle.std.specs.Prelude.{◌≡◌, ◌≢◌, IfOk, IfErr, Some, None, true};
 ghost use Rattle.moo_world.specs.Arguments.{fits};
-ghost use Rattle.moo_text.specs.LineReading.{front_of};
-ghost use Rattle.moo_text.specs.LineFaults.{Says};
-ghost use Rattle.moo_text.specs.declared.line_fault.LineFault.TheVariants.{OutOfMemory};
+ghost use Rattle.moo_text.specs.{LineReading.{front_of}, LineFaults.{Says}, declared.line_fault.LineFault.TheVariants.{OutOfMemory}};
 
 use crate::line_fault::LineFault;
 use moo_value::{LiteralFault, Value, read_literal};

@@ -1,9 +1,6 @@
 //! Replies, and the lines that answer the batches of a text.
 
-ghost use Rattle.std.specs.Prelude.{◌≡◌, ◌++◌, [], ◌∷◌, OnOk, OnErr};
-ghost use Rattle.std.specs.Fmt.{decimal};
-ghost use Rattle.std.specs.List.{flat_map};
-ghost use Rattle.std.specs.Io.{StartsWith};
+ghost use Rattle.std.specs.{Prelude.{◌≡◌, ◌++◌, [], ◌∷◌, OnOk, OnErr}, Fmt.{decimal}, List.{flat_map}, Io.{StartsWith}};
 ghost use Rattle.moo_text.specs.Replies.{answer_line, accepted_text, refused_text, reply_text, answer_text};
 
 use moo_value::{Code, Value, print_literal};

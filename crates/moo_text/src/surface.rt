@@ -3,9 +3,7 @@
 
 ghost use Rattle.std.specs.Prelude.{◌≡◌, ◌++◌, IfOk, IfErr, OnOk, OnErr};
 ghost use Rattle.moo_world.specs.declared.call.Call.{Call};
-ghost use Rattle.moo_text.specs.Grammar.{SpellsCall};
-ghost use Rattle.moo_text.specs.Replies.{reply_text};
-ghost use Rattle.moo_text.specs.declared.surface.CallFault.TheVariants.{Malformed};
+ghost use Rattle.moo_text.specs.{Grammar.{SpellsCall}, Replies.{reply_text}, declared.surface.CallFault.TheVariants.{Malformed}};
 
 use crate::call_text::call_of;
 use crate::reply::{Reply, put_reply};

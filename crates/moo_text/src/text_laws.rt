@@ -1,19 +1,12 @@
 //! What holds of batch texts as wholes.
 
-ghost use Rattle.std.specs.Prelude.{◌≡◌, ◌≢◌, ◌↔◌, ◌++◌, ◌∷◌, [], ℕ, true, List, Option, Some};
-ghost use Rattle.std.specs.Str.Lines.{lines};
-ghost use Rattle.moo_value.specs.declared.value.ObjNo.{ObjNo};
-ghost use Rattle.moo_value.specs.Literal.{SpellsObject, InRange, an_object};
+ghost use Rattle.std.specs.{Prelude.{◌≡◌, ◌≢◌, ◌↔◌, ◌++◌, ◌∷◌, [], ℕ, true, List, Option, Some}, Str.Lines.{lines}};
+ghost use Rattle.moo_value.specs.{declared.value.ObjNo.{ObjNo}, Literal.{SpellsObject, InRange, an_object}};
 ghost use Rattle.moo_world.specs.declared.call.Call.{Call};
-ghost use Rattle.moo_text.specs.Grammar.{SpellsHeader, SpellsCall};
-ghost use Rattle.moo_text.specs.LineReading.{header_of, object_of, call_of};
-ghost use Rattle.moo_text.specs.Items.{items};
-ghost use Rattle.moo_text.specs.Cut.{Cuts};
-ghost use Rattle.moo_text.specs.Side.{Side, untouched};
+ghost use Rattle.moo_text.specs.{Grammar.{SpellsHeader, SpellsCall}, LineReading.{header_of, object_of, call_of}, Items.{items}};
+ghost use Rattle.moo_text.specs.{Cut.{Cuts}, Side.{Side, untouched}};
 ghost use Rattle.moo_text.specs.Given.{ReaderGives, BreaksOff, ReadsNext, ReadsItems, ReadsAll, StopsBehind, GivesAll};
-ghost use Rattle.moo_text.specs.declared.fault.TextFault.{TextFault};
-ghost use Rattle.moo_text.specs.declared.header.Header.{Header};
-ghost use Rattle.moo_text.specs.declared.next.Next.{Next};
+ghost use Rattle.moo_text.specs.{declared.fault.TextFault.{TextFault}, declared.header.Header.{Header}, declared.next.Next.{Next}};
 ghost use Rattle.moo_text.specs.declared.next.Next.TheVariants.{End};
 
 /// A line is read as the header that it spells, and as no other.

@@ -1,7 +1,6 @@
 //! Bytes and answers, written whole.
 
-ghost use Rattle.std.specs.Prelude.{◌≡◌, ◌≢◌, ◌⊎◌, ℕ, take, IfErr, OnOk, OnErr};
-ghost use Rattle.std.specs.Io.KnownBytes.{Appends};
+ghost use Rattle.std.specs.{Prelude.{◌≡◌, ◌≢◌, ◌⊎◌, ℕ, take, IfErr, OnOk, OnErr}, Io.KnownBytes.{Appends}};
 ghost use Rattle.moo_text.specs.Replies.{answer_text};
 
 use crate::fault::{TextFault, WriteFault};

@@ -1,14 +1,9 @@
 -- The objects under an object, itself among them, with their owners.
-use Rattle.std.specs.Prelude.{◌≡◌, List, map, Option, None, if◌then◌else◌}
-use Rattle.std.specs.Option.{option_map}
-use Rattle.std.specs.List.{filter}
+use Rattle.std.specs.{Prelude.{◌≡◌, List, map, Option, None, if◌then◌else◌}, Option.{option_map}, List.{filter}}
 use Rattle.std.specs.FinMap.{FinMap, get, entries}
 use Rattle.moo_value.specs.declared.value.ObjNo.{ObjNo}
-use Rattle.moo_rows.specs.declared.row.ObjRow.{ObjRow}
-use Rattle.moo_rows.specs.Maps.{Maps, object_cmp}
-use Rattle.moo_world.specs.Objects.{is_among}
-use Rattle.moo_world.specs.Rows.{world_of}
-use Rattle.moo_world.specs.World.{World, chain}
+use Rattle.moo_rows.specs.{declared.row.ObjRow.{ObjRow}, Maps.{Maps, object_cmp}}
+use Rattle.moo_world.specs.{Objects.{is_among}, Rows.{world_of}, World.{World, chain}}
 
 -- the objects of these entries that are x or under x in w, with their owners
 abbrev pub under_among : World → ObjNo → List (ObjNo × ObjRow) → List (ObjNo × ObjNo)

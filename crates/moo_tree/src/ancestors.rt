@@ -1,13 +1,9 @@
 //! Chains of parents.
 
-ghost use Rattle.std.specs.Prelude.{◌≡◌, IfOk, is_some};
-ghost use Rattle.std.specs.FinMap.{get};
+ghost use Rattle.std.specs.{Prelude.{◌≡◌, IfOk, is_some}, FinMap.{get}};
 ghost use Rattle.moo_value.specs.declared.value.ObjNo.{ObjNo};
-ghost use Rattle.moo_rows.specs.Maps.{object_cmp};
-ghost use Rattle.moo_rows.specs.Ordered.{contents};
-ghost use Rattle.moo_world.specs.Objects.{is_among};
-ghost use Rattle.moo_world.specs.Rows.{world_of};
-ghost use Rattle.moo_world.specs.World.{IsTree, chain};
+ghost use Rattle.moo_rows.specs.{Maps.{object_cmp}, Ordered.{contents}};
+ghost use Rattle.moo_world.specs.{Objects.{is_among}, Rows.{world_of}, World.{IsTree, chain}};
 
 use moo_rows::{Rows, go_on, ordered};
 use moo_value::ObjNo;

@@ -2,10 +2,7 @@
 
 ghost use Rattle.std.specs.Prelude.{◌≡◌, ◌++◌, map, IfOk, OnOk};
 ghost use Rattle.moo_rows.specs.Links.{linked_left};
-ghost use Rattle.moo_world.specs.ObjectLists.{children_of, contents_of, players_of};
-ghost use Rattle.moo_world.specs.Objects.{nothing};
-ghost use Rattle.moo_world.specs.Rows.{world_of};
-ghost use Rattle.moo_world.specs.World.{IsTree};
+ghost use Rattle.moo_world.specs.{ObjectLists.{children_of, contents_of, players_of}, Objects.{nothing}, Rows.{world_of}, World.{IsTree}};
 
 use crate::numbers::nothing;
 use moo_rows::{Link, Rows};

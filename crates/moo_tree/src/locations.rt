@@ -1,9 +1,7 @@
 //! What is in what.
 
 ghost use Rattle.std.specs.Prelude.{◌≡◌};
-ghost use Rattle.moo_world.specs.Rights.{is_within};
-ghost use Rattle.moo_world.specs.Rows.{world_of};
-ghost use Rattle.moo_world.specs.World.{IsTree};
+ghost use Rattle.moo_world.specs.{Rights.{is_within}, Rows.{world_of}, World.{IsTree}};
 
 use moo_rows::Rows;
 use moo_value::ObjNo;

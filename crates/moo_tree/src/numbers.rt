@@ -1,9 +1,7 @@
 //! Object numbers.
 
 ghost use Rattle.std.specs.Prelude.{◌≡◌};
-ghost use Rattle.moo_world.specs.Objects.{nothing, same_object};
-ghost use Rattle.moo_world.specs.Rows.{world_of};
-ghost use Rattle.moo_world.specs.World.{is_object};
+ghost use Rattle.moo_world.specs.{Objects.{nothing, same_object}, Rows.{world_of}, World.{is_object}};
 
 use moo_rows::Rows;
 use moo_value::ObjNo;

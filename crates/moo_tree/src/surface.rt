@@ -2,10 +2,7 @@
 //! an object by `owners_under`, and reads what a change of parent brings off the slots.
 
 ghost use Rattle.std.specs.Prelude.{◌≡◌, ◌-◌, IfOk, drop, length};
-ghost use Rattle.moo_world.specs.Manual.{common};
-ghost use Rattle.moo_world.specs.ObjectLists.{subtree_of};
-ghost use Rattle.moo_world.specs.Rows.{world_of};
-ghost use Rattle.moo_world.specs.World.{IsTree, chain};
+ghost use Rattle.moo_world.specs.{Manual.{common}, ObjectLists.{subtree_of}, Rows.{world_of}, World.{IsTree, chain}};
 
 use crate::numbers::nothing;
 use crate::under::owner_map_under;

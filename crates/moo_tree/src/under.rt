@@ -1,13 +1,8 @@
 //! What is under an object.
 
-ghost use Rattle.std.specs.Prelude.{◌≡◌, ◌++◌, true, Some, IfOk, OnOk};
-ghost use Rattle.std.specs.FinMap.{get, insert};
-ghost use Rattle.moo_rows.specs.declared.row.ObjRow.{ObjRow};
-ghost use Rattle.moo_rows.specs.Maps.{object_cmp};
-ghost use Rattle.moo_rows.specs.Ordered.{contents};
-ghost use Rattle.moo_world.specs.ObjectLists.{children_of};
-ghost use Rattle.moo_world.specs.Rows.{world_of};
-ghost use Rattle.moo_world.specs.World.{IsTree, is_object};
+ghost use Rattle.std.specs.{Prelude.{◌≡◌, ◌++◌, true, Some, IfOk, OnOk}, FinMap.{get, insert}};
+ghost use Rattle.moo_rows.specs.{declared.row.ObjRow.{ObjRow}, Maps.{object_cmp}, Ordered.{contents}};
+ghost use Rattle.moo_world.specs.{ObjectLists.{children_of}, Rows.{world_of}, World.{IsTree, is_object}};
 ghost use Rattle.moo_tree.specs.Under.{IsOwnerMap, owners_under};
 
 use crate::lists::list_linked;

@@ -15,16 +15,11 @@ pub use Rattle.moo_value.specs.Fault.{DepthBut, KeepsBut, MayBreak, NumberBut, T
 pub use Rattle.moo_value.specs.Literal.{AreBlanks, AreDigits, BeginsNo, Comma, Ends, Fits, Front, HoldIn, HoldInside, InRange, Item, NumberKind, Spells, SpellsBytes, SpellsItems, SpellsName, SpellsNumber, SpellsToken, an_integer, an_object, escape, is_blank, is_digit, is_word, name, print_items, signed, value_after}
 pub use Rattle.moo_value.specs.Reading.{Fails, Read, after_blanks, after_word, digits_at, greatest, items_at, named, number_at, opened_at, string_at, token_at, value_at, word, ◌>>=◌}
 unfoldable pub use Rattle.moo_value.specs.Reading.{literal_at}
-pub use Rattle.moo_value.specs.SameValue.{value-exact}
-pub use Rattle.moo_value.specs.Text.{IsText, is_allowed}
-pub use Rattle.moo_value.specs.Value.{gather, nesting, prepend}
-pub use Rattle.moo_value.specs.Values.{Values, error, int, levels, list, no_values, object, string}
-pub use Rattle.moo_value.specs.declared.code.Code.{Code}
+pub use Rattle.moo_value.{specs.SameValue.{value-exact}, specs.Text.{IsText, is_allowed}, specs.Value.{gather, nesting, prepend}}
+pub use Rattle.moo_value.{specs.Values.{Values, error, int, levels, list, no_values, object, string}, specs.declared.code.Code.{Code}}
 pub use Rattle.moo_value.specs.declared.fault.LiteralFault.{LiteralFault}
 pub use Rattle.moo_value.specs.declared.fault.LiteralFault.TheVariants.{BadByte, NotALiteral, OutOfMemory, OutOfRange, TooDeep, TooLong}
-pub use Rattle.moo_value.specs.declared.value.Value.{Value}
-pub use Rattle.moo_value.specs.declared.value.Value.TheVariants.{Error, Int, List as a_list, Obj, Str}
-pub use borrow.Author.Tests.{tests}
-pub use Rattle.moo_value.proofs.Gather.{spread-gathered}
-pub use Rattle.moo_value.proofs.Results.{bind_err, bind_ok, chosen, is_err, is_ok, no_err, no_ok}
+pub use Rattle.moo_value.{specs.declared.value.Value.{Value}, specs.declared.value.Value.TheVariants.{Error, Int, List as a_list, Obj, Str}}
+pub use Rattle.moo_value.{proofs.Gather.{spread-gathered}, proofs.Results.{bind_err, bind_ok, chosen, is_err, is_ok, no_err, no_ok}}
 pub use Rattle.moo_value.proofs.Texts.{AreAllowed, all_allowed}
+pub use borrow.Author.Tests.{tests}

@@ -1,10 +1,6 @@
 -- Tests that tell each value from every other.
-use Rattle.std.specs.Prelude.{◌≡◌, ◌==◌, ◌&&◌, Bool, true, false, refl}
-use Rattle.std.specs.Bool.{Decides}
-use Rattle.std.specs.Str.{bytes_eq}
-use Rattle.std.proofs.lemmas.Slice.Eq.{bytes_eq-Decides}
-use Rattle.std.specs.Cmp.{IsPartialEquivalence}
-use Rattle.std.proofs.Common.{sym, ap, ◌∙◌}
+use Rattle.std.{specs.Prelude.{◌≡◌, ◌==◌, ◌&&◌, Bool, true, false, refl}, specs.Bool.{Decides}, specs.Str.{bytes_eq}}
+use Rattle.std.{proofs.lemmas.Slice.Eq.{bytes_eq-Decides}, specs.Cmp.{IsPartialEquivalence}, proofs.Common.{sym, ap, ◌∙◌}}
 use Rattle.std.proofs.lemmas.Bool.Decides.{Decides-eqb}
 use base.Stored.{Coded, Gv, gnil, gnum, gcons}
 

@@ -1,17 +1,10 @@
 -- Values that compare equal are one.
-use Rattle.std.specs.Prelude.{◌≡◌, ℕ}
-use Rattle.std.specs.Bool.{Decides}
-use Rattle.std.specs.Ordering.{int_eq}
-use Rattle.std.proofs.Common.{ap, rules}
-use Rattle.std.proofs.lemmas.Slice.Eq.{bytes_eq-Decides}
-use Rattle.std.proofs.lemmas.Bool.{false≢true}
+use Rattle.std.{specs.Prelude.{◌≡◌, ℕ}, specs.Bool.{Decides}, specs.Ordering.{int_eq}, proofs.Common.{ap, rules}}
+use Rattle.std.{proofs.lemmas.Slice.Eq.{bytes_eq-Decides}, proofs.lemmas.Bool.{false≢true}}
 use Rattle.std.proofs.lemmas.Bool.Decides.{Decides-int_eq, Decides-eqb}
 use denote.Enum.Bare.{same_true, true_same, sameb}
-use Rattle.moo_value.specs.Equal.{IsExact, same_by-exact}
-use Rattle.moo_value.specs.Values.{coded_values}
-use Rattle.moo_value.specs.declared.value.ObjNo.{ObjNo}
-use Rattle.moo_value.specs.declared.value.Value.{Value}
-use Rattle.moo_value.specs.declared.code.Code.{Code}
+use Rattle.moo_value.specs.{Equal.{IsExact, same_by-exact}, Values.{coded_values}, declared.value.ObjNo.{ObjNo}}
+use Rattle.moo_value.specs.{declared.value.Value.{Value}, declared.code.Code.{Code}}
 use Rattle.moo_value.specs.declared.value.Value.TheVariants.{Int, Obj, Str, Error, List as a_list}
 use Rattle.moo_value.specs.contracts.code.Code as code
 use Rattle.moo_value.specs.contracts.value.ValuePartialEq.TheImpl as value

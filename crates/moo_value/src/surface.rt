@@ -1,7 +1,6 @@
 //! The program doesn't come this way. The project's requirements name this call. The program compares names by `same_name`, and folds none.
 
-ghost use Rattle.std.specs.Prelude.{◌≡◌, IfOk, map};
-ghost use Rattle.std.specs.Char.{to_ascii_lowercase};
+ghost use Rattle.std.specs.{Prelude.{◌≡◌, IfOk, map}, Char.{to_ascii_lowercase}};
 
 use crate::text::MooStr;
 use std::alloc::{AllocError, Global};

@@ -1,11 +1,8 @@
 //! Literals that are a whole text.
 
 ghost use Rattle.std.specs.Prelude.{◌≢◌, Ok, IfErr, IfOk};
-ghost use Rattle.moo_value.specs.declared.fault.LiteralFault.TheVariants.{OutOfMemory};
-ghost use Rattle.moo_value.specs.declared.value.Value.{Value};
-ghost use Rattle.moo_value.specs.Fault.{HasWholeFault};
-ghost use Rattle.moo_value.specs.Literal.{Spells, Fits};
-ghost use Rattle.moo_value.specs.Reading.{Gives};
+ghost use Rattle.moo_value.specs.{declared.fault.LiteralFault.TheVariants.{OutOfMemory}, declared.value.Value.{Value}};
+ghost use Rattle.moo_value.specs.{Fault.{HasWholeFault}, Literal.{Spells, Fits}, Reading.{Gives}};
 
 use crate::fault::LiteralFault;
 use crate::reading::read_literal;

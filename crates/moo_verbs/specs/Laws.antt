@@ -1,12 +1,7 @@
 -- What the definitions promise, in the manual's words.
-use Rattle.std.specs.Prelude.{◌≡◌, ◌⊎◌, false, [], ◌∷◌, ◌++◌, map, Some}
-use Rattle.std.specs.Bool.{Decides}
-use Rattle.std.specs.List.{list_any}
-use Rattle.moo_rows.specs.declared.row.Preposition.TheVariants.{Set}
-use Rattle.moo_rows.specs.declared.row.PrepositionSet.{PrepositionSet}
-use Rattle.moo_world.specs.Objects.{Name, folded}
-use Rattle.moo_world.specs.Matching.{is_star, matches}
-use Rattle.moo_world.specs.VerbReading.{phrases, prep_of}
+use Rattle.std.specs.{Prelude.{◌≡◌, ◌⊎◌, false, [], ◌∷◌, ◌++◌, map, Some}, Bool.{Decides}, List.{list_any}}
+use Rattle.moo_rows.specs.{declared.row.Preposition.TheVariants.{Set}, declared.row.PrepositionSet.{PrepositionSet}}
+use Rattle.moo_world.specs.{Objects.{Name, folded}, Matching.{is_star, matches}, VerbReading.{phrases, prep_of}}
 
 -- each phrase of a set is read as that set, so no phrase is in two sets
 abbrev pub PhrasesAreRead : Type 0

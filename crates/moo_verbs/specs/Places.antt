@@ -1,10 +1,7 @@
 -- Where a verb of the rows is in the directory of its object.
-use Rattle.std.specs.Prelude.{ℕ, Bool, length, is_some}
-use Rattle.std.specs.FinMap.{get}
-use Rattle.std.specs.List.{filter_map}
+use Rattle.std.specs.{Prelude.{ℕ, Bool, length, is_some}, FinMap.{get}, List.{filter_map}}
 use Rattle.moo_value.specs.declared.value.ObjNo.{ObjNo}
-use Rattle.moo_rows.specs.declared.row.VerbId.{VerbId}
-use Rattle.moo_rows.specs.Maps.{Maps}
+use Rattle.moo_rows.specs.{declared.row.VerbId.{VerbId}, Maps.{Maps}}
 use Rattle.moo_world.specs.Rows.{LookUps, look_ups, numbers_below}
 
 -- the object has a verb of the number

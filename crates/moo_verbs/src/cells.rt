@@ -1,10 +1,7 @@
 //! The arguments of verbs as the cells of a table spell them: exactly as they are printed, and not as calls may give them.
 
-ghost use Rattle.std.specs.Prelude.{◌≡◌, Some, IfSome};
-ghost use Rattle.std.specs.List.{find};
-ghost use Rattle.std.specs.Str.{bytes_eq};
-ghost use Rattle.moo_rows.specs.declared.row.ObjectSpec.{ObjectSpec};
-ghost use Rattle.moo_rows.specs.declared.row.Preposition.{Preposition};
+ghost use Rattle.std.specs.{Prelude.{◌≡◌, Some, IfSome}, List.{find}, Str.{bytes_eq}};
+ghost use Rattle.moo_rows.specs.{declared.row.ObjectSpec.{ObjectSpec}, declared.row.Preposition.{Preposition}};
 ghost use Rattle.moo_world.specs.Prepositions.{set_text, prep_text, object_spec_text};
 
 use crate::prep::set_text;

@@ -1,12 +1,9 @@
 //! The verbs of an object: listed, added, removed and changed.
 
-ghost use Rattle.std.specs.Prelude.{◌≡◌, ◌<◌, true, map, IfOk, OnOk};
-ghost use Rattle.std.specs.FinMap.{insert, remove};
-ghost use Rattle.moo_world.specs.Rows.{world_of, verb_id, IsSound, IsGood};
-ghost use Rattle.moo_world.specs.World.{is_object, has_word, directory_of};
-ghost use Rattle.moo_world.specs.Directories.{verb_added, verb_removed, verb_info_set, verb_args_set};
+ghost use Rattle.std.specs.{Prelude.{◌≡◌, ◌<◌, true, map, IfOk, OnOk}, FinMap.{insert, remove}};
+ghost use Rattle.moo_world.specs.{Rows.{world_of, verb_id, IsSound, IsGood}, World.{is_object, has_word, directory_of}};
+ghost use Rattle.moo_world.specs.{Directories.{verb_added, verb_removed, verb_info_set, verb_args_set}, Keeps.{Keeps}};
 ghost use Rattle.moo_verbs.specs.Places.{has_verb, verb_place};
-ghost use Rattle.moo_world.specs.Keeps.{Keeps};
 
 use moo_rows::{ArgSpec, Row, Rows, VerbBits, VerbId, VerbRow, each_verb_of};
 use moo_value::{MooStr, ObjNo};

@@ -1,11 +1,8 @@
 //! Finding a verb in the directory of an object.
 
-ghost use Rattle.std.specs.Prelude.{◌≡◌, true, Some, option_map, slice_get, IfSome};
-ghost use Rattle.std.specs.List.{find};
+ghost use Rattle.std.specs.{Prelude.{◌≡◌, true, Some, option_map, slice_get, IfSome}, List.{find}};
 ghost use Rattle.moo_rows.specs.Walk.{verbs_of_left};
-ghost use Rattle.moo_world.specs.Rows.{world_of, IsSound};
-ghost use Rattle.moo_world.specs.Matching.{one_matches};
-ghost use Rattle.moo_world.specs.Descriptors.{place_numbered, described, found_verb};
+ghost use Rattle.moo_world.specs.{Rows.{world_of, IsSound}, Matching.{one_matches}, Descriptors.{place_numbered, described, found_verb}};
 ghost use Rattle.moo_world.specs.Directories.{verb_at};
 ghost use Rattle.moo_verbs.specs.Places.{has_verb, verb_place};
 

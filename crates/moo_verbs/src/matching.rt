@@ -1,7 +1,6 @@
 //! Which words a verb's names match.
 
-ghost use Rattle.std.specs.Prelude.{◌≡◌, ◌==◌, ◌<◌, length, take, drop, IfSome};
-ghost use Rattle.std.specs.List.{position};
+ghost use Rattle.std.specs.{Prelude.{◌≡◌, ◌==◌, ◌<◌, length, take, drop, IfSome}, List.{position}};
 ghost use Rattle.moo_world.specs.Matching.{same_name, begins_with, matches_around, matches, one_matches};
 
 /// Whether two names are equal but for the case of their ASCII letters.

@@ -2,8 +2,7 @@
 
 ghost use Rattle.std.specs.Prelude.{◌≡◌, Some};
 ghost use Rattle.moo_value.specs.Text.{IsText};
-ghost use Rattle.moo_world.specs.Prepositions.{set_text, prep_text, object_spec_text};
-ghost use Rattle.moo_world.specs.VerbReading.{prep_of, object_spec_of};
+ghost use Rattle.moo_world.specs.{Prepositions.{set_text, prep_text, object_spec_text}, VerbReading.{prep_of, object_spec_of}};
 
 use moo_rows::{ObjectSpec, Preposition, PrepositionSet};
 

@@ -1,11 +1,9 @@
 //! Reading what is given for a verb: its names, its rights and its arguments.
 
-ghost use Rattle.std.specs.Prelude.{◌≡◌, ◌==◌, Ok, Err, ok_or, if◌then◌else◌};
+ghost use Rattle.std.specs.{Prelude.{◌≡◌, ◌==◌, Ok, Err, ok_or, if◌then◌else◌}, List.{before_first}};
 ghost use Rattle.moo_value.specs.Text.{IsText};
 ghost use Rattle.moo_rows.specs.Bits.{verb_bits_of, verb_letters_of};
-ghost use Rattle.moo_world.specs.World.{has_word};
-ghost use Rattle.std.specs.List.{before_first};
-ghost use Rattle.moo_world.specs.VerbReading.{is_slash, has_phrase, first_with, prep_of, object_spec_of, args_of};
+ghost use Rattle.moo_world.specs.{World.{has_word}, VerbReading.{is_slash, has_phrase, first_with, prep_of, object_spec_of, args_of}};
 
 use crate::fault::VerbFault;
 use crate::matching::{first_byte, same_name};

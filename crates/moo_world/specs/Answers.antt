@@ -1,9 +1,7 @@
 -- What calls answer, as values.
 use Rattle.std.specs.Prelude.{pos, Bool, List, map, if◌then◌else◌}
-use Rattle.moo_value.specs.declared.value.ObjNo.{ObjNo}
-use Rattle.moo_value.specs.declared.value.Value.{Value}
-use Rattle.moo_value.specs.declared.value.Value.TheVariants.{Int, Obj, Str, List as a_list}
-use Rattle.moo_value.specs.Value.{gather}
+use Rattle.moo_value.specs.{declared.value.ObjNo.{ObjNo}, declared.value.Value.{Value}}
+use Rattle.moo_value.specs.{declared.value.Value.TheVariants.{Int, Obj, Str, List as a_list}, Value.{gather}}
 use Rattle.moo_world.specs.Objects.{Name}
 
 -- what a call that changes something answers, except `create` and `petition`, which answer a number

@@ -1,23 +1,15 @@
 -- What a call is given. A wrong number of arguments is E_ARGS. A wrong type is E_TYPE. So is a list such as {owner, perms} with a wrong
 -- number of values, or one of a wrong type.
-use Rattle.std.specs.Prelude.{ℕ, nat_le, nat_lt, ℤ, pos, negsuc, Bool, true, ◌&&◌, List, [], ◌∷◌}
-use Rattle.std.specs.Prelude.{length, Option, Some, None, Result, Ok, Err, ok_or, if◌then◌else◌}
-use Rattle.std.specs.List.{list_all}
-use Rattle.std.specs.Option.{option_map}
-use Rattle.std.specs.Ordering.{int_eq}
-use Rattle.moo_value.specs.declared.value.ObjNo.{ObjNo}
-use Rattle.moo_value.specs.declared.value.Value.{Value}
-use Rattle.moo_value.specs.declared.value.Value.TheVariants.{Int, Obj, Str, Error, List as a_list}
-use Rattle.moo_value.specs.Text.{is_allowed}
+use Rattle.std.specs.Prelude.{ℕ, nat_le, nat_lt, ℤ, pos, negsuc, Bool, true, ◌&&◌, List, [], ◌∷◌, length, Option, Some, None, Result, Ok}
+use Rattle.std.specs.{Prelude.{Err, ok_or, if◌then◌else◌}, List.{list_all}, Option.{option_map}, Ordering.{int_eq}}
+use Rattle.moo_value.specs.{declared.value.ObjNo.{ObjNo}, declared.value.Value.{Value}}
+use Rattle.moo_value.specs.{declared.value.Value.TheVariants.{Int, Obj, Str, Error, List as a_list}, Text.{is_allowed}}
 use Rattle.moo_value.specs.Value.{nesting, spread}
-use Rattle.moo_value.specs.Values.{Values, no_values as none_left, int as integer_first}
-use Rattle.moo_value.specs.Values.{object as object_first, string as string_first, error as error_first, list as list_first}
-use Rattle.moo_world.specs.declared.descriptor.Desc.{Desc}
-use Rattle.moo_world.specs.declared.descriptor.Desc.TheVariants.{Index, Name as a_word}
-use Rattle.moo_world.specs.Objects.{Name}
-use Rattle.moo_world.specs.Codes.{Code, E_TYPE, E_ARGS}
-use Rattle.moo_value.specs.declared.text.TheConstants.{MAX_LENGTH}
+use Rattle.moo_value.specs.Values.{Values, no_values as none_left, int as integer_first, object as object_first, string as string_first}
+use Rattle.moo_value.specs.{Values.{error as error_first, list as list_first}, declared.text.TheConstants.{MAX_LENGTH}}
 use Rattle.moo_value.specs.declared.value.TheConstants.{MAX_NESTING}
+use Rattle.moo_world.specs.{declared.descriptor.Desc.{Desc}, declared.descriptor.Desc.TheVariants.{Index, Name as a_word}, Objects.{Name}}
+use Rattle.moo_world.specs.Codes.{Code, E_TYPE, E_ARGS}
 
 -- an integer has 64 bits
 abbrev pub is_integer : ℤ → Bool

@@ -1,18 +1,9 @@
 -- The rows between the calls of a batch.
-use Rattle.std.specs.Prelude.{◌≡◌, ◌+◌, Bool, true, false, ℤ, Some, List, [], ◌∷◌, Ok}
-use Rattle.std.specs.FinMap.{remove}
-use Rattle.moo_value.specs.declared.value.ObjNo.{ObjNo}
-use Rattle.moo_value.specs.declared.value.Value.{Value}
-use Rattle.moo_value.specs.Value.{spread}
-use Rattle.moo_rows.specs.declared.row.PetitionId.{PetitionId}
-use Rattle.moo_rows.specs.declared.row.PetitionRow.{PetitionRow}
-use Rattle.moo_rows.specs.Maps.{Maps}
-use Rattle.moo_world.specs.declared.call.Call.{Call}
-use Rattle.moo_world.specs.declared.call.Batch.{Batch}
-use Rattle.moo_world.specs.Numbers.{KeepsNumbers, NumbersStay}
-use Rattle.moo_world.specs.Names.{is_grant}
-use Rattle.moo_world.specs.Outcomes.{Done}
-use Rattle.moo_world.specs.Requests.{held_step, in_world, one_integer, petition_at, batch_call, state_of, PetitionsStay}
+use Rattle.std.specs.{Prelude.{◌≡◌, ◌+◌, Bool, true, false, ℤ, Some, List, [], ◌∷◌, Ok}, FinMap.{remove}}
+use Rattle.moo_value.specs.{declared.value.ObjNo.{ObjNo}, declared.value.Value.{Value}, Value.{spread}}
+use Rattle.moo_rows.specs.{declared.row.PetitionId.{PetitionId}, declared.row.PetitionRow.{PetitionRow}, Maps.{Maps}}
+use Rattle.moo_world.specs.{declared.call.Call.{Call}, declared.call.Batch.{Batch}, Numbers.{KeepsNumbers, NumbersStay}, Names.{is_grant}}
+use Rattle.moo_world.specs.{Outcomes.{Done}, Requests.{held_step, in_world, one_integer, petition_at, batch_call, state_of, PetitionsStay}}
 use Rattle.moo_world.specs.Rows.{IsGood, world_of}
 
 -- the calls that a petition holds lead from rows to rows: each is done, leaves good rows, and keeps numbers

@@ -1,17 +1,11 @@
 -- The built-in properties by their names, and what they read as.
 -- LambdaMOO Programmer's Manual, 'Properties on Objects' in the chapter on the database.
-use Rattle.std.specs.Prelude.{pos, ℕ, codes, List, [], ◌∷◌, Option, unwrap_or}
-use Rattle.std.specs.Option.{option_map}
-use Rattle.std.specs.List.{find}
-use Rattle.moo_value.specs.declared.value.ObjNo.{ObjNo}
-use Rattle.moo_value.specs.declared.value.Value.{Value}
-use Rattle.moo_value.specs.declared.value.Value.TheVariants.{Int, Obj, Str}
+use Rattle.std.specs.{Prelude.{pos, ℕ, codes, List, [], ◌∷◌, Option, unwrap_or}, Option.{option_map}, List.{find}}
+use Rattle.moo_value.specs.{declared.value.ObjNo.{ObjNo}, declared.value.Value.{Value}, declared.value.Value.TheVariants.{Int, Obj, Str}}
 use Rattle.moo_rows.specs.declared.row.ObjRow.{ObjRow}
 use Rattle.moo_world.specs.declared.built_in.BuiltIn.{BuiltIn}
 use Rattle.moo_world.specs.declared.built_in.BuiltIn.TheVariants.{Name as NameField, Owner, Location, Contents, Programmer, Wizard, R, W, F}
-use Rattle.moo_world.specs.Objects.{Name, same_text, folded}
-use Rattle.moo_world.specs.World.{World, row_of}
-use Rattle.moo_world.specs.ObjectLists.{contents_of}
+use Rattle.moo_world.specs.{Objects.{Name, same_text, folded}, World.{World, row_of}, ObjectLists.{contents_of}}
 use Rattle.moo_world.specs.Answers.{flag, object_list}
 
 -- the name of a built-in property, in lower case

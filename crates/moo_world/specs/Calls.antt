@@ -24,40 +24,31 @@
 --                       (Reasons). `x ← found or_else R`: x is what was found, or the call fails for R if it is `None`. `x ← given r` and
 --                       `x ← taken_for r`: x is what r holds, or the call fails with its error or for its reason.
 --                       `x ← with_next n` and `require_room c`: `Full` if no number is left. `Done a w` answers a and leaves w.
-use Rattle.std.specs.Prelude.{nat_le, not, ◌||◌, List, [], length, Option, None, Some, unwrap_or, if◌then◌else◌}
-use Rattle.std.specs.Option.{option_and_then}
-use Rattle.moo_value.specs.declared.value.ObjNo.{ObjNo}
-use Rattle.moo_value.specs.declared.value.Value.{Value}
-use Rattle.moo_value.specs.declared.value.Value.TheVariants.{Obj}
+use Rattle.std.specs.{Prelude.{nat_le, not, ◌||◌, List, [], length, Option, None, Some, unwrap_or, if◌then◌else◌}, Option.{option_and_then}}
+use Rattle.moo_value.specs.{declared.value.ObjNo.{ObjNo}, declared.value.Value.{Value}, declared.value.Value.TheVariants.{Obj}}
 use Rattle.moo_value.specs.Value.{is_true}
 use Rattle.moo_world.specs.declared.change.Change.TheVariants as to
-use Rattle.moo_world.specs.declared.reason.Reason.{Reason}
-use Rattle.moo_world.specs.Objects.{nothing, same_object, is_among}
+use Rattle.moo_world.specs.{declared.reason.Reason.{Reason}, Objects.{nothing, same_object, is_among}}
 use Rattle.moo_world.specs.World.{World, is_object, row_of, row_passes, owner_of, parent_of, chain, reparented}
 use Rattle.moo_world.specs.Outcomes.{Outcome, Done, fails, require◌else◌, ◌>>◌, given, with_next, ◌>>=◌}
-use Rattle.moo_world.specs.Answers.{zero, flag, object_list}
-use Rattle.moo_world.specs.ObjectLists.{children_of, players_of, shares_property_name, first_to_meet}
+use Rattle.moo_world.specs.{Answers.{zero, flag, object_list}, ObjectLists.{children_of, players_of, shares_property_name, first_to_meet}}
 use Rattle.moo_world.specs.Rights.{is_wizard, controls, may_be_parent, may_make_owner, accepts, is_within}
-use Rattle.moo_world.specs.Quota.{may_afford, charged, quota_returned}
-use Rattle.moo_world.specs.Creation.{next_object, owner_or_self, created}
-use Rattle.moo_world.specs.Recycling.{recycled}
-use Rattle.moo_world.specs.Fields.{field_changed}
-use Rattle.moo_world.specs.declared.call.Call.{Call}
-use Rattle.moo_world.specs.declared.name.CallName.{CallName}
+use Rattle.moo_world.specs.{Quota.{may_afford, charged, quota_returned}, Creation.{next_object, owner_or_self, created}}
+use Rattle.moo_world.specs.{Recycling.{recycled}, Fields.{field_changed}, declared.call.Call.{Call}, declared.name.CallName.{CallName}}
 use Rattle.moo_world.specs.declared.name.CallName.TheVariants.{Valid, Parent, Children, IsPlayer, Players, MaxObject, Get, Properties}
-use Rattle.moo_world.specs.declared.name.CallName.TheVariants.{PropertyInfo, IsClearProperty, Verbs, VerbInfo, VerbArgs, AcceptList}
-use Rattle.moo_world.specs.declared.name.CallName.TheVariants.{Create, Chparent, Recycle, Move, SetPlayerFlag, Set, AddProperty}
-use Rattle.moo_world.specs.declared.name.CallName.TheVariants.{DeleteProperty, SetPropertyInfo, ClearProperty, AddVerb, DeleteVerb}
-use Rattle.moo_world.specs.declared.name.CallName.TheVariants.{SetVerbInfo, SetVerbArgs, SetAccept}
-use Rattle.moo_world.specs.Arguments.{no_values, one_object, two_objects, object_and_text, object_and_value}
-use Rattle.moo_world.specs.Arguments.{object_text_and_value, parent_and_owner, object_and_accept, new_property}
-use Rattle.moo_world.specs.Arguments.{new_property_info, object_and_desc, new_verb, new_verb_info, new_verb_args}
-use Rattle.moo_world.specs.PropertyCalls.{get, properties, property_info, is_clear_property, set}
-use Rattle.moo_world.specs.PropertyCalls.{add_property, delete_property, set_property_info, clear_property}
+use Rattle.moo_world.specs.declared.name.CallName.TheVariants.{PropertyInfo, IsClearProperty, Verbs, VerbInfo, VerbArgs, AcceptList, Create}
+use Rattle.moo_world.specs.declared.name.CallName.TheVariants.{Chparent, Recycle, Move, SetPlayerFlag, Set, AddProperty, DeleteProperty}
+use Rattle.moo_world.specs.declared.name.CallName.TheVariants.{SetPropertyInfo, ClearProperty, AddVerb, DeleteVerb, SetVerbInfo}
+use Rattle.moo_world.specs.declared.name.CallName.TheVariants.{SetVerbArgs, SetAccept}
+use Rattle.moo_world.specs.Arguments.{no_values, one_object, two_objects, object_and_text, object_and_value, object_text_and_value}
+use Rattle.moo_world.specs.Arguments.{parent_and_owner, object_and_accept, new_property, new_property_info, object_and_desc, new_verb}
+use Rattle.moo_world.specs.Arguments.{new_verb_info, new_verb_args}
+use Rattle.moo_world.specs.PropertyCalls.{get, properties, property_info, is_clear_property, set, add_property, delete_property}
+use Rattle.moo_world.specs.PropertyCalls.{set_property_info, clear_property}
 use Rattle.moo_world.specs.VerbCalls.{verbs, verb_info, verb_args, add_verb, delete_verb, set_verb_info, set_verb_args}
 use Rattle.moo_world.specs.declared.reason.Reason.TheVariants.{NoProgrammer, NoWizard, NoObject, NoPlace, NoParent, NotControlled}
-use Rattle.moo_world.specs.declared.reason.Reason.TheVariants.{NotFertile, NoOwner, ParentBelow, NameShared, NotAccepted, PlaceInside, NoQuota, LongList, Unasked}
-use Rattle.moo_world.specs.declared.values.TheConstants.{MOST_ACCEPTED}
+use Rattle.moo_world.specs.declared.reason.Reason.TheVariants.{NotFertile, NoOwner, ParentBelow, NameShared, NotAccepted, PlaceInside}
+use Rattle.moo_world.specs.{declared.reason.Reason.TheVariants.{NoQuota, LongList, Unasked}, declared.values.TheConstants.{MOST_ACCEPTED}}
 
 -- ---- the calls that only read
 

@@ -3,8 +3,7 @@
 use Rattle.std.specs.Prelude.{pos, ◌+ℤ◌, int_lt, [], Option, Some, None, if◌then◌else◌}
 use Rattle.moo_value.specs.declared.value.ObjNo.{ObjNo}
 use Rattle.moo_rows.specs.PlainRow.{plain_row}
-use Rattle.moo_world.specs.Objects.{nothing, same_object}
-use Rattle.moo_world.specs.World.{World, WorldObject, rebuilt}
+use Rattle.moo_world.specs.{Objects.{nothing, same_object}, World.{World, WorldObject, rebuilt}}
 
 -- the number of the next object, if one is left
 abbrev pub next_object : World → Option ObjNo

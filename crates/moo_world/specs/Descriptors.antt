@@ -2,16 +2,12 @@
 -- object, counted from 0.
 -- From the LambdaMOO Programmer's Manual: 'Operations on Verbs'. The manual doesn't say which verb a word means if several match: here, as
 -- in LambdaMOO 1.8, the first of the object itself. That 0 and a number below it are E_VERBNF is this server's own.
-use Rattle.std.specs.Prelude.{ℕ, suc, ℤ, pos, nat_lt, length, Option, None, Some, if◌then◌else◌}
-use Rattle.std.specs.Option.{option_map, option_and_then}
+use Rattle.std.specs.{Prelude.{ℕ, suc, ℤ, pos, nat_lt, length, Option, None, Some, if◌then◌else◌}, Option.{option_map, option_and_then}}
 use Rattle.std.specs.List.{position}
 use Rattle.moo_value.specs.declared.value.ObjNo.{ObjNo}
 use Rattle.moo_rows.specs.declared.row.VerbRow.{VerbRow}
-use Rattle.moo_world.specs.declared.descriptor.Desc.{Desc}
-use Rattle.moo_world.specs.declared.descriptor.Desc.TheVariants.{Index, Name as a_word}
-use Rattle.moo_world.specs.World.{World, directory_of}
-use Rattle.moo_world.specs.Directories.{verb_at}
-use Rattle.moo_world.specs.Matching.{one_matches}
+use Rattle.moo_world.specs.{declared.descriptor.Desc.{Desc}, declared.descriptor.Desc.TheVariants.{Index, Name as a_word}}
+use Rattle.moo_world.specs.{World.{World, directory_of}, Directories.{verb_at}, Matching.{one_matches}}
 
 -- the place that a number from 1 on stands for
 abbrev pub place_numbered : ℤ → Option ℕ

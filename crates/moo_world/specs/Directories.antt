@@ -1,13 +1,9 @@
 -- What the calls on verbs leave of the directory of an object. A verb is at its place, counted from 0.
 -- LambdaMOO Programmer's Manual, 'Operations on Verbs'.
-use Rattle.std.specs.Prelude.{ℕ, zero, suc, ◌+◌, List, [], ◌∷◌, ◌++◌, Option, slice_get}
-use Rattle.std.specs.List.{remove}
+use Rattle.std.specs.{Prelude.{ℕ, zero, suc, ◌+◌, List, [], ◌∷◌, ◌++◌, Option, slice_get}, List.{remove}}
 use Rattle.moo_value.specs.declared.value.ObjNo.{ObjNo}
-use Rattle.moo_rows.specs.declared.row.ArgSpec.{ArgSpec}
-use Rattle.moo_rows.specs.declared.row.VerbBits.{VerbBits}
-use Rattle.moo_rows.specs.declared.row.VerbRow.{VerbRow}
-use Rattle.moo_world.specs.Objects.{Name}
-use Rattle.moo_world.specs.World.{World, object_changed, directory_of}
+use Rattle.moo_rows.specs.{declared.row.ArgSpec.{ArgSpec}, declared.row.VerbBits.{VerbBits}, declared.row.VerbRow.{VerbRow}}
+use Rattle.moo_world.specs.{Objects.{Name}, World.{World, object_changed, directory_of}}
 
 -- the verb at a place of the directory
 abbrev pub verb_at : World → ObjNo → ℕ → Option VerbRow

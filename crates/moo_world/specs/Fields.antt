@@ -3,12 +3,9 @@ use Rattle.std.specs.Prelude.{Bool, true, not, ◌&&◌, ◌||◌}
 use Rattle.moo_value.specs.declared.value.ObjNo.{ObjNo}
 use Rattle.moo_rows.specs.declared.row.ObjRow.{ObjRow}
 use Rattle.moo_world.specs.declared.change.Change.{Change}
-use Rattle.moo_world.specs.declared.change.Change.TheVariants.{Name, Owner, Location, Player, Programmer}
-use Rattle.moo_world.specs.declared.change.Change.TheVariants.{Wizard, Readable, Writable, Fertile, Accept}
-use Rattle.moo_world.specs.Arguments.{is_number, is_text}
-use Rattle.moo_world.specs.Objects.{nothing, same_object}
-use Rattle.moo_world.specs.Rights.{is_within}
-use Rattle.moo_world.specs.World.{World, is_object, object_changed, accept_fits}
+use Rattle.moo_world.specs.declared.change.Change.TheVariants.{Name, Owner, Location, Player, Programmer, Wizard, Readable, Writable}
+use Rattle.moo_world.specs.{declared.change.Change.TheVariants.{Fertile, Accept}, Arguments.{is_number, is_text}}
+use Rattle.moo_world.specs.{Objects.{nothing, same_object}, Rights.{is_within}, World.{World, is_object, object_changed, accept_fits}}
 
 -- a row with one field changed
 abbrev pub changed : Change → ObjRow → ObjRow

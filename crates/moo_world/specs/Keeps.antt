@@ -1,10 +1,7 @@
 -- What every change of the rows keeps.
-use Rattle.std.specs.Prelude.{◌≡◌, ℕ}
-use Rattle.std.specs.FinMap.{FinMap}
-use Rattle.moo_rows.specs.declared.row.PetitionRow.{PetitionRow}
-use Rattle.moo_rows.specs.Maps.{Maps, Held, petition_cmp}
-use Rattle.moo_world.specs.Rows.{IsGood}
-use Rattle.moo_world.specs.Numbers.{KeepsNumbers}
+use Rattle.std.specs.{Prelude.{◌≡◌, ℕ}, FinMap.{FinMap}}
+use Rattle.moo_rows.specs.{declared.row.PetitionRow.{PetitionRow}, Maps.{Maps, Held, petition_cmp}}
+use Rattle.moo_world.specs.{Rows.{IsGood}, Numbers.{KeepsNumbers}}
 
 -- what rows have beside the world that they show: how many batches were accepted, the petitions, and the number of the next one
 abbrev pub beside_world : Maps → ℕ × (ℕ × FinMap petition_cmp PetitionRow)

@@ -1,19 +1,8 @@
 -- That each call leaves a well formed world, and so does each run of batches.
-use Rattle.std.specs.Prelude.{◌≡◌, ℕ, true, Bool, List}
-use Rattle.std.specs.Bool.{Decides}
-use Rattle.std.specs.List.{list_all}
-use Rattle.moo_value.specs.declared.value.ObjNo.{ObjNo}
-use Rattle.moo_value.specs.declared.value.Value.{Value}
-use Rattle.moo_value.specs.Literal.{Fits}
-use Rattle.moo_value.specs.Text.{IsText}
-use Rattle.moo_world.specs.declared.call.Batch.{Batch}
-use Rattle.moo_world.specs.declared.call.Call.{Call}
-use Rattle.moo_world.specs.Arguments.{is_text, fits}
-use Rattle.moo_world.specs.Judge.{after}
-use Rattle.moo_world.specs.Outcomes.{Done}
-use Rattle.moo_world.specs.Requests.{State, IsFormed, batch_call}
-use Rattle.moo_world.specs.Calls.{world_call}
-use Rattle.moo_world.specs.World.{World, IsWellFormed}
+use Rattle.std.specs.{Prelude.{◌≡◌, ℕ, true, Bool, List}, Bool.{Decides}, List.{list_all}}
+use Rattle.moo_value.specs.{declared.value.ObjNo.{ObjNo}, declared.value.Value.{Value}, Literal.{Fits}, Text.{IsText}}
+use Rattle.moo_world.specs.{declared.call.Batch.{Batch}, declared.call.Call.{Call}, Arguments.{is_text, fits}, Judge.{after}}
+use Rattle.moo_world.specs.{Outcomes.{Done}, Requests.{State, IsFormed, batch_call}, Calls.{world_call}, World.{World, IsWellFormed}}
 
 -- in each value that the call is given lists nest at most 32 deep, integers have 64 bits, the numbers of objects 32, and strings are texts
 abbrev pub arguments_fit : Call → Bool

@@ -1,18 +1,15 @@
 -- The names of the calls.
 use Rattle.std.specs.Prelude.{ℕ, Bool, true, false, cond, List, [], ◌∷◌, Option, Some, None, codes, ◌≡◌, ◌↔◌, refl}
-use Rattle.std.specs.List.{find, filter}
-use Rattle.std.proofs.Common.{ap, subst, ◌∙◌}
-use Rattle.std.proofs.lemmas.Option.{none-some, same_Some}
-use Rattle.moo_world.specs.Objects.{same_text, same_text-Decides, folded}
-use Rattle.moo_world.specs.declared.name.CallName.{CallName}
+use Rattle.std.{specs.List.{find, filter}, proofs.Common.{ap, subst, ◌∙◌}, proofs.lemmas.Option.{none-some, same_Some}}
+use Rattle.moo_world.specs.{Objects.{same_text, same_text-Decides, folded}, declared.name.CallName.{CallName}}
 use Rattle.moo_world.specs.declared.name.PetitionCall.{PetitionCall}
-use Rattle.moo_world.specs.declared.name.PetitionCall.TheVariants.{Petition as to_petition, Petitions as to_list}
-use Rattle.moo_world.specs.declared.name.PetitionCall.TheVariants.{Grant as to_grant, Decline as to_decline}
+use Rattle.moo_world.specs.declared.name.PetitionCall.TheVariants.{Petition as to_petition, Petitions as to_list, Grant as to_grant}
+use Rattle.moo_world.specs.declared.name.PetitionCall.TheVariants.{Decline as to_decline}
 use Rattle.moo_world.specs.declared.name.CallName.TheVariants.{Valid, Parent, Children, IsPlayer, Players, MaxObject, Get, Properties}
-use Rattle.moo_world.specs.declared.name.CallName.TheVariants.{PropertyInfo, IsClearProperty, Verbs, VerbInfo, VerbArgs, AcceptList}
-use Rattle.moo_world.specs.declared.name.CallName.TheVariants.{Create, Chparent, Recycle, Move, SetPlayerFlag, Set, AddProperty}
-use Rattle.moo_world.specs.declared.name.CallName.TheVariants.{DeleteProperty, SetPropertyInfo, ClearProperty, AddVerb, DeleteVerb}
-use Rattle.moo_world.specs.declared.name.CallName.TheVariants.{SetVerbInfo, SetVerbArgs, SetAccept, Petition, Petitions, Grant, Decline}
+use Rattle.moo_world.specs.declared.name.CallName.TheVariants.{PropertyInfo, IsClearProperty, Verbs, VerbInfo, VerbArgs, AcceptList, Create}
+use Rattle.moo_world.specs.declared.name.CallName.TheVariants.{Chparent, Recycle, Move, SetPlayerFlag, Set, AddProperty, DeleteProperty}
+use Rattle.moo_world.specs.declared.name.CallName.TheVariants.{SetPropertyInfo, ClearProperty, AddVerb, DeleteVerb, SetVerbInfo}
+use Rattle.moo_world.specs.declared.name.CallName.TheVariants.{SetVerbArgs, SetAccept, Petition, Petitions, Grant, Decline}
 
 -- the name of a call, in lower case
 abbrev pub spelling : CallName → List ℕ

@@ -1,16 +1,11 @@
 -- What a call does to the numbers of properties and verbs, which no world shows: what stays has the number that it had, and what
 -- is new the next one. With the world that the call leaves this fixes the rows, but for which of two verbs alike was deleted.
-use Rattle.std.specs.Prelude.{◌≡◌, ◌≤◌, ◌<◌, ℕ, true, Option, Some, None, is_some, if◌then◌else◌}
-use Rattle.std.specs.Option.{option_and_then}
+use Rattle.std.specs.{Prelude.{◌≡◌, ◌≤◌, ◌<◌, ℕ, true, Option, Some, None, is_some, if◌then◌else◌}, Option.{option_and_then}}
 use Rattle.std.specs.FinMap.{FinMap, get, insert, remove}
 use Rattle.moo_value.specs.declared.value.ObjNo.{ObjNo}
-use Rattle.moo_rows.specs.declared.row.PropId.{PropId}
-use Rattle.moo_rows.specs.declared.row.PropRow.{PropRow}
-use Rattle.moo_rows.specs.declared.row.VerbId.{VerbId}
-use Rattle.moo_rows.specs.declared.row.VerbRow.{VerbRow}
-use Rattle.moo_rows.specs.Maps.{Maps, prop_cmp, verb_cmp}
-use Rattle.moo_world.specs.Objects.{Name, same_object}
-use Rattle.moo_world.specs.Rows.{prop_id, verb_id}
+use Rattle.moo_rows.specs.{declared.row.PropId.{PropId}, declared.row.PropRow.{PropRow}, declared.row.VerbId.{VerbId}}
+use Rattle.moo_rows.specs.{declared.row.VerbRow.{VerbRow}, Maps.{Maps, prop_cmp, verb_cmp}}
+use Rattle.moo_world.specs.{Objects.{Name, same_object}, Rows.{prop_id, verb_id}}
 
 -- the row of a property, unless the object defines it
 abbrev pub not_of : ObjNo → Option PropRow → Option PropRow

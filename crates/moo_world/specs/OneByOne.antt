@@ -1,14 +1,10 @@
 -- The children of an object that is recycled, moved to its parent one by one, each in the manual's own words.
 -- LambdaMOO Programmer's Manual, 'Fundamental Operations on Objects': `recycle` and `chparent`.
-use Rattle.std.specs.Prelude.{◌≡◌, List, [], ◌∷◌, ⊤, None, Some, if◌then◌else◌}
-use Rattle.std.specs.Option.{option_map}
+use Rattle.std.specs.{Prelude.{◌≡◌, List, [], ◌∷◌, ⊤, None, Some, if◌then◌else◌}, Option.{option_map}}
 use Rattle.moo_value.specs.declared.value.ObjNo.{ObjNo}
 use Rattle.moo_world.specs.Objects.{nothing, same_object, is_among}
-use Rattle.moo_world.specs.World.{World, WorldObject, IsWellFormed, parent_of, with_slots, with_parent, reparented}
-use Rattle.moo_world.specs.Laws.{MayReparent}
-use Rattle.moo_world.specs.Manual.{manual_slot}
-use Rattle.moo_world.specs.ObjectLists.{is_parent_of, children_of}
-use Rattle.moo_world.specs.Recycling.{recycled}
+use Rattle.moo_world.specs.{World.{World, WorldObject, IsWellFormed, parent_of, with_slots, with_parent, reparented}, Laws.{MayReparent}}
+use Rattle.moo_world.specs.{Manual.{manual_slot}, ObjectLists.{is_parent_of, children_of}, Recycling.{recycled}}
 
 -- the object under its new parent, and every object with the slots that it then has in the manual's wording
 abbrev pub manually_moved : World → ObjNo → ObjNo → World

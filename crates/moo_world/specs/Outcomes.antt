@@ -1,11 +1,8 @@
 -- What a call comes to. A call is its checks, in their order, and then its answer and what it leaves: the world, or, if it may be any call
 -- of a batch, the whole state.
 use Rattle.std.specs.Prelude.{ℕ, Bool, true, false, Option, Some, None, Result, Ok, Err}
-use Rattle.moo_value.specs.declared.value.Value.{Value}
-use Rattle.moo_value.specs.declared.value.ObjNo.{ObjNo}
-use Rattle.moo_value.specs.declared.code.Code.{Code}
-use Rattle.moo_world.specs.declared.reason.Reason.{Reason}
-use Rattle.moo_world.specs.declared.reason.Reason.TheVariants.{Given}
+use Rattle.moo_value.specs.{declared.value.Value.{Value}, declared.value.ObjNo.{ObjNo}, declared.code.Code.{Code}}
+use Rattle.moo_world.specs.{declared.reason.Reason.{Reason}, declared.reason.Reason.TheVariants.{Given}}
 
 -- Why a call fails: the check that fails first, with the numbers that it fails for. Of a call that a granted petition holds, its place
 -- there, from 0.

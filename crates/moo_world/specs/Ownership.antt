@@ -1,23 +1,13 @@
 -- What quotas count, and what only a wizard may do.
-use Rattle.std.specs.Prelude.{◌≡◌, ℤ, pos, ◌+ℤ◌, int_lt, true, false, ◌&&◌, ◌||◌, is_some}
-use Rattle.std.specs.Prelude.{Option, None, Some, Result, Ok, Err, if◌then◌else◌}
-use Rattle.moo_value.specs.declared.code.Code.{Code}
-use Rattle.moo_value.specs.declared.value.ObjNo.{ObjNo}
-use Rattle.moo_value.specs.declared.value.Value.{Value}
+use Rattle.std.specs.Prelude.{◌≡◌, ℤ, pos, ◌+ℤ◌, int_lt, true, false, ◌&&◌, ◌||◌, is_some, Option, None, Some, Result, Ok, Err}
+use Rattle.std.specs.Prelude.{if◌then◌else◌}
+use Rattle.moo_value.specs.{declared.code.Code.{Code}, declared.value.ObjNo.{ObjNo}, declared.value.Value.{Value}}
 use Rattle.moo_value.specs.declared.value.Value.TheVariants.{Obj}
-use Rattle.moo_world.specs.declared.call.Call.{Call}
-use Rattle.moo_world.specs.declared.name.CallName.TheVariants.{SetPropertyInfo}
+use Rattle.moo_world.specs.{declared.call.Call.{Call}, declared.name.CallName.TheVariants.{SetPropertyInfo}}
 use Rattle.moo_world.specs.Objects.{Name, nothing, same_object, same_text, folded, is_among, -1}
 use Rattle.moo_world.specs.World.{World, Slot, IsWellFormed, is_object, row_passes, owner_of, slot_of, chain}
-use Rattle.moo_world.specs.Arguments.{NewPropertyInfo, new_property_info}
-use Rattle.moo_world.specs.Outcomes.{Done}
-use Rattle.moo_world.specs.Calls.{create, recycle}
-use Rattle.moo_world.specs.Quota.{quota_of}
-use Rattle.moo_world.specs.Recycling.{recycled}
-use Rattle.moo_world.specs.Rights.{is_wizard}
-use Rattle.moo_world.specs.Names.{petition_call}
-use Rattle.moo_world.specs.Requests.{State, batch_call}
-use Rattle.moo_world.specs.Calls.{world_call}
+use Rattle.moo_world.specs.{Arguments.{NewPropertyInfo, new_property_info}, Outcomes.{Done}, Calls.{create, recycle, world_call}}
+use Rattle.moo_world.specs.{Quota.{quota_of}, Recycling.{recycled}, Rights.{is_wizard}, Names.{petition_call}, Requests.{State, batch_call}}
 
 -- the object has the owner, the player flag, and the programmer and wizard bits that it had
 abbrev pub SameRights : World → World → ObjNo → Type 0

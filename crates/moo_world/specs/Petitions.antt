@@ -1,16 +1,10 @@
 -- Petitions: calls that one programmer asks a wizard to make. They are this server's own.
 use Rattle.std.specs.Prelude.{◌≡◌, ◌≤◌, ◌<◌, ◌+◌, ℕ, nat_lt, nat_le, Bool, true, false, ◌&&◌, List, ◌∷◌, length, Some, is_some}
-use Rattle.std.specs.List.{list_all}
-use Rattle.std.specs.FinMap.{FinMap, get}
-use Rattle.moo_value.specs.declared.value.Value.{Value}
-use Rattle.moo_value.specs.declared.value.Value.TheVariants.{Str, List as a_list}
-use Rattle.moo_value.specs.Value.{nesting, spread}
+use Rattle.std.specs.{List.{list_all}, FinMap.{FinMap, get}}
+use Rattle.moo_value.specs.{declared.value.Value.{Value}, declared.value.Value.TheVariants.{Str, List as a_list}, Value.{nesting, spread}}
 use Rattle.moo_value.specs.Values.{Values}
-use Rattle.moo_rows.specs.declared.row.PetitionId.{PetitionId}
-use Rattle.moo_rows.specs.declared.row.PetitionRow.{PetitionRow}
-use Rattle.moo_rows.specs.Maps.{petition_cmp}
-use Rattle.moo_world.specs.Objects.{number_limit}
-use Rattle.moo_world.specs.Arguments.{is_number, all_within_limits}
+use Rattle.moo_rows.specs.{declared.row.PetitionId.{PetitionId}, declared.row.PetitionRow.{PetitionRow}, Maps.{petition_cmp}}
+use Rattle.moo_world.specs.{Objects.{number_limit}, Arguments.{is_number, all_within_limits}}
 use Rattle.moo_world.specs.declared.petition.TheConstants.{MOST_HELD, MOST_NESTING}
 
 -- the first value is a string

@@ -5,15 +5,10 @@
 -- that of the lines here. Three things are this server's own: that `get` and `set` are calls, for the expression `object.name` and the
 -- assignment to it; that a new owner has to be an object; and that the present name in another case isn't a new name.
 use Rattle.std.specs.Prelude.{Bool, true, false, not, ◌&&◌, ◌||◌, nat_lt, [], ◌∷◌, ◌++◌, Option, Some, None, Result, Ok, Err, unwrap_or}
-use Rattle.std.specs.Prelude.{if◌then◌else◌}
-use Rattle.std.specs.List.{list_any, find}
-use Rattle.moo_value.specs.declared.value.ObjNo.{ObjNo}
-use Rattle.moo_value.specs.declared.value.Value.{Value}
-use Rattle.moo_value.specs.declared.value.Value.TheVariants.{Obj, Str}
+use Rattle.std.specs.{Prelude.{if◌then◌else◌}, List.{list_any, find}}
+use Rattle.moo_value.specs.{declared.value.ObjNo.{ObjNo}, declared.value.Value.{Value}, declared.value.Value.TheVariants.{Obj, Str}}
 use Rattle.moo_value.specs.Value.{is_true}
-use Rattle.moo_rows.specs.Bits.{bits_of, letters_of}
-use Rattle.moo_rows.specs.declared.row.SlotState.{SlotState}
-use Rattle.moo_rows.specs.declared.row.SlotState.TheVariants.{Clear, Set}
+use Rattle.moo_rows.specs.{Bits.{bits_of, letters_of}, declared.row.SlotState.{SlotState}, declared.row.SlotState.TheVariants.{Clear, Set}}
 use Rattle.moo_world.specs.declared.built_in.BuiltIn.{BuiltIn}
 use Rattle.moo_world.specs.declared.built_in.BuiltIn.TheVariants.{Name as NameField, Owner, Location, Contents, Programmer, Wizard, R, W, F}
 use Rattle.moo_world.specs.declared.change.Change.{Change}
@@ -21,19 +16,16 @@ use Rattle.moo_world.specs.declared.change.Change.TheVariants as to
 use Rattle.moo_world.specs.Objects.{Name, nothing, same_object, same_text, folded, number_limit}
 use Rattle.moo_world.specs.World.{World, is_object, row_passes, chain, property_names_of, slot_of, read_of, is_property_name}
 use Rattle.moo_world.specs.ObjectLists.{walk_down}
-use Rattle.moo_world.specs.Outcomes.{Outcome, Done, require_room, require◌else◌, ◌>>◌, taken_for, ◌or_else◌, ◌>>=◌}
-use Rattle.moo_world.specs.Arguments.{Info}
-use Rattle.moo_world.specs.Answers.{zero, flag, list_of, text_list}
-use Rattle.moo_world.specs.BuiltIns.{built_in, field_of}
-use Rattle.moo_world.specs.Rights.{is_wizard, controls, may_set_name, may_make_owner}
-use Rattle.moo_world.specs.Rights.{may_read_object, may_write_object, may_read_slot, may_write_slot}
+use Rattle.moo_world.specs.{Outcomes.{Outcome, Done, require_room, require◌else◌, ◌>>◌, taken_for, ◌or_else◌, ◌>>=◌}, Arguments.{Info}}
+use Rattle.moo_world.specs.{Answers.{zero, flag, list_of, text_list}, BuiltIns.{built_in, field_of}}
+use Rattle.moo_world.specs.Rights.{is_wizard, controls, may_set_name, may_make_owner, may_read_object, may_write_object, may_read_slot}
+use Rattle.moo_world.specs.Rights.{may_write_slot}
 use Rattle.moo_world.specs.Changes.{clashes, property_added, property_removed, property_renamed, value_set, cleared, info_set}
-use Rattle.moo_world.specs.Fields.{field_changed}
-use Rattle.moo_world.specs.declared.reason.Reason.{Reason}
+use Rattle.moo_world.specs.{Fields.{field_changed}, declared.reason.Reason.{Reason}}
 use Rattle.moo_world.specs.declared.reason.Reason.TheVariants.{NoWizard, NoObject, NoTarget, NotControlled, NoOwner, NoObjectR, NoObjectW}
 use Rattle.moo_world.specs.declared.reason.Reason.TheVariants.{NeverSet, NotTaken, NamesPlayer, NoProperty, NotDefined, NotRenamed}
-use Rattle.moo_world.specs.declared.reason.Reason.TheVariants.{NotInherited, NoPropertyName, NameTaken, NoPropertyR, NoPropertyW}
-use Rattle.moo_world.specs.declared.reason.Reason.TheVariants.{NotGiven, PropertyPerms}
+use Rattle.moo_world.specs.declared.reason.Reason.TheVariants.{NotInherited, NoPropertyName, NameTaken, NoPropertyR, NoPropertyW, NotGiven}
+use Rattle.moo_world.specs.declared.reason.Reason.TheVariants.{PropertyPerms}
 
 -- the outcome for a built-in property, or for any other
 abbrev pub by_field : Option BuiltIn → (BuiltIn → Outcome World) → Outcome World → Outcome World

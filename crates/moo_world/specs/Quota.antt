@@ -4,13 +4,9 @@
 -- integer stays, are this server's own.
 use Rattle.std.specs.Prelude.{ℤ, pos, ◌+ℤ◌, int_lt, Bool, true, false, ◌||◌, codes, Option, Some, None, unwrap_or, if◌then◌else◌}
 use Rattle.std.specs.Option.{option_map}
-use Rattle.moo_value.specs.declared.value.ObjNo.{ObjNo}
-use Rattle.moo_value.specs.declared.value.Value.{Value}
-use Rattle.moo_value.specs.declared.value.Value.TheVariants.{Int}
-use Rattle.moo_rows.specs.declared.row.SlotState.{SlotState}
-use Rattle.moo_rows.specs.declared.row.SlotState.TheVariants.{Set}
-use Rattle.moo_world.specs.Objects.{Name, nothing, same_object, same_text, -1}
-use Rattle.moo_world.specs.World.{World, WorldObject, Slot, object_changed, read_of}
+use Rattle.moo_value.specs.{declared.value.ObjNo.{ObjNo}, declared.value.Value.{Value}, declared.value.Value.TheVariants.{Int}}
+use Rattle.moo_rows.specs.{declared.row.SlotState.{SlotState}, declared.row.SlotState.TheVariants.{Set}}
+use Rattle.moo_world.specs.{Objects.{Name, nothing, same_object, same_text, -1}, World.{World, WorldObject, Slot, object_changed, read_of}}
 
 -- the name of the quota property, folded
 abbrev pub quota_name : Name

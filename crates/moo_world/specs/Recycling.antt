@@ -1,10 +1,8 @@
 -- What recycling an object leaves.
 -- LambdaMOO Programmer's Manual, 'Fundamental Operations on Objects': `recycle`.
-use Rattle.std.specs.Prelude.{None, unwrap_or, if◌then◌else◌}
-use Rattle.std.specs.Option.{option_map}
+use Rattle.std.specs.{Prelude.{None, unwrap_or, if◌then◌else◌}, Option.{option_map}}
 use Rattle.moo_value.specs.declared.value.ObjNo.{ObjNo}
-use Rattle.moo_world.specs.Objects.{nothing, same_object}
-use Rattle.moo_world.specs.World.{World, WorldObject, parent_of, rebuilt}
+use Rattle.moo_world.specs.{Objects.{nothing, same_object}, World.{World, WorldObject, parent_of, rebuilt}}
 
 -- What becomes of another object if this one is gone. If it was a child, the parent of the one that is gone is its parent. If it was
 -- inside, it is nowhere.

@@ -1,31 +1,17 @@
 -- The calls of petitions, and the outcome of any call of a batch. Petitions are this server's own: LambdaMOO has none.
-use Rattle.std.specs.Prelude.{◌≡◌, ℕ, ◌+◌, ◌<◌, ◌≤◌, ℤ, pos, negsuc, nat_lt, Bool, ◌||◌, List, [], ◌∷◌}
-use Rattle.std.specs.Prelude.{map, Option, Some, None, is_some, Result, Ok, Err, if◌then◌else◌}
-use Rattle.std.specs.Option.{option_map, option_and_then}
-use Rattle.std.specs.List.{filter, list_all}
+use Rattle.std.specs.Prelude.{◌≡◌, ℕ, ◌+◌, ◌<◌, ◌≤◌, ℤ, pos, negsuc, nat_lt, Bool, ◌||◌, List, [], ◌∷◌, map, Option, Some, None, is_some}
+use Rattle.std.specs.{Prelude.{Result, Ok, Err, if◌then◌else◌}, Option.{option_map, option_and_then}, List.{filter, list_all}}
 use Rattle.std.specs.FinMap.{FinMap, get, insert, remove, entries}
-use Rattle.moo_value.specs.declared.value.ObjNo.{ObjNo}
-use Rattle.moo_value.specs.declared.value.Value.{Value}
-use Rattle.moo_value.specs.declared.value.Value.TheVariants.{Int, Obj, Str, List as a_list}
-use Rattle.moo_value.specs.Value.{spread}
-use Rattle.moo_value.specs.Values.{Values}
-use Rattle.moo_rows.specs.declared.row.PetitionId.{PetitionId}
-use Rattle.moo_rows.specs.declared.row.PetitionRow.{PetitionRow}
-use Rattle.moo_rows.specs.Maps.{Maps, petition_cmp}
-use Rattle.moo_world.specs.declared.call.Call.{Call}
-use Rattle.moo_world.specs.declared.name.PetitionCall.{PetitionCall}
-use Rattle.moo_world.specs.declared.name.PetitionCall.TheVariants.{Petition as to_petition, Petitions as to_list}
-use Rattle.moo_world.specs.declared.name.PetitionCall.TheVariants.{Grant as to_grant, Decline as to_decline}
-use Rattle.moo_world.specs.Answers.{zero, list_of}
-use Rattle.moo_world.specs.Arguments.{no_values}
-use Rattle.moo_world.specs.Names.{petition_call, call_name_of}
-use Rattle.moo_world.specs.Objects.{same_object, number_limit}
-use Rattle.moo_world.specs.Outcomes.{Outcome, Done, Failed, Full, fails, in_petition, given, require◌else◌, require_room, ◌>>◌, ◌or_else◌, ◌>>=◌}
-use Rattle.moo_world.specs.Petitions.{is_named, are_few, are_shallow, PetitionsStand}
-use Rattle.moo_world.specs.Rights.{is_wizard}
-use Rattle.moo_world.specs.Rows.{world_of}
-use Rattle.moo_world.specs.Calls.{world_call, named_call}
-use Rattle.moo_world.specs.World.{World, is_object, IsWellFormed}
+use Rattle.moo_value.specs.{declared.value.ObjNo.{ObjNo}, declared.value.Value.{Value}}
+use Rattle.moo_value.specs.{declared.value.Value.TheVariants.{Int, Obj, Str, List as a_list}, Value.{spread}, Values.{Values}}
+use Rattle.moo_rows.specs.{declared.row.PetitionId.{PetitionId}, declared.row.PetitionRow.{PetitionRow}, Maps.{Maps, petition_cmp}}
+use Rattle.moo_world.specs.{declared.call.Call.{Call}, declared.name.PetitionCall.{PetitionCall}}
+use Rattle.moo_world.specs.declared.name.PetitionCall.TheVariants.{Petition as to_petition, Petitions as to_list, Grant as to_grant}
+use Rattle.moo_world.specs.{declared.name.PetitionCall.TheVariants.{Decline as to_decline}, Answers.{zero, list_of}, Arguments.{no_values}}
+use Rattle.moo_world.specs.{Names.{petition_call, call_name_of}, Objects.{same_object, number_limit}}
+use Rattle.moo_world.specs.Outcomes.{Outcome, Done, Failed, Full, fails, in_petition, given, require◌else◌, require_room, ◌>>◌, ◌or_else◌}
+use Rattle.moo_world.specs.{Outcomes.{◌>>=◌}, Petitions.{is_named, are_few, are_shallow, PetitionsStand}, Rights.{is_wizard}}
+use Rattle.moo_world.specs.{Rows.{world_of}, Calls.{world_call, named_call}, World.{World, is_object, IsWellFormed}}
 use Rattle.moo_world.specs.Codes.{Code, E_TYPE, E_ARGS}
 use Rattle.moo_world.specs.declared.reason.Reason.TheVariants.{NoProgrammer, NoWizard, Unnamed, NotFew, Unasked, Deep, NoPetition, NotAsker}
 

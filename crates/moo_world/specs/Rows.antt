@@ -1,20 +1,11 @@
 -- The world that rows show. The rows are seen by what a look-up of each map answers, and the counters.
-use Rattle.std.specs.Prelude.{◌≡◌, ℕ, zero, suc, ◌<◌, ◌==◌, ◌&&◌, true, List, [], ◌∷◌, ◌++◌}
-use Rattle.std.specs.Prelude.{Option, Some, None, is_some, slice_get, if◌then◌else◌}
-use Rattle.std.specs.Option.{option_map, option_and_then}
-use Rattle.std.specs.List.{filter_map}
+use Rattle.std.specs.Prelude.{◌≡◌, ℕ, zero, suc, ◌<◌, ◌==◌, ◌&&◌, true, List, [], ◌∷◌, ◌++◌, Option, Some, None, is_some, slice_get}
+use Rattle.std.specs.{Prelude.{if◌then◌else◌}, Option.{option_map, option_and_then}, List.{filter_map}, FinMap.{get}}
 use Rattle.moo_value.specs.declared.value.ObjNo.{ObjNo}
-use Rattle.moo_rows.specs.declared.row.ObjRow.{ObjRow}
-use Rattle.moo_rows.specs.declared.row.PropRow.{PropRow}
-use Rattle.moo_rows.specs.declared.row.SlotRow.{SlotRow}
-use Rattle.moo_rows.specs.declared.row.VerbRow.{VerbRow}
-use Rattle.moo_rows.specs.declared.row.Head.{Head}
-use Rattle.std.specs.FinMap.{get}
-use Rattle.moo_rows.specs.declared.row.PropId.{PropId}
-use Rattle.moo_rows.specs.declared.row.VerbId.{VerbId}
-use Rattle.moo_rows.specs.Maps.{Maps}
-use Rattle.moo_world.specs.Objects.{Name, same_object, same_text, folded}
-use Rattle.moo_world.specs.Petitions.{PetitionsStand}
+use Rattle.moo_rows.specs.{declared.row.ObjRow.{ObjRow}, declared.row.PropRow.{PropRow}, declared.row.SlotRow.{SlotRow}}
+use Rattle.moo_rows.specs.{declared.row.VerbRow.{VerbRow}, declared.row.Head.{Head}, declared.row.PropId.{PropId}}
+use Rattle.moo_rows.specs.{declared.row.VerbId.{VerbId}, Maps.{Maps}}
+use Rattle.moo_world.specs.{Objects.{Name, same_object, same_text, folded}, Petitions.{PetitionsStand}}
 use Rattle.moo_world.specs.World.{World, WorldObject, Slot, IsWellFormed}
 
 -- the counters, and what a look-up of each map answers

@@ -1,12 +1,9 @@
 -- The laws of chains and of rebuilding, and that each test says what its relation says.
-use Rattle.std.specs.Prelude.{◌≡◌, ◌↔◌, true, false, List, ◌∷◌, ◌++◌, Some, None, Any}
-use Rattle.std.specs.Bool.{Decides}
-use Rattle.moo_value.specs.declared.value.ObjNo.{ObjNo}
-use Rattle.moo_value.specs.declared.value.Value.{Value}
+use Rattle.std.specs.{Prelude.{◌≡◌, ◌↔◌, true, false, List, ◌∷◌, ◌++◌, Some, None, Any}, Bool.{Decides}}
+use Rattle.moo_value.specs.{declared.value.ObjNo.{ObjNo}, declared.value.Value.{Value}}
 use Rattle.moo_world.specs.Objects.{Name, Property, nothing, is_among}
-use Rattle.moo_world.specs.World.{World, WorldObject, IsTree, Chain, LocationChain, IsUnder, HasProperty, Rebuilt, Reads}
-use Rattle.moo_world.specs.World.{SameButSlots, is_object, chain, location_chain, has_property, rebuilt, read_of}
-use Rattle.moo_world.specs.Rights.{accepts, is_within}
+use Rattle.moo_world.specs.World.{World, WorldObject, IsTree, Chain, LocationChain, IsUnder, HasProperty, Rebuilt, Reads, SameButSlots}
+use Rattle.moo_world.specs.{World.{is_object, chain, location_chain, has_property, rebuilt, read_of}, Rights.{accepts, is_within}}
 
 -- an object has one chain at most
 abbrev pub OneChain : Type 0

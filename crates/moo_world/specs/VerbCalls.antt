@@ -4,19 +4,13 @@
 -- checks: it is that of the lines here. Two things are this server's own: that `add_verb` answers 0; and that by `set_verb_info` a
 -- programmer who may write a verb may become its owner, and, unless a wizard, can name no other owner.
 use Rattle.std.specs.Prelude.{nat_lt, [], ◌∷◌, map}
-use Rattle.moo_value.specs.declared.value.ObjNo.{ObjNo}
-use Rattle.moo_value.specs.declared.value.Value.TheVariants.{Obj, Str}
+use Rattle.moo_value.specs.{declared.value.ObjNo.{ObjNo}, declared.value.Value.TheVariants.{Obj, Str}}
 use Rattle.moo_rows.specs.Bits.{verb_bits_of, verb_letters_of}
-use Rattle.moo_world.specs.declared.descriptor.Desc.{Desc}
-use Rattle.moo_world.specs.Objects.{Name, number_limit}
-use Rattle.moo_world.specs.World.{World, is_object, has_word, directory_of}
-use Rattle.moo_world.specs.Outcomes.{Outcome, Done, require_room, require◌else◌, ◌>>◌, ◌or_else◌, ◌>>=◌}
-use Rattle.moo_world.specs.Arguments.{Info}
+use Rattle.moo_world.specs.{declared.descriptor.Desc.{Desc}, Objects.{Name, number_limit}, World.{World, is_object, has_word, directory_of}}
+use Rattle.moo_world.specs.{Outcomes.{Outcome, Done, require_room, require◌else◌, ◌>>◌, ◌or_else◌, ◌>>=◌}, Arguments.{Info}}
 use Rattle.moo_world.specs.Answers.{zero, list_of, text_list}
 use Rattle.moo_world.specs.Rights.{may_make_owner, may_read_object, may_write_object, may_read_verb, may_write_verb}
-use Rattle.moo_world.specs.Prepositions.{prep_text, object_spec_text}
-use Rattle.moo_world.specs.VerbReading.{args_of}
-use Rattle.moo_world.specs.Descriptors.{found_verb}
+use Rattle.moo_world.specs.{Prepositions.{prep_text, object_spec_text}, VerbReading.{args_of}, Descriptors.{found_verb}}
 use Rattle.moo_world.specs.Directories.{verb_added, verb_removed, verb_info_set, verb_args_set}
 use Rattle.moo_world.specs.declared.reason.Reason.TheVariants.{NoObject, NoOwner, NoObjectR, NoObjectW, NoVerb, NoVerbR, NoVerbW, VerbPerms}
 use Rattle.moo_world.specs.declared.reason.Reason.TheVariants.{VerbNames, VerbArgs}

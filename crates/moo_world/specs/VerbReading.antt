@@ -2,18 +2,14 @@
 -- From the LambdaMOO Programmer's Manual: 'Verbs on Objects' in the chapter on the database, and 'Operations on Verbs', `add_verb` and
 -- `set_verb_args`. The manual doesn't say that words and phrases are read in any case, nor that a preposition ends at its first slash.
 use Prim.Native.Char.{code}
-use Rattle.std.specs.Prelude.{ℕ, ◌==◌, Bool, List, [], ◌∷◌, Option, Some, codes, if◌then◌else◌}
-use Rattle.std.specs.Option.{option_map, option_and_then}
+use Rattle.std.specs.{Prelude.{ℕ, ◌==◌, Bool, List, [], ◌∷◌, Option, Some, codes, if◌then◌else◌}, Option.{option_map, option_and_then}}
 use Rattle.std.specs.List.{find, list_any, before_first, slice_split}
-use Rattle.moo_rows.specs.declared.row.ArgSpec.{ArgSpec}
-use Rattle.moo_rows.specs.declared.row.ObjectSpec.{ObjectSpec}
+use Rattle.moo_rows.specs.{declared.row.ArgSpec.{ArgSpec}, declared.row.ObjectSpec.{ObjectSpec}}
 use Rattle.moo_rows.specs.declared.row.ObjectSpec.TheVariants.{This, Any as any_object, None as no_object}
 use Rattle.moo_rows.specs.declared.row.Preposition.{Preposition}
 use Rattle.moo_rows.specs.declared.row.Preposition.TheVariants.{None as no_preposition, Any as any_preposition, Set}
 use Rattle.moo_rows.specs.declared.row.PrepositionSet.{PrepositionSet}
-use Rattle.moo_world.specs.Objects.{Name}
-use Rattle.moo_world.specs.Prepositions.{set_text, all_sets, object_spec_text}
-use Rattle.moo_world.specs.Matching.{same_name}
+use Rattle.moo_world.specs.{Objects.{Name}, Prepositions.{set_text, all_sets, object_spec_text}, Matching.{same_name}}
 
 -- the byte is a slash
 abbrev pub is_slash : ℕ → Bool

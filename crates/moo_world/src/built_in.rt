@@ -1,8 +1,7 @@
 //! The built-in properties.
 
 ghost use Rattle.std.specs.Prelude.{◌≡◌};
-ghost use Rattle.moo_world.specs.Objects.{same_text, folded};
-ghost use Rattle.moo_world.specs.BuiltIns.{field_name, built_in};
+ghost use Rattle.moo_world.specs.{Objects.{same_text, folded}, BuiltIns.{field_name, built_in}};
 
 use moo_value::MooStr;
 

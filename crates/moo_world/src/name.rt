@@ -1,9 +1,7 @@
 //! The names of the calls.
 
-ghost use Rattle.std.specs.Prelude.{◌≡◌, ◌↔◌, Some, [], ◌∷◌};
-ghost use Rattle.std.specs.List.{filter};
-ghost use Rattle.moo_world.specs.Objects.{same_text, folded};
-ghost use Rattle.moo_world.specs.Names.{spelling, all_names, call_name_of, petition_call};
+ghost use Rattle.std.specs.{Prelude.{◌≡◌, ◌↔◌, Some, [], ◌∷◌}, List.{filter}};
+ghost use Rattle.moo_world.specs.{Objects.{same_text, folded}, Names.{spelling, all_names, call_name_of, petition_call}};
 
 /// The calls on the world, those that only read first, and then those of petitions.
 #[derive(Clone, Copy)]

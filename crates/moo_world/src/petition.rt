@@ -1,7 +1,6 @@
 //! What petitions may hold.
 
-ghost use Rattle.std.specs.Prelude.{◌≡◌};
-ghost use Rattle.std.specs.List.{list_all};
+ghost use Rattle.std.specs.{Prelude.{◌≡◌}, List.{list_all}};
 ghost use Rattle.moo_world.specs.Petitions.{are_few, are_shallow, is_named};
 
 use moo_value::{MAX_NESTING, Value, ValueList};

@@ -1,8 +1,7 @@
 //! What calls answer, as values.
 
 ghost use Rattle.std.specs.Prelude.{◌≡◌, IfOk};
-ghost use Rattle.moo_world.specs.Answers.{flag, list_of, object_list, text_list};
-ghost use Rattle.moo_world.specs.Calls.{accept_value};
+ghost use Rattle.moo_world.specs.{Answers.{flag, list_of, object_list, text_list}, Calls.{accept_value}};
 
 use moo_rows::ObjList;
 use moo_value::{MooStr, ObjNo, Value, ValueList};

@@ -1,10 +1,7 @@
 //! Calls of this crate that look first whether they may be made.
 
-ghost use Rattle.std.specs.Prelude.{◌≡◌, true, is_some, IfOk, OnOk};
-ghost use Rattle.std.specs.FinMap.{get};
-ghost use Rattle.moo_world.specs.Creation.{next_object};
-ghost use Rattle.moo_world.specs.Rows.{world_of, IsGood};
-ghost use Rattle.moo_world.specs.World.{is_property_name};
+ghost use Rattle.std.specs.{Prelude.{◌≡◌, true, is_some, IfOk, OnOk}, FinMap.{get}};
+ghost use Rattle.moo_world.specs.{Creation.{next_object}, Rows.{world_of, IsGood}, World.{is_property_name}};
 
 use moo_props::{
     Dropped, Touched, clashes, define, drop_object, find, make_object, reparent, set_info,

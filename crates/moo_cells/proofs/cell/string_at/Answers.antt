@@ -1,5 +1,4 @@
-use Rattle.moo_cells.proofs.Exits.{err_of}
-use Rattle.moo_cells.{proofs.Words.{sym, ◌∙◌}, proofs.Texts.{not_text, text_inj}}
+use Rattle.moo_cells.{proofs.Exits.{err_of}, proofs.Words.{sym, ◌∙◌}, proofs.Texts.{not_text, text_inj}}
 use Rattle.moo_cells.proofs.cell.string_at.Goals as goal
 
 pub returns-in_err-from_bytes-clause-err : goal.returns-in_err-from_bytes-clause-err

@@ -1,6 +1,5 @@
 use Rattle.std.proofs.Common.{◌≡◌, ◌+◌, ◌-◌, ◌^◌, min, max, get_or, ap, ◌∙◌}
-use Rattle.moo_desk.specs.Choices.{held_of}
-use Rattle.moo_desk.proofs.Firsts.{answers_counted, largest_then, sum_then}
+use Rattle.moo_desk.{specs.Choices.{held_of}, proofs.Firsts.{answers_counted, largest_then, sum_then}}
 use Rattle.moo_desk.proofs.rounds.all_unsent_bytes.Goals as goal
 
 pub loop-connection-preserved : goal.loop-connection-preserved

@@ -1,7 +1,5 @@
 use Rattle.std.proofs.Common.{◌<◌, length, length-set, refl, ◌∙◌, arith}
-use Rattle.moo_desk.specs.declared.rounds.TheConstants.{BUDGET}
-use Rattle.moo_desk.specs.Later.{IsGathered}
-use Rattle.moo_desk.specs.Rounds.{IsTimed, gathered_of}
+use Rattle.moo_desk.{specs.declared.rounds.TheConstants.{BUDGET}, specs.Later.{IsGathered}, specs.Rounds.{IsTimed, gathered_of}}
 use Rattle.moo_desk.proofs.Onward.{each_same, each_set, gathered_same, gathered_joined}
 use Rattle.moo_desk.proofs.Reading.{first_then, is_much, may_be, reads_then, reads_all, timed_same, timed_joined}
 use Rattle.moo_desk.proofs.rounds.gather_all.Goals as goal

@@ -1,9 +1,6 @@
 use Rattle.std.specs.Prelude.{◌≡◌, ◌<◌, true, length}
-use Rattle.moo_desk.specs.declared.rounds.TheConstants.{BUDGET}
-use Rattle.moo_desk.specs.Each.{Each}
-use Rattle.moo_desk.specs.Later.{IsGathered}
-use Rattle.moo_desk.specs.Rounds.{IsTimed, gathered_of}
-use Rattle.moo_desk.proofs.Reading.{ReadsSoFar, MayGoOn}
+use Rattle.moo_desk.{specs.declared.rounds.TheConstants.{BUDGET}, specs.Each.{Each}, specs.Later.{IsGathered}}
+use Rattle.moo_desk.{specs.Rounds.{IsTimed, gathered_of}, proofs.Reading.{ReadsSoFar, MayGoOn}}
 use Rattle.moo_desk.proofs.rounds.gather_all.Given as goal
 
 abbrev pub invariant-loop-slot : goal.invariant-loop-slot

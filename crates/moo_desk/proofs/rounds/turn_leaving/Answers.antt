@@ -1,6 +1,5 @@
 use Rattle.std.proofs.Common.{arith}
-use Rattle.moo_desk.specs.Later.{IsLater}
-use Rattle.moo_desk.proofs.Onward.{each_same, each_set, later_same, later_joined}
+use Rattle.moo_desk.{specs.Later.{IsLater}, proofs.Onward.{each_same, each_set, later_same, later_joined}}
 use Rattle.moo_desk.proofs.rounds.turn_leaving.Goals as goal
 
 pub loop-connection-init : goal.loop-connection-init

@@ -1,6 +1,5 @@
 use Rattle.std.specs.Prelude.{⊤}
-use Rattle.moo_desk.specs.Rounds.{IsWokenFor}
-use Rattle.moo_desk.proofs.Onward.{EachSoFar}
+use Rattle.moo_desk.{specs.Rounds.{IsWokenFor}, proofs.Onward.{EachSoFar}}
 use Rattle.moo_desk.proofs.rounds.wake_all_slots.Given as goal
 
 abbrev pub invariant-loop-slot : goal.invariant-loop-slot

@@ -1,6 +1,5 @@
 use Rattle.std.proofs.Common.{◌≡◌, arith}
-use Rattle.moo_desk.specs.Rounds.{IsAnswerWokenFor}
-use Rattle.moo_desk.proofs.Onward.{each_then, each_all}
+use Rattle.moo_desk.{specs.Rounds.{IsAnswerWokenFor}, proofs.Onward.{each_then, each_all}}
 use Rattle.moo_desk.proofs.rounds.wake_leaving.Goals as goal
 
 pub loop-connection-preserved : goal.loop-connection-preserved

@@ -1,6 +1,5 @@
 use Rattle.std.specs.Prelude.{◌≡◌}
-use Rattle.moo_desk.specs.Rounds.{IsAnswerWokenFor}
-use Rattle.moo_desk.proofs.Onward.{EachSoFar}
+use Rattle.moo_desk.{specs.Rounds.{IsAnswerWokenFor}, proofs.Onward.{EachSoFar}}
 use Rattle.moo_desk.proofs.rounds.wake_leaving.Given as goal
 
 abbrev pub invariant-loop-connection : goal.invariant-loop-connection

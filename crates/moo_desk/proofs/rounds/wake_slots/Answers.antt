@@ -1,6 +1,5 @@
 use Rattle.std.proofs.Common.{◌≡◌, arith}
-use Rattle.moo_desk.specs.Rounds.{IsWokenFor}
-use Rattle.moo_desk.proofs.Onward.{each_then, each_all}
+use Rattle.moo_desk.{specs.Rounds.{IsWokenFor}, proofs.Onward.{each_then, each_all}}
 use Rattle.moo_desk.proofs.rounds.wake_slots.Goals as goal
 
 pub loop-slot-preserved : goal.loop-slot-preserved

@@ -1,5 +1,4 @@
-use Rattle.std.specs.Prelude.{◌≡◌, ◌≤◌, ◌+◌, ◌++◌, length, vec_capacity}
-use Rattle.std.specs.Slice.Iter.{iter_rest}
+use Rattle.std.specs.{Prelude.{◌≡◌, ◌≤◌, ◌+◌, ◌++◌, length, vec_capacity}, Slice.Iter.{iter_rest}}
 use Rattle.mio.specs.Events.{items}
 use Rattle.moo_desk.specs.Calls.{marks_of}
 use Rattle.moo_desk.proofs.sockets.tell_marks.Given as goal

@@ -1,8 +1,6 @@
 use Rattle.std.{proofs.Common.{◌≡◌, ◌≤◌, map, take}, specs.Prelude.{is_some}, specs.List.{find}}
 use Rattle.moo_rows.specs.Links.{defined_left}
-use Rattle.moo_world.specs.Objects.{folded}
-use Rattle.moo_world.specs.Rows.{prop_id, world_of}
-use Rattle.moo_world.specs.World.{slot_of}
+use Rattle.moo_world.specs.{Objects.{folded}, Rows.{prop_id, world_of}, World.{slot_of}}
 use Rattle.moo_disclosure.proofs.clash.name_shared.Given as goal
 
 -- the first name that the new parent has is among those that are left, as far as there is room for them

@@ -1,5 +1,4 @@
-use Rattle.moo_http.proofs.Words.{ap, refl, inl}
-use Rattle.moo_http.proofs.Going.{moves_none}
+use Rattle.moo_http.{proofs.Words.{ap, refl, inl}, proofs.Going.{moves_none}}
 use Rattle.moo_http_response.specs.declared.outcome.RequestOutcome.TheVariants as outcome
 use Rattle.moo_http.proofs.consult.consult.Goals as goal
 

@@ -1,5 +1,4 @@
-use Rattle.std.proofs.Common.{get_or, take, subst}
-use Rattle.std.proofs.lemmas.List.{take_more}
+use Rattle.std.{proofs.Common.{get_or, take, subst}, proofs.lemmas.List.{take_more}}
 use Rattle.moo_reasons.specs.Told.{TellsPlace}
 use Rattle.moo_http.proofs.SeenAsked.{told-more}
 use Rattle.moo_http.proofs.why.each_whys.Goals as goal

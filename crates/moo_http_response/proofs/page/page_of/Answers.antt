@@ -1,5 +1,4 @@
-use Rattle.moo_http_response.proofs.PageLemmas.{none_listed, one_listed, paged}
-use Rattle.moo_http_response.specs.Pages.{before_page}
+use Rattle.moo_http_response.{proofs.PageLemmas.{none_listed, one_listed, paged}, specs.Pages.{before_page}}
 use Rattle.moo_http_response.proofs.page.page_of.Goals as goal
 
 pub loop-x-init : goal.loop-x-init

@@ -2,8 +2,7 @@ use Rattle.moo_http_response.proofs.Words.{◌≡◌, ◌∙◌, ap, refl, rules
 use Rattle.moo_http_response.proofs.respond.not_allowed_response.Goals as goal
 use Rattle.moo_http_response.specs.Bodies.{error_body}
 use Rattle.serde_json.specs.Written.{compact_text}
-use Rattle.std.proofs.Common.{Some}
-use Rattle.std.specs.Prelude.{string_bytes}
+use Rattle.std.{proofs.Common.{Some}, specs.Prelude.{string_bytes}}
 
 pub returns : goal.returns
 returns c =

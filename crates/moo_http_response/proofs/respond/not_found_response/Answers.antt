@@ -1,8 +1,6 @@
 use Rattle.moo_http_response.proofs.Words.{codes, subst}
 use Rattle.moo_http_response.proofs.respond.not_found_response.Goals as goal
-use Rattle.moo_http_response.specs.Bodies.{error_body}
-use Rattle.moo_http_response.specs.Responses.{plain}
-use Rattle.moo_http_response.specs.Shown.{Shows}
+use Rattle.moo_http_response.specs.{Bodies.{error_body}, Responses.{plain}, Shown.{Shows}}
 use Rattle.std.specs.Prelude.{IfOk}
 
 pub returns : goal.returns

@@ -1,6 +1,4 @@
-use Rattle.std.proofs.Common.{[], ◌∷◌, map, fold, sym, ap, ◌∙◌}
-use Rattle.std.proofs.lemmas.List.{drop_all}
-use Rattle.std.specs.Char.{to_ascii_lowercase}
+use Rattle.std.{proofs.Common.{[], ◌∷◌, map, fold, sym, ap, ◌∙◌}, proofs.lemmas.List.{drop_all}, specs.Char.{to_ascii_lowercase}}
 use Rattle.std.specs.Hash.DefaultHasher as sip
 use Rattle.moo_rows.specs.Named.{name_hash}
 use Rattle.moo_rows.proofs.name_hashes.name_hash.Goals as goal

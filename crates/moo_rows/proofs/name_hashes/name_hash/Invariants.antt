@@ -1,5 +1,4 @@
-use Rattle.std.proofs.Common.{◌≡◌, [], ◌∷◌, map, drop, fold}
-use Rattle.std.specs.Char.{to_ascii_lowercase}
+use Rattle.std.{proofs.Common.{◌≡◌, [], ◌∷◌, map, drop, fold}, specs.Char.{to_ascii_lowercase}}
 use Rattle.std.specs.Hash.DefaultHasher as sip
 use Rattle.moo_rows.proofs.name_hashes.name_hash.Given as goal
 

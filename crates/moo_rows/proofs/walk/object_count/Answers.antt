@@ -1,9 +1,7 @@
 use Rattle.moo_rows.{proofs.Words.{◌≡◌, ℕ, pos, negsuc, Option, Some, refl, ap, true≢false, entries, IsNext, IsPast, Maps, object_cmp, objects_left, ObjNo}, proofs.Walking.{past_none, objects-end, objects-step}}
 use Rattle.moo_rows.proofs.walk.object_count.Goals as goal
 use Rattle.moo_rows.proofs.walk.object_count.Invariants.{FitUpTo}
-use Rattle.std.proofs.Common.{arith, rules, suc, length, ◌+◌, ◌≤ℤ◌}
-use Rattle.std.proofs.lemmas.Int.{ints}
-use Rattle.std.proofs.lemmas.Cmp.{int_ranked}
+use Rattle.std.{proofs.Common.{arith, rules, suc, length, ◌+◌, ◌≤ℤ◌}, proofs.lemmas.Int.{ints}, proofs.lemmas.Cmp.{int_ranked}}
 
 -- the next one is the first of those that were left
 one_left : (t : Maps) (last : Option ObjNo) (x : ObjNo) → IsNext t.objects last (Some x) → length (objects_left last t) ≡ suc (length (objects_left (Some x) t))

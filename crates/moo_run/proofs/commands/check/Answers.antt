@@ -1,8 +1,6 @@
 use Rattle.moo_run.{proofs.Words.{◌≡◌, inr, refl, IfOk, IfErr, Err, subst, ◌∙◌, OutOfMemory, StopsIn, state_of_world}, proofs.Tasks.{check_stops, check_tells}}
 use Rattle.moo_run.proofs.commands.check.Goals as goal
-use Rattle.std.proofs.lemmas.Result.{err_from_is_err_and}
-use Rattle.std.proofs.KnownBytes.{Appends-nil}
-use Rattle.std.specs.Io.KnownBytes.{Appends}
+use Rattle.std.{proofs.lemmas.Result.{err_from_is_err_and}, proofs.KnownBytes.{Appends-nil}, specs.Io.KnownBytes.{Appends}}
 
 pub returns-in_err-objects-clause-checks : goal.returns-in_err-objects-clause-checks
 returns-in_err-objects-clause-checks g c m stands =

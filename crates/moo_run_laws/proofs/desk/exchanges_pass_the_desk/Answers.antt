@@ -1,5 +1,4 @@
-use Rattle.std.proofs.Common.{◌≡◌, [], drop, refl, arith}
-use Rattle.std.proofs.Math.ListN.{drop_of_length-le}
+use Rattle.std.{proofs.Common.{◌≡◌, [], drop, refl, arith}, proofs.Math.ListN.{drop_of_length-le}}
 use Rattle.moo_run_laws.proofs.Desks.{passes_desk, asker_answered, causes_desk}
 use Rattle.moo_run_laws.proofs.desk.exchanges_pass_the_desk.Goals as goal
 

@@ -1,5 +1,4 @@
-use Rattle.std.proofs.Common.{◌≡◌, ◌-◌, List, ℕ, length, take, drop, arith, subst, sym, ap}
-use Rattle.std.specs.Io.KnownBytes.{Appends}
+use Rattle.std.{proofs.Common.{◌≡◌, ◌-◌, List, ℕ, length, take, drop, arith, subst, sym, ap}, specs.Io.KnownBytes.{Appends}}
 use Rattle.std.{proofs.KnownBytes.{Appends-trans}, proofs.Math.Seq.{take-add}, proofs.lemmas.List.{take_rest, length-drop}}
 use Rattle.moo_text.proofs.writing.put_all.Goals as goal
 

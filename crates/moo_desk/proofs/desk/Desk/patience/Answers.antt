@@ -1,10 +1,6 @@
-use Rattle.std.proofs.Common.{◌≡◌, ◌≤◌, ◌<◌, ◌⊎◌, inl, inr, subst, arith}
-use Rattle.std.specs.Prelude.{Some, None}
-use Rattle.std.specs.Duration.{as_nanos}
-use Rattle.moo_desk.specs.Choices.{IsSpared, IsUnfinished, spared_for}
-use Rattle.moo_desk.specs.Each.{OfFirst}
+use Rattle.std.{proofs.Common.{◌≡◌, ◌≤◌, ◌<◌, ◌⊎◌, inl, inr, subst, arith}, specs.Prelude.{Some, None}, specs.Duration.{as_nanos}}
 use Rattle.std.proofs.lemmas.Grind.{common_steps}
-use Rattle.moo_desk.proofs.Firsts.{of_first_map}
+use Rattle.moo_desk.{specs.Choices.{IsSpared, IsUnfinished, spared_for}, specs.Each.{OfFirst}, proofs.Firsts.{of_first_map}}
 use Rattle.moo_desk.proofs.desk.Desk.patience.Goals as goal
 
 pub returns-in-Some : goal.returns-in-Some

@@ -1,7 +1,6 @@
 use Rattle.std.proofs.Common.{refl, sym, ap, subst, inl, inr, ◌∙◌, ◌++◌, ◌∷◌, []}
 use Rattle.moo_desk.proofs.Ledgers.{keeps_taken, keeps_same, keeps_steps, same_slots, same_leaving, admits_gone, admits_one, admits_lost}
-use Rattle.moo_desk.proofs.desk.Desk.take_one.Goals.{in-Ok, in-Err}
-use Rattle.moo_desk.specs.declared.gate.Taken.TheVariants.{Came, Nobody, NoRoom, Failed}
+use Rattle.moo_desk.{proofs.desk.Desk.take_one.Goals.{in-Ok, in-Err}, specs.declared.gate.Taken.TheVariants.{Came, Nobody, NoRoom, Failed}}
 use Rattle.moo_desk.proofs.desk.Desk.take_one.Goals as goal
 
 pub returns-in-Nobody-clause-one : goal.returns-in-Nobody-clause-one

@@ -1,7 +1,5 @@
-use Rattle.std.proofs.Math.Logic.{∥∥₁_map}
-use Rattle.moo_desk.specs.Deeds.{book_of}
-use Rattle.std.proofs.Common.{refl, sym, true≢false}
-use Rattle.moo_desk.proofs.Ledgers.{keeps_same, keeps_joined, admits_same, admits_joined, admits_then}
+use Rattle.std.{proofs.Math.Logic.{∥∥₁_map}, proofs.Common.{refl, sym, true≢false}}
+use Rattle.moo_desk.{specs.Deeds.{book_of}, proofs.Ledgers.{keeps_same, keeps_joined, admits_same, admits_joined, admits_then}}
 use Rattle.moo_desk.proofs.desk.DeskArrivals.accept.Goals as goal
 
 pub loop-init : goal.loop-init

@@ -1,8 +1,6 @@
-use Rattle.std.specs.Prelude.{◌≡◌, ◌⊎◌}
+use Rattle.std.{specs.Prelude.{◌≡◌, ◌⊎◌}, proofs.Common.{◌<◌, length, sym, ap, subst, ◌∙◌, arith}}
 use Rattle.moo_arrivals.specs.declared.cause.Cause.{Cause}
-use Rattle.moo_desk.specs.declared.leaving.Stage.TheVariants.{Done, Lost}
-use Rattle.std.proofs.Common.{◌<◌, length, sym, ap, subst, ◌∙◌, arith}
-use Rattle.moo_desk.proofs.Ledgers.{keeps_end_at, get_or_same}
+use Rattle.moo_desk.{specs.declared.leaving.Stage.TheVariants.{Done, Lost}, proofs.Ledgers.{keeps_end_at, get_or_same}}
 use Rattle.moo_desk.proofs.held.Held.end_one.Goals as goal
 
 pub returns-then-is_over : goal.returns-then-is_over

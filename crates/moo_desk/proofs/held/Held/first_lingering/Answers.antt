@@ -1,6 +1,5 @@
 use Rattle.std.proofs.Common.{subst}
-use Rattle.moo_desk.specs.Choices.{IsLingering}
-use Rattle.moo_desk.specs.Each.{IsFirstPlace}
+use Rattle.moo_desk.specs.{Choices.{IsLingering}, Each.{IsFirstPlace}}
 use Rattle.moo_desk.proofs.held.Held.first_lingering.Goals as goal
 
 pub returns : goal.returns

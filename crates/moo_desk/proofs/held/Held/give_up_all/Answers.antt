@@ -1,6 +1,5 @@
 use Rattle.std.proofs.Common.{refl, ap, length, length-append, arith, ◌∷◌, []}
-use Rattle.moo_desk.proofs.Onward.{later_kept}
-use Rattle.moo_desk.proofs.Ledgers.{keeps_same, keeps_joined, keeps_last}
+use Rattle.moo_desk.{proofs.Onward.{later_kept}, proofs.Ledgers.{keeps_same, keeps_joined, keeps_last}}
 use Rattle.moo_desk.proofs.held.Held.give_up_all.Goals as goal
 
 pub loop-last-init : goal.loop-last-init

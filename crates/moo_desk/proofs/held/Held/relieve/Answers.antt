@@ -1,8 +1,5 @@
-use Rattle.std.proofs.Common.{inl, inr, refl, ap, subst, ◌∙◌, arith}
-use Rattle.std.specs.Prelude.{Some}
-use Rattle.moo_desk.specs.Choices.{IsStuck, answers_of}
-use Rattle.moo_desk.specs.Each.{IsFirstPlace, HoldsOfNone}
-use Rattle.moo_desk.proofs.Firsts.{cut_stuck, first_below}
+use Rattle.std.{proofs.Common.{inl, inr, refl, ap, subst, ◌∙◌, arith}, specs.Prelude.{Some}}
+use Rattle.moo_desk.{specs.Choices.{IsStuck, answers_of}, specs.Each.{IsFirstPlace, HoldsOfNone}, proofs.Firsts.{cut_stuck, first_below}}
 use Rattle.moo_desk.proofs.held.Held.relieve.Goals as goal
 
 pub returns-in-Some-clause-relieves : goal.returns-in-Some-clause-relieves

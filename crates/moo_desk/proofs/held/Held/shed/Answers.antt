@@ -1,10 +1,6 @@
 use Rattle.std.proofs.Common.{inl, subst, sym}
-use Rattle.moo_desk.specs.Choices.{IsLingering}
-use Rattle.moo_desk.specs.Each.{Each}
-use Rattle.moo_desk.specs.Rounds.{IsTimed}
-use Rattle.moo_desk.proofs.Firsts.{cut_lingers, first_below}
-use Rattle.moo_desk.proofs.Onward.{each_same}
-use Rattle.moo_desk.proofs.Reading.{timed_same}
+use Rattle.moo_desk.{specs.Choices.{IsLingering}, specs.Each.{Each}, specs.Rounds.{IsTimed}, proofs.Firsts.{cut_lingers, first_below}}
+use Rattle.moo_desk.{proofs.Onward.{each_same}, proofs.Reading.{timed_same}}
 use Rattle.moo_desk.proofs.held.Held.shed.Goals as goal
 
 pub returns-then-count-le-MOST-clause-times : goal.returns-then-count-le-MOST-clause-times

@@ -1,10 +1,6 @@
-use Rattle.std.proofs.Common.{◌≡◌, ◌+◌, ◌-◌, ◌*◌, refl, sym, ap, subst, ◌∙◌}
-use Rattle.std.specs.Prelude.{Some, None}
-use Rattle.std.specs.Duration.{as_nanos}
-use Rattle.moo_desk.specs.declared.held.TheConstants.{GRACE}
-use Rattle.moo_desk.specs.Choices.{IsSpared, IsUnfinished, spared_for}
-use Rattle.moo_desk.specs.Each.{IsFirstPlace, HoldsOfNone}
-use Rattle.moo_desk.proofs.Firsts.{not_lacking, of_first, of_none}
+use Rattle.std.{proofs.Common.{◌≡◌, ◌+◌, ◌-◌, ◌*◌, refl, sym, ap, subst, ◌∙◌}, specs.Prelude.{Some, None}, specs.Duration.{as_nanos}}
+use Rattle.moo_desk.{specs.declared.held.TheConstants.{GRACE}, specs.Choices.{IsSpared, IsUnfinished, spared_for}}
+use Rattle.moo_desk.{specs.Each.{IsFirstPlace, HoldsOfNone}, proofs.Firsts.{not_lacking, of_first, of_none}}
 use Rattle.moo_desk.proofs.held.Held.spared_time.Goals as goal
 
 pub returns-in_default-clause-oldest : goal.returns-in_default-clause-oldest

@@ -1,7 +1,5 @@
-use Rattle.std.proofs.Common.{refl}
-use Rattle.std.specs.Prelude.{⊤}
-use Rattle.moo_desk.specs.Rounds.{IsAnswerWokenFor, IsWokenFor}
-use Rattle.moo_desk.proofs.Ledgers.{keeps_woken, each_written}
+use Rattle.std.{proofs.Common.{refl}, specs.Prelude.{⊤}}
+use Rattle.moo_desk.{specs.Rounds.{IsAnswerWokenFor, IsWokenFor}, proofs.Ledgers.{keeps_woken, each_written}}
 use Rattle.moo_desk.proofs.held.Held.wake_all.Goals as goal
 
 pub returns : goal.returns

@@ -1,7 +1,5 @@
-use Rattle.std.proofs.Common.{false, inr, refl, subst, ◌∙◌, w32}
-use Rattle.std.proofs.lemmas.Int.{to_z-of_z}
-use Rattle.moo_desk.specs.declared.gate.TheConstants.{NEWS}
-use Rattle.moo_desk.specs.Calls.{WatchesAnew}
+use Rattle.std.{proofs.Common.{false, inr, refl, subst, ◌∙◌, w32}, proofs.lemmas.Int.{to_z-of_z}}
+use Rattle.moo_desk.specs.{declared.gate.TheConstants.{NEWS}, Calls.{WatchesAnew}}
 use Rattle.moo_desk.proofs.sockets.SocketGate.has_to_wait.Goals as goal
 
 pub returns-then-self-clause-waits : goal.returns-then-self-clause-waits

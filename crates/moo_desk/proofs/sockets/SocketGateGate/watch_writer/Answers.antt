@@ -1,5 +1,4 @@
-use Rattle.std.proofs.Common.{true, ap, subst, ◌∙◌, w32}
-use Rattle.std.proofs.lemmas.Int.{to_z-of_z}
+use Rattle.std.{proofs.Common.{true, ap, subst, ◌∙◌, w32}, proofs.lemmas.Int.{to_z-of_z}}
 use Rattle.mio.specs.Interest.{is_readable, is_writable}
 use Rattle.moo_desk.specs.Calls.{WatchesAnew}
 use Rattle.moo_desk.proofs.sockets.SocketGateGate.watch_writer.Goals as goal

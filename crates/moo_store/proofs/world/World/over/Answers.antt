@@ -1,5 +1,4 @@
-use Rattle.moo_store.proofs.Words.{refl, sym, subst, state, IsGood}
-use Rattle.moo_store.{specs.Moment.{Moment}, proofs.Moments.{moment_left}}
+use Rattle.moo_store.{proofs.Words.{refl, sym, subst, state, IsGood}, specs.Moment.{Moment}, proofs.Moments.{moment_left}}
 use Rattle.moo_store.proofs.world.World.over.Goals as goal
 
 pub returns-clause-stands : goal.returns-clause-stands
