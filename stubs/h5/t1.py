@@ -1,0 +1,28 @@
+import sys; sys.path.insert(0,"/tmp/h5")
+from ed import F
+f=F("moo_tree/proofs/Searching.antt")
+f.cut("    -- what is pending is under x","    pub own_among","")
+f.rep("""          right-by z o Less k h = s.right z o h
+          right-by z o Greater k h = s.right z o h
+""","""          right-by z o _ k h = s.right z o h
+""")
+f.rep("""          closed-by z c r e p Less k h = moved c (s.closed z c r e p h)
+          closed-by z c r e p Greater k h = moved c (s.closed z c r e p h)
+""","""          closed-by z c r e p _ k h = moved c (s.closed z c r e p h)
+""")
+f.rep("Ordering, Less, Equal, Greater, refl","Ordering, Equal, refl")
+f.rep("numbers_to, chain_of_none, chain_of_row","numbers_to, chain_of_row")
+f.rep("proofs.lemmas.Bool.{or_left, true_from_ne_false}","proofs.lemmas.Bool.{or_left}")
+f.done()
+f=F("moo_tree/proofs/under/owner_map_under/Answers.antt")
+f.rep("is_there t c.requires c.args.x y","object_of_chain (world_of t) c.args.x y",2)
+f.rep("step, ended, is_there, rank-smaller","step, ended, rank-smaller")
+f.rep("use Rattle.moo_tree.proofs.under.owner_map_under.Goals as goal\n","use Rattle.moo_tree.proofs.under.owner_map_under.Goals as goal\nuse Rattle.moo_world.proofs.Ancestry.Trees.{object_of_chain}\n")
+f.done()
+f=F("moo_tree/proofs/Found.antt")
+f.cut("both_of : ","module _ {K X : Type 0} (cmp","")
+f.rep("use Rattle.moo_rows.proofs.Walking.{first_of, second_of}\n","use Rattle.moo_rows.proofs.Walking.{first_of, second_of}\nuse Rattle.moo_world.proofs.Shown.EntriesInOrder.{both_of}\n")
+f.rep("Bool, cond, T, ◌&&◌, Option,","Bool, cond, T, Option,")
+f.done()
+f=F("moo_world/proofs/Shown/EntriesInOrder.antt")
+f.rep("\nboth_of : ","\npub both_of : "); f.done()

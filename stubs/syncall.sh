@@ -1,0 +1,8 @@
+#!/bin/bash
+clone=$1; export STUB=$2
+cd $clone
+for c in $(git ls-files crates | cut -d/ -f2 | sort -u); do
+  rm -rf $STUB/crates/$c/src $STUB/crates/$c/specs $STUB/crates/$c/proofs; mkdir -p $STUB/crates/$c
+  for d in src specs proofs; do [ -d crates/$c/$d ] && cp -r crates/$c/$d $STUB/crates/$c/; done
+  python3 /tmp/brief/stub.py $STUB/crates/$c
+done
