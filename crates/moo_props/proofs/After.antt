@@ -18,9 +18,6 @@ module _ (t : Maps) (sound : IsSound t) (x q : ObjNo) (may : MayReparent (world_
   abbrev going : List ObjNo
   going = lost w x q
 
-  pub slot_is : (z : ObjNo) (n : Name) (id : ℕ) → (h : SlotHere m z n id) → slot_of w z n ≡ Some (slot_seen h.prop.definer h.row)
-  slot_is = seen_at m sound
-
   pub tests : (definers : List ObjNo) (id : ℕ) (p : PropRow) → m.prop id ≡ Some p → is_defined_among definers t (prop_id id) ≡ is_among p.definer definers
   tests definers id p e = ap (λ o. unwrap_or (option_map (λ (r : PropRow). is_among r.definer definers) o) false) e
 
@@ -70,12 +67,9 @@ module _ (t : Maps) (sound : IsSound t) (x q : ObjNo) (may : MayReparent (world_
     abbrev m2 : LookUps
     m2 = look_ups t2
 
-    bare : (y : ObjNo) (o : Option ObjRow) (b : Bool) → option_map (with_slots (λ n. None)) (option_map (object_shown m2 y) (option_map (λ row. if b then record row { parent = q } else row) o)) ≡ option_map (with_slots (λ n. None)) (option_map (λ (r : WorldObject). if b then record r { row = record r.row { parent = q } } else r) (option_map (object_shown m y) o))
-    bare y o b = grind arith
-
     links : without_slots (world_of t2) ≡ without_slots (with_parent w x q)
     unfolding world_shown
-    links = λ i. record w { object = λ y. (ap (λ o. option_map (with_slots (λ n. None)) (option_map (object_shown m2 y) o)) (objects y) ∙ bare y (m.object y) (same_object x y)) i }
+    links = grind (arith, objects)
 
     row2 : (y : ObjNo) (row : ObjRow) → m.object y ≡ Some row → (r : ObjRow) × (m2.object y ≡ Some r)
     row2 y row e = (if same_object x y then record row { parent = q } else row, objects y ∙ ap (option_map (λ (r : ObjRow). if same_object x y then record r { parent = q } else r)) e)
@@ -98,7 +92,7 @@ module _ (t : Maps) (sound : IsSound t) (x q : ObjNo) (may : MayReparent (world_
       found s id h e = by (is_among x (chain w y)) refl (is_among h.prop.definer coming) refl (is_among h.prop.definer going) refl (property_named (defined_by_any w coming) n) refl
         where
           seen : (row : SlotRow) → m.slot y id ≡ Some row → h.row ≡ row → slot_of w y n ≡ Some s
-          seen r g k = slot_is y n id (record { prop = h.prop; row = r; there = h.there; held = g; name = h.name }) ∙ ap (λ z. Some (slot_seen h.prop.definer z)) (sym k) ∙ ap Some (sym e)
+          seen r g k = seen_at m sound y n id (record { prop = h.prop; row = r; there = h.there; held = g; name = h.name }) ∙ ap (λ z. Some (slot_seen h.prop.definer z)) (sym k) ∙ ap Some (sym e)
 
           same : (v : Option SlotRow) → m2.slot y id ≡ v → v ≡ Some h.row
           same v g = sym g ∙ h.held
@@ -109,7 +103,7 @@ module _ (t : Maps) (sound : IsSound t) (x q : ObjNo) (may : MayReparent (world_
           came : (v : Option SlotRow) → m.slot q id ≡ v → is_among h.prop.definer coming ≡ true → option_map (fresh_row (owner_of w y)) v ≡ Some h.row → Some s ≡ option_map (fresh (owner_of w y)) (slot_of w q n)
           came None g c k = absurd (none-some h.row k)
           came (Some r) g c k =
-              let at_q : slot_of w q n ≡ Some (slot_seen h.prop.definer r) = slot_is q n id (record { prop = h.prop; row = r; there = h.there; held = g; name = h.name }) in
+              let at_q : slot_of w q n ≡ Some (slot_seen h.prop.definer r) = seen_at m sound q n id (record { prop = h.prop; row = r; there = h.there; held = g; name = h.name }) in
               ap Some e ∙ ap (λ z. Some (slot_seen h.prop.definer z)) (sym (same_Some (fresh_row (owner_of w y) r) h.row k)) ∙ sym (ap (option_map (fresh (owner_of w y))) at_q)
 
           definer : slot_of w y n ≡ Some s → option_map (λ z. z.definer) (slot_of w y n) ≡ Some h.prop.definer
@@ -180,7 +174,7 @@ module _ (t : Maps) (sound : IsSound t) (x q : ObjNo) (may : MayReparent (world_
     one_new y i j p r e f n u g l k =
         let named = gained_named (folded r.name) i p e n (sym (tests coming i p e) ∙ g) in
         let s = some_of (m.slot y j) k in
-        let seen = slot_is y (folded r.name) j (record { prop = r; row = s.0; there = f; held = s.1; name = refl }) in
+        let seen = seen_at m sound y (folded r.name) j (record { prop = r; row = s.0; there = f; held = s.1; name = refl }) in
         no_both y (object_of_chain w x y u) u (folded r.name) r.definer named.0 (ap (option_map (λ (z : Slot). z.definer)) seen) (sym (tests going j r f) ∙ l) named.1
 
     one_name2 : (y : ObjNo) (i j : ℕ) (p r : PropRow) → Origin y i → Origin y j → m.prop i ≡ Some p → m.prop j ≡ Some r → folded p.name ≡ folded r.name → i ≡ j

@@ -2,7 +2,7 @@
 use Rattle.moo_props.proofs.Words.{arith, ◌≡◌, Bool, T, List, [], ◌∷◌, ◌++◌, map, Ordering, Less, refl, sym, ap, ◌∙◌, subst, tied_itself, int_eq, ordering_then, filter, AllByRecursion, entries, is_sorted, entries_sorted, ObjNo, PropId, Maps, object_cmp, prop_cmp, slot_cmp, verb_cmp, object_total, first_of, chain, is_among, world_of, links_to, linked_among, verbs_among, AreAscending, owners_under, props_of, keys_on, keys_over, cond_both, keys_by}
 use Rattle.std.specs.FinMap.Entries.{below_all}
 use Rattle.moo_rows.proofs.Walking.{second_of, less_of}
-use Rattle.moo_world.proofs.Inheritance.Reparenting.{all_join}
+use Rattle.moo_world.proofs.Shown.PairLists.{all_join}
 
 -- each is below all after it, by a key
 abbrev pub Rises : {K A : Type 0} → (K → K → Ordering) → (A → K) → List A → Type 0

@@ -1,13 +1,11 @@
 -- Cases that many proofs share.
+pub use Rattle.moo_world.proofs.Shown.PairLists.{none_of}
 use Rattle.moo_props.proofs.Words.{arith, ◌≡◌, Bool, true, false, cond, ◌&&◌, Option, None, Some, sym, ap, option_map, is_some, if◌then◌else◌, unwrap_or, ◌∙◌}
 
 -- ---- options
 
 pub no_value : {A : Type 0} (o : Option A) → ((v : A) → o ≡ Some v → ⊥) → o ≡ None
 no_value b h = grind arith
-
-pub none_of : {A : Type 0} (o : Option A) → is_some o ≡ false → o ≡ None
-none_of b e = grind arith
 
 -- what passes a test is there
 pub passing : {A : Type 0} (test : A → Bool) (o : Option A) → unwrap_or (option_map test o) false ≡ true → (v : A) × (o ≡ Some v) × (test v ≡ true)

@@ -2,8 +2,8 @@
 use Rattle.moo_props.{proofs.Words.{◌||◌, ◌≡◌, ℕ, zero, suc, ◌+◌, ◌≤◌, Bool, true, false, cond, None, Some, List, [], ◌∷◌, ◌++◌, map, length, drop, refl, sym, ap, ◌∙◌, subst, inl, inr, arith, append_assoc, append-nil, or-false, is_some, list_any, get, true≢false, or_right, or_cases, ObjNo, ObjRow, ChildOf, IsFirst, is_linked, Maps, object_cmp, nothing, same_object, is_among, same_object-Decides, same_object-eq, subtree_of, look_ups, world_of, World, IsTree, Chain, is_object, parent_of, chain, numbers_to, Chain-chain, no_parent, is_among-append, decided_alike, chain_of_row, is_object_seen, after_below, walk_after, from_here, false_from_ne_true, some_of, if◌then◌else◌, walk_down}, proofs.Cases.{passing}, proofs.Gains.{object_of_chain}, specs.Descent.{children_past, descendants, branches, after_branch}}
 use Rattle.std.specs.List.{flat_map}
 use Rattle.moo_rows.{specs.Links.{has_link, ties_of}, proofs.Linking.{linked-end, linked-step}}
-use Rattle.moo_world.{specs.ObjectLists.{children_of, objects_of, below, levels_below}, proofs.Ancestry.Ancestors.{same_object-self}, proofs.Ancestry.Chains.{Climbs-bound, Climbs-once}, proofs.Ancestry.Subtrees.{among_filter, object_listed}, proofs.Ancestry.Trees.{parents_below}, proofs.Ancestry.Upward.{filter_passes}}
-use Rattle.moo_tree.{proofs.Listing.{children_listed}, proofs.Searching.{along, among-first, child_listed, is_there, listed_child, own_among}}
+use Rattle.moo_world.{specs.ObjectLists.{children_of, objects_of, below, levels_below}, proofs.Ancestry.Ancestors.{same_object-self}, proofs.Ancestry.Chains.{Climbs-bound, Climbs-once}, proofs.Ancestry.Subtrees.{among_filter, object_listed}, proofs.Ancestry.Trees.{linked_below}, proofs.Ancestry.Upward.{filter_passes}}
+use Rattle.moo_tree.{proofs.Listing.{children_listed}, proofs.Searching.{along, among-first, child_listed, listed_child, own_among}}
 
 -- ---- lists
 
@@ -56,7 +56,7 @@ module _ (t : Maps) (tree : IsTree (world_of t)) where
   -- ---- how deep
 
   deep : (z : ObjNo) → is_object w z ≡ true → depth z ≤ numbers_to w.top
-  deep z o = Climbs-bound (parent_of w) (numbers_to w.top) (no_parent w tree) (parents_below w tree) (chain w z) z (Chain-chain w tree z o)
+  deep z o = Climbs-bound (parent_of w) (numbers_to w.top) (no_parent w tree) (linked_below w tree (λ r. r.row.parent)) (chain w z) z (Chain-chain w tree z o)
 
   deeper : (y c : ObjNo) → is_among c (children_of w y) ≡ true → depth c ≡ suc (depth y)
   deeper y c h = let k = listed_child t tree c y h in ap length (chain_up c y k.0 k.1 k.2)
@@ -124,7 +124,7 @@ module _ (t : Maps) (tree : IsTree (world_of t)) where
         under z h = grind (arith, or_cases, same_object-Decides, own_among t tree x o, met_under (levels_below w x) x z)
 
         listed : (z : ObjNo) → is_among x (chain w z) ≡ true → is_among z (subtree_of w x) ≡ true
-        listed z h = among_filter (λ y. is_among x (chain w y)) (objects_of w) z (object_listed w tree z (is_there t tree x z h)) h
+        listed z h = among_filter (λ y. is_among x (chain w y)) (objects_of w) z (object_listed w tree z (object_of_chain w x z h)) h
 
     -- and if it isn't an object nothing is
     none_met : (test : ObjNo → Bool) → is_object w x ≡ false → list_any test (subtree_of w x) ≡ false

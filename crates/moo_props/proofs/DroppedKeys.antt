@@ -56,4 +56,4 @@ module _ (t : Maps) (good : IsGood t) (x : ObjNo) (row : ObjRow) (here : get t.o
 
   pub dropped_had : ArePresent t.slots (dropped_keys t x)
   dropped_had = all_made (λ e. find slot_cmp e.0 (entries t.slots) ≡ Some e.1) (λ key. is_some (get t.slots key) ≡ true) (λ e. goes_with t x e.0) (λ e. e.0)
-      (λ e h k. ap is_some (get-entries t.slots e.0 ∙ h)) (entries t.slots) (own_entries slot_cmp slot_total slot_exact (entries t.slots) (entries_sorted t.slots))
+      (λ e h k. ap is_some (get-entries t.slots e.0 ∙ h)) (entries t.slots) (own_entries slot_cmp slot_total (entries t.slots) (entries_sorted t.slots))

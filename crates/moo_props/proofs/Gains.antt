@@ -1,11 +1,8 @@
 -- A property that x gains has a slot on q.
-use Rattle.moo_props.{proofs.Words.{arith, ◌≡◌, ℕ, ◌<◌, Bool, true, Some, ◌∷◌, ◌++◌, refl, sym, ap, ◌∙◌, subst, is_some, option_map, filter_map, list_any, false≢true, and_parts, same_Some, ObjNo, ObjRow, PropRow, Maps, Name, Property, same_text, same_property, folded, is_among, same_object-Decides, same_text-Decides, World, Slot, IsWellFormed, NamesDiffer, is_object, chain, property_names_of, defined_by, defined_by_any, property_named, slot_of, LookUps, IsSound, look_ups, world_of, numbers_below, name_on, object_shown, MayReparent, gained, names_shown, is_object_seen, object_seen, owed_listed, Chain-chain, chain_of_none, chain-step, some_of, any_map, SlotHere, slot_from, true_from_ne_false}, proofs.Cases.{some_map}, proofs.Definers.{only_gained}}
+use Rattle.moo_props.{proofs.Words.{arith, ◌≡◌, ℕ, ◌<◌, Bool, true, Some, ◌∷◌, ◌++◌, refl, sym, ap, ◌∙◌, subst, is_some, option_map, filter_map, list_any, and_parts, same_Some, ObjNo, ObjRow, PropRow, Maps, Name, Property, same_text, same_property, folded, is_among, same_object-Decides, same_text-Decides, World, Slot, IsWellFormed, NamesDiffer, is_object, chain, property_names_of, defined_by, defined_by_any, property_named, slot_of, LookUps, IsSound, look_ups, world_of, numbers_below, name_on, object_shown, MayReparent, gained, names_shown, is_object_seen, object_seen, owed_listed, Chain-chain, chain-step, some_of, any_map, SlotHere, slot_from}, proofs.Cases.{some_map}, proofs.Definers.{only_gained}}
 use Rattle.std.specs.List.{IsDistinct}
 use Rattle.moo_world.{specs.Objects.{same_property-self}, proofs.Inheritance.Keeping.{named_is}, proofs.Shown.PairLists.{distinct_map, pairs_left}, proofs.Shown.Numbered.{any_from, no_later}}
-
--- what has a chain with objects in it is an object
-pub object_of_chain : (w : World) (d z : ObjNo) → is_among d (chain w z) ≡ true → is_object w z ≡ true
-object_of_chain w d z h = true_from_ne_false (is_object w z) (λ e. false≢true (sym (ap (is_among d) (chain_of_none w z e)) ∙ h))
+pub use Rattle.moo_world.proofs.Ancestry.Trees.{object_of_chain}
 
 module _ (t : Maps) (sound : IsSound t) where
   abbrev pub m : LookUps

@@ -1,9 +1,6 @@
 -- The slots of one name on an object that stays, once some slots are gone.
-use Rattle.moo_props.{proofs.Words.{arith, ◌≡◌, ℕ, Bool, false, Option, None, Some, refl, sym, ap, ◌∙◌, is_some, if◌then◌else◌, none-some, true_from_ne_false, ObjNo, Name, Slot, slot_of, LookUps, AreSound, slot_seen, world_shown, some_of, SlotHere, slot_from, true, World, without_slots, is_object, same_world, no_slot, objects_same}, proofs.Walked.{seen_at}}
-
--- worlds with the same links whose objects have the same slots are one
-pub same_by_objects : (a b : World) → without_slots a ≡ without_slots b → ((y : ObjNo) (n : Name) → is_object a y ≡ true → slot_of a y n ≡ slot_of b y n) → a ≡ b
-same_by_objects a b links same = grind (arith, same_world, no_slot, objects_same)
+use Rattle.moo_props.{proofs.Words.{arith, ◌≡◌, ℕ, Bool, false, Option, None, Some, refl, sym, ap, ◌∙◌, is_some, if◌then◌else◌, none-some, true_from_ne_false, ObjNo, Name, Slot, slot_of, LookUps, AreSound, slot_seen, world_shown, some_of, SlotHere, slot_from, true}, proofs.Walked.{seen_at}}
+pub use Rattle.moo_world.proofs.Inheritance.OneByOne.{one_world as same_by_objects}
 
 module _ (before after : LookUps) (sound : AreSound before) (sound_after : AreSound after) (y : ObjNo) (n : Name) (there : is_some (before.object y) ≡ true) (still : is_some (after.object y) ≡ true) where
   -- if what is here passes and was here, and what was here and passes is here still

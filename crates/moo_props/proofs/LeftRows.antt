@@ -1,5 +1,5 @@
 -- The rows once an object is dropped, key by key, and how many were written.
-use Rattle.moo_props.{proofs.Words.{◌||◌, ◌≡◌, ◌≤◌, ◌+◌, Bool, true, false, Option, None, Some, List, [], ◌∷◌, length, refl, sym, ap, ◌∙◌, arith, is_some, unwrap_or, if◌then◌else◌, option_map, get, entries, get-entries, entries_sorted, ObjNo, ObjRow, PropId, VerbId, object_exact, slot_exact, Maps, Held, object_cmp, slot_cmp, object_total, slot_total, nothing, same_object, same_object-Decides, WorldObject, is_object, parent_of, IsGood, look_ups, world_of, object_shown, object_seen, no_parent, goes_with, dropped_keys, links_to, released_row, ids_for, ids_among, verbs_among, linked_among, row_released, ArePresent, AreAbsent, owners_under, props_of, own_entries, all_made, false_from_ne_true, keys_by, without_prop, without_verb}, proofs.Shared.{none_of, own_under, walk}, specs.Dropped.{slot_left, prop_left, verb_left, heir, row_left}, proofs.LessRows.{held1, held2, held3, held5, only5, slots5, props5, verbs5, objects5}, proofs.Folds.{all_write}, proofs.Moved.{no_keys, writes-moved}}
+use Rattle.moo_props.{proofs.Words.{◌||◌, ◌≡◌, ◌≤◌, ◌+◌, Bool, true, false, Option, None, Some, List, [], ◌∷◌, length, refl, sym, ap, ◌∙◌, arith, is_some, unwrap_or, if◌then◌else◌, option_map, get, entries, get-entries, entries_sorted, ObjNo, ObjRow, PropId, VerbId, Maps, Held, object_cmp, slot_cmp, object_total, slot_total, nothing, same_object, same_object-Decides, WorldObject, is_object, parent_of, IsGood, look_ups, world_of, object_shown, object_seen, no_parent, goes_with, dropped_keys, links_to, released_row, ids_for, ids_among, verbs_among, linked_among, row_released, ArePresent, AreAbsent, owners_under, props_of, own_entries, all_made, false_from_ne_true, keys_by, without_prop, without_verb}, proofs.Shared.{none_of, own_under, walk}, specs.Dropped.{slot_left, prop_left, verb_left, heir, row_left}, proofs.LessRows.{held1, held2, held3, held5, only5, slots5, props5, verbs5, objects5}, proofs.Folds.{all_write}, proofs.Moved.{no_keys, writes-moved}}
 use Rattle.std.specs.FinMap.{find}
 use Rattle.moo_world.{specs.Numbers.{not_of}, specs.World.{Climbs, location_of}, proofs.Ancestry.Chains.{Climbs-unique}, proofs.Ancestry.Trees.{nothing_is_no_object}}
 
@@ -50,7 +50,7 @@ module _ (t : Maps) (good : IsGood t) (x : ObjNo) (row : ObjRow) (here : get t.o
 
   pub dropped_gone : AreAbsent after.maps.slots (dropped_keys t x)
   dropped_gone = all_made (λ e. find slot_cmp e.0 (entries t.slots) ≡ Some e.1) (λ key. get after.maps.slots key ≡ None) (λ e. goes_with t x e.0) (λ e. e.0)
-      (λ e h k. slots_left e.0 ∙ ap (λ b. if b then None else get t.slots e.0) k) (entries t.slots) (own_entries slot_cmp slot_total slot_exact (entries t.slots) (entries_sorted t.slots))
+      (λ e h k. slots_left e.0 ∙ ap (λ b. if b then None else get t.slots e.0) k) (entries t.slots) (own_entries slot_cmp slot_total (entries t.slots) (entries_sorted t.slots))
 
   -- no object is its own parent, nor lies in itself
   seen : (world_of t).object x ≡ Some (object_shown (look_ups t) x row)
@@ -75,7 +75,7 @@ module _ (t : Maps) (good : IsGood t) (x : ObjNo) (row : ObjRow) (here : get t.o
   pub relinked_there : ArePresent after.maps.objects (linked_among x (entries t.objects))
   relinked_there = all_made (λ e. find object_cmp e.0 (entries t.objects) ≡ Some e.1) (λ y. is_some (get after.maps.objects y) ≡ true) (λ e. links_to x e.1) (λ e. e.0)
       (λ e h k. ap is_some (objects_left e.0) ∙ other e.0 e.1 (get-entries t.objects e.0 ∙ h) k (same_object x e.0) refl)
-      (entries t.objects) (own_entries object_cmp object_total object_exact (entries t.objects) (entries_sorted t.objects))
+      (entries t.objects) (own_entries object_cmp object_total (entries t.objects) (entries_sorted t.objects))
     where
       other : (y : ObjNo) (r : ObjRow) → get t.objects y ≡ Some r → links_to x r ≡ true → (b : Bool) → same_object x y ≡ b → is_some (if b then None else option_map (released_row x (heir t x)) (get t.objects y)) ≡ true
       other y r e l b f = grind (arith, same_object-Decides, unlinked)

@@ -38,7 +38,7 @@ under_is t x z =
 pub owners_are : (t : Maps) (x : ObjNo) → AllByRecursion (λ e. e.1 ≡ owner_of (world_of t) e.0) (owners_under t x)
 owners_are t x = all_made (λ e. find object_cmp e.0 (entries t.objects) ≡ Some e.1) (λ e. e.1 ≡ owner_of (world_of t) e.0) (λ e. is_among x (chain (world_of t) e.0)) (λ e. (e.0, e.1.owner))
     (λ e h k. sym (ap (λ o. unwrap_or (option_map (λ (r : WorldObject). r.row.owner) o) nothing) (object_seen (look_ups t) e.0 e.1 (get-entries t.objects e.0 ∙ h))))
-    (entries t.objects) (own_entries object_cmp object_total object_exact (entries t.objects) (entries_sorted t.objects))
+    (entries t.objects) (own_entries object_cmp object_total (entries t.objects) (entries_sorted t.objects))
 
 -- a slot once those of x and of all under it are moved
 pub slots_of_moved : (t : Maps) (x : ObjNo) (lost : ObjNo → List PropId) (os : List Origin) (z : ObjNo) (j : PropId) (held : Held) → get (slots_moved lost os (owners_under t x) held).maps.slots (z, j) ≡ cond (is_among x (chain (world_of t) z)) (fresh_in (owner_of (world_of t) z) os j (cond (has_id j (lost z)) None (get held.maps.slots (z, j)))) (get held.maps.slots (z, j))

@@ -1,8 +1,8 @@
 -- Rows with a new object show the world with that object, and are good ones.
-use Rattle.moo_props.{proofs.Words.{◌||◌, ◌≡◌, ℕ, Bool, true, false, Option, None, Some, [], refl, sym, ap, ◌∙◌, subst, ◌⊎◌, inl, inr, pos, arith, is_some, slice_get, ◌+ℤ◌, if◌then◌else◌, option_map, option_and_then, filter_map, list_any, false≢true, or_cases, ints, ObjNo, ObjRow, PropRow, SlotRow, created, Name, Property, nothing, same_object, same_property, folded, same_object-Decides, World, WorldObject, IsWellFormed, is_object, chain, defined_by_any, property_named, slot_of, fresh, with_slots, without_slots, LookUps, AreSound, numbers_below, slot_on, object_shown, world_shown, SameButSlots-rebuilt, no_slot, is_object_seen, Chain-chain, chain_of_none, new_row, fresh_row, slots_shown, false_from_ne_true, slice_get-map}, proofs.Shared.{changed, none_of, put_some, some_map, same_by_objects}, proofs.Cases.{none_map}, proofs.Numbers.{no_names, nothing_below}, proofs.NewSlots.{with_new}}
+use Rattle.moo_props.{proofs.Words.{◌||◌, ◌≡◌, ℕ, Bool, true, false, Option, None, Some, [], refl, sym, ap, ◌∙◌, subst, pos, arith, is_some, slice_get, ◌+ℤ◌, if◌then◌else◌, option_map, option_and_then, filter_map, list_any, false≢true, ints, ObjNo, ObjRow, PropRow, SlotRow, created, Name, Property, nothing, same_object, same_property, folded, same_object-Decides, World, WorldObject, IsWellFormed, is_object, chain, defined_by_any, property_named, slot_of, fresh, with_slots, without_slots, LookUps, AreSound, numbers_below, slot_on, object_shown, world_shown, SameButSlots-rebuilt, no_slot, is_object_seen, Chain-chain, chain_of_none, new_row, fresh_row, slots_shown, false_from_ne_true, slice_get-map}, proofs.Shared.{changed, none_of, put_some, some_map, same_by_objects}, proofs.Cases.{none_map}, proofs.Numbers.{no_names, nothing_below}, proofs.NewSlots.{with_new}}
 use Rattle.std.specs.Prelude.{◌<ℤ◌}
 use Rattle.moo_world.{specs.Creation.{plain_object, object_added, next_object}, specs.Arguments.{is_number}, specs.World.{has_property, slot_for}, proofs.Inheritance.Creating.{IsWellFormed-created, chain_x, owed_still, owed_x}, proofs.Inheritance.Rebuilding.{slot_of-rebuilt}, proofs.Shown.Slots.{here-slot_on}}
-use Rattle.moo_world.proofs.Ownership.Created.{slot_old}
+use Rattle.moo_world.{proofs.Ancestry.Trees.{known_is}, proofs.Ownership.Created.{slot_old}}
 
 module _ (m : LookUps) (sound : AreSound m) where
   -- the slots of any number, object or not
@@ -27,9 +27,6 @@ module _ (m : LookUps) (sound : AreSound m) (wf : IsWellFormed (world_shown m)) 
   free : is_object w x ≡ false
   free = false_from_ne_true (is_object w x) (λ e. let h = wf.tree.numbers x e in let n = next_is.1 in omega (arith, ints, h.1, n))
 
-  parent_is : (is_object w q ≡ true) ⊎ (q ≡ nothing)
-  parent_is = elim (or_cases _ _ parent) [ inl e ↦ inl e | inr e ↦ inr (sym ((same_object-Decides nothing q).0 e)) ]
-
   pub no_row : m.object x ≡ None
   no_row = none_of (m.object x) (sym (is_object_seen m x) ∙ free)
 
@@ -43,12 +40,7 @@ module _ (m : LookUps) (sound : AreSound m) (wf : IsWellFormed (world_shown m)) 
 
   links : without_slots (world_shown m2) ≡ without_slots s
   unfolding world_shown
-  links = λ i. record s { object = λ y. bare y (same_object x y) refl (m.object y) i }
-    where
-      bare : (y : ObjNo) (b : Bool) → same_object x y ≡ b → (o : Option ObjRow)
-          → option_map (with_slots (λ n. None)) (option_map (object_shown m2 y) (if b then Some (new_row q owner) else o))
-          ≡ option_map (with_slots (λ n. None)) (if b then Some (plain_object q owner) else option_map (object_shown m y) o)
-      bare y b e o = grind (arith, same_object-Decides, no_names m sound x no_row, no_verbs)
+  links = grind (arith, same_object-Decides, no_names m sound x no_row, no_verbs)
 
   -- ---- the slots of the new object
 
@@ -75,7 +67,7 @@ module _ (m : LookUps) (sound : AreSound m) (wf : IsWellFormed (world_shown m)) 
   rebuilt_new : (n : Name) → slot_of (created w x q owner) x n ≡ option_map (fresh owner) (slot_of w q n)
   rebuilt_new n =
       slot_of-rebuilt w s q x n
-      ∙ ap (slot_for w s q x n) (ap (λ k. property_named k n) (owed_still w x q owner wf free next_is.1 next_is.0 parent_is (chain s x) ∙ ap (defined_by_any w) (chain_x w x q owner wf free next_is.1 next_is.0 parent_is) ∙ owed_x w x q owner wf free next_is.1 next_is.0 parent_is))
+      ∙ ap (slot_for w s q x n) (ap (λ k. property_named k n) (owed_still w x q owner wf free next_is.1 next_is.0 (known_is w q parent) (chain s x) ∙ ap (defined_by_any w) (chain_x w x q owner wf free next_is.1 next_is.0 (known_is w q parent)) ∙ owed_x w x q owner wf free next_is.1 next_is.0 (known_is w q parent)))
       ∙ by (property_named (defined_by_any w (chain w q)) n) refl
     where
       not_owed : (p : Property) → has_property w x p ≡ false
@@ -88,7 +80,7 @@ module _ (m : LookUps) (sound : AreSound m) (wf : IsWellFormed (world_shown m)) 
   world_new = same_by_objects (world_shown m2) (created w x q owner) (links ∙ sym (SameButSlots-rebuilt w s q)) (λ y n e. grind (arith, same_object-Decides, slots_of_new, rebuilt_new, slots_of_other, slot_old w x q owner wf is_next parent, is_object_seen))
 
   pub formed_new : is_number owner ≡ true → IsWellFormed (world_shown m2)
-  formed_new numbered = subst IsWellFormed (sym world_new) (IsWellFormed-created w x q owner wf free next_is.1 next_is.0 parent_is numbered)
+  formed_new numbered = subst IsWellFormed (sym world_new) (IsWellFormed-created w x q owner wf free next_is.1 next_is.0 (known_is w q parent) numbered)
 
   -- ---- the rows are sound
 

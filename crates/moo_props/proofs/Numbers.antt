@@ -1,6 +1,7 @@
 -- What a function gives over numbers, by what it gives at each.
-use Rattle.moo_props.{proofs.Words.{◌≡◌, ℕ, zero, suc, ◌<◌, Bool, Option, None, Some, List, [], ◌∷◌, ◌++◌, map, refl, sym, ◌∙◌, arith, if◌then◌else◌, option_map, filter, filter_map, cons_option, filter_map-append, slice_get, numbers_below, LookUps, AreSound, ObjNo, name_on, same_object-Decides}, proofs.Cases.{no_value}}
+use Rattle.moo_props.{proofs.Words.{◌≡◌, ℕ, Bool, Option, None, Some, List, [], ◌∷◌, ◌++◌, map, refl, sym, ◌∙◌, arith, if◌then◌else◌, option_map, filter, filter_map, cons_option, slice_get, numbers_below, LookUps, AreSound, ObjNo, name_on, same_object-Decides}, proofs.Cases.{no_value}}
 use Rattle.moo_world.proofs.Shown.Numbered.{first_from, no_first}
+pub use Rattle.moo_world.proofs.Shown.RowLaws.{same_below}
 
 -- what passes a test
 abbrev pub kept : {A : Type 0} → (A → Bool) → Option A → Option A
@@ -18,10 +19,6 @@ fewer test = over_numbers (filter test) (kept test) refl (λ o l. grind arith)
 
 pub changed : {A B : Type 0} (f : A → B) (h : ℕ → Option A) (k : ℕ → Option B) (l : List ℕ) → ((j : ℕ) → k j ≡ option_map f (h j)) → filter_map k l ≡ map f (filter_map h l)
 changed f = over_numbers (map f) (option_map f) refl (λ o l. grind arith)
-
-pub same_below : {X : Type 0} (h g : ℕ → Option X) (n : ℕ) → ((j : ℕ) → j < n → h j ≡ g j) → filter_map h (numbers_below n) ≡ filter_map g (numbers_below n)
-same_below h g zero e = refl
-same_below h g (suc n) e = grind (arith, filter_map-append, same_below h g n)
 
 pub nothing_below : {X : Type 0} (h : ℕ → Option X) (n : ℕ) → ((k : ℕ) (v : X) → h k ≡ Some v → ⊥) → filter_map h (numbers_below n) ≡ []
 nothing_below h n none = no_first (filter_map h (numbers_below n)) (no_value (slice_get (filter_map h (numbers_below n)) 0) (λ v e. let k = first_from h n v e in none k.0 v k.2))

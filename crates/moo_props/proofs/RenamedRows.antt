@@ -127,24 +127,17 @@ module _ (t : Maps) (good : IsGood t) (x : ObjNo) (id : ℕ) (p : PropRow) (ther
   abbrev slot_shown_by : LookUps → ObjNo → Name → Option Slot
   slot_shown_by k y n = slice_get (filter_map (slot_on k y n) (numbers_below m.head.next_prop)) 0
 
+  names : (y : ObjNo) → filter_map (name_on m2 y) (numbers_below m.head.next_prop) ≡ (if same_object x y then map (renames p.name new) (filter_map (name_on m y) (numbers_below m.head.next_prop)) else filter_map (name_on m y) (numbers_below m.head.next_prop))
+  names y = grind (arith, same_object-Decides, names_of_x, names_of_other)
+
+  shown : (y : ObjNo) (r : ObjRow) → m.object y ≡ Some r → (n : Name) → slot_shown_by m2 y n ≡ (if under y then (if same_text (folded new) n then slot_shown_by m y (folded p.name) else (if same_text (folded p.name) n then None else slot_shown_by m y n)) else slot_shown_by m y n)
+  shown y r e n =
+      sym (slots_shown m2 y n r e) ∙ slots y r e n
+      ∙ (λ i. if under y then (if same_text (folded new) n then slots_shown m y (folded p.name) r e i else (if same_text (folded p.name) n then None else slots_shown m y n r e i)) else slots_shown m y n r e i)
+
   pub world_renamed : world_shown m2 ≡ property_renamed w x p.name new
   unfolding world_shown
-  world_renamed = λ i. record { object = λ y. at y (m.object y) refl i; top = m.head.top; next_prop = m.head.next_prop; next_verb = m.head.next_verb }
-    where
-      names : (y : ObjNo) (b : Bool) → same_object x y ≡ b → filter_map (name_on m2 y) (numbers_below m.head.next_prop) ≡ (if b then map (renames p.name new) (filter_map (name_on m y) (numbers_below m.head.next_prop)) else filter_map (name_on m y) (numbers_below m.head.next_prop))
-      names y b e = grind (arith, same_object-Decides, names_of_x, names_of_other)
-
-      shown : (y : ObjNo) (r : ObjRow) → m.object y ≡ Some r → (n : Name) → slot_shown_by m2 y n ≡ (if under y then (if same_text (folded new) n then slot_shown_by m y (folded p.name) else (if same_text (folded p.name) n then None else slot_shown_by m y n)) else slot_shown_by m y n)
-      shown y r e n =
-          sym (slots_shown m2 y n r e) ∙ slots y r e n
-          ∙ (λ i. if under y then (if same_text (folded new) n then slots_shown m y (folded p.name) r e i else (if same_text (folded p.name) n then None else slots_shown m y n r e i)) else slots_shown m y n r e i)
-
-      at : (y : ObjNo) (o : Option ObjRow) → m.object y ≡ o → option_map (object_shown m2 y) o ≡ option_map (λ (r : WorldObject). record r {
-        defines = if same_object x y then map (λ k. if same_text (folded k) (folded p.name) then new else k) r.defines else r.defines;
-        slot = λ n. if is_among x (chain (world_shown m) y) then (if same_text (folded new) n then r.slot (folded p.name) else (if same_text (folded p.name) n then None else r.slot n)) else r.slot n;
-      }) (option_map (object_shown m y) o)
-      at y None e = refl
-      at y (Some r) e = λ i. Some (record (object_shown m2 y r) { defines = names y (same_object x y) refl i; slot = λ n. shown y r e n i })
+  world_renamed = grind (arith, names, shown)
 
   pub formed_renamed : is_property_name new ≡ true → IsWellFormed (property_renamed w x p.name new)
   formed_renamed n = IsWellFormed-property_renamed w good.formed x p.name new xo mine free n

@@ -41,12 +41,7 @@ module _ (t : Maps) (good : IsGood t) (x : ObjNo) (id : ℕ) (p : PropRow) (ther
 
   links : without_slots (world_shown m2) ≡ without_slots (s w good.formed x p.name)
   unfolding world_shown
-  links = λ i. record w { object = λ y. at y (same_object x y) refl (m.object y) i }
-    where
-      at : (y : ObjNo) (b : Bool) → same_object x y ≡ b → (o : Option ObjRow)
-          → option_map (with_slots (λ n. None)) (option_map (object_shown m2 y) o)
-          ≡ option_map (with_slots (λ n. None)) (option_map (λ (r : WorldObject). if b then record r { defines = filter named r.defines } else r) (option_map (object_shown m y) o))
-      at y b e o = grind (arith, same_object-Decides, names_of_x, names_of_other)
+  links = grind (arith, same_object-Decides, names_of_x, names_of_other)
 
   -- ---- sound rows
 

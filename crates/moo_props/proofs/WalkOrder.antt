@@ -1,10 +1,10 @@
 -- The walk over an object's slots gives its properties in order.
-use Rattle.moo_props.{proofs.Words.{arith, ◌≡◌, Bool, true, Some, List, [], ◌∷◌, map, Ordering, Less, sym, ap, ◌∙◌, refl, subst, tied_itself, int_eq, ordering_then, filter, AllByRecursion, get, entries, entries_sorted, Decides-int_eq, ObjNo, Maps, object_cmp, prop_cmp, slot_cmp, object_total, ids_among, cond_both}, proofs.Ascending.{Rises, rises_made}, proofs.Walked.{Entry, all_filter, walk, walk_held}}
-use Rattle.moo_world.proofs.Shown.EntriesInOrder.{all_weaker}
+use Rattle.moo_props.{proofs.Words.{arith, ◌≡◌, Bool, true, Some, List, [], ◌∷◌, map, Ordering, Less, sym, ap, ◌∙◌, refl, subst, tied_itself, int_eq, ordering_then, filter, AllByRecursion, get, entries, entries_sorted, Decides-int_eq, ObjNo, Maps, object_cmp, prop_cmp, slot_cmp, object_total, ids_among, cond_both}, proofs.Ascending.{Rises, rises_made}, proofs.Walked.{Entry, walk, walk_held}}
+use Rattle.moo_world.proofs.Shown.{EntriesInOrder.{all_weaker}, PairLists.{all_of_filter}}
 
 rises_fewer : {K A : Type 0} (cmp : K → K → Ordering) (key : A → K) (test : A → Bool) (l : List A) → Rises cmp key l → Rises cmp key (filter test l)
 rises_fewer cmp key test [] r = tt
-rises_fewer cmp key test (a ∷ l) r = grind (arith, cond_both, all_filter, rises_fewer cmp key test l)
+rises_fewer cmp key test (a ∷ l) r = grind (arith, cond_both, all_of_filter, rises_fewer cmp key test l)
 
 -- the properties of one object's slots
 ids_rise : (x : ObjNo) (es : List Entry) → AllByRecursion (λ e. e.0.0 ≡ x) es → Rises slot_cmp (λ e. e.0) es → Rises prop_cmp (λ j. j) (ids_among es)
@@ -35,4 +35,4 @@ walk_ids_rise t x = ids_rise x (walk t x) (walk_own t x) (walk_rises t x)
 
 -- and those whose slots pass a test
 pub passing_ids_rise : (t : Maps) (x : ObjNo) (test : Entry → Bool) → Rises prop_cmp (λ j. j) (ids_among (filter test (walk t x)))
-passing_ids_rise t x test = grind (arith, ids_rise, walk, all_filter, walk_own, rises_fewer, walk_rises)
+passing_ids_rise t x test = grind (arith, ids_rise, walk, all_of_filter, walk_own, rises_fewer, walk_rises)

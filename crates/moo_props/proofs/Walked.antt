@@ -2,16 +2,12 @@
 use Rattle.moo_props.proofs.Words.{arith, ◌≡◌, ℕ, Bool, true, Some, List, [], ◌∷◌, Ordering, Less, refl, sym, ap, ◌∙◌, ◌&&◌, is_some, unwrap_or, option_map, IsTotalOrder, tied_itself, nat_cmp_is, is_lt, int_eq, ordering_then, filter, list_any, AllByRecursion, get, entries, get-entries, entries_sorted, or_right, Decides-int_eq, CmpEqualImpliesEq, none-some, ObjNo, PropId, PropRow, SlotRow, Maps, prop_cmp, slot_cmp, slots_of_left, is_past, slot_exact, object_total, slot_total, Name, folded, slot_of, IsSound, look_ups, world_of, slot_seen, key-Decides, slot_shown, name_of, some_of, own_entries, SlotHere, LookUps, AreSound, world_shown, or_left, cond_both, FinMap}
 use Rattle.std.specs.List.{find}
 use Rattle.std.specs.FinMap as map
-use Rattle.moo_world.proofs.Shown.EntriesInOrder.{all_weaker}
+use Rattle.moo_world.proofs.Shown.{EntriesInOrder.{all_weaker}, PairLists.{all_of_filter}}
 
 abbrev pub Entry : Type 0
 Entry = (ObjNo × PropId) × SlotRow
 
 -- ---- lists
-
-pub all_filter : {A : Type 0} (P : A → Type 0) (test : A → Bool) (l : List A) → AllByRecursion P l → AllByRecursion P (filter test l)
-all_filter P test [] a = tt
-all_filter P test (x ∷ l) a = let r = all_filter P test l a.1 in cond_both (test x) (x ∷ filter test l) (filter test l) (AllByRecursion P) (λ e. (a.0, r)) (λ e. r)
 
 pub all_pass : {A : Type 0} (P : A → Type 0) (test : A → Bool) (l : List A) → AllByRecursion P l → AllByRecursion (λ a. P a × (test a ≡ true)) (filter test l)
 all_pass P test [] a = tt
@@ -32,7 +28,7 @@ any_held cmp total exact p k v (a ∷ es) e h = grind (arith, or_left, key-Decid
 -- each entry is held
 pub all_held : {K X : Type 0} {cmp : K → K → Ordering} (total : IsTotalOrder cmp) (exact : CmpEqualImpliesEq cmp) (m : FinMap cmp X) → AllByRecursion (λ (e : K × X). get m e.0 ≡ Some e.1) (entries m)
 all_held {K = K} {X = X} {cmp = cmp} total exact m =
-    all_weaker (λ (e : K × X). map.find cmp e.0 (entries m) ≡ Some e.1) (λ e. get m e.0 ≡ Some e.1) (λ e h. get-entries m e.0 ∙ h) (entries m) (own_entries cmp total exact (entries m) (entries_sorted m))
+    all_weaker (λ (e : K × X). map.find cmp e.0 (entries m) ≡ Some e.1) (λ e. get m e.0 ≡ Some e.1) (λ e h. get-entries m e.0 ∙ h) (entries m) (own_entries cmp total (entries m) (entries_sorted m))
 
 -- ---- the walk over an object's slots
 
@@ -43,7 +39,7 @@ walk m x = slots_of_left x (record { 0 = 0 }) m
 pub walk_held : (m : Maps) (x : ObjNo) → AllByRecursion (λ e. (get m.slots e.0 ≡ Some e.1) × (int_eq e.0.0.0 x.0 ≡ true)) (walk m x)
 walk_held m x =
     all_pass (λ e. get m.slots e.0 ≡ Some e.1) (λ e. int_eq e.0.0.0 x.0) _
-    (all_filter (λ e. get m.slots e.0 ≡ Some e.1) (λ e. is_past slot_cmp (Some (x, record { 0 = 0 })) e.0) (entries m.slots)
+    (all_of_filter (λ e. get m.slots e.0 ≡ Some e.1) (λ e. is_past slot_cmp (Some (x, record { 0 = 0 })) e.0) (entries m.slots)
     (all_held slot_total slot_exact m.slots))
 
 -- a slot that is there is one of the world

@@ -39,7 +39,8 @@ pub use Rattle.moo_world.proofs.Inheritance.ManualLaw.{gained_is, lost_is, new_s
 pub use Rattle.moo_world.proofs.Inheritance.Owed.{any-append, definer_among, is_among-append, named_owed}
 pub use Rattle.moo_world.proofs.Inheritance.Rebuilding.{SameButSlots-rebuilt, no_slot, objects_same, same_world}
 pub use Rattle.moo_world.proofs.Shown.Beside.{petitions_stay}
-pub use Rattle.moo_world.proofs.Shown.Listed.{all_made, listed, own_entries}
+pub use Rattle.moo_world.proofs.Shown.EntriesInOrder.{own_entries}
+pub use Rattle.moo_world.proofs.Shown.Listed.{all_made, listed}
 pub use Rattle.moo_world.proofs.Shown.MapLaws.{decided_alike, key-Decides, object_key}
 pub use Rattle.moo_world.proofs.Shown.NumbersKept.{as_high, numbers_same, slots_only}
 pub use Rattle.moo_world.proofs.Shown.PairLists.{any_map, some_of}

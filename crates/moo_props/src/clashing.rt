@@ -121,6 +121,7 @@ fn first_definer<R: Rows>(rows: &R, x: ObjNo) -> Result<Option<ObjNo>, AllocErro
 /// is looked up among the keys: (m + p + q) log n steps for m objects under x that define p properties, q of new, and n rows in the world.
 ///
 /// LambdaMOO Programmer's Manual, 'Fundamental Operations on Objects': `chparent`.
+#[tactic(auto, using(crate::proofs::NameClashes::first_meeting))]
 pub fn sharing_definer<R: Rows>(
     alloc: Global,
     rows: &R,

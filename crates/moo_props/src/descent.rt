@@ -41,6 +41,7 @@ fn next_beside<R: Rows>(rows: &R, x: ObjNo, y: ObjNo) -> Option<ObjNo>
 /// subtree. Takes no memory.
 ///
 /// From x on it meets the m objects of the subtree, among n of the world, in m log n steps.
+#[tactic(auto, using(crate::proofs::Descending::leaf, crate::proofs::Descending::downward, crate::proofs::Descending::linked_child, crate::proofs::Descending::still_under))]
 pub(crate) fn next_under<R: Rows>(rows: &R, x: ObjNo, y: ObjNo) -> Option<ObjNo>
     // Parents and locations are objects or `#-1`, without loops.
     requires tree { IsTree (world_of (R.held rows.now).maps) }

@@ -84,6 +84,7 @@ pub fn find<R: Rows>(rows: &R, x: ObjNo, name: &MooStr) -> Option<PropId>
 
 /// The slot on x of the property of a name, with the number and the definer of the property; `None` if x has no such property. Names
 /// compare without ASCII case.
+#[tactic(auto, using(crate::proofs::Walked::slot_here))]
 pub fn slot_of<'a, R: Rows>(rows: &'a R, x: ObjNo, name: &MooStr) -> Option<FoundSlot<'a>>
     // The rows are those of a well formed world.
     requires { IsGood (R.held rows.now).maps }

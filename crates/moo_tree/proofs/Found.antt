@@ -1,10 +1,8 @@
 -- What is found under an object, as lists in the order of their keys.
-use Rattle.moo_tree.{proofs.Words.{arith, ◌≡◌, Bool, cond, T, ◌&&◌, Option, None, List, [], ◌∷◌, map, Ordering, Less, refl, sym, ap, ◌∙◌, subst, option_map, filter, AllByRecursion, is_lt, BTreeMap, IsOrdered, keys, get, get-entries, get-from_entries, is_sorted, entries, entries_sorted, ObjNo, object_exact, Maps, object_cmp, contents, object_total, is_among, subtree_of, world_of, IsTree, chain, IsOwnerMap, owner_if_under, owners_under}, proofs.Listing.{subtree_listed}}
+use Rattle.moo_tree.{proofs.Words.{arith, ◌≡◌, Bool, cond, T, Option, None, List, [], ◌∷◌, map, Ordering, Less, refl, sym, ap, ◌∙◌, subst, option_map, filter, AllByRecursion, is_lt, BTreeMap, IsOrdered, keys, get, get-entries, get-from_entries, is_sorted, entries, entries_sorted, ObjNo, object_exact, Maps, object_cmp, contents, object_total, is_among, subtree_of, world_of, IsTree, chain, IsOwnerMap, owner_if_under, owners_under}, proofs.Listing.{subtree_listed}}
 use Rattle.std.{specs.List.Sorted.{IsStrictlySortedBy}, specs.FinMap.{find}, specs.FinMap.Entries.{below_all, find-where_key, is_sorted-where_key, same_entries}}
 use Rattle.moo_rows.proofs.Walking.{first_of, second_of}
-
-both_of : (a b : Bool) → T a → T b → T (a && b)
-both_of a b p q = grind arith
+use Rattle.moo_world.proofs.Shown.EntriesInOrder.{both_of}
 
 module _ {K X : Type 0} (cmp : K → K → Ordering) where
   below_each : (k : K) (es : List (K × X)) → AllByRecursion (λ q. cmp k q ≡ Less) (map (λ e. e.0) es) → T (below_all cmp k es)

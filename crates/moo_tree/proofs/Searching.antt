@@ -1,6 +1,6 @@
 -- A search for the objects under one, as far as it has come.
-use Rattle.moo_tree.{proofs.Words.{◌≡◌, ℕ, zero, suc, ◌-◌, ◌<◌, ◌≤◌, ◌≢◌, Bool, true, false, cond, ◌||◌, Option, None, Some, List, [], ◌∷◌, ◌++◌, length, drop, Ordering, Less, Equal, Greater, refl, sym, ap, ◌∙◌, subst, arith, ◌⊎◌, inl, inr, is_some, if◌then◌else◌, slice_index_or, ◌+◌, option_map, eq_by_cmp, is_eq, tied_itself, FinMap, get, insert, get-insert, true≢false, or_right, or_cases, ObjNo, ObjRow, object_exact, Maps, object_cmp, object_total, same_object, is_among, same_object-Decides, children_of, objects_of, is_parent_of, look_ups, world_of, World, IsTree, is_object, parent_of, chain, climb, numbers_to, chain_of_none, chain_of_row, chain_of_no_row, is_object_seen, passes_seen, none_passes, IsOwnerMap}, proofs.Sharing.{among_drop}}
-use Rattle.std.{proofs.Common.{add-one, drop-cons}, proofs.Math.Bool.{or-false}, proofs.lemmas.Bool.{or_left, true_from_ne_false}}
+use Rattle.moo_tree.{proofs.Words.{◌≡◌, ℕ, zero, suc, ◌-◌, ◌<◌, ◌≤◌, ◌≢◌, Bool, true, false, cond, ◌||◌, Option, None, Some, List, [], ◌∷◌, ◌++◌, length, drop, Ordering, Equal, refl, sym, ap, ◌∙◌, subst, arith, ◌⊎◌, inl, inr, is_some, if◌then◌else◌, slice_index_or, ◌+◌, option_map, eq_by_cmp, is_eq, tied_itself, FinMap, get, insert, get-insert, true≢false, or_right, or_cases, ObjNo, ObjRow, object_exact, Maps, object_cmp, object_total, same_object, is_among, same_object-Decides, children_of, objects_of, is_parent_of, look_ups, world_of, World, IsTree, is_object, parent_of, chain, climb, numbers_to, chain_of_row, chain_of_no_row, is_object_seen, passes_seen, none_passes, IsOwnerMap}, proofs.Sharing.{among_drop}}
+use Rattle.std.{proofs.Common.{add-one, drop-cons}, proofs.Math.Bool.{or-false}, proofs.lemmas.Bool.{or_left}}
 use Rattle.moo_world.{proofs.Inheritance.Owed.{is_among-append}, proofs.Ancestry.Subtrees.{among_filter, object_listed}, proofs.Ancestry.Upward.{filter_passes}, proofs.Shown.PairLists.{some_of}}
 
 -- an object has a row
@@ -43,10 +43,6 @@ module _ (t : Maps) (tree : IsTree (world_of t)) where
       by (Some r) e = (r, e, sym ((same_object-Decides y r.parent).0 (sym (passes_seen (λ r. same_object y r.parent) (look_ups t) c r (sym e)) ∙ passes)))
 
   module _ (x : ObjNo) where
-    -- what is pending is under x, so it is an object
-    pub is_there : (z : ObjNo) → is_among x (chain w z) ≡ true → is_object w z ≡ true
-    is_there z h = true_from_ne_false (is_object w z) (λ e. true≢false (sym h ∙ ap (is_among x) (chain_of_none w z e)))
-
     pub own_among : is_object w x ≡ true → is_among x (chain w x) ≡ true
     own_among here = let r = a_row t x here in ap (is_among x) (child_chain x r.0 r.1) ∙ among-first x (chain w r.0.parent)
 
@@ -99,13 +95,11 @@ module _ (t : Maps) (tree : IsTree (world_of t)) where
           right-by z o Equal k h =
               let same = object_exact z y k in
               (ap (λ q. is_among x (chain w q)) same ∙ y_under, ap (λ q. option_map (λ r. r.owner) (get t.objects q)) same ∙ ap (option_map (λ r. r.owner)) there ∙ h)
-          right-by z o Less k h = s.right z o h
-          right-by z o Greater k h = s.right z o h
+          right-by z o _ k h = s.right z o h
 
           closed-by : (z c : ObjNo) (r : ObjRow) → get t.objects c ≡ Some r → r.parent ≡ z → (k : Ordering) → object_cmp z y ≡ k → is_some (cond (is_eq k) (Some row.owner) (get m z)) ≡ true → (is_some (get after c) || is_among c now) ≡ true
           closed-by z c r e p Equal k h = or_right _ _ (child_now c (child_listed c y r e (p ∙ object_exact z y k)))
-          closed-by z c r e p Less k h = moved c (s.closed z c r e p h)
-          closed-by z c r e p Greater k h = moved c (s.closed z c r e p h)
+          closed-by z c r e p _ k h = moved c (s.closed z c r e p h)
 
     -- at the beginning
     pub begun : (m : FinMap object_cmp ObjNo) → ((q : ObjNo) → get m q ≡ None) → is_object w x ≡ true → Search t x m (x ∷ [])

@@ -34,6 +34,7 @@ fn collect_linked<R: Rows>(alloc: Global, rows: &R, link: Link) -> Result<Vec<Ob
 
 /// The objects whose parent is x, ascending; the roots for `#-1`. The only error is a lack of memory.
 /// LambdaMOO Programmer's Manual, 'Fundamental Operations on Objects': `children`.
+#[tactic(auto, using(crate::proofs::Listing::children_listed))]
 pub fn children<R: Rows>(alloc: Global, rows: &R, x: ObjNo) -> Result<Vec<ObjNo>, AllocError>
     // Parents and locations are objects or `#-1`, without loops.
     requires { IsTree (world_of (R.held rows.now).maps) }
@@ -44,6 +45,7 @@ pub fn children<R: Rows>(alloc: Global, rows: &R, x: ObjNo) -> Result<Vec<ObjNo>
 
 /// The objects that are in x itself, ascending; those that are nowhere for `#-1`. The only error is a lack of memory.
 /// LambdaMOO Programmer's Manual, 'Properties on Objects'.
+#[tactic(auto, using(crate::proofs::Listing::contents_listed))]
 pub fn contents<R: Rows>(alloc: Global, rows: &R, x: ObjNo) -> Result<Vec<ObjNo>, AllocError>
     // Parents and locations are objects or `#-1`, without loops.
     requires { IsTree (world_of (R.held rows.now).maps) }
@@ -54,6 +56,7 @@ pub fn contents<R: Rows>(alloc: Global, rows: &R, x: ObjNo) -> Result<Vec<ObjNo>
 
 /// The objects with the player flag, ascending. The only error is a lack of memory.
 /// LambdaMOO Programmer's Manual, 'Operations on Player Objects': `players`.
+#[tactic(auto, using(crate::proofs::Listing::players_listed))]
 pub fn players<R: Rows>(alloc: Global, rows: &R) -> Result<Vec<ObjNo>, AllocError>
     // Parents and locations are objects or `#-1`, without loops.
     requires { IsTree (world_of (R.held rows.now).maps) }

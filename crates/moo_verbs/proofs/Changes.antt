@@ -1,14 +1,16 @@
 -- The rows after a verb was put or removed: the world that they show, and that they stay good.
-use Rattle.moo_verbs.{proofs.Words.{◌≡◌, ◌+◌, ◌<◌, ◌≤◌, true, Option, Some, ◌++◌, ◌∷◌, [], refl, sym, ◌∙◌, subst, arith, is_some, remove, ObjNo, VerbId, VerbRow, Maps, IsGood, look_ups, world_of, world_shown, IsWellFormed, is_object, verb_fits, verb_added, verb_removed, verb_changed, changed_at, has_verb, verb_place}, proofs.Directories.{put_last, put_changed, removed}, proofs.Soundness.{put_sound, rest_sound}}
-use Rattle.std.specs.FinMap.{get, insert, remove as less}
-use Rattle.moo_world.{proofs.Shown.Seen.{is_object_seen}, proofs.Form.Directories.{stays_formed, added_fit, removed_fit, changed_fit}}
-
-some_of : {A : Type 0} (o : Option A) → is_some o ≡ true → (v : A) × (o ≡ Some v)
-some_of o e = grind arith
+use Rattle.moo_verbs.{proofs.Words.{◌≡◌, ℕ, ◌+◌, ◌<◌, ◌≤◌, true, Some, ◌++◌, ◌∷◌, [], refl, sym, ◌∙◌, subst, arith, remove, props_stay, Held, Keeps, wrote, ObjNo, VerbId, VerbRow, Maps, verb_cmp, IsGood, look_ups, world_of, world_shown, IsWellFormed, is_object, verb_fits, verb_added, verb_removed, verb_changed, changed_at, has_verb, verb_place}, proofs.Directories.{put_last, put_changed, removed}, proofs.Soundness.{put_sound, rest_sound}}
+use Rattle.std.specs.FinMap.{FinMap, get, insert, remove as less}
+use Rattle.moo_world.{specs.Numbers.{KeepsVerbs}, proofs.Shown.Seen.{is_object_seen}, proofs.Shown.PairLists.{some_of}, proofs.Form.Directories.{stays_formed, added_fit, removed_fit, changed_fit}}
 
 verb_room : (m : Maps) → IsGood m → (0 < m.head.next_verb) × (m.head.next_verb ≤ 4294967295)
 unfolding world_shown
 verb_room m good = good.formed.limits.verbs
+
+-- rows with other verbs keep all else
+pub kept_by : (old : Held) (verbs : FinMap verb_cmp VerbRow) (next : ℕ) → old.maps.head.next_verb ≤ next → KeepsVerbs old.maps.head.next_verb old.maps.verbs verbs
+    → IsGood (record (old.maps) { head = record (old.maps.head) { next_verb = next }; verbs = verbs }) → Keeps old (wrote old (record (old.maps) { head = record (old.maps.head) { next_verb = next }; verbs = verbs }))
+kept_by old verbs next higher changed good = record { good = good; beside = refl; base = refl; numbers = record { props = props_stay refl; verbs = changed; next_prop = omega arith; next_verb = higher } }
 
 module _ (m : Maps) (good : IsGood m) (x : ObjNo) where
   -- a verb added

@@ -1,8 +1,8 @@
 -- What a verb put or removed in the rows does to the world that they show.
-use Rattle.moo_verbs.{proofs.Words.{◌≡◌, ◌≢◌, ℕ, ◌<◌, ◌+◌, Bool, true, false, cond, Option, None, Some, List, [], ◌∷◌, ◌++◌, eqb, refl, sym, ap, ◌∙◌, add-one, arith, remove, eq-eqb, ne_eqb, eqb-true, ObjNo, VerbId, VerbRow, Maps, verb_cmp, same_object, same_object-Decides, LookUps, IsSound, look_ups, world_of, world_shown, verb_id, verb_added, verb_removed, verb_changed, verb_at, changed_at, verb_place}, proofs.Numbering.{below, one_more, none_more, get_at, removed_at, changed_below}, proofs.Entries.{row_at, verbs_shown, past}}
+use Rattle.moo_verbs.{proofs.Words.{◌≡◌, ◌≢◌, ℕ, ◌<◌, ◌+◌, true, false, false≢true, cond, Option, None, Some, List, [], ◌∷◌, ◌++◌, eqb, refl, sym, ap, ◌∙◌, add-one, arith, remove, eq-eqb, ne_eqb, eqb-true, ObjNo, VerbId, VerbRow, Maps, verb_cmp, same_object, same_object-Decides, LookUps, IsSound, look_ups, world_of, world_shown, verb_id, verb_added, verb_removed, verb_changed, verb_at, changed_at, verb_place}, proofs.Numbering.{below, one_more, none_more, get_at, removed_at, changed_below}, proofs.Entries.{row_at, verbs_shown, past}}
 use Rattle.std.{specs.Ordering.{eq_by_cmp}, specs.FinMap.{get, insert, remove as less, get-insert, get-remove}}
 use Rattle.moo_rows.{specs.Exact.{verb_exact}, proofs.Orders.{verb_total}}
-use Rattle.moo_world.{proofs.Form.Directories.{with_directory}, proofs.Shown.MapLaws.{decided_alike, key-Decides}}
+use Rattle.moo_world.{proofs.Lemmas.{false_from_ne_true}, proofs.Form.Directories.{with_directory}, proofs.Shown.MapLaws.{decided_alike, key-Decides}}
 
 -- rows that differ in verbs of x alone, and in the number for the next verb
 module _ (m : LookUps) (x : ObjNo) (verb : ObjNo → ℕ → Option VerbRow) (next : ℕ) (change : List VerbRow → List VerbRow) where
@@ -21,30 +21,23 @@ own_key x id j = decided_alike _ _ (j ≡ id)
     (eqb-true j id, eq-eqb j id)
 
 other_key : (x y : ObjNo) (id : VerbId) (j : ℕ) → same_object x y ≡ false → eq_by_cmp verb_cmp (y, verb_id j) (x, id) ≡ false
-other_key x y id j e = by (eq_by_cmp verb_cmp (y, verb_id j) (x, id)) refl
-  where
-    by : (b : Bool) → eq_by_cmp verb_cmp (y, verb_id j) (x, id) ≡ b → b ≡ false
-    by false g = refl
-    by true g =
-        let same : (y, verb_id j) ≡ (x, id) = (key-Decides verb_cmp verb_total verb_exact (y, verb_id j) (x, id)).0 g in
-        sym ((same_object-Decides x y).1 (sym (ap (λ (k : ObjNo × VerbId). k.0) same))) ∙ e
+other_key x y id j e = false_from_ne_true (eq_by_cmp verb_cmp (y, verb_id j) (x, id)) (λ g.
+    let same : (y, verb_id j) ≡ (x, id) = (key-Decides verb_cmp verb_total verb_exact (y, verb_id j) (x, id)).0 g in
+    false≢true (sym e ∙ (same_object-Decides x y).1 (sym (ap (λ (k : ObjNo × VerbId). k.0) same))))
 
 -- a verb of x put, with a number that lies below the next
 module _ (m : Maps) (x : ObjNo) (id : VerbId) (row : VerbRow) where
-  abbrev pub put : ObjNo → ℕ → Option VerbRow
+  abbrev put : ObjNo → ℕ → Option VerbRow
   put y j = get (insert m.verbs (x, id) row) (y, verb_id j)
 
-  pub put_other : (y : ObjNo) → same_object x y ≡ false → put y ≡ row_at m y
+  put_other : (y : ObjNo) → same_object x y ≡ false → put y ≡ row_at m y
   put_other y e = λ i j. (get-insert verb_total m.verbs (x, id) row (y, verb_id j) ∙ ap (λ b. cond b (Some row) (row_at m y j)) (other_key x y id j e)) i
 
-  put_own : (j : ℕ) → put x j ≡ cond (eqb j id.0) (Some row) (row_at m x j)
-  put_own j = get-insert verb_total m.verbs (x, id) row (x, verb_id j) ∙ ap (λ b. cond b (Some row) (row_at m x j)) (own_key x id.0 j)
+  put_here : put x id.0 ≡ Some row
+  put_here = get-insert verb_total m.verbs (x, id) row (x, id) ∙ ap (λ b. cond b (Some row) (row_at m x id.0)) (own_key x id.0 id.0 ∙ eq-eqb id.0 id.0 refl)
 
-  pub put_here : put x id.0 ≡ Some row
-  put_here = put_own id.0 ∙ ap (λ b. cond b (Some row) (row_at m x id.0)) (eq-eqb id.0 id.0 refl)
-
-  pub put_apart : (j : ℕ) → j ≢ id.0 → put x j ≡ row_at m x j
-  put_apart j ne = put_own j ∙ ap (λ b. cond b (Some row) (row_at m x j)) (ne_eqb j id.0 ne)
+  put_apart : (j : ℕ) → j ≢ id.0 → put x j ≡ row_at m x j
+  put_apart j ne = get-insert verb_total m.verbs (x, id) row (x, verb_id j) ∙ ap (λ b. cond b (Some row) (row_at m x j)) (own_key x id.0 j ∙ ne_eqb j id.0 ne)
 
   -- one more verb
   pub put_last : IsSound m → id.0 ≡ m.head.next_verb → world_of (record m { head = record m.head { next_verb = m.head.next_verb + 1 }; verbs = insert m.verbs (x, id) row }) ≡ verb_added (world_of m) x row
@@ -64,20 +57,17 @@ module _ (m : Maps) (x : ObjNo) (id : VerbId) (row : VerbRow) where
       (changed_below (row_at m x) (put x) id.0 m.head.next_verb low v change held put_apart (put_here ∙ ap Some is))
 
 module _ (m : Maps) (x : ObjNo) (id : VerbId) where
-  abbrev pub rest : ObjNo → ℕ → Option VerbRow
+  abbrev rest : ObjNo → ℕ → Option VerbRow
   rest y j = get (less m.verbs (x, id)) (y, verb_id j)
 
-  pub rest_other : (y : ObjNo) → same_object x y ≡ false → rest y ≡ row_at m y
+  rest_other : (y : ObjNo) → same_object x y ≡ false → rest y ≡ row_at m y
   rest_other y e = λ i j. (get-remove verb_total m.verbs (x, id) (y, verb_id j) ∙ ap (λ b. cond b None (row_at m y j)) (other_key x y id j e)) i
 
-  rest_own : (j : ℕ) → rest x j ≡ cond (eqb j id.0) None (row_at m x j)
-  rest_own j = get-remove verb_total m.verbs (x, id) (x, verb_id j) ∙ ap (λ b. cond b None (row_at m x j)) (own_key x id.0 j)
+  rest_here : rest x id.0 ≡ None
+  rest_here = get-remove verb_total m.verbs (x, id) (x, id) ∙ ap (λ b. cond b None (row_at m x id.0)) (own_key x id.0 id.0 ∙ eq-eqb id.0 id.0 refl)
 
-  pub rest_here : rest x id.0 ≡ None
-  rest_here = rest_own id.0 ∙ ap (λ b. cond b None (row_at m x id.0)) (eq-eqb id.0 id.0 refl)
-
-  pub rest_apart : (j : ℕ) → j ≢ id.0 → rest x j ≡ row_at m x j
-  rest_apart j ne = rest_own j ∙ ap (λ b. cond b None (row_at m x j)) (ne_eqb j id.0 ne)
+  rest_apart : (j : ℕ) → j ≢ id.0 → rest x j ≡ row_at m x j
+  rest_apart j ne = get-remove verb_total m.verbs (x, id) (x, verb_id j) ∙ ap (λ b. cond b None (row_at m x j)) (own_key x id.0 j ∙ ne_eqb j id.0 ne)
 
   pub removed : (v : VerbRow) → id.0 < m.head.next_verb → get m.verbs (x, id) ≡ Some v → world_of (record m { verbs = less m.verbs (x, id) }) ≡ verb_removed (world_of m) x (verb_place m x id)
   unfolding world_shown

@@ -1,5 +1,6 @@
 -- Lists of what numbers below a bound have, in ascending number, and the place of a number in such a list.
 use Rattle.moo_verbs.proofs.Words.{◌≡◌, ◌≢◌, ℕ, zero, suc, ◌<◌, ◌≤◌, Option, None, Some, List, [], ◌∷◌, ◌++◌, length, refl, sym, ap, ◌∙◌, ◌⊎◌, inl, inr, append-nil, append_assoc, length-append, map, arith, slice_get, if◌then◌else◌, nat_lt, option_map, filter_map, cons_option, remove, cases_eq, lt-ltb, le-ltb, VerbRow, numbers_below, changed_at}
+use Rattle.moo_world.proofs.Shown.RowLaws.{same_below}
 use Rattle.std.{proofs.lemmas.List.Elements.{filter_map-append}, proofs.lemmas.List.{map-append}, proofs.lemmas.Option.{none-some, slice_get_within}}
 
 -- ---- lists with one element between a front and a back
@@ -27,17 +28,13 @@ below h n = filter_map h (numbers_below n)
 pub step : {X : Type 0} (h : ℕ → Option X) (n : ℕ) → below h (suc n) ≡ below h n ++ cons_option (h n) []
 step h n = filter_map-append h (numbers_below n) (n ∷ [])
 
-alike_below : {X : Type 0} (h g : ℕ → Option X) (n : ℕ) → ((j : ℕ) → j < n → g j ≡ h j) → below g n ≡ below h n
-alike_below h g zero same = refl
-alike_below h g (suc n) same = grind (arith, alike_below h g n, step)
-
 -- one number more, which has this
 pub one_more : {X : Type 0} (h g : ℕ → Option X) (n : ℕ) (v : X) → ((j : ℕ) → j < n → g j ≡ h j) → g n ≡ Some v → below g (suc n) ≡ below h n ++ v ∷ []
-one_more h g n v same e = step g n ∙ (λ i. alike_below h g n same i ++ cons_option (e i) [])
+one_more h g n v same e = step g n ∙ (λ i. same_below h g n same i ++ cons_option (e i) [])
 
 -- one number more, which has nothing
 pub none_more : {X : Type 0} (h g : ℕ → Option X) (n : ℕ) → ((j : ℕ) → j < n → g j ≡ h j) → g n ≡ None → below g (suc n) ≡ below h n
-none_more h g n same e = step g n ∙ (λ i. alike_below h g n same i ++ cons_option (e i) []) ∙ append-nil (below h n)
+none_more h g n same e = step g n ∙ (λ i. same_below h g n same i ++ cons_option (e i) []) ∙ append-nil (below h n)
 
 module _ {X : Type 0} (h : ℕ → Option X) (id : ℕ) where
   abbrev front : List X
@@ -53,7 +50,7 @@ module _ {X : Type 0} (h : ℕ → Option X) (id : ℕ) where
     where
       by : (n ≡ id) ⊎ (n ≡ id → ⊥) → (id < n → Around n) → Around (suc n)
       by (inl e) r =
-          ([], λ g same. step g n ∙ (λ i. (alike_below h g n (λ j k. same j (λ q. omega arith)) ∙ ap (below h) e) i ++ cons_option (g (e i)) []))
+          ([], λ g same. step g n ∙ (λ i. (same_below h g n (λ j k. same j (λ q. omega arith)) ∙ ap (below h) e) i ++ cons_option (g (e i)) []))
       by (inr ne) r =
           let s = r (omega arith) in (
             s.0 ++ cons_option (h n) [],

@@ -1,45 +1,36 @@
 -- Rows stay sound where a verb is put or removed.
-use Rattle.moo_verbs.{proofs.Words.{◌≡◌, ℕ, ◌<◌, ◌≤◌, Bool, true, false, refl, sym, ap, ◌∙◌, inl, inr, arith, is_some, cases_eq, false≢true, ObjNo, VerbId, VerbRow, Maps, same_object, same_object-Decides, IsSound}, proofs.Directories.{put, put_other, put_apart, rest, rest_other, rest_apart, rest_here}, proofs.Entries.{row_at}}
-use Rattle.std.specs.FinMap.{get, insert, remove as less}
+use Rattle.moo_verbs.proofs.Words.{◌≡◌, ℕ, ◌<◌, ◌≤◌, Bool, true, false, cond, Option, None, Some, refl, sym, ap, ◌∙◌, subst, arith, is_some, false≢true, ObjNo, VerbId, VerbRow, Maps, verb_cmp, IsSound, verb_id}
+use Rattle.std.{specs.Ordering.{eq_by_cmp}, specs.FinMap.{get, insert, remove as less, get-insert, get-remove}}
+use Rattle.moo_rows.{specs.Exact.{verb_exact}, proofs.Orders.{verb_total}}
+use Rattle.moo_world.proofs.Shown.MapLaws.{key-Decides}
 
 module _ (m : Maps) (sound : IsSound m) (x : ObjNo) (id : VerbId) where
-  module _ (row : VerbRow) (next : ℕ) (object : is_some (get m.objects x) ≡ true) (positive : 0 < id.0) (low : id.0 < next) (higher : m.head.next_verb ≤ next) where
-    put_verbs : (y : ObjNo) (j : ℕ) → is_some (put m x id row y j) ≡ true → (is_some (get m.objects y) ≡ true) × (0 < j) × (j < next)
-    put_verbs y j e = by (same_object x y) refl
-      where
-        before : (z : ObjNo) → is_some (row_at m z j) ≡ true → (is_some (get m.objects z) ≡ true) × (0 < j) × (j < next)
-        before z h = let v = sound.verbs z j h in (v.0, v.1, omega (arith, v.2))
+  -- a verb's object is there, and its number lies below the next
+  abbrev Stands : ℕ → ObjNo × VerbId → Type 0
+  Stands next k = (is_some (get m.objects k.0) ≡ true) × (0 < k.1.0) × (k.1.0 < next)
 
-        own : is_some (put m x id row x j) ≡ true → (is_some (get m.objects x) ≡ true) × (0 < j) × (j < next)
-        own h = elim (cases_eq j id.0) [
-          | inl q ↦ (object, omega arith, omega arith)
-          | inr ne ↦ before x (ap is_some (sym (put_apart m x id row j ne)) ∙ h)
-        ]
-
-        by : (b : Bool) → same_object x y ≡ b → (is_some (get m.objects y) ≡ true) × (0 < j) × (j < next)
-        by true g =
-            let same : x ≡ y = (same_object-Decides x y).0 g in
-            let there = own (ap (λ z. is_some (put m x id row z j)) same ∙ e) in
-            (ap (λ z. is_some (get m.objects z)) (sym same) ∙ there.0, there.1, there.2)
-        by false g = before y ((λ i. is_some (sym (put_other m x id row y g) i j)) ∙ e)
-
-    pub put_sound : IsSound (record m { head = record m.head { next_verb = next }; verbs = insert m.verbs (x, id) row })
-    put_sound = record { props_below = sound.props_below; definers = sound.definers; slots = sound.slots; one_name = sound.one_name; verbs = put_verbs }
-
-  rest_verbs : (y : ObjNo) (j : ℕ) → is_some (rest m x id y j) ≡ true → is_some (row_at m y j) ≡ true
-  rest_verbs y j e = by (same_object x y) refl
+  -- whatever is under one key afterwards, where it may be there
+  verbs_after : (o : Option VerbRow) (next : ℕ) → m.head.next_verb ≤ next → (is_some o ≡ true → Stands next (x, id)) → (k : ObjNo × VerbId) → is_some (cond (eq_by_cmp verb_cmp k (x, id)) o (get m.verbs k)) ≡ true → Stands next k
+  verbs_after o next higher own k = by (eq_by_cmp verb_cmp k (x, id)) refl
     where
-      own : is_some (rest m x id x j) ≡ true → is_some (row_at m x j) ≡ true
-      own h = elim (cases_eq j id.0) [
-        | inl q ↦ absurd (false≢true (sym (ap is_some (ap (rest m x id x) q ∙ rest_here m x id)) ∙ h))
-        | inr ne ↦ ap is_some (sym (rest_apart m x id j ne)) ∙ h
-      ]
+      by : (b : Bool) → eq_by_cmp verb_cmp k (x, id) ≡ b → is_some (cond b o (get m.verbs k)) ≡ true → Stands next k
+      by true g h = subst (Stands next) (sym ((key-Decides verb_cmp verb_total verb_exact k (x, id)).0 g)) (own h)
+      by false g h = let v = sound.verbs k.0 k.1.0 h in (v.0, v.1, omega (arith, v.2))
 
-      by : (b : Bool) → same_object x y ≡ b → is_some (row_at m y j) ≡ true
-      by true g =
-          let same : x ≡ y = (same_object-Decides x y).0 g in
-          ap (λ z. is_some (row_at m z j)) (sym same) ∙ own (ap (λ z. is_some (rest m x id z j)) same ∙ e)
-      by false g = (λ i. is_some (sym (rest_other m x id y g) i j)) ∙ e
+  pub put_sound : (row : VerbRow) (next : ℕ) → is_some (get m.objects x) ≡ true → 0 < id.0 → id.0 < next → m.head.next_verb ≤ next → IsSound (record m { head = record m.head { next_verb = next }; verbs = insert m.verbs (x, id) row })
+  put_sound row next object positive low higher = record {
+    props_below = sound.props_below;
+    definers = sound.definers;
+    slots = sound.slots;
+    one_name = sound.one_name;
+    verbs = λ y j e. verbs_after (Some row) next higher (λ _. (object, positive, low)) (y, verb_id j) (ap is_some (sym (get-insert verb_total m.verbs (x, id) row (y, verb_id j))) ∙ e);
+  }
 
   pub rest_sound : IsSound (record m { verbs = less m.verbs (x, id) })
-  rest_sound = record { props_below = sound.props_below; definers = sound.definers; slots = sound.slots; one_name = sound.one_name; verbs = λ y j e. sound.verbs y j (rest_verbs y j e) }
+  rest_sound = record {
+    props_below = sound.props_below;
+    definers = sound.definers;
+    slots = sound.slots;
+    one_name = sound.one_name;
+    verbs = λ y j e. verbs_after None m.head.next_verb (omega arith) (λ h. absurd (false≢true h)) (y, verb_id j) (ap is_some (sym (get-remove verb_total m.verbs (x, id) (y, verb_id j))) ∙ e);
+  }

@@ -1,6 +1,6 @@
 -- Names match what the manual says.
 use Rattle.moo_verbs.{proofs.Words.{◌≡◌, ℕ, zero, suc, ◌+◌, Bool, true, false, cond, ◌&&◌, ◌||◌, None, Some, [], ◌∷◌, ◌++◌, length, take, drop, refl, sym, ap, ◌∙◌, inl, inr, append-nil, arith, nat_lt, list_any, position, position_or_len, and_parts, or_cases, or_right, false≢true, lt-ltb, le-ltb, eqb-true, Name, folded, same_text-Decides, is_star, is_empty, same_name, begins_with, matches_around, matches, matches_at}, specs.Laws.{MatchesStar, StarsMatch, NamesMatch}}
-use Rattle.std.{specs.Bool.{Decides}, specs.Char.{to_ascii_lowercase}, proofs.lemmas.List.{length-append, length-map, map-append, take-append-drop}, proofs.Math.Seq.{take-append_seam, drop-append_seam, drop-append-add}}
+use Rattle.std.{specs.Bool.{Decides}, specs.Char.{to_ascii_lowercase}, proofs.lemmas.List.{length-append, length-map, map-append, take-append-drop, take-map, drop-map}, proofs.Math.Seq.{take-append_seam, drop-append_seam, drop-append-add}}
 
 -- ---- what a text begins with
 
@@ -14,15 +14,11 @@ folded_length name = length-map name to_ascii_lowercase
 
 folded_take : (n : ℕ) (name : Name) → folded (take n name) ≡ take n (folded name)
 unfolding folded
-folded_take zero name = refl
-folded_take (suc n) [] = refl
-folded_take (suc n) (b ∷ name) = ap (λ l. to_ascii_lowercase b ∷ l) (folded_take n name)
+folded_take n name = sym (take-map to_ascii_lowercase n name)
 
 folded_drop : (n : ℕ) (name : Name) → folded (drop n name) ≡ drop n (folded name)
 unfolding folded
-folded_drop zero name = refl
-folded_drop (suc n) [] = refl
-folded_drop (suc n) (b ∷ name) = folded_drop n name
+folded_drop n name = sym (drop-map to_ascii_lowercase n name)
 
 begun : (text front : Name) → begins_with text front ≡ true → folded text ≡ folded front ++ folded (drop (length front) text)
 begun text front e =

@@ -3,7 +3,6 @@ pub mod Chains
 pub mod Trees
 pub mod Ancestors
 pub mod Moving
-pub mod Redirected
 pub mod Locations
 pub mod Subtrees
 pub mod Upward

@@ -3,8 +3,8 @@ pub use Rattle.moo_world.proofs.Words.{both_true, PetitionCall, PetitionsLeaveTh
 unfoldable pub use Rattle.moo_world.proofs.Words.{IsDistinct, chain, folded, location_chain, rebuilt, batch_call, same_object, same_property, same_text, world_call, world_shown}
 pub use Rattle.moo_world.proofs.Ancestry.Ancestors.{apart_in_chain, except_end, same_object-self}
 pub use Rattle.moo_world.proofs.Ancestry.Chains.{Climbs-bound, Climbs-once, Climbs-split, NumbersBelow, climb_is, front_of}
-pub use Rattle.moo_world.proofs.Ancestry.Subtrees.{NoClash-from_meets, among_filter, numbered, object_listed, owed_listed}
-pub use Rattle.moo_world.proofs.Ancestry.Trees.{Chain-chain, Chain-either, Chain-unique, among_from_under, assigned, chain-nothing, chain-step, chain_is, chain_of_none, linked, no_link, no_parent, nothing_is_no_object, under_from_among}
+pub use Rattle.moo_world.proofs.Ancestry.Subtrees.{NoClash-from_meets, among_filter, new_is, no_clash, numbered, object_listed, owed_listed}
+pub use Rattle.moo_world.proofs.Ancestry.Trees.{Chain-chain, Chain-either, Chain-unique, among_from_under, assigned, chain-nothing, chain-step, chain_is, chain_of_none, known_is, linked, no_link, no_parent, nothing_is_no_object, object_of_chain, under_from_among}
 pub use Rattle.moo_world.proofs.Batches.Requested.{Leaves, Led, request_leaves}
 pub use Rattle.moo_world.proofs.Batches.TreeT.{no}
 pub use Rattle.moo_world.proofs.Form.Limits.{fresh_fits, known_numbered, object_numbered, row_fitting, slot_owner}

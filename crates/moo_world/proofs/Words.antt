@@ -1,6 +1,6 @@
 -- The words that most proofs of this crate share.
 pub use Rattle.std.proofs.Common.{Bool, Equal, Err, FitsSigned, Greater, Less, List, None, Ok, Option, Ordering, Result, Some, T, [], add-one, ap, append-nil, append_assoc, arith, cond, drop, eqb, false, inl, inr, length, map, max, nat_abs, negsuc, pos, refl, subst, suc, sym, true, w32, w64, zero, ℕ, ℤ, ◌++◌, ◌+◌, ◌<◌, ◌||◌, ◌↔◌, ◌∙◌, ◌∷◌, ◌≡◌, ◌≢◌, ◌≤◌, ◌⊎◌}
-pub use Rattle.std.proofs.lemmas.Bool.{and_parts, both_ways, cases_eq, eq-eqb, eqb-true, false_from_ne_true, false≢true, le-leb, leb-true, lt-ltb, ltb-true, ne_eqb, or_cases, or_parts, or_right}
+pub use Rattle.std.proofs.lemmas.Bool.{and_parts, both_ways, cases_eq, eq-eqb, eqb-true, false_from_ne_true, false≢true, le-leb, leb-true, lt-ltb, ltb-true, ne_eqb, or_cases, or_parts, or_right, true_from_ne_false}
 pub use Rattle.std.proofs.lemmas.Int.{ints}
 pub use Rattle.std.proofs.lemmas.List.Elements.{filter-append, filter_map-append}
 pub use Rattle.std.proofs.lemmas.List.Folds.{Any-from_list_any, list_all-append, list_any-from_Any}
@@ -66,7 +66,7 @@ pub use Rattle.moo_world.specs.Recycling.{recycled, released, object_removed}
 pub use Rattle.moo_world.specs.Requests.{IsFormed, PetitionsStay, State, are_on_world, asked, call_in, held_call, held_step, held_steps, in_world, one_integer, one_list, petition_at, petition_call_by, petition_id, state_of, without}
 unfoldable pub use Rattle.moo_world.specs.Requests.{batch_call}
 pub use Rattle.moo_world.specs.Rights.{accept_along, accepts, controls, is_fertile, is_within, is_wizard, may_be_parent, may_make_owner, may_read_object, may_read_slot, may_read_verb, may_write_object, may_write_slot, may_write_verb}
-pub use Rattle.moo_world.specs.Rows.{AreSound, IsGood, LookUps, less_slot, look_ups, name_on, numbers_below, prop_id, object_shown, slot_on, slot_seen, verb_id, with_object_row, with_slot_row, world_of}
+pub use Rattle.moo_world.specs.Rows.{AreSound, IsGood, LookUps, look_ups, name_on, numbers_below, prop_id, object_shown, slot_on, slot_seen, verb_id, with_object_row, with_slot_row, world_of}
 unfoldable pub use Rattle.moo_world.specs.Rows.{world_shown}
 pub use Rattle.moo_world.specs.TreeLaws.{Accepts, AcceptsIsTested, ChainIsFound, ChainSplits, HasList, NoneTwice, OneChain, HasPropertyIsTested, LocationsAreFound, ReadsIsFound, UnderIsTested, WithinIsTested, anything, inherited, listed, own}
 pub use Rattle.moo_world.specs.VerbReading.{args_of, prep_of}

@@ -81,38 +81,7 @@ spelled bytes = find (λ name. same_text bytes (spelling name)) all_names
 spelled-spelling : (name : CallName) → spelled (spelling name) ≡ Some name
 unfolding same_text
 spelled-spelling Valid = refl
-spelled-spelling Parent = refl
-spelled-spelling Children = refl
-spelled-spelling IsPlayer = refl
-spelled-spelling Players = refl
-spelled-spelling MaxObject = refl
-spelled-spelling Get = refl
-spelled-spelling Properties = refl
-spelled-spelling PropertyInfo = refl
-spelled-spelling IsClearProperty = refl
-spelled-spelling Verbs = refl
-spelled-spelling VerbInfo = refl
-spelled-spelling VerbArgs = refl
-spelled-spelling AcceptList = refl
-spelled-spelling Create = refl
-spelled-spelling Chparent = refl
-spelled-spelling Recycle = refl
-spelled-spelling Move = refl
-spelled-spelling SetPlayerFlag = refl
-spelled-spelling Set = refl
-spelled-spelling AddProperty = refl
-spelled-spelling DeleteProperty = refl
-spelled-spelling SetPropertyInfo = refl
-spelled-spelling ClearProperty = refl
-spelled-spelling AddVerb = refl
-spelled-spelling DeleteVerb = refl
-spelled-spelling SetVerbInfo = refl
-spelled-spelling SetVerbArgs = refl
-spelled-spelling SetAccept = refl
-spelled-spelling Petition = refl
-spelled-spelling Petitions = refl
-spelled-spelling Grant = refl
-spelled-spelling Decline = refl
+spelled-spelling _ = refl
 
 pub spelled_is : (bytes : List ℕ) (name : CallName) → (spelled bytes ≡ Some name) ↔ (bytes ≡ spelling name)
 spelled_is bytes name = (λ e. (same_text-Decides bytes (spelling name)).0 (find_passes (λ n. same_text bytes (spelling n)) all_names name e), λ e. ap spelled e ∙ spelled-spelling name)
@@ -124,38 +93,7 @@ spelled_alike name = filter (λ other. same_text (spelling name) (spelling other
 pub spelled_alike_is : (name : CallName) → spelled_alike name ≡ name ∷ []
 unfolding same_text
 spelled_alike_is Valid = refl
-spelled_alike_is Parent = refl
-spelled_alike_is Children = refl
-spelled_alike_is IsPlayer = refl
-spelled_alike_is Players = refl
-spelled_alike_is MaxObject = refl
-spelled_alike_is Get = refl
-spelled_alike_is Properties = refl
-spelled_alike_is PropertyInfo = refl
-spelled_alike_is IsClearProperty = refl
-spelled_alike_is Verbs = refl
-spelled_alike_is VerbInfo = refl
-spelled_alike_is VerbArgs = refl
-spelled_alike_is AcceptList = refl
-spelled_alike_is Create = refl
-spelled_alike_is Chparent = refl
-spelled_alike_is Recycle = refl
-spelled_alike_is Move = refl
-spelled_alike_is SetPlayerFlag = refl
-spelled_alike_is Set = refl
-spelled_alike_is AddProperty = refl
-spelled_alike_is DeleteProperty = refl
-spelled_alike_is SetPropertyInfo = refl
-spelled_alike_is ClearProperty = refl
-spelled_alike_is AddVerb = refl
-spelled_alike_is DeleteVerb = refl
-spelled_alike_is SetVerbInfo = refl
-spelled_alike_is SetVerbArgs = refl
-spelled_alike_is SetAccept = refl
-spelled_alike_is Petition = refl
-spelled_alike_is Petitions = refl
-spelled_alike_is Grant = refl
-spelled_alike_is Decline = refl
+spelled_alike_is _ = refl
 
 -- ---- petitions
 

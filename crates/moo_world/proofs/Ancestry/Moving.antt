@@ -1,5 +1,5 @@
 -- What a change of one parent does to chains.
-use Rattle.moo_world.{proofs.Words.{arith, ◌≡◌, Bool, true, false, List, [], ◌∷◌, ◌++◌, map, refl, ap, ◌⊎◌, Option, Some, is_some, unwrap_or, if◌then◌else◌, option_map, flat_map, false≢true, or_parts, ObjNo, Name, nothing, same_object, is_among, same_object-Decides, World, WorldObject, IsTree, Chain, is_object, parent_of, location_of, property_names_of, owner_of, defined_by_any, chain, with_parent}, proofs.Ancestry.Chains.{front_of}, proofs.Ancestry.Trees.{chain_is, Chain-chain, Chain-either}}
+use Rattle.moo_world.{proofs.Words.{arith, ◌≡◌, Bool, true, false, List, [], ◌∷◌, ◌++◌, map, refl, ap, ◌⊎◌, Option, Some, is_some, unwrap_or, if◌then◌else◌, option_map, flat_map, false≢true, or_parts, ObjNo, Name, nothing, same_object, is_among, same_object-Decides, World, WorldObject, IsTree, Chain, is_object, parent_of, location_of, property_names_of, owner_of, defined_by_any, chain, with_parent}, proofs.Ancestry.Chains.{front_of, unmoved, through_x}, proofs.Ancestry.Trees.{chain_is, Chain-chain, Chain-either}}
 
 module _ (w : World) (x q : ObjNo) where
   abbrev pub moved : World
@@ -8,14 +8,8 @@ module _ (w : World) (x q : ObjNo) where
   abbrev change : WorldObject → WorldObject
   change r = record r { row = record r.row { parent = q } }
 
-  abbrev at : ObjNo → WorldObject → WorldObject
-  at y r = if same_object x y then change r else r
-
-  at_other : (y : ObjNo) (b : Bool) (o : Option WorldObject) → same_object x y ≡ b → b ≡ false → option_map (λ r. r.row.parent) (option_map (λ r. if same_object x y then change r else r) o) ≡ option_map (λ r. r.row.parent) o
-  at_other y b o e f = grind arith
-
   other_parent : (y : ObjNo) → same_object x y ≡ false → parent_of moved y ≡ parent_of w y
-  other_parent y e = at_other y false (w.object y) e refl
+  other_parent y e = grind arith
 
   at_itself : (y : ObjNo) (o : Option WorldObject) → same_object x y ≡ true → is_some o ≡ true → option_map (λ r. r.row.parent) (option_map (λ r. if same_object x y then change r else r) o) ≡ Some q
   at_itself y o e h = grind arith
@@ -39,21 +33,16 @@ module _ (w : World) (x q : ObjNo) where
   owed_moved l = ap (λ (names : ObjNo → List Name). flat_map (λ d. map (λ n. (d, n)) (names d)) l) names_moved
 
   -- a chain that x isn't in stays
-  pub Climbs-unmoved : (l : List ObjNo) (z : ObjNo) → Chain w z l → is_among x l ≡ false → Chain moved z l
-  Climbs-unmoved [] z p h = p
-  Climbs-unmoved (y ∷ l) z p h = grind (arith, Climbs-unmoved l p.1 p.3, or_parts, other_parent)
+  Climbs-unmoved : (l : List ObjNo) (z : ObjNo) → Chain w z l → is_among x l ≡ false → Chain moved z l
+  Climbs-unmoved = unmoved (parent_of w) (parent_of moved) x other_parent
 
   module _ (t : IsTree w) (xo : is_object w x ≡ true) (qo : (is_object w q ≡ true) ⊎ (q ≡ nothing)) (outside : is_among x (chain w q) ≡ false) where
     pub Chain-new : Chain w q (chain w q)
     Chain-new = Chain-either w t q qo
 
-    Climbs-x : Chain moved x (x ∷ chain w q)
-    Climbs-x = (refl, q, at_itself x (w.object x) ((same_object-Decides x x).1 refl) xo, Climbs-unmoved (chain w q) q Chain-new outside)
-
     -- one that x is in goes on from x to q's
-    pub Climbs-moved : (l : List ObjNo) (z : ObjNo) → Chain w z l → is_among x l ≡ true → Chain moved z (front_of x l ++ x ∷ chain w q)
-    Climbs-moved [] z p h = absurd (false≢true h)
-    Climbs-moved (y ∷ l) z p h = grind (arith, Climbs-moved l p.1 p.3, front_of, same_object-Decides, Climbs-x, other_parent)
+    Climbs-moved : (l : List ObjNo) (z : ObjNo) → Chain w z l → is_among x l ≡ true → Chain moved z (front_of x l ++ x ∷ chain w q)
+    Climbs-moved = through_x (parent_of w) (parent_of moved) x other_parent q (at_itself x (w.object x) ((same_object-Decides x x).1 refl) xo) (chain w q) Chain-new outside
 
     -- the moved tree is a tree
     pub IsTree-moved : IsTree moved

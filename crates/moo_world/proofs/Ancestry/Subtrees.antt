@@ -1,5 +1,6 @@
 -- The ascending lists of objects, and names that don't clash.
-use Rattle.moo_world.{proofs.Words.{◌≡◌, ℕ, zero, suc, ◌<◌, Bool, true, false, ◌||◌, List, [], ◌∷◌, ◌++◌, map, refl, sym, ◌∙◌, ap, ◌⊎◌, Option, None, arith, pos, is_some, list_any, filter, false≢true, or_parts, or_right, or_cases, cases_eq, ObjNo, Property, object_at, same_object, same_property, folded, is_among, same_object-Decides, World, IsTree, is_object, chain, defined_by, defined_by_any, property_named, numbers_below, objects_of, subtree_of, shares_property_name}, proofs.Ancestry.Trees.{assigned, chain_of_none}, proofs.Inheritance.Owed.{any-append, is_among-append}, proofs.Inheritance.Keeping.{same_property-is}, proofs.Inheritance.ManualLaw.{NoClash}}
+use Rattle.moo_world.{proofs.Words.{◌≡◌, ℕ, zero, suc, ◌<◌, Bool, true, false, ◌||◌, List, [], ◌∷◌, ◌++◌, map, refl, sym, ◌∙◌, ap, ◌⊎◌, arith, pos, is_some, list_any, filter, false≢true, or_parts, or_right, or_cases, cases_eq, ObjNo, Property, object_at, same_object, same_property, folded, is_among, same_object-Decides, World, IsTree, is_object, chain, defined_by, defined_by_any, property_named, numbers_below, objects_of, subtree_of, shares_property_name, nothing, MayReparent}, proofs.Ancestry.Trees.{assigned, known_is, object_of_chain}, proofs.Inheritance.Owed.{any-append, is_among-append}, proofs.Inheritance.Keeping.{same_property-is}, proofs.Inheritance.ManualLaw.{NoClash}, proofs.Shown.PairLists.{none_of}}
+use Rattle.std.proofs.lemmas.List.{map-append}
 
 pub among_filter : (t : ObjNo → Bool) (l : List ObjNo) (d : ObjNo) → is_among d l ≡ true → t d ≡ true → is_among d (filter t l) ≡ true
 among_filter t [] d h k = h
@@ -8,18 +9,8 @@ among_filter t (y ∷ l) d h k = grind (arith, among_filter t l d, same_object-D
 pub numbered : (n k : ℕ) (d : ObjNo) → k < n → d.0 ≡ pos k → is_among d (map object_at (numbers_below n)) ≡ true
 numbered zero k d l e = absurd (omega arith)
 numbered (suc n) k d l e =
-    ap (is_among d) (mapped (numbers_below n) n) ∙ is_among-append d (map object_at (numbers_below n)) (object_at n ∷ []) ∙ by (cases_eq k n) (numbered n k d)
+    ap (is_among d) (map-append object_at (numbers_below n) (n ∷ [])) ∙ is_among-append d (map object_at (numbers_below n)) (object_at n ∷ []) ∙ by (cases_eq k n) (numbered n k d)
   where
-    mapped : (l : List ℕ) (j : ℕ) → map object_at (l ++ j ∷ []) ≡ map object_at l ++ object_at j ∷ []
-    mapped [] j = refl
-    mapped (i ∷ l) j = ap (λ r. object_at i ∷ r) (mapped l j)
-
-    left : (a b : Bool) → a ≡ true → (a || b) ≡ true
-    left a b h = grind arith
-
-    self : k ≡ n → d ≡ object_at n
-    self g = λ i. record { 0 = (e ∙ ap pos g) i }
-
     by : (k ≡ n) ⊎ (k ≡ n → ⊥) → (k < n → d.0 ≡ pos k → is_among d (map object_at (numbers_below n)) ≡ true) → (is_among d (map object_at (numbers_below n)) || (same_object d (object_at n) || false)) ≡ true
     by h r = grind (arith, or_right, same_object-Decides)
 
@@ -35,16 +26,15 @@ none_passes : (t : Property → Bool) (l : List Property) (p : Property) → lis
 none_passes t [] p h k = absurd (false≢true k)
 none_passes t (y ∷ l) p h k = grind (arith, none_passes t l p, or_parts, or_cases, same_property-is)
 
-is_none : (o : Option Property) → is_some o ≡ false → o ≡ None
-is_none o e = grind arith
-
 -- the test of the call is the absence of clashes
 pub NoClash-from_meets : (w : World) (t : IsTree w) (x q : ObjNo) → shares_property_name w x q ≡ false → NoClash w x q
-NoClash-from_meets w t x q h d p u k = by (is_object w d) refl
-  where
-    listed : is_object w d ≡ true → is_among d (subtree_of w x) ≡ true
-    listed o = among_filter (λ y. is_among x (chain w y)) (objects_of w) d (object_listed w t d o) u
+NoClash-from_meets w t x q h d p u k =
+    let listed = among_filter (λ y. is_among x (chain w y)) (objects_of w) d (object_listed w t d (object_of_chain w x d u)) u in
+    none_of _ (none_passes (λ (m : Property). is_some (property_named (defined_by_any w (chain w q)) (folded m.1))) (defined_by_any w (subtree_of w x)) p h (owed_listed w (subtree_of w x) d p listed k))
 
-    by : (b : Bool) → is_object w d ≡ b → property_named (defined_by_any w (chain w q)) (folded p.1) ≡ None
-    by true o = is_none _ (none_passes (λ (m : Property). is_some (property_named (defined_by_any w (chain w q)) (folded m.1))) (defined_by_any w (subtree_of w x)) p h (owed_listed w (subtree_of w x) d p (listed o) k))
-    by false o = absurd (false≢true (sym (ap (is_among x) (chain_of_none w d o)) ∙ u))
+-- of a change of parent that is allowed
+pub new_is : (w : World) (x q : ObjNo) → MayReparent w x q → (is_object w q ≡ true) ⊎ (q ≡ nothing)
+new_is w x q m = known_is w q m.new
+
+pub no_clash : (w : World) (x q : ObjNo) → MayReparent w x q → NoClash w x q
+no_clash w x q m = NoClash-from_meets w m.well_formed.tree x q m.apart

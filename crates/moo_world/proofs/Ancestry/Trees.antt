@@ -1,5 +1,5 @@
 -- The laws of chains in a world.
-use Rattle.moo_world.{proofs.Words.{◌≡◌, ℕ, ◌<◌, true, false, List, [], ◌∷◌, refl, sym, ◌∙◌, ap, subst, Option, Some, None, arith, ℤ, pos, ◌≤ℤ◌, is_some, option_map, none-some, same_Some, ObjNo, nothing, is_among, World, WorldObject, IsTree, Chain, IsUnder, is_object, parent_of, chain, numbers_to, ◌⊎◌}, proofs.Ancestry.Chains.{Climbs-unique, Climbs-bound, climb_is, NumbersBelow}}
+use Rattle.moo_world.{proofs.Words.{◌≡◌, ℕ, ◌<◌, ◌||◌, true, false, List, [], ◌∷◌, refl, sym, ◌∙◌, ap, subst, Option, Some, None, arith, ℤ, pos, ◌≤ℤ◌, is_some, option_map, false≢true, or_cases, true_from_ne_false, none-some, same_Some, ObjNo, nothing, same_object, same_object-Decides, is_among, World, WorldObject, IsTree, Chain, IsUnder, Climbs, climb, is_object, parent_of, chain, numbers_to, ◌⊎◌, inl, inr}, proofs.Ancestry.Chains.{Climbs-unique, Climbs-bound, climb_is, NumbersBelow}}
 
 pub assigned : (z top : ℤ) → pos 0 ≤ℤ z → z ≤ℤ top → (n : ℕ) × (z ≡ pos n) × (n < numbers_to top)
 assigned z top low high = grind arith
@@ -10,23 +10,54 @@ linked o f next e = grind arith
 pub no_link : (o : Option WorldObject) (f : WorldObject → ObjNo) → is_some o ≡ false → option_map f o ≡ None
 no_link o f e = grind arith
 
+-- what is an object or nothing
+pub known_is : (w : World) (q : ObjNo) → (is_object w q || same_object nothing q) ≡ true → (is_object w q ≡ true) ⊎ (q ≡ nothing)
+known_is w q known = elim (or_cases _ _ known) [ inl h ↦ inl h | inr h ↦ inr (sym ((same_object-Decides nothing q).0 h)) ]
+
 module _ (w : World) (t : IsTree w) where
   pub nothing_is_no_object : is_object w nothing ≡ false
   nothing_is_no_object = grind arith
 
-  pub no_parent : parent_of w nothing ≡ None
-  no_parent = no_link (w.object nothing) (λ r. r.row.parent) nothing_is_no_object
+  -- ---- along any link
 
-  pub parents_below : NumbersBelow (parent_of w) (numbers_to w.top)
-  parents_below x next e = grind arith
+  module _ (f : WorldObject → ObjNo) where
+    abbrev link : ObjNo → Option ObjNo
+    link x = option_map f (w.object x)
+
+    pub none_linked : link nothing ≡ None
+    none_linked = no_link (w.object nothing) f nothing_is_no_object
+
+    pub linked_below : NumbersBelow link (numbers_to w.top)
+    linked_below x next e = let range = t.numbers x (linked (w.object x) f next e) in assigned x.0 w.top range.0 range.1
+
+    -- the list along the link is the one that is climbed
+    pub climbed : (x : ObjNo) (l : List ObjNo) → Climbs link x l → climb (numbers_to w.top) link x ≡ l
+    climbed x l p = climb_is link none_linked (numbers_to w.top) l x p (Climbs-bound link (numbers_to w.top) none_linked linked_below l x p)
+
+    pub climbed-step : (x : ObjNo) (r : WorldObject) → w.object x ≡ Some r → (l : List ObjNo) → Climbs link x l → l ≡ x ∷ climb (numbers_to w.top) link (f r)
+    climbed-step x r e [] p = absurd (none-some (f r) (sym none_linked ∙ sym (ap link p) ∙ ap (option_map f) e))
+    climbed-step x r e (y ∷ l) p =
+        let same : p.1 ≡ f r = same_Some p.1 (f r) (sym p.2 ∙ ap (option_map f) e) in
+        let rest : l ≡ climb (numbers_to w.top) link (f r) = sym (climbed (f r) l (subst (λ n. Climbs link n l) same p.3)) in
+        λ i. sym p.0 i ∷ rest i
+
+  -- ---- up the parents
+
+  pub no_parent : parent_of w nothing ≡ None
+  no_parent = none_linked (λ r. r.row.parent)
 
   -- the chain is the list that `chain` computes
   pub chain_is : (x : ObjNo) (l : List ObjNo) → Chain w x l → chain w x ≡ l
   unfolding chain
-  chain_is x l p = climb_is (parent_of w) no_parent (numbers_to w.top) l x p (Climbs-bound (parent_of w) (numbers_to w.top) no_parent parents_below l x p)
+  chain_is x l p = climbed (λ r. r.row.parent) x l p
 
   pub Chain-chain : (x : ObjNo) → is_object w x ≡ true → Chain w x (chain w x)
   Chain-chain x e = let c = t.chains x e in subst (Chain w x) (sym (chain_is x c.0 c.1)) c.1
+
+  -- one step up
+  pub chain-step : (x : ObjNo) (r : WorldObject) → w.object x ≡ Some r → chain w x ≡ x ∷ chain w r.row.parent
+  unfolding chain
+  chain-step x r e = climbed-step (λ k. k.row.parent) x r e (chain w x) (Chain-chain x (ap is_some e))
 
   pub chain-nothing : chain w nothing ≡ []
   chain-nothing = chain_is nothing [] refl
@@ -49,23 +80,6 @@ pub chain_of_none : (w : World) (x : ObjNo) → is_object w x ≡ false → chai
 unfolding chain
 chain_of_none w x e = grind arith
 
-parent_seen : (o : Option WorldObject) (f : WorldObject → ObjNo) (r : WorldObject) → o ≡ Some r → option_map f o ≡ Some (f r)
-parent_seen o f r e = ap (option_map f) e
-
-module _ (w : World) (t : IsTree w) where
-  -- one step up
-  pub chain-step : (x : ObjNo) (r : WorldObject) → w.object x ≡ Some r → chain w x ≡ x ∷ chain w r.row.parent
-  chain-step x r e =
-      let here : is_object w x ≡ true = ap is_some e in
-      let c = Chain-chain w t x here in
-      first (chain w x) c
-    where
-      up : parent_of w x ≡ Some r.row.parent
-      up = parent_seen (w.object x) (λ k. k.row.parent) r e
-
-      first : (l : List ObjNo) → Chain w x l → l ≡ x ∷ chain w r.row.parent
-      first [] p = absurd (none-some r.row.parent (sym (no_parent w t) ∙ sym (ap (parent_of w) p) ∙ up))
-      first (y ∷ l) p =
-          let same : p.1 ≡ r.row.parent = same_Some p.1 r.row.parent (sym p.2 ∙ up) in
-          let rest : l ≡ chain w r.row.parent = sym (chain_is w t r.row.parent l (subst (λ n. Chain w n l) same p.3)) in
-          λ i. sym p.0 i ∷ rest i
+-- what has a chain with something in it is an object
+pub object_of_chain : (w : World) (d x : ObjNo) → is_among d (chain w x) ≡ true → is_object w x ≡ true
+object_of_chain w d x h = true_from_ne_false (is_object w x) (λ e. false≢true (sym (ap (is_among d) (chain_of_none w x e)) ∙ h))

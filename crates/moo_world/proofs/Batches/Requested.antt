@@ -1,7 +1,7 @@
 -- What any call of a batch leaves, along its checks.
 use Rattle.moo_world.{proofs.Words.{arith, ◌≡◌, ℤ, Bool, true, false, List, [], ◌∷◌, ap, ◌∙◌, Option, Some, None, Result, Ok, Err, nat_lt, list_all, get, Code, ObjNo, Value, spread, Values, PetitionId, PetitionRow, Call, PetitionCall, petition_call, Outcome, Done, check, fails, is_named, are_few, are_shallow, State, in_world, one_list, one_integer, petition_at, without, held_steps, number_limit, asked, petition_call_by, batch_call, is_wizard, world_call, named_call, World, is_object}, specs.declared.name.PetitionCall.TheVariants.{Petition as to_petition, Petitions as to_list, Grant as to_grant, Decline as to_decline}, proofs.Form.Passing.{Holds, on_check, on_found, on_given, each_check}}
 use Rattle.moo_world.specs.declared.reason.Reason.TheVariants.{NoProgrammer}
-use Rattle.moo_value.{specs.declared.value.Value.TheVariants.{List as a_list}, specs.Values.{no_values as no_more}}
+use Rattle.moo_value.specs.declared.value.Value.TheVariants.{List as a_list}
 
 -- an answered call leaves a state that is so; an error leaves none
 abbrev pub Leaves : (State → Type 0) → Outcome State → Type 0
@@ -22,15 +22,6 @@ pub record Led (P : State → Type 0) (s : State) (p : ObjNo) (call : Call) : Ty
   pub asked : (calls : Values) → call.args ≡ a_list calls ∷ [] → is_object s.world p ≡ true → list_all is_named (spread calls) ≡ true → are_few calls ≡ true → are_shallow calls ≡ true → nat_lt s.next_petition number_limit ≡ true → P (asked s p calls)
   pub granted : (id : PetitionId) (row : PetitionRow) → get s.petitions id ≡ Some row → (v : Value) (w : World) → held_steps 0 s.world p (spread row.calls) ≡ Done v w → P (record (without id s) { world = w })
   pub declined : (id : PetitionId) → P (without id s)
-
--- the values that were read, or none
-abbrev read : Result Values Code → Values
-read (Ok values) = values
-read (Err code) = no_more
-
-abbrev is_read : Result Values Code → Bool
-is_read (Ok values) = true
-is_read (Err code) = false
 
 given_list : (args : List Value) (calls : Values) → one_list args ≡ Ok calls → args ≡ a_list calls ∷ []
 given_list args calls e = grind arith

@@ -76,7 +76,7 @@ unfolding world_shown chain same_object same_text folded same_property rebuilt
 on_the_tree = (refl, refl, refl, refl, refl, refl, refl, refl, refl, refl, refl, refl, refl, refl, refl, refl, refl)
 
 -- a batch: create(#1); max_object(); create(#1), and one whose second call fails
-abbrev call : CallName → List Value → Call
+abbrev pub call : CallName → List Value → Call
 call name args = record { name = name; args = args }
 
 abbrev answers : Verdict → Option (List Value)

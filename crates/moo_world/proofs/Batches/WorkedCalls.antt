@@ -1,5 +1,5 @@
 -- Batches of calls on the opening world and on the small tree, and what the definitions answer.
-use Rattle.moo_world.{proofs.Words.{◌≡◌, ℕ, pos, true, false, List, [], ◌∷◌, refl, Option, Some, None, codes, lookup, empty, Arguments, Value, Int, Obj, Str, Call, CallName, MaxObject, Get, Properties, VerbInfo, VerbArgs, Create, Chparent, Recycle, Move, AddProperty, DeleteProperty, SetPropertyInfo, ClearProperty, AddVerb, DeleteVerb, SetVerbArgs, SetAccept, SetVerbInfo, Verbs, nothing, same_object, same_text, same_property, folded, World, chain, location_chain, rebuilt, LookUps, world_shown, list_of, object_list, text_list, prep_of, world_call, State, batch_call, Ran, Through, FailedAt, FullAt, run_calls, of_itself, Reason}, specs.declared.name.CallName.TheVariants.{Set}, specs.Answers.{zero}, specs.Matching.{matches}, proofs.Batches.TreeT.{no, row, T as world_T}}
+use Rattle.moo_world.{proofs.Words.{◌≡◌, ℕ, pos, true, false, List, [], ◌∷◌, refl, Option, Some, None, codes, lookup, empty, Arguments, Value, Int, Obj, Str, Call, CallName, MaxObject, Get, Properties, VerbInfo, VerbArgs, Create, Chparent, Recycle, Move, AddProperty, DeleteProperty, SetPropertyInfo, ClearProperty, AddVerb, DeleteVerb, SetVerbArgs, SetAccept, SetVerbInfo, Verbs, nothing, same_object, same_text, same_property, folded, World, chain, location_chain, rebuilt, LookUps, world_shown, list_of, object_list, text_list, prep_of, world_call, State, batch_call, Ran, Through, FailedAt, FullAt, run_calls, of_itself, Reason}, specs.declared.name.CallName.TheVariants.{Set}, specs.Answers.{zero}, specs.Matching.{matches}, proofs.Batches.TreeT.{call, no, row, T as world_T}}
 use Rattle.moo_value.specs.declared.code.Code.TheVariants.{«Type» as WrongType}
 use Rattle.moo_world.specs.declared.reason.Reason.TheVariants.{Given, NoProgrammer, NoObject, NotFertile, NoOwner, NameShared, NotAccepted, PlaceInside, NoQuota, NeverSet, NotTaken, NotDefined, NotInherited, NoVerb}
 use Rattle.moo_rows.{specs.declared.row.Preposition.TheVariants.{Set as of_set}, specs.declared.row.PrepositionSet.TheVariants.{OutOf, In}}
@@ -13,9 +13,6 @@ answers (FullAt k) = None
 -- the call of this number, from 1, fails for this reason
 abbrev pub fails_at : ℕ → Reason → Ran
 fails_at place reason = FailedAt place (of_itself reason)
-
-abbrev pub call : CallName → List Value → Call
-call name args = record { name = name; args = args }
 
 abbrev pub o : ℕ → Value
 o n = Obj (no n)
@@ -54,9 +51,14 @@ numbers_are_new : answers (run_calls opening (no 3) (call Create (o 1 ∷ []) �
 unfolding world_shown chain same_object same_text same_property folded rebuilt world_call batch_call
 numbers_are_new = refl
 
+abbrev then_as_4 : Ran → List Call → Ran
+then_as_4 (Through vs w) calls = run_calls w (no 4) calls
+then_as_4 (FailedAt k e) calls = FailedAt k e
+then_as_4 (FullAt k) calls = FullAt k
+
 -- #4, which owns itself and isn't a wizard
-abbrev and_as_4 : List Call → Ran
-and_as_4 calls = elim (run_calls opening (no 3) (call Create (o 1 ∷ Obj nothing ∷ []) ∷ [])) [ Through vs w ↦ run_calls w (no 4) calls | FailedAt k e ↦ FailedAt k e | FullAt k ↦ FullAt k ]
+abbrev pub and_as_4 : List Call → Ran
+and_as_4 calls = then_as_4 (run_calls opening (no 3) (call Create (o 1 ∷ Obj nothing ∷ []) ∷ [])) calls
 
 objects_worked :
     -- it may not make a child of #0, which isn't fertile
@@ -118,11 +120,6 @@ names_worked = (refl, refl, refl, refl)
 
 abbrev with_quota : List Call → Ran
 with_quota calls = run_calls opening (no 3) (call AddProperty (o 1 ∷ text (codes "ownership_quota") ∷ text [] ∷ list_of (o 3 ∷ text [] ∷ []) ∷ []) ∷ call Create (o 1 ∷ Obj nothing ∷ []) ∷ calls)
-
-abbrev then_as_4 : Ran → List Call → Ran
-then_as_4 (Through vs w) calls = run_calls w (no 4) calls
-then_as_4 (FailedAt k e) calls = FailedAt k e
-then_as_4 (FullAt k) calls = FullAt k
 
 quotas_worked :
     -- a quota of 1 lets one object be made

@@ -1,11 +1,6 @@
 -- Petitions on the opening world, and what the definitions answer: as far as no petition is looked up, which no worked row computes.
-use Rattle.moo_world.{proofs.Lemmas.{◌≡◌, List, [], ◌∷◌, refl, Some, codes, Value, Obj, Call, Create, Petition, Grant, nothing, same_object, same_text, same_property, folded, chain, rebuilt, world_shown, list_of, world_call, batch_call, Ran, Through, FailedAt, FullAt, run_calls, no}, proofs.Batches.WorkedCalls.{opening, answers, fails_at, call, o, text, i}}
+use Rattle.moo_world.{proofs.Lemmas.{◌≡◌, List, [], ◌∷◌, refl, Some, codes, Value, Obj, Call, Create, Petition, Grant, nothing, same_object, same_text, same_property, folded, chain, rebuilt, world_shown, list_of, world_call, batch_call, Ran, Through, FailedAt, FullAt, run_calls, no}, proofs.Batches.TreeT.{call}, proofs.Batches.WorkedCalls.{answers, and_as_4, fails_at, o, text, i}}
 use Rattle.moo_world.specs.declared.reason.Reason.TheVariants.{NoWizard, Unnamed, NotFew, Unasked}
-
--- as #3 makes #4, which owns itself; what #4 then says
-abbrev asked_by_4 : List Call → Ran
-asked_by_4 calls =
-    elim (run_calls opening (no 3) (call Create (o 1 ∷ Obj nothing ∷ []) ∷ [])) [ Through us s ↦ run_calls s (no 4) calls | FailedAt k e ↦ FailedAt k e | FullAt k ↦ FullAt k ]
 
 -- an object of its own, and to be a player
 abbrev wishes : Value
@@ -13,14 +8,14 @@ wishes = list_of (list_of (text (codes "create") ∷ o 1 ∷ o 4 ∷ []) ∷ lis
 
 petitions_worked :
     -- a resident can't grant
-    (asked_by_4 (call Petition (wishes ∷ []) ∷ call Grant (i 1 ∷ []) ∷ []) ≡ fails_at 2 NoWizard)
+    (and_as_4 (call Petition (wishes ∷ []) ∷ call Grant (i 1 ∷ []) ∷ []) ≡ fails_at 2 NoWizard)
     -- petitions are numbered from 1 on
-    × (answers (asked_by_4 (call Petition (wishes ∷ []) ∷ call Petition (wishes ∷ []) ∷ [])) ≡ Some (i 1 ∷ i 2 ∷ []))
+    × (answers (and_as_4 (call Petition (wishes ∷ []) ∷ call Petition (wishes ∷ []) ∷ [])) ≡ Some (i 1 ∷ i 2 ∷ []))
     -- a petition can't ask for a grant
-    × (asked_by_4 (call Petition (list_of (list_of (text (codes "grant") ∷ i 1 ∷ []) ∷ []) ∷ []) ∷ []) ≡ fails_at 1 Unasked)
+    × (and_as_4 (call Petition (list_of (list_of (text (codes "grant") ∷ i 1 ∷ []) ∷ []) ∷ []) ∷ []) ≡ fails_at 1 Unasked)
     -- nor for nothing
-    × (asked_by_4 (call Petition (list_of [] ∷ []) ∷ []) ≡ fails_at 1 NotFew)
+    × (and_as_4 (call Petition (list_of [] ∷ []) ∷ []) ≡ fails_at 1 NotFew)
     -- nor for what isn't a list that begins with a name
-    × (asked_by_4 (call Petition (list_of (i 1 ∷ []) ∷ []) ∷ []) ≡ fails_at 1 Unnamed)
+    × (and_as_4 (call Petition (list_of (i 1 ∷ []) ∷ []) ∷ []) ≡ fails_at 1 Unnamed)
 unfolding world_shown chain same_object same_text same_property folded rebuilt world_call batch_call
 petitions_worked = (refl, refl, refl, refl, refl)

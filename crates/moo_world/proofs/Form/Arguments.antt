@@ -3,36 +3,19 @@ use Rattle.moo_world.proofs.Words.{arith, ◌≡◌, Bool, true, List, [], ◌�
 use Rattle.moo_value.{specs.declared.value.Value.TheVariants.{List as a_list}, specs.Values.{no_values as no_more}}
 use Rattle.moo_value.specs.declared.value.TheConstants.{MAX_NESTING}
 
--- what was read passes a test, where something was
-abbrev passes : {A E : Type 0} → (A → Bool) → Result A E → Bool
-passes test (Ok a) = test a
-passes test other = true
-
 second : (a b rest : Bool) → (a && (b && rest)) ≡ true → b ≡ true
 second a b rest h = (and_parts b rest (and_parts a (b && rest) h).1).0
 
 third : (a b c rest : Bool) → (a && (b && (c && rest))) ≡ true → c ≡ true
 third a b c rest h = (and_parts c rest (and_parts b (c && rest) (and_parts a (b && (c && rest)) h).1).1).0
 
-abbrev set_value : Result (ObjNo × Name × Value) Code → Bool
-set_value r = passes (λ a. fits a.2) r
-
-abbrev new_value : Result (ObjNo × (Name × Value × Info)) Code → Bool
-new_value r = passes (λ a. fits a.1.1) r
-
-set_fits : (args : List Value) → list_all fits args ≡ true → set_value (object_text_and_value args) ≡ true
-set_fits args h = grind arith
-
-new_fits : (args : List Value) → list_all fits args ≡ true → new_value (new_property args) ≡ true
-new_fits args h = grind arith
-
 -- the value that `set` is given
 pub set_value_fits : (args : List Value) (a : ObjNo × Name × Value) → object_text_and_value args ≡ Ok a → list_all fits args ≡ true → fits a.2 ≡ true
-set_value_fits args a e h = sym (ap set_value e) ∙ set_fits args h
+set_value_fits args a e h = grind arith
 
 -- the value that `add_property` is given
 pub new_value_fits : (args : List Value) (a : ObjNo × (Name × Value × Info)) → new_property args ≡ Ok a → list_all fits args ≡ true → fits a.1.1 ≡ true
-new_value_fits args a e h = sym (ap new_value e) ∙ new_fits args h
+new_value_fits args a e h = grind arith
 
 -- ---- the values of a list
 
@@ -49,20 +32,14 @@ each_within l h = sym (within_spread l) ∙ (and_parts (nat_le (nesting (a_list 
 
 -- ---- accept lists
 
-abbrev numbered : Result (ObjNo × Option (List ObjNo)) Code → Bool
-numbered r = passes (λ a. list_all is_number (unwrap_or a.1 [])) r
-
 objects_numbered : (vs : List Value) → list_all is_within_limits vs ≡ true → unwrap_or (option_map (list_all is_number) (objects_among vs)) true ≡ true
 objects_numbered [] h = refl
 objects_numbered (Obj x ∷ vs) h = grind (arith, objects_numbered vs, and_parts)
 objects_numbered (v ∷ vs) h = refl
 
-accept_numbered : (args : List Value) → list_all fits args ≡ true → numbered (object_and_accept args) ≡ true
-accept_numbered args h = grind (arith, objects_numbered, each_within, second, fits)
-
 -- the list that `set_accept` is given
 pub accept_list_numbered : (args : List Value) (a : ObjNo × Option (List ObjNo)) → object_and_accept args ≡ Ok a → list_all fits args ≡ true → list_all is_number (unwrap_or a.1 []) ≡ true
-accept_list_numbered args a e h = sym (ap numbered e) ∙ accept_numbered args h
+accept_list_numbered args a e h = grind (arith, objects_numbered, each_within, second, fits)
 
 -- ---- verbs' names
 
@@ -72,30 +49,15 @@ names_texts o = unwrap_or (option_map (λ i. is_text i.1) o) true
 info_named : (vs : List Value) → list_all is_within_limits vs ≡ true → names_texts (verb_info_in vs) ≡ true
 info_named vs h = grind arith
 
-abbrev added : Result (ObjNo × ((Info × Name) × (Name × Name × Name))) Code → Bool
-added r = passes (λ a. is_text a.1.0.1) r
-
-abbrev renamed : Result (ObjNo × (Desc × (Info × Name))) Code → Bool
-renamed r = passes (λ a. is_text a.1.1.1) r
-
-added_named : (args : List Value) → list_all fits args ≡ true → added (new_verb args) ≡ true
-added_named args h = grind (arith, info_named, each_within, second, fits, both)
-
-renamed_named : (args : List Value) → list_all fits args ≡ true → renamed (new_verb_info args) ≡ true
-renamed_named args h = grind (arith, info_named, each_within, third, fits, both)
-
 -- the names that `add_verb` and `set_verb_info` are given
 pub new_verb_named : (args : List Value) (a : ObjNo × ((Info × Name) × (Name × Name × Name))) → new_verb args ≡ Ok a → list_all fits args ≡ true → is_text a.1.0.1 ≡ true
-new_verb_named args a e h = sym (ap added e) ∙ added_named args h
+new_verb_named args a e h = grind (arith, info_named, each_within, second, fits, both)
 
 pub new_verb_info_named : (args : List Value) (a : ObjNo × (Desc × (Info × Name))) → new_verb_info args ≡ Ok a → list_all fits args ≡ true → is_text a.1.1.1 ≡ true
-new_verb_info_named args a e h = sym (ap renamed e) ∙ renamed_named args h
+new_verb_info_named args a e h = grind (arith, info_named, each_within, third, fits, both)
 
 -- ---- fields
 
-field_allowed : (w : World) (x : ObjNo) (f : BuiltIn) (v : Value) → fits v ≡ true → passes (is_allowed_change w x) (change_of f v) ≡ true
-field_allowed w x f v h = grind arith
-
 -- what `set` changes of a field is allowed, where the value fits: it never is a place or an accept list
 pub change_allowed : (w : World) (x : ObjNo) (f : BuiltIn) (v : Value) (c : Change) → change_of f v ≡ Ok c → fits v ≡ true → is_allowed_change w x c ≡ true
-change_allowed w x f v c e h = sym (ap (passes (is_allowed_change w x)) e) ∙ field_allowed w x f v h
+change_allowed w x f v c e h = grind arith

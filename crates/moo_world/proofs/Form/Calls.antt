@@ -1,6 +1,6 @@
 -- What every call keeps, by one walk through the checks of each: the form of the world, and nobody's ownership changes by who is
 -- no wizard.
-use Rattle.moo_world.{proofs.Lemmas.{◌≡◌, ℕ, Bool, true, false, ◌||◌, List, [], ◌∷◌, ◌++◌, ◌+◌, arith, refl, sym, ◌∙◌, ap, ◌⊎◌, inl, inr, Option, Some, None, Result, Ok, not, nat_lt, list_all, same_Some, both_ways, or_cases, and_parts, ltb-true, ObjNo, Value, Bits, Clear, Reason, VerbRow, BuiltIn, Call, Change, CallName, Valid, Parent, Children, IsPlayer, Players, MaxObject, Get, Properties, PropertyInfo, IsClearProperty, Verbs, VerbInfo, VerbArgs, AcceptList, Create, Chparent, Recycle, Move, SetPlayerFlag, AddProperty, DeleteProperty, SetPropertyInfo, ClearProperty, AddVerb, DeleteVerb, SetVerbInfo, SetVerbArgs, SetAccept, Petition, Petitions, Grant, Decline, is_number, is_text, fits, new_property_info, clashes, info_set, next_object, owner_or_self, created, with_verbs, verb_added, CallsKeepForm, Name, nothing, same_object, folded, is_among, same_object-Decides, shares_property_name, Done, KeepsOwnership, NoWizardKeepsOwnership, name_by, name_given, name_after, change_of, may_set, defines_name, may_define, may_rename, renamed_to, recycled, is_wizard, may_be_parent, may_make_owner, named_call, world_call, World, Slot, IsWellFormed, is_object, owner_of, slot_of, chain, has_word, is_property_name, verb_fits, state_fits, IsWellFormed-with_slot_of, same_links, object_numbered, slot_owner, on_record, on_slot, unchanged, Holds, on_check, on_failed, objects_same, NoClash-from_meets, nothing_is_no_object, of_done, on_given, both_true}, specs.declared.name.CallName.TheVariants.{Set}, proofs.Form.Directories.{all_fit, added_fit, removed_fit, changed_fit, stays_formed}, proofs.Form.Fields.{IsWellFormed-field_changed, not_true}, proofs.Form.Arguments.{set_value_fits, new_value_fits, accept_list_numbered, new_verb_named, new_verb_info_named, change_allowed}, proofs.Form.Values.{set_formed, renamed_formed, clashes_same, defines_same}, proofs.Form.Quotas.{charged_formed, returned_formed}, proofs.Inheritance.Insertion.{IsWellFormed-property_added}, proofs.Ownership.Changed.{is_modest, by_field_change, by_charge, by_return, by_info, by_defining, by_renaming}, proofs.Ownership.Counted.{parent_known}, proofs.Ownership.Kept.{after}, proofs.Ownership.Rebuilt.{by_reparenting, by_recycling, by_undefining, by_creation}, proofs.Inheritance.Recycling.{IsWellFormed-recycled}, proofs.Inheritance.Reparenting.{IsWellFormed-reparented}, proofs.Inheritance.Shorter.{IsWellFormed-property_removed}}
+use Rattle.moo_world.{proofs.Lemmas.{◌≡◌, ℕ, Bool, true, false, ◌||◌, List, [], ◌∷◌, ◌++◌, ◌+◌, arith, refl, sym, ◌∙◌, ap, ◌⊎◌, inl, inr, Option, Some, None, Result, Ok, not, nat_lt, list_all, same_Some, both_ways, or_cases, and_parts, ltb-true, ObjNo, Value, Bits, Clear, Reason, VerbRow, BuiltIn, Call, Change, CallName, Valid, Parent, Children, IsPlayer, Players, MaxObject, Get, Properties, PropertyInfo, IsClearProperty, Verbs, VerbInfo, VerbArgs, AcceptList, Create, Chparent, Recycle, Move, SetPlayerFlag, AddProperty, DeleteProperty, SetPropertyInfo, ClearProperty, AddVerb, DeleteVerb, SetVerbInfo, SetVerbArgs, SetAccept, Petition, Petitions, Grant, Decline, is_number, is_text, fits, new_property_info, clashes, info_set, next_object, owner_or_self, created, with_verbs, verb_added, CallsKeepForm, Name, nothing, same_object, folded, is_among, same_object-Decides, shares_property_name, Done, KeepsOwnership, NoWizardKeepsOwnership, name_by, name_given, name_after, change_of, may_set, defines_name, may_define, may_rename, renamed_to, recycled, is_wizard, may_be_parent, may_make_owner, named_call, world_call, World, Slot, IsWellFormed, is_object, owner_of, slot_of, chain, has_word, is_property_name, verb_fits, state_fits, IsWellFormed-with_slot_of, same_links, object_numbered, slot_owner, on_record, on_slot, unchanged, Holds, on_check, on_failed, objects_same, NoClash-from_meets, known_is, nothing_is_no_object, of_done, on_given, both_true}, specs.declared.name.CallName.TheVariants.{Set}, proofs.Form.Directories.{all_fit, added_fit, removed_fit, changed_fit, stays_formed}, proofs.Form.Fields.{IsWellFormed-field_changed, not_true}, proofs.Form.Arguments.{set_value_fits, new_value_fits, accept_list_numbered, new_verb_named, new_verb_info_named, change_allowed}, proofs.Form.Values.{set_formed, renamed_formed, clashes_same, defines_same}, proofs.Form.Quotas.{charged_formed, returned_formed}, proofs.Inheritance.Insertion.{IsWellFormed-property_added}, proofs.Ownership.Changed.{is_modest, by_field_change, by_charge, by_return, by_info, by_defining, by_renaming}, proofs.Ownership.Counted.{parent_known}, proofs.Ownership.Kept.{after}, proofs.Ownership.Rebuilt.{by_reparenting, by_recycling, by_undefining, by_creation}, proofs.Inheritance.Recycling.{IsWellFormed-recycled}, proofs.Inheritance.Reparenting.{IsWellFormed-reparented}, proofs.Inheritance.Shorter.{IsWellFormed-property_removed}}
 use Rattle.std.specs.List.{remove}
 use Rattle.moo_world.specs.Changes.{value_set, cleared, property_added, property_removed}
 use Rattle.moo_world.specs.Directories.{verb_removed, verb_info_set, verb_args_set}
@@ -10,14 +10,6 @@ use Rattle.moo_world.specs.World.{reparented}
 use Rattle.moo_rows.specs.declared.row.{ArgSpec.{ArgSpec}, VerbBits.{VerbBits}}
 use Rattle.moo_world.proofs.Form.Passing.{each_check}
 use Rattle.moo_rows.{specs.declared.row.SlotState.TheVariants.{Set as a_value}}
-
--- what is allowed without the wizard bit is modest
-abbrev modest_read : Result Change Reason → Bool
-modest_read (Ok c) = is_modest c
-modest_read other = true
-
-modest_if : (w : World) (p x : ObjNo) (f : BuiltIn) (v : Value) → is_wizard w p ≡ false → may_set w p x f ≡ true → modest_read (change_of f v) ≡ true
-modest_if w p x f v none may = grind arith
 
 -- what a call keeps: the form of the world, where all that it is given fits; and where the programmer is no wizard nobody's
 -- ownership changes, by the names that slots have afterwards. A further law of all calls is a further field.
@@ -35,9 +27,6 @@ module _ (w : World) (p : ObjNo) (values : List Value) (wf : IsWellFormed w) (po
   -- a call that only reads
   same : Passes w
   same = record { form = λ fit. wf; ownership = λ none. unchanged w p }
-
-  known : (q : ObjNo) → (is_object w q || same_object nothing q) ≡ true → (is_object w q ≡ true) ⊎ (q ≡ nothing)
-  known q h = elim (or_cases (is_object w q) (same_object nothing q) h) [ inl e ↦ inl e | inr e ↦ inr (sym ((same_object-Decides nothing q).0 e)) ]
 
   -- what holds or is a wizard's holds
   no_wizard : is_wizard w p ≡ false → (b : Bool) → (b || is_wizard w p) ≡ true → b ≡ true
@@ -63,7 +52,7 @@ module _ (w : World) (p : ObjNo) (values : List Value) (wf : IsWellFormed w) (po
   moved_under x q xo there outside apart =
       let above = not_true (is_among x (chain w q)) outside in
       let free = NoClash-from_meets w wf.tree x q (not_true (shares_property_name w x q) apart) in
-      record { form = λ fit. IsWellFormed-reparented w x q wf xo (known q there) above free; ownership = λ none. by_reparenting w wf p x q xo (known q there) above free }
+      record { form = λ fit. IsWellFormed-reparented w x q wf xo (known_is w q there) above free; ownership = λ none. by_reparenting w wf p x q xo (known_is w q there) above free }
 
   gone : (x : ObjNo) → is_object w x ≡ true → Passes (quota_returned (recycled w x) (owner_of w x))
   gone x xo = record {
@@ -81,7 +70,7 @@ module _ (w : World) (p : ObjNo) (values : List Value) (wf : IsWellFormed w) (po
   -- ---- properties
 
   built_in_modest : (x : ObjNo) (f : BuiltIn) (v : Value) (c : Change) → change_of f v ≡ Ok c → may_set w p x f ≡ true → is_wizard w p ≡ false → is_modest c ≡ true
-  built_in_modest x f v c e may none = sym (ap modest_read e) ∙ modest_if w p x f v none may
+  built_in_modest x f v c e may none = grind arith
 
   with_value : (x : ObjNo) (n : Name) (v : Value) → (Fit → fits v ≡ true) → Passes (value_set w x n v)
   with_value x n v good = record {
@@ -173,20 +162,6 @@ module _ (w : World) (p : ObjNo) (values : List Value) (wf : IsWellFormed w) (po
   -- ---- by name: the checks are walked, and those that what is left needs are found among the facts
 
   named_kept : (name : CallName) → Holds (λ v next. CallKeeps w p values (λ y n. elim name [ SetPropertyInfo ↦ name_by w (new_property_info values) y n | _ ↦ n ]) next) (named_call w p name values)
-  named_kept Valid = search (each_check, same)
-  named_kept Parent = search (each_check, same)
-  named_kept Children = search (each_check, same)
-  named_kept IsPlayer = search (each_check, same)
-  named_kept Players = search (each_check, same)
-  named_kept MaxObject = search (each_check, same)
-  named_kept Get = search (each_check, same) depth 9
-  named_kept Properties = search (each_check, same) depth 9
-  named_kept PropertyInfo = search (each_check, same) depth 9
-  named_kept IsClearProperty = search (each_check, same) depth 9
-  named_kept Verbs = search (each_check, same) depth 9
-  named_kept VerbInfo = search (each_check, same) depth 9
-  named_kept VerbArgs = search (each_check, same) depth 9
-  named_kept AcceptList = search (each_check, same)
   named_kept Create = search (each_check, made) depth 12
   named_kept Chparent = search (each_check, moved_under) depth 12
   named_kept Recycle = search (each_check, gone) depth 12
@@ -202,10 +177,7 @@ module _ (w : World) (p : ObjNo) (values : List Value) (wf : IsWellFormed w) (po
   named_kept SetVerbInfo = search (each_check, with_verb_info, new_verb_info_named) depth 15
   named_kept SetVerbArgs = search (each_check, with_verb_args) depth 12
   named_kept SetAccept = search (each_check, with_field, both_true, accept_list_numbered) depth 12
-  named_kept Petition = on_failed _ _
-  named_kept Petitions = on_failed _ _
-  named_kept Grant = on_failed _ _
-  named_kept Decline = on_failed _ _
+  named_kept _ = search (each_check, same) depth 9
 
 calls_keep : (w next : World) (p : ObjNo) (call : Call) (v : Value) → IsWellFormed w → world_call w p call ≡ Done v next → CallKeeps w p call.args (name_after w call) next
 unfolding world_call

@@ -15,8 +15,7 @@ pub added_fit : (row : VerbRow) → verb_fits row ≡ true → (verbs : List Ver
 added_fit row h verbs e = list_all-append verb_fits verbs (row ∷ []) ∙ both_true e (both_true h refl)
 
 pub removed_fit : (place : ℕ) (verbs : List VerbRow) → all_fit verbs ≡ true → all_fit (remove verbs place) ≡ true
-removed_fit zero [] e = refl
-removed_fit (suc place) [] e = refl
+removed_fit place [] e = refl
 removed_fit zero (v ∷ verbs) e = (and_parts (verb_fits v) (all_fit verbs) e).1
 removed_fit (suc place) (v ∷ verbs) e = let parts = and_parts (verb_fits v) (all_fit verbs) e in both_true parts.0 (removed_fit place verbs parts.1)
 

@@ -1,5 +1,5 @@
 -- An allowed change of one field of an object keeps the world well formed.
-use Rattle.moo_world.{proofs.Lemmas.{arith, ◌≡◌, Bool, true, false, refl, sym, ◌∙◌, subst, ◌⊎◌, inl, inr, List, [], Option, Some, not, ◌&&◌, ◌||◌, and_parts, or_cases, ObjNo, ObjRow, Change, is_number, is_text, Name, nothing, same_object, same_object-Decides, World, IsTree, IsWellFormed, LocationChain, is_object, location_of, location_chain, accept_fits, row_fits, is_within, changed, with_row, field_changed, is_allowed_change, IsWellFormed-same_shape, both_true}, specs.declared.change.Change.TheVariants.{Owner, Location, Player, Programmer, Wizard, Readable, Writable, Fertile, Accept}, proofs.Ancestry.Locations.{places_is, LocationChain-location_chain}, proofs.Form.Rows.{same_objects, SameShape-with_row, same_directories, same_places, fitting_rows}, proofs.Ancestry.Redirected.{redirected}}
+use Rattle.moo_world.{proofs.Lemmas.{arith, ◌≡◌, Bool, true, false, refl, sym, ◌∙◌, subst, ◌⊎◌, inl, inr, List, [], Option, Some, not, ◌&&◌, ◌||◌, and_parts, or_cases, ObjNo, ObjRow, Change, is_number, is_text, Name, nothing, same_object, same_object-Decides, World, IsTree, IsWellFormed, LocationChain, is_object, location_of, location_chain, accept_fits, row_fits, is_within, changed, with_row, field_changed, is_allowed_change, IsWellFormed-same_shape, both_true, known_is}, specs.declared.change.Change.TheVariants.{Owner, Location, Accept}, proofs.Ancestry.Locations.{places_is, LocationChain-location_chain}, proofs.Form.Rows.{same_objects, SameShape-with_row, same_directories, same_places, fitting_rows}, proofs.Ancestry.Chains.{redirected}}
 use Rattle.moo_world.specs.declared.change.Change.TheVariants as to
 
 -- a change that keeps an object's parent and its place
@@ -8,26 +8,15 @@ plain w x change parent location fits wf =
     IsWellFormed-same_shape w (with_row w x change) (SameShape-with_row w x change parent) wf (same_places w x change location wf)
     (fitting_rows w x change fits wf) wf.limits.verbs (same_directories w x change wf)
 
--- ---- a name, an owner and an accept list
-
-named : (name : Name) (r : ObjRow) → is_text name ≡ true → row_fits r ≡ true → row_fits (changed (to.Name name) r) ≡ true
-named name r text e = both_true text (and_parts (is_text r.name) (is_number r.owner && accept_fits r.accept) e).1
-
-owned : (owner : ObjNo) (r : ObjRow) → is_number owner ≡ true → row_fits r ≡ true → row_fits (changed (Owner owner) r) ≡ true
-owned owner r number e = grind arith
-
-listed : (list : Option (List ObjNo)) (r : ObjRow) → accept_fits list ≡ true → row_fits r ≡ true → row_fits (changed (Accept list) r) ≡ true
-listed list r fits e = grind arith
-
 -- ---- a place
 
 -- an object, or nothing, has its list of locations
 has_places : (w : World) → IsTree w → (q : ObjNo) → (is_object w q || same_object nothing q) ≡ true → LocationChain w q (location_chain w q)
-has_places w t q e = by (or_cases (is_object w q) (same_object nothing q) e)
+has_places w t q e = by (known_is w q e)
   where
-    by : (is_object w q ≡ true) ⊎ (same_object nothing q ≡ true) → LocationChain w q (location_chain w q)
+    by : (is_object w q ≡ true) ⊎ (q ≡ nothing) → LocationChain w q (location_chain w q)
     by (inl h) = LocationChain-location_chain w t q h
-    by (inr h) = subst (λ k. LocationChain w k (location_chain w k)) ((same_object-Decides nothing q).0 h) (subst (LocationChain w nothing) (sym (places_is w t nothing [] refl)) refl)
+    by (inr h) = subst (LocationChain w q) (sym (places_is w t q [] h)) h
 
 module _ (w : World) (x to : ObjNo) (there : is_object w x ≡ true) (valid_to : (is_object w to || same_object nothing to) ≡ true) (outside : is_within w to x ≡ false) (wf : IsWellFormed w) where
   abbrev v : World
@@ -42,7 +31,7 @@ module _ (w : World) (x to : ObjNo) (there : is_object w x ≡ true) (valid_to :
   placed : IsWellFormed v
   placed =
       IsWellFormed-same_shape w v (SameShape-with_row w x (changed (Location to)) (λ r. refl)) wf
-      (λ y e. let p = wf.tree.locations y (sym (same_objects w x (changed (Location to)) y) ∙ e) in redirected (location_of w) (location_of v) x to other here (location_chain w to) (has_places w wf.tree to valid_to) outside p.0 y p.1)
+      (λ y e. let p = wf.tree.locations y (sym (same_objects w x (changed (Location to)) y) ∙ e) in redirected (location_of w) (location_of v) x other to here (location_chain w to) (has_places w wf.tree to valid_to) outside p.0 y p.1)
       (fitting_rows w x (changed (Location to)) (λ r e. e) wf) wf.limits.verbs (same_directories w x (changed (Location to)) wf)
 
 -- ---- any field
@@ -55,12 +44,7 @@ pub IsWellFormed-field_changed : (w : World) (x : ObjNo) (change : Change) → i
 IsWellFormed-field_changed w x (Location to) there allowed wf =
     let parts = and_parts (is_object w to || same_object nothing to) (not (is_within w to x)) allowed in
     placed w x to there parts.0 (not_true (is_within w to x) parts.1) wf
-IsWellFormed-field_changed w x (Accept list) there allowed wf = plain w x (changed (Accept list)) (λ r. refl) (λ r. refl) (λ r e. listed list r allowed e) wf
-IsWellFormed-field_changed w x (to.Name name) there allowed wf = plain w x (changed (to.Name name)) (λ r. refl) (λ r. refl) (λ r e. named name r allowed e) wf
-IsWellFormed-field_changed w x (Owner owner) there allowed wf = plain w x (changed (Owner owner)) (λ r. refl) (λ r. refl) (λ r e. owned owner r allowed e) wf
-IsWellFormed-field_changed w x (Player on) there allowed wf = plain w x (changed (Player on)) (λ r. refl) (λ r. refl) (λ r e. e) wf
-IsWellFormed-field_changed w x (Programmer on) there allowed wf = plain w x (changed (Programmer on)) (λ r. refl) (λ r. refl) (λ r e. e) wf
-IsWellFormed-field_changed w x (Wizard on) there allowed wf = plain w x (changed (Wizard on)) (λ r. refl) (λ r. refl) (λ r e. e) wf
-IsWellFormed-field_changed w x (Readable on) there allowed wf = plain w x (changed (Readable on)) (λ r. refl) (λ r. refl) (λ r e. e) wf
-IsWellFormed-field_changed w x (Writable on) there allowed wf = plain w x (changed (Writable on)) (λ r. refl) (λ r. refl) (λ r e. e) wf
-IsWellFormed-field_changed w x (Fertile on) there allowed wf = plain w x (changed (Fertile on)) (λ r. refl) (λ r. refl) (λ r e. e) wf
+IsWellFormed-field_changed w x (Accept list) there allowed wf = plain w x (changed (Accept list)) (λ r. refl) (λ r. refl) (λ r e. grind arith) wf
+IsWellFormed-field_changed w x (to.Name name) there allowed wf = plain w x (changed (to.Name name)) (λ r. refl) (λ r. refl) (λ r e. both_true allowed (and_parts (is_text r.name) (is_number r.owner && accept_fits r.accept) e).1) wf
+IsWellFormed-field_changed w x (Owner owner) there allowed wf = plain w x (changed (Owner owner)) (λ r. refl) (λ r. refl) (λ r e. grind arith) wf
+IsWellFormed-field_changed w x change there allowed wf = plain w x (changed change) (λ r. refl) (λ r. refl) (λ r e. e) wf

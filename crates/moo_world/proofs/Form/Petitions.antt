@@ -32,15 +32,8 @@ held_args_fit (a_list vs) call e h = by (spread vs) e (spread_fits vs h)
       where
         found : (o : Option CallName) → option_and_then (λ n. if is_some (petition_call n) then None else Some (record { name = n; args = args })) o ≡ Some call → list_all fits args ≡ true → arguments_fit call ≡ true
         found o e h = grind arith
-    by [] e h = absurd (none-some call e)
-    by (Int n ∷ args) e h = absurd (none-some call e)
-    by (Obj x ∷ args) e h = absurd (none-some call e)
-    by (Error c ∷ args) e h = absurd (none-some call e)
-    by (a_list l ∷ args) e h = absurd (none-some call e)
-held_args_fit (Int n) call e h = absurd (none-some call e)
-held_args_fit (Obj x) call e h = absurd (none-some call e)
-held_args_fit (Str s) call e h = absurd (none-some call e)
-held_args_fit (Error c) call e h = absurd (none-some call e)
+    by other e h = absurd (none-some call e)
+held_args_fit other call e h = absurd (none-some call e)
 
 -- ---- the calls of a petition that is granted
 

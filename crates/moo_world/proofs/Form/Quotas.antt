@@ -1,6 +1,5 @@
 -- Quotas are moved within 64 bits, so that the world stays well formed.
 use Rattle.moo_world.{proofs.Lemmas.{◌≡◌, Bool, true, false, ◌||◌, List, [], ◌∷◌, refl, sym, ◌∙◌, ap, subst, Option, Some, None, ℤ, pos, negsuc, arith, ◌+ℤ◌, int_lt, nat_le, unwrap_or, if◌then◌else◌, option_map, or_cases, and_parts, none-some, same_Some, ObjNo, Value, Int, Obj, Str, Error, nesting, SlotState, Clear, Set, fits, is_integer, is_number, next_object, owner_or_self, created, Name, nothing, same_object, folded, quota_name, quota_in, quota_of, quota_changed, may_afford, charged, quota_returned, set_slot, World, Slot, IsWellFormed, is_object, slot_of, chain, read_in, read_along, read_of, object_changed, state_fits, known_numbered}, proofs.Form.Values.{set_formed}, proofs.Ownership.Created.{formed, new_numbered, read_old}}
-use Rattle.moo_value.specs.declared.value.Value.TheVariants.{List as a_list}
 use Rattle.moo_value.specs.declared.value.TheConstants.{MAX_NESTING}
 
 -- ---- what is read
@@ -24,11 +23,7 @@ quota_fits w wf o k e = by (read_of w o quota_name) refl e
   where
     by : (r : Option Value) → read_of w o quota_name ≡ r → quota_in r ≡ Some k → is_integer k ≡ true
     by (Some (Int n)) h f = ap is_integer (sym (same_Some n k f)) ∙ (and_parts (nat_le (nesting (Int n)) MAX_NESTING) (is_integer n) (read_fits w wf quota_name (chain w o) (Int n) h)).1
-    by (Some (Obj x)) h f = absurd (none-some k f)
-    by (Some (Str s)) h f = absurd (none-some k f)
-    by (Some (Error c)) h f = absurd (none-some k f)
-    by (Some (a_list l)) h f = absurd (none-some k f)
-    by None h f = absurd (none-some k f)
+    by other h f = absurd (none-some k f)
 
 -- ---- what is moved
 
@@ -54,11 +49,7 @@ pub charged_formed : (w : World) → IsWellFormed w → (x q owner : ObjNo) → 
 charged_formed w wf x q owner is_next parent known can = by (same_object nothing owner) refl
   where
     owner_numbered : is_number (owner_or_self x owner) ≡ true
-    owner_numbered = by (same_object nothing owner)
-      where
-        by : (b : Bool) → is_number (if b then x else owner) ≡ true
-        by true = new_numbered w x q owner wf is_next parent
-        by false = known_numbered w wf owner known
+    owner_numbered = grind (arith, new_numbered w x q owner wf is_next parent, known_numbered w wf owner known)
 
     made : IsWellFormed (created w x q (owner_or_self x owner))
     made = formed w x q (owner_or_self x owner) wf is_next parent owner_numbered

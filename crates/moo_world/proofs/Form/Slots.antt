@@ -1,33 +1,5 @@
 -- A changed slot keeps the world well formed.
-use Rattle.moo_world.{proofs.Words.{arith, ◌≡◌, ◌≢◌, Bool, true, false, refl, sym, ◌∙◌, ap, subst, Option, Some, None, ◌&&◌, ◌≤ℤ◌, if◌then◌else◌, option_map, and_parts, none-some, same_Some, ObjNo, Clear, Name, Property, same_object, same_text, folded, same_object-Decides, same_text-Decides, World, WorldObject, Slot, IsTree, IsWellFormed, Climbs, NamesDiffer, is_object, location_of, slot_of, property_named, with_slots, KeepsLimits, SameButSlots, slot_fits, with_slot_of}, proofs.Inheritance.Rebuilding.{parents_same, objects_same, owed_same, Chain-same}}
-
--- worlds that differ in slots alone are well formed alike, where the slots have the same definers and those on them are set
-module _ (v w : World) (same : SameButSlots v w) (wf : IsWellFormed w) (definers : (y : ObjNo) (n : Name) → option_map (λ s. s.definer) (slot_of v y n) ≡ option_map (λ s. s.definer) (slot_of w y n)) (set : (y : ObjNo) (n : Name) (s : Slot) → slot_of v y n ≡ Some s → s.definer ≡ y → s.state ≢ Clear) (fit : (y : ObjNo) (n : Name) (s : Slot) → slot_of v y n ≡ Some s → slot_fits s ≡ true) where
-  location_same : location_of v ≡ location_of w
-  location_same = (λ i x. sym (bare (v.object x)) i) ∙ ap location_of same ∙ (λ i x. bare (w.object x) i)
-    where
-      bare : (o : Option WorldObject) → option_map (λ k. k.row.location) (option_map (with_slots (λ n. None)) o) ≡ option_map (λ k. k.row.location) o
-      bare o = grind arith
-
-  back : (x : ObjNo) → is_object v x ≡ true → is_object w x ≡ true
-  back x o = sym (objects_same v w same x) ∙ o
-
-  IsTree-alike : IsTree v
-  IsTree-alike = record {
-    numbers = λ x o. let h = wf.tree.numbers x (back x o) in (h.0, subst (λ t. x.0 ≤ℤ t) (sym (ap (λ (k : World). k.top) same)) h.1);
-    chains = λ x o. let c = wf.tree.chains x (back x o) in (c.0, subst (λ link. Climbs link x c.0) (sym (parents_same v w same)) c.1);
-    locations = λ x o. let c = wf.tree.locations x (back x o) in (c.0, subst (λ link. Climbs link x c.0) (sym location_same) c.1);
-  }
-
-  pub formed_alike : IsWellFormed v
-  formed_alike = record {
-    tree = IsTree-alike;
-    names = λ x l c. subst NamesDiffer (sym (owed_same v w same l)) (wf.names x l (Chain-same v w same x l c));
-    slots = λ x l n o c. definers x n ∙ wf.slots x l n (back x o) (Chain-same v w same x l c) ∙ ap (λ k. option_map (λ (p : Property). p.0) (property_named k n)) (sym (owed_same v w same l));
-    set = set;
-    fit = fit;
-    limits = subst KeepsLimits (sym same) wf.limits;
-  }
+use Rattle.moo_world.{proofs.Words.{arith, ◌≡◌, ◌≢◌, Bool, true, false, refl, sym, ◌∙◌, ap, subst, Option, Some, None, ◌&&◌, ◌≤ℤ◌, if◌then◌else◌, option_map, and_parts, none-some, same_Some, ObjNo, Clear, Name, Property, same_object, same_text, folded, same_object-Decides, same_text-Decides, World, Slot, IsWellFormed, slot_of, SameButSlots, slot_fits, with_slot_of}, proofs.Inheritance.Rebuilding.{formed_from}}
 
 module _ (w : World) (x : ObjNo) (n : Name) (change : Slot → Slot) where
   abbrev v : World
@@ -67,4 +39,4 @@ module _ (w : World) (x : ObjNo) (n : Name) (change : Slot → Slot) where
         by b o g k = grind arith
 
     pub IsWellFormed-with_slot_of : IsWellFormed v
-    IsWellFormed-with_slot_of = formed_alike v w same_links wf definers set_still fit_still
+    IsWellFormed-with_slot_of = formed_from v w same_links wf.tree wf.names (λ y l m o c. definers y m ∙ wf.slots y l m o c) set_still fit_still wf.limits

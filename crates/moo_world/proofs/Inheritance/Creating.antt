@@ -73,12 +73,8 @@ module _ (w : World) (x q owner : ObjNo) (wf : IsWellFormed w) (free : is_object
     | inr h ↦ subst (λ l. NamesDiffer (defined_by_any w l)) (sym (chain_other y h)) (wf.names y (chain w y) (Chain-chain w wf.tree y h))
   ]
 
-  differ : (y : ObjNo) (l : List ObjNo) → Chain s y l → NamesDiffer (defined_by_any s l)
-  unfolding IsDistinct
-  differ y [] c = tt
-  differ y (z ∷ l) c =
-      let o : is_object s y ≡ true = linked (s.object y) (λ r. r.row.parent) c.1 c.2 in
-      subst NamesDiffer (sym (owed_still (z ∷ l))) (subst (λ m. NamesDiffer (defined_by_any w m)) (chain_is s IsTree-with y (z ∷ l) c) (differ_at y o))
+  differ : (y : ObjNo) → is_object s y ≡ true → NamesDiffer (defined_by_any s (chain s y))
+  differ y o = subst NamesDiffer (sym (owed_still (chain s y))) (differ_at y o)
 
   new_slot : (y : ObjNo) (n : Name) (p : Property) → is_object s y ≡ true → property_named (defined_by_any s (chain s y)) n ≡ Some p → has_property w y p ≡ false → option_map (λ k. k.definer) (slot_of w q n) ≡ Some p.0
   new_slot y n p o e h = by (which y o)

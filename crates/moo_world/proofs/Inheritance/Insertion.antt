@@ -1,5 +1,7 @@
 -- A property added to a well formed world.
-use Rattle.moo_world.proofs.Lemmas.{◌≡◌, ◌≢◌, ◌<◌, Bool, true, false, cond, ◌||◌, Option, None, Some, List, [], ◌∷◌, ◌++◌, map, refl, sym, ap, ◌∙◌, subst, ◌⊎◌, inl, inr, append_assoc, arith, is_some, if◌then◌else◌, option_map, option_and_then, list_any, list_all, IsDistinct, AllByRecursion, false≢true, or_parts, list_all-append, none-some, ObjNo, Clear, clashes, property_added, subtree_of, objects_of, Name, Property, same_object, same_text, same_property, folded, is_among, same_object-Decides, same_text-Decides, World, WorldObject, Slot, IsTree, IsWellFormed, Climbs, Chain, NamesDiffer, is_object, parent_of, chain, property_names_of, defined_by, defined_by_any, property_named, slot_of, fresh, is_property_name, slot_fits, Climbs-once, named_owed, named_so, definer_among, some_named, among_filter, object_listed, owed_listed, chain_is, chain_of_none, no_parent, parents_alike, objects_alike, tree_alike, limits_alike, names_fit}
+use Rattle.moo_world.{proofs.Lemmas.{◌≡◌, ◌≢◌, ◌<◌, Bool, true, false, cond, ◌||◌, Option, None, Some, List, [], ◌∷◌, ◌++◌, map, refl, sym, ap, ◌∙◌, subst, ◌⊎◌, inl, inr, append_assoc, arith, is_some, if◌then◌else◌, option_map, option_and_then, list_any, list_all, IsDistinct, AllByRecursion, false≢true, or_parts, list_all-append, none-some, ObjNo, Clear, clashes, property_added, subtree_of, objects_of, Name, Property, same_object, same_text, same_property, folded, is_among, same_object-Decides, same_text-Decides, World, WorldObject, Slot, IsTree, IsWellFormed, Climbs, Chain, NamesDiffer, is_object, parent_of, chain, property_names_of, defined_by, defined_by_any, property_named, slot_of, fresh, is_property_name, slot_fits, Climbs-once, named_owed, named_so, definer_among, some_named, among_filter, object_listed, owed_listed, chain_is, chain_of_none, no_parent, parents_alike, objects_alike, tree_alike, limits_alike, names_fit, object_of_chain}, proofs.Shown.PairLists.{all_join, all_left, all_right, none_of}}
+use Rattle.std.proofs.lemmas.List.{map-append}
+pub use Rattle.moo_world.proofs.Shown.PairLists.{some_of as some_record}
 
 -- ---- lists of pairs
 
@@ -19,13 +21,11 @@ apart p [] ys none d = (first ys none, d)
     first (y ∷ ys) e = grind (arith, first ys, same_text, same_text-Decides)
 apart p (x ∷ xs) ys none d = by (same_text (folded x.1) (folded p.1)) refl none (λ k. apart p xs ys k d.1)
   where
-    also : (l : List Property) → same_text (folded x.1) (folded p.1) ≡ false → AllByRecursion (λ y. same_text (folded x.1) (folded y.1) ≡ false) (l ++ ys) → AllByRecursion (λ y. same_text (folded x.1) (folded y.1) ≡ false) (l ++ (p ∷ ys))
-    also [] e a = (e, a)
-    also (y ∷ l) e a = (a.0, also l e a.1)
-
     by : (b : Bool) → same_text (folded x.1) (folded p.1) ≡ b → cond b (Some x) (property_named (xs ++ ys) (folded p.1)) ≡ None → (property_named (xs ++ ys) (folded p.1) ≡ None → NamesDiffer (xs ++ (p ∷ ys))) → NamesDiffer ((x ∷ xs) ++ (p ∷ ys))
     by true e k r = absurd (none-some x (sym k))
-    by false e k r = (also xs e d.0, r k)
+    by false e k r =
+        let differs = λ (y : Property). same_text (folded x.1) (folded y.1) ≡ false in
+        (all_join differs xs (p ∷ ys) (all_left differs xs ys d.0) (e, all_right differs xs ys d.0), r k)
 
 named : (p : Property) (n : Name) (xs ys : List Property) → property_named (xs ++ ys) (folded p.1) ≡ None → property_named (xs ++ (p ∷ ys)) n ≡ (if same_text (folded p.1) n then Some p else property_named (xs ++ ys) n)
 named p n [] ys none = grind (arith, same_text)
@@ -64,8 +64,24 @@ comparable w t (z ∷ l) y d x c h k = by (same_object d z) refl (same_object x 
     by false e true f u v r = inl (ap (is_among d) (whole x f) ∙ h)
     by false e false f u v r = r u v
 
-pub some_record : (o : Option WorldObject) → is_some o ≡ true → (r : WorldObject) × (o ≡ Some r)
-some_record o e = grind arith
+-- where x alone defines something else, what is owed to a chain without x is as it was, and what is owed to one with x is changed in one place
+module _ (w v : World) (tree : IsTree w) (x : ObjNo) (other : (y : ObjNo) → same_object x y ≡ false → defined_by v y ≡ defined_by w y) where
+  pub owed_beside : (l : List ObjNo) → is_among x l ≡ false → defined_by_any v l ≡ defined_by_any w l
+  owed_beside [] h = refl
+  owed_beside (z ∷ l) h = grind (arith, owed_beside l, or_parts, other)
+
+  module _ (R : List Property → List Property → Type 0) (more : (d a b : List Property) → R a b → R (d ++ a) (d ++ b)) (here : (l : List Property) → R (defined_by w x ++ l) (defined_by v x ++ l)) where
+    pub owed_with : (y : ObjNo) (l : List ObjNo) → Chain w y l → is_among x l ≡ true → R (defined_by_any w l) (defined_by_any v l)
+    owed_with y [] c h = absurd (false≢true h)
+    owed_with y (z ∷ l) c h = by (same_object x z) refl h (owed_with c.1 l c.3)
+      where
+        by : (b : Bool) → same_object x z ≡ b → (b || is_among x l) ≡ true → (is_among x l ≡ true → R (defined_by_any w l) (defined_by_any v l)) → R (defined_by_any w (z ∷ l)) (defined_by_any v (z ∷ l))
+        by false e k r = subst (λ d. R (defined_by w z ++ defined_by_any w l) (d ++ defined_by_any v l)) (sym (other z e)) (more (defined_by w z) (defined_by_any w l) (defined_by_any v l) (r k))
+        by true e k r =
+            let own : x ≡ z = (same_object-Decides x z).0 e in
+            let once : is_among x l ≡ false = subst (λ u. is_among u l ≡ false) (c.0 ∙ sym own) (Climbs-once (parent_of w) (no_parent w tree) l y z c) in
+            subst (λ u. R (defined_by w u ++ defined_by_any w l) (defined_by v u ++ defined_by_any v l)) own
+            (subst (λ d. R (defined_by w x ++ defined_by_any w l) (defined_by v x ++ d)) (sym (owed_beside l once)) (here (defined_by_any w l)))
 
 module _ (w : World) (wf : IsWellFormed w) (x : ObjNo) (name : Name) (s : Slot) (xo : is_object w x ≡ true) (free : clashes w x name ≡ false) where
   abbrev pub v : World
@@ -78,9 +94,6 @@ module _ (w : World) (wf : IsWellFormed w) (x : ObjNo) (name : Name) (s : Slot) 
       apart_both : (is_some (property_named (defined_by_any w (chain w x)) (folded name)) ≡ false) × (is_some (property_named (defined_by_any w (subtree_of w x)) (folded name)) ≡ false)
       apart_both = or_parts _ _ free
 
-      none : (o : Option Property) → is_some o ≡ false → o ≡ None
-      none o e = grind arith
-
       by : (o : Option Property) → property_named (defined_by_any w l) (folded name) ≡ o → o ≡ None
       by None e = refl
       by (Some p) e = absurd (clash (comparable w wf.tree l y p.0 x c own.0 u))
@@ -92,21 +105,11 @@ module _ (w : World) (wf : IsWellFormed w) (x : ObjNo) (name : Name) (s : Slot) 
           called = named_so (defined_by_any w l) (folded name) p e
 
           hit : (k : List ObjNo) → is_among p.0 k ≡ true → is_some (property_named (defined_by_any w k) (folded name)) ≡ false → ⊥
-          hit k h g = some_named (defined_by_any w k) p (owed_listed w k p.0 p h own.1) (ap (property_named (defined_by_any w k)) called ∙ none _ g)
-
-          there : is_among x (chain w p.0) ≡ true → is_object w p.0 ≡ true
-          there h = decide (is_object w p.0) refl
-            where
-              decide : (b : Bool) → is_object w p.0 ≡ b → b ≡ true
-              decide true g = refl
-              decide false g = absurd (false≢true (sym (ap (is_among x) (chain_of_none w p.0 g)) ∙ h))
+          hit k h g = some_named (defined_by_any w k) p (owed_listed w k p.0 p h own.1) (ap (property_named (defined_by_any w k)) called ∙ none_of _ g)
 
           clash : (is_among p.0 (chain w x) ≡ true) ⊎ (is_among x (chain w p.0) ≡ true) → ⊥
           clash (inl h) = hit (chain w x) h apart_both.0
-          clash (inr h) = hit (subtree_of w x) (among_filter (λ y. is_among x (chain w y)) (objects_of w) p.0 (object_listed w wf.tree p.0 (there h)) h) apart_both.1
-
-  abbrev under : ObjNo → Bool
-  under y = is_among x (chain w y)
+          clash (inr h) = hit (subtree_of w x) (among_filter (λ y. is_among x (chain w y)) (objects_of w) p.0 (object_listed w wf.tree p.0 (object_of_chain w x p.0 h)) h) apart_both.1
 
   abbrev new_record : ObjNo → WorldObject → WorldObject
   new_record y r = record r {
@@ -116,14 +119,8 @@ module _ (w : World) (wf : IsWellFormed w) (x : ObjNo) (name : Name) (s : Slot) 
 
   -- ---- what is as it was
 
-  parents : parent_of v ≡ parent_of w
-  parents = parents_alike w v new_record (λ y. refl) (λ y r. refl)
-
-  objects : (y : ObjNo) → is_object v y ≡ is_object w y
-  objects = objects_alike w v new_record (λ y. refl) (λ y r. refl)
-
   back : (y : ObjNo) (l : List ObjNo) → Chain v y l → Chain w y l
-  back y l c = subst (λ link. Climbs link y l) parents c
+  back y l c = subst (λ link. Climbs link y l) (parents_alike w v new_record (λ y. refl) (λ y r. refl)) c
 
   -- ---- what is owed
 
@@ -134,31 +131,13 @@ module _ (w : World) (wf : IsWellFormed w) (x : ObjNo) (name : Name) (s : Slot) 
   defined_other y e = ap (map {B = Property} (λ n. (y, n))) (names_now y ∙ ap (λ b. if b then property_names_of w y ++ name ∷ [] else property_names_of w y) e)
 
   defined_here : defined_by v x ≡ defined_by w x ++ (x, name) ∷ []
-  defined_here = ap (map {B = Property} (λ n. (x, n))) (names_now x ∙ ap (λ b. if b then property_names_of w x ++ name ∷ [] else property_names_of w x) ((same_object-Decides x x).1 refl)) ∙ mapped (property_names_of w x)
-    where
-      mapped : (l : List Name) → map {B = Property} (λ n. (x, n)) (l ++ name ∷ []) ≡ map (λ n. (x, n)) l ++ (x, name) ∷ []
-      mapped [] = refl
-      mapped (n ∷ l) = ap (λ k. (x, n) ∷ k) (mapped l)
-
-  owed_beside : (l : List ObjNo) → is_among x l ≡ false → defined_by_any v l ≡ defined_by_any w l
-  owed_beside [] h = refl
-  owed_beside (z ∷ l) h = grind (arith, owed_beside l, or_parts, defined_other)
+  defined_here = ap (map {B = Property} (λ n. (x, n))) (names_now x ∙ ap (λ b. if b then property_names_of w x ++ name ∷ [] else property_names_of w x) ((same_object-Decides x x).1 refl)) ∙ map-append {B = Property} (λ n. (x, n)) (property_names_of w x) (name ∷ [])
 
   inserted : (y : ObjNo) (l : List ObjNo) → Chain w y l → is_among x l ≡ true → Inserted (x, name) (defined_by_any w l) (defined_by_any v l)
-  inserted y [] c h = absurd (false≢true h)
-  inserted y (z ∷ l) c h = by (same_object x z) refl h (inserted c.1 l c.3)
-    where
-      by : (b : Bool) → same_object x z ≡ b → (b || is_among x l) ≡ true → (is_among x l ≡ true → Inserted (x, name) (defined_by_any w l) (defined_by_any v l)) → Inserted (x, name) (defined_by_any w (z ∷ l)) (defined_by_any v (z ∷ l))
-      by false e k r = subst (λ d. Inserted (x, name) (defined_by_any w (z ∷ l)) (d ++ defined_by_any v l)) (sym (defined_other z e)) (further (x, name) (defined_by w z) (defined_by_any w l) (defined_by_any v l) (r k))
-      by true e k r =
-          let own : x ≡ z = (same_object-Decides x z).0 e in
-          let once : is_among x l ≡ false = subst (λ u. is_among u l ≡ false) (c.0 ∙ sym own) (Climbs-once (parent_of w) (no_parent w wf.tree) l y z c) in
-          subst (λ u. Inserted (x, name) (defined_by w u ++ defined_by_any w l) (defined_by v u ++ defined_by_any v l)) own
-          (subst (λ d. Inserted (x, name) (defined_by w x ++ defined_by_any w l) (d ++ defined_by_any v l)) (sym defined_here)
-          (subst (λ d. Inserted (x, name) (defined_by w x ++ defined_by_any w l) ((defined_by w x ++ (x, name) ∷ []) ++ d)) (sym (owed_beside l once)) (at_end (x, name) (defined_by w x) (defined_by_any w l))))
+  inserted = owed_with w v wf.tree x defined_other (Inserted (x, name)) (further (x, name)) (λ l. subst (λ d. Inserted (x, name) (defined_by w x ++ l) (d ++ l)) (sym defined_here) (at_end (x, name) (defined_by w x) l))
 
   names : (y : ObjNo) (l : List ObjNo) → Chain v y l → NamesDiffer (defined_by_any v l)
-  names y l c = grind (arith, owed_beside, back, still_apart, inserted, none_owed)
+  names y l c = grind (arith, owed_beside w v wf.tree x defined_other, back, still_apart, inserted, none_owed)
 
   -- ---- the slots
 
@@ -166,12 +145,9 @@ module _ (w : World) (wf : IsWellFormed w) (x : ObjNo) (name : Name) (s : Slot) 
   slot_now y n r e = ap (λ o. option_and_then (λ (k : WorldObject). k.slot n) (option_map (new_record y) o)) e
 
   module _ (mine : s.definer ≡ x) (set_here : s.state ≢ Clear) where
-    definer_new : (y : ObjNo) (owner : ObjNo) → (if same_object x y then s else fresh owner s).definer ≡ x
-    definer_new y owner = grind arith
-
     slots : (y : ObjNo) (l : List ObjNo) (n : Name) → is_object v y ≡ true → Chain v y l → option_map (λ k. k.definer) (slot_of v y n) ≡ option_map (λ p. p.0) (property_named (defined_by_any v l) n)
     slots y l n o c =
-        let yo : is_object w y ≡ true = sym (objects y) ∙ o in
+        let yo : is_object w y ≡ true = sym (objects_alike w v new_record (λ y. refl) (λ y r. refl) y) ∙ o in
         let r = some_record (w.object y) yo in
         let d : Chain w y l = back y l c in
         let old : option_map (λ (k : Slot). k.definer) (r.0.slot n) ≡ option_map (λ (p : Property). p.0) (property_named (defined_by_any w l) n) = ap (λ o. option_map (λ (k : Slot). k.definer) (option_and_then (λ (k : WorldObject). k.slot n) o)) (sym r.1) ∙ wf.slots y l n yo d in
@@ -185,7 +161,7 @@ module _ (w : World) (wf : IsWellFormed w) (x : ObjNo) (name : Name) (s : Slot) 
             → option_map (λ k. k.definer) ((new_record y r).slot n) ≡ option_map (λ p. p.0) (property_named (defined_by_any v l) n)
         by r d old false e =
             ap (λ b. option_map (λ (k : Slot). k.definer) (if b then (if same_text (folded name) n then Some (if same_object x y then s else fresh r.row.owner s) else r.slot n) else r.slot n)) (ap (is_among x) (chain_is w wf.tree y l d) ∙ e)
-            ∙ old ∙ ap (λ k. option_map (λ (p : Property). p.0) (property_named k n)) (sym (owed_beside l e))
+            ∙ old ∙ ap (λ k. option_map (λ (p : Property). p.0) (property_named k n)) (sym (owed_beside w v wf.tree x defined_other l e))
         by r d old true e =
             ap (λ b. option_map (λ (k : Slot). k.definer) (if b then (if same_text (folded name) n then Some (if same_object x y then s else fresh r.row.owner s) else r.slot n) else r.slot n)) (ap (is_among x) (chain_is w wf.tree y l d) ∙ e)
             ∙ inner r (same_text (folded name) n) old

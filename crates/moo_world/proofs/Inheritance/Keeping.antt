@@ -1,5 +1,5 @@
 -- A rebuilt world is well formed, where its links and definitions are.
-use Rattle.moo_world.{proofs.Words.{arith, ◌≡◌, ◌≢◌, Bool, true, false, cond, List, [], ◌∷◌, refl, sym, ◌∙◌, ap, subst, ◌⊎◌, inl, inr, Option, Some, None, if◌then◌else◌, pos, ◌≤ℤ◌, option_map, list_any, IsDistinct, AllByRecursion, false≢true, both_ways, or_cases, and_parts, none-some, same_Some, ObjNo, Clear, Name, Property, same_text, same_property, folded, is_among, same_object-Decides, same_text-Decides, World, WorldObject, Slot, IsTree, IsWellFormed, Climbs, Chain, NamesDiffer, is_object, location_of, owner_of, slot_of, defined_by, defined_by_any, property_named, has_property, chain, fresh, slot_for, rebuilt, with_slots, without_slots, KeepsLimits, SameButSlots, slot_fits, nothing, ◌||◌}, proofs.Ancestry.Trees.{chain_is, Chain-chain, chain_of_none, nothing_is_no_object}, proofs.Form.Limits.{owner_numbered, fresh_fits}, proofs.Inheritance.Owed.{any-append, definer_among, in_owed, named_owed, named_so}, proofs.Inheritance.Rebuilding.{parents_same, objects_same, owed_same, Chain-same, SameButSlots-rebuilt, slot_of-rebuilt}}
+use Rattle.moo_world.{proofs.Words.{arith, ◌≡◌, ◌≢◌, Bool, true, false, cond, List, [], ◌∷◌, refl, sym, ◌∙◌, ap, subst, ◌⊎◌, inl, inr, Option, Some, None, if◌then◌else◌, pos, ◌≤ℤ◌, option_map, list_any, IsDistinct, AllByRecursion, false≢true, both_ways, or_cases, and_parts, none-some, same_Some, ObjNo, Clear, Name, Property, same_text, same_property, folded, is_among, same_object-Decides, same_text-Decides, World, WorldObject, Slot, IsTree, IsWellFormed, Climbs, Chain, NamesDiffer, is_object, location_of, owner_of, slot_of, defined_by, defined_by_any, property_named, has_property, chain, fresh, slot_for, rebuilt, with_slots, without_slots, KeepsLimits, SameButSlots, slot_fits, nothing, ◌||◌}, proofs.Ancestry.Trees.{chain_is, Chain-chain, chain-step, chain_of_none, linked, object_of_chain}, proofs.Form.Limits.{owner_numbered, fresh_fits}, proofs.Inheritance.Owed.{any-append, definer_among, in_owed, named_owed, named_so}, proofs.Shown.PairLists.{some_of}, proofs.Inheritance.Rebuilding.{formed_from, SameButSlots-rebuilt, slot_of-rebuilt}}
 
 pub same_property-is : (p q : Property) → same_property p q ≡ true → p ≡ q
 unfolding same_property
@@ -26,11 +26,9 @@ named_is (y ∷ owed) p d h = by (same_text (folded y.1) (folded p.1)) refl (or_
 
 -- what an object defines is owed to it
 pub own_owed : (w : World) (t : IsTree w) (y : ObjNo) (p : Property) → is_object w y ≡ true → list_any (same_property p) (defined_by w y) ≡ true → has_property w y p ≡ true
-own_owed w t y p yo mine = first (chain w y) (Chain-chain w t y yo)
-  where
-    first : (l : List ObjNo) → Chain w y l → in_owed w p l ≡ true
-    first [] c = absurd (both_ways (is_object w nothing) (nothing_is_no_object w t) (ap (is_object w) (sym c) ∙ yo))
-    first (z ∷ l) c = any-append (same_property p) (defined_by w z) (defined_by_any w l) ∙ ap (λ b. b || in_owed w p l) (subst (λ k. list_any (same_property p) (defined_by w k) ≡ true) c.0 mine)
+own_owed w t y p yo mine =
+    let r = some_of (w.object y) yo in
+    ap (in_owed w p) (chain-step w t y r.0 r.1) ∙ any-append (same_property p) (defined_by w y) (defined_by_any w (chain w r.0.row.parent)) ∙ ap (λ b. b || in_owed w p (chain w r.0.row.parent)) mine
 
 -- what is owed something is an object
 pub owed_is_object : (w : World) (q : ObjNo) (n : Name) (p : Property) → property_named (defined_by_any w (chain w q)) n ≡ Some p → is_object w q ≡ true
@@ -42,7 +40,7 @@ fresh_definer owner o = grind arith
 -- What the links and definitions of s have to be, over a well formed w, for its rebuilt slots to be well formed
 pub record MayBeRebuilt (w s : World) (q : ObjNo) : Type 0 where
   pub tree : IsTree s
-  pub names : (x : ObjNo) (l : List ObjNo) → Chain s x l → NamesDiffer (defined_by_any s l)
+  pub names : (x : ObjNo) → is_object s x ≡ true → NamesDiffer (defined_by_any s (chain s x))
   -- what is newly owed has a slot on q
   pub new : (x : ObjNo) (n : Name) (p : Property) → is_object s x ≡ true → property_named (defined_by_any s (chain s x)) n ≡ Some p → has_property w x p ≡ false → option_map (λ k. k.definer) (slot_of w q n) ≡ Some p.0
   -- no object defines what it did not
@@ -56,13 +54,10 @@ module _ (w s : World) (q : ObjNo) (wf : IsWellFormed w) (may : MayBeRebuilt w s
   same : SameButSlots r s
   same = SameButSlots-rebuilt w s q
 
-  known : (x : ObjNo) (p : Property) → has_property w x p ≡ true → is_object w x ≡ true
-  known x p h = grind (arith, chain_of_none)
-
   -- a kept slot has the definer of what is owed
   old_definer : (x : ObjNo) (n : Name) (p : Property) → has_property w x p ≡ true → folded p.1 ≡ n → option_map (λ k. k.definer) (slot_of w x n) ≡ Some p.0
   old_definer x n p h e =
-      let xo = known x p h in
+      let xo = object_of_chain w p.0 x (definer_among w p (chain w x) h).0 in
       let c = Chain-chain w wf.tree x xo in
       wf.slots x (chain w x) n xo c
       ∙ ap (λ m. option_map (λ (k : Property). k.0) (property_named (defined_by_any w (chain w x)) m)) (sym e)
@@ -75,14 +70,11 @@ module _ (w s : World) (q : ObjNo) (wf : IsWellFormed w) (may : MayBeRebuilt w s
       by : (b : Bool) → has_property w x p ≡ b → option_map (λ k. k.definer) (if b then slot_of w x n else option_map (fresh (owner_of s x)) (slot_of w q n)) ≡ Some p.0
       by b h = grind (arith, old_definer, named_so, fresh_definer)
 
-  slots_rebuilt : (x : ObjNo) (l : List ObjNo) (n : Name) → is_object r x ≡ true → Chain r x l → option_map (λ k. k.definer) (slot_of r x n) ≡ option_map (λ k. k.0) (property_named (defined_by_any r l) n)
-  slots_rebuilt x l n xo c =
-      let here : chain s x ≡ l = chain_is s may.tree x l (Chain-same r s same x l c) in
-      let so : is_object s x ≡ true = sym (objects_same r s same x) ∙ xo in
+  slots_rebuilt : (x : ObjNo) (l : List ObjNo) (n : Name) → is_object s x ≡ true → Chain s x l → option_map (λ k. k.definer) (slot_of r x n) ≡ option_map (λ k. k.0) (property_named (defined_by_any s l) n)
+  slots_rebuilt x l n so c =
       ap (option_map (λ (k : Slot). k.definer)) (slot_of-rebuilt w s q x n)
       ∙ definer_is x n (property_named (defined_by_any s (chain s x)) n) so refl
-      ∙ ap (λ m. option_map (λ (k : Property). k.0) (property_named (defined_by_any s m) n)) here
-      ∙ ap (λ m. option_map (λ (k : Property). k.0) (property_named m n)) (sym (owed_same r s same l))
+      ∙ ap (λ m. option_map (λ (k : Property). k.0) (property_named (defined_by_any s m) n)) (chain_is s may.tree x l c)
 
   -- the slot on a definer was there before
   set_rebuilt : (x : ObjNo) (n : Name) (k : Slot) → slot_of r x n ≡ Some k → k.definer ≡ x → k.state ≢ Clear
@@ -92,18 +84,16 @@ module _ (w s : World) (q : ObjNo) (wf : IsWellFormed w) (may : MayBeRebuilt w s
       by None f g = absurd (none-some k g)
       by (Some p) f g =
           let among = definer_among s p (chain s x) (named_owed s (chain s x) n p f) in
-          let so : is_object s x ≡ true = object among.0 in
+          let so : is_object s x ≡ true = object_of_chain s p.0 x among.0 in
           let mine : p.0 ≡ x = sym (same_Some k.definer p.0 (sym (ap (option_map (λ (m : Slot). m.definer)) g) ∙ definer_is x n (Some p) so f)) ∙ d in
           let had : has_property w x p ≡ true = may.own x p so (subst (λ m. list_any (same_property p) (defined_by s m) ≡ true) mine among.1) in
           let kept : slot_of w x n ≡ Some k = sym (ap (λ b. if b then slot_of w x n else option_map (fresh (owner_of s x)) (slot_of w q n)) had) ∙ g in
           wf.set x n k kept d
-        where
-          object : is_among p.0 (chain s x) ≡ true → is_object s x ≡ true
-          object h = decide (is_object s x) refl
-            where
-              decide : (b : Bool) → is_object s x ≡ b → b ≡ true
-              decide true v = refl
-              decide false v = absurd (false≢true (sym (ap (is_among p.0) (chain_of_none s x v)) ∙ h))
+
+  names_rebuilt : (x : ObjNo) (l : List ObjNo) → Chain s x l → NamesDiffer (defined_by_any s l)
+  unfolding IsDistinct
+  names_rebuilt x [] c = tt
+  names_rebuilt x (y ∷ l) c = subst (λ m. NamesDiffer (defined_by_any s m)) (chain_is s may.tree x (y ∷ l) c) (may.names x (linked (s.object x) (λ r. r.row.parent) c.1 c.2))
 
   fit_rebuilt : (x : ObjNo) (n : Name) (k : Slot) → slot_of r x n ≡ Some k → slot_fits k ≡ true
   fit_rebuilt x n k e = by (property_named (defined_by_any s (chain s x)) n) (sym (slot_of-rebuilt w s q x n) ∙ e)
@@ -119,29 +109,6 @@ module _ (w s : World) (q : ObjNo) (wf : IsWellFormed w) (may : MayBeRebuilt w s
       by None g = absurd (none-some k g)
       by (Some p) g = kept (has_property w x p) g
 
-  location_same : location_of r ≡ location_of s
-  location_same = (λ i x. sym (bare (r.object x)) i) ∙ ap location_of same ∙ (λ i x. bare (s.object x) i)
-    where
-      bare : (o : Option WorldObject) → option_map (λ k. k.row.location) (option_map (with_slots (λ n. None)) o) ≡ option_map (λ k. k.row.location) o
-      bare o = grind arith
-
-  pub IsTree-rebuilt : IsTree r
-  IsTree-rebuilt = record {
-    numbers = λ x o. top_kept x (may.tree.numbers x (sym (objects_same r s same x) ∙ o));
-    chains = λ x o. let c = may.tree.chains x (sym (objects_same r s same x) ∙ o) in (c.0, subst (λ link. Climbs link x c.0) (sym (parents_same r s same)) c.1);
-    locations = λ x o. let c = may.tree.locations x (sym (objects_same r s same x) ∙ o) in (c.0, subst (λ link. Climbs link x c.0) (sym location_same) c.1);
-  }
-    where
-      top_kept : (x : ObjNo) → (pos 0 ≤ℤ x.0) × (x.0 ≤ℤ s.top) → (pos 0 ≤ℤ x.0) × (x.0 ≤ℤ r.top)
-      top_kept x h = (h.0, subst (λ t. x.0 ≤ℤ t) (sym (ap (λ (k : World). k.top) same)) h.1)
-
   -- the rebuilt world is well formed
   pub IsWellFormed-rebuilt : IsWellFormed r
-  IsWellFormed-rebuilt = record {
-    tree = IsTree-rebuilt;
-    names = λ x l c. subst NamesDiffer (sym (owed_same r s same l)) (may.names x l (Chain-same r s same x l c));
-    slots = slots_rebuilt;
-    set = set_rebuilt;
-    fit = fit_rebuilt;
-    limits = subst KeepsLimits (sym same) may.limits;
-  }
+  IsWellFormed-rebuilt = formed_from r s same may.tree names_rebuilt slots_rebuilt set_rebuilt fit_rebuilt may.limits

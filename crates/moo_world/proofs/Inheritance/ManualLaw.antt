@@ -1,5 +1,5 @@
 -- The manual's wording of a change of parent gives the rebuilt world.
-use Rattle.moo_world.{proofs.Words.{arith, ◌≡◌, Bool, true, false, cond, ◌||◌, List, [], ◌∷◌, ◌++◌, drop, refl, sym, ◌∙◌, ap, subst, ◌⊎◌, inl, inr, Option, Some, None, append_assoc, unwrap_or, if◌then◌else◌, option_map, option_or, list_any, find, false≢true, both_ways, or_parts, or_right, or_cases, false_from_ne_true, none-some, ObjNo, Name, Property, nothing, same_object, same_property, folded, is_among, same_object-Decides, World, Slot, IsWellFormed, Chain, is_object, parent_of, owner_of, slot_of, defined_by, defined_by_any, property_named, has_property, chain, fresh, slot_for, reparented, with_parent, ancestors, common, except, lost, gained, unless_defined_by, manual_slot}, proofs.Ancestry.Chains.{front_of, Climbs-split, Climbs-among}, proofs.Ancestry.Trees.{chain_is, Chain-chain, chain-nothing, no_parent}, proofs.Inheritance.Owed.{is_among-append, defined_by_any-append, named-append, find_passes, found_among, in_owed, in_owed-append, definer_among, named_owed, named_so, named_once}, proofs.Ancestry.Ancestors.{same_object-self, apart_in_chain, except_end, front_fails, all_fail, front_within}, proofs.Ancestry.Moving.{moved, owner_moved, owed_moved, Chain-new, chain_unmoved, chain_moved}, proofs.Inheritance.Rebuilding.{slot_of-rebuilt}}
+use Rattle.moo_world.{proofs.Words.{arith, ◌≡◌, Bool, true, false, cond, ◌||◌, List, [], ◌∷◌, ◌++◌, drop, refl, sym, ◌∙◌, ap, subst, ◌⊎◌, inl, inr, Option, Some, None, append_assoc, unwrap_or, if◌then◌else◌, option_map, option_or, list_any, find, false≢true, both_ways, or_parts, or_right, or_cases, false_from_ne_true, none-some, ObjNo, Name, Property, nothing, same_object, same_property, folded, is_among, same_object-Decides, World, Slot, IsWellFormed, Chain, is_object, parent_of, owner_of, slot_of, defined_by, defined_by_any, property_named, has_property, chain, fresh, slot_for, reparented, with_parent, ancestors, common, except, lost, gained, unless_defined_by, manual_slot}, specs.Names.{find_passes}, proofs.Ancestry.Chains.{front_of, Climbs-split, Climbs-among}, proofs.Ancestry.Trees.{chain_is, Chain-chain, chain-nothing, no_parent}, proofs.Inheritance.Owed.{is_among-append, defined_by_any-append, named-append, found_among, in_owed, in_owed-append, definer_among, named_owed, named_so, named_once}, proofs.Ancestry.Ancestors.{same_object-self, apart_in_chain, except_end, front_fails, all_fail, front_within}, proofs.Ancestry.Moving.{moved, owner_moved, owed_moved, Chain-new, chain_unmoved, chain_moved}, proofs.Inheritance.Rebuilding.{slot_of-rebuilt}}
 
 -- ---- a slot and the ones that are lost
 
@@ -106,7 +106,7 @@ module _ (w : World) (x q : ObjNo) (wf : IsWellFormed w) (xo : is_object w x ≡
         Climbs-split (parent_of w) (no_parent w wf.tree) (chain w y) (chain w x) y x (Chain-chain w wf.tree y yo) (Chain-chain w wf.tree x xo) (inl under)
         ∙ ap (λ l. front_of x (chain w y) ++ l) chain_starts ∙ sym (append_assoc (front_of x (chain w y)) (x ∷ []) above)
 
-    chain_y_moved : chain (moved w x q) y ≡ below ++ chain w q
+    pub chain_y_moved : chain (moved w x q) y ≡ below ++ chain w q
     chain_y_moved = chain_moved w x q wf.tree xo qo outside y yo under ∙ sym (append_assoc (front_of x (chain w y)) (x ∷ []) (chain w q))
 
     abbrev named : List ObjNo → Option Property

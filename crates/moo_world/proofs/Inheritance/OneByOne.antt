@@ -1,8 +1,8 @@
 -- The children of a recycled object, moved one by one in the manual's words, leave the world that recycling leaves.
-use Rattle.moo_world.{proofs.Lemmas.{arith, ◌≡◌, Bool, true, false, ◌||◌, List, [], ◌∷◌, ◌++◌, refl, sym, ◌∙◌, ap, subst, ◌⊎◌, inl, inr, Option, Some, None, unwrap_or, if◌then◌else◌, option_map, false≢true, both_ways, false_from_ne_true, none-some, same_Some, ObjNo, Name, Property, nothing, same_object, same_object-Decides, is_among, World, WorldObject, Slot, IsTree, IsWellFormed, Chain, is_object, parent_of, slot_of, defined_by_any, property_named, chain, with_slots, with_parent, reparented, SameButSlots, MayReparent, unless_defined_by, manual_slot, is_parent_of, children_of, manually_moved, moved_one_by_one, MayMoveOneByOne, emptied, taken_out, ChildrenMoveOneByOne, ChildrenMoveAscending, released, object_removed, recycled, Climbs-once, Chain-chain, chain-step, linked, no_parent, definer_among, named_owed, same_object-self, manual_law, slot_kept, slot_absent, no_slot, objects_same, same_world, SameButSlots-rebuilt, NoClash-from_meets, among_filter, object_listed}, proofs.Inheritance.Recycling.{stays, recycle_law}, proofs.Inheritance.Reparenting.{IsWellFormed-reparented}, proofs.Ancestry.Upward.{filter_passes, may_climb, climbed_slot}}
+use Rattle.moo_world.{proofs.Lemmas.{arith, ◌≡◌, Bool, true, false, ◌||◌, List, [], ◌∷◌, ◌++◌, refl, sym, ◌∙◌, ap, subst, ◌⊎◌, inl, inr, Option, Some, None, unwrap_or, if◌then◌else◌, option_map, false≢true, both_ways, false_from_ne_true, none-some, same_Some, ObjNo, Name, Property, nothing, same_object, same_object-Decides, is_among, World, WorldObject, Slot, IsTree, IsWellFormed, Chain, is_object, parent_of, slot_of, defined_by_any, property_named, chain, with_slots, with_parent, reparented, SameButSlots, MayReparent, unless_defined_by, manual_slot, is_parent_of, children_of, manually_moved, moved_one_by_one, MayMoveOneByOne, emptied, taken_out, ChildrenMoveOneByOne, ChildrenMoveAscending, released, object_removed, recycled, Climbs-once, Chain-chain, chain-step, linked, no_parent, definer_among, named_owed, same_object-self, manual_law, slot_kept, slot_absent, no_slot, objects_same, same_world, SameButSlots-rebuilt, new_is, no_clash, among_filter, object_listed}, proofs.Inheritance.Recycling.{stays, recycle_law}, proofs.Inheritance.Reparenting.{IsWellFormed-reparented}, proofs.Ancestry.Upward.{filter_passes, may_climb, climbed_slot}}
 
 -- worlds that are the same but for slots, and whose objects have the same slots, are one
-one_world : (a b : World) → SameButSlots a b → ((y : ObjNo) (n : Name) → is_object a y ≡ true → slot_of a y n ≡ slot_of b y n) → a ≡ b
+pub one_world : (a b : World) → SameButSlots a b → ((y : ObjNo) (n : Name) → is_object a y ≡ true → slot_of a y n ≡ slot_of b y n) → a ≡ b
 one_world a b same slots = grind (arith, same_world, no_slot, objects_same)
 
 -- ---- one move
@@ -25,15 +25,12 @@ module _ (w : World) (c q : ObjNo) where
   SameButSlots-moved = grind arith
 
   module _ (m : MayReparent w c q) where
-    new : (is_object w q ≡ true) ⊎ (q ≡ nothing)
-    new = grind (arith, same_object-Decides)
-
     -- the manual's move is the model's
     pub manually_moved-is : manually_moved w c q ≡ reparented w c q
-    manually_moved-is = grind (arith, one_world, SameButSlots-moved, SameButSlots-rebuilt, object_stays, slot_moved, manual_law, new, NoClash-from_meets)
+    manually_moved-is = grind (arith, one_world, SameButSlots-moved, SameButSlots-rebuilt, object_stays, slot_moved, manual_law, new_is w c q m, no_clash w c q m)
 
     pub IsWellFormed-moved : IsWellFormed (manually_moved w c q)
-    IsWellFormed-moved = subst IsWellFormed (sym manually_moved-is) (IsWellFormed-reparented w c q m.well_formed m.object new m.outside (NoClash-from_meets w m.well_formed.tree c q m.apart))
+    IsWellFormed-moved = subst IsWellFormed (sym manually_moved-is) (IsWellFormed-reparented w c q m.well_formed m.object (new_is w c q m) m.outside (no_clash w c q m))
 
 -- ---- one child
 
@@ -85,9 +82,6 @@ module _ (w : World) (x q : ObjNo) (wf : IsWellFormed w) (xp : parent_of w x ≡
     pub heir_moved : parent_of v x ≡ Some q
     heir_moved = grind arith
 
-    kept_twice : (k : (parent_of w c ≡ Some x) ⊎ (parent_of w c ≡ Some q)) (o : Option Slot) → unless_defined_by (x ∷ []) (unless_defined_by (between k) o) ≡ unless_defined_by (x ∷ []) o
-    kept_twice k o = grind arith
-
     same_kept : (y : ObjNo) (n : Name) → is_object w y ≡ true → unless_defined_by (x ∷ []) (slot_of v y n) ≡ unless_defined_by (x ∷ []) (slot_of w y n)
     same_kept y n o = ap (unless_defined_by (x ∷ [])) (slot_moved w c q y n o ∙ climbed_slot w c q (between cp) wf child heir_is (climbs cp) y n) ∙ by (is_among c (chain w y))
       where
@@ -95,9 +89,6 @@ module _ (w : World) (x q : ObjNo) (wf : IsWellFormed w) (xp : parent_of w x ≡
         by b = grind arith
 
     -- what is left when x goes has the same links, whether or not c was moved
-    abbrev linked_to : WorldObject → ObjNo → WorldObject
-    linked_to r p = record { row = record r.row { parent = p; location = if same_object x r.row.location then nothing else r.row.location }; defines = r.defines; slot = λ n. None; verbs = r.verbs }
-
     one_parent : (p : ObjNo) → (Some p ≡ Some x) ⊎ (Some p ≡ Some q) → (if same_object x q then q else q) ≡ (if same_object x p then q else p)
     one_parent p k = grind (arith, same_object-Decides)
 

@@ -1,5 +1,5 @@
 -- A rebuilt world exists, and there is one only.
-use Rattle.moo_world.{proofs.Words.{arith, ◌≡◌, true, false, List, [], refl, sym, ◌∙◌, ap, subst, map, Option, Some, None, is_some, unwrap_or, if◌then◌else◌, option_map, option_and_then, Decides, flat_map, both_ways, false_from_ne_true, none-some, same_Some, ObjNo, Name, Property, nothing, World, WorldObject, IsTree, Climbs, Chain, HasProperty, Rebuilt, is_object, parent_of, property_names_of, owner_of, slot_of, defined_by_any, property_named, has_property, chain, fresh, slot_for, rebuilt_slot, rebuilt, with_slots, SameButSlots}, proofs.Ancestry.Trees.{chain_is, Chain-chain, chain_of_none}}
+use Rattle.moo_world.{proofs.Words.{arith, ◌≡◌, true, false, List, [], refl, sym, ◌∙◌, ap, subst, map, Option, Some, None, is_some, unwrap_or, if◌then◌else◌, option_map, option_and_then, Decides, flat_map, both_ways, false_from_ne_true, none-some, same_Some, ObjNo, Name, Property, nothing, World, WorldObject, Slot, Clear, IsTree, IsWellFormed, NamesDiffer, KeepsLimits, location_of, slot_fits, without_slots, ◌≢◌, Climbs, Chain, HasProperty, Rebuilt, is_object, parent_of, property_names_of, owner_of, slot_of, defined_by_any, property_named, has_property, chain, fresh, slot_for, rebuilt_slot, rebuilt, with_slots, SameButSlots}, proofs.Ancestry.Trees.{chain_is, Chain-chain, chain_of_none}}
 
 -- what is owed, as a test
 pub HasProperty-Decides : (w : World) → IsTree w → (x : ObjNo) (p : Property) → Decides (has_property w x p) (HasProperty w x p)
@@ -10,36 +10,47 @@ no_slot o n e = grind arith
 
 -- ---- what doesn't read slots
 
-same_parent : (o : Option WorldObject) → option_map (λ r. r.row.parent) (option_map (with_slots (λ n. None)) o) ≡ option_map (λ r. r.row.parent) o
-same_parent o = grind arith
-
-same_names : (o : Option WorldObject) → option_map (λ r. r.defines) (option_map (with_slots (λ n. None)) o) ≡ option_map (λ r. r.defines) o
-same_names o = grind arith
-
-same_owner : (o : Option WorldObject) → option_map (λ r. r.row.owner) (option_map (with_slots (λ n. None)) o) ≡ option_map (λ r. r.row.owner) o
-same_owner o = grind arith
-
-same_some : (o : Option WorldObject) → is_some (option_map (with_slots (λ n. None)) o) ≡ is_some o
-same_some o = grind arith
-
 module _ (a b : World) (same : SameButSlots a b) where
+  seen_same : {A : Type 0} (see : Option WorldObject → A) → ((o : Option WorldObject) → see (option_map (with_slots (λ n. None)) o) ≡ see o) → (x : ObjNo) → see (a.object x) ≡ see (b.object x)
+  seen_same see bare x = sym (bare (a.object x)) ∙ ap (λ (w : World). see (w.object x)) same ∙ bare (b.object x)
+
   pub parents_same : parent_of a ≡ parent_of b
-  parents_same = (λ i x. sym (same_parent (a.object x)) i) ∙ ap parent_of same ∙ (λ i x. same_parent (b.object x) i)
+  parents_same = λ i x. seen_same (λ o. option_map (λ (r : WorldObject). r.row.parent) o) (λ o. grind arith) x i
+
+  locations_same : location_of a ≡ location_of b
+  locations_same = λ i x. seen_same (λ o. option_map (λ (r : WorldObject). r.row.location) o) (λ o. grind arith) x i
 
   pub names_same : property_names_of a ≡ property_names_of b
-  names_same = (λ i x. unwrap_or (sym (same_names (a.object x)) i) []) ∙ ap property_names_of same ∙ (λ i x. unwrap_or (same_names (b.object x) i) [])
+  names_same = λ i x. seen_same (λ o. unwrap_or (option_map (λ (r : WorldObject). r.defines) o) []) (λ o. grind arith) x i
 
   pub owners_same : owner_of a ≡ owner_of b
-  owners_same = (λ i x. unwrap_or (sym (same_owner (a.object x)) i) nothing) ∙ ap owner_of same ∙ (λ i x. unwrap_or (same_owner (b.object x) i) nothing)
+  owners_same = λ i x. seen_same (λ o. unwrap_or (option_map (λ (r : WorldObject). r.row.owner) o) nothing) (λ o. grind arith) x i
 
   pub objects_same : (x : ObjNo) → is_object a x ≡ is_object b x
-  objects_same x = sym (same_some (a.object x)) ∙ ap (λ w. is_object w x) same ∙ same_some (b.object x)
+  objects_same = seen_same (λ o. is_some o) (λ o. grind arith)
 
   pub owed_same : (l : List ObjNo) → defined_by_any a l ≡ defined_by_any b l
   owed_same l = ap (λ (names : ObjNo → List Name). flat_map (λ d. map (λ n. (d, n)) (names d)) l) names_same
 
   pub Chain-same : (x : ObjNo) (l : List ObjNo) → Chain a x l → Chain b x l
   Chain-same x l p = subst (λ link. Climbs link x l) parents_same p
+
+  IsTree-same : IsTree b → IsTree a
+  IsTree-same tree = let top : a.top ≡ b.top = ap (λ (w : World). w.top) same in grind (arith, objects_same, parents_same, locations_same)
+
+  -- where b is a tree whose names differ, a is well formed if it has the slots that b's definers owe
+  pub formed_from : IsTree b → ((x : ObjNo) (l : List ObjNo) → Chain b x l → NamesDiffer (defined_by_any b l))
+      → ((x : ObjNo) (l : List ObjNo) (n : Name) → is_object b x ≡ true → Chain b x l → option_map (λ s. s.definer) (slot_of a x n) ≡ option_map (λ p. p.0) (property_named (defined_by_any b l) n))
+      → ((x : ObjNo) (n : Name) (s : Slot) → slot_of a x n ≡ Some s → s.definer ≡ x → s.state ≢ Clear)
+      → ((x : ObjNo) (n : Name) (s : Slot) → slot_of a x n ≡ Some s → slot_fits s ≡ true) → KeepsLimits (without_slots b) → IsWellFormed a
+  formed_from tree names slots set fit limits = record {
+    tree = IsTree-same tree;
+    names = λ x l c. subst NamesDiffer (sym (owed_same l)) (names x l (Chain-same x l c));
+    slots = λ x l n o c. slots x l n (sym (objects_same x) ∙ o) (Chain-same x l c) ∙ ap (λ k. option_map (λ (p : Property). p.0) (property_named k n)) (sym (owed_same l));
+    set = set;
+    fit = fit;
+    limits = subst KeepsLimits (sym same) limits;
+  }
 
 -- ---- a rebuilt world
 

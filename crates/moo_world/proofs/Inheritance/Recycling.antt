@@ -1,5 +1,5 @@
 -- What the loss of one object does to chains.
-use Rattle.moo_world.{proofs.Lemmas.{arith, ◌≡◌, Bool, true, false, cond, ◌||◌, List, [], ◌∷◌, ◌++◌, map, refl, sym, ◌∙◌, ap, subst, Option, Some, None, unwrap_or, if◌then◌else◌, option_map, list_any, list_all, IsDistinct, AllByRecursion, false≢true, both_ways, or_parts, or_right, or_cases, false_from_ne_true, ObjNo, Name, Property, nothing, same_object, same_text, same_property, folded, is_among, same_object-Decides, World, WorldObject, IsTree, IsWellFormed, Chain, LocationChain, NamesDiffer, is_object, parent_of, chain, property_names_of, owner_of, slot_of, defined_by, defined_by_any, property_named, has_property, fresh, slot_for, with_slots, is_property_name, verb_fits, row_fits, unless_defined_by, released, object_removed, recycled, front_of, Climbs-once, any-append, all_right, own_pair, in_owed, definer_among, named_owed, named_so, some_named, slot_of-rebuilt, slot_kept, slot_lost, slot_absent, MayBeRebuilt, IsWellFormed-rebuilt, named_is, chain_is, Chain-chain, linked, no_parent, nothing_is_no_object, own_owed}, proofs.Inheritance.Reparenting.{all_join, all_left}}
+use Rattle.moo_world.{proofs.Lemmas.{arith, ◌≡◌, Bool, true, false, cond, ◌||◌, List, [], ◌∷◌, ◌++◌, map, refl, sym, ◌∙◌, ap, subst, Option, Some, None, unwrap_or, if◌then◌else◌, option_map, list_any, list_all, IsDistinct, AllByRecursion, false≢true, both_ways, or_parts, or_right, or_cases, false_from_ne_true, ObjNo, Name, Property, nothing, same_object, same_text, same_property, folded, is_among, same_object-Decides, World, WorldObject, IsTree, IsWellFormed, Chain, LocationChain, NamesDiffer, is_object, parent_of, chain, property_names_of, owner_of, slot_of, defined_by, defined_by_any, property_named, has_property, fresh, slot_for, with_slots, is_property_name, verb_fits, row_fits, unless_defined_by, released, object_removed, recycled, front_of, Climbs-once, any-append, all_right, own_pair, in_owed, definer_among, named_owed, named_so, some_named, slot_of-rebuilt, slot_kept, slot_lost, slot_absent, MayBeRebuilt, IsWellFormed-rebuilt, named_is, chain_is, Chain-chain, linked, no_parent, nothing_is_no_object, own_owed}, proofs.Shown.PairLists.{all_join, all_left}}
 
 -- a list without one object
 abbrev pub left_out : ObjNo → List ObjNo → List ObjNo
@@ -133,14 +133,8 @@ module _ (w : World) (x : ObjNo) (wf : IsWellFormed w) (xo : is_object w x ≡ t
       → P (g (option_map (with_slots (λ n. None)) (if same_object x y then None else option_map (released x (unwrap_or (parent_of w x) nothing)) o)))
   unread P g z h y o k = grind arith
 
-  differ_at : (y : ObjNo) (l : List ObjNo) → Chain s y l → NamesDiffer (defined_by_any s l)
-  unfolding IsDistinct
-  differ_at y [] c = tt
-  differ_at y (z ∷ l) c =
-      let so : is_object s y ≡ true = linked (s.object y) (λ r. r.row.parent) c.1 c.2 in
-      let here : chain s y ≡ z ∷ l = chain_is s (IsTree-lessened w x wf.tree xo) y (z ∷ l) c in
-      let yo = (stays w x wf.tree xo y so).1 in
-      subst (λ m. NamesDiffer (defined_by_any s m)) here (subst NamesDiffer (sym (owed_at y so)) (differ_less w x (chain w y) (wf.names y (chain w y) (Chain-chain w wf.tree y yo))))
+  differ_at : (y : ObjNo) → is_object s y ≡ true → NamesDiffer (defined_by_any s (chain s y))
+  differ_at y so = subst NamesDiffer (sym (owed_at y so)) (differ_less w x (chain w y) (wf.names y (chain w y) (Chain-chain w wf.tree y (stays w x wf.tree xo y so).1)))
 
   MayBeRebuilt-lessened : MayBeRebuilt w s nothing
   MayBeRebuilt-lessened = record {

@@ -1,26 +1,19 @@
 -- A property of a well formed world under another name.
-use Rattle.moo_world.{proofs.Lemmas.{arith, ◌≡◌, Bool, true, false, cond, ◌||◌, Option, None, Some, List, [], ◌∷◌, ◌++◌, map, refl, sym, ap, ◌∙◌, subst, ◌⊎◌, inl, inr, append_assoc, if◌then◌else◌, option_map, option_and_then, list_any, list_all, IsDistinct, AllByRecursion, false≢true, both_ways, or_parts, or_cases, and_parts, none-some, ObjNo, Clear, clashes, property_renamed, Name, Property, nothing, same_object, same_text, same_property, folded, is_among, same_object-Decides, same_text-Decides, World, WorldObject, Slot, IsWellFormed, Climbs, Chain, NamesDiffer, is_object, parent_of, chain, property_names_of, defined_by, defined_by_any, property_named, slot_of, is_property_name, Climbs-once, none_named, chain_is, Chain-chain, no_parent, nothing_is_no_object, parents_alike, objects_alike, tree_alike, limits_alike, names_fit}, proofs.Shown.PairLists.{distinct_map, pairs_left}, proofs.Inheritance.Insertion.{Inserted, still_apart, named_after, further, none_owed, some_record}}
+use Rattle.moo_world.{proofs.Lemmas.{arith, ◌≡◌, Bool, true, false, cond, ◌||◌, Option, None, Some, List, [], ◌∷◌, ◌++◌, map, refl, sym, ap, ◌∙◌, subst, ◌⊎◌, inl, inr, append_assoc, if◌then◌else◌, option_map, option_and_then, list_any, list_all, IsDistinct, AllByRecursion, false≢true, both_ways, or_cases, and_parts, none-some, ObjNo, Clear, clashes, property_renamed, Name, Property, nothing, same_object, same_text, same_property, folded, is_among, same_object-Decides, same_text-Decides, World, WorldObject, Slot, IsWellFormed, Climbs, Chain, NamesDiffer, is_object, parent_of, chain, property_names_of, defined_by, defined_by_any, property_named, slot_of, is_property_name, none_named, chain_is, Chain-chain, chain-step, parents_alike, objects_alike, tree_alike, limits_alike, names_fit}, proofs.Shown.PairLists.{all_join, all_left, all_right, distinct_map, pairs_left}, proofs.Inheritance.Insertion.{Inserted, still_apart, named_after, further, none_owed, owed_beside, owed_with, some_record}}
+use Rattle.std.proofs.lemmas.List.{map-append}
 
 -- ---- lists of pairs
-
-all_but : {A : Type 0} (P : A → Type 0) (xs ys : List A) (a : A) → AllByRecursion P (xs ++ (a ∷ ys)) → AllByRecursion P (xs ++ ys)
-all_but P [] ys a h = h.1
-all_but P (x ∷ xs) ys a h = (h.0, all_but P xs ys a h.1)
-
-one_of : {A : Type 0} (P : A → Type 0) (xs ys : List A) (a : A) → AllByRecursion P (xs ++ (a ∷ ys)) → P a
-one_of P [] ys a h = h.0
-one_of P (x ∷ xs) ys a h = one_of P xs ys a h.1
 
 apart_but : (p : Property) (xs ys : List Property) → NamesDiffer (xs ++ (p ∷ ys)) → NamesDiffer (xs ++ ys)
 unfolding IsDistinct
 apart_but p [] ys d = d.1
-apart_but p (x ∷ xs) ys d = (all_but (λ y. same_text (folded x.1) (folded y.1) ≡ false) xs ys p d.0, apart_but p xs ys d.1)
+apart_but p (x ∷ xs) ys d = let differs = λ (y : Property). same_text (folded x.1) (folded y.1) ≡ false in (all_join differs xs ys (all_left differs xs (p ∷ ys) d.0) (all_right differs xs (p ∷ ys) d.0).1, apart_but p xs ys d.1)
 
 none_but : (p : Property) (xs ys : List Property) → NamesDiffer (xs ++ (p ∷ ys)) → property_named (xs ++ ys) (folded p.1) ≡ None
 unfolding IsDistinct
 none_but p [] ys d = none_named p ys (folded p.1) d.0 refl
 none_but p (x ∷ xs) ys d =
-    ap (λ b. cond b (Some x) (property_named (xs ++ ys) (folded p.1))) (one_of (λ y. same_text (folded x.1) (folded y.1) ≡ false) xs ys p d.0) ∙ none_but p xs ys d.1
+    ap (λ b. cond b (Some x) (property_named (xs ++ ys) (folded p.1))) (all_right (λ y. same_text (folded x.1) (folded y.1) ≡ false) xs (p ∷ ys) d.0).0 ∙ none_but p xs ys d.1
 
 none_fewer : (p : Property) (n : Name) (xs ys : List Property) → property_named (xs ++ (p ∷ ys)) n ≡ None → property_named (xs ++ ys) n ≡ None
 none_fewer p n [] ys e = grind (arith, same_text)
@@ -97,10 +90,6 @@ place old new (n ∷ l) h d = by (same_text (folded n) (folded old)) refl (or_ca
         let p = r k in
         record { before = n ∷ p.before; after = p.after; was = ap (λ m. n ∷ m) p.was; now = ap (λ m. n ∷ m) p.now }
 
-map-mid : (x : ObjNo) (xs ys : List Name) (n : Name) → map {B = Property} (λ k. (x, k)) (xs ++ (n ∷ ys)) ≡ map (λ k. (x, k)) xs ++ ((x, n) ∷ map (λ k. (x, k)) ys)
-map-mid x [] ys n = refl
-map-mid x (k ∷ xs) ys n = ap (λ l. (x, k) ∷ l) (map-mid x xs ys n)
-
 listed_name : (x : ObjNo) (old : Name) (l : List Name) → list_any (same_property (x, old)) (map (λ n. (x, n)) l) ≡ true → list_any (same_text old) l ≡ true
 unfolding same_property
 listed_name x old [] h = h
@@ -124,14 +113,8 @@ module _ (w : World) (wf : IsWellFormed w) (x : ObjNo) (old new : Name) (xo : is
 
   -- ---- what is as it was
 
-  parents : parent_of v ≡ parent_of w
-  parents = parents_alike w v new_record (λ y. refl) (λ y r. refl)
-
-  objects : (y : ObjNo) → is_object v y ≡ is_object w y
-  objects = objects_alike w v new_record (λ y. refl) (λ y r. refl)
-
   back : (y : ObjNo) (l : List ObjNo) → Chain v y l → Chain w y l
-  back y l c = subst (λ link. Climbs link y l) parents c
+  back y l c = subst (λ link. Climbs link y l) (parents_alike w v new_record (λ y. refl) (λ y r. refl)) c
 
   -- ---- what is owed
 
@@ -139,13 +122,10 @@ module _ (w : World) (wf : IsWellFormed w) (x : ObjNo) (old new : Name) (xo : is
   names_now y = grind arith
 
   own_distinct : IsDistinct (λ a b. same_text (folded a) (folded b)) (property_names_of w x)
-  own_distinct = first (chain w x) (Chain-chain w wf.tree x xo) (wf.names x (chain w x) (Chain-chain w wf.tree x xo))
-    where
-      first : (l : List ObjNo) → Chain w x l → NamesDiffer (defined_by_any w l) → IsDistinct (λ a b. same_text (folded a) (folded b)) (property_names_of w x)
-      first [] c d = absurd (both_ways (is_object w nothing) (nothing_is_no_object w wf.tree) (ap (is_object w) (sym c) ∙ xo))
-      first (z ∷ l) c d =
-          distinct_map (λ (a b : Property). same_text (folded a.1) (folded b.1)) (λ n. (x, n)) (property_names_of w x)
-          (pairs_left (defined_by w x) (defined_by_any w l) (subst (λ u. NamesDiffer (defined_by w u ++ defined_by_any w l)) (sym c.0) d))
+  own_distinct =
+      let r = some_record (w.object x) xo in
+      let differ : NamesDiffer (defined_by w x ++ defined_by_any w (chain w r.0.row.parent)) = subst (λ l. NamesDiffer (defined_by_any w l)) (chain-step w wf.tree x r.0 r.1) (wf.names x (chain w x) (Chain-chain w wf.tree x xo)) in
+      distinct_map (λ (a b : Property). same_text (folded a.1) (folded b.1)) (λ n. (x, n)) (property_names_of w x) (pairs_left (defined_by w x) (defined_by_any w (chain w r.0.row.parent)) differ)
 
   at : Place old new (property_names_of w x) (map (renames old new) (property_names_of w x))
   at = place old new (property_names_of w x) (listed_name x old (property_names_of w x) mine) own_distinct
@@ -154,46 +134,24 @@ module _ (w : World) (wf : IsWellFormed w) (x : ObjNo) (old new : Name) (xo : is
   pairs l = map {B = Property} (λ n. (x, n)) l
 
   defined_was : defined_by w x ≡ pairs at.before ++ ((x, old) ∷ pairs at.after)
-  defined_was = ap pairs at.was ∙ map-mid x at.before at.after old
+  defined_was = ap pairs at.was ∙ map-append {B = Property} (λ n. (x, n)) at.before (old ∷ at.after)
 
   defined_here : defined_by v x ≡ pairs at.before ++ ((x, new) ∷ pairs at.after)
-  defined_here = ap pairs (names_now x ∙ ap (λ b. if b then map (renames old new) (property_names_of w x) else property_names_of w x) ((same_object-Decides x x).1 refl) ∙ at.now) ∙ map-mid x at.before at.after new
+  defined_here = ap pairs (names_now x ∙ ap (λ b. if b then map (renames old new) (property_names_of w x) else property_names_of w x) ((same_object-Decides x x).1 refl) ∙ at.now) ∙ map-append {B = Property} (λ n. (x, n)) at.before (new ∷ at.after)
 
   defined_other : (y : ObjNo) → same_object x y ≡ false → defined_by v y ≡ defined_by w y
   defined_other y e = ap (map {B = Property} (λ n. (y, n))) (names_now y ∙ ap (λ b. if b then map (renames old new) (property_names_of w y) else property_names_of w y) e)
-
-  owed_beside : (l : List ObjNo) → is_among x l ≡ false → defined_by_any v l ≡ defined_by_any w l
-  owed_beside [] h = refl
-  owed_beside (z ∷ l) h = grind (arith, owed_beside l, or_parts, defined_other)
 
   put_in : (n : Name) (d : List Property) (m : List Property) → d ≡ pairs at.before ++ ((x, n) ∷ pairs at.after) → Inserted (x, n) (pairs at.before ++ (pairs at.after ++ m)) (d ++ m)
   put_in n d m e = grind (arith, at, append_assoc)
 
   replaced : (y : ObjNo) (l : List ObjNo) → Chain w y l → is_among x l ≡ true → Replaced (x, old) (x, new) (defined_by_any w l) (defined_by_any v l)
-  replaced y [] c h = absurd (false≢true h)
-  replaced y (z ∷ l) c h = by (same_object x z) refl h (replaced c.1 l c.3)
-    where
-      by : (b : Bool) → same_object x z ≡ b → (b || is_among x l) ≡ true → (is_among x l ≡ true → Replaced (x, old) (x, new) (defined_by_any w l) (defined_by_any v l)) → Replaced (x, old) (x, new) (defined_by_any w (z ∷ l)) (defined_by_any v (z ∷ l))
-      by false e k r =
-          let here = r k in
-          record {
-            rest = defined_by w z ++ here.rest;
-            had = further (x, old) (defined_by w z) here.rest (defined_by_any w l) here.had;
-            has = subst (λ d. Inserted (x, new) (defined_by w z ++ here.rest) (d ++ defined_by_any v l)) (sym (defined_other z e)) (further (x, new) (defined_by w z) here.rest (defined_by_any v l) here.has);
-          }
-      by true e k r =
-          let own : x ≡ z = (same_object-Decides x z).0 e in
-          let once : is_among x l ≡ false = subst (λ u. is_among u l ≡ false) (c.0 ∙ sym own) (Climbs-once (parent_of w) (no_parent w wf.tree) l y z c) in
-          subst (λ u. Replaced (x, old) (x, new) (defined_by w u ++ defined_by_any w l) (defined_by v u ++ defined_by_any v l)) own
-          (subst (λ d. Replaced (x, old) (x, new) (defined_by w x ++ defined_by_any w l) (defined_by v x ++ d)) (sym (owed_beside l once))
-          (record {
-            rest = pairs at.before ++ (pairs at.after ++ defined_by_any w l);
-            had = put_in old (defined_by w x) (defined_by_any w l) defined_was;
-            has = put_in new (defined_by v x) (defined_by_any w l) defined_here;
-          }))
+  replaced = owed_with w v wf.tree x defined_other (Replaced (x, old) (x, new))
+      (λ d a b r. record { rest = d ++ r.rest; had = further (x, old) d r.rest a r.had; has = further (x, new) d r.rest b r.has })
+      (λ l. record { rest = pairs at.before ++ (pairs at.after ++ l); had = put_in old (defined_by w x) l defined_was; has = put_in new (defined_by v x) l defined_here })
 
   names : (y : ObjNo) (l : List ObjNo) → Chain v y l → NamesDiffer (defined_by_any v l)
-  names y l c = grind (arith, owed_beside, back, differ_now, replaced, none_of_name)
+  names y l c = grind (arith, owed_beside w v wf.tree x defined_other, back, differ_now, replaced, none_of_name)
 
   -- ---- the slots
 
@@ -233,13 +191,13 @@ module _ (w : World) (wf : IsWellFormed w) (x : ObjNo) (old new : Name) (xo : is
 
   slots : (y : ObjNo) (l : List ObjNo) (n : Name) → is_object v y ≡ true → Chain v y l → whose (slot_of v y n) ≡ by_whom (property_named (defined_by_any v l) n)
   slots y l n o c =
-      let yo : is_object w y ≡ true = sym (objects y) ∙ o in
+      let yo : is_object w y ≡ true = sym (objects_alike w v new_record (λ y. refl) (λ y r. refl) y) ∙ o in
       let r = some_record (w.object y) yo in
       let was : (k : Name) → whose (r.0.slot k) ≡ by_whom (property_named (defined_by_any w l) k) = λ k. ap (λ o. whose (option_and_then (λ (z : WorldObject). z.slot k) o)) (sym r.1) ∙ wf.slots y l k yo (back y l c) in
       ap whose (slot_now y n r.0 r.1) ∙ ap (λ b. whose (moved_slot b r.0.slot n)) (ap (is_among x) (chain_is w wf.tree y l (back y l c))) ∙ by r.0.slot was (is_among x l) refl
     where
       by : (slots : Name → Option Slot) → ((k : Name) → whose (slots k) ≡ by_whom (property_named (defined_by_any w l) k)) → (b : Bool) → is_among x l ≡ b → whose (moved_slot b slots n) ≡ by_whom (property_named (defined_by_any v l) n)
-      by slots was false e = was n ∙ ap (λ k. by_whom (property_named k n)) (sym (owed_beside l e))
+      by slots was false e = was n ∙ ap (λ k. by_whom (property_named k n)) (sym (owed_beside w v wf.tree x defined_other l e))
       by slots was true e = under_slots y l (back y l c) e slots was n
 
   -- each slot was there, under some name

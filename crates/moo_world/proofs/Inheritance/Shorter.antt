@@ -1,15 +1,7 @@
 -- A property taken from a well formed world.
-use Rattle.moo_world.proofs.Lemmas.{arith, ◌≡◌, Bool, true, false, cond, Option, None, Some, List, [], ◌∷◌, ◌++◌, map, refl, sym, ap, ◌∙◌, subst, ◌&&◌, not, if◌then◌else◌, option_map, filter, list_any, list_all, IsDistinct, AllByRecursion, both_ways, and_parts, ObjNo, property_removed, Name, Property, nothing, same_object, same_text, same_property, folded, same_object-Decides, same_text-Decides, World, WorldObject, Slot, IsWellFormed, Climbs, Chain, NamesDiffer, is_object, parent_of, chain, climb, numbers_to, property_names_of, defined_by, defined_by_any, has_property, property_named, slot_of, slot_for, fresh, object_changed, is_property_name, MayBeRebuilt, IsWellFormed-rebuilt, named_owed, named_so, none_named, slot_of-rebuilt, Chain-chain, parents_alike, objects_alike, tree_alike, limits_alike, names_fit, own_owed}
+use Rattle.moo_world.{proofs.Lemmas.{arith, ◌≡◌, Bool, true, false, cond, Option, None, Some, List, [], ◌∷◌, ◌++◌, map, refl, sym, ap, ◌∙◌, subst, ◌&&◌, not, if◌then◌else◌, option_map, filter, list_any, list_all, IsDistinct, AllByRecursion, both_ways, and_parts, ObjNo, property_removed, Name, Property, nothing, same_object, same_text, same_property, folded, same_object-Decides, same_text-Decides, World, WorldObject, Slot, IsWellFormed, Climbs, Chain, NamesDiffer, is_object, parent_of, chain, climb, numbers_to, property_names_of, defined_by, defined_by_any, has_property, property_named, slot_of, slot_for, fresh, object_changed, is_property_name, MayBeRebuilt, IsWellFormed-rebuilt, named_owed, named_so, none_named, slot_of-rebuilt, Chain-chain, parents_alike, objects_alike, tree_alike, limits_alike, names_fit, own_owed}, proofs.Words.{filter-append}, proofs.Shown.PairLists.{all_of_filter}}
 
 -- ---- lists
-
-filter-append : {A : Type 0} (test : A → Bool) (l m : List A) → filter test (l ++ m) ≡ filter test l ++ filter test m
-filter-append test [] m = refl
-filter-append test (a ∷ l) m = grind (arith, filter-append test l m)
-
-all_of_filter : {A : Type 0} (P : A → Type 0) (test : A → Bool) (l : List A) → AllByRecursion P l → AllByRecursion P (filter test l)
-all_of_filter P test [] h = tt
-all_of_filter P test (a ∷ l) h = grind (arith, all_of_filter P test l h.1)
 
 any_of_filter : {A : Type 0} (t test : A → Bool) (l : List A) → list_any t (filter test l) ≡ true → list_any t l ≡ true
 any_of_filter t test [] h = h
@@ -86,9 +78,6 @@ module _ (w : World) (wf : IsWellFormed w) (x : ObjNo) (name : Name) where
   owed_now [] = refl
   owed_now (z ∷ l) = (λ i. defined_now z i ++ owed_now l i) ∙ sym (filter-append stays (defined_by w z) (defined_by_any w l))
 
-  back : (y : ObjNo) (l : List ObjNo) → Chain s y l → Chain w y l
-  back y l c = subst (λ link. Climbs link y l) parents c
-
   was_owed : (y : ObjNo) (n : Name) (p : Property) → property_named (defined_by_any s (chain s y)) n ≡ Some p → has_property w y p ≡ true
   was_owed y n p e = any_of_filter (same_property p) stays (defined_by_any w (chain w y)) (ap (list_any (same_property p)) (sym (ap (defined_by_any s) (same_chain y) ∙ owed_now (chain w y))) ∙ named_owed s (chain s y) n p e)
 
@@ -106,7 +95,7 @@ module _ (w : World) (wf : IsWellFormed w) (x : ObjNo) (name : Name) where
   may : MayBeRebuilt w s nothing
   may = record {
     tree = tree_alike w s less (λ y. refl) (kept (λ r. r.row) (λ r. refl)) refl wf.tree;
-    names = λ y l c. subst NamesDiffer (sym (owed_now l)) (fewer_differ stays (defined_by_any w l) (wf.names y l (back y l c)));
+    names = λ y o. subst NamesDiffer (sym (owed_now (chain s y))) (fewer_differ stays (defined_by_any w (chain s y)) (subst (λ l. NamesDiffer (defined_by_any w l)) (sym (same_chain y)) (wf.names y (chain w y) (Chain-chain w wf.tree y (sym (objects y) ∙ o)))));
     new = λ y n p o e h. absurd (both_ways (has_property w y p) h (was_owed y n p e));
     own = λ y p o h. own_owed w wf.tree y p (sym (objects y) ∙ o) (any_of_filter (same_property p) stays (defined_by w y) (ap (list_any (same_property p)) (sym (defined_now y)) ∙ h));
     limits = limits_alike w s less (λ y. refl) (kept (λ r. r.row) (λ r. refl)) refl wf.limits.props refl (kept (λ r. r.verbs) (λ r. refl)) all_names wf.limits;

@@ -1,5 +1,5 @@
 -- What stays of a world, and what is new, when an object is made.
-use Rattle.moo_world.{proofs.Lemmas.{◌≡◌, Bool, true, false, ◌||◌, List, [], ◌∷◌, refl, sym, ◌∙◌, ap, ◌⊎◌, inl, inr, Option, Some, None, pos, arith, ◌+ℤ◌, ◌<ℤ◌, is_some, unwrap_or, if◌then◌else◌, option_map, or_cases, ObjNo, is_number, plain_object, next_object, object_added, created, Name, Property, nothing, same_object, same_object-Decides, World, WorldObject, Slot, IsWellFormed, SameButSlots, Chain, is_object, owner_of, chain, climb, numbers_to, slot_of, defined_by_any, property_named, slot_for, fresh, read_along, read_of, named_owed, SameButSlots-rebuilt, objects_same, owners_same, parents_same, slot_of-rebuilt, Chain-chain, linked}, proofs.Inheritance.Creating.{IsWellFormed-created, chain_other, owed_still}}
+use Rattle.moo_world.{proofs.Lemmas.{◌≡◌, Bool, true, false, ◌||◌, List, [], ◌∷◌, refl, sym, ◌∙◌, ap, ◌⊎◌, inl, inr, Option, Some, None, pos, arith, ◌+ℤ◌, ◌<ℤ◌, is_some, unwrap_or, if◌then◌else◌, option_map, or_cases, ObjNo, is_number, plain_object, next_object, object_added, created, Name, Property, nothing, same_object, same_object-Decides, World, WorldObject, Slot, IsWellFormed, SameButSlots, Chain, is_object, owner_of, chain, climb, numbers_to, slot_of, defined_by_any, property_named, slot_for, fresh, read_along, read_of, named_owed, SameButSlots-rebuilt, objects_same, owners_same, parents_same, slot_of-rebuilt, Chain-chain, known_is, linked}, proofs.Inheritance.Creating.{IsWellFormed-created, chain_other, owed_still}}
 
 -- worlds that differ in slots alone have the same chains
 pub chains_same : (a b : World) → SameButSlots a b → (y : ObjNo) → chain a y ≡ chain b y
@@ -15,21 +15,18 @@ module _ (w : World) (x q owner : ObjNo) (wf : IsWellFormed w) (is_next : next_o
 
   -- ---- what the number says
 
-  next_is : (w.top <ℤ pos 2147483647) × (x.0 ≡ w.top +ℤ pos 1)
+  pub next_is : (w.top <ℤ pos 2147483647) × (x.0 ≡ w.top +ℤ pos 1)
   next_is = grind arith
 
   pub free : is_object w x ≡ false
   free = grind arith
-
-  parent_is : (is_object w q ≡ true) ⊎ (q ≡ nothing)
-  parent_is = elim (or_cases _ _ parent) [ inl e ↦ inl e | inr e ↦ inr (sym ((same_object-Decides nothing q).0 e)) ]
 
   -- the number of the new object has 32 bits
   pub new_numbered : is_number x ≡ true
   new_numbered = grind arith
 
   pub formed : is_number owner ≡ true → IsWellFormed (created w x q owner)
-  formed = IsWellFormed-created w x q owner wf free next_is.1 next_is.0 parent_is
+  formed = IsWellFormed-created w x q owner wf free next_is.1 next_is.0 (known_is w q parent)
 
   -- ---- objects and owners
 
@@ -60,7 +57,7 @@ module _ (w : World) (x q owner : ObjNo) (wf : IsWellFormed w) (is_next : next_o
   pub slot_old : (y : ObjNo) (n : Name) → is_object w y ≡ true → slot_of (created w x q owner) y n ≡ slot_of w y n
   slot_old y n o =
       slot_of-rebuilt w s q y n
-      ∙ ap (slot_for w s q y n) (ap (λ k. property_named k n) (owed_still w x q owner wf free next_is.1 next_is.0 parent_is (chain s y) ∙ ap (defined_by_any w) (chain_other w x q owner wf free next_is.1 next_is.0 parent_is y o)))
+      ∙ ap (slot_for w s q y n) (ap (λ k. property_named k n) (owed_still w x q owner wf free next_is.1 next_is.0 (known_is w q parent) (chain s y) ∙ ap (defined_by_any w) (chain_other w x q owner wf free next_is.1 next_is.0 (known_is w q parent) y o)))
       ∙ by (property_named (defined_by_any w (chain w y)) n) refl
     where
       none : (v : Option Slot) → option_map (λ k. k.definer) v ≡ None → None ≡ v
@@ -76,5 +73,5 @@ module _ (w : World) (x q owner : ObjNo) (wf : IsWellFormed w) (is_next : next_o
 
   pub read_old : (y : ObjNo) (n : Name) → is_object w y ≡ true → read_of (created w x q owner) y n ≡ read_of w y n
   read_old y n o =
-      ap (read_along (created w x q owner) n) (chains_same (created w x q owner) s same y ∙ chain_other w x q owner wf free next_is.1 next_is.0 parent_is y o)
+      ap (read_along (created w x q owner) n) (chains_same (created w x q owner) s same y ∙ chain_other w x q owner wf free next_is.1 next_is.0 (known_is w q parent) y o)
       ∙ read_on n (chain w y) y (Chain-chain w wf.tree y o)

@@ -5,9 +5,6 @@ module _ (w : World) (o : ObjNo) (state : SlotState) where
   abbrev v : World
   v = object_changed w o (set_slot quota_name state)
 
-  abbrev put : ObjNo → WorldObject → WorldObject
-  put y r = if same_object o y then set_slot quota_name state r else r
-
   parents : parent_of v ≡ parent_of w
   parents = grind arith
 

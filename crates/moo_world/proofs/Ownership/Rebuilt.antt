@@ -37,14 +37,14 @@ module _ (w s : World) (q : ObjNo) (wf : IsWellFormed w) (may : MayBeRebuilt w s
       by None e g = absurd (none-some b g)
       by (Some p) e g = test p e (has_property w y p) refl g
 
+kept : (a b : Slot) (gone : Bool) → (if gone then None else Some a) ≡ Some b → b.owner ≡ a.owner
+kept a b gone g = grind arith
+
 module _ (w : World) (wf : IsWellFormed w) (p : ObjNo) where
   pub by_reparenting : (x q : ObjNo) → is_object w x ≡ true → (is_object w q ≡ true) ⊎ (q ≡ nothing) → is_among x (chain w q) ≡ false → NoClash w x q → KeepsOwnership w (reparented w x q) p (λ y n. n)
   by_reparenting x q xo qo outside apart =
-      from_slots w p (reparented w x q) (λ y n. n) (λ y f. ranked_rebuilt w (with_parent w x q) q y ∙ by (same_object x y) (w.object y))
+      from_slots w p (reparented w x q) (λ y n. n) (λ y f. ranked_rebuilt w (with_parent w x q) q y ∙ grind arith)
       (λ y n a b e f d. owner_kept w (with_parent w x q) q wf (MayBeRebuilt-moved w x q wf xo qo outside apart) y n a b e f d)
-    where
-      by : (b : Bool) (o : Option WorldObject) → option_map rank (option_map (λ (r : WorldObject). if b then record r { row = record r.row { parent = q } } else r) o) ≡ option_map rank o
-      by b o = grind arith
 
   pub by_recycling : (x : ObjNo) → is_object w x ≡ true → KeepsOwnership w (recycled w x) p (λ y n. n)
   by_recycling x xo = from_slots w p (recycled w x) (λ y n. n) (λ y f. ranks y (here y f)) slots
@@ -52,27 +52,15 @@ module _ (w : World) (wf : IsWellFormed w) (p : ObjNo) where
       here : (y : ObjNo) → is_object (recycled w x) y ≡ true → is_object (object_removed w x) y ≡ true
       here y f = sym (objects_same (recycled w x) (object_removed w x) (SameButSlots-rebuilt w (object_removed w x) nothing) y) ∙ f
 
-      by : (b : Bool) (o : Option WorldObject) → is_some (if b then None else option_map (released x (unwrap_or (parent_of w x) nothing)) o) ≡ true → option_map rank (if b then None else option_map (released x (unwrap_or (parent_of w x) nothing)) o) ≡ option_map rank o
-      by b o h = grind arith
-
       ranks : (y : ObjNo) → is_object (object_removed w x) y ≡ true → ranked (recycled w x) y ≡ ranked w y
-      ranks y o = ranked_rebuilt w (object_removed w x) nothing y ∙ by (same_object x y) (w.object y) o
-
-      kept : (a b : Slot) (gone : Bool) → (if gone then None else Some a) ≡ Some b → b.owner ≡ a.owner
-      kept a b gone g = grind arith
+      ranks y o = ranked_rebuilt w (object_removed w x) nothing y ∙ grind arith
 
       slots : (y : ObjNo) (n : Name) (a b : Slot) → slot_of w y n ≡ Some a → slot_of (recycled w x) y n ≡ Some b → a.definer ≡ b.definer → b.owner ≡ a.owner
       slots y n a b e f d = kept a b (is_among a.definer (x ∷ [])) (sym (recycle_law w x wf xo y n (here y (slotted (recycled w x) y n b f)) ∙ ap (unless_defined_by (x ∷ [])) e) ∙ f)
 
   pub by_undefining : (x : ObjNo) (name : Name) → KeepsOwnership w (property_removed w x name) p (λ y n. n)
-  by_undefining x name = from_slots w p (property_removed w x name) (λ y n. n) (λ y f. ranked_rebuilt w (less w wf x name) nothing y ∙ by (same_object x y) (w.object y)) slots
+  by_undefining x name = from_slots w p (property_removed w x name) (λ y n. n) (λ y f. ranked_rebuilt w (less w wf x name) nothing y ∙ grind arith) slots
     where
-      by : (b : Bool) (o : Option WorldObject) → option_map rank (option_map (λ (r : WorldObject). if b then record r { defines = filter (λ m. not (same_text (folded m) (folded name))) r.defines } else r) o) ≡ option_map rank o
-      by b o = grind arith
-
-      kept : (a b : Slot) (gone : Bool) → (if gone then None else Some a) ≡ Some b → b.owner ≡ a.owner
-      kept a b gone g = grind arith
-
       slots : (y : ObjNo) (n : Name) (a b : Slot) → slot_of w y n ≡ Some a → slot_of (property_removed w x name) y n ≡ Some b → a.definer ≡ b.definer → b.owner ≡ a.owner
       slots y n a b e f d = kept a b (same_object a.definer x && same_text n (folded name)) (sym (undefined_law w wf x name y n (slotted w y n a e) ∙ ap (kept_slot w wf x name n) e) ∙ f)
 

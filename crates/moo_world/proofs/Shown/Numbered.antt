@@ -1,5 +1,5 @@
 -- Lists made from the numbers below a bound.
-use Rattle.moo_world.proofs.Lemmas.{◌≡◌, ℕ, zero, suc, ◌<◌, Bool, true, false, ◌||◌, Option, None, Some, List, [], ◌∷◌, ◌++◌, refl, sym, ap, ◌∙◌, subst, ◌⊎◌, inl, inr, arith, slice_get, filter_map, cons_option, list_any, IsDistinct, AllByRecursion, false≢true, both_ways, or_right, cases_eq, filter_map-append, none-some, numbers_below, any-append}
+use Rattle.moo_world.{proofs.Lemmas.{◌≡◌, ℕ, zero, suc, ◌<◌, Bool, true, false, ◌||◌, Option, None, Some, List, [], ◌∷◌, ◌++◌, refl, sym, ap, ◌∙◌, subst, ◌⊎◌, inl, inr, arith, slice_get, filter_map, cons_option, list_any, IsDistinct, AllByRecursion, false≢true, both_ways, or_right, cases_eq, filter_map-append, none-some, numbers_below, any-append}, proofs.Shown.PairLists.{all_right, left_distinct}}
 
 first_append : {X : Type 0} (l m : List X) (v : X) → slice_get (l ++ m) 0 ≡ Some v → (slice_get l 0 ≡ Some v) ⊎ (slice_get m 0 ≡ Some v)
 first_append [] m v e = inr e
@@ -32,26 +32,13 @@ module _ {X : Type 0} (h : ℕ → Option X) where
       by (Some v) g = absurd (false≢true (sym (ap (list_any (λ x. true)) (no_first (filter_map h (numbers_below n)) e)) ∙ any_from (λ x. true) n k v l g refl))
 
   module _ (differ : X → X → Bool) where
-    pub left_distinct : (l m : List X) → IsDistinct differ (l ++ m) → IsDistinct differ l
-    unfolding IsDistinct
-    left_distinct [] m d = tt
-    left_distinct (x ∷ l) m d = (first l m d.0, left_distinct l m d.1)
-      where
-        first : (l m : List X) → AllByRecursion (λ y. differ x y ≡ false) (l ++ m) → AllByRecursion (λ y. differ x y ≡ false) l
-        first [] m a = tt
-        first (y ∷ l) m a = (a.0, first l m a.1)
-
     last_differs : (test : X → Bool) (l : List X) (u v : X) → (test u ≡ true) → ((y : X) → test y ≡ true → differ y v ≡ true) → IsDistinct differ (l ++ v ∷ []) → list_any test l ≡ false
     unfolding IsDistinct
     last_differs test [] u v t s d = refl
     last_differs test (x ∷ l) u v t s d = by (test x) refl (last_differs test l u v t s d.1)
       where
-        at_end : (l : List X) → AllByRecursion (λ y. differ x y ≡ false) (l ++ v ∷ []) → differ x v ≡ false
-        at_end [] a = a.0
-        at_end (y ∷ l) a = at_end l a.1
-
         by : (b : Bool) → test x ≡ b → list_any test l ≡ false → (b || list_any test l) ≡ false
-        by true g r = absurd (both_ways (differ x v) (at_end l d.0) (s x g))
+        by true g r = absurd (both_ways (differ x v) (all_right (λ y. differ x y ≡ false) l (v ∷ []) d.0).0 (s x g))
         by false g r = r
 
     -- in a list without doubles two numbers with alike values are one: the later one is not the greater
@@ -69,4 +56,4 @@ module _ {X : Type 0} (h : ℕ → Option X) where
         by (inl g) r = both_ways (list_any test (filter_map h (numbers_below n)))
             (last_differs test (filter_map h (numbers_below n)) u v t s (subst (λ m. IsDistinct differ (filter_map h (numbers_below n) ++ m)) (end g) split))
             (any_from test n i u (omega arith) e t)
-        by (inr g) r = r (left_distinct (filter_map h (numbers_below n)) (filter_map h (n ∷ [])) split) l (omega arith) e f test t s
+        by (inr g) r = r (left_distinct differ (filter_map h (numbers_below n)) (filter_map h (n ∷ [])) split) l (omega arith) e f test t s

@@ -1,5 +1,5 @@
 -- The opening rows are sound, and their world is well formed.
-use Rattle.moo_world.proofs.Words.{◌≡◌, ◌≢◌, ℕ, pos, Bool, true, false, cond, List, [], ◌∷◌, ◌++◌, map, Option, Some, None, is_some, Equal, Ordering, refl, sym, subst, arith, ◌≤ℤ◌, unwrap_or, option_map, option_and_then, list_all, IsDistinct, eq_by_cmp, is_eq, get, get-insert, get-empty, empty, ObjNo, ObjRow, object_cmp, petition_cmp, object_total, Name, nothing, World, WorldObject, IsTree, IsWellFormed, KeepsLimits, Chain, LocationChain, is_object, slot_of, property_names_of, defined_by_any, is_property_name, verb_fits, row_fits, without_slots, with_slots, NamesDiffer, PetitionsStand, IsGood, LookUps, AreSound, world_shown, look_ups, object_shown}
+use Rattle.moo_world.proofs.Words.{◌≡◌, ◌≢◌, ℕ, pos, Bool, true, false, cond, false≢true, none-some, List, [], ◌∷◌, ◌++◌, map, Option, Some, None, is_some, Equal, Ordering, refl, sym, subst, arith, ◌≤ℤ◌, unwrap_or, option_map, option_and_then, list_all, IsDistinct, eq_by_cmp, is_eq, get, get-insert, get-empty, empty, ObjNo, ObjRow, object_cmp, petition_cmp, object_total, Name, nothing, World, WorldObject, IsTree, IsWellFormed, KeepsLimits, Chain, LocationChain, is_object, slot_of, property_names_of, defined_by_any, is_property_name, verb_fits, row_fits, without_slots, with_slots, NamesDiffer, PetitionsStand, IsGood, LookUps, AreSound, world_shown, look_ups, object_shown}
 use Rattle.moo_rows.specs.Opening.{opening_maps, system_object, root_class, first_room, wizard}
 
 abbrev no : ℕ → ObjNo
@@ -21,23 +21,11 @@ rows_are x = grind (arith, get-insert, object_total, get-empty)
 maps_are : look_ups opening_maps ≡ opening_look_ups
 maps_are = grind (arith, rows_are, get-empty)
 
-false_true : false ≢ true
-false_true e = cc
-
-none_some : {X : Type 0} (x : X) → None ≢ Some x
-none_some x e = cc
-
-equal_of : (o : Ordering) → is_eq o ≡ true → o ≡ Equal
-equal_of o p = grind arith
-
 sound : AreSound opening_look_ups
 sound = grind arith
 
 abbrev world : World
 world = world_shown opening_look_ups
-
-of_row : (x : ObjNo) (o : Option ObjRow) → is_some (option_map (object_shown opening_look_ups x) o) ≡ true → is_some o ≡ true
-of_row x o h = grind arith
 
 -- what holds of the four holds of each object
 each : (P : ObjNo → Type 0) → P (no 0) → P (no 1) → P (no 2) → P (no 3) → (x : ObjNo) → is_object world x ≡ true → P x
@@ -61,23 +49,17 @@ tree = record {
 }
 
 -- no names, no slots, no verbs
-no_names_by : (x : ObjNo) (o : Option ObjRow) → unwrap_or (option_map (λ (r : WorldObject). r.defines) (option_map (object_shown opening_look_ups x) o)) [] ≡ []
-no_names_by x o = grind arith
-
 no_names : (x : ObjNo) → property_names_of world x ≡ []
 unfolding world_shown
-no_names x = no_names_by x (row_at x)
+no_names x = grind arith
 
 none_owed : (l : List ObjNo) → defined_by_any world l ≡ []
 none_owed [] = refl
 none_owed (d ∷ l) = λ i. map (λ n. (d, n)) (no_names d i) ++ none_owed l i
 
-no_slot_by : (x : ObjNo) (n : Name) (o : Option ObjRow) → option_and_then (λ (r : WorldObject). r.slot n) (option_map (object_shown opening_look_ups x) o) ≡ None
-no_slot_by x n o = grind arith
-
 no_slot : (x : ObjNo) (n : Name) → slot_of world x n ≡ None
 unfolding world_shown
-no_slot x n = no_slot_by x n (row_at x)
+no_slot x n = grind arith
 
 limits : KeepsLimits (without_slots world)
 unfolding world_shown
@@ -85,29 +67,20 @@ limits = record {
   top = (omega arith, omega arith);
   props = (omega arith, omega arith);
   verbs = (omega arith, omega arith);
-  names = λ x. names_by x (row_at x);
-  directories = λ x. directories_by x (row_at x);
-  rows = λ x. rows_by x (eq_by_cmp object_cmp x (no 3)) (eq_by_cmp object_cmp x (no 2)) (eq_by_cmp object_cmp x (no 1)) (eq_by_cmp object_cmp x (no 0));
+  names = λ x. grind arith;
+  directories = λ x. grind arith;
+  rows = λ x. grind arith;
 }
-  where
-    names_by : (x : ObjNo) (o : Option ObjRow) → list_all is_property_name (unwrap_or (option_map (λ (r : WorldObject). r.defines) (option_map (with_slots (λ n. None)) (option_map (object_shown opening_look_ups x) o))) []) ≡ true
-    names_by x o = grind arith
-
-    directories_by : (x : ObjNo) (o : Option ObjRow) → list_all verb_fits (unwrap_or (option_map (λ (r : WorldObject). r.verbs) (option_map (with_slots (λ n. None)) (option_map (object_shown opening_look_ups x) o))) []) ≡ true
-    directories_by x o = grind arith
-
-    rows_by : (x : ObjNo) (b3 b2 b1 b0 : Bool) → unwrap_or (option_map row_fits (option_map (λ (r : WorldObject). r.row) (option_map (with_slots (λ n. None)) (option_map (object_shown opening_look_ups x) (row_by b3 b2 b1 b0))))) true ≡ true
-    rows_by x b3 b2 b1 b0 = grind arith
 
 none_differ : NamesDiffer []
 unfolding IsDistinct
 none_differ = tt
 
 well_formed : IsWellFormed world
-well_formed = grind (arith, tree, none_owed, none_differ, no_slot, none_some, limits)
+well_formed = grind (arith, tree, none_owed, none_differ, no_slot, none-some, limits)
 
 no_petitions : PetitionsStand (empty {R = petition_cmp}) 1
-no_petitions = grind (arith, false_true, get-empty, none_some)
+no_petitions = grind (arith, false≢true, get-empty, none-some)
 
 pub opening-good : IsGood opening_maps
 opening-good = record { sound = subst AreSound (sym maps_are) sound; formed = subst (λ m. IsWellFormed (world_shown m)) (sym maps_are) well_formed; petitions = no_petitions }

@@ -2,7 +2,7 @@
 use Rattle.moo_world.proofs.Words.{◌≡◌, ◌≢◌, ℕ, zero, suc, ◌<◌, ◌+◌, Bool, true, false, eqb, [], ◌∷◌, ◌++◌, refl, sym, ◌∙◌, ap, subst, Option, Some, None, arith, append-nil, add-one, ◌&&◌, is_some, unwrap_or, slice_get, if◌then◌else◌, option_map, option_and_then, filter_map, cons_option, eq-eqb, ne_eqb, filter_map-append, ObjNo, ObjRow, PropRow, SlotRow, Name, same_object, same_text, folded, same_object-Decides, same_text-Decides, WorldObject, slot_of, property_names_of, object_changed, LookUps, AreSound, with_object_row, with_slot_row, numbers_below, name_on, slot_on, slot_seen, object_shown, world_shown}
 
 module _ {X : Type 0} (h : ℕ → Option X) where
-  none_below : (n : ℕ) → ((j : ℕ) → j < n → h j ≡ None) → filter_map h (numbers_below n) ≡ []
+  pub none_below : (n : ℕ) → ((j : ℕ) → j < n → h j ≡ None) → filter_map h (numbers_below n) ≡ []
   none_below zero none = refl
   none_below (suc n) none = grind (arith, none_below n, filter_map-append, numbers_below)
 
@@ -29,7 +29,7 @@ module _ (m : LookUps) (sound : AreSound m) (x : ObjNo) (row : ObjRow) (here : m
 abbrev pub with_prop : LookUps → PropRow → LookUps
 with_prop m p = record m { head = record m.head { next_prop = m.head.next_prop + 1 }; prop = λ id. if eqb id m.head.next_prop then Some p else m.prop id }
 
-same_below : {X : Type 0} (h g : ℕ → Option X) (n : ℕ) → ((j : ℕ) → j < n → h j ≡ g j) → filter_map h (numbers_below n) ≡ filter_map g (numbers_below n)
+pub same_below : {X : Type 0} (h g : ℕ → Option X) (n : ℕ) → ((j : ℕ) → j < n → h j ≡ g j) → filter_map h (numbers_below n) ≡ filter_map g (numbers_below n)
 same_below h g zero e = refl
 same_below h g (suc n) e = grind (arith, same_below h g n, filter_map-append, numbers_below)
 

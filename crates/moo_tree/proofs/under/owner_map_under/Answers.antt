@@ -1,6 +1,7 @@
-use Rattle.moo_tree.{proofs.Words.{arith, ◌≡◌, ◌≢◌, suc, ◌+◌, ◌<◌, ◌≤◌, [], ◌∷◌, ◌++◌, length, drop, sym, ap, ◌∙◌, subst, rules, slice_index_or, get, insert, get-empty, from_entries, object_cmp, contents, is_among, children_of, world_of, chain}, proofs.Searching.{Search, AreAt, begun, nothing_under, step, ended, is_there, rank-smaller, deeper, rest_of, in_list, alone, a_row, among-first, no_items}}
+use Rattle.moo_tree.{proofs.Words.{arith, ◌≡◌, ◌≢◌, suc, ◌+◌, ◌<◌, ◌≤◌, [], ◌∷◌, ◌++◌, length, drop, sym, ap, ◌∙◌, subst, rules, slice_index_or, get, insert, get-empty, from_entries, object_cmp, contents, is_among, children_of, world_of, chain}, proofs.Searching.{Search, AreAt, begun, nothing_under, step, ended, rank-smaller, deeper, rest_of, in_list, alone, a_row, among-first, no_items}}
 use Rattle.std.proofs.lemmas.List.{drop_all}
 use Rattle.moo_tree.proofs.under.owner_map_under.Goals as goal
+use Rattle.moo_world.proofs.Ancestry.Trees.{object_of_chain}
 
 pub returns-then-not-valid : goal.returns-then-not-valid
 returns-then-not-valid g c = grind (arith, nothing_under, from_entries, get-empty)
@@ -22,7 +23,7 @@ visit-requires-clause-object g c =
     let here : c.loop-y.y-index < length items = search rules in
     let y = slice_index_or items c.loop-y.y-index (record { 0 = lib.IntN.pos 0 }) in
     let first = rest_of items c.loop-y.y-index (record { 0 = lib.IntN.pos 0 }) here in
-    is_there t c.requires c.args.x y (c.loop-y.invariant.search.sound y (ap (λ l. is_among y (l ++ c.loop-y.below.items)) first ∙ among-first y (drop (c.loop-y.y-index + 1) items ++ c.loop-y.below.items)))
+    object_of_chain (world_of t) c.args.x y (c.loop-y.invariant.search.sound y (ap (λ l. is_among y (l ++ c.loop-y.below.items)) first ∙ among-first y (drop (c.loop-y.y-index + 1) items ++ c.loop-y.below.items)))
 
 pub loop-y-preserved : goal.loop-y-preserved
 loop-y-preserved g c =
@@ -34,7 +35,7 @@ loop-y-preserved g c =
     let below = c.loop-y.below.items in
     let first : drop c.loop-y.y-index items ≡ y ∷ rest = rest_of items c.loop-y.y-index (record { 0 = lib.IntN.pos 0 }) here in
     let now : Search t c.args.x (contents object_cmp c.loop-y.found) ((y ∷ rest) ++ below) = subst (λ l. Search t c.args.x (contents object_cmp c.loop-y.found) (l ++ below)) first c.loop-y.invariant.search in
-    let there = is_there t c.requires c.args.x y (now.sound y (among-first y (rest ++ below))) in
+    let there = object_of_chain (world_of t) c.args.x y (now.sound y (among-first y (rest ++ below))) in
     let row = a_row t y there in
     let more : c.visit.new.below.items ≡ below ++ children_of (world_of t) y = c.in_ok-visit.ensures.below in
     record {

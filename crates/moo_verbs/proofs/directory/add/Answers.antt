@@ -1,4 +1,4 @@
-use Rattle.moo_verbs.{proofs.Words.{FitsSigned, w32, rules, ◌≡◌, ◌+◌, refl, sym, ap, ◌∙◌, subst, arith, insert, ObjNo, VerbId, VerbRow, Held, wrote, Keeps, props_stay}, proofs.Changes.{added_world, added_good}}
+use Rattle.moo_verbs.{proofs.Words.{FitsSigned, w32, rules, ◌≡◌, ◌+◌, refl, sym, ap, ◌∙◌, subst, arith, insert, ObjNo, VerbId, VerbRow, Held, wrote, Keeps}, proofs.Changes.{kept_by, added_world, added_good}}
 use Rattle.moo_verbs.proofs.directory.add.Goals as goal
 use Rattle.moo_rows.specs.declared.row.Head.{Head}
 use Rattle.moo_world.{specs.Numbers.{verb_added}, proofs.Form.Limits.{verb_within}}
@@ -23,12 +23,8 @@ returns-clause-kept g c =
     let old = g.R.Rows.held c.args.rows.now in
     let owner : FitsSigned w32 c.args.verb.owner.0 = search rules in
     subst (Keeps old) (sym (whole g c))
-    (record {
-      good = added_good old.maps c.requires.good c.args.x c.args.verb (record { 0 = old.maps.head.next_verb }) refl c.requires.object c.requires.left (verb_within c.args.verb c.requires.names c.bytes-names.ensures.text owner);
-      beside = refl;
-      base = refl;
-      numbers = record { props = props_stay refl; verbs = verb_added c.args.x c.args.verb refl; next_prop = omega arith; next_verb = omega arith };
-    })
+    (kept_by old _ (old.maps.head.next_verb + 1) (omega arith) (verb_added c.args.x c.args.verb refl)
+    (added_good old.maps c.requires.good c.args.x c.args.verb (record { 0 = old.maps.head.next_verb }) refl c.requires.object c.requires.left (verb_within c.args.verb c.requires.names c.bytes-names.ensures.text owner)))
 
 pub returns-clause-verbs : goal.returns-clause-verbs
 returns-clause-verbs g c = ap (λ (h : Held). h.maps.verbs) (whole g c)

@@ -1,4 +1,4 @@
-use Rattle.moo_verbs.{proofs.Words.{refl, sym, ap, subst, arith, Held, Keeps, props_stay}, proofs.Changes.{removed_world, removed_good}}
+use Rattle.moo_verbs.{proofs.Words.{refl, sym, ap, subst, arith, Held, Keeps}, proofs.Changes.{kept_by, removed_world, removed_good}}
 use Rattle.moo_verbs.proofs.directory.delete.Goals as goal
 use Rattle.moo_world.specs.Numbers.{verb_removed}
 
@@ -8,7 +8,7 @@ returns-clause-world g c = grind (arith, removed_world)
 pub returns-clause-kept : goal.returns-clause-kept
 returns-clause-kept g c =
     let old = g.R.Rows.held c.args.rows.now in
-    subst (Keeps old) (sym c.in_ok-remove_verb.ensures.ok) (record { good = removed_good old.maps c.requires.good c.args.x c.args.id c.requires.held; beside = refl; base = refl; numbers = record { props = props_stay refl; verbs = verb_removed (c.args.x, c.args.id) refl; next_prop = omega arith; next_verb = omega arith } })
+    subst (Keeps old) (sym c.in_ok-remove_verb.ensures.ok) (kept_by old _ old.maps.head.next_verb (omega arith) (verb_removed (c.args.x, c.args.id) refl) (removed_good old.maps c.requires.good c.args.x c.args.id c.requires.held))
 
 pub returns-clause-verbs : goal.returns-clause-verbs
 returns-clause-verbs g c = ap (λ (h : Held). h.maps.verbs) c.in_ok-remove_verb.ensures.ok

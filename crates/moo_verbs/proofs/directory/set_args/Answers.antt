@@ -1,4 +1,4 @@
-use Rattle.moo_verbs.{proofs.Words.{◌≡◌, refl, sym, ap, ◌∙◌, subst, arith, insert, VerbRow, Held, wrote, world_of, Keeps, props_stay}, proofs.Changes.{changed_world, changed_good}}
+use Rattle.moo_verbs.{proofs.Words.{◌≡◌, refl, sym, ap, ◌∙◌, subst, arith, insert, VerbRow, Held, wrote, world_of, Keeps}, proofs.Changes.{kept_by, changed_world, changed_good}}
 use Rattle.moo_verbs.proofs.directory.set_args.Goals as goal
 use Rattle.moo_world.specs.Numbers.{verb_changed}
 
@@ -20,9 +20,5 @@ pub returns-clause-kept : goal.returns-clause-kept
 returns-clause-kept g c =
     let old = g.R.Rows.held c.args.rows.now in
     subst (Keeps old) (sym (whole g c))
-    (record {
-      good = changed_good old.maps c.requires.good c.args.x c.args.id c.requires.held c.in-Some.row.now (sym c.in-Some.ensures) (λ v. record v { args = c.args.args }) (λ u named. named);
-      beside = refl;
-      base = refl;
-      numbers = record { props = props_stay refl; verbs = verb_changed (c.args.x, c.args.id) (record (c.in-Some.row.now) { args = c.args.args }) c.requires.held refl; next_prop = omega arith; next_verb = omega arith };
-    })
+    (kept_by old _ old.maps.head.next_verb (omega arith) (verb_changed (c.args.x, c.args.id) (record (c.in-Some.row.now) { args = c.args.args }) c.requires.held refl)
+    (changed_good old.maps c.requires.good c.args.x c.args.id c.requires.held c.in-Some.row.now (sym c.in-Some.ensures) (λ v. record v { args = c.args.args }) (λ u named. named)))
