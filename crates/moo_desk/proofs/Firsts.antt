@@ -1,39 +1,21 @@
 -- The first item of which something holds.
-use Rattle.std.proofs.Common.{◌≡◌, ◌<◌, ◌≤◌, ◌+◌, add-one, ◌-◌, ◌^◌, drop_of_length-le, min, max, ℕ, zero, suc, List, [], ◌∷◌, ◌++◌, length, get_or, set, take, drop, inl, inr, refl, sym, ap, subst, ◌∙◌, arith}
-use Rattle.std.specs.Prelude.{⊤, Some}
-use Rattle.moo_desk.specs.declared.leaving.Leaving.{Leaving}
-use Rattle.std.specs.declared.time.Duration.{Duration}
-use Rattle.moo_arrivals.specs.declared.cause.Cause.TheVariants.{Crowded}
-use Rattle.moo_desk.specs.declared.leaving.Stage.TheVariants.{Done, Lost}
-use Rattle.moo_desk.specs.Stages.{ended}
-use Rattle.moo_desk.specs.Choices.{CutsAt, IsLingering, IsStuck, answers_of, held_of, largest_of}
-use Rattle.std.specs.List.{sum_by}
-use Rattle.std.proofs.lemmas.List.Sums.{sum_by-drop_more}
-use Rattle.moo_desk.specs.Each.{HoldsOfNone, IsFirstPlace, OfFirst, TakesOutFirst, TurnsFirst}
+use Rattle.moo_desk.proofs.Words.{◌≡◌, ◌<◌, ◌≤◌, ◌+◌, add-one, ◌-◌, ◌^◌, drop_of_length-le, min, max, ℕ, zero, suc, List, [], ◌∷◌, ◌++◌, length, get_or, set, take, drop, inl, inr, refl, sym, ap, subst, ◌∙◌, arith, ⊤, Some, Leaving, Duration, Crowded, Done, Lost, ended, CutsAt, IsLingering, IsStuck, answers_of, held_of, largest_of, sum_by, sum_by-drop_more, HoldsOfNone, IsFirstPlace, OfFirst, TakesOutFirst, TurnsFirst}
+use Rattle.std.proofs.lemmas.List.{take_all}
 use Rattle.moo_desk.proofs.Ledgers.{taken_out}
 use Rattle.moo_desk.proofs.Reading.{saturated}
 
--- it holds of none of so many
-abbrev pub LacksSoFar : {A : Type 0} → (A → Type 0) → ℕ → List A → Type 0
-LacksSoFar Holds zero xs = ⊤
-LacksSoFar Holds (suc n) [] = ⊤
-LacksSoFar Holds (suc n) (x ∷ xs) = (¬ (Holds x)) × LacksSoFar Holds n xs
-
-lacks_next : {A : Type 0} (Holds : A → Type 0) (n : ℕ) (xs : List A) (d : A) → n < length xs → LacksSoFar Holds n xs → ¬ (Holds (get_or xs n d)) → LacksSoFar Holds (suc n) xs
-lacks_next Holds zero [] d few so_far not = tt
+lacks_next : {A : Type 0} (Holds : A → Type 0) (n : ℕ) (xs : List A) (d : A) → n < length xs → HoldsOfNone Holds (take n xs) → ¬ (Holds (get_or xs n d)) → HoldsOfNone Holds (take (suc n) xs)
+lacks_next Holds n [] d few so_far not = tt
 lacks_next Holds zero (x ∷ xs) d few so_far not = (not, tt)
-lacks_next Holds (suc n) [] d few so_far not = tt
 lacks_next Holds (suc n) (x ∷ xs) d few so_far not = (so_far.0, lacks_next Holds n xs d (omega (arith, few)) so_far.1 not)
 
-pub lacks_then : {A : Type 0} (Holds : A → Type 0) (n : ℕ) (xs : List A) (d : A) → n < length xs → LacksSoFar Holds n xs → ¬ (Holds (get_or xs n d)) → LacksSoFar Holds (n + 1) xs
-lacks_then Holds n xs d few so_far not = subst (λ m. LacksSoFar Holds m xs) (sym (add-one n)) (lacks_next Holds n xs d few so_far not)
+pub lacks_then : {A : Type 0} (Holds : A → Type 0) (n : ℕ) (xs : List A) (d : A) → n < length xs → HoldsOfNone Holds (take n xs) → ¬ (Holds (get_or xs n d)) → HoldsOfNone Holds (take (n + 1) xs)
+lacks_then Holds n xs d few so_far not = subst (λ m. HoldsOfNone Holds (take m xs)) (sym (add-one n)) (lacks_next Holds n xs d few so_far not)
 
-pub lacks_all : {A : Type 0} (Holds : A → Type 0) (n : ℕ) (xs : List A) → length xs ≤ n → LacksSoFar Holds n xs → HoldsOfNone Holds xs
-lacks_all Holds n [] over so_far = tt
-lacks_all Holds zero (x ∷ xs) over so_far = absurd (omega (arith, over))
-lacks_all Holds (suc n) (x ∷ xs) over so_far = (so_far.0, lacks_all Holds n xs (omega (arith, over)) so_far.1)
+pub lacks_all : {A : Type 0} (Holds : A → Type 0) (n : ℕ) (xs : List A) → length xs ≤ n → HoldsOfNone Holds (take n xs) → HoldsOfNone Holds xs
+lacks_all Holds n xs over so_far = subst (HoldsOfNone Holds) (take_all n xs over) so_far
 
-pub first_found : {A : Type 0} (Holds : A → Type 0) (n : ℕ) (xs : List A) (d : A) → n < length xs → LacksSoFar Holds n xs → Holds (get_or xs n d) → IsFirstPlace Holds xs (Some n)
+pub first_found : {A : Type 0} (Holds : A → Type 0) (n : ℕ) (xs : List A) (d : A) → n < length xs → HoldsOfNone Holds (take n xs) → Holds (get_or xs n d) → IsFirstPlace Holds xs (Some n)
 first_found Holds n [] d few so_far holds = absurd (omega (arith, few))
 first_found Holds zero (x ∷ xs) d few so_far holds = holds
 first_found Holds (suc n) (x ∷ xs) d few so_far holds = (so_far.0, first_found Holds n xs d (omega (arith, few)) so_far.1 holds)

@@ -1,22 +1,7 @@
 -- What a desk does, joined from its steps.
-use Rattle.std.proofs.Common.{◌≡◌, ◌<◌, ◌+◌, ℕ, ℤ, zero, suc, List, [], ◌∷◌, ◌++◌, length, take, drop, get_or, set, refl, sym, ap, subst, ◌∙◌, append-nil, arith}
-use Rattle.std.proofs.KnownBytes.{Keeps-refl}
-use Rattle.std.proofs.lemmas.List.{with_items_is}
-use Rattle.std.specs.Io.KnownBytes.{Keeps, prepend_known}
-use Rattle.std.specs.Prelude.{Vec, false}
+use Rattle.moo_desk.proofs.Words.{Reading, Writing, Incoming, Inward, Outward, ◌≡◌, ◌<◌, ◌+◌, ℕ, ℤ, zero, suc, List, [], ◌∷◌, ◌++◌, length, take, drop, get_or, set, refl, sym, ap, subst, ◌∙◌, append-nil, arith, Keeps-refl, with_items_is, Keeps, prepend_known, Vec, false, Leaving, Slot, Each, TakesOut, IsGathered, IsLater, IsAnswerWokenFor, IsWokenFor, Book, Deed, takes, steps, ends, count_taken, After, Keep, Admits, LetsGo, IsFresh}
 use Rattle.std.specs.Vec.{with_items}
 use Rattle.std.proofs.lemmas.Bool.{true≢false}
-use Rattle.std.specs.declared.io.Read as Reading
-use Rattle.std.specs.declared.io.Write as Writing
-use Rattle.moo_http_request.specs.declared.incoming.Incoming as Incoming
-use Rattle.moo_desk.specs.declared.gate.Inward as Inward
-use Rattle.moo_desk.specs.declared.gate.Outward as Outward
-use Rattle.moo_desk.specs.declared.leaving.Leaving.{Leaving}
-use Rattle.moo_desk.specs.declared.slot.Slot.{Slot}
-use Rattle.moo_desk.specs.Each.{Each, TakesOut}
-use Rattle.moo_desk.specs.Later.{IsGathered, IsLater}
-use Rattle.moo_desk.specs.Rounds.{IsAnswerWokenFor, IsWokenFor}
-use Rattle.moo_desk.specs.Deeds.{Book, Deed, takes, steps, ends, count_taken, After, Keep, Admits, LetsGo, IsFresh}
 use Rattle.moo_desk.specs.Exchange.{with_back}
 use Rattle.moo_desk.proofs.Onward.{each_same, each_mapped, each_more, each_set, follows_same, later_same, later_joined, later_kept, gathered_same, gathered_joined, gathered_untouched}
 
@@ -34,9 +19,8 @@ get_or_same (z ∷ xs) (suc at) x y few = get_or_same xs at x y (omega (arith, f
 
 each_length : {A : Type 0} (Holds : A → A → Type 0) (xs ys : List A) → Each Holds xs ys → length ys ≡ length xs
 each_length Holds [] [] it = refl
-each_length Holds [] (y ∷ ys) it = absurd it
-each_length Holds (x ∷ xs) [] it = absurd it
 each_length Holds (x ∷ xs) (y ∷ ys) it = ap suc (each_length Holds xs ys it.1)
+each_length Holds xs ys it = absurd it
 
 -- what was done with a slice of a list was done with the list
 pub each_written : {A Z : Type 0} (Holds : A → A → Type 0) (v : Vec A Z) (now ws : List A) → now ≡ v.items → Each Holds now ws → Each Holds v.items (with_items v ws).items
@@ -48,7 +32,7 @@ each_written Holds v now ws is it =
 pub written_is : {A Z : Type 0} (Holds : A → A → Type 0) (v : Vec A Z) (now ws : List A) → now ≡ v.items → Each Holds now ws → (with_items v ws).items ≡ ws
 written_is Holds v now ws is it = with_items_is v ws (each_length Holds v.items ws (subst (λ l. Each Holds l ws) is it) ∙ sym v.ok.0)
 
-module _ {R W : Type 0} (writer : Writing.Ghosts W) (to : W → ℤ) where
+module _ {R W : Type 0} (writer : Writing W) (to : W → ℤ) where
   pub same_leaving : (xs ys : List (Leaving R W)) → ys ≡ xs → Each (IsLater writer to) xs ys
   same_leaving xs ys same = subst (λ l. Each (IsLater writer to) xs l) (sym same) (each_same (IsLater writer to) (later_same writer to) xs)
 
@@ -56,7 +40,7 @@ module _ {R W : Type 0} (writer : Writing.Ghosts W) (to : W → ℤ) where
   pub last_later : (held : List (Leaving R W)) (it then : Leaving R W) → IsLater writer to it then → Each (IsLater writer to) (held ++ it ∷ []) (held ++ then ∷ [])
   last_later held it then later = each_more (IsLater writer to) held held (it ∷ []) (then ∷ []) (same_leaving held held refl) (later, tt)
 
-module _ {R W : Type 0} {inward : Inward.Ghosts R} {incoming : Incoming.Ghosts R} {reader : Reading.Ghosts R} {outward : Outward.Ghosts W} {writer : Writing.Ghosts W} where
+module _ {R W : Type 0} {inward : Inward R} {incoming : Incoming R} {reader : Reading R} {outward : Outward W} {writer : Writing W} where
   after_joined : (later earlier : List (Deed (Slot R W inward incoming reader outward writer) R W)) (a b c : Book (Slot R W inward incoming reader outward writer) R W) → After earlier a b → After later b c → After (later ++ earlier) a c
   after_joined [] earlier a b c p q = subst (λ x. After earlier a x) (sym q) p
   after_joined (deed ∷ later) earlier a b c p (between, q, does) = (between, after_joined later earlier a b between p q, does)
@@ -64,8 +48,7 @@ module _ {R W : Type 0} {inward : Inward.Ghosts R} {incoming : Incoming.Ghosts R
   count_joined : (later earlier : List (Deed (Slot R W inward incoming reader outward writer) R W)) → count_taken (later ++ earlier) ≡ count_taken earlier + count_taken later
   count_joined [] earlier = omega arith
   count_joined (takes slot ∷ later) earlier = omega (arith, count_joined later earlier)
-  count_joined (steps ∷ later) earlier = count_joined later earlier
-  count_joined (ends it ∷ later) earlier = count_joined later earlier
+  count_joined (deed ∷ later) earlier = count_joined later earlier
 
   pub keeps_same : (a b : Book (Slot R W inward incoming reader outward writer) R W) → b ≡ a → Keep 0 a b
   keeps_same a b same = record { deeds = []; after = same; count = refl }
@@ -172,9 +155,6 @@ module _ {R W : Type 0} {inward : Inward.Ghosts R} {incoming : Incoming.Ghosts R
   -- one was lost as it came
   pub admits_lost : (a b : Book (Slot R W inward incoming reader outward writer) R W × ℕ) → Keep 0 a.0 b.0 → b.1 ≡ a.1 + 1 → Admits 1 a b
   admits_lost a b keep more = record { came = 0; lost = 1; keep = keep; all = more; few = omega arith }
-
-  pub admits_few : (a b : Book (Slot R W inward incoming reader outward writer) R W × ℕ) → Admits 0 a b → Admits 1 a b
-  admits_few a b p = record { came = p.came; lost = p.lost; keep = p.keep; all = p.all; few = omega (arith, p.few) }
 
   pub admits_joined : (most : ℕ) (a b c : Book (Slot R W inward incoming reader outward writer) R W × ℕ) → Admits 0 a b → Admits most b c → Admits most a c
   admits_joined most a b c p q = record {

@@ -1,3 +1,4 @@
+pub mod Words
 pub mod Ripening
 pub mod Onward
 pub mod Reading

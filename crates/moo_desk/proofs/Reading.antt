@@ -1,16 +1,6 @@
 -- Each connection that is due is read in a round.
-use Rattle.std.proofs.Common.{◌≡◌, ◌⊎◌, ◌<◌, ◌≤◌, ◌+◌, leb, ◌&&◌, ◌||◌, not, add-one, Bool, true≢false, inl, inr, ℕ, zero, suc, List, [], ◌∷◌, length, get_or, set, drop, ◌-◌, ◌^◌, drop_of_length-le, refl, sym, ap, subst, ◌∙◌, true, false, min, arith}
-use Rattle.std.specs.Prelude.{⊤}
-use Rattle.std.specs.declared.io.Read as Reading
-use Rattle.std.specs.declared.io.Write as Writing
-use Rattle.std.specs.declared.time.Duration.{Duration}
-use Rattle.moo_http_request.specs.declared.incoming.Incoming as Incoming
-use Rattle.moo_desk.specs.declared.gate.Inward as Inward
-use Rattle.moo_desk.specs.declared.gate.Outward as Outward
-use Rattle.moo_desk.specs.declared.slot.Slot.{Slot}
-use Rattle.std.proofs.lemmas.Bool.{leb-true}
-use Rattle.std.proofs.lemmas.List.Sums.{sum_by-drop_more}
-use Rattle.moo_desk.specs.Rounds.{IsReadIfDue, IsTimed, ReadsDue, gathered_of}
+use Rattle.moo_desk.proofs.Words.{Reading, Writing, Incoming, Inward, Outward, ◌≡◌, ◌⊎◌, ◌<◌, ◌≤◌, ◌+◌, leb, ◌&&◌, ◌||◌, not, add-one, Bool, true≢false, inl, inr, ℕ, zero, suc, List, [], ◌∷◌, length, get_or, set, drop, ◌-◌, ◌^◌, drop_of_length-le, refl, sym, ap, subst, ◌∙◌, true, false, min, arith, ⊤, Duration, Slot, leb-true, sum_by-drop_more, IsReadIfDue, IsTimed, ReadsDue, gathered_of}
+use Rattle.moo_desk.proofs.Onward.{SoFar, MayGoOn}
 
 pub saturated : (sum more rest left most : ℕ) → left ≡ more + rest → min (min (sum + more) most + rest) most ≡ min (sum + left) most
 saturated sum more rest left most is = omega (arith, is)
@@ -33,71 +23,42 @@ may_be false true goes = goes refl
 pub is_much : (budget gathered all most : ℕ) → leb budget gathered ≡ true → gathered ≡ min all most → ¬ (all < budget)
 is_much budget gathered all most full is less = absurd (omega (arith, leb-true budget gathered full, is, less))
 
-module _ {R W : Type 0} {inward : Inward.Ghosts R} {incoming : Incoming.Ghosts R} {reader : Reading.Ghosts R} {outward : Outward.Ghosts W} {writer : Writing.Ghosts W} where
-  -- so many of them had their turn, and the others are as they were
-  abbrev pub ReadsSoFar : Type 0 → ℕ → List (Slot R W inward incoming reader outward writer) → List (Slot R W inward incoming reader outward writer) → Type 0
-  ReadsSoFar All zero olds news = news ≡ olds
-  ReadsSoFar All (suc n) [] [] = ⊤
-  ReadsSoFar All (suc n) (old ∷ olds) (new ∷ news) = IsReadIfDue old new × (All ⊎ (old.rests ≡ true) → ReadsSoFar All n olds news)
-  ReadsSoFar All (suc n) olds news = ⊥
-
-  -- after so many of them the next one has its turn
-  abbrev pub MayGoOn : Type 0 → ℕ → List (Slot R W inward incoming reader outward writer) → Type 0
-  MayGoOn All zero olds = ⊤
-  MayGoOn All (suc n) [] = ⊤
-  MayGoOn All (suc n) (old ∷ olds) = (All ⊎ (old.rests ≡ true)) × MayGoOn All n olds
+module _ {R W : Type 0} {inward : Inward R} {incoming : Incoming R} {reader : Reading R} {outward : Outward W} {writer : Writing W} where
+  -- a round goes on behind it
+  abbrev pub GoesOn : Type 0 → Slot R W inward incoming reader outward writer → Type 0
+  GoesOn All old = All ⊎ (old.rests ≡ true)
 
   -- until then the others are as they were
-  pub still_at : (All : Type 0) (n : ℕ) (olds news : List (Slot R W inward incoming reader outward writer)) (d : Slot R W inward incoming reader outward writer) → n < length news → ReadsSoFar All n olds news → MayGoOn All n olds → get_or olds n d ≡ get_or news n d
+  pub still_at : (All : Type 0) (n : ℕ) (olds news : List (Slot R W inward incoming reader outward writer)) (d : Slot R W inward incoming reader outward writer) → n < length news → SoFar IsReadIfDue (GoesOn All) n olds news → MayGoOn (GoesOn All) n olds → get_or olds n d ≡ get_or news n d
   still_at All zero olds news d few it goes = ap (λ l. get_or l zero d) (sym it)
   still_at All (suc n) [] [] d few it goes = refl
   still_at All (suc n) (old ∷ olds) (new ∷ news) d few it goes = still_at All n olds news d (omega (arith, few)) (it.1 goes.0) goes.1
-  still_at All (suc n) [] (new ∷ news) d few it goes = absurd it
-  still_at All (suc n) (old ∷ olds) [] d few it goes = absurd it
-
-  -- the next one has its turn
-  reads_next : (All : Type 0) (n : ℕ) (olds news : List (Slot R W inward incoming reader outward writer)) (d z : Slot R W inward incoming reader outward writer) → n < length news → ReadsSoFar All n olds news
-      → (MayGoOn All n olds → IsReadIfDue (get_or news n d) z) → ReadsSoFar All (suc n) olds (set news n z)
-  reads_next All zero olds [] d z few it turn = absurd (omega (arith, few))
-  reads_next All zero olds (new ∷ news) d z few it turn = subst (λ l. ReadsSoFar All (suc zero) l (z ∷ news)) it (turn tt, λ _. refl)
-  reads_next All (suc n) [] [] d z few it turn = absurd (omega (arith, few))
-  reads_next All (suc n) [] (new ∷ news) d z few it turn = absurd it
-  reads_next All (suc n) (old ∷ olds) [] d z few it turn = absurd it
-  reads_next All (suc n) (old ∷ olds) (new ∷ news) d z few it turn =
-      (it.0, λ may. reads_next All n olds news d z (omega (arith, few)) (it.1 may) (λ goes. turn (may, goes)))
-
-  pub reads_then : (All : Type 0) (n : ℕ) (olds news : List (Slot R W inward incoming reader outward writer)) (d z : Slot R W inward incoming reader outward writer) → n < length news → ReadsSoFar All n olds news
-      → (MayGoOn All n olds → IsReadIfDue (get_or news n d) z) → ReadsSoFar All (n + 1) olds (set news n z)
-  reads_then All n olds news d z few it turn = subst (λ m. ReadsSoFar All m olds (set news n z)) (sym (add-one n)) (reads_next All n olds news d z few it turn)
+  still_at All (suc n) olds news d few it goes = absurd it
 
   -- one step back
-  went_on : (All : Type 0) (n : ℕ) (olds : List (Slot R W inward incoming reader outward writer)) (d : Slot R W inward incoming reader outward writer) → n < length olds → MayGoOn All (suc n) olds
-      → MayGoOn All n olds × (All ⊎ ((get_or olds n d).rests ≡ true))
-  went_on All zero [] d few goes = absurd (omega (arith, few))
+  went_on : (All : Type 0) (n : ℕ) (olds : List (Slot R W inward incoming reader outward writer)) (d : Slot R W inward incoming reader outward writer) → n < length olds → MayGoOn (GoesOn All) (suc n) olds
+      → MayGoOn (GoesOn All) n olds × (All ⊎ ((get_or olds n d).rests ≡ true))
+  went_on All n [] d few goes = absurd (omega (arith, few))
   went_on All zero (old ∷ olds) d few goes = (tt, goes.0)
-  went_on All (suc n) [] d few goes = absurd (omega (arith, few))
   went_on All (suc n) (old ∷ olds) d few goes =
       let before = went_on All n olds d (omega (arith, few)) goes.1 in
       ((goes.0, before.0), before.1)
 
   -- one after another, those before the next one all rest
-  pub first_then : (All : Type 0) (n : ℕ) (olds news : List (Slot R W inward incoming reader outward writer)) (d : Slot R W inward incoming reader outward writer) (first : Bool) → n < length news → length news ≡ length olds → ReadsSoFar All n olds news
-      → (MayGoOn All n olds → ¬ All → first ≡ true) → MayGoOn All (n + 1) olds → ¬ All → (first && (get_or news n d).rests) ≡ true
+  pub first_then : (All : Type 0) (n : ℕ) (olds news : List (Slot R W inward incoming reader outward writer)) (d : Slot R W inward incoming reader outward writer) (first : Bool) → n < length news → length news ≡ length olds → SoFar IsReadIfDue (GoesOn All) n olds news
+      → (MayGoOn (GoesOn All) n olds → ¬ All → first ≡ true) → MayGoOn (GoesOn All) (n + 1) olds → ¬ All → (first && (get_or news n d).rests) ≡ true
   first_then All n olds news d first few same it so_far goes less =
-      let before = went_on All n olds d (omega (arith, few, same)) (subst (λ m. MayGoOn All m olds) (add-one n) goes) in
+      let before = went_on All n olds d (omega (arith, few, same)) (subst (λ m. MayGoOn (GoesOn All) m olds) (add-one n) goes) in
       let rests : (get_or news n d).rests ≡ true = elim before.1 [ inl all ↦ absurd (less all) | inr is ↦ ap (λ slot. slot.rests) (sym (still_at All n olds news d few it before.0)) ∙ is ] in
       and_true first (get_or news n d).rests (so_far before.0 less) rests
 
   -- all had their turn
-  pub reads_all : (All : Type 0) (n : ℕ) (olds news : List (Slot R W inward incoming reader outward writer)) → length news < suc n → ReadsSoFar All n olds news → ReadsDue All olds news
-  reads_all All zero [] [] few it = tt
+  pub reads_all : (All : Type 0) (n : ℕ) (olds news : List (Slot R W inward incoming reader outward writer)) → length news < suc n → SoFar IsReadIfDue (GoesOn All) n olds news → ReadsDue All olds news
+  reads_all All n [] [] few it = tt
   reads_all All zero (old ∷ olds) [] few it = absurd (omega (arith, ap length it))
-  reads_all All zero [] (new ∷ news) few it = absurd (omega (arith, few))
-  reads_all All zero (old ∷ olds) (new ∷ news) few it = absurd (omega (arith, few))
-  reads_all All (suc n) [] [] few it = tt
+  reads_all All zero olds (new ∷ news) few it = absurd (omega (arith, few))
   reads_all All (suc n) (old ∷ olds) (new ∷ news) few it = (it.0, λ may. reads_all All n olds news (omega (arith, few)) (it.1 may))
-  reads_all All (suc n) [] (new ∷ news) few it = absurd it
-  reads_all All (suc n) (old ∷ olds) [] few it = absurd it
+  reads_all All (suc n) olds news few it = absurd it
 
   -- ---- how many bytes are gathered
 
@@ -119,22 +80,10 @@ module _ {R W : Type 0} {inward : Inward.Ghosts R} {incoming : Incoming.Ghosts R
   timed_same now it = record { since = refl; heard = inr (refl, refl); looked = inr refl }
 
   timed_heard : (now : Duration) (a b c : Slot R W inward incoming reader outward writer) → IsTimed now a b → IsTimed now b c → (c.heard ≡ now) ⊎ ((c.heard ≡ a.heard) × (c.reader.bytes.items ≡ a.reader.bytes.items))
-  timed_heard now a b c p q = elim q.heard [
-    | inl is ↦ inl is
-    | inr same ↦ elim p.heard [
-      | inl is ↦ inl (same.0 ∙ is)
-      | inr before ↦ inr (same.0 ∙ before.0, same.1 ∙ before.1)
-    ]
-  ]
+  timed_heard now a b c p q = grind (arith, p.heard, q.heard)
 
   timed_looked : (now : Duration) (a b c : Slot R W inward incoming reader outward writer) → IsTimed now a b → IsTimed now b c → (c.looked ≡ now) ⊎ (c.looked ≡ a.looked)
-  timed_looked now a b c p q = elim q.looked [
-    | inl is ↦ inl is
-    | inr same ↦ elim p.looked [
-      | inl is ↦ inl (same ∙ is)
-      | inr before ↦ inr (same ∙ before)
-    ]
-  ]
+  timed_looked now a b c p q = grind (arith, p.looked, q.looked)
 
   pub timed_joined : (now : Duration) (a b c : Slot R W inward incoming reader outward writer) → IsTimed now a b → IsTimed now b c → IsTimed now a c
   timed_joined now a b c p q = record { since = q.since ∙ p.since; heard = timed_heard now a b c p q; looked = timed_looked now a b c p q }

@@ -1,14 +1,10 @@
 -- What is known of the end of a request stays so as it grows, and tells when it is whole.
-use Rattle.std.proofs.Math.Logic.{∥∥₁_map}
-use Rattle.std.proofs.Common.{◌≡◌, ◌≤◌, ◌<◌, ℕ, List, [], ◌++◌, length, Option, None, Some, Bool, ◌||◌, unwrap_or, true, false, true≢false, refl, sym, subst, append_assoc, append-nil}
-use Rattle.moo_http_request.specs.Whole.{IsWhole, IsCutOff, IsWholeFrom}
-use Rattle.std.specs.declared.time.Duration.{Duration}
-use Rattle.moo_arrivals.specs.declared.cause.Cause.{Cause}
+use Rattle.moo_desk.proofs.Words.{IfSome, arith, ∥∥₁_map, ◌≡◌, ◌≤◌, ◌<◌, ℕ, List, [], ◌++◌, length, Option, None, Some, Bool, ◌||◌, unwrap_or, true, false, true≢false, refl, sym, subst, append_assoc, append-nil, IsWhole, IsCutOff, IsWholeFrom, Duration, Cause, Gave, MayStop, limit_of, IsKnownFrom}
+use Rattle.std.proofs.lemmas.Grind.{common_steps}
+use Rattle.std.proofs.Common.{nat_eq}
 use Rattle.moo_http_request.specs.declared.head.TheConstants.{MAX_HEAD}
 use Rattle.moo_desk.specs.declared.gathered.Coming.{Coming}
 use Rattle.moo_desk.specs.declared.gathered.Coming.TheVariants.{More}
-use Rattle.moo_desk.specs.Read.{Gave, MayStop, limit_of}
-use Rattle.moo_desk.specs.Ripe.{IsKnownFrom}
 
 whole_from_more : (bytes more : List ℕ) (n : ℕ) → IsWholeFrom bytes n → IsWholeFrom (bytes ++ more) n
 whole_from_more bytes more n it = record {
@@ -42,6 +38,10 @@ stops_open reads last since heard looked cause coming is = subst (λ of. ∥ May
 pub idle_if : {X : Type 0} (due also : Bool) → ∥ (due ≡ false → X) ∥₁ → ∥ ((due || also) ≡ false → X) ∥₁
 idle_if true also known = ∣ (λ is. absurd (true≢false is)) ∣₁
 idle_if false also known = ∥∥₁_map known (λ x is. x refl)
+
+-- what is told of this mark, or of all, has the next round look at it
+pub woken_if : (due : Bool) (told : Option ℕ) (its mark : ℕ) → told ≡ Some mark → IfSome told (λ m. its ≡ m) → (due || nat_eq its mark) ≡ true
+woken_if due told its mark is same = let e : its ≡ mark = rw is at same in grind (arith, common_steps)
 
 pub not_idle : {X : Type 0} → ∥ (true ≡ false → X) ∥₁
 not_idle = ∣ (λ is. absurd (true≢false is)) ∣₁

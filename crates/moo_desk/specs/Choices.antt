@@ -2,13 +2,8 @@
 use Rattle.std.specs.Prelude.{◌≡◌, ◌⊎◌, ◌≤◌, ◌<◌, ◌+◌, ◌-◌, ◌*◌, ◌^◌, ℕ, min, max, true, false, List, [], ◌∷◌, length, get_or, set, Option, Some, None}
 use Rattle.std.specs.Duration.{as_nanos}
 use Rattle.std.specs.List.{sum_by}
-use Rattle.std.specs.declared.io.Read as Reading
-use Rattle.std.specs.declared.io.Write as Writing
 use Rattle.std.specs.declared.time.Duration.{Duration}
 use Rattle.moo_arrivals.specs.declared.cause.Cause.TheVariants.{Crowded}
-use Rattle.moo_http_request.specs.declared.incoming.Incoming as Incoming
-use Rattle.moo_desk.specs.declared.gate.Inward as Inward
-use Rattle.moo_desk.specs.declared.gate.Outward as Outward
 use Rattle.moo_desk.specs.declared.gathered.Coming.TheVariants.{Unread}
 use Rattle.moo_desk.specs.declared.held.Held.{Held}
 use Rattle.moo_desk.specs.declared.held.TheConstants.{GRACE}
@@ -21,6 +16,7 @@ use Rattle.moo_desk.specs.Each.{HoldsOfNone, TurnsFirst}
 use Rattle.moo_desk.specs.Read.{IsLonger}
 use Rattle.moo_desk.specs.Rounds.{IsEndable}
 use Rattle.moo_desk.specs.Stages.{ended, patience_of, unsent_at}
+use Rattle.moo_desk.specs.Later.{Reading, Writing, Incoming, Inward, Outward}
 
 module _ {R W : Type 0} where
   -- it only waits for its peer's last bytes
@@ -53,8 +49,8 @@ abbrev pub CutsAt : {R W : Type 0} → ℕ → List (Leaving R W) → List (Leav
 CutsAt {R} {W} place old new = (it : Leaving R W) × (new ≡ set old place it) × (it.stage ≡ ended Crowded (get_or old place it).stage)
 
 module _ {R W : Type 0}
-    {inward : Inward.Ghosts R} {incoming : Incoming.Ghosts R} {reader : Reading.Ghosts R} {outward : Outward.Ghosts W}
-    {writer : Writing.Ghosts W} where
+    {inward : Inward R} {incoming : Incoming R} {reader : Reading R} {outward : Outward W}
+    {writer : Writing W} where
   -- it is to be handed out: its request is whole, or nothing more of it comes
   abbrev pub IsReady : Slot R W inward incoming reader outward writer → Type 0
   IsReady slot = slot.rests ≡ true

@@ -1,18 +1,13 @@
 -- What a desk does with the connections that it holds.
 use Rattle.std.specs.Prelude.{◌≡◌, ◌⊎◌, ◌++◌, ◌+◌, ◌≤◌, ℕ, List, [], ◌∷◌, length}
-use Rattle.std.specs.declared.io.Read as Reading
-use Rattle.std.specs.declared.io.Write as Writing
 use Rattle.moo_arrivals.specs.declared.cause.Cause.{Cause}
-use Rattle.moo_http_request.specs.declared.incoming.Incoming as Incoming
-use Rattle.moo_desk.specs.declared.gate.Inward as Inward
-use Rattle.moo_desk.specs.declared.gate.Outward as Outward
 use Rattle.moo_desk.specs.declared.held.Held.{Held}
 use Rattle.moo_desk.specs.declared.leaving.Leaving.{Leaving}
 use Rattle.moo_desk.specs.declared.leaving.Stage.TheVariants.{Done, Lost}
 use Rattle.moo_desk.specs.declared.losses.Losses.{Losses}
 use Rattle.moo_desk.specs.declared.slot.Slot.{Slot}
 use Rattle.moo_desk.specs.Each.{Each, TakesOut}
-use Rattle.moo_desk.specs.Later.{IsGathered, IsLater}
+use Rattle.moo_desk.specs.Later.{IsGathered, IsLater, Reading, Writing, Incoming, Inward, Outward}
 use Rattle.moo_desk.specs.Told.{NotesLoss}
 
 -- A connection is let go: all of its answer was sent; or its answer was lost, and that is noted once, with its route and cause.
@@ -41,8 +36,8 @@ count_taken (steps ∷ earlier) = count_taken earlier
 count_taken (ends it ∷ earlier) = count_taken earlier
 
 module _ {R W : Type 0}
-    {inward : Inward.Ghosts R} {incoming : Incoming.Ghosts R} {reader : Reading.Ghosts R} {outward : Outward.Ghosts W}
-    {writer : Writing.Ghosts W} where
+    {inward : Inward R} {incoming : Incoming R} {reader : Reading R} {outward : Outward W}
+    {writer : Writing W} where
   -- what a desk holds, as a book
   abbrev pub book_of : Held R W inward incoming reader outward writer → Book (Slot R W inward incoming reader outward writer) R W
   book_of held = record { slots = held.slots.items; leaving = held.leaving.items; losses = held.losses }

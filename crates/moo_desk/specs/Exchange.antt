@@ -1,14 +1,9 @@
 -- What a desk hands out, is given back, and tells of.
 use Rattle.std.specs.Prelude.{◌≡◌, ◌++◌, ℕ, true, [], ◌∷◌, Option, Some, None}
-use Rattle.std.specs.declared.io.Read as Reading
-use Rattle.std.specs.declared.io.Write as Writing
 use Rattle.moo_arrivals.specs.declared.arrivals.Closing.{Closing}
 use Rattle.moo_arrivals.specs.declared.arrivals.Connection.{Connection}
 use Rattle.moo_arrivals.specs.declared.cause.Loss.{Loss}
 use Rattle.moo_arrivals.specs.declared.route.Route.{Route}
-use Rattle.moo_http_request.specs.declared.incoming.Incoming as Incoming
-use Rattle.moo_desk.specs.declared.gate.Inward as Inward
-use Rattle.moo_desk.specs.declared.gate.Outward as Outward
 use Rattle.moo_desk.specs.declared.gathered.Gathered.{Gathered}
 use Rattle.moo_desk.specs.declared.held.Held.{Held}
 use Rattle.moo_desk.specs.declared.leaving.Leaving.{Leaving}
@@ -20,6 +15,7 @@ use Rattle.moo_desk.specs.Each.{TakesOutFirst}
 use Rattle.moo_desk.specs.Deeds.{Book, book_of, Keep, Admits}
 use Rattle.moo_desk.specs.Ripe.{IsRipe}
 use Rattle.moo_desk.specs.Told.{TellsOf}
+use Rattle.moo_desk.specs.Later.{Reading, Writing, Incoming, Inward, Outward}
 
 -- A connection that is given back, as it is when nothing was sent yet.
 pub record Begins {R W : Type 0} (given : Connection (Gathered R) (Outgoing W))
@@ -31,8 +27,8 @@ pub record Begins {R W : Type 0} (given : Connection (Gathered R) (Outgoing W))
   pub asks : it.route ≡ route
 
 module _ {R W : Type 0}
-    {inward : Inward.Ghosts R} {incoming : Incoming.Ghosts R} {reader : Reading.Ghosts R} {outward : Outward.Ghosts W}
-    {writer : Writing.Ghosts W} where
+    {inward : Inward R} {incoming : Incoming R} {reader : Reading R} {outward : Outward W}
+    {writer : Writing W} where
   -- This connection is handed out as it was gathered: its request is whole, or nothing more of it comes, and its reader and writer are of
   -- one peer.
   pub record IsHandedOut (slot : Slot R W inward incoming reader outward writer)

@@ -1,11 +1,11 @@
 -- A connection of a desk, and the same one later.
 use Rattle.std.specs.Prelude.{◌≡◌, ℤ, true, drop}
 use Rattle.std.specs.Io.KnownBytes.{Keeps, append_known, prepend_known}
-use Rattle.std.specs.declared.io.Read as Reading
-use Rattle.std.specs.declared.io.Write as Writing
-use Rattle.moo_http_request.specs.declared.incoming.Incoming as Incoming
-use Rattle.moo_desk.specs.declared.gate.Inward as Inward
-use Rattle.moo_desk.specs.declared.gate.Outward as Outward
+pub use Rattle.std.specs.declared.io.Read.{Ghosts as Reading}
+pub use Rattle.std.specs.declared.io.Write.{Ghosts as Writing}
+pub use Rattle.moo_http_request.specs.declared.incoming.Incoming.{Ghosts as Incoming}
+pub use Rattle.moo_desk.specs.declared.gate.Inward.{Ghosts as Inward}
+pub use Rattle.moo_desk.specs.declared.gate.Outward.{Ghosts as Outward}
 use Rattle.moo_desk.specs.declared.gathered.Gathered.{Gathered}
 use Rattle.moo_desk.specs.declared.leaving.Leaving.{Leaving}
 use Rattle.moo_desk.specs.declared.outgoing.Outgoing.{Outgoing}
@@ -13,21 +13,21 @@ use Rattle.moo_desk.specs.declared.slot.Slot.{Slot}
 use Rattle.moo_desk.specs.Stages.{MayFollow}
 
 -- More of a request was gathered: whoever reads sees no difference.
-abbrev pub GathersOn : {R : Type 0} → Reading.Ghosts R → Gathered R → Gathered R → Type 0
+abbrev pub GathersOn : {R : Type 0} → Reading R → Gathered R → Gathered R → Type 0
 GathersOn reader old new =
     Keeps (prepend_known (drop old.at old.bytes.items) (reader.remaining old.reader))
     (prepend_known (drop new.at new.bytes.items) (reader.remaining new.reader))
 
 -- More of an answer was sent: it is the same answer, and what its peer took of it and then what waits to be sent stays the same.
-abbrev pub SendsOn : {W : Type 0} → Writing.Ghosts W → Outgoing W → Outgoing W → Type 0
+abbrev pub SendsOn : {W : Type 0} → Writing W → Outgoing W → Outgoing W → Type 0
 SendsOn writer old new =
     (new.text.items ≡ old.text.items)
     × Keeps (append_known (writer.contents old.writer) (drop old.sent old.text.items))
     (append_known (writer.contents new.writer) (drop new.sent new.text.items))
 
 module _ {R W : Type 0}
-    {inward : Inward.Ghosts R} {incoming : Incoming.Ghosts R} {reader : Reading.Ghosts R} {outward : Outward.Ghosts W}
-    {writer : Writing.Ghosts W} where
+    {inward : Inward R} {incoming : Incoming R} {reader : Reading R} {outward : Outward W}
+    {writer : Writing W} where
   -- Nothing of a request changed but, at most, whether the next round looks at it. One that was to be looked at still is.
   pub record IsOnlyWoken (old new : Slot R W inward incoming reader outward writer) : Type 0 where
     pub halves : (new.reader ≡ old.reader) × (new.writer ≡ old.writer) × (new.is_limited ≡ old.is_limited)
@@ -47,7 +47,7 @@ module _ {R W : Type 0}
 
 -- A connection whose request was judged, and that connection later, with its answer to this peer. An answer that was sent whole isn't lost
 -- later, and one that is lost isn't sent.
-pub record IsLater {R W : Type 0} (writer : Writing.Ghosts W) (to : W → ℤ) (old new : Leaving R W) : Type 0 where
+pub record IsLater {R W : Type 0} (writer : Writing W) (to : W → ℤ) (old new : Leaving R W) : Type 0 where
   pub answer : SendsOn writer old.writer new.writer
   pub peer : to new.writer.writer ≡ to old.writer.writer
   pub route : new.route ≡ old.route

@@ -1,16 +1,11 @@
 -- What a round does with the connections whose requests are gathered.
 use Rattle.std.specs.Prelude.{◌≡◌, ◌⊎◌, ◌*◌, ℕ, ⊤, true, false, List, [], ◌∷◌, length}
 use Rattle.std.specs.List.{sum_by}
-use Rattle.std.specs.declared.io.Read as Reading
-use Rattle.std.specs.declared.io.Write as Writing
 use Rattle.std.specs.declared.time.Duration.{Duration}
-use Rattle.moo_http_request.specs.declared.incoming.Incoming as Incoming
-use Rattle.moo_desk.specs.declared.gate.Inward as Inward
-use Rattle.moo_desk.specs.declared.gate.Outward as Outward
 use Rattle.moo_desk.specs.declared.held.TheConstants.{GRACE}
 use Rattle.moo_desk.specs.declared.leaving.Leaving.{Leaving}
 use Rattle.moo_desk.specs.declared.slot.Slot.{Slot}
-use Rattle.moo_desk.specs.Later.{IsOnlyWoken}
+use Rattle.moo_desk.specs.Later.{IsOnlyWoken, Reading, Writing, Incoming, Inward, Outward}
 use Rattle.moo_desk.specs.Read.{Gave, IsLonger}
 
 -- Nothing changed of an answer but, at most, whether the next round looks at it. It does if this holds of the answer's mark, and if it was
@@ -23,8 +18,8 @@ pub record IsAnswerWokenFor {R W : Type 0} (Told : ℕ → Type 0) (old new : Le
   pub told : Told old.mark → new.is_due ≡ true
 
 module _ {R W : Type 0}
-    {inward : Inward.Ghosts R} {incoming : Incoming.Ghosts R} {reader : Reading.Ghosts R} {outward : Outward.Ghosts W}
-    {writer : Writing.Ghosts W} where
+    {inward : Inward R} {incoming : Incoming R} {reader : Reading R} {outward : Outward W}
+    {writer : Writing W} where
   -- its reader was read once, and gave something
   abbrev pub WasRead : Slot R W inward incoming reader outward writer → Slot R W inward incoming reader outward writer → Type 0
   WasRead old new = (gave : Gave) × inward.reads old.reader.reader gave new.reader.reader

@@ -1,15 +1,10 @@
 -- When a desk takes a connection, waits, and looks at what it holds.
 use Rattle.std.specs.Prelude.{◌≡◌, ◌⊎◌, ◌≤◌, ◌<◌, ◌*◌, ◌++◌, ℕ, Bool, true, false, not, List, [], ◌∷◌, length}
 use Rattle.std.specs.Duration.{as_nanos}
-use Rattle.std.specs.declared.io.Read as Reading
-use Rattle.std.specs.declared.io.Write as Writing
 use Rattle.std.specs.declared.time.Duration.{Duration}
-use Rattle.moo_http_request.specs.declared.incoming.Incoming as Incoming
 use Rattle.moo_desk.specs.declared.desk.TheConstants.{PAUSE, PERIOD, TURNS}
 use Rattle.moo_desk.specs.declared.desk.Took.{Took}
 use Rattle.moo_desk.specs.declared.desk.Took.TheVariants.{One, Nobody as NotOne, Lost}
-use Rattle.moo_desk.specs.declared.gate.Inward as Inward
-use Rattle.moo_desk.specs.declared.gate.Outward as Outward
 use Rattle.moo_desk.specs.declared.gate.Taken.{Taken}
 use Rattle.moo_desk.specs.declared.gate.Taken.TheVariants.{Came, Nobody, NoRoom, Failed}
 use Rattle.moo_desk.specs.declared.held.Held.{Held}
@@ -19,6 +14,7 @@ use Rattle.moo_desk.specs.declared.slot.Slot.{Slot}
 use Rattle.moo_desk.specs.Choices.{EndsOne, HasNoSpare, HasWhole, IsUnfinished, count_of, spared_for}
 use Rattle.moo_desk.specs.Each.{OfFirst}
 use Rattle.moo_desk.specs.Read.{IsLonger}
+use Rattle.moo_desk.specs.Later.{Reading, Writing, Incoming, Inward, Outward}
 
 -- How many nanoseconds a desk waits at most, and doesn't look at a connection of which nothing was told: less while answers are sent.
 abbrev pub period_of : {R W : Type 0} → List (Leaving R W) → ℕ
@@ -34,8 +30,8 @@ abbrev pub IsDueToAsk : Duration → Duration → ℕ → Type 0
 IsDueToAsk now asked turns = IsLonger (PERIOD * 1_000_000) asked now ⊎ (TURNS ≤ turns)
 
 module _ {R W : Type 0}
-    {inward : Inward.Ghosts R} {incoming : Incoming.Ghosts R} {reader : Reading.Ghosts R} {outward : Outward.Ghosts W}
-    {writer : Writing.Ghosts W} where
+    {inward : Inward R} {incoming : Incoming R} {reader : Reading R} {outward : Outward W}
+    {writer : Writing W} where
   -- So long may be waited: not for longer than a period, nor, if no place is left, until the oldest unfinished request may be ended.
   abbrev pub EndsInTime : Duration → Held R W inward incoming reader outward writer → Duration → Type 0
   EndsInTime now held most =

@@ -183,31 +183,19 @@ impl<'a, G: Gate + Drop, C: Clock> Desk<'a, G, C> {
         }
     }
 
-    /// Waits until the gate tells of a change, but no longer than `patience` says.
-    fn pause(&mut self, now: Duration)
-        // No connection comes. More may be gathered and sent of those that are here; one goes only once its answer was sent, or the loss of
-        // it is noted, once.
-        ensures all { Goes self.old.held self.new.held }
-        // The gate gives no connection.
-        ensures gate { G.gave self.new.gate ≡ G.gave self.old.gate }
-        // The wait ends before anything is due: within a period, and once a place may be had.
-        ensures waits { HasWaited G.waits (EndsInTime now self.old.held) self.new.told.items self.new.gate }
-    {
-        let most = self.patience(now);
-        self.wait(most);
-    }
-
-    /// Waits as `pause` does, unless something changed in this round.
+    /// Waits until the gate tells of a change, but no longer than `patience` says, unless something changed in this round.
     fn pause_unless(&mut self, changed: bool, now: Duration)
         // No connection comes. More may be gathered and sent of those that are here; one goes only once its answer was sent, or the loss of
         // it is noted, once.
         ensures all { Goes self.old.held self.new.held }
         // The gate gives no connection.
         ensures gate { G.gave self.new.gate ≡ G.gave self.old.gate }
+        // The wait ends before anything is due: within a period, and once a place may be had.
         ensures waits { changed ≡ false → HasWaited G.waits (EndsInTime now self.old.held) self.new.told.items self.new.gate }
     {
         if !changed {
-            self.pause(now);
+            let most = self.patience(now);
+            self.wait(most);
         }
     }
 
@@ -310,7 +298,7 @@ impl<'a, G: Gate + Drop, C: Clock> Desk<'a, G, C> {
         let has_gathered = self.held.gather(routes, now);
         self.held.relieve(now);
         let has_sent = self.held.send_all(now);
-        (took, has_gathered || has_sent)
+        (took, has_gathered | has_sent)
     }
 
     /// Sends what can be sent of an answer at once, and holds its connection until all of it is sent, or it is lost. If memory runs out it

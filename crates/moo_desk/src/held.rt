@@ -12,10 +12,7 @@ use crate::first::{Endable, Lingerer, Ready, Stuck, Unfinished, any_item, first_
 use crate::gate::{Inward, Outward};
 use crate::leaving::Leaving;
 use crate::losses::Losses;
-use crate::rounds::{
-    BUDGET, all_unsent_bytes, gather_all, turn_leaving, wake_all_leaving, wake_all_slots,
-    wake_leaving, wake_slots,
-};
+use crate::rounds::{BUDGET, all_unsent_bytes, gather_all, turn_leaving, wake_leaving, wake_slots};
 use crate::slot::Slot;
 use moo_arrivals::Cause;
 use moo_http_request::Routes;
@@ -282,8 +279,8 @@ impl<R: Inward + OpenStream + Drop, W: Outward + OpenStream + Drop> Held<R, W> {
         // Each answer with this mark is due, and those that were due stay so. Nothing else of an answer changes.
         ensures answers { Each (IsAnswerWokenFor (λ it. it ≡ mark)) self.old.leaving.items self.new.leaving.items }
     {
-        wake_slots(&mut self.slots, mark);
-        wake_leaving(&mut self.leaving, mark);
+        wake_slots(&mut self.slots, Some(mark));
+        wake_leaving(&mut self.leaving, Some(mark));
     }
 
     /// Has the next round look at each connection.
@@ -296,8 +293,8 @@ impl<R: Inward + OpenStream + Drop, W: Outward + OpenStream + Drop> Held<R, W> {
         // Each answer is due. Nothing else of an answer changes.
         ensures answers { Each (IsAnswerWokenFor (λ _. ⊤)) self.old.leaving.items self.new.leaving.items }
     {
-        wake_all_slots(&mut self.slots);
-        wake_all_leaving(&mut self.leaving);
+        wake_slots(&mut self.slots, None);
+        wake_leaving(&mut self.leaving, None);
     }
 
     /// If too much of answers is held and a request is whole, gives up an answer of which its peer took nothing for a while.

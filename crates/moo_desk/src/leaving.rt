@@ -1,6 +1,6 @@
 //! A connection after its request was judged.
 
-ghost use Rattle.std.specs.Prelude.{◌≡◌, ◌≢◌, ◌≤◌, ◌<◌, ◌+◌, ◌-◌, ◌*◌, ◌/◌, ◌⊎◌, ⊤, ℕ, List, length, drop, true, false, IfSome, IfNone};
+ghost use Rattle.std.specs.Prelude.{◌≡◌, ◌≢◌, ◌≤◌, ◌<◌, ◌+◌, ◌-◌, ◌*◌, ◌/◌, ◌⊎◌, ℕ, List, length, drop, true, false, IfSome, IfNone};
 ghost use Rattle.std.specs.Io.KnownBytes.{Consumes, Keeps, append_known};
 ghost use Rattle.moo_desk.specs.declared.leaving.Stage.TheVariants.{Lingering, Done, Lost};
 ghost use Rattle.moo_desk.specs.Read.{IsLonger};
@@ -69,18 +69,14 @@ pub struct Leaving<R, W> {
 impl<R, W> Leaving<R, W> {
     ghost use Rattle.moo_desk.specs.Rounds.{IsAnswerWokenFor};
 
-    /// Has the next round look at this connection, if it has this mark.
-    pub fn wake_at(&mut self, mark: usize)
-        ensures { IsAnswerWokenFor (λ it. it ≡ mark) self.old self.new }
+    /// Has the next round look at this connection, since something may have changed: if it has the mark that is told, or if none is.
+    pub fn wake(&mut self, told: Option<usize>)
+        ensures { IsAnswerWokenFor (λ it. IfSome told (λ mark. it ≡ mark)) self.old self.new }
     {
-        self.is_due |= self.mark == mark;
-    }
-
-    /// Has the next round look at this connection, since something may have changed.
-    pub fn wake(&mut self)
-        ensures { IsAnswerWokenFor (λ _. ⊤) self.old self.new }
-    {
-        self.is_due = true;
+        match told {
+            Some(mark) => self.is_due |= self.mark == mark,
+            None => self.is_due = true,
+        }
     }
 
     /// Whether the connection came to its stage more than so many seconds ago.

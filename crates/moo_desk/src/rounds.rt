@@ -1,6 +1,6 @@
 //! What a round does for all connections.
 
-ghost use Rattle.std.specs.Prelude.{◌≡◌, ◌<◌, ⊤, min};
+ghost use Rattle.std.specs.Prelude.{◌≡◌, ◌<◌, min, IfSome};
 ghost use Rattle.moo_desk.specs.Choices.{answers_of};
 ghost use Rattle.moo_desk.specs.Each.{Each};
 ghost use Rattle.moo_desk.specs.Later.{IsGathered, IsLater};
@@ -96,42 +96,22 @@ pub fn watch_all<G: Gate>(gate: &mut G, slots: &mut [Slot<G::Reader, G::Writer>]
     }
 }
 
-/// Has the next round look at each request that has this mark.
-pub fn wake_slots<R: Inward, W: Outward>(slots: &mut [Slot<R, W>], mark: usize)
-    // Each request with this mark is due, and those that were due stay so. Nothing else changes.
-    ensures { Each (IsWokenFor (λ it. it ≡ mark)) slots.old slots.new }
+/// Has the next round look at each request that has the mark that is told, or at each if none is.
+pub fn wake_slots<R: Inward, W: Outward>(slots: &mut [Slot<R, W>], told: Option<usize>)
+    // Each request with this mark, or each, is due, and those that were due stay so. Nothing else changes.
+    ensures { Each (IsWokenFor (λ it. IfSome told (λ mark. it ≡ mark))) slots.old slots.new }
 {
     for slot in slots {
-        slot.wake_at(mark);
+        slot.wake(told);
     }
 }
 
-/// Has the next round look at each answer that has this mark.
-pub fn wake_leaving<R, W>(leaving: &mut [Leaving<R, W>], mark: usize)
-    // Each answer with this mark is due, and those that were due stay so. Nothing else changes.
-    ensures { Each (IsAnswerWokenFor (λ it. it ≡ mark)) leaving.old leaving.new }
+/// Has the next round look at each answer that has the mark that is told, or at each if none is.
+pub fn wake_leaving<R, W>(leaving: &mut [Leaving<R, W>], told: Option<usize>)
+    // Each answer with this mark, or each, is due, and those that were due stay so. Nothing else changes.
+    ensures { Each (IsAnswerWokenFor (λ it. IfSome told (λ mark. it ≡ mark))) leaving.old leaving.new }
 {
     for connection in leaving {
-        connection.wake_at(mark);
-    }
-}
-
-/// Has the next round look at each request.
-pub fn wake_all_slots<R: Inward, W: Outward>(slots: &mut [Slot<R, W>])
-    // Each request is due. Nothing else changes.
-    ensures { Each (IsWokenFor (λ _. ⊤)) slots.old slots.new }
-{
-    for slot in slots {
-        slot.wake();
-    }
-}
-
-/// Has the next round look at each answer.
-pub fn wake_all_leaving<R, W>(leaving: &mut [Leaving<R, W>])
-    // Each answer is due. Nothing else changes.
-    ensures { Each (IsAnswerWokenFor (λ _. ⊤)) leaving.old leaving.new }
-{
-    for connection in leaving {
-        connection.wake();
+        connection.wake(told);
     }
 }

@@ -135,23 +135,17 @@ impl<R: Inward, W: Outward> Slot<R, W> {
         }
     }
 
-    /// Has the next round look at this request, since bytes may have come.
-    pub fn wake(&mut self)
+    /// Has the next round look at this request, since bytes may have come: if it has the mark that is told, or if none is.
+    pub fn wake(&mut self, told: Option<usize>)
         // Nothing of the request changes but, at most, whether the next round looks at it.
         ensures same { IsOnlyWoken self.old self.new }
-        ensures due { self.new.is_due ≡ true }
+        // With this mark, or without one, the next round looks at it.
+        ensures due { IfSome told (λ mark. self.old.mark ≡ mark) → self.new.is_due ≡ true }
     {
-        self.is_due = true;
-    }
-
-    /// Has the next round look at this request, if it has this mark.
-    pub fn wake_at(&mut self, mark: usize)
-        // Nothing of the request changes but, at most, whether the next round looks at it.
-        ensures same { IsOnlyWoken self.old self.new }
-        // With this mark the next round looks at it.
-        ensures due { self.old.mark ≡ mark → self.new.is_due ≡ true }
-    {
-        self.is_due |= self.mark == mark;
+        match told {
+            Some(mark) => self.is_due |= self.mark == mark,
+            None => self.is_due = true,
+        }
     }
 
     /// Has each later wait of the gate end when bytes of this request come, if more are waited for, and if the gate can watch it.

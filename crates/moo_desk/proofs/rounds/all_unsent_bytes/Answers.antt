@@ -1,5 +1,4 @@
-use Rattle.std.proofs.Common.{◌≡◌, ◌+◌, ◌-◌, ◌^◌, min, max, get_or, ap, ◌∙◌}
-use Rattle.moo_desk.specs.Choices.{held_of}
+use Rattle.moo_desk.proofs.Words.{◌≡◌, ◌+◌, ◌-◌, ◌^◌, min, max, get_or, ap, ◌∙◌, held_of}
 use Rattle.moo_desk.proofs.Firsts.{answers_counted, largest_then, sum_then}
 use Rattle.moo_desk.proofs.rounds.all_unsent_bytes.Goals as goal
 

@@ -1,6 +1,4 @@
-use Rattle.std.specs.Prelude.{◌≡◌, ◌<◌, ◌+◌, ◌-◌, ◌^◌, min, max, drop}
-use Rattle.std.specs.List.{sum_by}
-use Rattle.moo_desk.specs.Choices.{held_of, largest_of}
+use Rattle.moo_desk.proofs.Words.{◌≡◌, ◌<◌, ◌+◌, ◌-◌, ◌^◌, min, max, drop, sum_by, held_of, largest_of}
 use Rattle.moo_desk.proofs.rounds.all_unsent_bytes.Given as goal
 
 abbrev pub invariant-loop-connection : goal.invariant-loop-connection

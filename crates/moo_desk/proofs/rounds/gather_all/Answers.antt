@@ -1,9 +1,6 @@
-use Rattle.std.proofs.Common.{◌<◌, length, length-set, refl, ◌∙◌, arith}
-use Rattle.moo_desk.specs.declared.rounds.TheConstants.{BUDGET}
-use Rattle.moo_desk.specs.Later.{IsGathered}
-use Rattle.moo_desk.specs.Rounds.{IsTimed, gathered_of}
-use Rattle.moo_desk.proofs.Onward.{each_same, each_set, gathered_same, gathered_joined}
-use Rattle.moo_desk.proofs.Reading.{first_then, is_much, may_be, reads_then, reads_all, timed_same, timed_joined}
+use Rattle.moo_desk.proofs.Words.{IsReadIfDue, ◌<◌, length, length-set, refl, ◌∙◌, arith, BUDGET, IsGathered, IsTimed, gathered_of}
+use Rattle.moo_desk.proofs.Onward.{each_same, each_set, so_far_then, gathered_same, gathered_joined}
+use Rattle.moo_desk.proofs.Reading.{first_then, is_much, may_be, GoesOn, reads_all, timed_same, timed_joined}
 use Rattle.moo_desk.proofs.rounds.gather_all.Goals as goal
 
 pub loop-slot-init : goal.loop-slot-init
@@ -22,7 +19,7 @@ loop-slot-preserved g c =
     let few : c.loop-slot.slot-index < length c.loop-slot.slot-items = (omega (arith, c.loop-slot-test.true, c.loop-slot.auto.slot-items)) in (
       each_set IsGathered gathered_joined c.args.slots.now c.loop-slot.slot-items c.loop-slot.slot-index c.slot-item.result c.turn-changed.new.self it.0 few
           (record { request = turned.invisible; peer = turned.peer; answer = turned.writer.0; limited = turned.writer.1; since = turned.times.since; rests = turned.rests }),
-      reads_then (gathered_of c.args.slots.now < BUDGET) c.loop-slot.slot-index c.args.slots.now c.loop-slot.slot-items c.slot-item.result c.turn-changed.new.self few it.1
+      so_far_then IsReadIfDue (GoesOn (gathered_of c.args.slots.now < BUDGET)) c.loop-slot.slot-index c.args.slots.now c.loop-slot.slot-items c.slot-item.result c.turn-changed.new.self few it.1
           (λ goes unfinished due. turned.read (may_be c.loop-slot.is_first _ (λ full. it.2 goes (is_much BUDGET c.gathered_bytes-is_full.result (gathered_of c.args.slots.now) _ full c.gathered_bytes-is_full.ensures))) unfinished due),
       first_then (gathered_of c.args.slots.now < BUDGET) c.loop-slot.slot-index c.args.slots.now c.loop-slot.slot-items c.slot-item.result c.loop-slot.is_first few it.4 it.1 it.2,
       each_set (IsTimed c.args.now) (timed_joined c.args.now) c.args.slots.now c.loop-slot.slot-items c.loop-slot.slot-index c.slot-item.result c.turn-changed.new.self it.3 few turned.times,

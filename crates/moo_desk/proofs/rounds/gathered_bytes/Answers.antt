@@ -1,5 +1,4 @@
-use Rattle.std.proofs.Common.{◌≡◌, ◌+◌, ◌-◌, ◌^◌, min, length, get_or, drop, sym, ap, zero-add, subst, ◌∙◌, arith}
-use Rattle.moo_desk.specs.Rounds.{gathered_of}
+use Rattle.moo_desk.proofs.Words.{◌≡◌, ◌+◌, ◌-◌, ◌^◌, min, length, get_or, drop, sym, ap, zero-add, subst, ◌∙◌, arith, gathered_of}
 use Rattle.moo_desk.proofs.Reading.{gathered_next, gathered_last}
 use Rattle.moo_desk.proofs.rounds.gathered_bytes.Goals as goal
 

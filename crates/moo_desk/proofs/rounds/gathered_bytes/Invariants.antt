@@ -1,5 +1,4 @@
-use Rattle.std.specs.Prelude.{◌≡◌, ◌<◌, ◌+◌, ◌-◌, ◌^◌, min, drop}
-use Rattle.moo_desk.specs.Rounds.{gathered_of}
+use Rattle.moo_desk.proofs.Words.{◌≡◌, ◌<◌, ◌+◌, ◌-◌, ◌^◌, min, drop, gathered_of}
 use Rattle.moo_desk.proofs.rounds.gathered_bytes.Given as goal
 
 abbrev pub invariant-loop-slot : goal.invariant-loop-slot

@@ -1,5 +1,4 @@
-use Rattle.std.proofs.Common.{arith}
-use Rattle.moo_desk.specs.Later.{IsLater}
+use Rattle.moo_desk.proofs.Words.{arith, IsLater}
 use Rattle.moo_desk.proofs.Onward.{each_same, each_set, later_same, later_joined}
 use Rattle.moo_desk.proofs.rounds.turn_leaving.Goals as goal
 

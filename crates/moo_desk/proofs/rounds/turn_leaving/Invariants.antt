@@ -1,5 +1,4 @@
-use Rattle.moo_desk.specs.Each.{Each}
-use Rattle.moo_desk.specs.Later.{IsLater}
+use Rattle.moo_desk.proofs.Words.{Each, IsLater}
 use Rattle.moo_desk.proofs.rounds.turn_leaving.Given as goal
 
 abbrev pub invariant-loop-connection : goal.invariant-loop-connection

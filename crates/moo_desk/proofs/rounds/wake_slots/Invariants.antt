@@ -1,7 +1,6 @@
-use Rattle.std.specs.Prelude.{◌≡◌}
-use Rattle.moo_desk.specs.Rounds.{IsWokenFor}
-use Rattle.moo_desk.proofs.Onward.{EachSoFar}
+use Rattle.moo_desk.proofs.Words.{⊤, IfSome, ◌≡◌, IsWokenFor}
+use Rattle.moo_desk.proofs.Onward.{SoFar}
 use Rattle.moo_desk.proofs.rounds.wake_slots.Given as goal
 
 abbrev pub invariant-loop-slot : goal.invariant-loop-slot
-invariant-loop-slot g l = EachSoFar (IsWokenFor (λ it. it ≡ l.fn.mark)) l.slot-index l.fn.slots l.slot-items
+invariant-loop-slot g l = SoFar (IsWokenFor (λ it. IfSome l.fn.told (λ mark. it ≡ mark))) (λ _. ⊤) l.slot-index l.fn.slots l.slot-items

@@ -1,5 +1,4 @@
-use Rattle.std.proofs.Common.{refl, ◌∙◌, arith}
-use Rattle.moo_desk.specs.Later.{IsGathered}
+use Rattle.moo_desk.proofs.Words.{refl, ◌∙◌, arith, IsGathered}
 use Rattle.moo_desk.proofs.Onward.{each_same, each_set, gathered_same, gathered_joined, gathered_untouched}
 use Rattle.moo_desk.proofs.rounds.watch_all.Goals as goal
 

@@ -1,6 +1,4 @@
-use Rattle.std.specs.Prelude.{◌≡◌}
-use Rattle.moo_desk.specs.Each.{Each}
-use Rattle.moo_desk.specs.Later.{IsGathered}
+use Rattle.moo_desk.proofs.Words.{◌≡◌, Each, IsGathered}
 use Rattle.moo_desk.proofs.rounds.watch_all.Given as goal
 
 abbrev pub invariant-loop-slot : goal.invariant-loop-slot

@@ -1,6 +1,4 @@
-use Rattle.std.proofs.Common.{length}
-use Rattle.std.proofs.Math.Logic.{∥∥₁_map}
-use Rattle.std.proofs.lemmas.Bool.{leb-true}
+use Rattle.moo_desk.proofs.Words.{length, ∥∥₁_map, leb-true}
 use Rattle.moo_desk.proofs.Ripening.{whole_now}
 use Rattle.moo_desk.proofs.slot.is_whole.Goals as goal
 

@@ -1,7 +1,6 @@
-use Rattle.std.specs.Prelude.{◌≡◌, ◌≤◌, ◌+◌, ◌++◌, length, vec_capacity}
+use Rattle.moo_desk.proofs.Words.{◌≡◌, ◌≤◌, ◌+◌, ◌++◌, length, vec_capacity, marks_of}
 use Rattle.std.specs.Slice.Iter.{iter_rest}
 use Rattle.mio.specs.Events.{items}
-use Rattle.moo_desk.specs.Calls.{marks_of}
 use Rattle.moo_desk.proofs.sockets.tell_marks.Given as goal
 
 abbrev pub invariant-loop-event : goal.invariant-loop-event

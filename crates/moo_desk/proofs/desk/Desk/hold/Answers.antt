@@ -1,6 +1,4 @@
-use Rattle.std.proofs.Common.{ap, subst, ◌∙◌}
-use Rattle.moo_desk.specs.Deeds.{LetsGo, book_of}
-use Rattle.moo_desk.specs.Stages.{MayFollow}
+use Rattle.moo_desk.proofs.Words.{ap, subst, ◌∙◌, LetsGo, book_of, MayFollow}
 use Rattle.moo_desk.proofs.Onward.{later_joined, later_kept}
 use Rattle.moo_desk.proofs.Ledgers.{keeps_held, keeps_let_go}
 use Rattle.moo_desk.proofs.desk.Desk.hold.Goals as goal

@@ -1,8 +1,4 @@
-use Rattle.std.proofs.Common.{◌≡◌, ◌≤◌, ◌<◌, ◌⊎◌, inl, inr, subst, arith}
-use Rattle.std.specs.Prelude.{Some, None}
-use Rattle.std.specs.Duration.{as_nanos}
-use Rattle.moo_desk.specs.Choices.{IsSpared, IsUnfinished, spared_for}
-use Rattle.moo_desk.specs.Each.{OfFirst}
+use Rattle.moo_desk.proofs.Words.{◌≡◌, ◌≤◌, ◌<◌, ◌⊎◌, inl, inr, subst, arith, Some, None, as_nanos, IsSpared, IsUnfinished, spared_for, OfFirst}
 use Rattle.std.proofs.lemmas.Grind.{common_steps}
 use Rattle.moo_desk.proofs.Firsts.{of_first_map}
 use Rattle.moo_desk.proofs.desk.Desk.patience.Goals as goal

@@ -1,5 +1,4 @@
-use Rattle.std.specs.Prelude.{◌≡◌}
-use Rattle.moo_desk.specs.Deeds.{Keep, book_of}
+use Rattle.moo_desk.proofs.Words.{◌≡◌, Keep, book_of}
 use Rattle.moo_desk.proofs.desk.Desk.send_out.Given as goal
 
 abbrev pub invariant-loop : goal.invariant-loop

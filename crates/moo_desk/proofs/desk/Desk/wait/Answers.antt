@@ -1,5 +1,4 @@
-use Rattle.std.proofs.Common.{refl}
-use Rattle.moo_desk.specs.Later.{IsGathered}
+use Rattle.moo_desk.proofs.Words.{refl, IsGathered}
 use Rattle.moo_desk.proofs.Ledgers.{keeps_joined, keeps_steps, same_leaving, each_written}
 use Rattle.moo_desk.proofs.desk.Desk.wait.Goals as goal
 

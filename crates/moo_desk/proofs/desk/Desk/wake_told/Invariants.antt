@@ -1,5 +1,4 @@
-use Rattle.std.specs.Prelude.{◌≡◌}
-use Rattle.moo_desk.specs.Deeds.{Keep, book_of}
+use Rattle.moo_desk.proofs.Words.{◌≡◌, Keep, book_of}
 use Rattle.moo_desk.proofs.desk.Desk.wake_told.Given as goal
 
 abbrev pub invariant-loop-mark : goal.invariant-loop-mark

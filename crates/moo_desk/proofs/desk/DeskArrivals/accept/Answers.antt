@@ -1,6 +1,4 @@
-use Rattle.std.proofs.Math.Logic.{∥∥₁_map}
-use Rattle.moo_desk.specs.Deeds.{book_of}
-use Rattle.std.proofs.Common.{refl, sym, true≢false}
+use Rattle.moo_desk.proofs.Words.{∥∥₁_map, book_of, refl, sym, true≢false}
 use Rattle.moo_desk.proofs.Ledgers.{keeps_same, keeps_joined, admits_same, admits_joined, admits_then}
 use Rattle.moo_desk.proofs.desk.DeskArrivals.accept.Goals as goal
 

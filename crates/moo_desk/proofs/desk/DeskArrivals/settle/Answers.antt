@@ -1,5 +1,4 @@
-use Rattle.std.proofs.Common.{◌≡◌, refl, sym, ap, subst}
-use Rattle.moo_desk.specs.Deeds.{book_of, Keep}
+use Rattle.moo_desk.proofs.Words.{◌≡◌, refl, sym, ap, subst, book_of, Keep}
 use Rattle.moo_desk.proofs.Ledgers.{keeps_same}
 use Rattle.moo_desk.proofs.desk.DeskArrivals.settle.Goals.{then-is_last, else-is_last}
 use Rattle.moo_desk.proofs.desk.DeskArrivals.settle.Goals as goal

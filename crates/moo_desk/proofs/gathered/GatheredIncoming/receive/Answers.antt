@@ -1,6 +1,5 @@
-use Rattle.std.proofs.Common.{◌≡◌, drop, [], arith}
+use Rattle.moo_desk.proofs.Words.{◌≡◌, drop, [], arith, prepend_known-nil}
 use Rattle.std.proofs.Math.ListN.{drop_of_length-le}
-use Rattle.std.proofs.KnownBytes.{prepend_known-nil}
 use Rattle.moo_desk.proofs.gathered.GatheredIncoming.receive.Goals as goal
 
 pub returns-then-self-len-clause-bytes : goal.returns-then-self-len-clause-bytes

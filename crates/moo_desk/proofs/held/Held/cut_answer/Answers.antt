@@ -1,8 +1,6 @@
-use Rattle.std.proofs.Common.{refl, ap, ◌∙◌, arith}
+use Rattle.moo_desk.proofs.Words.{refl, ap, ◌∙◌, arith, Crowded, ended}
 use Rattle.moo_desk.proofs.Onward.{later_kept}
 use Rattle.moo_desk.proofs.Ledgers.{get_or_same, keeps_set}
-use Rattle.moo_arrivals.specs.declared.cause.Cause.TheVariants.{Crowded}
-use Rattle.moo_desk.specs.Stages.{ended}
 use Rattle.moo_desk.proofs.held.Held.cut_answer.Goals as goal
 
 pub returns-then-place-len-clause-all : goal.returns-then-place-len-clause-all

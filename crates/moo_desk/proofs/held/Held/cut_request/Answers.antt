@@ -1,9 +1,7 @@
-use Rattle.std.proofs.Common.{◌<◌, length, inl, inr, refl, sym, ap, subst, ◌∙◌, arith}
-use Rattle.moo_desk.specs.Rounds.{IsEndable, IsTimed}
+use Rattle.moo_desk.proofs.Words.{◌<◌, length, inl, inr, refl, sym, ap, subst, ◌∙◌, arith, IsEndable, IsTimed, IsCrowdedOut}
 use Rattle.moo_desk.proofs.Onward.{each_same, each_set}
 use Rattle.moo_desk.proofs.Ledgers.{keeps_slot_set, gathered_given_up, get_or_same}
 use Rattle.moo_desk.proofs.Reading.{timed_same, timed_joined}
-use Rattle.moo_desk.specs.Choices.{IsCrowdedOut}
 use Rattle.moo_desk.proofs.Firsts.{first_below, first_holds, turns_at}
 use Rattle.moo_desk.proofs.held.Held.cut_request.Goals.{else-place-len-via-then-place-len+else-is_endable, else-place-len-via-else-place-len}
 use Rattle.moo_desk.proofs.held.Held.cut_request.Goals as goal

@@ -1,7 +1,4 @@
-use Rattle.std.specs.Prelude.{◌≡◌, ◌⊎◌}
-use Rattle.moo_arrivals.specs.declared.cause.Cause.{Cause}
-use Rattle.moo_desk.specs.declared.leaving.Stage.TheVariants.{Done, Lost}
-use Rattle.std.proofs.Common.{◌<◌, length, sym, ap, subst, ◌∙◌, arith}
+use Rattle.moo_desk.proofs.Words.{◌≡◌, ◌⊎◌, Cause, Done, Lost, ◌<◌, length, sym, ap, subst, ◌∙◌, arith}
 use Rattle.moo_desk.proofs.Ledgers.{keeps_end_at, get_or_same}
 use Rattle.moo_desk.proofs.held.Held.end_one.Goals as goal
 

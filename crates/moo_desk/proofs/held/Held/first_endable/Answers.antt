@@ -1,6 +1,4 @@
-use Rattle.std.proofs.Common.{subst}
-use Rattle.moo_desk.specs.Rounds.{IsEndable}
-use Rattle.moo_desk.specs.Each.{IsFirstPlace}
+use Rattle.moo_desk.proofs.Words.{subst, IsEndable, IsFirstPlace}
 use Rattle.moo_desk.proofs.held.Held.first_endable.Goals as goal
 
 pub returns : goal.returns

@@ -1,6 +1,4 @@
-use Rattle.std.proofs.Common.{subst}
-use Rattle.moo_desk.specs.Choices.{IsLingering}
-use Rattle.moo_desk.specs.Each.{IsFirstPlace}
+use Rattle.moo_desk.proofs.Words.{subst, IsLingering, IsFirstPlace}
 use Rattle.moo_desk.proofs.held.Held.first_lingering.Goals as goal
 
 pub returns : goal.returns

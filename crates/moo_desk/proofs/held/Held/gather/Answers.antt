@@ -1,7 +1,4 @@
-use Rattle.std.proofs.Common.{◌<◌, refl, sym, subst}
-use Rattle.moo_desk.specs.declared.rounds.TheConstants.{BUDGET}
-use Rattle.moo_desk.specs.Later.{IsGathered}
-use Rattle.moo_desk.specs.Rounds.{IsTimed, ReadsDue, gathered_of}
+use Rattle.moo_desk.proofs.Words.{◌<◌, refl, sym, subst, BUDGET, IsGathered, IsTimed, ReadsDue, gathered_of}
 use Rattle.moo_desk.proofs.Ledgers.{keeps_steps, same_leaving, each_written, written_is}
 use Rattle.moo_desk.proofs.held.Held.gather.Goals as goal
 

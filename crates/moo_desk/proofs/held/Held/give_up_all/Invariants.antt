@@ -1,5 +1,4 @@
-use Rattle.std.specs.Prelude.{length}
-use Rattle.moo_desk.specs.Deeds.{Keep, book_of}
+use Rattle.moo_desk.proofs.Words.{length, Keep, book_of}
 use Rattle.moo_desk.proofs.held.Held.give_up_all.Given as goal
 
 abbrev pub invariant-loop-last : goal.invariant-loop-last

@@ -1,7 +1,4 @@
-use Rattle.std.proofs.Common.{sym, subst}
-use Rattle.moo_desk.specs.Choices.{IsLingering}
-use Rattle.moo_desk.specs.Each.{HoldsOfNone}
-use Rattle.moo_desk.specs.Rounds.{IsEndable}
+use Rattle.moo_desk.proofs.Words.{sym, subst, IsLingering, HoldsOfNone, IsEndable}
 use Rattle.moo_desk.proofs.held.Held.has_spare.Goals as goal
 
 pub returns-then-any_item-clause-yes : goal.returns-then-any_item-clause-yes

@@ -1,6 +1,4 @@
-use Rattle.std.proofs.Common.{sym, subst}
-use Rattle.moo_desk.specs.Choices.{IsReady}
-use Rattle.moo_desk.specs.Each.{HoldsOfNone}
+use Rattle.moo_desk.proofs.Words.{sym, subst, IsReady, HoldsOfNone}
 use Rattle.moo_desk.proofs.held.Held.is_any_ready.Goals as goal
 
 pub returns-clause-yes : goal.returns-clause-yes

@@ -1,8 +1,5 @@
-use Rattle.std.proofs.Common.{refl, sym, subst}
+use Rattle.moo_desk.proofs.Words.{refl, sym, subst, IsReady, IsFirstPlace, Some}
 use Rattle.moo_desk.proofs.Firsts.{first_taken}
-use Rattle.moo_desk.specs.Choices.{IsReady}
-use Rattle.moo_desk.specs.Each.{IsFirstPlace}
-use Rattle.std.specs.Prelude.{Some}
 use Rattle.moo_desk.proofs.held.Held.next_whole.Goals as goal
 
 pub returns : goal.returns

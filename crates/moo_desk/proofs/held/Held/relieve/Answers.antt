@@ -1,7 +1,4 @@
-use Rattle.std.proofs.Common.{inl, inr, refl, ap, subst, ◌∙◌, arith}
-use Rattle.std.specs.Prelude.{Some}
-use Rattle.moo_desk.specs.Choices.{IsStuck, answers_of}
-use Rattle.moo_desk.specs.Each.{IsFirstPlace, HoldsOfNone}
+use Rattle.moo_desk.proofs.Words.{inl, inr, refl, ap, subst, ◌∙◌, arith, Some, IsStuck, answers_of, IsFirstPlace, HoldsOfNone}
 use Rattle.moo_desk.proofs.Firsts.{cut_stuck, first_below}
 use Rattle.moo_desk.proofs.held.Held.relieve.Goals as goal
 

@@ -1,5 +1,4 @@
-use Rattle.std.proofs.Common.{refl}
-use Rattle.moo_desk.specs.Later.{IsLater}
+use Rattle.moo_desk.proofs.Words.{refl, IsLater}
 use Rattle.moo_desk.proofs.Ledgers.{keeps_joined, keeps_steps, same_slots, each_written}
 use Rattle.moo_desk.proofs.held.Held.send_all.Goals as goal
 

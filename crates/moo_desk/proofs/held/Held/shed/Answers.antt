@@ -1,7 +1,4 @@
-use Rattle.std.proofs.Common.{inl, subst, sym}
-use Rattle.moo_desk.specs.Choices.{IsLingering}
-use Rattle.moo_desk.specs.Each.{Each}
-use Rattle.moo_desk.specs.Rounds.{IsTimed}
+use Rattle.moo_desk.proofs.Words.{inl, subst, sym, IsLingering, Each, IsTimed}
 use Rattle.moo_desk.proofs.Firsts.{cut_lingers, first_below}
 use Rattle.moo_desk.proofs.Onward.{each_same}
 use Rattle.moo_desk.proofs.Reading.{timed_same}

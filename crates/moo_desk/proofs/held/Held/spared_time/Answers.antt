@@ -1,9 +1,5 @@
-use Rattle.std.proofs.Common.{◌≡◌, ◌+◌, ◌-◌, ◌*◌, refl, sym, ap, subst, ◌∙◌}
-use Rattle.std.specs.Prelude.{Some, None}
-use Rattle.std.specs.Duration.{as_nanos}
+use Rattle.moo_desk.proofs.Words.{◌≡◌, ◌+◌, ◌-◌, ◌*◌, refl, sym, ap, subst, ◌∙◌, Some, None, as_nanos, IsSpared, IsUnfinished, spared_for, IsFirstPlace, HoldsOfNone}
 use Rattle.moo_desk.specs.declared.held.TheConstants.{GRACE}
-use Rattle.moo_desk.specs.Choices.{IsSpared, IsUnfinished, spared_for}
-use Rattle.moo_desk.specs.Each.{IsFirstPlace, HoldsOfNone}
 use Rattle.moo_desk.proofs.Firsts.{not_lacking, of_first, of_none}
 use Rattle.moo_desk.proofs.held.Held.spared_time.Goals as goal
 

@@ -1,5 +1,4 @@
-use Rattle.std.proofs.Common.{◌≡◌, refl}
-use Rattle.moo_desk.specs.Rounds.{IsAnswerWokenFor, IsWokenFor}
+use Rattle.moo_desk.proofs.Words.{◌≡◌, refl, IsAnswerWokenFor, IsWokenFor}
 use Rattle.moo_desk.proofs.Ledgers.{keeps_woken, each_written}
 use Rattle.moo_desk.proofs.held.Held.wake_at.Goals as goal
 

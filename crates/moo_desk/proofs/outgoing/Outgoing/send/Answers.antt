@@ -1,8 +1,5 @@
-use Rattle.std.proofs.Common.{◌≤◌, arith, ◌+◌, ◌-◌, ◌++◌, length, take, drop, ℕ, List, refl, sym, subst, ap, ◌∙◌}
-use Rattle.std.proofs.KnownBytes.{append_known-moved}
-use Rattle.std.proofs.lemmas.List.{take-append-drop, drop-drop, take-take, length-take}
+use Rattle.moo_desk.proofs.Words.{◌≤◌, arith, ◌+◌, ◌-◌, ◌++◌, length, take, drop, ℕ, List, refl, sym, subst, ap, ◌∙◌, append_known-moved, take-append-drop, drop-drop, take-take, length-take, Appends}
 use Rattle.std.proofs.Math.Nat.{min-le_left}
-use Rattle.std.specs.Io.KnownBytes.{Appends}
 use Rattle.moo_desk.proofs.outgoing.Outgoing.send.Goals as goal
 
 pub returns-in-Ok : goal.returns-in-Ok

@@ -1,8 +1,4 @@
-use Rattle.std.proofs.Common.{◌<◌, length, subst, sym, inl, ◌∙◌}
-use Rattle.std.proofs.Math.Logic.{∥∥₁_map}
-use Rattle.moo_http_request.specs.Whole.{IsWhole}
-use Rattle.moo_desk.specs.Read.{limit_of}
-use Rattle.moo_desk.specs.Ripe.{IsKnownFrom}
+use Rattle.moo_desk.proofs.Words.{◌<◌, length, subst, sym, inl, ◌∙◌, ∥∥₁_map, IsWhole, limit_of, IsKnownFrom}
 use Rattle.moo_desk.proofs.Ripening.{known_grown, ripe_if, not_ripe, stops_open, not_idle}
 use Rattle.moo_desk.proofs.slot.Slot.step.Goals as goal
 

@@ -1,7 +1,5 @@
-use Rattle.std.proofs.Common.{true, ap, subst, ◌∙◌, w32}
-use Rattle.std.proofs.lemmas.Int.{to_z-of_z}
+use Rattle.moo_desk.proofs.Words.{true, ap, subst, ◌∙◌, w32, to_z-of_z, WatchesAnew}
 use Rattle.mio.specs.Interest.{is_readable, is_writable}
-use Rattle.moo_desk.specs.Calls.{WatchesAnew}
 use Rattle.moo_desk.proofs.sockets.SocketGateGate.watch_writer.Goals as goal
 
 pub returns-clause-watches : goal.returns-clause-watches
