@@ -1,21 +1,14 @@
 -- Rows that come in any order, no two of them with one key.
-use Rattle.moo_cells.{proofs.Words.{◌≡◌, List, [], ◌∷◌, Bool, true, false, cond, find, Option, None, Some, IsTrue, refl, sym, ap, subst, ◌∙◌, true≢false, AllByRecursion, ℤ, Row, Value, column, rowid, has_rowid, has_key_pair, IsRowBelow, value_cmp, is_eq, ordering_then, Equal, and_parts, IsRead, ShowsOrNone}, proofs.Table.{Bears, tied}, proofs.Keys.{rises}, specs.Apart.{is_same_number, is_same_pair, HaveNumbers, HavePairs}, specs.Holding.{HoldsEachRow}}
+use Rattle.moo_cells.{proofs.Words.{Int, value_cmp_total, all_has, has_found, ◌≡◌, List, [], ◌∷◌, Bool, true, false, cond, find, Option, None, Some, IsTrue, refl, sym, ap, subst, ◌∙◌, true≢false, AllByRecursion, ℤ, Row, Value, column, rowid, has_rowid, has_key_pair, IsRowBelow, value_cmp, is_eq, ordering_then, Equal, and_parts, IsRead, ShowsOrNone}, proofs.Table.{Bears, tied}, proofs.Keys.{rises}, specs.Apart.{is_same_number, is_same_pair, HaveNumbers, HavePairs}, specs.Holding.{HoldsEachRow}}
 use Rattle.std.{specs.Cmp.{IsTotalOrder, eq_by_cmp_equiv}, proofs.lemmas.Cmp.{on_total, then_total}, specs.List.{IsDistinct}, specs.List.Sorted.{IsPermutation}, proofs.lemmas.List.Sorted.{IsPermutation-sym}, proofs.lemmas.Map.Keys.{IsDistinct-IsPermutation}}
-use Rattle.sqlite.specs.declared.types.Value.TheVariants.{Int}
-use Rattle.sqlite_value.proofs.OrderLemmas.{value_cmp_total}
-use Rattle.sqlite_rules.proofs.ListLemmas.{all_has, has_found}
 use Rattle.sqlite_trees.{specs.Tree.{IsAscending}, specs.View.{is_int}, proofs.ListLemmas.{all-permutation}}
 use Rattle.moo_tables.{specs.Listing.{ArePaired}, specs.Rising.{pair_cmp}}
-use Rattle.moo_tables_rows.{specs.Tables.{AreKeyed}, proofs.KeyLemmas.{find_none}}
-
-all_then : {X : Type 0} (P Q : X → Type 0) → ((x : X) → P x → Q x) → (xs : List X) → AllByRecursion P xs → AllByRecursion Q xs
-all_then P Q gives [] all = tt
-all_then P Q gives (x ∷ xs) all = (gives x all.0, all_then P Q gives xs all.1)
+use Rattle.moo_tables_rows.{proofs.Words.{all_weaker}, specs.Tables.{AreKeyed}, proofs.KeyLemmas.{find_none}}
 
 distinct_from : (e : Row → Row → Bool) (up : Row → Row → Type 0) → ((r s : Row) → up r s → e r s ≡ false) → (rows : List Row) → IsAscending up rows → IsDistinct e rows
 unfolding IsDistinct
 distinct_from e up differ [] rise = tt
-distinct_from e up differ (r ∷ rows) rise = (all_then (up r) (λ s. e r s ≡ false) (differ r) rows rise.0, distinct_from e up differ rows rise.1)
+distinct_from e up differ (r ∷ rows) rise = (all_weaker (up r) (λ s. e r s ≡ false) (differ r) rows rise.0, distinct_from e up differ rows rise.1)
 
 pub pairwise : (e : Row → Row → Bool) (rows : List Row) → IsDistinct e rows → IsAscending (λ r s. e r s ≡ false) rows
 unfolding IsDistinct
@@ -53,7 +46,7 @@ module _ (e : Row → Row → Bool) (p : Row → Bool) (alike : (r s : Row) → 
       go : (b : Bool) → p r ≡ b → cond b (Some r) (find p rows) ≡ Some x → (find p rows ≡ Some x → AllByRecursion (λ z. p z ≡ true → z ≡ x) rows) → AllByRecursion (λ z. p z ≡ true → z ≡ x) (r ∷ rows)
       go true is found later =
           let same : r ≡ x = cc in
-          (λ passes. same, all_then (λ z. e r z ≡ false) (λ z. p z ≡ true → z ≡ x) (λ z differ passes. absurd (true≢false (sym (alike r z is passes) ∙ differ))) rows apart.0)
+          (λ passes. same, all_weaker (λ z. e r z ≡ false) (λ z. p z ≡ true → z ≡ x) (λ z differ passes. absurd (true≢false (sym (alike r z is passes) ∙ differ))) rows apart.0)
       go false is found later = (λ passes. absurd (true≢false (sym passes ∙ is)), later found)
 
   found_again : (xs ys : List Row) → IsPermutation xs ys → IsDistinct e xs → find p xs ≡ find p ys

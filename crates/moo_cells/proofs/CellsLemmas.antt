@@ -1,6 +1,6 @@
 -- Damage of tables, and damage of the rows that they show.
-use Rattle.moo_cells.{proofs.Words.{◌≡◌, ◌⊎◌, inl, inr, ◌<◌, pos, negsuc, Option, Some, None, refl, sym, subst, ◌∙◌, arith, get, Row, Maps, IsGood, Tables, head_cells, version_number, Kind, BadHead, BadCell, Key, Object, Prop, Slot, Verb, Petition, rank, NoneBefore, IsLeast, IsFirstInRows, InRows, AreWithin, HeadIs, ReadsHead, IsRead, ObjectFits, PropFits, SlotFits, VerbFits, PetitionFits, ShowsOrNone, ShowsObject, ShowsProp, ShowsSlot, ShowsVerb, ShowsPetition, ShowsRows, IsNewer, IsBadHead, IsBadCell, IsMet, Damage, SaysOfCells, CellFault, Damaged, NewerVersion, OutOfMemory}, proofs.GoodRows.{head_limits, object_fits, prop_fits, slot_fits_here, verb_fits_here, counter_fits, petition_fits_here, good_within}, proofs.OneRows.{one_rows}, proofs.Ranks.{at_head, by_rank}}
-use Rattle.moo_cells.{proofs.HeadLemmas.{head_known, head_not_newer}, proofs.OneCells.{one_some}}
+use Rattle.moo_cells.{proofs.Words.{same_Some, ◌≡◌, ◌⊎◌, inl, inr, ◌<◌, pos, negsuc, Option, Some, None, refl, sym, subst, ◌∙◌, arith, get, Row, Maps, IsGood, Tables, head_cells, version_number, Kind, BadHead, BadCell, Key, Object, Prop, Slot, Verb, Petition, rank, NoneBefore, IsLeast, IsFirstInRows, InRows, AreWithin, HeadIs, ReadsHead, IsRead, ObjectFits, PropFits, SlotFits, VerbFits, PetitionFits, ShowsOrNone, ShowsObject, ShowsProp, ShowsSlot, ShowsVerb, ShowsPetition, ShowsRows, IsNewer, IsBadHead, IsBadCell, IsMet, Damage, SaysOfCells, CellFault, Damaged, NewerVersion, OutOfMemory}, proofs.GoodRows.{head_limits, object_fits, prop_fits, slot_fits_here, verb_fits_here, counter_fits, petition_fits_here, good_within}, proofs.OneRows.{one_rows}, proofs.Ranks.{at_head, by_rank}}
+use Rattle.moo_cells.{proofs.HeadLemmas.{head_known, head_not_newer}}
 use Rattle.moo_damage.{specs.declared.kind.Key.TheVariants.{Head}, proofs.Clean.{clean}, proofs.Least.{none_met as none_in_rows}, proofs.Told.{none_told}}
 
 none_is : {A : Type 0} (o : Option A) (a : A) → o ≡ None → o ≡ Some a → ⊥
@@ -29,7 +29,7 @@ module _ (t : Tables) (m : Maps) (shown : ShowsRows t m) (good : IsGood m) where
   is_read shows fits key cells None x fit s e = absurd (none_is None cells refl e)
   is_read shows fits key cells (Some c) None fit s e = absurd s
   is_read shows fits key cells (Some c) (Some row) fit s e =
-      (key, row, (subst (λ c. shows key c row) (one_some c cells e) s, fit row refl))
+      (key, row, (subst (λ c. shows key c row) (same_Some c cells e) s, fit row refl))
 
   not_bad_cell : (key : Key) → ¬ (IsBadCell t key)
   not_bad_cell Head bad = bad
@@ -85,17 +85,15 @@ none_met t m shown good kind key met = go kind (kind_of t kind) met
     go kind (inl under) met = by_rank (λ k. ¬ (IsMet t k key)) (not_bad_head t m shown good key) (not_bad_cell t m shown good key) kind under met
     go kind (inr of) met = none_told m (clean m good) kind key (of.down m key shown (good_within m good) met)
 
--- so nothing is said of them but want of memory
-pub says_nothing : (t : Tables) (m : Maps) → ShowsRows t m → IsGood m → (fault : CellFault) → SaysOfCells t fault → fault ≡ OutOfMemory
-says_nothing t m shown good (Damaged kind key) says = absurd (none_met t m shown good kind key says.1.1.0)
-says_nothing t m shown good NewerVersion says = absurd (not_newer t m shown good says)
-says_nothing t m shown good OutOfMemory says = refl
-
--- nor of tables of a known version in which no kind is met
+-- nothing is said of tables of a known version in which no kind is met, but want of memory
 pub says_no_damage : (t : Tables) → ¬ (IsNewer t) → ((kind : Kind) (key : Key) → ¬ (IsMet t kind key)) → (fault : CellFault) → SaysOfCells t fault → fault ≡ OutOfMemory
 says_no_damage t known none (Damaged kind key) says = absurd (none kind key says.1.1.0)
 says_no_damage t known none NewerVersion says = absurd (known says)
 says_no_damage t known none OutOfMemory says = refl
+
+-- so nothing is said of tables that show good rows
+pub says_nothing : (t : Tables) (m : Maps) → ShowsRows t m → IsGood m → (fault : CellFault) → SaysOfCells t fault → fault ≡ OutOfMemory
+says_nothing t m shown good = says_no_damage t (not_newer t m shown good) (none_met t m shown good)
 
 -- good rows that tables show are the only ones
 pub one_good : (t : Tables) (rows m : Maps) → ShowsRows t rows → AreWithin rows → ShowsRows t m → IsGood m → rows ≡ m

@@ -1,7 +1,5 @@
 -- Tables beside rows that were known before.
-use Rattle.moo_cells.{proofs.Words.{Option, None, Some, IfSome, entries, Maps, IsGood, tables_of, Tables, Key, ShowEach, by_rowid, HoldsHead, ReadsCounter, ReadsObject, ReadsProp, ReadsSlot, ReadsVerb, ReadsPetition, ShowsRows}, specs.Compared.{IsMismatch}, proofs.FillLemmas.{objects_keep, props_keep, slots_keep, verbs_keep, petitions_keep, fills_shown}, proofs.RowsLemmas.{cells_in, listed_apart, rows_shown}}
-use Rattle.moo_tables.specs.Listing.{AreListed}
-use Rattle.moo_tables.specs.declared.reading.CellLists.{CellLists}
+use Rattle.moo_cells.{proofs.Words.{AreListed, CellLists, Option, None, Some, IfSome, entries, Maps, IsGood, tables_of, Tables, Key, ShowEach, by_rowid, HoldsHead, ReadsCounter, ReadsObject, ReadsProp, ReadsSlot, ReadsVerb, ReadsPetition, ShowsRows}, specs.Compared.{IsMismatch}, proofs.FillLemmas.{objects_keep, props_keep, slots_keep, verbs_keep, petitions_keep, fills_shown}, proofs.RowsLemmas.{cells_in, listed_apart, rows_shown}}
 use Rattle.moo_damage.specs.Differences.{IsFirstDifference}
 
 -- tables whose rows show a head, its number of the next petition and the entries of five maps show these rows

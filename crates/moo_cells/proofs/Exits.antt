@@ -1,18 +1,9 @@
 -- What a call's result says of what is returned after it.
-use Rattle.std.specs.Result.{IsErrAnd}
-use Rattle.moo_cells.proofs.Words.{Option, Some, None, Result, Ok, Err, IfSome, IfOk, IfErr}
+use Rattle.moo_cells.proofs.Words.{IsErrAnd, Option, Some, None, Result, Ok, Err, IfSome, IfOk, IfErr}
 
 pub both_ok : {T E : Type 0} (P Q S : T → Type 0) (r : Result T E) → IfOk r P → IfOk r Q → ((x : T) → P x → Q x → S x) → IfOk r S
 both_ok P Q S (Ok x) p q f = f x p q
 both_ok P Q S (Err e) p q f = tt
-
-pub ok_then : {T E : Type 0} (P Q : T → Type 0) (r : Result T E) → IfOk r P → ((x : T) → P x → Q x) → IfOk r Q
-ok_then P Q (Ok x) p f = f x p
-ok_then P Q (Err e) p f = tt
-
-pub err_then : {T E : Type 0} (P Q : E → Type 0) (r : Result T E) → IfErr r P → ((e : E) → P e → Q e) → IfErr r Q
-err_then P Q (Ok x) p f = tt
-err_then P Q (Err e) p f = f e p
 
 pub both_some : {T : Type 0} (P Q S : T → Type 0) (o : Option T) → IfSome o P → IfSome o Q → ((x : T) → P x → Q x → S x) → IfSome o S
 both_some P Q S (Some x) p q f = f x p q

@@ -1,12 +1,6 @@
 -- A table that is put into a map row by row, whether or not its keys differ.
-use Rattle.moo_cells.{proofs.Words.{◌≡◌, List, [], ◌∷◌, ◌++◌, Bool, true, false, cond, Option, Some, None, refl, sym, ap, subst, ◌∙◌, AllByRecursion, eq_by_cmp, IsTotalOrder, Ordering, FinMap, empty, entries, get, get-empty, get-insert, IsAntisymmetric, ShowEach, Row, has_rowid, has_key_pair, TakesRow, SaysUnread, IsLess, IsPairLess, CellFault, Key, Maps, Tables, Version, ReadsObject, ReadsProp, ReadsSlot, ReadsVerb, ReadsPetition, object_number, prop_number, slot_number, verb_number, petition_number, object_key, prop_key, slot_key, verb_key, petition_key, object_total, object_exact, prop_total, prop_exact, slot_total, slot_exact, verb_total, verb_exact, petition_total, petition_exact}, proofs.Beside.{each_held}, proofs.RowsLemmas.{held_fills}, proofs.Keys.{objects_bear, props_bear, slots_bear, verbs_bear, petitions_bear}, proofs.Table.{Bears, held_none, held_more, held_first, tied}, proofs.Apart.{in_any_order, pairwise, holds_again, alike_numbers, alike_pairs, numbered, numbered_again, paired, paired_again}, specs.Apart.{HaveNumbers, HavePairs, is_same_number, is_same_pair}, specs.Holding.{FillsTable, HoldsEachRow, HasWholeNumber, HasWholePair, KeepsTable, TellsKey}, specs.Filled.{FillsInSomeOrder, FillsMap}, specs.Taken.{TakesTable}}
-use Rattle.moo_cells.proofs.OneCells.{one_some}
+use Rattle.moo_cells.{proofs.Words.{same_Some, object_cmp, prop_cmp, slot_cmp, verb_cmp, petition_cmp, IsAscending, State, HasCleanDisk, ArePaired, ListsTable, CellTable, AreKeyed, Rests, ◌≡◌, List, [], ◌∷◌, ◌++◌, Bool, true, false, cond, Option, Some, None, refl, sym, ap, subst, ◌∙◌, AllByRecursion, eq_by_cmp, IsTotalOrder, Ordering, FinMap, empty, entries, get, get-empty, get-insert, IsAntisymmetric, ShowEach, Row, has_rowid, has_key_pair, TakesRow, SaysUnread, IsLess, IsPairLess, CellFault, Key, Maps, Tables, Version, ReadsObject, ReadsProp, ReadsSlot, ReadsVerb, ReadsPetition, object_number, prop_number, slot_number, verb_number, petition_number, object_key, prop_key, slot_key, verb_key, petition_key, object_total, object_exact, prop_total, prop_exact, slot_total, slot_exact, verb_total, verb_exact, petition_total, petition_exact}, proofs.Beside.{each_held}, proofs.RowsLemmas.{held_fills}, proofs.Keys.{objects_bear, props_bear, slots_bear, verbs_bear, petitions_bear}, proofs.Table.{Bears, held_none, held_more, held_first, tied}, proofs.Apart.{in_any_order, pairwise, holds_again, alike_numbers, alike_pairs, numbered, numbered_again, paired, paired_again}, specs.Apart.{HaveNumbers, HavePairs, is_same_number, is_same_pair}, specs.Holding.{FillsTable, HoldsEachRow, HasWholeNumber, HasWholePair, KeepsTable, TellsKey}, specs.Filled.{FillsInSomeOrder, FillsMap}, specs.Taken.{TakesTable}}
 use Rattle.std.{specs.List.{IsDistinct}, specs.List.Sorted.{IsPermutation}}
-use Rattle.moo_rows.specs.Maps.{object_cmp, prop_cmp, slot_cmp, verb_cmp, petition_cmp}
-use Rattle.sqlite_trees.specs.Tree.{IsAscending}
-use Rattle.sqlite.specs.State.{State, HasCleanDisk}
-use Rattle.moo_tables.{specs.Listing.{ArePaired, ListsTable}, specs.declared.cell_table.CellTable.{CellTable}}
-use Rattle.moo_tables_rows.specs.Inside.{AreKeyed, Rests}
 
 all_front : (P : Row → Type 0) (xs ys : List Row) → AllByRecursion P (xs ++ ys) → AllByRecursion P xs
 all_front P [] ys all = tt
@@ -49,7 +43,7 @@ each_more {K} {X} {cmp} total exact {reads} c {m} {n} each taken k x is =
     go : (b : Bool) → eq_by_cmp cmp k taken.key ≡ b → cond b (Some taken.row) (get m k) ≡ Some x → (r : Row) × reads k r x
     go true e h =
         let same : k ≡ taken.key = exact k taken.key (tied (cmp k taken.key) e) in
-        (c, subst (λ q. reads q c x) (sym same) (subst (reads taken.key c) (one_some taken.row x h) taken.is_read))
+        (c, subst (λ q. reads q c x) (sym same) (subst (reads taken.key c) (same_Some taken.row x h) taken.is_read))
     go false e h = each k x h
 
 -- how a map holds the rows of a table, in whatever order they come

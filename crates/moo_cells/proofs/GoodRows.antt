@@ -1,7 +1,7 @@
 -- Sound rows of a well formed world are within the limits.
-use Rattle.moo_cells.proofs.Words.{◌≡◌, ℕ, zero, suc, ◌<◌, ◌≤◌, ℤ, pos, negsuc, Bool, true, List, [], ◌∷◌, Option, Some, None, refl, sym, ap, subst, ◌∙◌, arith, ◌≤ℤ◌, is_some, unwrap_or, if◌then◌else◌, option_map, option_and_then, filter_map, list_all, cons_option, get, and_parts, and_from, lt-ltb, ints, ObjNo, Maps, in_range, is_number, IsGood, look_ups, world_of, world_shown, object_shown, numbers_below, name_on, slot_seen, WorldObject, KeepsLimits, Climbs, is_object, row_fits, is_property_name, state_fits, verb_fits, without_slots, AreWithin, HeadFits, IsCounter, ObjectFits, PropFits, SlotFits, VerbFits, PetitionFits}
+use Rattle.moo_cells.proofs.Words.{same_Some, ◌≡◌, ℕ, zero, suc, ◌<◌, ◌≤◌, ℤ, pos, negsuc, Bool, true, List, [], ◌∷◌, Option, Some, None, refl, sym, ap, subst, ◌∙◌, arith, ◌≤ℤ◌, is_some, unwrap_or, if◌then◌else◌, option_map, option_and_then, filter_map, list_all, cons_option, get, and_parts, and_from, lt-ltb, ints, ObjNo, Maps, in_range, is_number, IsGood, look_ups, world_of, world_shown, object_shown, numbers_below, name_on, slot_seen, WorldObject, KeepsLimits, Climbs, is_object, row_fits, is_property_name, state_fits, verb_fits, without_slots, AreWithin, HeadFits, IsCounter, ObjectFits, PropFits, SlotFits, VerbFits, PetitionFits}
 use borrow.Author.Count.{below_more}
-use Rattle.std.{proofs.lemmas.Option.{same_Some}, proofs.lemmas.List.Elements.{filter_map-append}, proofs.lemmas.List.Folds.{list_all-append}}
+use Rattle.std.{proofs.lemmas.List.Elements.{filter_map-append}, proofs.lemmas.List.Folds.{list_all-append}}
 use Rattle.moo_rows.{specs.declared.row.ObjRow.{ObjRow}, specs.declared.row.PetitionId.{PetitionId}, specs.declared.row.PetitionRow.{PetitionRow}, specs.declared.row.PropId.{PropId}, specs.declared.row.PropRow.{PropRow}, specs.declared.row.SlotRow.{SlotRow}, specs.declared.row.VerbId.{VerbId}, specs.declared.row.VerbRow.{VerbRow}}
 use Rattle.moo_world.{specs.Objects.{same_object, same_object-Decides}, proofs.Shown.PairLists.{some_of}, proofs.Shown.Seen.{is_object_seen}}
 use Rattle.moo_props.{proofs.Walked.{slot_here}, specs.Names.{name_of}}

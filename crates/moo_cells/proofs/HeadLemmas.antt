@@ -1,7 +1,6 @@
 -- The head, from the rows of its table, and the number of the next petition, from those of its own.
-use Rattle.moo_cells.{proofs.Words.{◌≡◌, ◌≢◌, inl, inr, ℕ, ℤ, pos, ◌<ℤ◌, ◌≤ℤ◌, List, [], ◌∷◌, length, get_or, find, cond, Bool, true, false, Option, Some, None, refl, sym, ap, subst, ◌∙◌, arith, IsTrue, ints, Row, column, rowid, has_rowid, Head, Version, First, Second, version_number, petition_head_cells, greatest_version, head_row, by_rowid, HeadIs, ReadsHead, ReadsNewer, ReadsKnown, IsNewerThan, HasHead, IsCounter, ReadsCounter, HasCounter, SaysOfHead, ShowsCounter, CellFault, Damaged, NewerVersion, OutOfMemory, has_petitions, ShowsNext}, specs.HeadCells.{cells_of, IsHead}, specs.declared.head.HeadCells.{HeadCells}, proofs.Numbers.{self_tied, tied_number, number_apart}, proofs.Texts.{int_inj}, proofs.OneCells.{one_some}}
+use Rattle.moo_cells.{proofs.Words.{same_Some, Has, all_has, ◌≡◌, ◌≢◌, inl, inr, ℕ, ℤ, pos, ◌<ℤ◌, ◌≤ℤ◌, List, [], ◌∷◌, length, get_or, find, cond, Bool, true, false, Option, Some, None, refl, sym, ap, subst, ◌∙◌, arith, IsTrue, ints, Row, column, rowid, has_rowid, Head, Version, First, Second, version_number, petition_head_cells, greatest_version, head_row, by_rowid, HeadIs, ReadsHead, ReadsNewer, ReadsKnown, IsNewerThan, HasHead, IsCounter, ReadsCounter, HasCounter, SaysOfHead, ShowsCounter, CellFault, Damaged, NewerVersion, OutOfMemory, has_petitions, ShowsNext}, specs.HeadCells.{cells_of, IsHead}, specs.declared.head.HeadCells.{HeadCells}, proofs.Numbers.{self_tied, tied_number, number_apart}, proofs.Texts.{int_inj}}
 use Rattle.sqlite.{specs.declared.types.Value.TheVariants.{Int as Number}, specs.Edit.{id_in}}
-use Rattle.sqlite_rules.{specs.Lists.{Has}, proofs.ListLemmas.{all_has}}
 use Rattle.sqlite_trees.specs.View.{is_int}
 use Rattle.moo_tables_rows.{specs.Inside.{AreKeyed}, proofs.KeyLemmas.{int_value}}
 
@@ -139,19 +138,16 @@ is_known Second v above same = absurd (omega (arith, ints))
 
 pub head_not_newer : (version : Version) (table : ℤ → Option Row) (cells : Row) (head : Head) → HeadIs table cells → ReadsHead (version_number version) head cells → ¬ (IsNewerThan greatest_version table)
 head_not_newer version table cells head is reads newer =
-    let same = one_some cells newer.0 (sym is.row ∙ newer.1.row) in
+    let same = same_Some cells newer.0 (sym is.row ∙ newer.1.row) in
     let shown = sym reads.0 ∙ same ∙ newer.2.5 in
     is_known version newer.2.0 newer.2.6 (int_inj (version_number version) newer.2.0 (ap (λ (c : Row). column c 1) shown))
 
 -- ---- the number of the next petition
 
-only_counter : (version : Version) → IsTrue (has_petitions version) → (rows : List Row) → AreKeyed rows → (next : ℕ) → ShowsCounter version (by_rowid rows) next → rows ≡ petition_head_cells next ∷ []
-only_counter version has rows keyed next shows =
-    let one = subst (λ b. ShowsNext b (by_rowid rows) next) has shows in
-    only_head rows keyed (petition_head_cells next) (record { row = one.0; alone = one.1 })
-
 pub no_counter : (version : Version) → IsTrue (has_petitions version) → (rows : List Row) → AreKeyed rows → (length rows ≡ 1 → ⊥) → ¬ (HasCounter version (by_rowid rows))
-no_counter version has rows keyed many counted = many (ap length (only_counter version has rows keyed counted.0 counted.1.0))
+no_counter version has rows keyed many counted =
+    let one = subst (λ b. ShowsNext b (by_rowid rows) counted.0) has counted.1.0 in
+    many (ap length (only_head rows keyed (petition_head_cells counted.0) (record { row = one.0; alone = one.1 })))
 
 pub counter_read : (version : Version) → IsTrue (has_petitions version) → (rows : List Row) (r : Row) → rows ≡ r ∷ [] → (next : ℕ) → r ≡ petition_head_cells next → IsCounter next → ReadsCounter version (by_rowid rows) next
 counter_read version has rows r whole next is fits =

@@ -1,14 +1,12 @@
 -- How the rows of each table bear their keys.
-use Rattle.moo_cells.{proofs.Words.{arith, ints, ◌≡◌, inl, inr, ℕ, ℤ, pos, negsuc, ◌<ℤ◌, true, refl, sym, ap, ◌∙◌, is_eq, int_cmp, ordering_then, int_ranked, tied_itself, Ordering, Less, Equal, Greater, and_parts, and_from, Value, Row, column, value_cmp, rowid, has_rowid, Version, has_key_pair, IsRowBelow, ReadsObject, ReadsProp, ReadsSlot, ReadsVerb, ReadsPetition, object_number, prop_number, slot_number, verb_number, petition_number, IsLess, IsPairLess}, proofs.Table.{Bears}}
-use Rattle.sqlite.specs.declared.types.Value.TheVariants.{Int}
-use Rattle.sqlite_value.proofs.OrderLemmas.{value_cmp_total}
-use Rattle.moo_cells.proofs.Numbers.{asymmetric, irreflexive, less_of, tied, ties}
+use Rattle.moo_cells.{proofs.Words.{Key, FitsSigned, w64, to_z, of_z, to_z-of_z, Int, value_cmp_total, arith, ints, ◌≡◌, inl, inr, ℕ, ℤ, pos, negsuc, ◌<ℤ◌, true, refl, sym, ap, ◌∙◌, is_eq, int_cmp, ordering_then, int_ranked, tied_itself, Ordering, Less, Equal, Greater, and_parts, and_from, Value, Row, column, value_cmp, rowid, has_rowid, Version, has_key_pair, IsRowBelow, ReadsObject, ReadsProp, ReadsSlot, ReadsVerb, ReadsPetition, object_number, prop_number, slot_number, verb_number, petition_number, IsLess, IsPairLess}, proofs.Table.{Bears}}
+use Rattle.moo_cells.proofs.Numbers.{irreflexive, less_of, tied, ties}
 pub use Rattle.moo_cells.proofs.Numbers.{number_apart, rises, self_tied, tied_number}
 
 -- ---- one number
 
 number_above : (j k : ℤ) (r s : Row) → rises r s → has_rowid k r ≡ true → has_rowid j s ≡ true → j <ℤ k → ⊥
-number_above j k r s up p q under = asymmetric j k under (less_of k j (sym (ties (rowid r) (rowid s) k j (tied _ p) (tied _ q)) ∙ up))
+number_above j k r s up p q under = let over : k <ℤ j = less_of k j (sym (ties (rowid r) (rowid s) k j (tied _ p) (tied _ q)) ∙ up) in absurd (omega (arith, ints))
 
 number_same : (j k : ℤ) (r : Row) → has_rowid j r ≡ true → has_rowid k r ≡ true → j <ℤ k → ⊥
 number_same j k r p q under =
@@ -90,6 +88,11 @@ pair_same j k r p q under = grind (arith, pair_irreflexive j k under, same_tie (
 
 pub pair_mine : (r : Row) (m n : ℤ) → column r 0 ≡ Int m → column r 1 ≡ Int n → has_key_pair (m, n) r ≡ true
 pair_mine r m n p q = and_from _ _ (self_tied (column r 0) m p) (self_tied (column r 1) n q)
+
+-- the key of two numbers that fields keep
+pub pair_told : (make : ℤ → ℤ → Key) (r : Row) (m n : ℤ) → column r 0 ≡ Int m → column r 1 ≡ Int n → FitsSigned w64 m → FitsSigned w64 n
+    → (j : ℤ × ℤ) × (has_key_pair j r ≡ true) × (make (to_z w64 (of_z w64 m)) (to_z w64 (of_z w64 n)) ≡ make j.0 j.1)
+pair_told make r m n p q f g = ((m, n), pair_mine r m n p q, λ i. make (to_z-of_z w64 m f i) (to_z-of_z w64 n g i))
 
 pair_only : (j : ℤ × ℤ) (r : Row) (m n : ℤ) → column r 0 ≡ Int m → column r 1 ≡ Int n → has_key_pair j r ≡ true → j ≡ (m, n)
 pair_only j r m n p q h = grind (arith, tied_number (column r 0) m j.0 p, tied_number (column r 1) n j.1 q, h)

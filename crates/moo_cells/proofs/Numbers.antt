@@ -1,7 +1,5 @@
 -- Numbers that order rows.
-use Rattle.moo_cells.proofs.Words.{◌≡◌, ℤ, ◌<ℤ◌, true, refl, sym, ap, ◌∙◌, arith, is_eq, int_cmp, int_ranked, tied_itself, alike_right, Ordering, Less, Equal, ints, Value, Row, value_cmp, rowid, has_rowid}
-use Rattle.sqlite.specs.declared.types.Value.TheVariants.{Int}
-use Rattle.sqlite_value.proofs.OrderLemmas.{value_cmp_total, value_cmp-Int}
+use Rattle.moo_cells.proofs.Words.{Int, value_cmp_total, value_cmp-Int, ◌≡◌, ℤ, ◌<ℤ◌, true, refl, sym, ap, ◌∙◌, arith, is_eq, int_cmp, int_ranked, tied_itself, alike_right, Ordering, Less, Equal, ints, Value, Row, value_cmp, rowid, has_rowid}
 
 pub tied : (o : Ordering) → is_eq o ≡ true → o ≡ Equal
 tied Equal h = refl
@@ -20,9 +18,6 @@ less_of m n e = int_ranked m n Less (sym e)
 
 pub irreflexive : (m n : ℤ) → m <ℤ n → m ≡ n → ⊥
 irreflexive m n h e = absurd (omega (arith, ints))
-
-pub asymmetric : (m n : ℤ) → m <ℤ n → n <ℤ m → ⊥
-asymmetric m n h k = absurd (omega (arith, ints))
 
 abbrev pub rises : Row → Row → Type 0
 rises a b = value_cmp (rowid a) (rowid b) ≡ Less

@@ -1,9 +1,7 @@
 -- The cells of an object, column by column. No flag is named: what holds of them follows from the cells of a row.
-use Rattle.moo_cells.{proofs.Words.{◌≡◌, ℕ, suc, true, Bool, List, [], ◌∷◌, length, ap, refl, sym, subst, ◌∙◌, and_parts, Row, Value, column, ObjNo, flag_cell, row_fits, IsRead, ReadsObject, Version}, specs.Object.{HasFlags, ShowsAccept, ShowsObject, StandFrom, accept_place}, proofs.Columns.{all_columns, columns_from}, proofs.OneCells.{flag_inj, accept_one, text_at}, proofs.Texts.{int_inj, text_inj}}
-use Rattle.std.proofs.Common.{◌↔◌, rules}
+use Rattle.moo_cells.{proofs.Words.{arith, ◌↔◌, rules, object_row_cells, ◌≡◌, ℕ, suc, true, Bool, List, [], ◌∷◌, length, ap, refl, sym, subst, ◌∙◌, and_parts, Row, Value, column, ObjNo, flag_cell, row_fits, IsRead, ReadsObject, Version}, specs.Object.{HasFlags, ShowsAccept, ShowsObject, StandFrom, accept_place}, proofs.Columns.{all_columns, columns_from}, proofs.OneCells.{accept_one, text_at}, proofs.Texts.{int_inj, text_inj}}
 use Rattle.sqlite.specs.declared.types.Value.TheVariants.{Int as Number, Text}
 use Rattle.moo_rows.specs.declared.row.ObjRow.{ObjRow}
-use Rattle.moo_tables_rows.specs.Object.{object_row_cells}
 
 stood : (at : ℕ) (cells more : Row) → StandFrom at cells more → columns_from at (length more) cells ≡ more
 stood at cells [] stand = refl
@@ -29,7 +27,7 @@ flags_read version cells read = subst (λ c. HasFlags c read.1) (sym read.2.0.2)
 
 -- two cells are one exactly if they show one thing
 flag_same : (a b : Bool) → (flag_cell a ≡ flag_cell b) ↔ (a ≡ b)
-flag_same a b = (flag_inj a b, ap flag_cell)
+flag_same a b = (λ e. grind (arith, e), ap flag_cell)
 
 number_same : (a b : ObjNo) → (Number a.0 ≡ Number b.0) ↔ (a ≡ b)
 number_same a b = (λ e i. record { 0 = int_inj a.0 b.0 e i }, ap (λ (n : ObjNo). Number n.0))

@@ -1,17 +1,11 @@
 -- A cell shows one thing within the limits at most.
-use Rattle.moo_cells.{proofs.Words.{arith, ◌≡◌, ℕ, List, [], ◌∷◌, map, find, Bool, true, false, Option, Some, None, Result, Ok, Err, refl, sym, ap, subst, ◌∙◌, Value, Row, column, ObjNo, Spells, Fits, spread, one_spelled, whole, accept_fits, state_fits, fits_tested, flag_cell, object_list, ShowsAccept, ShowsSlotState, ShowsRights}, proofs.Texts.{int_inj, text_in, text_inj, fits_list, spread_objects}}
+use Rattle.moo_cells.{proofs.Words.{same_Some, arith, ◌≡◌, ℕ, List, [], ◌∷◌, map, find, Bool, true, false, Option, Some, None, Result, Ok, Err, refl, sym, ap, subst, ◌∙◌, Value, Row, column, ObjNo, Spells, Fits, spread, one_spelled, whole, accept_fits, state_fits, fits_tested, flag_cell, object_list, ShowsAccept, ShowsSlotState, ShowsRights}, proofs.Texts.{int_inj, text_in, text_inj, fits_list, spread_objects}}
 use Rattle.std.specs.Str.{bytes_eq}
 use Rattle.moo_value.{specs.declared.value.Value.{Value as MooValue}, specs.declared.value.Value.TheVariants.{Obj, List as a_list}, specs.Reading.{literal_at}, specs.declared.fault.LiteralFault.{LiteralFault}, specs.declared.fault.LiteralFault.TheVariants.{NotALiteral}, proofs.Literals.{front_again}}
 use Rattle.moo_rows.{specs.declared.row.SlotState.{SlotState}, specs.declared.row.SlotState.TheVariants.{Clear, Set}, specs.declared.row.ObjectSpec.{ObjectSpec}, specs.declared.row.ObjectSpec.TheVariants.{This, Any as any_object, None as no_object}, specs.declared.row.Preposition.{Preposition}, specs.declared.row.Preposition.TheVariants.{None as no_preposition, Any as any_preposition, Set as a_set}, specs.declared.row.PrepositionSet.TheVariants.{With}, specs.Bits.{bits_of}, specs.declared.row.Bits.{Bits}, proofs.BitsNumber.{bits_number-injective}}
 use Rattle.moo_world.specs.Prepositions.{all_sets, prep_text, object_spec_text}
 
-pub one_some : {A : Type 0} (x y : A) → Some x ≡ Some y → x ≡ y
-one_some x y e = cc
-
 -- ---- single cells
-
-pub flag_inj : (a b : Bool) → flag_cell a ≡ flag_cell b → a ≡ b
-flag_inj a b e = grind (arith, e)
 
 abbrev place_in : List ℕ → Option ObjectSpec
 place_in text = find (λ p. bytes_eq (object_spec_text p) text) (This ∷ any_object ∷ no_object ∷ [])
@@ -21,7 +15,7 @@ place_again This = refl
 place_again p = refl
 
 pub place_inj : (p q : ObjectSpec) → object_spec_text p ≡ object_spec_text q → p ≡ q
-place_inj p q e = one_some p q (sym (place_again p) ∙ ap place_in e ∙ place_again q)
+place_inj p q e = same_Some p q (sym (place_again p) ∙ ap place_in e ∙ place_again q)
 
 abbrev prep_in : List ℕ → Option Preposition
 prep_in text = find (λ p. bytes_eq (prep_text p) text) (no_preposition ∷ any_preposition ∷ map a_set all_sets)
@@ -31,10 +25,10 @@ prep_again (a_set With) = refl
 prep_again p = refl
 
 pub prep_inj : (p q : Preposition) → prep_text p ≡ prep_text q → p ≡ q
-prep_inj p q e = one_some p q (sym (prep_again p) ∙ ap prep_in e ∙ prep_again q)
+prep_inj p q e = same_Some p q (sym (prep_again p) ∙ ap prep_in e ∙ prep_again q)
 
 pub rights_one : (lettered : Bool) (cell : Value) (x y : Bits) → ShowsRights lettered cell x → ShowsRights lettered cell y → x ≡ y
-rights_one true cell x y p q = one_some x y (sym p.1 ∙ ap bits_of (text_inj p.0 q.0 (sym p.2 ∙ q.2)) ∙ q.1)
+rights_one true cell x y p q = same_Some x y (sym p.1 ∙ ap bits_of (text_inj p.0 q.0 (sym p.2 ∙ q.2)) ∙ q.1)
 rights_one false cell x y p q = bits_number-injective x y (int_inj _ _ (sym p ∙ q))
 
 abbrev pub text_at : ℕ → Row → List ℕ

@@ -1,6 +1,6 @@
 -- Tables show one lot of rows within the limits at most.
-use Rattle.moo_cells.{proofs.Words.{has_lettered_bits, ◌≡◌, ℕ, ℤ, pos, true, Option, Some, None, refl, sym, ap, subst, ◌∙◌, same_map, and_parts, Row, column, ObjNo, Spells, one_spelled, Head, Maps, object_exact, prop_exact, slot_exact, verb_exact, petition_exact, object_total, prop_total, slot_total, verb_total, petition_total, is_number, petition_fits, row_fits, state_fits, Version, Tables, head_cells, petition_head_cells, AreWithin, calls_fit, ShowsOrNone, ShowsBits, ShowsSlotState, ShowsObject, ShowsProp, ShowsSlot, ShowsVerb, ShowsPetition, ShowsRows, Bool, false, has_petitions, ShowsNext}, proofs.Keys.{pos_inj}}
-use Rattle.moo_cells.{proofs.Texts.{int_inj, values_in, calls_within}, proofs.OneCells.{one_some, text_at, place_inj, prep_inj, rights_one, state_one}, proofs.ObjectLemmas.{object_one}}
+use Rattle.moo_cells.{proofs.Words.{same_Some, has_lettered_bits, ◌≡◌, ℕ, ℤ, pos, true, Option, Some, None, refl, sym, ap, subst, ◌∙◌, same_map, and_parts, Row, column, ObjNo, Spells, one_spelled, Head, Maps, object_exact, prop_exact, slot_exact, verb_exact, petition_exact, object_total, prop_total, slot_total, verb_total, petition_total, is_number, petition_fits, row_fits, state_fits, Version, Tables, head_cells, petition_head_cells, AreWithin, calls_fit, ShowsOrNone, ShowsBits, ShowsSlotState, ShowsObject, ShowsProp, ShowsSlot, ShowsVerb, ShowsPetition, ShowsRows, Bool, false, has_petitions, ShowsNext}, proofs.Keys.{pos_inj}}
+use Rattle.moo_cells.{proofs.Texts.{int_inj, values_in, calls_within}, proofs.OneCells.{text_at, place_inj, prep_inj, rights_one, state_one}, proofs.ObjectLemmas.{object_one}}
 use Rattle.moo_value.specs.declared.value.Value.TheVariants.{List as a_list}
 use Rattle.moo_rows.{specs.declared.row.PetitionId.{PetitionId}, specs.declared.row.PetitionRow.{PetitionRow}, specs.declared.row.PropId.{PropId}, specs.declared.row.PropRow.{PropRow}, specs.declared.row.SlotRow.{SlotRow}, specs.declared.row.VerbId.{VerbId}, specs.declared.row.VerbRow.{VerbRow}, specs.Bits.{verb_bits_of}}
 
@@ -29,7 +29,7 @@ verb_one version key c x y p q =
     let names : x.names ≡ y.names = ap (text_at 2) e in
     let owner = int_inj x.owner.0 y.owner.0 (ap (λ (c : Row). column c 3) e) in
     let letters : p.0 ≡ q.0 = ap (text_at 4) e in
-    let bits = one_some x.bits y.bits (sym p.1 ∙ ap verb_bits_of letters ∙ q.1) in
+    let bits = same_Some x.bits y.bits (sym p.1 ∙ ap verb_bits_of letters ∙ q.1) in
     let dobj = place_inj x.args.dobj y.args.dobj (ap (text_at 5) e) in
     let prep = prep_inj x.args.prep y.args.prep (ap (text_at 6) e) in
     let iobj = place_inj x.args.iobj y.args.iobj (ap (text_at 7) e) in
@@ -54,11 +54,11 @@ same_row shows fits one o x y f g p q = absurd assumption
 
 next_one : (petitions : Bool) (table : ℤ → Option Row) (m n : ℕ) → ShowsNext petitions table m → ShowsNext petitions table n → m ≡ n
 next_one false table m n p q = p ∙ sym q
-next_one true table m n p q = let e = one_some (petition_head_cells m) (petition_head_cells n) (sym p.0 ∙ q.0) in pos_inj m n (int_inj (pos m) (pos n) (ap (λ (c : Row). column c 1) e))
+next_one true table m n p q = let e = same_Some (petition_head_cells m) (petition_head_cells n) (sym p.0 ∙ q.0) in pos_inj m n (int_inj (pos m) (pos n) (ap (λ (c : Row). column c 1) e))
 
 head_one : (version : Version) (g h : Head) → Some (head_cells version g) ≡ Some (head_cells version h) → g.next_petition ≡ h.next_petition → g ≡ h
 head_one version g h same next_petition =
-    let e = one_some (head_cells version g) (head_cells version h) same in
+    let e = same_Some (head_cells version g) (head_cells version h) same in
     let seq = pos_inj g.seq h.seq (int_inj (pos g.seq) (pos h.seq) (ap (λ (c : Row). column c 2) e)) in
     let top = int_inj g.top h.top (ap (λ (c : Row). column c 3) e) in
     let next_prop = pos_inj g.next_prop h.next_prop (int_inj (pos g.next_prop) (pos h.next_prop) (ap (λ (c : Row). column c 4) e)) in

@@ -1,9 +1,7 @@
 -- The rows of all tables.
-use Rattle.moo_cells.{proofs.Words.{◌≡◌, ℕ, ℤ, Bool, List, pos, negsuc, ◌<◌, find, Option, Some, None, sym, ap, subst, ◌∙◌, arith, get, AllByRecursion, Row, has_rowid, Maps, and_from, Tables, tables_of, has_key_pair, version_number, Kind, BadHead, Key, rank, IsBelow, NoneBefore, AreWithin, HeadIs, ReadsHead, HasHead, by_rowid, ReadsCounter, HasCounter, SaysOfHead, IsRead, ReadsObject, ReadsProp, ReadsSlot, ReadsVerb, ReadsPetition, ShowsOrNone, ShowsObject, ShowsProp, ShowsSlot, ShowsVerb, ShowsPetition, ShowsRows, HoldsTable, SaysUnread, object_number, prop_number, slot_number, verb_number, petition_number, object_key, prop_key, slot_key, verb_key, petition_key, IsLess, IsPairLess, IsNewer, IsBadHead, IsBadCell, IsMet, SaysOfCells, CellFault, Damaged, NewerVersion, OutOfMemory}, proofs.Keys.{objects_bear, props_bear, slots_bear, verbs_bear, petitions_bear}, proofs.Table.{none_unread, no_other}, proofs.Ranks.{at_head, by_key, by_rank}, specs.Unread.{IsUnread, FirstUnread}}
-use Rattle.moo_cells.{proofs.Words.{Ordering, FinMap, Version, HoldsHead}, specs.Apart.{HaveNumbers, HavePairs}, specs.Holding.{FillsTable, HoldsEachRow}, proofs.Apart.{numbered, paired}, proofs.HeadLemmas.{head_known, head_not_newer}, proofs.OneCells.{one_some}}
-use Rattle.moo_tables.specs.Listing.{AreListed}
+use Rattle.moo_cells.{proofs.Words.{same_Some, ◌≡◌, ℕ, ℤ, Bool, List, pos, negsuc, ◌<◌, find, Option, Some, None, sym, ap, subst, ◌∙◌, arith, get, AllByRecursion, Row, has_rowid, Maps, and_from, Tables, tables_of, has_key_pair, version_number, Kind, BadHead, Key, rank, IsBelow, NoneBefore, AreWithin, HeadIs, ReadsHead, HasHead, by_rowid, ReadsCounter, HasCounter, SaysOfHead, IsRead, ReadsObject, ReadsProp, ReadsSlot, ReadsVerb, ReadsPetition, ShowsOrNone, ShowsObject, ShowsProp, ShowsSlot, ShowsVerb, ShowsPetition, ShowsRows, HoldsTable, SaysUnread, object_number, prop_number, slot_number, verb_number, petition_number, object_key, prop_key, slot_key, verb_key, petition_key, IsLess, IsPairLess, IsNewer, IsBadHead, IsBadCell, IsMet, SaysOfCells, CellFault, Damaged, NewerVersion, OutOfMemory}, proofs.Keys.{objects_bear, props_bear, slots_bear, verbs_bear, petitions_bear}, proofs.Table.{none_unread, no_other}, proofs.Ranks.{at_head, by_key, by_rank}, specs.Unread.{IsUnread, FirstUnread}}
+use Rattle.moo_cells.{proofs.Words.{AreListed, CellLists, Ordering, FinMap, Version, HoldsHead}, specs.Apart.{HaveNumbers, HavePairs}, specs.Holding.{FillsTable, HoldsEachRow}, proofs.Apart.{numbered, paired}, proofs.HeadLemmas.{head_known, head_not_newer}}
 use Rattle.moo_rows.specs.declared.row.Head.{Head as HeadRow}
-use Rattle.moo_tables.specs.declared.reading.CellLists.{CellLists}
 use Rattle.moo_damage.specs.declared.kind.Key.TheVariants.{Head}
 
 pub shows_of : {X : Type 0} (reads shows : Row → X → Type 0) → ((c : Row) (x : X) → reads c x → shows c x) → (o : Option Row) (x : Option X) → ShowsOrNone reads o x → ShowsOrNone shows o x
@@ -12,7 +10,7 @@ shows_of reads shows f o x h = h
 
 pub read_of : {X : Type 0} (reads : Row → X → Type 0) (o : Option Row) (y : Option X) (x : X) → ShowsOrNone reads o y → y ≡ Some x → (c : Row) × reads c x
 read_of reads None None x h e = absurd cc
-read_of reads (Some c) (Some z) x h e = (c, subst (reads c) (one_some z x e) h)
+read_of reads (Some c) (Some z) x h e = (c, subst (reads c) (same_Some z x e) h)
 read_of reads o y x h e = absurd h
 
 pub not_negative : (m n : ℕ) → negsuc n ≡ pos m → ⊥

@@ -1,8 +1,6 @@
 -- A table read row by row, whatever its keys are.
-use Rattle.moo_cells.{proofs.Words.{◌≡◌, inl, inr, length, List, [], ◌∷◌, ◌++◌, Bool, true, false, cond, find, append_assoc, append-nil, arith, Option, None, Some, refl, sym, ap, subst, ◌∙◌, true≢false, AllByRecursion, option_or, is_eq, eq_by_cmp, IsTotalOrder, tied_itself, Ordering, FinMap, empty, get, insert, get-empty, get-insert, IsAntisymmetric, Row, IsRead, ShowsOrNone, HoldsTable, TakesRow}, specs.Holding.{HoldsEachRow}, specs.Unread.{IsUnread, FirstUnread}}
+use Rattle.moo_cells.{proofs.Words.{Has, all_has, has_found, IsAscending, ◌≡◌, inl, inr, length, List, [], ◌∷◌, ◌++◌, Bool, true, false, cond, find, append_assoc, append-nil, arith, Option, None, Some, refl, sym, ap, subst, ◌∙◌, true≢false, AllByRecursion, option_or, is_eq, eq_by_cmp, IsTotalOrder, tied_itself, Ordering, FinMap, empty, get, insert, get-empty, get-insert, IsAntisymmetric, Row, IsRead, ShowsOrNone, HoldsTable, TakesRow}, specs.Holding.{HoldsEachRow}, specs.Unread.{IsUnread, FirstUnread}}
 use Rattle.std.proofs.lemmas.List.Folds.{find-append}
-use Rattle.sqlite_rules.{specs.Lists.{Has}, proofs.ListLemmas.{all_has, has_found}}
-use Rattle.sqlite_trees.specs.Tree.{IsAscending}
 pub use Rattle.moo_cells.proofs.Numbers.{tied}
 
 -- how rows in ascending order bear the keys of a table

@@ -1,14 +1,7 @@
 -- What tables show that were read one after another.
-use Rattle.moo_cells.proofs.Words.{◌≡◌, ◌∙◌, Option, None, Some, IfSome, sym, ap, subst, Ordering, FinMap, Row, has_rowid, Maps, List, Tables, Version, by_rowid, HoldsHead, ReadsCounter, ReadsPetition, HoldsTable, petition_number, ShowsRows, AreWithin}
+use Rattle.moo_cells.proofs.Words.{State, HasCleanDisk, ListsNumbers, CellTable, reads_then, rests_read, schema_of, ReadsTables, Rests, ◌≡◌, ◌∙◌, Option, None, Some, IfSome, sym, ap, subst, Ordering, FinMap, Row, has_rowid, Maps, List, Tables, Version, by_rowid, HoldsHead, ReadsCounter, ReadsPetition, HoldsTable, petition_number, ShowsRows, AreWithin}
 use Rattle.std.{specs.Prelude.{Vec}, specs.declared.alloc.Global.{Global}}
-use Rattle.sqlite.specs.State.{State, HasCleanDisk}
 use Rattle.moo_cells.{specs.Taken.{TakesTable, TakesObjects, TakesProps, TakesSlots, TakesVerbs, TakesTables}, proofs.Apart.{numbered, paired}, proofs.RowsLemmas.{Cells, ReadTables, tables_with, read_all, rows_shown, rows_within, held_fills}}
-use Rattle.moo_tables.{specs.Listing.{ListsNumbers}, specs.declared.cell_table.CellTable.{CellTable}, proofs.ReadLemmas.{reads_then, rests_read}}
-use Rattle.moo_tables_rows.{specs.Tables.{schema_of}, specs.Inside.{ReadsTables, Rests}}
-
-pub if_some : {T : Type 0} (P Q : T → Type 0) (o : Option T) → IfSome o P → ((x : T) → P x → Q x) → IfSome o Q
-if_some P Q (Some x) p f = f x p
-if_some P Q None p f = tt
 
 -- a table that was read while others were
 taken_among : {K X : Type 0} {cmp : K → K → Ordering} {map_of : Maps → FinMap cmp X} {with_map : Maps → FinMap cmp X → Maps} {apart : List Row → Type 0} {holds : List Row → (K → Option X) → Type 0} {reads : K → Row → X → Type 0} {table : CellTable} {version : Version} (a b c d : State) {m n : Maps}

@@ -1,12 +1,8 @@
 -- Texts in cells.
-use Rattle.moo_cells.proofs.Words.{◌≡◌, ◌≢◌, ℕ, zero, suc, ℤ, List, [], ◌∷◌, ◌≤◌, ◌<◌, length, map, get_or, Bool, true, false, true≢false, Some, Result, Ok, Err, refl, sym, ap, subst, ◌∙◌, arith, if◌then◌else◌, ◌==◌, ◌&&◌, nat_le, list_all, and_parts, and_from, le-leb, leb-true, Value, ObjNo, Spells, Fits, HoldInside, InRange, gather, nesting, spread, one_spelled, is_text, is_number, all_within_limits, is_named, are_few, are_shallow, has_word, state_fits, accept_fits, text_tested, fits_tested, fits_of, range_of, fits_signed, calls_fit, object_list, ShowsSlotState}
-use Rattle.std.specs.Prelude.{◌+◌}
-use Rattle.std.{specs.Result.{is_err}, proofs.lemmas.List.{take_all}}
-use Rattle.sqlite.specs.declared.types.Value.TheVariants.{Int, Text}
+use Rattle.moo_cells.proofs.Words.{◌+◌, is_err, take_all, Int, Text, MOST_ACCEPTED, ◌≡◌, ◌≢◌, ℕ, zero, suc, ℤ, List, [], ◌∷◌, ◌≤◌, ◌<◌, length, map, get_or, Bool, true, false, true≢false, Some, Result, Ok, Err, refl, sym, ap, subst, ◌∙◌, arith, if◌then◌else◌, ◌==◌, ◌&&◌, nat_le, list_all, and_parts, and_from, le-leb, leb-true, Value, ObjNo, Spells, Fits, HoldInside, InRange, gather, nesting, spread, one_spelled, is_text, is_number, all_within_limits, is_named, are_few, are_shallow, has_word, state_fits, accept_fits, text_tested, fits_tested, fits_of, range_of, fits_signed, calls_fit, object_list, ShowsSlotState}
 use Rattle.moo_value.{specs.Text.{IsText, AllAllowed}, specs.TextFaults.{IsTextFault}, specs.declared.fault.LiteralFault.{LiteralFault}, specs.declared.fault.LiteralFault.TheVariants.{NotALiteral, OutOfRange, BadByte, TooDeep, TooLong, OutOfMemory}, specs.declared.value.Value.{Value as MooValue}, specs.declared.value.Value.TheVariants.{Obj, List as a_list}, specs.Reading.{Fails}, specs.Values.{Values, no_values, levels}}
 use Rattle.moo_rows.{specs.declared.row.SlotState.{SlotState}, specs.declared.row.SlotState.TheVariants.{Clear, Set}}
 use Rattle.moo_verbs.{specs.declared.fault.VerbFault.{VerbFault}, specs.declared.fault.VerbFault.TheVariants.{BadNames}}
-use Rattle.moo_world.specs.declared.values.TheConstants.{MOST_ACCEPTED}
 use Rattle.moo_value.specs.declared.text.TheConstants.{MAX_LENGTH}
 use Rattle.moo_value.specs.declared.value.TheConstants.{MAX_NESTING}
 use Rattle.moo_world.specs.declared.petition.TheConstants.{MOST_NESTING}
@@ -33,9 +29,7 @@ not_text f s text fault some fits same = by f fault some (subst IsText (sym same
     by BadByte fault some t = let short = t.short in fault (subst AllAllowed (sym (take_all (MAX_LENGTH + 1) s (omega arith))) t.allowed)
     by TooLong fault some t = let short = t.short in let long = fault.0 in absurd (omega arith)
     by OutOfMemory fault some t = some refl
-    by NotALiteral fault some t = fault
-    by OutOfRange fault some t = fault
-    by TooDeep fault some t = fault
+    by f fault some t = absurd fault
 
 -- ---- names of verbs
 

@@ -1,9 +1,6 @@
 -- Rows of a table in any order, no two of them with one key.
-use Rattle.std.specs.Prelude.{Bool, List, IsTrue}
-use Rattle.std.specs.List.{AllByRecursion, IsDistinct}
+use Rattle.moo_cells.specs.Words.{Bool, List, IsTrue, AllByRecursion, IsDistinct, Row, column, value_cmp, is_int}
 use Rattle.std.specs.Ordering.{is_eq, ordering_then}
-use Rattle.sqlite.specs.Order.{Row, column, value_cmp}
-use Rattle.sqlite_trees.specs.View.{is_int}
 
 -- two rows have one key, which is their first column
 abbrev pub is_same_number : Row → Row → Bool

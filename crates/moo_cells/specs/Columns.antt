@@ -1,9 +1,6 @@
 -- Columns of the table of verbs.
-use Rattle.std.specs.Prelude.{◌≡◌}
-use Rattle.sqlite.specs.Order.{Row, column}
-use Rattle.sqlite.specs.declared.types.Value.TheVariants.{Text}
+use Rattle.moo_cells.specs.Words.{◌≡◌, Row, column, Text, prep_text, object_spec_text}
 use Rattle.moo_rows.specs.declared.row.ArgSpec.{ArgSpec}
-use Rattle.moo_world.specs.Prepositions.{prep_text, object_spec_text}
 
 -- these arguments are in their columns
 pub record HasArgs (cells : Row) (args : ArgSpec) : Type 0 where

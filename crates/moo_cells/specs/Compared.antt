@@ -1,9 +1,7 @@
 -- Tables compared with rows that were known before.
-use Rattle.moo_rows.specs.Maps.{Maps}
+use Rattle.moo_cells.specs.Words.{Maps, Key, Tables}
 use Rattle.moo_world.specs.Rows.{IsGood}
-use Rattle.moo_damage.specs.declared.kind.Key.{Key}
 use Rattle.moo_damage.specs.Differences.{IsFirstDifference}
-use Rattle.moo_tables_rows.specs.Tables.{Tables}
 use Rattle.moo_cells.specs.Shows.{ShowsRows}
 
 -- the tables show a world whose rows differ from these first at the key

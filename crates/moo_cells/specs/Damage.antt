@@ -1,11 +1,6 @@
 -- What reading the cells of tables comes to: the rows that they show, or the first kind of damage with its least key.
-use Rattle.std.specs.Prelude.{⊤}
-use Rattle.moo_rows.specs.Maps.{Maps}
-use Rattle.moo_tables_rows.specs.Tables.{Tables}
-use Rattle.moo_tables_rows.specs.Version.{version_number}
+use Rattle.moo_cells.specs.Words.{⊤, Maps, Tables, version_number, BadHead, BadCell, Key}
 use Rattle.moo_damage.specs.declared.kind.Kind.{Kind}
-use Rattle.moo_damage.specs.declared.kind.Kind.TheVariants.{BadHead, BadCell}
-use Rattle.moo_damage.specs.declared.kind.Key.{Key}
 use Rattle.moo_damage.specs.declared.kind.Key.TheVariants.{Head, Object, Prop, Slot, Verb, Petition}
 use Rattle.moo_damage.specs.Kinds.{InRows, IsFirstMet}
 use Rattle.moo_damage.specs.Limits.{AreWithin}

@@ -1,6 +1,5 @@
 -- Rows of a table compared with the entries of a map.
-use Rattle.std.specs.Prelude.{List, [], ◌∷◌, ⊤}
-use Rattle.sqlite.specs.Order.{Row}
+use Rattle.moo_cells.specs.Words.{List, [], ◌∷◌, ⊤, Row}
 
 -- the rows show the entries, one for one, in their order
 abbrev pub ShowEach : {K X : Type 0} → (K → Row → X → Type 0) → List Row → List (K × X) → Type 0

@@ -1,10 +1,5 @@
 -- Tables that are put into maps, a row after another.
-use Rattle.std.specs.Prelude.{◌≡◌, List, Option}
-use Rattle.std.specs.FinMap.{FinMap, empty}
-use Rattle.std.specs.List.Sorted.{IsPermutation}
-use Rattle.std.specs.declared.cmp.Ordering.{Ordering}
-use Rattle.sqlite.specs.Order.{Row}
-use Rattle.moo_rows.specs.Maps.{Maps}
+use Rattle.moo_cells.specs.Words.{◌≡◌, List, Option, FinMap, empty, IsPermutation, Ordering, Row, Maps}
 use Rattle.moo_cells.specs.Holding.{FillsTable}
 
 -- The rows of a table were put into a map that had none of them, and the other maps stay.

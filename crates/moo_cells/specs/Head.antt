@@ -1,13 +1,6 @@
 -- The table of the head, and that of the number of the next petition.
-use Rattle.std.specs.Prelude.{◌≡◌, ◌≢◌, ℕ, ◌<◌, ◌≤◌, ℤ, pos, negsuc, ◌≤ℤ◌, ◌<ℤ◌}
-use Rattle.std.specs.Prelude.{List, [], ◌∷◌, Option, None, Some, find}
-use Rattle.sqlite.specs.Order.{Row}
-use Rattle.sqlite.specs.Tree.{has_rowid}
-use Rattle.sqlite.specs.declared.types.Value.TheVariants.{Int}
-use Rattle.moo_rows.specs.declared.row.Head.{Head}
-use Rattle.moo_tables_rows.specs.declared.version.Version.{Version}
-use Rattle.moo_tables_rows.specs.Version.{present, version_number}
-use Rattle.moo_damage.specs.declared.kind.Kind.TheVariants.{BadHead}
+use Rattle.moo_cells.specs.Words.{◌≡◌, ◌≢◌, ℕ, ◌<◌, ◌≤◌, ℤ, pos, negsuc, ◌≤ℤ◌, ◌<ℤ◌, List, [], ◌∷◌, Option, None, Some, find, Row}
+use Rattle.moo_cells.specs.Words.{has_rowid, Int, Head, Version, present, version_number, BadHead}
 use Rattle.moo_damage.specs.declared.kind.Key.TheVariants.{Head as the_head}
 use Rattle.moo_cells.specs.RowCells.{ShowsCounter}
 use Rattle.moo_cells.specs.declared.fault.CellFault.{CellFault}

@@ -1,9 +1,6 @@
 -- The numbers in the cells of the head.
-use Rattle.std.specs.Prelude.{◌≡◌, pos, [], ◌∷◌, FitsSigned}
+use Rattle.moo_cells.specs.Words.{◌≡◌, pos, [], ◌∷◌, FitsSigned, Row, Int, Head}
 use Rattle.std.specs.Int.{w64}
-use Rattle.sqlite.specs.Order.{Row}
-use Rattle.sqlite.specs.declared.types.Value.TheVariants.{Int}
-use Rattle.moo_rows.specs.declared.row.Head.{Head}
 use Rattle.moo_cells.specs.Head.{HeadFits}
 use Rattle.moo_cells.specs.declared.head.HeadCells.{HeadCells}
 

@@ -1,17 +1,7 @@
 -- What is read of a table so far, and the keys of rows as the tables have them.
-use Rattle.std.specs.Prelude.{◌≡◌, ℤ, pos, ◌<ℤ◌, ◌⊎◌, Bool, true, IsTrue, Option, List, [], ◌∷◌, ◌++◌, Some, find, ⊤}
-use Rattle.std.specs.List.{AllByRecursion}
-use Rattle.std.specs.List.Sorted.{IsPermutation}
-use Rattle.std.specs.FinMap.{FinMap, empty, entries, get, insert}
-use Rattle.std.specs.declared.cmp.Ordering.{Ordering}
-use Rattle.sqlite.specs.Order.{Row, column}
-use Rattle.sqlite_trees.specs.View.{is_int}
-use Rattle.moo_value.specs.declared.value.ObjNo.{ObjNo}
-use Rattle.moo_rows.specs.declared.row.PetitionId.{PetitionId}
-use Rattle.moo_rows.specs.declared.row.PropId.{PropId}
-use Rattle.moo_rows.specs.declared.row.VerbId.{VerbId}
-use Rattle.moo_damage.specs.declared.kind.Kind.TheVariants.{BadCell}
-use Rattle.moo_damage.specs.declared.kind.Key.{Key}
+use Rattle.moo_cells.specs.Words.{◌≡◌, ℤ, pos, ◌<ℤ◌, ◌⊎◌, Bool, true, IsTrue, Option, List, [], ◌∷◌, ◌++◌, Some, find, ⊤, AllByRecursion}
+use Rattle.moo_cells.specs.Words.{IsPermutation, FinMap, empty, entries, get, insert, Ordering, Row, column, is_int, ObjNo, PetitionId}
+use Rattle.moo_cells.specs.Words.{PropId, VerbId, BadCell, Key}
 use Rattle.moo_damage.specs.declared.kind.Key.TheVariants.{Object, Prop, Slot, Verb, Petition}
 use Rattle.moo_cells.specs.Each.{ShowEach}
 use Rattle.moo_cells.specs.Reading.{IsRead}

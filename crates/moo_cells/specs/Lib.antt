@@ -1,3 +1,4 @@
+pub mod Words
 pub mod Object
 pub mod RowCells
 pub mod Reading

@@ -1,11 +1,7 @@
 -- The columns of the table of objects.
-use Rattle.std.specs.Prelude.{◌≡◌, ℕ, suc, pred, List, [], ◌∷◌, length, drop, Option, Some, None}
-use Rattle.sqlite.specs.Order.{Row, column}
-use Rattle.moo_value.specs.declared.value.ObjNo.{ObjNo}
-use Rattle.moo_value.specs.Literal.{Spells}
-use Rattle.moo_rows.specs.declared.row.ObjRow.{ObjRow}
+use Rattle.moo_cells.specs.Words.{◌≡◌, ℕ, suc, pred, List, [], ◌∷◌, length, drop, Option, Some, None, Row, column, ObjNo, Spells, ObjRow}
+use Rattle.moo_cells.specs.Words.{Version}
 use Rattle.moo_world.specs.Answers.{object_list}
-use Rattle.moo_tables_rows.specs.declared.version.Version.{Version}
 use Rattle.moo_tables_rows.specs.Object.{object_table, object_row, object_row_cells}
 
 -- the cell of an accept list: empty for none, else a literal of the list

@@ -1,26 +1,13 @@
 -- Cells that can be read: those that show a row within its limits.
-use Rattle.std.specs.Prelude.{◌≡◌, ◌≢◌, ℕ, ◌<◌, Bool, true, ◌&&◌, List}
-use Rattle.std.specs.List.{list_all}
-use Rattle.sqlite.specs.Order.{Row}
+use Rattle.moo_cells.specs.Words.{◌≡◌, ◌≢◌, ℕ, ◌<◌, Bool, true, ◌&&◌, List, list_all, Row, Text, ObjNo, Spells, ObjRow, PetitionId}
+use Rattle.moo_cells.specs.Words.{PetitionRow, PropId, PropRow, SlotRow, VerbId, VerbRow, Version}
 use Rattle.sqlite.specs.declared.types.Value.{Value as Cell}
-use Rattle.sqlite.specs.declared.types.Value.TheVariants.{Text}
-use Rattle.moo_value.specs.declared.value.ObjNo.{ObjNo}
 use Rattle.moo_value.specs.declared.value.Value.{Value}
-use Rattle.moo_value.specs.Literal.{Spells}
 use Rattle.moo_value.specs.Value.{spread}
 use Rattle.moo_value.specs.Values.{Values}
-use Rattle.moo_rows.specs.declared.row.ObjRow.{ObjRow}
-use Rattle.moo_rows.specs.declared.row.PetitionId.{PetitionId}
-use Rattle.moo_rows.specs.declared.row.PetitionRow.{PetitionRow}
-use Rattle.moo_rows.specs.declared.row.PropId.{PropId}
-use Rattle.moo_rows.specs.declared.row.PropRow.{PropRow}
-use Rattle.moo_rows.specs.declared.row.SlotRow.{SlotRow}
-use Rattle.moo_rows.specs.declared.row.VerbId.{VerbId}
-use Rattle.moo_rows.specs.declared.row.VerbRow.{VerbRow}
 use Rattle.moo_world.specs.Arguments.{is_number, all_within_limits}
 use Rattle.moo_world.specs.Petitions.{is_named, are_few, are_shallow, petition_fits}
 use Rattle.moo_world.specs.World.{row_fits, is_property_name, state_fits, verb_fits}
-use Rattle.moo_tables_rows.specs.declared.version.Version.{Version}
 use Rattle.moo_cells.specs.RowCells.{ShowsObject, ShowsProp, ShowsSlot, ShowsVerb, ShowsPetition}
 
 -- a number that a property, a verb or a petition may have: it is below the greatest counter

@@ -1,26 +1,13 @@
 -- What the cells of a row show, and what shows the number of the next petition.
-use Rattle.std.specs.Prelude.{◌≡◌, ◌≢◌, Bool, true, false, ℕ, ℤ, pos, List, [], ◌∷◌, Option, Some, None}
-use Rattle.sqlite.specs.Order.{Row}
+use Rattle.moo_cells.specs.Words.{◌≡◌, ◌≢◌, Bool, true, false, ℕ, ℤ, pos, List, [], ◌∷◌, Option, Some, None, Row, Int, Text, ObjNo, Spells}
+use Rattle.moo_cells.specs.Words.{PetitionId, PetitionRow, PropId, PropRow, SlotRow, VerbId, VerbRow, prep_text, object_spec_text, Version}
+use Rattle.moo_cells.specs.Words.{has_petitions, has_lettered_bits, petition_head_cells}
 use Rattle.sqlite.specs.declared.types.Value.{Value as Cell}
-use Rattle.sqlite.specs.declared.types.Value.TheVariants.{Int, Text}
-use Rattle.moo_value.specs.declared.value.ObjNo.{ObjNo}
 use Rattle.moo_value.specs.declared.value.Value.TheVariants.{List as a_list}
-use Rattle.moo_value.specs.Literal.{Spells}
 use Rattle.moo_rows.specs.declared.row.Bits.{Bits}
-use Rattle.moo_rows.specs.declared.row.PetitionId.{PetitionId}
-use Rattle.moo_rows.specs.declared.row.PetitionRow.{PetitionRow}
-use Rattle.moo_rows.specs.declared.row.PropId.{PropId}
-use Rattle.moo_rows.specs.declared.row.PropRow.{PropRow}
-use Rattle.moo_rows.specs.declared.row.SlotRow.{SlotRow}
 use Rattle.moo_rows.specs.declared.row.SlotState.{SlotState}
 use Rattle.moo_rows.specs.declared.row.SlotState.TheVariants.{Clear, Set}
-use Rattle.moo_rows.specs.declared.row.VerbId.{VerbId}
-use Rattle.moo_rows.specs.declared.row.VerbRow.{VerbRow}
 use Rattle.moo_rows.specs.Bits.{bits_of, bits_number, verb_bits_of}
-use Rattle.moo_world.specs.Prepositions.{prep_text, object_spec_text}
-use Rattle.moo_tables_rows.specs.declared.version.Version.{Version}
-use Rattle.moo_tables_rows.specs.Version.{has_petitions, has_lettered_bits}
-use Rattle.moo_tables_rows.specs.Cells.{petition_head_cells}
 pub use Rattle.moo_cells.specs.Object.{ShowsAccept, ShowsObject}
 
 -- the cell of a value: empty if the slot is clear, else a literal of the value

@@ -1,13 +1,6 @@
 -- What was read of the tables of a connection, one table after another.
-use Rattle.std.specs.Prelude.{◌≡◌, List, Option}
-use Rattle.std.specs.FinMap.{FinMap}
-use Rattle.std.specs.declared.cmp.Ordering.{Ordering}
-use Rattle.sqlite.specs.Order.{Row}
+use Rattle.moo_cells.specs.Words.{◌≡◌, List, Option, FinMap, Ordering, Row, has_rowid, Maps, Version, Tables}
 use Rattle.sqlite.specs.State.{State, HasCleanDisk}
-use Rattle.sqlite.specs.Tree.{has_rowid}
-use Rattle.moo_rows.specs.Maps.{Maps}
-use Rattle.moo_tables_rows.specs.declared.version.Version.{Version}
-use Rattle.moo_tables_rows.specs.Tables.{Tables}
 use Rattle.moo_tables_rows.specs.Inside.{Rests}
 use Rattle.moo_tables.specs.declared.cell_table.CellTable.{CellTable}
 use Rattle.moo_tables.specs.declared.cell_table.CellTable.TheVariants.{Object, Prop, Slot, Verb}

@@ -1,6 +1,5 @@
 -- Rows that can't be read.
-use Rattle.std.specs.Prelude.{◌≡◌, Option, Some}
-use Rattle.sqlite.specs.Order.{Row}
+use Rattle.moo_cells.specs.Words.{◌≡◌, Option, Some, Row}
 use Rattle.moo_cells.specs.Reading.{IsRead}
 
 -- the table has a row at the key, and it shows nothing within its limits

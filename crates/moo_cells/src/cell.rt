@@ -128,10 +128,7 @@ fn lettered_bits_at(cells: &Row, at: usize) -> Result<Bits, RowFault>
     ensures ok { IfOk result (λ bits. ShowsRights true (column cells.now at) bits) }
     ensures err { IfErr result (λ _. (bits : Bits) → ¬ (ShowsRights true (column cells.now at) bits)) }
 {
-    match Bits::of_letters(text_at(cells, at)?) {
-        Some(bits) => Ok(bits),
-        None => Err(RowFault::Unreadable),
-    }
+    Bits::of_letters(text_at(cells, at)?).ok_or(RowFault::Unreadable)
 }
 
 /// The rights on a property whose number, 0 to 7, is in a column. `Unreadable` if the cell has something else.
@@ -139,10 +136,7 @@ fn numbered_bits_at(cells: &Row, at: usize) -> Result<Bits, RowFault>
     ensures ok { IfOk result (λ bits. ShowsRights false (column cells.now at) bits) }
     ensures err { IfErr result (λ _. (bits : Bits) → ¬ (ShowsRights false (column cells.now at) bits)) }
 {
-    match Bits::from_number(int_at(cells, at)?) {
-        Some(bits) => Ok(bits),
-        None => Err(RowFault::Unreadable),
-    }
+    Bits::from_number(int_at(cells, at)?).ok_or(RowFault::Unreadable)
 }
 
 /// The rights on a property in a column: letters or a number, as the version has them. `Unreadable` if the cell has neither.
@@ -163,10 +157,7 @@ pub(crate) fn verb_bits_at(cells: &Row, at: usize) -> Result<VerbBits, RowFault>
     // The cell has no text that spells bits.
     ensures err { IfErr result (λ _. (text : List ℕ) (bits : VerbBits) → verb_bits_of text ≡ Some bits → column cells.now at ≢ Text text) }
 {
-    match VerbBits::of_letters(text_at(cells, at)?) {
-        Some(bits) => Ok(bits),
-        None => Err(RowFault::Unreadable),
-    }
+    VerbBits::of_letters(text_at(cells, at)?).ok_or(RowFault::Unreadable)
 }
 
 /// What a verb takes as its direct or indirect object, in a column: `this`, `none` or `any`. `Unreadable` if the cell has another text.
@@ -174,10 +165,7 @@ pub(crate) fn object_spec_at(cells: &Row, at: usize) -> Result<ObjectSpec, RowFa
     ensures ok { IfOk result (λ place. column cells.now at ≡ Text (object_spec_text place)) }
     ensures err { IfErr result (λ _. (place : ObjectSpec) → column cells.now at ≢ Text (object_spec_text place)) }
 {
-    match read_place_cell(text_at(cells, at)?) {
-        Some(place) => Ok(place),
-        None => Err(RowFault::Unreadable),
-    }
+    read_place_cell(text_at(cells, at)?).ok_or(RowFault::Unreadable)
 }
 
 /// The preposition that a verb takes, in a column. `Unreadable` if the cell has another text.
@@ -185,8 +173,5 @@ pub(crate) fn prep_at(cells: &Row, at: usize) -> Result<Preposition, RowFault>
     ensures ok { IfOk result (λ prep. column cells.now at ≡ Text (prep_text prep)) }
     ensures err { IfErr result (λ _. (prep : Preposition) → column cells.now at ≢ Text (prep_text prep)) }
 {
-    match read_prep_cell(text_at(cells, at)?) {
-        Some(prep) => Ok(prep),
-        None => Err(RowFault::Unreadable),
-    }
+    read_prep_cell(text_at(cells, at)?).ok_or(RowFault::Unreadable)
 }

@@ -1,5 +1,4 @@
-use Rattle.moo_cells.{proofs.Words.{◌++◌, subst}, specs.Filled.{FillsMap}}
-use Rattle.std.proofs.lemmas.List.Sorted.{IsPermutation-append}
+use Rattle.moo_cells.{proofs.Words.{IsPermutation-append, ◌++◌, subst}, specs.Filled.{FillsMap}}
 use Rattle.moo_cells.proofs.filling.put_block.Goals as goal
 
 pub returns : goal.returns

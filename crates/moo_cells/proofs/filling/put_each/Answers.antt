@@ -1,5 +1,4 @@
-use Rattle.moo_cells.{proofs.Words.{IsAntisymmetric, IsTotalOrder, ◌≡◌, ◌∙◌, [], ◌∷◌, ◌++◌, ◌+◌, take, sym, ap, subst, append-nil, append_assoc}, specs.Filled.{FillsMap}, proofs.FillLemmas.{put_more}}
-use Rattle.std.proofs.lemmas.List.{take_all, take_more}
+use Rattle.moo_cells.{proofs.Words.{take_all, take_more, IsAntisymmetric, IsTotalOrder, ◌≡◌, ◌∙◌, [], ◌∷◌, ◌++◌, ◌+◌, take, sym, ap, subst, append-nil, append_assoc}, specs.Filled.{FillsMap}, proofs.FillLemmas.{put_more}}
 use Rattle.moo_cells.proofs.filling.put_each.Goals as goal
 
 pub loop-row-init : goal.loop-row-init

@@ -1,6 +1,4 @@
-use Rattle.std.proofs.Common.{List, take, ◌++◌}
-use Rattle.sqlite.specs.Order.{Row}
-use Rattle.moo_rows.specs.Maps.{Maps}
+use Rattle.moo_cells.proofs.Words.{List, take, ◌++◌, Row, Maps}
 use Rattle.moo_cells.{specs.Filled.{FillsMap}, specs.Holding.{KeepsTable}}
 use Rattle.moo_cells.proofs.filling.put_each.Given as goal
 

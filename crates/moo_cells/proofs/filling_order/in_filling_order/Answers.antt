@@ -1,5 +1,4 @@
-use Rattle.moo_cells.proofs.Words.{◌≡◌, ◌<◌, ℕ, List, length, sym, ap, subst, ◌∙◌, arith, Row}
-use Rattle.std.{specs.List.{swap}, specs.List.Sorted.{IsPermutation}, proofs.lemmas.List.Sorted.{IsPermutation-swap, IsPermutation-trans, length_permutation}}
+use Rattle.moo_cells.proofs.Words.{swap, IsPermutation, IsPermutation-swap, IsPermutation-trans, length_permutation, ◌≡◌, ◌<◌, ℕ, List, length, sym, ap, subst, ◌∙◌, arith, Row}
 use Rattle.moo_cells.proofs.filling_order.in_filling_order.Goals as goal
 
 again : (first before after : List Row) (n a b : ℕ) → IsPermutation first before → length before ≡ n → a < n → b < n → after ≡ swap before a b → IsPermutation first after

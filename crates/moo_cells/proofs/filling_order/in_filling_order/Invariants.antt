@@ -1,5 +1,4 @@
-use Rattle.std.specs.Prelude.{◌≡◌, length}
-use Rattle.std.specs.List.Sorted.{IsPermutation}
+use Rattle.moo_cells.proofs.Words.{◌≡◌, length, IsPermutation}
 use Rattle.moo_cells.proofs.filling_order.in_filling_order.Given as goal
 
 abbrev pub invariant-loop-at : goal.invariant-loop-at

@@ -1,8 +1,6 @@
-use Rattle.moo_cells.proofs.Words.{rules, ◌∙◌, ◌<◌, List, sym, ap, subst, Row, Head, Maps, by_rowid, HoldsHead, ReadsCounter}
+use Rattle.moo_cells.proofs.Words.{AreKeyed, no_maps, rules, ◌∙◌, ◌<◌, List, sym, ap, subst, Row, Head, Maps, by_rowid, HoldsHead, ReadsCounter}
 use Rattle.moo_cells.proofs.{Apart.{numbered}, FillLemmas.{petitions_keep}}
-use Rattle.moo_tables_rows.specs.Inside.{AreKeyed}
 use Rattle.moo_cells.proofs.TakenLemmas.{no_petition, same_head, taken_shown, taken_within}
-use Rattle.moo_rows.specs.Maps.{no_maps}
 use Rattle.moo_cells.proofs.in_turn.take_rows.Goals as goal
 
 pub take_tables-requires : goal.take_tables-requires

@@ -1,5 +1,4 @@
-use Rattle.moo_tables.proofs.ReadLemmas.{hands_on, answers, read_then}
-use Rattle.moo_cells.{proofs.Words.{ap, ◌∙◌, Maps}, proofs.FillLemmas.{objects_keep, props_keep, slots_keep, verbs_keep}, proofs.TakenLemmas.{if_some, takes_all}}
+use Rattle.moo_cells.{proofs.Words.{IfSome_then, hands_on, answers, read_then, ap, ◌∙◌, Maps}, proofs.FillLemmas.{objects_keep, props_keep, slots_keep, verbs_keep}, proofs.TakenLemmas.{takes_all}}
 use Rattle.moo_cells.proofs.in_turn.take_tables.Goals as goal
 
 pub returns-in_err-props-clause-reads : goal.returns-in_err-props-clause-reads
@@ -30,5 +29,5 @@ returns-clause-taken g c =
     let no_slots = ap (λ (m : Maps). m.slots) two.kept ∙ ap (λ (m : Maps). m.slots) one.kept ∙ ap (λ (m : Maps). m.slots) c.requires in
     let three = rw c.in-Some-slots.is at (c.in_ok-slots.ensures.taken (slots_keep v) no_slots) in
     let no_verbs = ap (λ (m : Maps). m.verbs) three.kept ∙ ap (λ (m : Maps). m.verbs) two.kept ∙ ap (λ (m : Maps). m.verbs) one.kept ∙ ap (λ (m : Maps). m.verbs) c.requires in
-    if_some _ _ c.in_ok-verbs.verbs (c.in_ok-verbs.ensures.taken (verbs_keep v) no_verbs) (λ after four.
+    IfSome_then c.in_ok-verbs.verbs (c.in_ok-verbs.ensures.taken (verbs_keep v) no_verbs) (λ after four.
     takes_all one two three four c.in_ok-objects.ensures.reads.read c.in_ok-props.ensures.reads.read c.in_ok-slots.ensures.reads.read c.in_ok-verbs.ensures.reads.read)

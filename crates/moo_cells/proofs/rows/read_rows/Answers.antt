@@ -1,6 +1,5 @@
-use Rattle.moo_cells.{proofs.Words.{◌∙◌, ◌<◌, List, sym, ap, subst, err_from_is_err_and, Row, Head, Maps, tables_of, version_number, greatest_version, HasHead, IsNewerThan, by_rowid, HoldsHead, ReadsCounter, HasCounter, SaysOfHead, SaysOfCells}, proofs.RowsLemmas.{says_head}}
+use Rattle.moo_cells.{proofs.Words.{no_maps, ◌∙◌, ◌<◌, List, sym, ap, subst, err_from_is_err_and, Row, Head, Maps, tables_of, version_number, greatest_version, HasHead, IsNewerThan, by_rowid, HoldsHead, ReadsCounter, HasCounter, SaysOfHead, SaysOfCells}, proofs.RowsLemmas.{says_head}}
 use Rattle.moo_cells.proofs.rows.read_rows.Goals as goal
-use Rattle.moo_rows.specs.Maps.{no_maps}
 
 pub returns-in_err-head-clause-fault : goal.returns-in_err-head-clause-fault
 returns-in_err-head-clause-fault c =

@@ -1,10 +1,7 @@
 use Rattle.moo_cells.{proofs.Apart.{numbered}, proofs.FillLemmas.{slots_keep, verbs_keep}}
 use Rattle.moo_cells.proofs.Exits.{err_of}
-use Rattle.moo_cells.{proofs.Words.{◌∙◌, sym, ap, subst, Maps, tables_of, has_rowid, ReadsPetition, HoldsTable, SaysUnread, IsLess, petition_key, petition_number, SaysOfCells}, proofs.RowsLemmas.{cells_in, held_fills, listed_apart, read_all, rows_shown, rows_within, says_object, says_prop, says_slot, says_verb, says_petition, none_met}}
-use Rattle.moo_cells.proofs.Exits.{err_then}
-use Rattle.moo_tables_rows.specs.Inside.{AreKeyed}
+use Rattle.moo_cells.{proofs.Words.{IfErr-weaker, AreKeyed, on_ok_weaker, ◌∙◌, sym, ap, subst, Maps, tables_of, has_rowid, ReadsPetition, HoldsTable, SaysUnread, IsLess, petition_key, petition_number, SaysOfCells}, proofs.RowsLemmas.{cells_in, held_fills, listed_apart, read_all, rows_shown, rows_within, says_object, says_prop, says_slot, says_verb, says_petition, none_met}}
 use Rattle.moo_cells.proofs.rows.read_tables.Goals as goal
-use Rattle.std.proofs.lemmas.Result.{on_ok_weaker}
 use Rattle.sqlite_rules.proofs.ViewLemmas.{on_ok_both}
 
 pub read_table-requires-3-clause-keeps : goal.read_table-requires-3-clause-keeps
@@ -59,8 +56,8 @@ returns-in_err-read_table-4-clause-fault c =
 
 pub returns-clause-fault : goal.returns-clause-fault
 returns-clause-fault c =
-    err_then (λ fault. AreKeyed c.args.lists.petition.items → SaysUnread has_rowid (ReadsPetition c.args.lists.version) IsLess petition_key c.args.lists.petition.items fault) (SaysOfCells (tables_of c.args.lists)) c.read_table-5.result c.read_table-5.ensures.fault
-    (λ fault says. says_petition c.args.lists c.args.rows.now.maps.head c.requires.head.0 c.requires.head.1 c.requires.head.2 c.requires.counter c.in_ok-read_table.ensures.holds.read c.in_ok-read_table-2.ensures.holds.read c.in_ok-read_table-3.ensures.holds.read c.in_ok-read_table-4.ensures.holds.read fault (says c.requires.listed.petition))
+    IfErr-weaker c.read_table-5.result (λ fault. AreKeyed c.args.lists.petition.items → SaysUnread has_rowid (ReadsPetition c.args.lists.version) IsLess petition_key c.args.lists.petition.items fault) (SaysOfCells (tables_of c.args.lists))
+    (λ fault says. says_petition c.args.lists c.args.rows.now.maps.head c.requires.head.0 c.requires.head.1 c.requires.head.2 c.requires.counter c.in_ok-read_table.ensures.holds.read c.in_ok-read_table-2.ensures.holds.read c.in_ok-read_table-3.ensures.holds.read c.in_ok-read_table-4.ensures.holds.read fault (says c.requires.listed.petition)) c.read_table-5.ensures.fault
 
 -- all tables read
 

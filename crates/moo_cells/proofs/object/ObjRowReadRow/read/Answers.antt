@@ -1,6 +1,5 @@
 use Rattle.moo_cells.proofs.Exits.{err_of}
-use Rattle.moo_cells.{proofs.Words.{subst, sym, ◌∙◌, and_parts, and_from, err_from_is_err_and, column}, specs.Object.{StandFrom, accept_place}, proofs.ObjectLemmas.{cells_shown, column_read, flags_read}}
-use Rattle.moo_tables_rows.specs.Object.{object_row, object_row_cells}
+use Rattle.moo_cells.{proofs.Words.{object_row, object_row_cells, subst, sym, ◌∙◌, and_parts, and_from, err_from_is_err_and, column}, specs.Object.{StandFrom, accept_place}, proofs.ObjectLemmas.{cells_shown, column_read, flags_read}}
 use Rattle.moo_cells.proofs.object.ObjRowReadRow.read.Goals as goal
 
 pub returns-in_err-number-clause-err : goal.returns-in_err-number-clause-err

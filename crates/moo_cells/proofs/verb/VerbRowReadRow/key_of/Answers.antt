@@ -1,10 +1,5 @@
-use Rattle.moo_cells.{proofs.Words.{w64, to_z-of_z, Verb}, proofs.Keys.{pair_mine}}
+use Rattle.moo_cells.{proofs.Words.{Verb}, proofs.Keys.{pair_told}}
 use Rattle.moo_cells.proofs.verb.VerbRowReadRow.key_of.Goals as goal
 
 pub returns : goal.returns
-returns c =
-    let n = c.int_in in
-    let k = c.int_in-2 in
-    let one = to_z-of_z w64 n.result n.ensures.fits in
-    let two = to_z-of_z w64 k.result k.ensures.fits in
-    ((n.result, k.result), pair_mine c.args.cells.now n.result k.result n.ensures.value k.ensures.value, λ i. Verb (one i) (two i))
+returns c = pair_told Verb c.args.cells.now c.int_in.result c.int_in-2.result c.int_in.ensures.value c.int_in-2.ensures.value c.int_in.ensures.fits c.int_in-2.ensures.fits
