@@ -1,12 +1,8 @@
 -- What committing makes of a moment, and of a World.
 pub use Rattle.moo_store.proofs.Moments.{IsSettled}
-use Rattle.moo_store.{proofs.Words.{◌≡◌, ◌∙◌, inl, inr, Bool, true, false, Some, List, Result, Ok, Err, IfOk, MatchResult, refl, sym, ap, subst, Ghosts, IsGood, Head, state_of, Batch, judge, left_by, Accepted, Maps, AreChanges, Value, Reply, reply_of, World, store_of, StoreFault, Store, answer_to, Prints, says_accepted, ◌⊎◌, IsTrue, None, Option, arith, Trees, Tables, tables_with, Rests, Leaves, IsCurrent, no_tables, CellChanges, clean_before, ShowsRows, KeepsRows, KeepsCells}, specs.Committing.{CommitsTo}, specs.Moves.{Stands, MovesBy, VerdictLeads, StopsStore, RunsAt, FailsRun}, proofs.Moving.{moves_as, moves_from, works_at, stands_alone}, specs.Moment.{Moment, state_of_moment, rows_alone, KeepsCellsAt, LeadsBy, AllCells, HasAtRest}, specs.Place.{Place, Works, Failed, Between, IsAtPlace}, specs.CommittingCells.{CommitsCells}, proofs.Moments.{some_cells, cells_at_rest, moment_left, one_tables}, proofs.Shown.{keeps-written}}
+use Rattle.moo_store.{proofs.Words.{Changes, BatchLeads, CommitsTables, IsSome, ◌≡◌, ◌∙◌, inl, inr, Bool, true, false, Some, List, Result, Ok, Err, IfOk, MatchResult, refl, sym, ap, subst, Ghosts, IsGood, Head, state_of, Batch, judge, left_by, Accepted, Maps, AreChanges, Value, Reply, reply_of, World, store_of, StoreFault, Store, answer_to, Prints, says_accepted, ◌⊎◌, IsTrue, None, Option, arith, Trees, Tables, tables_with, Rests, Leaves, IsCurrent, no_tables, CellChanges, clean_before, ShowsRows, KeepsRows, KeepsCells}, specs.Committing.{CommitsTo}, specs.Moves.{Stands, MovesBy, VerdictLeads, StopsStore, RunsAt, FailsRun}, proofs.Moving.{moves_as, moves_from, works_at, stands_alone}, specs.Moment.{Moment, state_of_moment, rows_alone, KeepsCellsAt, LeadsBy, AllCells, HasAtRest}, specs.Place.{Place, Works, Failed, Between, IsAtPlace}, specs.CommittingCells.{CommitsCells}, proofs.Moments.{some_cells, cells_at_rest, moment_left, one_tables}, proofs.Shown.{keeps-written}}
 use Rattle.sqlite.{specs.declared.error.Error.{Error}, specs.State.{State as Database, HasCleanDisk, Survives}}
-use Rattle.moo_memory.specs.declared.changes.Changes.{Changes}
 use Rattle.moo_tables_rows.{proofs.InsideLemmas.{left_by as tables_left}, specs.Inside.{SparesUnread}, specs.Cause.{StopsChange}}
-use Rattle.moo_world.specs.Between.{BatchLeads}
-use Rattle.moo_tables.specs.Transaction.{CommitsTables}
-use Rattle.std.specs.Prelude.{IsSome}
 use Rattle.sqlite_trees.specs.View.{doubt}
 use Rattle.moo_text.specs.declared.reply.Answer.TheVariants as answer
 use Rattle.moo_text.specs.declared.reply.Reply.TheVariants as reply

@@ -1,7 +1,6 @@
 -- From what was read to what is said of the tables, and where a check leaves a World.
-use Rattle.moo_store.{proofs.Words.{IsTrue, false, present, schema_of, ◌≡◌, ◌≤◌, ◌≤ℤ◌, ℕ, ℤ, pos, negsuc, suc, zero, [], ◌∷◌, length, map, Result, Ok, Err, refl, sym, ap, subst, ◌∙◌, arith, length-append, length-map, IfOk, IfErr, OnOk, entries, HasCleanDisk, Maps, IsGood, world_of, numbers_below, Tables, Rests, ShowsRows, IsOfStore, StopsBy, StoreFault, Store, OutOfMemory, ◌⊎◌, inl, inr, ◌≢◌, true, MatchResult, Ghosts, World, store_of, Closed}, specs.OpeningRows.{not_ours}, specs.Checked.{SaysInCheck, StopsCheck, IsUnchecked, Checks, KeepsTables}, proofs.OpenLemmas.{at_rest}, proofs.Causes.{ran_out, stops_more, told_so}, specs.Moves.{Stands, MovesBy}, specs.Runs.{LeavesChecked, fails_by}, proofs.Moving.{moves_from}, proofs.Verdicts.{not_both}, specs.Moment.{AllCells, Moment, HasAtRest}, specs.Place.{Place, Works, Between, CrashLeavesAt}}
+use Rattle.moo_store.{proofs.Words.{IsCurrent, FailsToRead, ReadsTables, HasTables, IsTrue, false, present, schema_of, ◌≡◌, ◌≤◌, ◌≤ℤ◌, ℕ, ℤ, pos, negsuc, suc, zero, [], ◌∷◌, length, map, Result, Ok, Err, refl, sym, ap, subst, ◌∙◌, arith, length-append, length-map, IfOk, IfErr, OnOk, entries, HasCleanDisk, Maps, IsGood, world_of, numbers_below, Tables, Rests, ShowsRows, IsOfStore, StopsBy, StoreFault, Store, OutOfMemory, ◌⊎◌, inl, inr, ◌≢◌, true, MatchResult, Ghosts, World, store_of, Closed}, specs.OpeningRows.{not_ours}, specs.Checked.{SaysInCheck, StopsCheck, IsUnchecked, Checks, KeepsTables}, proofs.OpenLemmas.{at_rest}, proofs.Causes.{ran_out, stops_more, told_so}, specs.Moves.{Stands, MovesBy}, specs.Runs.{LeavesChecked, fails_by}, proofs.Moving.{moves_from}, proofs.Verdicts.{not_both}, specs.Moment.{AllCells, Moment, HasAtRest}, specs.Place.{Place, Works, Between, CrashLeavesAt}}
 use Rattle.moo_tables.{specs.ReadCause.{StopsQuery}, proofs.ReadLemmas.{fails_then, reads_then, rests_on}, proofs.ReadCauseLemmas.{not_a_database}}
-use Rattle.moo_tables_rows.specs.Inside.{IsCurrent, FailsToRead, ReadsTables, HasTables}
 use Rattle.sqlite.{specs.State.{State as Database}, specs.declared.error.Error.{Error}}
 use Rattle.std.{proofs.lemmas.List.Sums.{count_by-le-length, length-filter}, proofs.lemmas.Int.{ints}, specs.Prelude.{Option}}
 use Rattle.moo_world.{specs.Objects.{object_at}, specs.ObjectLists.{objects_of}, specs.World.{is_object, numbers_to}, proofs.Shown.ObjectEntries.{objects_listed}}

@@ -1,6 +1,5 @@
 -- How far the answering of a text has come, whatever answers its batches.
-use Rattle.moo_store.proofs.Words.{false, ◌&&◌, not, says_accepted, AreAccepted, EndAtFirst, EndsEarly, ◌≡◌, ◌≢◌, ◌<◌, inl, inr, ℕ, ◌+◌, ◌≤◌, Bool, true, cond, length, List, [], ◌∷◌, ◌++◌, take, append_assoc, Option, zero-add, refl, sym, ap, subst, ◌∙◌, arith, ◌⊎◌, append-nil, Batch, items, Side, untouched, IsOver, Next, Answer, TextFault, answers_text, is_batch, is_lost_answer, Turn, Turns, GivesFrontOrAll, Completes, Halts}
-use Rattle.moo_text.specs.declared.lines.TheConstants.{LONGEST_TEXT}
+use Rattle.moo_store.proofs.Words.{LONGEST_TEXT, false, ◌&&◌, not, says_accepted, AreAccepted, EndAtFirst, EndsEarly, ◌≡◌, ◌≢◌, ◌<◌, inl, inr, ℕ, ◌+◌, ◌≤◌, Bool, true, cond, length, List, [], ◌∷◌, ◌++◌, take, append_assoc, Option, zero-add, refl, sym, ap, subst, ◌∙◌, arith, ◌⊎◌, append-nil, Batch, items, Side, untouched, IsOver, Next, Answer, TextFault, answers_text, is_batch, is_lost_answer, Turn, Turns, GivesFrontOrAll, Completes, Halts}
 use Rattle.std.{specs.List.{count_by}, proofs.KnownBytes.{Appends-nil, Appends-trans}, specs.Io.KnownBytes.{Appends}, proofs.lemmas.List.Sums.{sum_by-append}, proofs.lemmas.Grind.{flat_map-append}}
 use Rattle.moo_text.{specs.Replies.{answer_text}, specs.Given.{ReaderGives, Explains, BreaksOff, ReadsNext, ReadsItems}, specs.declared.next.Next.TheVariants.{End}, specs.declared.fault.TextFault.TheVariants.{Read, Write, OutOfMemory, Long}, proofs.Joining.{items_none, items_then, items_end, whole_items, all_given, items_stop}}
 

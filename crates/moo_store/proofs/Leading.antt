@@ -1,7 +1,5 @@
 -- What batches and turns lead to.
-use Rattle.moo_store.proofs.Words.{arith, ◌≡◌, ◌∙◌, inl, inr, List, [], ◌∷◌, ◌++◌, sym, ap, subst, Batch, Verdict, Accepted, after, reply_of, Answer, Next, Turn, Turns, acknowledged, accepted_at, accepted}
-use Rattle.moo_store.specs.Moves.{VerdictLeads, StopsStore, RunsAt}
-use Rattle.moo_store.{specs.Moment.{Moment, state_of_moment, LeadsByEach}, specs.Place.{Place, moment_of}}
+use Rattle.moo_store.proofs.Words.{VerdictLeads, StopsStore, RunsAt, Moment, state_of_moment, LeadsByEach, Place, moment_of, arith, ◌≡◌, ◌∙◌, inl, inr, List, [], ◌∷◌, ◌++◌, sym, ap, subst, Batch, Verdict, Accepted, after, reply_of, Answer, Next, Turn, Turns, acknowledged, accepted_at, accepted}
 use Rattle.moo_world.{specs.Numbers.{NumbersStay}, specs.Requests.{PetitionsStay, state_of}, specs.Rows.{world_of}, proofs.Batches.PetitionNumbers.{petitions_same, petitions_joined}, proofs.Shown.NumbersKept.{stay_itself, stay_joined, batches_keep_numbers}}
 use Rattle.moo_text.specs.declared.next.Next.TheVariants.{Batch as Whole}
 

@@ -1,8 +1,7 @@
 -- What a store has at rest, what a crash leaves of it, and why it failed.
-use Rattle.moo_store.{proofs.Words.{Version, Tables, schema_of, tables_in, HasTables, ◌≡◌, IsTrue, ◌∙◌, Some, Option, refl, sym, ap, subst, Trees, Maps, Rests, IsCurrent, ShowsRows, arith, KeepsFaults, IsStopped, StoreFault, Store}, specs.Current.{unread_of}, specs.Moment.{AllCells, Moment, KeepsStaying, KeepsCellsAt, HasAtRest, HasCellsOf}}
+use Rattle.moo_store.{proofs.Words.{IfSome, IsSome, Version, Tables, schema_of, tables_in, HasTables, ◌≡◌, IsTrue, ◌∙◌, Some, Option, refl, sym, ap, subst, Trees, Maps, Rests, IsCurrent, ShowsRows, arith, KeepsFaults, IsStopped, StoreFault, Store}, specs.Current.{unread_of}, specs.Moment.{AllCells, Moment, KeepsStaying, KeepsCellsAt, HasAtRest, HasCellsOf}}
 use Rattle.moo_tables.proofs.SchemaLemmas.{one_version}
 use Rattle.moo_tables_rows.{proofs.InsideLemmas.{left_by as tables_left}, proofs.CauseLemmas.{stops_since}}
-use Rattle.std.specs.Prelude.{IfSome, IsSome}
 use Rattle.sqlite.{specs.State.{State as Database}}
 
 -- the law of a store that is open: a crash leaves the last commit

@@ -1,7 +1,5 @@
 -- Where any World stands, and what moves and stays together come to.
-use Rattle.moo_store.proofs.Words.{arith, ◌≡◌, ◌∙◌, Bool, true, false, IsTrue, refl, sym, subst, Ghosts, HasCleanDisk, IsGood, World, store_of}
-use Rattle.moo_store.specs.Moves.{Stands, MovesBy}
-use Rattle.moo_store.{specs.Moment.{Moment, rows_alone}, specs.Place.{Place, Works, Failed}}
+use Rattle.moo_store.proofs.Words.{Stands, MovesBy, Moment, rows_alone, Place, Works, Failed, arith, ◌≡◌, ◌∙◌, Bool, true, false, IsTrue, refl, sym, subst, Ghosts, HasCleanDisk, IsGood, World, store_of}
 use Rattle.moo_rows.specs.Opening.{opening_maps}
 use Rattle.moo_world.proofs.Shown.OpeningRows.{opening-good}
 

@@ -1,9 +1,7 @@
 -- From what was read of a connection to what is opened.
-use Rattle.moo_store.{proofs.Words.{arith, rules, ◌≡◌, ◌⊎◌, inl, inr, IsTrue, false, sym, ap, subst, ◌∙◌, Trees, Ghosts, Held, state, Maps, IsGood, state_of, Version, Tables, schema_of, Rests, RestsAt, HasTables, ReadsTables, FailsToRead, stays, clean_before, ShowsRows, Adopts, IsOfStore, TakesOver, StoreFault, IsEarlier, List, Option, None, refl, ObjNo, Head, PropId, SlotCells, tables_in, migrated, Leaves, Holds, PrintEach, PrintsSlot, all_of, KeepsRows, IsCurrent}, specs.OpeningRows.{StopsOpening, IsUnadopted}, specs.States.{ShowsState}, proofs.Causes.{of_store}, proofs.Moments.{version_is}, specs.Current.{RestsCurrent}, proofs.Shown.{shows-migrated}}
+use Rattle.moo_store.{proofs.Words.{State, only_first, arith, rules, ◌≡◌, ◌⊎◌, inl, inr, IsTrue, false, sym, ap, subst, ◌∙◌, Trees, Ghosts, Held, state, Maps, IsGood, state_of, Version, Tables, schema_of, Rests, RestsAt, HasTables, ReadsTables, FailsToRead, stays, clean_before, ShowsRows, Adopts, IsOfStore, TakesOver, StoreFault, IsEarlier, List, Option, None, refl, ObjNo, Head, PropId, SlotCells, tables_in, migrated, Leaves, Holds, PrintEach, PrintsSlot, all_of, KeepsRows, IsCurrent}, specs.OpeningRows.{StopsOpening, IsUnadopted}, specs.States.{ShowsState}, proofs.Causes.{of_store}, proofs.Moments.{version_is}, specs.Current.{RestsCurrent}, proofs.Shown.{shows-migrated}}
 use Rattle.sqlite.{specs.Effect.{Database as Content}, proofs.StateLemmas.{survives_then, survives_weaker}, specs.State.{State as Database, HasCleanDisk, IsUnchanged, IsRolledBack, Survives}}
 use Rattle.moo_tables.{proofs.ReadLemmas.{rests_on}, specs.Migrated.{HasNoSlot}}
-use Rattle.moo_world.specs.Judge.{State}
-use Rattle.moo_tables_rows.proofs.InsideLemmas.{only_first}
 
 -- a refusal leaves the database as it was
 pub at_rest : (old new : Database) → (IsTrue old.is_open → old.now ≡ old.committed) → new.in_transaction ≡ false → IsUnchanged old new ⊎ IsRolledBack old new → IsTrue new.is_open → RestsAt new old.now

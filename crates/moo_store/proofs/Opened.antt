@@ -1,6 +1,5 @@
 -- The tables of a whole world.
-use Rattle.moo_store.{proofs.Words.{◌≡◌, None, Ordering, refl, rules, sym, subst, FinMap, empty, get, get-empty, Maps, no_maps, IsGood, no_schema, tables_with, Leaves, HasNoTables, no_tables, CellChanges, IsChanges, AreChanges, ShowsMaps, PrintsAll, all_of, all_changes, KeepsRows}, specs.NewTables.{LeavesAsMade, RestsAsMade}, proofs.AllRows.{all_changed}, proofs.Shown.{shows-written}}
-use Rattle.moo_tables.{specs.Migrated.{HasNoSlot}, specs.Transaction.{SurvivesMaking}}
+use Rattle.moo_store.{proofs.Words.{HasNoSlot, SurvivesMaking, ◌≡◌, None, Ordering, refl, rules, sym, subst, FinMap, empty, get, get-empty, Maps, no_maps, IsGood, no_schema, tables_with, Leaves, HasNoTables, no_tables, CellChanges, IsChanges, AreChanges, ShowsMaps, PrintsAll, all_of, all_changes, KeepsRows}, specs.NewTables.{LeavesAsMade, RestsAsMade}, proofs.AllRows.{all_changed}, proofs.Shown.{shows-written}}
 use Rattle.sqlite.{proofs.StateLemmas.{survives_weaker}, specs.State.{State as Database, Survives}, specs.Effect.{Database as Content}}
 
 -- no tables show no rows

@@ -1,6 +1,5 @@
 -- Where a rehearsal is after one batch.
-use Rattle.moo_store.{proofs.Words.{◌≡◌, Reply, inl, inr, Bool, true, false, refl, sym, ap, subst, ◌∙◌, Batch, Accepted, judge, left_by, state_of, Maps, Value, Answer, reply_of, ℕ, List, ⊤, ◌⊎◌, Ghosts, HasCleanDisk, IsGood, World, Held, state}, specs.Moves.{Stands, VerdictLeads, RunsAt}, specs.Rehearsed.{Rehearsal, IsRehearsedAt, RehearsesAt}, proofs.Verdicts.{not_both}, specs.Moment.{Moment, rows_alone, HasAtRest, LeadsBy}, specs.Place.{Place, Works, Failed, Between, CrashLeavesAt}}
-use Rattle.moo_world.specs.Between.{BatchLeads}
+use Rattle.moo_store.{proofs.Words.{BatchLeads, ◌≡◌, Reply, inl, inr, Bool, true, false, refl, sym, ap, subst, ◌∙◌, Batch, Accepted, judge, left_by, state_of, Maps, Value, Answer, reply_of, ℕ, List, ⊤, ◌⊎◌, Ghosts, HasCleanDisk, IsGood, World, Held, state}, specs.Moves.{Stands, VerdictLeads, RunsAt}, specs.Rehearsed.{Rehearsal, IsRehearsedAt, RehearsesAt}, proofs.Verdicts.{not_both}, specs.Moment.{Moment, rows_alone, HasAtRest, LeadsBy}, specs.Place.{Place, Works, Failed, Between, CrashLeavesAt}}
 use Rattle.moo_rows.specs.Maps.{Held as Rows}
 use Rattle.moo_text.specs.declared.reply.Answer.TheVariants as answer
 use Rattle.moo_text.specs.declared.reply.Reply.TheVariants as reply

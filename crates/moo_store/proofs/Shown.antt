@@ -1,10 +1,8 @@
 -- The tables, after changes are written, show the new rows; and so do tables of an earlier version that are migrated.
-use Rattle.moo_store.{proofs.Words.{arith, ◌≡◌, ◌≢◌, ◌==◌, ℕ, ℤ, pos, negsuc, Bool, true, false, cond, List, Option, None, Some, refl, rules, sym, ap, ◌∙◌, subst, subst₂, ◌&&◌, eq_by_cmp, get, Row, ObjNo, Head, PropId, Maps, object_cmp, prop_cmp, slot_cmp, verb_cmp, petition_cmp, Version, present, Tables, same_number, same_numbers, numbered_with, head_cells, object_cells, prop_cells, slot_cells, verb_cells, petition_cells, petition_head_cells, counter_with, tables_with, migrated, IsCurrent, CellChanges, SlotCells, AreChanges, ShowsObject, ShowsProp, ShowsSlot, ShowsVerb, ShowsPetition, ShowsOrNone, ShowsCounter, ShowsMaps, ShowsRows, IfBoth, HeadColumns, ObjectColumns, PropColumns, SlotColumns, VerbColumns, PetitionColumns, PrintEach, PrintsObject, PrintsProp, PrintsSlot, PrintsVerb, PrintsPetition, Prints, new_number, all_of, KeepsCells, IsEarlier}, proofs.AllRows.{all_changed}, proofs.Laid.{lays_object, lays_prop, lays_slot, lays_verb, lays_petition}, proofs.Written.{written, stays, elsewhere}}
-use Rattle.moo_tables_rows.proofs.InsideLemmas.{only_first}
+use Rattle.moo_store.{proofs.Words.{only_first, Changes, arith, ◌≡◌, ◌≢◌, ◌==◌, ℕ, ℤ, pos, negsuc, Bool, true, false, cond, List, Option, None, Some, refl, rules, sym, ap, ◌∙◌, subst, subst₂, ◌&&◌, eq_by_cmp, get, Row, ObjNo, Head, PropId, Maps, object_cmp, prop_cmp, slot_cmp, verb_cmp, petition_cmp, Version, present, Tables, same_number, same_numbers, numbered_with, head_cells, object_cells, prop_cells, slot_cells, verb_cells, petition_cells, petition_head_cells, counter_with, tables_with, migrated, IsCurrent, CellChanges, SlotCells, AreChanges, ShowsObject, ShowsProp, ShowsSlot, ShowsVerb, ShowsPetition, ShowsOrNone, ShowsCounter, ShowsMaps, ShowsRows, IfBoth, HeadColumns, ObjectColumns, PropColumns, SlotColumns, VerbColumns, PetitionColumns, PrintEach, PrintsObject, PrintsProp, PrintsSlot, PrintsVerb, PrintsPetition, Prints, new_number, all_of, KeepsCells, IsEarlier}, proofs.AllRows.{all_changed}, proofs.Laid.{lays_object, lays_prop, lays_slot, lays_verb, lays_petition}, proofs.Written.{written, stays, elsewhere}}
 use Rattle.std.{specs.Bool.{Decides}, proofs.lemmas.Bool.{and_parts}, proofs.lemmas.Bool.Decides.{Decides-int_eq, Decides-eqb}}
 use Rattle.moo_rows.{specs.declared.row.VerbId.{VerbId}, specs.declared.row.PetitionId.{PetitionId}, specs.Exact.{object_exact, prop_exact, slot_exact, verb_exact, petition_exact}, proofs.Orders.{prop_total, slot_total, verb_total, petition_total}}
 use Rattle.moo_world.proofs.Shown.MapLaws.{decided_alike, key-Decides}
-use Rattle.moo_memory.specs.declared.changes.Changes.{Changes}
 
 -- a test of what doesn't hold is false
 decided_false : (b : Bool) (P : Type 0) → Decides b P → ¬ P → b ≡ false

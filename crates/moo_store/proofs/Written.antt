@@ -1,6 +1,5 @@
 -- What is printed from exact changes, written over tables that show the old rows, shows the new ones.
-use Rattle.moo_store.proofs.Words.{arith, IsTrue, option_map, ◌≡◌, Bool, true, false, cond, T, Option, None, Some, List, [], ◌∷◌, ◌++◌, fold, Ordering, refl, sym, ap, ◌∙◌, subst, eq_by_cmp, is_eq, find, is_sorted, Row, with_cells, cells_after, IsChanges, ShowsOrNone, IfBoth, PrintEach}
-use Rattle.moo_rows.proofs.Walking.{first_of, less_of, second_of}
+use Rattle.moo_store.proofs.Words.{first_of, less_of, second_of, arith, IsTrue, option_map, ◌≡◌, Bool, true, false, cond, T, Option, None, Some, List, [], ◌∷◌, ◌++◌, fold, Ordering, refl, sym, ap, ◌∙◌, subst, eq_by_cmp, is_eq, find, is_sorted, Row, with_cells, cells_after, IsChanges, ShowsOrNone, IfBoth, PrintEach}
 use Rattle.moo_tables_rows.proofs.KeyLemmas.{tied_as_equal}
 use Rattle.moo_value.specs.Equal.{IsExact}
 use Rattle.std.{specs.FinMap.Entries.{below_all}, proofs.lemmas.Map.Lookups.{CmpEqualImpliesEq}}

@@ -1,16 +1,10 @@
 -- What a comparison of tables with rows may answer.
-use Rattle.std.specs.Prelude.{◌≡◌, ◌≢◌, ◌⊎◌, IsTrue, ℕ, length, Result, Ok, Err}
+use Rattle.moo_store.specs.Words.{◌≡◌, ◌≢◌, ◌⊎◌, IsTrue, ℕ, length, Result, Ok, Err, Maps, world_of, Tables, Rests, IsCurrent, KeepsUnread}
+use Rattle.moo_store.specs.Words.{StopsQuery, Damage, IsNewer, ShowsRows}
 use Rattle.sqlite.specs.State.{State as Database, HasCleanDisk, Survives}
-use Rattle.moo_rows.specs.Maps.{Maps}
 use Rattle.moo_world.specs.ObjectLists.{objects_of}
-use Rattle.moo_world.specs.Rows.{world_of}
 use Rattle.moo_damage.specs.declared.kind.Kind.TheVariants.{Mismatch}
-use Rattle.moo_tables_rows.specs.Tables.{Tables}
-use Rattle.moo_tables_rows.specs.Inside.{Rests, IsCurrent, KeepsUnread}
-use Rattle.moo_tables.specs.ReadCause.{StopsQuery}
 use Rattle.moo_cells.specs.Compared.{IsMismatch}
-use Rattle.moo_cells.specs.Damage.{Damage, IsNewer}
-use Rattle.moo_cells.specs.Shows.{ShowsRows}
 use Rattle.moo_store.specs.OpeningRows.{IsOfStore, StopsBy, not_ours}
 use Rattle.moo_store.specs.declared.fault.StoreFault.{StoreFault}
 use Rattle.moo_store.specs.declared.fault.StoreFault.TheVariants.{Store, Damaged, NewerVersion, OutOfMemory, Closed}

@@ -1,12 +1,7 @@
 -- What committing an accepted batch makes of a World.
-use Rattle.std.specs.Prelude.{◌≡◌, ◌⊎◌, List, Result, Ok, Err}
+use Rattle.moo_store.specs.Words.{◌≡◌, ◌⊎◌, List, Result, Ok, Err, Maps, Changes, Reply, Accepted, CellChanges}
 use Rattle.sqlite.specs.State.{State as Database}
-use Rattle.moo_rows.specs.Maps.{Maps}
-use Rattle.moo_memory.specs.declared.changes.Changes.{Changes}
 use Rattle.moo_value.specs.declared.value.Value.{Value}
-use Rattle.moo_text.specs.declared.reply.Reply.{Reply}
-use Rattle.moo_text.specs.declared.reply.Reply.TheVariants.{Accepted}
-use Rattle.moo_tables_rows.specs.declared.cells.CellChanges.{CellChanges}
 use Rattle.moo_store.specs.CommittingCells.{CommitsCells}
 use Rattle.moo_store.specs.Moment.{Moment, KeepsCellsAt}
 use Rattle.moo_store.specs.Place.{Place, Works, Failed, Between, moment_of}

@@ -1,13 +1,7 @@
 -- What committing printed changes of rows leaves of a store.
-use Rattle.std.specs.Prelude.{◌≡◌, Some, Result, MatchResult}
-use Rattle.sqlite.specs.declared.error.Error.{Error}
+use Rattle.moo_store.specs.Words.{◌≡◌, Some, Result, MatchResult, Error, Maps, Changes, CellChanges, Tables, Rests, IsCurrent, SparesUnread}
 use Rattle.sqlite.specs.State.{State as Database, HasCleanDisk}
-use Rattle.moo_rows.specs.Maps.{Maps}
-use Rattle.moo_memory.specs.declared.changes.Changes.{Changes}
 use Rattle.moo_memory.specs.Changes.{AreChanges}
-use Rattle.moo_tables_rows.specs.declared.cells.CellChanges.{CellChanges}
-use Rattle.moo_tables_rows.specs.Tables.{Tables}
-use Rattle.moo_tables_rows.specs.Inside.{Rests, IsCurrent, SparesUnread}
 use Rattle.moo_tables.specs.Transaction.{CommitsTables}
 use Rattle.moo_store.specs.Moment.{Moment, KeepsCellsAt}
 use Rattle.moo_store.specs.Place.{Works, Between, IsAtPlace}

@@ -1,15 +1,7 @@
 -- What tables become as they are opened.
-use Rattle.std.specs.Prelude.{◌≡◌, List, []}
-use Rattle.sqlite.specs.Order.{Row}
+use Rattle.moo_store.specs.Words.{◌≡◌, List, [], Row, Trees, Maps, Tables, slot_tree, Version, KeepsUnmigrated, Rests, IsCurrent, ShowsRows}
 use Rattle.sqlite.specs.State.{State as Database}
-use Rattle.sqlite.specs.Tree.{Trees}
-use Rattle.moo_rows.specs.Maps.{Maps}
-use Rattle.moo_tables_rows.specs.Tables.{Tables, slot_tree}
-use Rattle.moo_tables_rows.specs.declared.version.Version.{Version}
 use Rattle.moo_tables_rows.specs.declared.version.Version.TheVariants.{First, Second}
-use Rattle.moo_tables.specs.Migrated.{KeepsUnmigrated}
-use Rattle.moo_tables_rows.specs.Inside.{Rests, IsCurrent}
-use Rattle.moo_cells.specs.Shows.{ShowsRows}
 
 -- Tables became these, of the present version. Those that were of that version are the same. Those of an earlier one were migrated, and
 -- keep the cells that a migration leaves as they are.

@@ -1,3 +1,4 @@
+pub mod Words
 pub mod Printed
 pub mod States
 pub mod Current

@@ -1,15 +1,7 @@
 -- What making the tables of a world answers.
-use Rattle.std.specs.Prelude.{◌≡◌, ◌≢◌, ◌⊎◌, IsTrue, false, Ok, Err}
-use Rattle.sqlite.specs.declared.error.Error.{Error}
-use Rattle.sqlite.specs.declared.error.Error.TheVariants.{SqliteFailure}
-use Rattle.sqlite.specs.declared.error.ErrorCode.TheVariants.{NameTaken}
+use Rattle.moo_store.specs.Words.{◌≡◌, ◌≢◌, ◌⊎◌, IsTrue, false, Ok, Err, Error, SqliteFailure, NameTaken, Held, state, Ghosts, Maps}
+use Rattle.moo_store.specs.Words.{no_schema, RestsAt, StopsChange}
 use Rattle.sqlite.specs.State.{State as Database, HasCleanDisk, Survives}
-use Rattle.sqlite.specs.Held.{Held, state}
-use Rattle.sqlite.specs.Store.{Ghosts}
-use Rattle.moo_rows.specs.Maps.{Maps}
-use Rattle.moo_tables_rows.specs.Tables.{no_schema}
-use Rattle.moo_tables_rows.specs.Inside.{RestsAt}
-use Rattle.moo_tables_rows.specs.Cause.{StopsChange}
 use Rattle.moo_store.specs.Kept.{World}
 use Rattle.moo_store.specs.Opening.{Adoption}
 use Rattle.moo_store.specs.Moment.{Moment, rows_alone}

@@ -1,17 +1,8 @@
 -- A moment: what rests in a store, and what one batch makes of it.
-use Rattle.std.specs.Prelude.{◌≡◌, ◌⊎◌, List, [], ◌∷◌, Option, Some, None, IfSome, ⊤}
-use Rattle.sqlite.specs.Order.{Row}
+use Rattle.moo_store.specs.Words.{◌≡◌, ◌⊎◌, List, [], ◌∷◌, Option, Some, None, IfSome, ⊤, Row, Trees, Maps, Batch, IsGood, State, state_of}
+use Rattle.moo_store.specs.Words.{judge, left_by, Tables, Rests, Leaves, IsCurrent, IsEarlier, ShowsRows}
 use Rattle.sqlite.specs.State.{State as Database}
-use Rattle.sqlite.specs.Tree.{Trees}
-use Rattle.moo_rows.specs.Maps.{Maps}
-use Rattle.moo_world.specs.declared.call.Batch.{Batch}
-use Rattle.moo_world.specs.Rows.{IsGood}
 use Rattle.moo_world.specs.Between.{BatchLeads}
-use Rattle.moo_world.specs.Judge.{State, state_of, judge, left_by}
-use Rattle.moo_tables_rows.specs.Tables.{Tables}
-use Rattle.moo_tables_rows.specs.Inside.{Rests, Leaves, IsCurrent}
-use Rattle.moo_tables_rows.specs.Version.{IsEarlier}
-use Rattle.moo_cells.specs.Shows.{ShowsRows}
 use Rattle.moo_store.specs.Current.{BecomesCurrent, unread_of, unread_kept}
 use Rattle.moo_store.specs.Untouched.{KeepsCells}
 

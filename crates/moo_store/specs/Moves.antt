@@ -1,16 +1,8 @@
 -- At which place a World is, and what moves it from one to another.
-use Rattle.std.specs.Prelude.{◌≡◌, ◌⊎◌, false, IsTrue, IsSome}
-use Rattle.sqlite.specs.State.{HasCleanDisk}
-use Rattle.sqlite.specs.Store.{Ghosts}
-use Rattle.sqlite.specs.declared.error.Error.{Error}
-use Rattle.moo_world.specs.declared.call.Batch.{Batch}
-use Rattle.moo_world.specs.Rows.{IsGood}
+use Rattle.moo_store.specs.Words.{◌≡◌, ◌⊎◌, false, IsTrue, IsSome, HasCleanDisk, Ghosts, Error, Batch, IsGood, State, judge, Answer, Reply}
+use Rattle.moo_store.specs.Words.{NoMemory}
 use Rattle.moo_world.specs.Judge as model
-use Rattle.moo_world.specs.Judge.{State, judge}
-use Rattle.moo_text.specs.declared.reply.Answer.{Answer}
 use Rattle.moo_text.specs.declared.reply.Answer.TheVariants as answer
-use Rattle.moo_text.specs.declared.reply.Reply.{Reply}
-use Rattle.moo_text.specs.declared.reply.Reply.TheVariants.{NoMemory}
 use Rattle.moo_store.specs.Moment.{Moment, state_of_moment, LeadsBy, HasAtRest}
 use Rattle.moo_store.specs.Place.{Place, Works, Failed, Between, moment_of, has_failed, MayBeLeft, CrashLeavesAt, IsOpenAt}
 use Rattle.moo_store.specs.Stopped.{IsStopped}

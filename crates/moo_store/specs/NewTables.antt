@@ -1,13 +1,7 @@
 -- Which cells the tables of a world have that was just made, at rest and after a crash.
-use Rattle.std.specs.Prelude.{◌≡◌, [], Some}
+use Rattle.moo_store.specs.Words.{◌≡◌, [], Some, Trees, Maps, IsGood, CellChanges, Rests, Leaves, no_tables, HasNoSlot}
 use Rattle.sqlite.specs.State.{State as Database}
-use Rattle.sqlite.specs.Tree.{Trees}
-use Rattle.moo_rows.specs.Maps.{Maps}
-use Rattle.moo_world.specs.Rows.{IsGood}
-use Rattle.moo_tables_rows.specs.declared.cells.CellChanges.{CellChanges}
 use Rattle.moo_tables_rows.specs.Cells.{tables_with}
-use Rattle.moo_tables_rows.specs.Inside.{Rests, Leaves, no_tables}
-use Rattle.moo_tables.specs.Migrated.{HasNoSlot}
 use Rattle.moo_store.specs.Printed.{PrintsAll}
 use Rattle.moo_store.specs.Moment.{Moment}
 

@@ -1,11 +1,6 @@
 -- What opening the world of a store may answer.
-use Rattle.std.specs.Prelude.{◌≡◌, Some, Result, Ok, Err}
+use Rattle.moo_store.specs.Words.{◌≡◌, Some, Result, Ok, Err, Held, state, Ghosts, Tables, Rests, ShowsRows}
 use Rattle.sqlite.specs.State.{State as Database, HasCleanDisk, Survives}
-use Rattle.sqlite.specs.Held.{Held, state}
-use Rattle.sqlite.specs.Store.{Ghosts}
-use Rattle.moo_tables_rows.specs.Tables.{Tables}
-use Rattle.moo_tables_rows.specs.Inside.{Rests}
-use Rattle.moo_cells.specs.Shows.{ShowsRows}
 use Rattle.moo_store.specs.Current.{unread_of}
 use Rattle.moo_store.specs.Moment.{Moment, rows_alone, BecomesPresent}
 use Rattle.moo_store.specs.Place.{Works}

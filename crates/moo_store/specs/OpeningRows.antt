@@ -1,23 +1,9 @@
 -- What opening the tables of a connection may answer, and what it may leave.
-use Rattle.std.specs.Prelude.{◌≡◌, ◌≢◌, ◌⊎◌, IsTrue, false, Result, Ok, Err, ⊤}
-use Rattle.sqlite.specs.declared.error.Error.{Error}
-use Rattle.sqlite.specs.declared.error.Error.TheVariants.{SqliteFailure}
-use Rattle.sqlite.specs.declared.error.ErrorCode.TheVariants.{NotADatabase}
+use Rattle.moo_store.specs.Words.{◌≡◌, ◌≢◌, ◌⊎◌, IsTrue, false, Result, Ok, Err, ⊤, Error, SqliteFailure, NotADatabase, Held, state, Ghosts}
+use Rattle.moo_store.specs.Words.{Trees, State, IsGood, Tables, schema_of, Rests, RestsAt, HasTables, StopsChange, StopsQuery, IsEarlier}
+use Rattle.moo_store.specs.Words.{Version, ShowsRows, Damage, IsNewer}
 use Rattle.sqlite.specs.State.{State as Database, HasCleanDisk, Survives}
-use Rattle.sqlite.specs.Held.{Held, state}
-use Rattle.sqlite.specs.Store.{Ghosts}
-use Rattle.sqlite.specs.Tree.{Trees}
 use Rattle.moo_rows.specs.Maps.{Maps, Held as Rows}
-use Rattle.moo_world.specs.Judge.{State}
-use Rattle.moo_world.specs.Rows.{IsGood}
-use Rattle.moo_tables_rows.specs.Tables.{Tables, schema_of}
-use Rattle.moo_tables_rows.specs.Inside.{Rests, RestsAt, HasTables}
-use Rattle.moo_tables_rows.specs.Cause.{StopsChange}
-use Rattle.moo_tables.specs.ReadCause.{StopsQuery}
-use Rattle.moo_tables_rows.specs.Version.{IsEarlier}
-use Rattle.moo_tables_rows.specs.declared.version.Version.{Version}
-use Rattle.moo_cells.specs.Shows.{ShowsRows}
-use Rattle.moo_cells.specs.Damage.{Damage, IsNewer}
 use Rattle.moo_store.specs.States.{LeavesRows, ShowsState, LeavesState}
 use Rattle.moo_store.specs.Current.{RestsCurrent}
 use Rattle.moo_store.specs.declared.fault.StoreFault.{StoreFault}

@@ -1,7 +1,6 @@
 -- How far a World got: it is at a moment, or between two of them.
-use Rattle.std.specs.Prelude.{◌≡◌, ◌⊎◌, Bool, true, false, IsTrue, IsSome, ⊤}
+use Rattle.moo_store.specs.Words.{◌≡◌, ◌⊎◌, Bool, true, false, IsTrue, IsSome, ⊤, Trees}
 use Rattle.sqlite.specs.State.{State as Database, HasCleanDisk}
-use Rattle.sqlite.specs.Tree.{Trees}
 use Rattle.moo_store.specs.Moment.{Moment, HasAtRest, HasCellsOf}
 
 -- How far a World got. It works at a moment. Or it failed there, since memory ran out after the commit. Or its store failed between two

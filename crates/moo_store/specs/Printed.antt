@@ -1,6 +1,6 @@
 -- Cells that are printed from changes of rows.
-use Rattle.std.specs.Prelude.{◌≡◌, ◌≢◌, ◌==◌, if◌then◌else◌, ℕ, List, [], ◌∷◌, map, Option, Some, None, option_map, Vec, ⊤}
-use Rattle.std.specs.FinMap.{FinMap, entries, get}
+use Rattle.moo_store.specs.Words.{◌≡◌, ◌≢◌, ◌==◌, if◌then◌else◌, ℕ, List, [], ◌∷◌, map, Option, Some, None, option_map, Vec, ⊤, FinMap}
+use Rattle.moo_store.specs.Words.{entries, get, Maps, no_maps, CellChanges, Changes, ShowsAccept, ShowsSlotState, ShowsOrNone, ObjNo}
 use Rattle.std.specs.declared.alloc.Global.{Global}
 use Rattle.std.specs.declared.cmp.Ordering.{Ordering}
 use Rattle.moo_rows.specs.declared.row.ObjRow.{ObjRow}
@@ -10,19 +10,14 @@ use Rattle.moo_rows.specs.declared.row.SlotState.{SlotState}
 use Rattle.moo_rows.specs.declared.row.SlotState.TheVariants.{Clear, Set}
 use Rattle.moo_rows.specs.declared.row.VerbRow.{VerbRow}
 use Rattle.moo_rows.specs.declared.row.PetitionRow.{PetitionRow}
-use Rattle.moo_rows.specs.Maps.{Maps, no_maps}
 use Rattle.moo_tables_rows.specs.declared.object.ObjectCells.{ObjectCells}
 use Rattle.moo_tables_rows.specs.declared.prop.PropCells.{PropCells}
 use Rattle.moo_tables_rows.specs.declared.slot.SlotCells.{SlotCells}
 use Rattle.moo_tables_rows.specs.declared.verb.VerbCells.{VerbCells}
 use Rattle.moo_tables_rows.specs.declared.petition.PetitionCells.{PetitionCells}
-use Rattle.moo_tables_rows.specs.declared.cells.CellChanges.{CellChanges}
-use Rattle.moo_memory.specs.declared.changes.Changes.{Changes}
-use Rattle.moo_cells.specs.Shows.{ShowsAccept, ShowsSlotState, ShowsOrNone}
 use Rattle.moo_rows.specs.Bits.{bits_number, verb_bits_of, verb_letters_of}
 use Rattle.moo_value.specs.Literal.{Spells, print}
 use Rattle.moo_value.specs.Values.{Values}
-use Rattle.moo_value.specs.declared.value.ObjNo.{ObjNo}
 use Rattle.moo_value.specs.declared.value.Value.TheVariants.{List as a_list}
 use Rattle.moo_world.specs.Answers.{object_list}
 use Rattle.moo_world.specs.Prepositions.{prep_text, object_spec_text}

@@ -1,15 +1,8 @@
 -- What reading the rows of the tables of a connection answers.
-use Rattle.std.specs.Prelude.{◌≡◌, ◌≢◌, ◌⊎◌, ◌<◌, ◌^◌, Result, Ok, Err}
+use Rattle.moo_store.specs.Words.{◌≡◌, ◌≢◌, ◌⊎◌, ◌<◌, ◌^◌, Result, Ok, Err, Held, state, Ghosts, IsGood, Tables, schema_of, Rests}
+use Rattle.moo_store.specs.Words.{HasTables, ReadsTables, FailsToRead, StopsQuery, Version, ShowsRows}
 use Rattle.sqlite.specs.State.{State as Database, HasCleanDisk}
-use Rattle.sqlite.specs.Held.{Held, state}
-use Rattle.sqlite.specs.Store.{Ghosts}
 use Rattle.moo_rows.specs.Maps.{Maps, Held as Rows}
-use Rattle.moo_world.specs.Rows.{IsGood}
-use Rattle.moo_tables_rows.specs.Tables.{Tables, schema_of}
-use Rattle.moo_tables_rows.specs.Inside.{Rests, HasTables, ReadsTables, FailsToRead}
-use Rattle.moo_tables.specs.ReadCause.{StopsQuery}
-use Rattle.moo_tables_rows.specs.declared.version.Version.{Version}
-use Rattle.moo_cells.specs.Shows.{ShowsRows}
 use Rattle.moo_store.specs.OpeningRows.{SaysOr, IsOfStore, StopsBy, HasOthers, not_ours}
 use Rattle.moo_store.specs.declared.fault.StoreFault.{StoreFault}
 

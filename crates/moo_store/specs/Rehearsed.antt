@@ -1,9 +1,6 @@
 -- What a rehearsal of batches answers, and how far it got.
-use Rattle.std.specs.Prelude.{◌≡◌, ◌≢◌, Bool, true, false, refl}
-use Rattle.std.specs.Coded.{Coded, code_by, coded×, coded_bool}
+use Rattle.moo_store.specs.Words.{◌≡◌, ◌≢◌, Bool, true, false, refl, Coded, code_by, coded×, coded_bool, Batch, Answer}
 use Rattle.moo_rows.specs.Maps.{Held, coded_held}
-use Rattle.moo_world.specs.declared.call.Batch.{Batch}
-use Rattle.moo_text.specs.declared.reply.Answer.{Answer}
 use Rattle.moo_text.specs.declared.reply.Answer.TheVariants as answer
 use Rattle.moo_store.specs.Moment.{rows_alone}
 use Rattle.moo_store.specs.Place.{Place, Works, Failed, Between}

@@ -1,9 +1,5 @@
 -- What a crash left of a World was opened again.
-use Rattle.std.specs.Prelude.{IsSome}
-use Rattle.sqlite.specs.State.{HasCleanDisk}
-use Rattle.sqlite.specs.Held.{Held, state}
-use Rattle.sqlite.specs.Store.{Ghosts}
-use Rattle.moo_tables_rows.specs.Inside.{MayOpenAs}
+use Rattle.moo_store.specs.Words.{IsSome, HasCleanDisk, Held, state, Ghosts, MayOpenAs}
 use Rattle.moo_store.specs.Place.{Place, moment_of}
 use Rattle.moo_store.specs.Kept.{World}
 use Rattle.moo_store.specs.Moves.{Stands}

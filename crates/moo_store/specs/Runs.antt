@@ -1,8 +1,7 @@
 -- How a list of batches is run, and a World is checked.
-use Rattle.std.specs.Prelude.{◌≡◌, ◌≢◌, ℕ, Bool, true, false, IsTrue, List, [], ◌∷◌, length, take, drop, map, Result, Ok, Err}
-use Rattle.moo_world.specs.declared.call.Batch.{Batch}
+use Rattle.moo_store.specs.Words.{◌≡◌, ◌≢◌, ℕ, Bool, true, false, IsTrue, List, [], ◌∷◌, length, take, drop, map, Result, Ok, Err, Batch}
+use Rattle.moo_store.specs.Words.{Reply}
 use Rattle.moo_text.specs.declared.next.Next.TheVariants.{Batch as Whole}
-use Rattle.moo_text.specs.declared.reply.Reply.{Reply}
 use Rattle.moo_text.specs.declared.reply.Answer.TheVariants as answer
 use Rattle.moo_store.specs.Place.{Place, Works, Between, has_failed}
 use Rattle.moo_store.specs.declared.fault.StoreFault.{StoreFault}

@@ -1,9 +1,5 @@
 -- What a witness keeps of batches that are answered.
-use Rattle.std.specs.Prelude.{◌≡◌, List, [], ◌∷◌, Option, Some, None}
-use Rattle.moo_rows.specs.Maps.{Maps}
-use Rattle.moo_world.specs.declared.call.Batch.{Batch}
-use Rattle.moo_text.specs.declared.reply.Reply.{Reply}
-use Rattle.moo_text.specs.declared.reply.Reply.TheVariants.{Accepted, Refused, Full, Stale, NoMemory}
+use Rattle.moo_store.specs.Words.{◌≡◌, List, [], ◌∷◌, Option, Some, None, Maps, Batch, Reply, Accepted, Refused, Full, Stale, NoMemory}
 use Rattle.moo_batch.specs.declared.witness.Facts.{Facts}
 use Rattle.moo_batch.specs.declared.witness.Refusal.{Refusal}
 use Rattle.moo_batch.specs.Seeing.{HasSeenRefusal}

@@ -1,13 +1,6 @@
 -- What a store at rest and what a crash leave: the rows that their tables show, and the world of these rows.
-use Rattle.std.specs.Prelude.{◌≡◌}
+use Rattle.moo_store.specs.Words.{◌≡◌, Trees, Maps, IsGood, State, state_of, Tables, Rests, Leaves, IsCurrent, ShowsRows}
 use Rattle.sqlite.specs.State.{State as Database}
-use Rattle.sqlite.specs.Tree.{Trees}
-use Rattle.moo_rows.specs.Maps.{Maps}
-use Rattle.moo_world.specs.Rows.{IsGood}
-use Rattle.moo_world.specs.Judge.{State, state_of}
-use Rattle.moo_tables_rows.specs.Tables.{Tables}
-use Rattle.moo_tables_rows.specs.Inside.{Rests, Leaves, IsCurrent}
-use Rattle.moo_cells.specs.Shows.{ShowsRows}
 
 -- the connection is open and in no transaction, and its tables, of the present version, show these rows
 pub record KeepsRows (store : Database) (rows : Maps) : Type 0 where

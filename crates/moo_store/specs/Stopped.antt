@@ -1,7 +1,6 @@
 -- Why the store stopped a World.
-use Rattle.std.specs.Prelude.{◌≡◌, ◌≤◌, ⊤}
+use Rattle.moo_store.specs.Words.{◌≡◌, ◌≤◌, ⊤, StopsChange}
 use Rattle.sqlite.specs.State.{State as Database}
-use Rattle.moo_tables_rows.specs.Cause.{StopsChange}
 use Rattle.moo_store.specs.declared.fault.StoreFault.{StoreFault}
 use Rattle.moo_store.specs.declared.fault.StoreFault.TheVariants.{Store}
 

@@ -1,17 +1,10 @@
 -- How the answering of a text ends at the first answer that isn't `accepted`.
-use Rattle.std.specs.Prelude.{◌&&◌, not, ◌≡◌, ◌≤◌, ℕ, Bool, true, false, List, [], ◌∷◌, ◌++◌, length, Option, Result, Ok, Err, if◌then◌else◌}
-use Rattle.std.specs.List.{AllByRecursion, count_by}
-use Rattle.std.specs.Io.KnownBytes.{Appends}
-use Rattle.moo_world.specs.declared.call.Batch.{Batch}
-use Rattle.moo_text.specs.Items.{items}
-use Rattle.moo_text.specs.declared.lines.TheConstants.{LONGEST_TEXT}
-use Rattle.moo_text.specs.declared.next.Next.{Next}
-use Rattle.moo_text.specs.declared.reply.Answer.{Answer}
+use Rattle.moo_store.specs.Words.{◌&&◌, not, ◌≡◌, ◌≤◌, ℕ, Bool, true, false, List, [], ◌∷◌, ◌++◌, length, Option, Result, Ok, Err}
+use Rattle.moo_store.specs.Words.{if◌then◌else◌, AllByRecursion, count_by, Appends, Batch, items, LONGEST_TEXT, Next, Answer, Accepted}
+use Rattle.moo_store.specs.Words.{TextFault}
 use Rattle.moo_text.specs.declared.reply.Answer.TheVariants as answer
-use Rattle.moo_text.specs.declared.reply.Reply.TheVariants.{Accepted}
 use Rattle.moo_store.specs.declared.course.Course.{Course}
 use Rattle.moo_store.specs.declared.tally.Tally.{Tally}
-use Rattle.moo_text.specs.declared.fault.TextFault.{TextFault}
 use Rattle.moo_store.specs.Turns.{Turns, Completes, Halts, answers_text, is_batch, is_lost_answer, GivesFrontOrAll}
 
 -- an answer is `accepted`

@@ -1,13 +1,8 @@
 -- The answers to the batches of a text, and which of these are acknowledged.
-use Rattle.std.specs.Prelude.{Bool, true, false, List, [], ◌∷◌, ◌++◌, Result, Ok, Err}
-use Rattle.moo_world.specs.declared.call.Batch.{Batch}
-use Rattle.moo_text.specs.declared.next.Next.{Next}
+use Rattle.moo_store.specs.Words.{Bool, true, false, List, [], ◌∷◌, ◌++◌, Result, Ok, Err, Batch, Next, Answer, Reply, Accepted, Refused}
+use Rattle.moo_store.specs.Words.{Full, Stale, NoMemory, State, judge}
 use Rattle.moo_text.specs.declared.next.Next.TheVariants.{Batch as Whole, Malformed, Truncated, End}
-use Rattle.moo_text.specs.declared.reply.Answer.{Answer}
 use Rattle.moo_text.specs.declared.reply.Answer.TheVariants as answer
-use Rattle.moo_text.specs.declared.reply.Reply.{Reply}
-use Rattle.moo_text.specs.declared.reply.Reply.TheVariants.{Accepted, Refused, Full, Stale, NoMemory}
-use Rattle.moo_world.specs.Judge.{State, judge}
 use Rattle.moo_store.specs.Answered.{reply_of, answer_of, state_behind, acknowledged}
 use Rattle.moo_store.specs.declared.fault.StoreFault.{StoreFault}
 use Rattle.moo_store.specs.declared.fault.StoreFault.TheVariants.{OutOfMemory, Closed}

@@ -1,20 +1,14 @@
 -- Rows that stay as they are, and columns that stay, keep their cells, byte for byte, whatever spelling of a value these hold.
-use Rattle.std.specs.Prelude.{◌≡◌, ℤ, pos, Option, Some, ⊤}
-use Rattle.std.specs.FinMap.{get}
-use Rattle.sqlite.specs.Order.{Row}
-use Rattle.moo_value.specs.declared.value.ObjNo.{ObjNo}
+use Rattle.moo_store.specs.Words.{◌≡◌, ℤ, pos, Option, Some, ⊤, get, Row, ObjNo, Maps, Tables, ShowsRows}
 use Rattle.moo_rows.specs.declared.row.PropId.{PropId}
 use Rattle.moo_rows.specs.declared.row.VerbId.{VerbId}
 use Rattle.moo_rows.specs.declared.row.PetitionId.{PetitionId}
-use Rattle.moo_rows.specs.Maps.{Maps}
-use Rattle.moo_tables_rows.specs.Tables.{Tables}
 use Rattle.moo_tables_rows.specs.Head.{HeadColumns}
 use Rattle.moo_tables_rows.specs.Object.{ObjectColumns}
 use Rattle.moo_tables_rows.specs.Prop.{PropColumns}
 use Rattle.moo_tables_rows.specs.Slot.{SlotColumns}
 use Rattle.moo_tables_rows.specs.Verb.{VerbColumns}
 use Rattle.moo_tables_rows.specs.Petition.{PetitionColumns}
-use Rattle.moo_cells.specs.Shows.{ShowsRows}
 
 -- this holds from a row to a row, each with its cells; if one of them isn't there, nothing is said
 abbrev pub IfBoth : {X : Type 0} → (X → X → Row → Row → Type 0) → Option X → Option X → Option Row → Option Row → Type 0

@@ -1,9 +1,6 @@
 -- What a World shows: the state of its store, and that of its own rows.
-use Rattle.std.specs.Prelude.{Result, Ok, Err}
+use Rattle.moo_store.specs.Words.{Result, Ok, Err, Ghosts, state, State, state_of}
 use Rattle.sqlite.specs.State.{State as Database}
-use Rattle.sqlite.specs.Store.{Ghosts}
-use Rattle.sqlite.specs.Held.{state}
-use Rattle.moo_world.specs.Judge.{State, state_of}
 use Rattle.moo_store.specs.Kept.{World}
 use Rattle.moo_store.specs.declared.fault.StoreFault.{StoreFault}
 use Rattle.moo_store.specs.declared.fault.StoreFault.TheVariants.{Store}

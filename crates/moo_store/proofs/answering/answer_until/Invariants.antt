@@ -1,5 +1,4 @@
-use Rattle.moo_store.{proofs.Words.{◌≡◌, ◌+◌, ◌≤◌, None, feed_side, feed_room}, proofs.Going.{GoingUntil}}
-use Rattle.moo_text.specs.declared.lines.TheConstants.{LONGEST_TEXT}
+use Rattle.moo_store.{proofs.Words.{LONGEST_TEXT, ◌≡◌, ◌+◌, ◌≤◌, None, feed_side, feed_room}, proofs.Going.{GoingUntil}}
 use Rattle.moo_store.proofs.answering.answer_until.Given as goal
 
 abbrev pub invariant-loop-item : goal.invariant-loop-item

@@ -1,6 +1,5 @@
-use Rattle.moo_store.{proofs.Words.{◌∙◌, state, present}, proofs.OpenLemmas.{has_still, rests_still}, proofs.CompareLemmas.{checked_by, failed, objects_held}, proofs.Causes.{stopped_after}, proofs.Moments.{version_is}}
+use Rattle.moo_store.{proofs.Words.{HasCleanDisk, ◌∙◌, state, present}, proofs.OpenLemmas.{has_still, rests_still}, proofs.CompareLemmas.{checked_by, failed, objects_held}, proofs.Causes.{stopped_after}, proofs.Moments.{version_is}}
 use Rattle.moo_store.proofs.comparing.check_rows.Goals as goal
-use Rattle.sqlite.specs.State.{HasCleanDisk}
 use Rattle.moo_tables.{specs.Listing.{AreListed, tables_of}, proofs.ReadLemmas.{reads_then, rests_read}}
 
 -- each table was seen to show the rows

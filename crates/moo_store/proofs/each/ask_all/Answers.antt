@@ -1,6 +1,5 @@
 use Rattle.moo_store.specs.Seeing.{HasSeenEach, HasSeenPlace}
-use Rattle.moo_store.proofs.Words.{Batch, List, Maps, Option, Reply, refl, ◌+◌, get_or, subst, take, take_more, [], ◌∷◌, ◌++◌, ap, sym, ◌∙◌, judge, answer_of, state_of_world}
-use Rattle.std.{specs.Prelude.{option_map}, proofs.lemmas.List.{map_more}}
+use Rattle.moo_store.proofs.Words.{option_map, map_more, Batch, List, Maps, Option, Reply, refl, ◌+◌, get_or, subst, take, take_more, [], ◌∷◌, ◌++◌, ap, sym, ◌∙◌, judge, answer_of, state_of_world}
 use Rattle.moo_batch.proofs.Ticking.{and_then}
 use Rattle.moo_store.proofs.each.ask_all.Goals as goal
 use Rattle.moo_batch.{specs.declared.witness.Facts.{Facts}, specs.declared.witness.Refusal.{Refusal}}

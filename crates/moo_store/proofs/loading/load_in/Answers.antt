@@ -1,5 +1,4 @@
-use Rattle.moo_store.{specs.Loading.{SurvivesAsMade}, proofs.Words.{IsTrue, Some, [], inr, refl, sym, ap, subst, state, HasCleanDisk, World, Moment, rows_alone}, specs.NewTables.{RestsAsMade}, proofs.Opened.{has_no_tables, keeps_all, survives_all}, proofs.Commits.{shown_by}}
-use Rattle.moo_tables_rows.{specs.Cells.{tables_with}, specs.Inside.{no_tables}}
+use Rattle.moo_store.{specs.Loading.{SurvivesAsMade}, proofs.Words.{tables_with, no_tables, IsTrue, Some, [], inr, refl, sym, ap, subst, state, HasCleanDisk, World, Moment, rows_alone}, specs.NewTables.{RestsAsMade}, proofs.Opened.{has_no_tables, keeps_all, survives_all}, proofs.Commits.{shown_by}}
 use Rattle.moo_store.proofs.loading.load_in.Goals as goal
 
 pub returns-in-Ok-create_tables : goal.returns-in-Ok-create_tables

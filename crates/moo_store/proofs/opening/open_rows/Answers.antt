@@ -1,6 +1,5 @@
 use Rattle.sqlite.specs.Effect.{Database as Content}
-use Rattle.moo_store.{proofs.Words.{◌⊎◌, inl, inr, sym, subst, state, clean_before, IsEarlier, StopsBy}, specs.Current.{RestsCurrent}, specs.OpeningRows.{AreMigrated, StopsOpening}, proofs.Causes.{stops_more, says_more, says_cause}, proofs.OpenLemmas.{undone, refused_survives, has_still, rests_still, version_of_old, crash, undone_late}}
-use Rattle.moo_tables.specs.ReadCause.{StopsQuery}
+use Rattle.moo_store.{proofs.Words.{StopsQuery, ◌⊎◌, inl, inr, sym, subst, state, clean_before, IsEarlier, StopsBy}, specs.Current.{RestsCurrent}, specs.OpeningRows.{AreMigrated, StopsOpening}, proofs.Causes.{stops_more, says_more, says_cause}, proofs.OpenLemmas.{undone, refused_survives, has_still, rests_still, version_of_old, crash, undone_late}}
 use Rattle.moo_tables_rows.{specs.Cause.{StopsChange}, proofs.CauseLemmas.{stops_since}}
 use Rattle.moo_store.proofs.opening.open_rows.Goals as goal
 

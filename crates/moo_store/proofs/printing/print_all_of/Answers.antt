@@ -1,5 +1,4 @@
-use Rattle.moo_store.{proofs.Words.{Some, None, sym, subst, entries, PrintEach, as_changes}, proofs.AllRows.{ArePrinted, one_printed, all_printed}}
-use Rattle.moo_rows.{specs.Walk.{rows_left}, proofs.Walking.{past_none}}
+use Rattle.moo_store.{proofs.Words.{rows_left, past_none, Some, None, sym, subst, entries, PrintEach, as_changes}, proofs.AllRows.{ArePrinted, one_printed, all_printed}}
 use Rattle.moo_store.proofs.printing.print_all_of.Goals as goal
 
 pub loop-next-preserved : goal.loop-next-preserved

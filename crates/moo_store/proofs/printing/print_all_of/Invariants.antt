@@ -1,5 +1,4 @@
-use Rattle.std.proofs.Common.{None, length}
-use Rattle.moo_rows.specs.Walk.{rows_left}
+use Rattle.moo_store.proofs.Words.{None, length, rows_left}
 use Rattle.moo_store.proofs.AllRows.{ArePrinted}
 use Rattle.moo_store.proofs.printing.print_all_of.Given as goal
 

@@ -1,5 +1,4 @@
-use Rattle.moo_store.{proofs.Words.{◌≡◌, ◌∙◌, inl, refl, sym, state, OutOfMemory}, specs.OpeningRows.{not_ours}, proofs.Causes.{ran_out, says_of_store}}
-use Rattle.moo_tables.specs.ReadCause.{StopsQuery}
+use Rattle.moo_store.{proofs.Words.{StopsQuery, ◌≡◌, ◌∙◌, inl, refl, sym, state, OutOfMemory}, specs.OpeningRows.{not_ours}, proofs.Causes.{ran_out, says_of_store}}
 use Rattle.moo_store.proofs.reading.read_version_and_rows.Goals as goal
 
 -- nothing was asked of the tables

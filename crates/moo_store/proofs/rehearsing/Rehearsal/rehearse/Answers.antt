@@ -1,6 +1,5 @@
-use Rattle.moo_store.{proofs.Words.{◌≡◌, true, false, refl, ap, subst, judge, state_of, Head, AreChanges, Rehearsal, Accepted, RunsAt, Works, rows_alone}, proofs.Rehearsals.{closed_rehearsal, still_rehearsal, accepted_rehearsal}}
+use Rattle.moo_store.{proofs.Words.{BatchLeads, ◌≡◌, true, false, refl, ap, subst, judge, state_of, Head, AreChanges, Rehearsal, Accepted, RunsAt, Works, rows_alone}, proofs.Rehearsals.{closed_rehearsal, still_rehearsal, accepted_rehearsal}}
 use Rattle.moo_store.proofs.rehearsing.Rehearsal.rehearse.Goals as goal
-use Rattle.moo_world.specs.Between.{BatchLeads}
 use Rattle.moo_text.specs.declared.reply.Answer.TheVariants as answer
 
 pub accept-requires-clause-changes : goal.accept-requires-clause-changes

@@ -1,6 +1,5 @@
-use Rattle.moo_store.{proofs.Words.{◌≡◌, ◌<◌, sym, ap, ◌∙◌, subst, true, false, Head, IsGood, Moment, Works, RunsAt, state_of, judge, Accepted, AreChanges, World, IsRun}, proofs.Verdicts.{closed_moves, still_moves, no_room_stays}, proofs.Verdicts.{accepted_run}, proofs.Commits.{accepted_moves, accepted_still}}
+use Rattle.moo_store.{proofs.Words.{BatchLeads, ◌≡◌, ◌<◌, sym, ap, ◌∙◌, subst, true, false, Head, IsGood, Moment, Works, RunsAt, state_of, judge, Accepted, AreChanges, World, IsRun}, proofs.Verdicts.{closed_moves, still_moves, no_room_stays}, proofs.Verdicts.{accepted_run}, proofs.Commits.{accepted_moves, accepted_still}}
 use Rattle.moo_store.proofs.world.World.run_one.Goals as goal
-use Rattle.moo_world.specs.Between.{BatchLeads}
 use Rattle.moo_text.specs.declared.reply.Answer.TheVariants as answer
 use Rattle.moo_text.specs.declared.reply.Reply.TheVariants as reply
 
