@@ -1,6 +1,5 @@
 -- A query whose rows are handed on while they are read.
-use Rattle.moo_tables.{proofs.Words.{◌≡◌, ℕ, List, [], Bool, true, Result, Ok, Err, IfOk, Row, Held, Error}, proofs.StreamLemmas.{IsGiving}, specs.Feeding.{AreTaken, AreFed}}
-use Rattle.sqlite_trees.specs.declared.store.Store.{Ghosts}
+use Rattle.moo_tables.{proofs.Words.{Ghosts, ◌≡◌, ℕ, List, [], Bool, true, Result, Ok, Err, IfOk, Row, Held, Error}, proofs.StreamLemmas.{IsGiving}, specs.Feeding.{AreTaken, AreFed}}
 
 -- the rows so far are those of the query: the first of them were taken, and the others are left
 pub record IsFeeding {S T : Type 0} (g : Ghosts S) (took : T → List Row → T → Type 0) (sql : List ℕ) (old now : Held S) (first last : T) (left : List Row) : Type 0 where

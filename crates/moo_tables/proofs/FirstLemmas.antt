@@ -1,6 +1,5 @@
 -- SQL refuses no statement that makes a table of the first version in a database without tables: why one of them fails.
-use Rattle.moo_tables.{proofs.Words.{◌≡◌, ℕ, [], Ok, Err, Result, IfErr, IsTrue, refl, arith, Error, Schema, Table, State, HasCleanDisk, HasNoTables, StaysInside, StopsChange, RanStatement, create_text, no_schema, head_schema, object_schema, prop_schema, slot_schema, first_schema, head_table, object_table, prop_table, slot_table, verb_table, value_cmp, create_head_is, create_object_is, create_prop_is, create_slot_is, create_verb_is, Ran, Tables, Sees, Holds, HasCauseIn, HasNoSlot, IsUnderWay, First, no_rows, clean_before, stays_then, stops_since, err_again}, proofs.MakingLemmas.{IsAt, Makes, made_at, making_stops}, proofs.ReadCauseLemmas.{handed_on}, specs.Migrated.{HasCauseOfMigrating}, specs.Transaction.{HasCauseOfMaking}}
-use Rattle.std.specs.Result.{IsErrAnd}
+use Rattle.moo_tables.{proofs.Words.{IsErrAnd, ◌≡◌, ℕ, [], Ok, Err, Result, IfErr, IsTrue, refl, arith, Error, Schema, Table, State, HasCleanDisk, HasNoTables, StaysInside, StopsChange, RanStatement, create_text, no_schema, head_schema, object_schema, prop_schema, slot_schema, first_schema, head_table, object_table, prop_table, slot_table, verb_table, value_cmp, create_head_is, create_object_is, create_prop_is, create_slot_is, create_verb_is, Ran, Tables, Sees, Holds, HasCauseIn, HasNoSlot, IsUnderWay, First, no_rows, clean_before, stays_then, stops_since, err_again}, proofs.MakingLemmas.{IsAt, Makes, made_at, making_stops}, proofs.ReadCauseLemmas.{handed_on}, specs.Migrated.{HasCauseOfMigrating}, specs.Transaction.{HasCauseOfMaking}}
 use Rattle.sqlite_schema.specs.Names.{same_name}
 use Rattle.sqlite_trees.specs.Sound as sound
 

@@ -1,7 +1,5 @@
 -- What the statements do that make the tables of the present version of those of an earlier one.
-use Rattle.moo_tables.{proofs.Words.{◌≡◌, ℕ, List, [], ◌∷◌, ◌++◌, map, false, Table, lacks_sequence, IsMaking, Ok, Err, Result, OnOk, refl, sym, ap, subst, ◌∙◌, Schema, Database, Error, State, HasCleanDisk, First, Tables, schema_of, first_schema, slot2_schema, petition_schema, second_schema, slot2_table, petition_table, petition_head_table, numbered_in, paired_in, head_table, object_table, prop_table, verb_table, with_counter, AreKeyed, HasNoSlot, Holds, Sees, StaysInside, Changes, RanStatement, IsGrown, GrowsTables, grown, no_tables, KeepsUnread, create_text, IsEarlier, IsUnderWay, no_rows, present_schema, create_petition_head_is, of_version, clean_before, only_first, same_tables}, proofs.CreateLemmas.{emptied, runs_making}}
-use Rattle.sqlite_catalog.specs.Change.{KeepsRows}
-use Rattle.sqlite.specs.Change.{next_tree}
+use Rattle.moo_tables.{proofs.Words.{KeepsRows, next_tree, ◌≡◌, ℕ, List, [], ◌∷◌, ◌++◌, map, false, Table, lacks_sequence, IsMaking, Ok, Err, Result, OnOk, refl, sym, ap, subst, ◌∙◌, Schema, Database, Error, State, HasCleanDisk, First, Tables, schema_of, first_schema, slot2_schema, petition_schema, second_schema, slot2_table, petition_table, petition_head_table, numbered_in, paired_in, head_table, object_table, prop_table, verb_table, with_counter, AreKeyed, HasNoSlot, Holds, Sees, StaysInside, Changes, RanStatement, IsGrown, GrowsTables, grown, no_tables, KeepsUnread, create_text, IsEarlier, IsUnderWay, no_rows, present_schema, create_petition_head_is, of_version, clean_before, only_first, same_tables}, proofs.CreateLemmas.{emptied, runs_making}}
 
 -- a statement makes one more table of those that the first version lacks
 pub grows : {before after : Schema} {table : Table} (added : List Table) → before.tables ≡ first_schema.tables ++ added → IsMaking before after table → lacks_sequence after ≡ false → (old new : State) (count : ℕ) → RanStatement (create_text table) [] old new (Ok count) → HasCleanDisk new → (base : Database)

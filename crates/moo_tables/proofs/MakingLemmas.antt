@@ -1,8 +1,7 @@
 -- SQL refuses no statement that makes a table which the first version lacks, and the statement makes it in a transaction.
-use Rattle.moo_tables.{proofs.Words.{◌≡◌, inl, inr, ◌∙◌, ◌<◌, ◌≤◌, ◌+◌, ℕ, List, [], length, codes, Bool, true, false, true≢false, Option, Some, None, Ok, Err, IsTrue, refl, sym, ap, subst, arith, AllByRecursion, Error, Text, Schema, Table, CreateTable, Does, Has, all_has, lacks_sequence, table_defined_by, State, HasCleanDisk, HasTables, StopsChange, RanStatement, mode_of, create_text, first_schema, slot2_schema, petition_schema, second_schema, slot2_table, petition_table, petition_head_table, Database, value_cmp, IsMaking, create_slot2_is, create_petition_is, create_petition_head_is, halted, Ran, stops_unrefused}, proofs.CreateLemmas.{runs_making}}
+use Rattle.moo_tables.{proofs.Words.{created, next_tree, ◌≡◌, inl, inr, ◌∙◌, ◌<◌, ◌≤◌, ◌+◌, ℕ, List, [], length, codes, Bool, true, false, true≢false, Option, Some, None, Ok, Err, IsTrue, refl, sym, ap, subst, arith, AllByRecursion, Error, Text, Schema, Table, CreateTable, Does, Has, all_has, lacks_sequence, table_defined_by, State, HasCleanDisk, HasTables, StopsChange, RanStatement, mode_of, create_text, first_schema, slot2_schema, petition_schema, second_schema, slot2_table, petition_table, petition_head_table, Database, value_cmp, IsMaking, create_slot2_is, create_petition_is, create_petition_head_is, halted, Ran, stops_unrefused}, proofs.CreateLemmas.{runs_making}}
 use Rattle.std.specs.Str.{IsUtf8}
 use Rattle.std.specs.Prelude.{◌^◌}
-use Rattle.sqlite.specs.Change.{created, next_tree}
 use Rattle.sqlite_catalog.{specs.Calls.{RefusesTable}, specs.Change.{automatics, is_reserved, is_used}, specs.Listing.{is_fit, is_formed}}
 use Rattle.sqlite_catalog.specs.declared.error.Refusal as alter
 use Rattle.sqlite_catalog.specs.declared.error.Refusal.TheVariants as why

@@ -1,10 +1,6 @@
 -- Why a query of our tables stops: SQL refuses none for its text, its types or its sums.
-use Rattle.moo_tables.{proofs.Words.{◌≡◌, ◌∙◌, inl, inr, ℕ, List, [], ◌∷◌, length, true, true≢false, Option, IsSome, refl, sym, ap, subst, Error, State, HasCleanDisk, HasTables, Survives, CommitsShowing, Schema, Term, Database, Select, RefusesQuery, FailsToQuery, FailsToShow, IsNotRun, IsNoStatement, IsSourceOf, IsPlain, command_of, timed, understood, reads_listing, accepts_program, no_fold_overflows, overlay, inner, end, IsOne, plain_query, in_order}, proofs.SelectLemmas.{IsSelect}, specs.ReadCause.{StopsQuery, FailsToList}}
-use Rattle.sqlite.specs.Effect.{RefusesToRead}
-use Rattle.sqlite.specs.declared.error.Error.TheVariants.{SqliteFailure}
+use Rattle.moo_tables.{proofs.Words.{RefusesToRead, SqliteFailure, OutOfMemory, Key, ◌≡◌, ◌∙◌, inl, inr, ℕ, List, [], ◌∷◌, length, true, true≢false, Option, IsSome, refl, sym, ap, subst, Error, State, HasCleanDisk, HasTables, Survives, CommitsShowing, Schema, Term, Database, Select, RefusesQuery, FailsToQuery, FailsToShow, IsNotRun, IsNoStatement, IsSourceOf, IsPlain, command_of, timed, understood, reads_listing, accepts_program, no_fold_overflows, overlay, inner, end, IsOne, plain_query, in_order}, proofs.SelectLemmas.{IsSelect}, specs.ReadCause.{StopsQuery, FailsToList}}
 use Rattle.sqlite.specs.declared.error.ErrorCode.TheVariants as code
-use Rattle.sqlite_trees.specs.declared.error.StoreError.TheVariants.{OutOfMemory}
-use Rattle.sqlite_value.specs.declared.keys.Key.{Key}
 
 -- a query of one table that SQL accepts is refused for its steps alone
 refused_for_steps : (limit : Option ℕ) (db : Database) (tree : ℕ) (columns : List Term) (order : List (Term × Key)) (e : Error) → accepts_program db.schema [] (plain_query tree [] columns order) [] ≡ true → RefusesQuery limit db (in_order tree columns order) [] e

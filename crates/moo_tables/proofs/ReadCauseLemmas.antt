@@ -1,7 +1,5 @@
 -- Why one of several readings failed, one after another.
-use Rattle.moo_tables.{proofs.Words.{◌≡◌, ◌≤◌, inl, inr, ap, sym, subst, arith, true≢false, ◌∙◌, Result, Ok, Err, IfErr, IsTrue, IsSome, Error, Schema, State, Database, HasCleanDisk, HasCause, Survives, IsUnchanged, HasTables, ReadsTables, store_error}, specs.ReadCause.{StopsQuery}}
-use Rattle.std.specs.Result.{IsErrAnd}
-use Rattle.sqlite.specs.declared.error.Error.TheVariants.{SqliteFailure}
+use Rattle.moo_tables.{proofs.Words.{false, FailsToCommit, StopsChange, fails_so, IsErrAnd, SqliteFailure, ◌≡◌, ◌≤◌, inl, inr, ap, sym, subst, arith, true≢false, ◌∙◌, Result, Ok, Err, IfErr, IsTrue, IsSome, Error, Schema, State, Database, HasCleanDisk, HasCause, Survives, IsUnchanged, HasTables, ReadsTables, store_error}, specs.ReadCause.{StopsQuery}}
 use Rattle.sqlite.specs.declared.error.ErrorCode.TheVariants as code
 use Rattle.sqlite_trees.{specs.declared.error.StoreError.{StoreError}, specs.declared.error.StoreError.TheVariants.{OutOfMemory, Broken, Unstorable}}
 
@@ -28,6 +26,12 @@ stops_after {schema} {old} {mid} new {e} read clean cause = λ late has.
 pub handed_on : {A : Type 0} (P : Error → Type 0) (r : Result A Error) (e : Error) → IsErrAnd r (λ x. x ≡ e) → P e → IfErr r P
 handed_on P (Ok x) e is it = absurd is
 handed_on P (Err x) e is it = subst P (sym is) it
+
+-- why a commit failed, if the transaction was open
+pub commit_stops : {Q : Error → Type 0} (last end : State) (r : Result (Unit {0}) Error) → IfErr r (FailsToCommit last end) → ((e : Error) → StopsChange last end e → Q e) → ((e : Error) → last.in_transaction ≡ false → Q e) → IfErr r Q
+commit_stops last end (Ok _) err stops ended = tt
+commit_stops last end (Err e) (inl failed) stops ended = stops e (fails_so last end ⊥ e failed)
+commit_stops last end (Err e) (inr late) stops ended = ended e late.1
 
 -- ---- what no cause is
 

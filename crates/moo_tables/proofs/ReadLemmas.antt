@@ -1,8 +1,6 @@
 -- What the queries of the tables answer.
-use Rattle.moo_tables.{proofs.Words.{inl, ArePairs, slot_pairs, verb_pairs, ◌≡◌, ℕ, ℤ, List, [], ◌∷◌, map, drop, option_map, true, false, Result, Ok, Err, OnOk, IsTrue, refl, sym, ap, subst, ◌∙◌, is_eq, ordering_then, IsPermutation, Contains-permutation, IsPermutation-sym, Null, Error, Row, column, value_cmp, col, eval_all, Query, Output, output, output_cmp, overlay, Schema, Table, Database, understood, State, HasCleanDisk, Shown, Survives, CommitsShowing, IsUnchanged, IsPlain, reads_as, never_commits, survives_weaker, survives_then, IsAscending, is_int, then-Equal, output_cmp_total, IsSound, Has, all_from, has_contained, contains_had, ascending-map, ascending_from_map, ascending_weaker, all_map, Version, First, Second, Tables, schema_of, first_schema, second_schema, slot_tree, head_table, object_table, prop_table, slot_table, slot2_table, petition_table, petition_head_table, verb_table, has_pair, cells_at, names, number_places, pair_places, found_in, numbered_in, paired_in, select_text, AreKeyed, Holds, Rests, HasTables, ReadsTables, FailsToRead, ListsNumbers, ListsPairs, IsRowBelow, has_key_pair, has_petitions, petition_rows, if◌then◌else◌, find-map, find_alike, plain_query, in_order, number_order, pair_order, clean_before, chosen, Selects, selects, shows_in_order, shown_rows}, proofs.SelectLemmas.{IsSelect, AsksFor, asks_for, number_columns, pair_columns}, proofs.QueryCauseLemmas.{list_stops}, proofs.ReadCauseLemmas.{stops_after}, proofs.StreamLemmas.{unchanged_then, failed_then}, proofs.SortLemmas.{rises-sort_by}, proofs.ListingLemmas.{lists_numbers, no_ties}, specs.Listing.{HasTable, ListsTable, table_in}, specs.ReadCause.{StopsQuery, HasCauseIfNotShown}, specs.Reading.{OnlyReads, KeepsIfNotShown}, specs.declared.cell_table.CellTable.{CellTable}, specs.declared.cell_table.CellTable.TheVariants.{Head, Object, Prop, Slot, Verb, Petition, PetitionHead}}
-use Rattle.std.specs.Result.{IsErrAnd}
+use Rattle.moo_tables.{proofs.Words.{IsErrAnd, OutOfMemory, inl, ArePairs, slot_pairs, verb_pairs, ◌≡◌, ℕ, ℤ, List, [], ◌∷◌, map, drop, option_map, true, false, Result, Ok, Err, OnOk, IsTrue, refl, sym, ap, subst, ◌∙◌, is_eq, ordering_then, IsPermutation, Contains-permutation, IsPermutation-sym, Null, Error, Row, column, value_cmp, col, eval_all, Query, Output, output, output_cmp, overlay, Schema, Table, Database, understood, State, HasCleanDisk, Shown, Survives, CommitsShowing, IsUnchanged, IsPlain, reads_as, never_commits, survives_weaker, survives_then, IsAscending, is_int, then-Equal, output_cmp_total, IsSound, Has, all_from, has_contained, contains_had, ascending-map, ascending_from_map, ascending_weaker, all_map, Version, First, Second, Tables, schema_of, first_schema, second_schema, slot_tree, head_table, object_table, prop_table, slot_table, slot2_table, petition_table, petition_head_table, verb_table, has_pair, cells_at, names, number_places, pair_places, found_in, numbered_in, paired_in, select_text, AreKeyed, Holds, Rests, HasTables, ReadsTables, FailsToRead, ListsNumbers, ListsPairs, IsRowBelow, has_key_pair, has_petitions, petition_rows, if◌then◌else◌, find-map, find_alike, plain_query, in_order, number_order, pair_order, clean_before, chosen, Selects, selects, shows_in_order, shown_rows}, proofs.SelectLemmas.{IsSelect, AsksFor, asks_for, number_columns, pair_columns}, proofs.QueryCauseLemmas.{list_stops}, proofs.ReadCauseLemmas.{stops_after}, proofs.StreamLemmas.{unchanged_then, failed_then}, proofs.SortLemmas.{rises-sort_by}, proofs.ListingLemmas.{lists_numbers, no_ties}, specs.Listing.{HasTable, ListsTable, table_in}, specs.ReadCause.{StopsQuery, HasCauseIfNotShown}, specs.Reading.{OnlyReads, KeepsIfNotShown}, specs.declared.cell_table.CellTable.{CellTable}, specs.declared.cell_table.CellTable.TheVariants.{Head, Object, Prop, Slot, Verb, Petition, PetitionHead}}
 use Rattle.sqlite.specs.State.{store_error}
-use Rattle.sqlite_trees.specs.declared.error.StoreError.TheVariants.{OutOfMemory}
 use Rattle.std.{proofs.Common.{Ordering, Less, Equal}, specs.Cmp.{on_total}}
 use Rattle.sqlite_keyed.{specs.Lists.{sort_by}, proofs.SortLemmas.{sorted_is-sort_by, IsPermutation-sort_by, sort_by-map}}
 

@@ -1,6 +1,5 @@
 -- What the texts that read a table mean.
-use Rattle.moo_tables.{proofs.Words.{◌≡◌, ℕ, Bool, List, [], map, length, arith, true, false, refl, accepts_program, Select, Schema, Table, understood, reads_listing, Term, col, IsPlain, command_of, everything, Program, Version, First, Second, first_schema, second_schema, schema_of, number_places, pair_places, head_table, object_table, prop_table, slot_table, slot2_table, verb_table, petition_table, petition_head_table, select_text, names, sym, true≢false, if◌then◌else◌, IsOne, MeansOne, one_is, in_order, number_order, pair_order}, specs.Listing.{table_in, HasTable}, specs.declared.cell_table.CellTable.{CellTable}, specs.declared.cell_table.CellTable.TheVariants.{Head, Object, Prop, Slot, Verb, Petition, PetitionHead}}
-use Rattle.sqlite_value.specs.declared.keys.Key.{Key}
+use Rattle.moo_tables.{proofs.Words.{Key, ◌≡◌, ℕ, Bool, List, [], map, length, arith, true, false, refl, accepts_program, Select, Schema, Table, understood, reads_listing, Term, col, IsPlain, command_of, everything, Program, Version, First, Second, first_schema, second_schema, schema_of, number_places, pair_places, head_table, object_table, prop_table, slot_table, slot2_table, verb_table, petition_table, petition_head_table, select_text, names, sym, true≢false, if◌then◌else◌, IsOne, MeansOne, one_is, in_order, number_order, pair_order}, specs.Listing.{table_in, HasTable}, specs.declared.cell_table.CellTable.{CellTable}, specs.declared.cell_table.CellTable.TheVariants.{Head, Object, Prop, Slot, Verb, Petition, PetitionHead}}
 use Rattle.sqlite_schema.specs.Program.{lets_of}
 
 -- the text is this query of the schema, which SQL accepts, and it reads no list of tables
@@ -55,7 +54,6 @@ asks_for First Slot has = selects first_schema slot_table _ (refl, refl, refl, o
 asks_for Second Slot has = selects second_schema slot2_table _ (refl, refl, refl, omega arith, refl) refl refl
 asks_for First Verb has = selects first_schema verb_table _ (refl, refl, refl, omega arith, refl) refl refl
 asks_for Second Verb has = selects second_schema verb_table _ (refl, refl, refl, omega arith, refl) refl refl
-asks_for First Petition has = absurd (true≢false (sym has))
 asks_for Second Petition has = selects second_schema petition_table _ (refl, refl, refl, omega arith, refl) refl refl
-asks_for First PetitionHead has = absurd (true≢false (sym has))
 asks_for Second PetitionHead has = selects second_schema petition_head_table _ (refl, refl, refl, omega arith, refl) refl refl
+asks_for First which has = absurd (true≢false (sym has))

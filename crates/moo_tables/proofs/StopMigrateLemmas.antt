@@ -1,6 +1,5 @@
 -- Why the migration fails.
-use Rattle.moo_tables.{proofs.Words.{◌≡◌, inl, inr, ◌∙◌, ℕ, ℤ, List, [], ◌∷◌, true, ◌&&◌, not, None, Some, Ok, Err, Result, refl, ap, Error, Row, Trees, col, rowid, with_tree, without_all, plain, agree, differ, clashes, Keeps, Unique, Has, ids_of, all_from, all_has, some_from, some_has, Delete, Does, State, HasCleanDisk, mode_of, Tables, Holds, Sees, StaysInside, Changes, StopsChange, HasCauseIn, RanStatement, GrowsTables, IsEarlier, grown, present_schema, schema_of, slot_table, slot2_table, petition_table, petition_head_table, create_text, empty_slots_text, empty_slots, rowids_where, clean_before, only_first, stays_then, is_false, AreApart, IsAllowed, halted, each, concluded, clear_none, delete_stops, schema_seen, sound_seen, left_of, Ran, at_schema, stops, stops_since, err_again}, proofs.ReadCauseLemmas.{handed_on}, proofs.MakingLemmas.{made_at, making_stops, slot2_making, petition_making, petition_head_making}, specs.Migrated.{HasCauseOfMigrating}}
-use Rattle.std.specs.Result.{IsErrAnd}
+use Rattle.moo_tables.{proofs.Words.{IsErrAnd, ◌≡◌, inl, inr, ◌∙◌, ℕ, ℤ, List, [], ◌∷◌, true, ◌&&◌, not, None, Some, Ok, Err, Result, refl, ap, Error, Row, Trees, col, rowid, with_tree, without_all, plain, agree, differ, clashes, Keeps, Unique, Has, ids_of, all_from, all_has, some_from, some_has, Delete, Does, State, HasCleanDisk, mode_of, Tables, Holds, Sees, StaysInside, Changes, StopsChange, HasCauseIn, RanStatement, GrowsTables, IsEarlier, grown, present_schema, schema_of, slot_table, slot2_table, petition_table, petition_head_table, create_text, empty_slots_text, empty_slots, rowids_where, clean_before, only_first, stays_then, is_false, AreApart, IsAllowed, halted, each, concluded, clear_none, delete_stops, schema_seen, sound_seen, left_of, Ran, at_schema, stops, stops_since, err_again}, proofs.ReadCauseLemmas.{handed_on}, proofs.MakingLemmas.{made_at, making_stops, slot2_making, petition_making, petition_head_making}, specs.Migrated.{HasCauseOfMigrating}}
 
 -- ---- the table `slot` is emptied
 

@@ -1,8 +1,6 @@
 -- A query that is read row by row.
-use Rattle.moo_tables.{proofs.Words.{◌≡◌, ◌⊎◌, ◌≤◌, refl, false, ℕ, List, [], ◌∷◌, ◌++◌, None, Some, Result, Ok, Err, OnErr, inl, inr, sym, subst, ◌∙◌, arith, Row, Schema, timed, understood, reads_listing, IsSourceOf, Held, state, Database, Error, State, HasCleanDisk, Shown, ShowsRows, Survives, CommitsShowing, IsUnchanged, IsRolledBack, FailsToQuery, FailsToShow, IsNotRun, IsNoStatement, IsPlain, begun_plain, survives_then, HasTables}, proofs.ReadCauseLemmas.{cause_from}}
+use Rattle.moo_tables.{proofs.Words.{RefusesToRead, Ghosts, ◌≡◌, ◌⊎◌, ◌≤◌, refl, false, ℕ, List, [], ◌∷◌, ◌++◌, None, Some, Result, Ok, Err, OnErr, inl, inr, sym, subst, ◌∙◌, arith, Row, Schema, timed, understood, reads_listing, IsSourceOf, Held, state, Database, Error, State, HasCleanDisk, Shown, ShowsRows, Survives, CommitsShowing, IsUnchanged, IsRolledBack, FailsToQuery, FailsToShow, IsNotRun, IsNoStatement, IsPlain, begun_plain, survives_then, HasTables}, proofs.ReadCauseLemmas.{cause_from}}
 use Rattle.sqlite.specs.Given.{HasGiven, HasBegun, Advances, FailsToAdvance, IsRefused}
-use Rattle.sqlite.specs.Effect.{RefusesToRead}
-use Rattle.sqlite_trees.specs.declared.store.Store.{Ghosts}
 
 pub unchanged_then : (a b c : State) → IsUnchanged a b → IsUnchanged b c → IsUnchanged a c
 unchanged_then a b c p q = (

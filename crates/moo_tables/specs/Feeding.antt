@@ -1,6 +1,5 @@
 -- Rows that are handed on while they are read, so that no list of a whole table is held.
-use Rattle.std.specs.Prelude.{◌≡◌, List, ◌++◌}
-use Rattle.sqlite.specs.Order.{Row}
+use Rattle.moo_tables.specs.Words.{◌≡◌, List, ◌++◌, Row}
 
 -- from the first state of a taker to the last some rows were taken, and this is true of them
 abbrev pub AreTaken : {T : Type 0} → (T → List Row → T → Type 0) → T → T → (List Row → Type 0) → Type 0

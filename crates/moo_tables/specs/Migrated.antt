@@ -1,21 +1,9 @@
 -- What becomes of the tables of an earlier version.
-use Rattle.std.specs.Prelude.{◌≡◌, IsTrue, ℕ, pos, List, [], ◌∷◌, Option, Some, None, Result, IfErr}
-use Rattle.std.specs.List.{AllByRecursion}
-use Rattle.sqlite.specs.Schema.{Schema}
-use Rattle.sqlite.specs.Tree.{Trees}
+use Rattle.moo_tables.specs.Words.{◌≡◌, IsTrue, ℕ, pos, List, [], ◌∷◌, Option, Some, None, Result, IfErr, AllByRecursion, Schema, Trees}
+use Rattle.moo_tables.specs.Words.{State, HasCleanDisk, Error, ObjNo, Head, PropId, SlotCells, StopsChange, present, IsEarlier, Tables}
+use Rattle.moo_tables.specs.Words.{Holds, KeepsUnread, numbered_with, slot_tree, Sees, head_cells, petition_head_cells, slots_with}
 use Rattle.sqlite.specs.Effect.{Database, IsDatabase}
-use Rattle.sqlite.specs.State.{State, HasCleanDisk}
-use Rattle.sqlite.specs.declared.error.Error.{Error}
-use Rattle.moo_value.specs.declared.value.ObjNo.{ObjNo}
-use Rattle.moo_rows.specs.declared.row.Head.{Head}
-use Rattle.moo_rows.specs.declared.row.PropId.{PropId}
-use Rattle.moo_tables_rows.specs.declared.slot.SlotCells.{SlotCells}
 use Rattle.moo_tables_rows.specs.declared.version.Version.TheVariants.{First}
-use Rattle.moo_tables_rows.specs.Cause.{StopsChange}
-use Rattle.moo_tables_rows.specs.Version.{present, IsEarlier}
-use Rattle.moo_tables_rows.specs.Tables.{Tables, Holds, KeepsUnread, numbered_with, slot_tree}
-use Rattle.moo_tables_rows.specs.Inside.{Sees}
-use Rattle.moo_tables_rows.specs.Cells.{head_cells, petition_head_cells, slots_with}
 
 -- On the way to the present version: the tables of the base have the rows that they had, and these trees have been made since, empty.
 pub record IsGrown (base : Database) (schema : Schema) (made : List ℕ) (db : Database) : Type 0 where

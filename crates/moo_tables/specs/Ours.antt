@@ -1,6 +1,5 @@
 -- Which tables are ours.
-use Rattle.std.specs.Prelude.{◌≡◌, ℕ, false, if◌then◌else◌, map, List, [], ◌∷◌, Some, None}
-use Rattle.sqlite.specs.Table.{Table}
+use Rattle.moo_tables.specs.Words.{◌≡◌, ℕ, false, if◌then◌else◌, map, List, [], ◌∷◌, Some, None, Table}
 use Rattle.sqlite_value.specs.Keys.{plain}
 use Rattle.moo_tables_rows.specs.declared.our_table.OurTable.{OurTable}
 use Rattle.moo_tables_rows.specs.Columns.{numbered, paired, required}

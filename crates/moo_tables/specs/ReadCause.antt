@@ -1,15 +1,9 @@
 -- Why our tables can't be read.
-use Rattle.std.specs.Prelude.{◌≡◌, ◌⊎◌, ℕ, List, [], Result, IfErr}
-use Rattle.sqlite.specs.Given.{IsPlain}
-use Rattle.sqlite.specs.Listing.{understood}
-use Rattle.sqlite.specs.Schema.{Schema}
-use Rattle.sqlite.specs.State.{State, HasCleanDisk, HasCause, FailsToQuery, store_error}
-use Rattle.sqlite.specs.declared.error.Error.{Error}
+use Rattle.moo_tables.specs.Words.{◌≡◌, ◌⊎◌, ℕ, List, [], Result, IfErr, IsPlain, understood, Schema, State, HasCleanDisk, HasCause}
+use Rattle.moo_tables.specs.Words.{FailsToQuery, store_error, Error, IsCutShort, HasTables}
 use Rattle.sqlite.specs.declared.error.Error.TheVariants.{SqliteFailure}
 use Rattle.sqlite.specs.declared.error.ErrorCode.TheVariants as code
 use Rattle.sqlite_trees.specs.declared.error.StoreError.{StoreError}
-use Rattle.moo_tables_rows.specs.Cause.{IsCutShort}
-use Rattle.moo_tables_rows.specs.Inside.{HasTables}
 
 -- The store failed: memory ran out, the disk failed or refused, or the connection was shut. No row is too big to be read.
 abbrev pub FailsByStore : State → State → Error → Type 0

@@ -1,12 +1,6 @@
 -- What a query of the tables answers, and what is so of the tables that it was asked of.
-use Rattle.std.specs.Prelude.{◌≡◌, ◌⊎◌, false, ℕ, List, Result, IfOk, OnOk, OnErr}
-use Rattle.sqlite.specs.Given.{IsPlain}
-use Rattle.sqlite.specs.Listing.{understood}
-use Rattle.sqlite.specs.State.{State, HasCleanDisk, IsUnchanged, IsRolledBack}
-use Rattle.sqlite.specs.declared.error.Error.{Error}
-use Rattle.moo_tables_rows.specs.declared.version.Version.{Version}
-use Rattle.moo_tables_rows.specs.Inside.{Rests, ReadsTables, FailsToRead}
-use Rattle.moo_tables_rows.specs.Tables.{Tables, schema_of}
+use Rattle.moo_tables.specs.Words.{◌≡◌, ◌⊎◌, false, ℕ, List, Result, IfOk, OnOk, OnErr, IsPlain, understood, State, HasCleanDisk}
+use Rattle.moo_tables.specs.Words.{IsUnchanged, IsRolledBack, Error, Version, Rests, ReadsTables, FailsToRead, Tables, schema_of}
 use Rattle.moo_tables.specs.ReadCause.{HasCauseOfReading}
 
 -- a query that fails changed nothing, or the transaction was rolled back

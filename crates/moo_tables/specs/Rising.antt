@@ -1,11 +1,7 @@
 -- Rows whose keys rise, told row by row.
-use Rattle.std.specs.Prelude.{◌&&◌, ℤ, Bool, true, Option, Some, None}
-use Rattle.std.specs.Ordering.{is_lt, ordering_then}
+use Rattle.moo_tables.specs.Words.{◌&&◌, ℤ, Bool, true, Option, Some, None, is_lt, ordering_then, Int, Row, column, value_cmp, is_int}
 use Rattle.std.specs.declared.cmp.Ordering.{Ordering}
 use Rattle.sqlite.specs.declared.types.Value.{Value}
-use Rattle.sqlite.specs.declared.types.Value.TheVariants.{Int}
-use Rattle.sqlite.specs.Order.{Row, column, value_cmp}
-use Rattle.sqlite_trees.specs.View.{is_int}
 
 -- a key of two numbers, as the cells of a row have it
 abbrev pub pair_of_ints : ℤ × ℤ → Value × Value

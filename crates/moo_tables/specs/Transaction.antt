@@ -1,19 +1,10 @@
 -- What a whole transaction leaves of a connection, from its state before and after.
-use Rattle.std.specs.Prelude.{◌≡◌, ◌≤◌, false, IsTrue, List, Option, Result, OnOk, OnErr, IfErr}
-use Rattle.sqlite.specs.State.{State, HasCleanDisk, Survives}
-use Rattle.sqlite.specs.declared.error.Error.{Error}
-use Rattle.moo_rows.specs.declared.row.Head.{Head}
-use Rattle.moo_rows.specs.declared.row.PropId.{PropId}
-use Rattle.moo_value.specs.declared.value.ObjNo.{ObjNo}
+use Rattle.moo_tables.specs.Words.{◌≡◌, ◌≤◌, false, IsTrue, List, Option, Result, OnOk, OnErr, IfErr, State, HasCleanDisk, Survives, Error}
+use Rattle.moo_tables.specs.Words.{Head, PropId, ObjNo, SlotCells, Version, StopsChange, tables_with, KeepsOthers, Tables, schema_of}
+use Rattle.moo_tables.specs.Words.{IsEarlier}
 use Rattle.moo_tables_rows.specs.declared.cells.CellChanges.{CellChanges}
-use Rattle.moo_tables_rows.specs.declared.slot.SlotCells.{SlotCells}
-use Rattle.moo_tables_rows.specs.declared.version.Version.{Version}
-use Rattle.moo_tables_rows.specs.Cause.{StopsChange}
-use Rattle.moo_tables_rows.specs.Cells.{tables_with, KeepsOthers}
 use Rattle.moo_tables_rows.specs.Inside.{KeepsUnread, Rests, RestsAt, HasTables, Leaves, HasNoTables, IsCurrent, no_tables}
 use Rattle.moo_tables.specs.Migrated.{HasNoSlot, migrated}
-use Rattle.moo_tables_rows.specs.Tables.{Tables, schema_of}
-use Rattle.moo_tables_rows.specs.Version.{IsEarlier}
 
 -- These changes were committed to the tables of the present version, or none was. The tables that only earlier versions read are left as
 -- they were, and so is a row that no change names. SQL refuses no statement for its text or its values: what stops a commit is the store,

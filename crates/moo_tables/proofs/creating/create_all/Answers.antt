@@ -1,6 +1,5 @@
-use Rattle.moo_tables.{proofs.Words.{rules, ◌≡◌, ◌≤◌, ◌∙◌, inl, inr, refl, sym, subst, true, StopsChange, fails_so, stops_since, stops_to, Result, Ok, Err, Error, OnOk, OnErr, IfErr, IsTrue, false, state, State, HasCleanDisk, KeepsCommit, survives_then, Rests, Sees, HasNoSlot, HasNoTables, no_tables, Tables, tables_with, RestsAt, no_ok, stays_begun, on_ok, clean_before, commits, leaves, restores, restored, CellChanges}, proofs.ReadCauseLemmas.{handed_on}, specs.Transaction.{HasMade, HasNotMade, SurvivesMaking}, proofs.creating.create_all.Given.{Over}}
+use Rattle.moo_tables.{proofs.Words.{true≢false, FailsToCommit, rules, ◌≡◌, ◌≤◌, ◌∙◌, inl, inr, refl, sym, subst, true, StopsChange, fails_so, stops_since, stops_to, Result, Ok, Err, Error, OnOk, OnErr, IfErr, IsTrue, false, state, State, HasCleanDisk, KeepsCommit, survives_then, Rests, Sees, HasNoSlot, HasNoTables, no_tables, Tables, tables_with, RestsAt, no_ok, stays_begun, on_ok, clean_before, commits, leaves, restores, restored, CellChanges}, proofs.ReadCauseLemmas.{commit_stops, handed_on}, specs.Transaction.{HasMade, HasNotMade, SurvivesMaking}, proofs.creating.create_all.Given.{Over}}
 use Rattle.moo_tables.proofs.creating.create_all.Goals as goal
-use Rattle.sqlite.specs.Steps.{FailsToCommit}
 
 -- the connection that is handed back is the one that the transaction had
 
@@ -39,7 +38,7 @@ has_made : (changes : CellChanges) (old end : State) (r : Result (Unit {0}) Erro
 has_made changes old end (Ok _) outside made empty crash = record { outside = outside; made = made; empty = empty; crash = crash }
 has_made changes old end (Err e) outside made empty crash = tt
 
-has_not_made : (changes : CellChanges) (old end : State) (r : Result (Unit {0}) Error) → end.in_transaction ≡ false → (HasCleanDisk end → HasNoTables old.now → IfErr r (StopsChange old end))
+has_not_made : (changes : CellChanges) (old end : State) (r : Result (Unit {0}) Error) → end.in_transaction ≡ false → (HasCleanDisk end → IfErr r (λ error. HasNoTables old.now → StopsChange old end error))
     → (HasCleanDisk end → OnErr r (HasNoTables old.now → IsTrue end.is_open → RestsAt end old.committed)) → Crashes changes old end → IfErr r (λ error. HasNotMade changes error old end)
 has_not_made changes old end (Ok _) outside cause undone crash = tt
 has_not_made changes old end (Err e) outside cause undone crash = record { outside = outside; cause = cause; undone = undone; crash = crash }
@@ -47,12 +46,6 @@ has_not_made changes old end (Err e) outside cause undone crash = record { outsi
 undone : (old last end : State) (r : Result (Unit {0}) Error) → KeepsCommit old last → IfErr r (FailsToCommit last end) → (HasNoTables old.now → IsTrue last.in_transaction) → OnErr r (HasNoTables old.now → IsTrue end.is_open → RestsAt end old.committed)
 undone old last end (Ok _) kept err inside = tt
 undone old last end (Err e) kept err inside = λ none. restored old last end (Err e) kept err (inside none)
-
--- why the commit failed
-stops : (old last end : State) (tables : Tables) (r : Result (Unit {0}) Error) → old.faults ≤ last.faults → last.step_limit ≡ old.step_limit → IfErr r (FailsToCommit last end) → (HasNoTables old.now → Sees last tables) → HasNoTables old.now → IfErr r (StopsChange old end)
-stops old last end tables (Ok _) up steps err seen none = tt
-stops old last end tables (Err e) up steps (inl failed) seen none = stops_since old last end e up steps (seen none).is_open (fails_so last end ⊥ e failed)
-stops old last end tables (Err e) up steps (inr late) seen none = absurd (let both : true ≡ false = sym (seen none).inside ∙ late.1 in cc)
 
 crashes : (g : Over) (c : goal.After-conn-2-1 g) → Crashes c.args.changes.now (old g c) (end g c)
 crashes g c held =
@@ -69,7 +62,9 @@ returns-clause-made g c =
 pub returns-clause-refused : goal.returns-clause-refused
 returns-clause-refused g c =
     let first = stays_begun g.S.Store {h = c.args.conn.now} c.transaction-tx.ensures.begun c.create_and_write.ensures.inside in
-    rw (committed g c) (has_not_made c.args.changes.now (old g c) (end g c) c.commit.result c.commit.ensures.ended (λ clean. stops (old g c) (last g c) (end g c) (tables_with c.args.changes.now no_tables) c.commit.result first.0.counts first.0.limit (c.commit.ensures.err clean) (made g c (early g c clean)))
+    rw (committed g c) (has_not_made c.args.changes.now (old g c) (end g c) c.commit.result c.commit.ensures.ended (λ clean. commit_stops (last g c) (end g c) c.commit.result (c.commit.ensures.err clean)
+    (λ error stop none. stops_since (old g c) (last g c) (end g c) error first.0.counts first.0.limit (made g c (early g c clean) none).is_open stop)
+    (λ error over none. absurd (true≢false (sym (made g c (early g c clean) none).inside ∙ over))))
     (λ clean. undone (old g c) (last g c) (end g c) c.commit.result (first.1 (early g c clean)) (c.commit.ensures.err clean) (λ none. (made g c (early g c clean) none).inside)) (crashes g c))
 
 -- of a transaction that is undone, since a statement failed

@@ -1,6 +1,5 @@
-use Rattle.moo_tables.{proofs.Words.{rules, ◌≡◌, ◌≤◌, ◌∙◌, inl, inr, refl, sym, subst, true, false, IfErr, Result, Ok, Err, Error, StopsChange, state, State, HasCleanDisk, survives_then, migrated, HasNoSlot, Tables, Holds, Rests, Sees, IsEarlier, always, no_ok, stays_begun, on_ok, clean_before, commits, earlier_too, leaves, restores, restored, rest_again, fails_so, err_again, stops_since, stops_to}, proofs.migrating.migrate.Given.{Over}}
+use Rattle.moo_tables.{proofs.Words.{true≢false, FailsToCommit, rules, ◌≡◌, ◌≤◌, ◌∙◌, inl, inr, refl, sym, subst, true, false, IfErr, Result, Ok, Err, Error, StopsChange, state, State, HasCleanDisk, survives_then, migrated, HasNoSlot, Tables, Holds, Rests, Sees, IsEarlier, always, no_ok, stays_begun, on_ok, clean_before, commits, earlier_too, leaves, restores, restored, rest_again, fails_so, err_again, stops_since, stops_to}, proofs.ReadCauseLemmas.{commit_stops}, proofs.migrating.migrate.Given.{Over}}
 use Rattle.moo_tables.proofs.migrating.migrate.Goals as goal
-use Rattle.sqlite.specs.Steps.{FailsToCommit}
 
 -- the connection that is handed back is the one that the transaction had
 
@@ -27,14 +26,6 @@ early g c clean = clean_before (last g c) (end g c) _ c.commit.ensures.survives 
 wrote : (g : Over) (c : goal.After-conn-2-1 g) → HasCleanDisk (last g c) → (tables : Tables) → Holds (old g c).now tables → IsEarlier tables.version → Sees (last g c) (migrated c.args.head.now c.args.slots.now tables) × HasNoSlot (last g c).now.trees
 wrote g c clean tables was earlier = c.in_ok-write_migrated.ensures.migrated clean tables (rw c.transaction-tx.ensures.begun was) earlier
 
--- why the commit failed
-
-stops : (old last end : State) (next : Tables → Tables) (r : Result (Unit {0}) Error) → old.faults ≤ last.faults → last.step_limit ≡ old.step_limit → IfErr r (FailsToCommit last end) → ((tables : Tables) → Rests old tables → IsEarlier tables.version → Sees last (next tables))
-    → IfErr r (λ error. (tables : Tables) → Rests old tables → IsEarlier tables.version → StopsChange old end error)
-stops old last end next (Ok _) up steps err seen = tt
-stops old last end next (Err e) up steps (inl failed) seen = λ tables was earlier. stops_since old last end e up steps (seen tables was earlier).is_open (fails_so last end ⊥ e failed)
-stops old last end next (Err e) up steps (inr late) seen = λ tables was earlier. absurd (let both : true ≡ false = sym (seen tables was earlier).inside ∙ late.1 in cc)
-
 pub returns-clause-migrates : goal.returns-clause-migrates
 returns-clause-migrates g c =
     let r = c.commit.result in
@@ -45,7 +36,9 @@ returns-clause-migrates g c =
       emptied = λ clean. on_ok r (c.commit.ensures.ok clean) (λ ok tables was earlier. subst (λ db. HasNoSlot db.trees) (sym ok.1.now_is) (wrote g c (early g c clean) tables was.holds earlier).1);
       restored = back;
       undone = λ clean. rest_again (old g c) (end g c) r (back clean);
-      cause = λ clean. stops (old g c) (last g c) (end g c) after r first.0.counts first.0.limit (c.commit.ensures.err clean) (λ tables was earlier. (wrote g c (early g c clean) tables was.holds earlier).0);
+      cause = λ clean. commit_stops (last g c) (end g c) r (c.commit.ensures.err clean)
+          (λ error stop tables was earlier. stops_since (old g c) (last g c) (end g c) error first.0.counts first.0.limit (wrote g c (early g c clean) tables was.holds earlier).0.is_open stop)
+          (λ error over tables was earlier. absurd (true≢false (sym (wrote g c (early g c clean) tables was.holds earlier).0.inside ∙ over)));
       crash = λ version earlier known.
           let seen = λ (clean : HasCleanDisk (last g c)) (tables : Tables) (was : Rests (old g c) tables). (wrote g c clean tables was.holds (earlier_too version tables.version (sym (known (clean_before (old g c) (last g c) _ first.0 clean)) ∙ was.holds.schema) earlier)).0 in
           survives_then (old g c) (last g c) (end g c) _ _ _ (λ _ db none. absurd none) (λ clean db is tables was. leaves (last g c) (after tables) db (seen (early g c clean) tables was) is) first.0 c.commit.ensures.survives;
