@@ -1,6 +1,5 @@
 -- A column that is never empty has a value of its kind in each row that the rules of types let be.
-use Rattle.moo_tables_rows.proofs.Words.{arith, ◌≡◌, ◌+◌, ◌++◌, ℕ, suc, List, [], ◌∷◌, drop, length, Option, true, false, true≢false, and_parts, Row, column, is_of, are_typed, are_present, Column, required}
-use Rattle.sqlite_sql.specs.Ops.{is_null}
+use Rattle.moo_tables_rows.proofs.Words.{is_null, arith, ◌≡◌, ◌+◌, ◌++◌, ℕ, suc, List, [], ◌∷◌, drop, length, Option, true, false, true≢false, and_parts, Row, column, is_of, are_typed, are_present, Column, required}
 use Rattle.sqlite_schema.{specs.Names.{is_key}, specs.declared.schema.Kind.{Kind}}
 
 module _ (key : Option ℕ) where

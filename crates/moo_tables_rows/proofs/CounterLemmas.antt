@@ -1,5 +1,5 @@
 -- What the statement on petition_head does.
-use Rattle.moo_tables_rows.{proofs.Words.{take, Some, ◌≡◌, ℕ, ℤ, pos, [], ◌∷◌, ◌++◌, codes, Option, Bool, true, false, ◌&&◌, Result, OnOk, IsTrue, refl, ap, ◌∙◌, list_all, and_parts, Int, Error, Row, column, Trees, rowid, has_rowid, holds, shown, IsSound, has_computed, differ, Datatype, NotNull, Has, all_has, is_int, State, petition_head_cells, with_counter, Tables, present_schema, petition_head_table, cells_at, number_places, numbered_with, put_counter_text, Sees, Changes, RanStatement, HasCauseIn}, proofs.TextLemmas.{put_counter, counter_filter}, proofs.RefusalLemmas.{each}, proofs.StoppedLemmas.{Ran}, proofs.KindLemmas.{stored}, proofs.NumberLemmas.{number_kind}, proofs.WrittenLemmas.{HasRows, IsSeen}, proofs.StopLemmas.{PassesRows}, proofs.RowLemmas.{picks_given}, proofs.FindLemmas.{int_in, not_apart, exactly}, proofs.SeenLemmas.{sound_seen, counter_seen, rows_seen, sees_counter}}
+use Rattle.moo_tables_rows.{proofs.Words.{numbered_in, take, Some, ◌≡◌, ℕ, ℤ, pos, [], ◌∷◌, ◌++◌, codes, Option, Bool, true, false, ◌&&◌, Result, OnOk, IsTrue, refl, ap, ◌∙◌, list_all, and_parts, Int, Error, Row, column, Trees, rowid, has_rowid, holds, shown, IsSound, has_computed, differ, Datatype, NotNull, Has, all_has, is_int, State, petition_head_cells, with_counter, Tables, present_schema, petition_head_table, cells_at, number_places, numbered_with, put_counter_text, Sees, Changes, RanStatement, HasCauseIn}, proofs.TextLemmas.{put_counter, counter_filter}, proofs.RefusalLemmas.{each}, proofs.StoppedLemmas.{Ran}, proofs.KindLemmas.{stored}, proofs.NumberLemmas.{number_kind}, proofs.WrittenLemmas.{HasRows, IsSeen}, proofs.StopLemmas.{PassesRows}, proofs.RowLemmas.{picks_given}, proofs.FindLemmas.{int_in, not_apart, exactly}, proofs.SeenLemmas.{sees_all, shows_written, kept_unread, kept_head, kept_object, kept_prop, kept_slot, kept_verb, kept_petition, sound_seen, counter_seen, rows_seen}}
 use Rattle.moo_tables_rows.proofs.WrittenLemmas as written
 use Rattle.moo_tables_rows.proofs.StopLemmas as stop
 
@@ -17,7 +17,7 @@ abbrev With : ℤ → Option Row → Tables → Tables
 With key cells tables = record tables { petition_head = numbered_with key cells tables.petition_head }
 
 is_seen : IsSeen number_kind petition_head_table (λ tables. tables.petition_head) With
-is_seen = record { keyed = λ s tables seen. counter_seen seen; told = λ db sound keyed. tt; shows = λ s tables seen. ap (λ (t : Tables). t.petition_head) (rows_seen seen); changes = sees_counter }
+is_seen = record { keyed = λ s tables seen. counter_seen seen; told = λ db sound keyed. tt; shows = λ s tables seen. ap (λ (t : Tables). t.petition_head) (rows_seen seen); changes = λ old new tables key cells rows seen it keyed at_keys. (sees_all it (With key cells tables) seen.current (kept_head it tables seen (λ e. cc)) (kept_object it tables seen (λ e. cc)) (kept_prop it tables seen (λ e. cc)) (kept_slot it tables seen (λ e. cc)) (kept_verb it tables seen (λ e. cc)) (kept_petition it tables seen (λ e. cc)) (shows_written it (numbered_in petition_head_table) (numbered_with key cells) tables.petition_head (ap (λ (t : Tables). t.petition_head) (rows_seen seen)) keyed at_keys), kept_unread it (λ e. cc)) }
 
 passes : PassesRows number_kind petition_head_table.name 10 petition_head_table.columns number_of cells
 passes = record {

@@ -1,6 +1,5 @@
 -- Which row of a table is found, and that its key tells it.
-use Rattle.moo_tables_rows.{proofs.Words.{arith, suc, length, ◌++◌, ◌≡◌, inl, inr, ℕ, ℤ, List, [], ◌∷◌, find, map, drop, codes, option_map, Option, Some, None, Bool, true, false, not, ◌&&◌, cond, IsTrue, refl, sym, ap, ◌∙◌, true≢false, is_eq, is_ne, Ordering, Equal, and_parts, and_from, not-true, Value, Int, Row, column, value_cmp, binary, is_true, rowid, id_in, first_key, plain, is_int, agree, clashes, differ, is_of, are_typed, are_present, has_computed, Datatype, NotNull, Unique, Table, Trees, Column, Binary, Compare, Eq, AllByRecursion, IsSound, Has, all_has, some_from, has_found, Version, First, Second, required, schema_of, slot_tree, slot_table, slot2_table, verb_table, has_pair, AreKeyed}, proofs.KeyLemmas.{ties_itself, is_false, one_row, int_value, ties_one}, proofs.RowLemmas.{equal_number, told}, proofs.CellLemmas.{IsApart, place_behind, cell_in}}
-use Rattle.sqlite_sql.specs.Ops.{is_null}
+use Rattle.moo_tables_rows.{proofs.Words.{is_null, arith, suc, length, ◌++◌, ◌≡◌, inl, inr, ℕ, ℤ, List, [], ◌∷◌, find, map, drop, codes, option_map, Option, Some, None, Bool, true, false, not, ◌&&◌, cond, IsTrue, refl, sym, ap, ◌∙◌, true≢false, is_eq, is_ne, Ordering, Equal, and_parts, and_from, not-true, Value, Int, Row, column, value_cmp, binary, is_true, rowid, id_in, first_key, plain, is_int, agree, clashes, differ, is_of, are_typed, are_present, has_computed, Datatype, NotNull, Unique, Table, Trees, Column, Binary, Compare, Eq, AllByRecursion, IsSound, Has, all_has, some_from, has_found, Version, First, Second, required, schema_of, slot_tree, slot_table, slot2_table, verb_table, has_pair, AreKeyed}, proofs.KeyLemmas.{ties_itself, is_false, one_row, int_value, ties_one}, proofs.RowLemmas.{equal_number, told}, proofs.CellLemmas.{IsApart, place_behind, cell_in}}
 use Rattle.sqlite_schema.specs.declared.schema.Kind.TheVariants as kind
 
 pub find-map : {X Y : Type 0} (p : Y → Bool) (f : X → Y) (xs : List X) → find p (map f xs) ≡ option_map f (find (λ x. p (f x)) xs)

@@ -1,5 +1,5 @@
 -- What the statement on the head does.
-use Rattle.moo_tables_rows.{proofs.Words.{ap, ◌≡◌, ℕ, ℤ, pos, Option, Result, refl, Error, Row, State, present, head_cells, with_head_cells, Tables, head_table, numbered_with, RanStatement, List, WritesRow}, proofs.TextLemmas.{head_writes}, proofs.RefusalLemmas.{each}, proofs.StoppedLemmas.{Ran}, proofs.StopLemmas.{PassesRows}, proofs.NumberLemmas.{number_kind}, proofs.WrittenLemmas.{HasRows, IsSeen}, proofs.SeenLemmas.{rows_seen, sees_head}}
+use Rattle.moo_tables_rows.{proofs.Words.{numbered_in, ap, ◌≡◌, ℕ, ℤ, pos, Option, Result, refl, Error, Row, State, present, head_cells, with_head_cells, Tables, head_table, numbered_with, RanStatement, List, WritesRow}, proofs.TextLemmas.{head_writes}, proofs.RefusalLemmas.{each}, proofs.StoppedLemmas.{Ran}, proofs.StopLemmas.{PassesRows}, proofs.NumberLemmas.{number_kind}, proofs.WrittenLemmas.{HasRows, IsSeen}, proofs.SeenLemmas.{sees_all, shows_written, kept_unread, kept_object, kept_prop, kept_slot, kept_verb, kept_petition, kept_counter, rows_seen}}
 use Rattle.moo_tables_rows.proofs.StopLemmas as stop
 use Rattle.moo_rows.specs.declared.row.Head.{Head}
 
@@ -17,7 +17,7 @@ abbrev With : ℤ → Option Row → Tables → Tables
 With key cells tables = record tables { head = numbered_with key cells tables.head }
 
 is_seen : IsSeen number_kind head_table (λ tables. tables.head) With
-is_seen = record { keyed = λ s tables seen. seen.holds.heads; told = λ db sound keyed. tt; shows = λ s tables seen. ap (λ (t : Tables). t.head) (rows_seen seen); changes = sees_head }
+is_seen = record { keyed = λ s tables seen. seen.holds.heads; told = λ db sound keyed. tt; shows = λ s tables seen. ap (λ (t : Tables). t.head) (rows_seen seen); changes = λ old new tables key cells rows seen it keyed at_keys. (sees_all it (With key cells tables) seen.current (shows_written it (numbered_in head_table) (numbered_with key cells) tables.head (ap (λ (t : Tables). t.head) (rows_seen seen)) keyed at_keys) (kept_object it tables seen (λ e. cc)) (kept_prop it tables seen (λ e. cc)) (kept_slot it tables seen (λ e. cc)) (kept_verb it tables seen (λ e. cc)) (kept_petition it tables seen (λ e. cc)) (kept_counter it tables seen (λ e. cc)), kept_unread it (λ e. cc)) }
 
 passes : PassesRows number_kind head_table.name 0 head_table.columns number_of cells
 passes = record {

@@ -1,6 +1,5 @@
 -- What a plain insertion of one row makes of the rows of its table.
-use Rattle.moo_tables_rows.proofs.Words.{◌≡◌, ℕ, [], ◌∷◌, true, false, refl, sym, ap, subst, ◌∙◌, and_parts, not-true, Row, Schema, Table, Trees, put_row, edit_of, with_rowid, cast_row, Applies, Chosen, Enforced, is_taken, are_fresh, Has}
-use Rattle.sqlite_rules.proofs.TableLemmas.{put_all_keeps, has_put}
+use Rattle.moo_tables_rows.proofs.Words.{put_all_keeps, has_put, ◌≡◌, ℕ, [], ◌∷◌, true, false, refl, sym, ap, subst, ◌∙◌, and_parts, not-true, Row, Schema, Table, Trees, put_row, edit_of, with_rowid, cast_row, Applies, Chosen, Enforced, is_taken, are_fresh, Has}
 
 -- the row is put among the others, whose numbers it has none of
 pub record IsPut (tree : ℕ) (row : Row) (db next : Trees) : Type 0 where

@@ -1,6 +1,5 @@
 -- Calls of one transaction, one after another.
-use Rattle.moo_tables_rows.{proofs.Words.{◌≡◌, true, false, inl, inr, IsTrue, IfErr, OnErr, OnOk, Result, Ok, Err, Error, refl, sym, ap, subst, ◌∙◌, arith, Trees, State, HasCleanDisk, Shows, KeepsCommit, IsRolledBack, Survives, Database, Held, state, survives_then, Version, Tables, schema_of, IsCurrent, Holds, Sees, Rests, Leaves, StaysInside, Changes, First, IsEarlier}, specs.Inside.{RestsAt}}
-use Rattle.std.specs.Result.{IsErrAnd}
+use Rattle.moo_tables_rows.{proofs.Words.{IsErrAnd, ◌≡◌, true, false, inl, inr, IsTrue, IfErr, OnErr, OnOk, Result, Ok, Err, Error, refl, sym, ap, subst, ◌∙◌, arith, Trees, State, HasCleanDisk, Shows, KeepsCommit, IsRolledBack, Survives, Database, Held, state, survives_then, Version, Tables, schema_of, IsCurrent, Holds, Sees, Rests, Leaves, StaysInside, Changes, First, IsEarlier}, specs.Inside.{RestsAt}}
 use Rattle.sqlite.{specs.Steps.{FailsToCommit}, specs.Store.{Ghosts}}
 
 pub on_ok : {A E P Q : Type 0} (r : Result A E) → OnOk r P → (P → Q) → OnOk r Q

@@ -1,5 +1,12 @@
 -- What an update does that leaves one cell of a row as it is, whichever kind of key its table has.
-use Rattle.moo_tables_rows.{proofs.Words.{length, ◌-◌, ◌≡◌, ◌+◌, ◌++◌, ℕ, ℤ, List, [], ◌∷◌, map, drop, option_map, slice_get, Option, Some, true, ◌⊎◌, inl, inr, Result, Ok, Err, OnOk, IfOk, IsTrue, sym, ap, subst, ◌∙◌, arith, list_all, IsPermutation, Value, Null, Int, Text, Error, Row, column, holds, eval_all, cast_all, cast_row, Table, Trees, rowid, put_row, overlay, understood, State, Executes, statement_of, runs_as, Has, Column, Tables, present_schema, cells_at, keep_text, Sees, Changes, RanStatement, KeepsUnread, WritesOver}, proofs.TextLemmas.{KeepsByKey, keep_terms, writes_where}, proofs.CastLemmas.{fit, kept_all}, proofs.StepLemmas.{cast_int, updates}, proofs.OverLemmas.{free_beside}, proofs.UpdateLemmas.{over_or_left}, proofs.QueryLemmas.{chosen, shows_all}, proofs.KeyLemmas.{find_none}, proofs.RowLemmas.{moo_quiet, rest}, proofs.SeenLemmas.{schema_seen, SetsTree, sees_still}, proofs.TypedLemmas.{HasText}, proofs.KindLemmas.{Kind, table, behind, stored, written_as}, proofs.WrittenLemmas.{IsSeen, told_now, stands, same, found}}
+use Rattle.moo_tables_rows.{proofs.Words.{take, bound_value, length, ◌-◌, ◌≡◌, ◌+◌, ◌++◌, ℕ, ℤ, List, [], ◌∷◌, map, drop, option_map, slice_get, Option, Some, true, ◌⊎◌, inl, inr, Result, Ok, Err, OnOk, IfOk, IsTrue, sym, ap, subst, ◌∙◌, arith, list_all, IsPermutation, Value, Null, Int, Text, Error, Row, column, holds, eval_all, cast_all, cast_row, Table, Trees, rowid, put_row, overlay, understood, State, Executes, statement_of, runs_as, Has, Column, Tables, present_schema, cells_at, keep_text, Sees, Changes, RanStatement, KeepsUnread, WritesOver}, proofs.TextLemmas.{KeepsByKey, keep_terms, writes_where}, proofs.CastLemmas.{fit, kept_all}, proofs.StepLemmas.{cast_int, updates}, proofs.OverLemmas.{free_beside}, proofs.UpdateLemmas.{over_or_left}, proofs.QueryLemmas.{chosen, shows_all}, proofs.KeyLemmas.{find_none}, proofs.RowLemmas.{moo_quiet, rest}, proofs.SeenLemmas.{schema_seen, SetsTree, sees_still}, proofs.TypedLemmas.{HasText}, proofs.KindLemmas.{Kind, table, behind, stored, written_as}, proofs.WrittenLemmas.{IsSeen, told_now, stands, same, found}}
+use Rattle.std.proofs.lemmas.List.{take-map}
+use Rattle.sqlite.specs.Values.{bound}
+use Rattle.sqlite_value.{specs.Value.{owned}, specs.declared.value.ValueRef.{ValueRef}}
+
+-- the first of the values that are bound
+pub bound_front : {row : Row} (n : ℕ) (values : List ValueRef) → bound values ≡ row → bound (take n values) ≡ take n row
+bound_front n values is = sym (take-map (λ v. bound_value (owned v)) n values) ∙ ap (take n) is
 
 -- The values of the statement, and the row that it makes, with its cell at the place. Each of these facts is computed, whatever the columns are.
 pub record KeepsRows {K C : Type 0} (k : Kind) (t : Table) (place : ℕ) (key_of : K → k.Key) (values : K → C → Row) (row : K → C → Value → Row) : Type 0 where

@@ -1,6 +1,5 @@
 -- What a kind of key gives: how a row is found by its key, and how the key lies in a row and in the values of a statement.
-use Rattle.moo_tables_rows.{proofs.Words.{◌≡◌, ℕ, ℤ, List, [], ◌∷◌, ◌++◌, filter, drop, length, Option, Bool, true, false, ◌||◌, not, sym, ap, ◌∙◌, list_all, Equal, Value, Int, Row, value_cmp, holds, agree, plain, cast, with_rowid, next_rowid, Chosen, rowid, put_row, without_all, Has, Table, Column, Order, table_of, AreKeyed}, proofs.TextLemmas.{KeyTerms}}
-use Rattle.sqlite.specs.Kind.TheVariants.{Integer}
+use Rattle.moo_tables_rows.{proofs.Words.{Integer, ◌≡◌, ℕ, ℤ, List, [], ◌∷◌, ◌++◌, filter, drop, length, Option, Bool, true, false, ◌||◌, not, sym, ap, ◌∙◌, list_all, Equal, Value, Int, Row, value_cmp, holds, agree, plain, cast, with_rowid, next_rowid, Chosen, rowid, put_row, without_all, Has, Table, Column, Order, table_of, AreKeyed}, proofs.TextLemmas.{KeyTerms}}
 
 pub record Kind : Type 1 where
   pub Key : Type 0

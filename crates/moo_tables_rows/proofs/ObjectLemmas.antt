@@ -1,5 +1,5 @@
 -- What the statements on objects do.
-use Rattle.moo_tables_rows.{proofs.Words.{remove_text, keep_text, ℕ, ℤ, List, [], ◌∷◌, Option, Some, None, Result, OnOk, Vec, ◌≡◌, refl, sym, ap, subst, Global, Value, Null, Int, Text, Error, Row, State, ObjNo, cells_over, all_but, object_row, with_object_cells, Tables, object_table, numbered_with, numbered_over, Changes, RanStatement, HasCauseIn, WritesRow}, specs.declared.object.ObjectCells.{ObjectCells}, proofs.TextLemmas.{object_writes, object_keeps}, proofs.StoppedLemmas.{Ran}, proofs.StopLemmas.{PassesRows}, proofs.RefusalLemmas.{each}, proofs.NumberLemmas.{number_kind}, proofs.WrittenLemmas.{HasRows, IsSeen}, proofs.KeepLemmas.{KeepsRows}, proofs.TypedLemmas.{object_texts}, proofs.SeenLemmas.{rows_seen, sees_object}}
+use Rattle.moo_tables_rows.{proofs.Words.{numbered_in, remove_text, keep_text, ℕ, ℤ, List, [], ◌∷◌, Option, Some, None, Result, OnOk, Vec, ◌≡◌, refl, sym, ap, subst, Global, Value, Null, Int, Text, Error, Row, State, ObjNo, cells_over, all_but, object_row, with_object_cells, Tables, object_table, numbered_with, numbered_over, Changes, RanStatement, HasCauseIn, WritesRow}, specs.declared.object.ObjectCells.{ObjectCells}, proofs.TextLemmas.{object_writes, object_keeps}, proofs.StoppedLemmas.{Ran}, proofs.StopLemmas.{PassesRows}, proofs.RefusalLemmas.{each}, proofs.NumberLemmas.{number_kind}, proofs.WrittenLemmas.{HasRows, IsSeen}, proofs.KeepLemmas.{KeepsRows}, proofs.TypedLemmas.{object_texts}, proofs.SeenLemmas.{sees_all, shows_written, kept_unread, kept_head, kept_prop, kept_slot, kept_verb, kept_petition, kept_counter, rows_seen}}
 use Rattle.moo_tables_rows.proofs.StopLemmas as stop
 
 abbrev number_of : ObjNo → ℤ
@@ -33,7 +33,7 @@ abbrev Over : ObjNo → ObjectCells → Option (Vec ℕ Global) → Tables → T
 Over n row text tables = record tables { object = numbered_over (number_of n) (cells_over (over n row) 11 text) tables.object }
 
 is_seen : IsSeen number_kind object_table (λ tables. tables.object) With
-is_seen = record { keyed = λ s tables seen. seen.holds.objects; told = λ db sound keyed. tt; shows = λ s tables seen. ap (λ (t : Tables). t.object) (rows_seen seen); changes = sees_object }
+is_seen = record { keyed = λ s tables seen. seen.holds.objects; told = λ db sound keyed. tt; shows = λ s tables seen. ap (λ (t : Tables). t.object) (rows_seen seen); changes = λ old new tables key cells rows seen it keyed at_keys. (sees_all it (With key cells tables) seen.current (kept_head it tables seen (λ e. cc)) (shows_written it (numbered_in object_table) (numbered_with key cells) tables.object (ap (λ (t : Tables). t.object) (rows_seen seen)) keyed at_keys) (kept_prop it tables seen (λ e. cc)) (kept_slot it tables seen (λ e. cc)) (kept_verb it tables seen (λ e. cc)) (kept_petition it tables seen (λ e. cc)) (kept_counter it tables seen (λ e. cc)), kept_unread it (λ e. cc)) }
 
 passes : PassesRows number_kind object_table.name 1 object_table.columns number_of whole
 passes = record {

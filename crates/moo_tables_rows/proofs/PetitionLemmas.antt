@@ -1,7 +1,6 @@
 -- What the statements on petitions do.
-use Rattle.moo_tables_rows.{proofs.Words.{remove_text, keep_text, ℕ, ℤ, pos, List, [], ◌∷◌, Option, Some, None, Result, OnOk, Vec, ◌≡◌, refl, sym, ap, subst, Global, Value, Null, Int, Text, Error, Row, State, cells_over, all_but, petition_row, with_petition_cells, Tables, petition_table, numbered_with, numbered_over, Changes, RanStatement, HasCauseIn, WritesRow}, specs.declared.petition.PetitionCells.{PetitionCells}, proofs.TextLemmas.{petition_writes, petition_keeps}, proofs.RefusalLemmas.{each}, proofs.StoppedLemmas.{Ran}, proofs.StopLemmas.{PassesRows}, proofs.NumberLemmas.{number_kind}, proofs.WrittenLemmas.{HasRows, IsSeen}, proofs.KeepLemmas.{KeepsRows}, proofs.TypedLemmas.{petition_texts}, proofs.SeenLemmas.{petitions_seen, rows_seen, sees_petition}}
+use Rattle.moo_tables_rows.{proofs.Words.{numbered_in, PetitionId, remove_text, keep_text, ℕ, ℤ, pos, List, [], ◌∷◌, Option, Some, None, Result, OnOk, Vec, ◌≡◌, refl, sym, ap, subst, Global, Value, Null, Int, Text, Error, Row, State, cells_over, all_but, petition_row, with_petition_cells, Tables, petition_table, numbered_with, numbered_over, Changes, RanStatement, HasCauseIn, WritesRow}, specs.declared.petition.PetitionCells.{PetitionCells}, proofs.TextLemmas.{petition_writes, petition_keeps}, proofs.RefusalLemmas.{each}, proofs.StoppedLemmas.{Ran}, proofs.StopLemmas.{PassesRows}, proofs.NumberLemmas.{number_kind}, proofs.WrittenLemmas.{HasRows, IsSeen}, proofs.KeepLemmas.{KeepsRows}, proofs.TypedLemmas.{petition_texts}, proofs.SeenLemmas.{sees_all, shows_written, kept_unread, kept_head, kept_object, kept_prop, kept_slot, kept_verb, kept_counter, petitions_seen, rows_seen}}
 use Rattle.moo_tables_rows.proofs.StopLemmas as stop
-use Rattle.moo_rows.specs.declared.row.PetitionId.{PetitionId}
 
 abbrev number_of : PetitionId → ℤ
 number_of id = pos id.0
@@ -34,7 +33,7 @@ abbrev Over : PetitionId → PetitionCells → Option (Vec ℕ Global) → Table
 Over id row text tables = record tables { petition = numbered_over (number_of id) (cells_over (over id row) 2 text) tables.petition }
 
 is_seen : IsSeen number_kind petition_table (λ tables. tables.petition) With
-is_seen = record { keyed = λ s tables seen. petitions_seen seen; told = λ db sound keyed. tt; shows = λ s tables seen. ap (λ (t : Tables). t.petition) (rows_seen seen); changes = sees_petition }
+is_seen = record { keyed = λ s tables seen. petitions_seen seen; told = λ db sound keyed. tt; shows = λ s tables seen. ap (λ (t : Tables). t.petition) (rows_seen seen); changes = λ old new tables key cells rows seen it keyed at_keys. (sees_all it (With key cells tables) seen.current (kept_head it tables seen (λ e. cc)) (kept_object it tables seen (λ e. cc)) (kept_prop it tables seen (λ e. cc)) (kept_slot it tables seen (λ e. cc)) (kept_verb it tables seen (λ e. cc)) (shows_written it (numbered_in petition_table) (numbered_with key cells) tables.petition (ap (λ (t : Tables). t.petition) (rows_seen seen)) keyed at_keys) (kept_counter it tables seen (λ e. cc)), kept_unread it (λ e. cc)) }
 
 passes : PassesRows number_kind petition_table.name 9 petition_table.columns number_of whole
 passes = record {

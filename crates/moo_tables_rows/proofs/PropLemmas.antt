@@ -1,5 +1,5 @@
 -- What the statements on properties do.
-use Rattle.moo_tables_rows.{proofs.Words.{ap, remove_text, ◌≡◌, ℕ, ℤ, pos, [], ◌∷◌, Option, Some, None, Result, OnOk, refl, Int, Error, Row, State, PropId, with_prop_cells, Tables, prop_table, numbered_with, Changes, RanStatement, HasCauseIn, List, WritesRow}, specs.declared.prop.PropCells.{PropCells}, specs.Prop.{prop_row}, proofs.TextLemmas.{prop_writes}, proofs.RefusalLemmas.{each}, proofs.StoppedLemmas.{Ran}, proofs.StopLemmas.{PassesRows}, proofs.NumberLemmas.{number_kind}, proofs.WrittenLemmas.{HasRows, IsSeen}, proofs.SeenLemmas.{rows_seen, sees_prop}}
+use Rattle.moo_tables_rows.{proofs.Words.{numbered_in, ap, remove_text, ◌≡◌, ℕ, ℤ, pos, [], ◌∷◌, Option, Some, None, Result, OnOk, refl, Int, Error, Row, State, PropId, with_prop_cells, Tables, prop_table, numbered_with, Changes, RanStatement, HasCauseIn, List, WritesRow}, specs.declared.prop.PropCells.{PropCells}, specs.Prop.{prop_row}, proofs.TextLemmas.{prop_writes}, proofs.RefusalLemmas.{each}, proofs.StoppedLemmas.{Ran}, proofs.StopLemmas.{PassesRows}, proofs.NumberLemmas.{number_kind}, proofs.WrittenLemmas.{HasRows, IsSeen}, proofs.SeenLemmas.{sees_all, shows_written, kept_unread, kept_head, kept_object, kept_slot, kept_verb, kept_petition, kept_counter, rows_seen}}
 use Rattle.moo_tables_rows.proofs.StopLemmas as stop
 
 abbrev number_of : PropId → ℤ
@@ -12,7 +12,7 @@ abbrev With : ℤ → Option Row → Tables → Tables
 With key cells tables = record tables { prop = numbered_with key cells tables.prop }
 
 is_seen : IsSeen number_kind prop_table (λ tables. tables.prop) With
-is_seen = record { keyed = λ s tables seen. seen.holds.props; told = λ db sound keyed. tt; shows = λ s tables seen. ap (λ (t : Tables). t.prop) (rows_seen seen); changes = sees_prop }
+is_seen = record { keyed = λ s tables seen. seen.holds.props; told = λ db sound keyed. tt; shows = λ s tables seen. ap (λ (t : Tables). t.prop) (rows_seen seen); changes = λ old new tables key cells rows seen it keyed at_keys. (sees_all it (With key cells tables) seen.current (kept_head it tables seen (λ e. cc)) (kept_object it tables seen (λ e. cc)) (shows_written it (numbered_in prop_table) (numbered_with key cells) tables.prop (ap (λ (t : Tables). t.prop) (rows_seen seen)) keyed at_keys) (kept_slot it tables seen (λ e. cc)) (kept_verb it tables seen (λ e. cc)) (kept_petition it tables seen (λ e. cc)) (kept_counter it tables seen (λ e. cc)), kept_unread it (λ e. cc)) }
 
 passes : PassesRows number_kind prop_table.name 2 prop_table.columns number_of prop_row
 passes = record {

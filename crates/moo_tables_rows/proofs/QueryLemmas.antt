@@ -1,6 +1,5 @@
 -- What a query over one table answers.
-use Rattle.moo_tables_rows.{proofs.Words.{arith, ◌≡◌, if◌then◌else◌, ℕ, List, [], ◌∷◌, map, flat_map, filter, refl, sym, ap, subst, subst₂, ◌∙◌, IsSorted, list_all, IsPermutation, IsPermutation-map, Row, Term, Env, eval_all, holds, Trees, Query, Output, IsAnswer, output_cmp, output, AllByRecursion, Less, output_cmp_total, IsAscending}, proofs.TextLemmas.{plain_query}}
-use Rattle.sqlite_value.specs.declared.keys.Key.{Key}
+use Rattle.moo_tables_rows.{proofs.Words.{Key, arith, ◌≡◌, if◌then◌else◌, ℕ, List, [], ◌∷◌, map, flat_map, filter, refl, sym, ap, subst, subst₂, ◌∙◌, IsSorted, list_all, IsPermutation, IsPermutation-map, Row, Term, Env, eval_all, holds, Trees, Query, Output, IsAnswer, output_cmp, output, AllByRecursion, Less, output_cmp_total, IsAscending}, proofs.TextLemmas.{plain_query}}
 use Rattle.sqlite_keyed.proofs.SortLemmas.{sorted_unique}
 
 -- the rows that the terms hold of

@@ -1,15 +1,10 @@
 -- What one statement makes of the tables, where it changes one row.
-use Rattle.moo_tables_rows.{proofs.Words.{arith, true≢false, ◌≡◌, ℕ, ℤ, List, [], ◌∷◌, filter, map, Some, Bool, true, false, not, Result, refl, sym, ap, subst, ◌∙◌, list_all, is_eq, IsPermutation, Contains-permutation, IsPermutation-sym, not-true, Equal, Value, Int, Error, Row, column, value_cmp, binary, is_true, from_truth, Term, holds, Binary, Compare, Eq, rowid, has_rowid, without_all, next_rowid, State, Has, ids_of, has_filtered, has_kept, has_contained, contains_had, some_from, present_schema, has_pair, AreKeyed, RanStatement}, proofs.TextLemmas.{by_given, by_pair}, proofs.QueryLemmas.{chosen}, proofs.StepLemmas.{SetsOffNothing}, proofs.KeyLemmas.{ties_itself, removed, mapped_has}}
-use Rattle.sqlite_trees.proofs.TreeLemmas.{IsShaped-filter}
+use Rattle.moo_tables_rows.{proofs.Words.{IsShaped-filter, arith, true≢false, ◌≡◌, ℕ, ℤ, List, [], ◌∷◌, filter, map, Some, Bool, true, false, not, Result, refl, sym, ap, subst, ◌∙◌, list_all, is_eq, IsPermutation, Contains-permutation, IsPermutation-sym, not-true, Equal, Value, Int, Error, Row, column, value_cmp, binary, is_true, from_truth, Term, holds, Binary, Compare, Eq, rowid, has_rowid, without_all, next_rowid, State, Has, ids_of, has_filtered, has_kept, has_contained, contains_had, some_from, present_schema, has_pair, AreKeyed, RanStatement}, proofs.TextLemmas.{by_given, by_pair}, proofs.QueryLemmas.{chosen}, proofs.StepLemmas.{SetsOffNothing}, proofs.KeyLemmas.{ties_itself, removed, mapped_has}}
 use Rattle.sqlite_trees.specs.declared.store.Shape.TheVariants as shape
 use Rattle.sqlite_rules.{specs.declared.error.Rowids.TheVariants.{Chosen}, proofs.ProbeLemmas.{has_mapped}, proofs.PlaceLemmas.{next_is_free}}
 
 pub moo_quiet : SetsOffNothing present_schema
 moo_quiet tree olds news = refl
-
--- a statement ran with these values
-pub ran_as : (text : List ℕ) (values params : Row) (old new : State) (r : Result ℕ Error) → params ≡ values → RanStatement text params old new r → RanStatement text values old new r
-ran_as text values params old new r are ran = subst (λ v. RanStatement text v old new r) are ran
 
 pub told : (b : Bool) → is_true (from_truth (Some b)) ≡ b
 told b = grind arith

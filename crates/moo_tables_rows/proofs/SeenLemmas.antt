@@ -40,9 +40,9 @@ pub record ShowsTable {K : Type 0} (s : State) (tree : ℕ) (shown : List Row �
   pub keyed : AreKeyed (s.now.trees tree)
 
 module _ {old new : State} {tree : ℕ} {rows : List Row} (it : SetsTree old new tree rows) where
-  pub written : {K : Type 0} (shown : List Row → K → Option Row) (change : (K → Option Row) → K → Option Row) (table : K → Option Row) → shown (old.now.trees tree) ≡ table → AreKeyed rows
+  pub shows_written : {K : Type 0} (shown : List Row → K → Option Row) (change : (K → Option Row) → K → Option Row) (table : K → Option Row) → shown (old.now.trees tree) ≡ table → AreKeyed rows
       → ((k : K) → shown rows k ≡ change (shown (old.now.trees tree)) k) → ShowsTable new tree shown (change table)
-  written shown change table was keyed at_keys = record { cells = ap shown it.rows_are ∙ (λ i k. at_keys k i) ∙ ap change was; keyed = subst AreKeyed (sym it.rows_are) keyed }
+  shows_written shown change table was keyed at_keys = record { cells = ap shown it.rows_are ∙ (λ i k. at_keys k i) ∙ ap change was; keyed = subst AreKeyed (sym it.rows_are) keyed }
 
   unwritten : {K : Type 0} (shown : List Row → K → Option Row) (table : K → Option Row) (t : ℕ) → t ≢ tree → IsNoIndex present_schema t → shown (old.now.trees t) ≡ table → AreKeyed (old.now.trees t) → ShowsTable new t shown table
   unwritten shown table t apart no_index was keyed = let same = it.others t apart no_index in record { cells = ap shown same ∙ was; keyed = subst AreKeyed (sym same) keyed }
@@ -111,30 +111,3 @@ module _ {old new : State} {tree : ℕ} (it : SetsTree old new tree (old.now.tre
   sees_still tables seen =
       let beside : SetsTree old new 11 (new.now.trees 11) = record { schema_is = it.schema_is; sound = it.sound; is_open = it.is_open; inside = it.inside; rows_are = refl; others = λ t apart. still t } in
       (sees_same beside tables seen (λ e. cc) (λ e. cc) (λ e. cc) (λ e. cc) (λ e. cc) (λ e. cc) (λ e. cc), kept_unread beside (λ e. cc))
-
--- ---- one table was written, and at one key
-
-abbrev pub SeesWritten : {K : Type 0} → ℕ → (List Row → K → Option Row) → (K → Option Row → (K → Option Row) → K → Option Row) → (K → Option Row → Tables → Tables) → Type 1
-SeesWritten {K} tree shown at_key change = (old new : State) (tables : Tables) (key : K) (cells : Option Row) (rows : List Row) → Sees old tables → SetsTree old new tree rows → AreKeyed rows
-    → ((k : K) → shown rows k ≡ at_key key cells (shown (old.now.trees tree)) k) → Sees new (change key cells tables) × KeepsUnread old.now new.now
-
-pub sees_head : SeesWritten 0 (numbered_in head_table) numbered_with (λ key cells tables. record tables { head = numbered_with key cells tables.head })
-sees_head old new tables key cells rows seen it keyed at_keys = (sees_all it (record tables { head = numbered_with key cells tables.head }) seen.current (written it (numbered_in head_table) (numbered_with key cells) tables.head (ap (λ (t : Tables). t.head) (rows_seen seen)) keyed at_keys) (kept_object it tables seen (λ e. cc)) (kept_prop it tables seen (λ e. cc)) (kept_slot it tables seen (λ e. cc)) (kept_verb it tables seen (λ e. cc)) (kept_petition it tables seen (λ e. cc)) (kept_counter it tables seen (λ e. cc)), kept_unread it (λ e. cc))
-
-pub sees_object : SeesWritten 1 (numbered_in object_table) numbered_with (λ key cells tables. record tables { object = numbered_with key cells tables.object })
-sees_object old new tables key cells rows seen it keyed at_keys = (sees_all it (record tables { object = numbered_with key cells tables.object }) seen.current (kept_head it tables seen (λ e. cc)) (written it (numbered_in object_table) (numbered_with key cells) tables.object (ap (λ (t : Tables). t.object) (rows_seen seen)) keyed at_keys) (kept_prop it tables seen (λ e. cc)) (kept_slot it tables seen (λ e. cc)) (kept_verb it tables seen (λ e. cc)) (kept_petition it tables seen (λ e. cc)) (kept_counter it tables seen (λ e. cc)), kept_unread it (λ e. cc))
-
-pub sees_prop : SeesWritten 2 (numbered_in prop_table) numbered_with (λ key cells tables. record tables { prop = numbered_with key cells tables.prop })
-sees_prop old new tables key cells rows seen it keyed at_keys = (sees_all it (record tables { prop = numbered_with key cells tables.prop }) seen.current (kept_head it tables seen (λ e. cc)) (kept_object it tables seen (λ e. cc)) (written it (numbered_in prop_table) (numbered_with key cells) tables.prop (ap (λ (t : Tables). t.prop) (rows_seen seen)) keyed at_keys) (kept_slot it tables seen (λ e. cc)) (kept_verb it tables seen (λ e. cc)) (kept_petition it tables seen (λ e. cc)) (kept_counter it tables seen (λ e. cc)), kept_unread it (λ e. cc))
-
-pub sees_slot : SeesWritten 7 (paired_in slot2_table) paired_with (λ key cells tables. record tables { slot = paired_with key cells tables.slot })
-sees_slot old new tables key cells rows seen it keyed at_keys = (sees_all it (record tables { slot = paired_with key cells tables.slot }) seen.current (kept_head it tables seen (λ e. cc)) (kept_object it tables seen (λ e. cc)) (kept_prop it tables seen (λ e. cc)) (written it (paired_in slot2_table) (paired_with key cells) tables.slot (ap (λ (t : Tables). t.slot) (rows_seen seen)) keyed at_keys) (kept_verb it tables seen (λ e. cc)) (kept_petition it tables seen (λ e. cc)) (kept_counter it tables seen (λ e. cc)), kept_unread it (λ e. cc))
-
-pub sees_verb : SeesWritten 5 (paired_in verb_table) paired_with (λ key cells tables. record tables { verb = paired_with key cells tables.verb })
-sees_verb old new tables key cells rows seen it keyed at_keys = (sees_all it (record tables { verb = paired_with key cells tables.verb }) seen.current (kept_head it tables seen (λ e. cc)) (kept_object it tables seen (λ e. cc)) (kept_prop it tables seen (λ e. cc)) (kept_slot it tables seen (λ e. cc)) (written it (paired_in verb_table) (paired_with key cells) tables.verb (ap (λ (t : Tables). t.verb) (rows_seen seen)) keyed at_keys) (kept_petition it tables seen (λ e. cc)) (kept_counter it tables seen (λ e. cc)), kept_unread it (λ e. cc))
-
-pub sees_petition : SeesWritten 9 (numbered_in petition_table) numbered_with (λ key cells tables. record tables { petition = numbered_with key cells tables.petition })
-sees_petition old new tables key cells rows seen it keyed at_keys = (sees_all it (record tables { petition = numbered_with key cells tables.petition }) seen.current (kept_head it tables seen (λ e. cc)) (kept_object it tables seen (λ e. cc)) (kept_prop it tables seen (λ e. cc)) (kept_slot it tables seen (λ e. cc)) (kept_verb it tables seen (λ e. cc)) (written it (numbered_in petition_table) (numbered_with key cells) tables.petition (ap (λ (t : Tables). t.petition) (rows_seen seen)) keyed at_keys) (kept_counter it tables seen (λ e. cc)), kept_unread it (λ e. cc))
-
-pub sees_counter : SeesWritten 10 (numbered_in petition_head_table) numbered_with (λ key cells tables. record tables { petition_head = numbered_with key cells tables.petition_head })
-sees_counter old new tables key cells rows seen it keyed at_keys = (sees_all it (record tables { petition_head = numbered_with key cells tables.petition_head }) seen.current (kept_head it tables seen (λ e. cc)) (kept_object it tables seen (λ e. cc)) (kept_prop it tables seen (λ e. cc)) (kept_slot it tables seen (λ e. cc)) (kept_verb it tables seen (λ e. cc)) (kept_petition it tables seen (λ e. cc)) (written it (numbered_in petition_head_table) (numbered_with key cells) tables.petition_head (ap (λ (t : Tables). t.petition_head) (rows_seen seen)) keyed at_keys), kept_unread it (λ e. cc))

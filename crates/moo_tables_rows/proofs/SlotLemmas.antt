@@ -1,5 +1,5 @@
 -- What the statements on slots do.
-use Rattle.moo_tables_rows.{proofs.Words.{remove_text, keep_text, ℕ, ℤ, pos, List, [], ◌∷◌, Option, Some, None, Result, OnOk, Vec, ◌≡◌, refl, sym, ap, subst, Global, Value, Null, Int, Text, Error, Row, State, ObjNo, PropId, SlotCells, present, cells_over, all_but, slot_row, with_slot_cells, Tables, slot2_table, paired_with, paired_over, Changes, RanStatement, HasCauseIn, WritesRow}, proofs.TextLemmas.{slot_writes, slot_keeps}, proofs.RefusalLemmas.{each}, proofs.StoppedLemmas.{Ran}, proofs.StopLemmas.{PassesRows}, proofs.PairLemmas.{pair_kind}, proofs.WrittenLemmas.{HasRows, IsSeen}, proofs.KeepLemmas.{KeepsRows}, proofs.TypedLemmas.{slot_texts}, proofs.FindLemmas.{slot_pairs}, proofs.SeenLemmas.{slots_seen, rows_seen, sees_slot}}
+use Rattle.moo_tables_rows.{proofs.Words.{paired_in, remove_text, keep_text, ℕ, ℤ, pos, List, [], ◌∷◌, Option, Some, None, Result, OnOk, Vec, ◌≡◌, refl, sym, ap, subst, Global, Value, Null, Int, Text, Error, Row, State, ObjNo, PropId, SlotCells, present, cells_over, all_but, slot_row, with_slot_cells, Tables, slot2_table, paired_with, paired_over, Changes, RanStatement, HasCauseIn, WritesRow}, proofs.TextLemmas.{slot_writes, slot_keeps}, proofs.RefusalLemmas.{each}, proofs.StoppedLemmas.{Ran}, proofs.StopLemmas.{PassesRows}, proofs.PairLemmas.{pair_kind}, proofs.WrittenLemmas.{HasRows, IsSeen}, proofs.KeepLemmas.{KeepsRows}, proofs.TypedLemmas.{slot_texts}, proofs.FindLemmas.{slot_pairs}, proofs.SeenLemmas.{sees_all, shows_written, kept_unread, kept_head, kept_object, kept_prop, kept_verb, kept_petition, kept_counter, slots_seen, rows_seen}}
 use Rattle.moo_tables_rows.proofs.StopLemmas as stop
 
 abbrev pair_of : ObjNo × PropId → ℤ × ℤ
@@ -33,7 +33,7 @@ abbrev Over : ObjNo × PropId → SlotCells → Option (Vec ℕ Global) → Tabl
 Over key row text tables = record tables { slot = paired_over (pair_of key) (cells_over (over key row) 4 text) tables.slot }
 
 is_seen : IsSeen pair_kind slot2_table (λ tables. tables.slot) With
-is_seen = record { keyed = λ s tables seen. slots_seen seen; told = slot_pairs present; shows = λ s tables seen. ap (λ (t : Tables). t.slot) (rows_seen seen); changes = sees_slot }
+is_seen = record { keyed = λ s tables seen. slots_seen seen; told = slot_pairs present; shows = λ s tables seen. ap (λ (t : Tables). t.slot) (rows_seen seen); changes = λ old new tables key cells rows seen it keyed at_keys. (sees_all it (With key cells tables) seen.current (kept_head it tables seen (λ e. cc)) (kept_object it tables seen (λ e. cc)) (kept_prop it tables seen (λ e. cc)) (shows_written it (paired_in slot2_table) (paired_with key cells) tables.slot (ap (λ (t : Tables). t.slot) (rows_seen seen)) keyed at_keys) (kept_verb it tables seen (λ e. cc)) (kept_petition it tables seen (λ e. cc)) (kept_counter it tables seen (λ e. cc)), kept_unread it (λ e. cc)) }
 
 passes : PassesRows pair_kind slot2_table.name 7 slot2_table.columns pair_of whole
 passes = record {

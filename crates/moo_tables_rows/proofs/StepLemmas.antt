@@ -1,6 +1,5 @@
 -- What one statement makes of the tables, whatever they are.
-use Rattle.moo_tables_rows.proofs.Words.{arith, ◌≡◌, ◌⊎◌, inl, inr, ℕ, List, [], length, slice_get, Bool, false, cond, Option, Some, None, unwrap_or, Ok, Err, Result, sym, ap, subst, subst₂, ◌∙◌, Value, Null, Int, Row, unary, Table, Schema, Update, Delete, CreateTable, Edit, edit_of, Applies, cast, Given, Tally, Does, lacks_sequence, table_defined_by, Written, Database, Answers, State, mode_of, Writes, Enforced, taken_by, one_step, ids_of, Program, Column, Order, table_of, ◌++◌, ◌/◌, ◌∷◌, Chosen, Insert, Values, Term, value_rows}
-use Rattle.sqlite.{specs.Kind.TheVariants.{Integer}, specs.Change.{created, next_tree, KeepsRows}}
+use Rattle.moo_tables_rows.proofs.Words.{Integer, created, next_tree, KeepsRows, arith, ◌≡◌, ◌⊎◌, inl, inr, ℕ, List, [], length, slice_get, Bool, false, cond, Option, Some, None, unwrap_or, Ok, Err, Result, sym, ap, subst, subst₂, ◌∙◌, Value, Null, Int, Row, unary, Table, Schema, Update, Delete, CreateTable, Edit, edit_of, Applies, cast, Given, Tally, Does, lacks_sequence, table_defined_by, Written, Database, Answers, State, mode_of, Writes, Enforced, taken_by, one_step, ids_of, Program, Column, Order, table_of, ◌++◌, ◌/◌, ◌∷◌, Chosen, Insert, Values, Term, value_rows}
 use Rattle.sqlite_rules.specs.Action.{works}
 use Rattle.sqlite_rules.specs.Action as action
 

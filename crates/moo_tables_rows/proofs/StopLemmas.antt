@@ -1,6 +1,5 @@
 -- Why a statement fails that writes a table, whichever kind of key it has.
-use Rattle.moo_tables_rows.{proofs.Words.{◌≡◌, ◌⊎◌, inl, inr, ℕ, ◌+◌, ℤ, List, [], ◌∷◌, ◌++◌, filter, map, drop, length, slice_get, Bool, true, false, true≢false, ◌&&◌, not, Some, None, Err, Result, refl, sym, ap, subst, ◌∙◌, list_any, list_all, IsPermutation, Error, Value, Null, Int, Text, not-true, Row, Term, col, holds, eval_all, Table, Trees, rowid, has_rowid, with_tree, edit_of, without_all, id_in, next_rowid, cast_row, Given, Updates, shown, overlay, Does, Answers, Update, Delete, Values, Enforced, State, mode_of, Unique, Column, Keeps, Has, ids_of, some_has, has_filtered, has_kept, conflicts, accepts_program, accepts_terms, HasCauseIn, Tables, present_schema, update_text, keep_text, put_text, remove_text, AreKeyed, Sees, Insert, insert_text, is_conflict, MeetsRowIn, OnOk, Option, option_map, subst₂, Changes, RanStatement, WritesRow, column}, proofs.TextLemmas.{IsWritten, WritesByKey, KeepsByKey, plain_query, new_terms, over_terms, keep_terms, put_command, writes_where, by_given}, proofs.KeyLemmas.{is_false, tied_as_equal}, proofs.QueryLemmas.{chosen, shows_all}, proofs.RowLemmas.{picks_given}, proofs.OverLemmas.{found_first, same_row}, proofs.UpdateLemmas.{one_or_none}, proofs.KindLemmas.{Kind, table, stored, written_as}, proofs.WrittenLemmas.{HasRows, IsSeen}, proofs.KeepLemmas.{KeepsRows}, proofs.TypedLemmas.{HasText}, proofs.SeenLemmas.{sound_seen}, proofs.RefusalLemmas.{IsAllowed, IsClear, IsFit, Upserting, clear_none, clear_one, update_stops, delete_stops, upsert_stops, unconcluded, halted, insert_stops}, proofs.CauseLemmas.{meets_none}, proofs.StoppedLemmas.{Ran, stops_for, meets_for}, proofs.StopPairLemmas.{left_of}}
-use Rattle.sqlite_schema.specs.declared.command.Command.{Command}
+use Rattle.moo_tables_rows.{proofs.Words.{Command, ◌≡◌, ◌⊎◌, inl, inr, ℕ, ◌+◌, ℤ, List, [], ◌∷◌, ◌++◌, filter, map, drop, length, slice_get, Bool, true, false, true≢false, ◌&&◌, not, Some, None, Err, Result, refl, sym, ap, subst, ◌∙◌, list_any, list_all, IsPermutation, Error, Value, Null, Int, Text, not-true, Row, Term, col, holds, eval_all, Table, Trees, rowid, has_rowid, with_tree, edit_of, without_all, id_in, next_rowid, cast_row, Given, Updates, shown, overlay, Does, Answers, Update, Delete, Values, Enforced, State, mode_of, Unique, Column, Keeps, Has, ids_of, some_has, has_filtered, has_kept, conflicts, accepts_program, accepts_terms, HasCauseIn, Tables, present_schema, update_text, keep_text, put_text, remove_text, AreKeyed, Sees, Insert, insert_text, is_conflict, MeetsRowIn, OnOk, Option, option_map, subst₂, Changes, RanStatement, WritesRow, column}, proofs.TextLemmas.{IsWritten, WritesByKey, KeepsByKey, plain_query, new_terms, over_terms, keep_terms, put_command, writes_where, by_given}, proofs.KeyLemmas.{is_false, tied_as_equal}, proofs.QueryLemmas.{chosen, shows_all}, proofs.RowLemmas.{picks_given}, proofs.OverLemmas.{found_first, same_row}, proofs.UpdateLemmas.{one_or_none}, proofs.KindLemmas.{Kind, table, stored, written_as}, proofs.WrittenLemmas.{HasRows, IsSeen}, proofs.KeepLemmas.{KeepsRows}, proofs.TypedLemmas.{HasText}, proofs.SeenLemmas.{sound_seen}, proofs.RefusalLemmas.{IsAllowed, IsClear, IsFit, Upserting, clear_none, clear_one, update_stops, delete_stops, upsert_stops, unconcluded, halted, insert_stops}, proofs.CauseLemmas.{meets_none}, proofs.StoppedLemmas.{Ran, stops_for, meets_for}, proofs.StopPairLemmas.{left_of}}
 use Rattle.moo_tables_rows.proofs.WrittenLemmas as written
 use Rattle.moo_tables_rows.proofs.KeepLemmas as kept_of
 

@@ -1,9 +1,8 @@
 -- Why a statement fails whose text and values are sound.
-use Rattle.moo_tables_rows.{proofs.Words.{arith, ◌≡◌, inl, inr, ℕ, List, [], append-nil, length, Bool, true, false, true≢false, ◌||◌, Option, Some, None, Err, Result, IsTrue, refl, sym, ap, subst, subst₂, ◌∙◌, ⊤, Error, Row, Schema, Does, Database, is_query, understood, timed, State, HasCleanDisk, Fails, HasCause, IsNotRun, IsNoStatement, IsStatement, IsMisplaced, ExecutesIn, ExecutesInside, EndsScope, RunsCommand, shows_rows, is_pragma, mode_of, text_of, statement_of, IsPlain, command_of, StopsChange, ◌⊎◌, IsUnchanged, Ok, HasCauseIn, MeetsRowIn, is_conflict, Sees, Tables, present_schema}, proofs.RefusalLemmas.{IsAllowed}, proofs.SeenLemmas.{schema_seen}, proofs.CauseLemmas.{met_or_stopped}, proofs.TextLemmas.{IsWritten}}
+use Rattle.moo_tables_rows.{proofs.Words.{StoreError, arith, ◌≡◌, inl, inr, ℕ, List, [], append-nil, length, Bool, true, false, true≢false, ◌||◌, Option, Some, None, Err, Result, IsTrue, refl, sym, ap, subst, subst₂, ◌∙◌, ⊤, Error, Row, Schema, Does, Database, is_query, understood, timed, State, HasCleanDisk, Fails, HasCause, IsNotRun, IsNoStatement, IsStatement, IsMisplaced, ExecutesIn, ExecutesInside, EndsScope, RunsCommand, shows_rows, is_pragma, mode_of, text_of, statement_of, IsPlain, command_of, StopsChange, ◌⊎◌, IsUnchanged, Ok, HasCauseIn, MeetsRowIn, is_conflict, Sees, Tables, present_schema}, proofs.RefusalLemmas.{IsAllowed}, proofs.SeenLemmas.{schema_seen}, proofs.CauseLemmas.{met_or_stopped}, proofs.TextLemmas.{IsWritten}}
 use Rattle.sqlite.specs.declared.run.Mode.{Mode}
 use Rattle.sqlite_resolve.specs.declared.compiled.Compiled.{Compiled}
 use Rattle.sqlite_schema.{specs.declared.command.Command.{Command}, specs.declared.command.Command.TheVariants.{Insert, InsertOr, Update, Delete, CreateTable, Begin, Commit, Rollback, Release, RollbackTo}}
-use Rattle.sqlite_trees.{specs.declared.error.StoreError.{StoreError}}
 pub use Rattle.moo_tables_rows.proofs.TextLemmas.{IsOne}
 
 abbrev pub is_change : Command → Bool
@@ -78,17 +77,12 @@ module _ (sql : List ℕ) (params : Row) (old new : State) (schema : Schema) (ha
         | inr failed ↦ inr (fails_so old new _ e failed)
       ]
 
-  -- the same if SQL may refuse it for this too, and nothing is changed then
-  pub stops_or : {P : Type 0} (e : Error) → ((text : List ℕ) → Does old.step_limit (mode_of old) params old.now text None command (Err (Some e)) → P ⊎ IsAllowed old.step_limit e) → ExecutesInside 0 sql params old new (Err e)
-      → (P × IsUnchanged old new) ⊎ StopsChange old new e
-  stops_or e allowed h = stops_told e (λ text is. allowed text) h
-
   -- SQL refuses no such statement
   pub stops_unrefused : (e : Error) → ((text : List ℕ) → text ≡ statement_of sql (understood schema sql) → ¬ Does old.step_limit (mode_of old) params old.now text None command (Err (Some e))) → ExecutesInside 0 sql params old new (Err e) → StopsChange old new e
   stops_unrefused e refused h = elim (stops_told {P = ⊥} e (λ text is does. absurd (refused text is does)) h) [ inl none ↦ absurd none.0 | inr stopped ↦ stopped ]
 
   pub stops : (e : Error) → ((text : List ℕ) → Does old.step_limit (mode_of old) params old.now text None command (Err (Some e)) → IsAllowed old.step_limit e) → ExecutesInside 0 sql params old new (Err e) → StopsChange old new e
-  stops e allowed h = elim (stops_or {P = ⊥} e (λ text does. inr (allowed text does)) h) [ inl none ↦ absurd none.0 | inr stopped ↦ stopped ]
+  stops e allowed h = elim (stops_told {P = ⊥} e (λ text is does. inr (allowed text does)) h) [ inl none ↦ absurd none.0 | inr stopped ↦ stopped ]
 
 -- what `run` says of a statement, in the transaction
 abbrev pub Ran : List ℕ → Row → State → State → Result ℕ Error → Type 0
@@ -97,9 +91,6 @@ Ran text params old new r = HasCleanDisk new → IsTrue old.in_transaction → E
 pub at_schema : (limit : Option ℕ) (mode : Mode) (params : Row) (db : Database) (schema : Schema) (text : List ℕ) (command : Command) (e : Error) → db.schema ≡ schema
     → Does limit mode params db text None command (Err (Some e)) → Does limit mode params (record { schema = schema; trees = db.trees }) text None command (Err (Some e))
 at_schema limit mode params db schema text command e has h = subst (λ s. Does limit mode params (record { schema = s; trees = db.trees }) text None command (Err (Some e))) has h
-
-pub with_values : (text : List ℕ) (values params : Row) (old new : State) (r : Result ℕ Error) → params ≡ values → Ran text params old new r → Ran text values old new r
-with_values text values params old new r is ran = subst (λ v. Ran text v old new r) is ran
 
 -- a change of our tables fails for no other cause, if SQL refuses it for none
 module _ {text : List ℕ} {count : ℕ} {command : Command} (written : IsWritten text count command) (params : Row) (counted : length params ≡ count) (changes : is_change command ≡ true) (quiet : (is_query command || (is_pragma command || false)) ≡ false) (old new : State) where
@@ -121,5 +112,5 @@ module _ {text : List ℕ} {count : ℕ} {command : Command} (written : IsWritte
   meets_for allowed (Ok count) ran = λ clean tables seen. tt
   meets_for allowed (Err e) ran = λ clean tables seen.
       let has = schema_seen seen in
-      met_or_stopped old new e tables seen (stops_or text params old new present_schema has command written.command written.plain one changes quiet e
-      (λ told does. allowed e tables seen told (at_schema old.step_limit (mode_of old) params old.now present_schema told command e has does)) (ran clean seen.inside))
+      met_or_stopped old new e tables seen (stops_told text params old new present_schema has command written.command written.plain one changes quiet e
+      (λ told is does. allowed e tables seen told (at_schema old.step_limit (mode_of old) params old.now present_schema told command e has does)) (ran clean seen.inside))

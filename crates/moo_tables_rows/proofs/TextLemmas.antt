@@ -1,9 +1,6 @@
 -- What the texts mean.
-use Rattle.moo_tables_rows.proofs.Words.{Err, Result, text_of, ◌≡◌, ℕ, ◌+◌, ◌-◌, ◌≤◌, arith, pos, negsuc, List, [], ◌∷◌, ◌++◌, length, map, codes, false, Some, None, Ok, refl, range_with_len, InsertOr, Update, Delete, CreateTable, Schema, Table, table_defined_by, understood, everything, IsPlain, command_of, statement_of, Null, Int, Binary, ascending, Term, lit, col, op2, Query, inner, end, Values, Compare, Eq, Ne, Abort, Program, create_text, update_text, keep_text, put_text, remove_text, put_counter_text, head_table, object_table, prop_table, slot_table, verb_table, slot2_table, petition_table, petition_head_table, no_schema, head_schema, object_schema, prop_schema, slot_schema, first_schema, slot2_schema, petition_schema, present_schema, second_schema, Insert, insert_text}
-use Rattle.sqlite.specs.Change.{created}
+use Rattle.moo_tables_rows.proofs.Words.{created, Command, Key, Err, Result, text_of, ◌≡◌, ℕ, ◌+◌, ◌-◌, ◌≤◌, arith, pos, negsuc, List, [], ◌∷◌, ◌++◌, length, map, codes, false, Some, None, Ok, refl, range_with_len, InsertOr, Update, Delete, CreateTable, Schema, Table, table_defined_by, understood, everything, IsPlain, command_of, statement_of, Null, Int, Binary, ascending, Term, lit, col, op2, Query, inner, end, Values, Compare, Eq, Ne, Abort, Program, create_text, update_text, keep_text, put_text, remove_text, put_counter_text, head_table, object_table, prop_table, slot_table, verb_table, slot2_table, petition_table, petition_head_table, no_schema, head_schema, object_schema, prop_schema, slot_schema, first_schema, slot2_schema, petition_schema, present_schema, second_schema, Insert, insert_text}
 use Rattle.sqlite_resolve.{specs.declared.compiled.Compiled.{Compiled}, specs.declared.error.CompileError.{CompileError}}
-use Rattle.sqlite_schema.specs.declared.command.Command.{Command}
-use Rattle.sqlite_value.specs.declared.keys.Key.{Key}
 
 -- ---- what a text is understood as: this command, with no RETURNING and without the time
 

@@ -1,7 +1,6 @@
 -- A column of texts that is never empty has a text in each row of a sound table.
-use Rattle.moo_tables_rows.{proofs.Words.{suc, ◌≡◌, ℕ, List, [], ◌∷◌, ◌++◌, drop, take, length, codes, Option, Some, None, true, false, refl, sym, true≢false, and_parts, Value, Row, column, State, is_of, are_typed, are_present, has_computed, Column, Datatype, NotNull, Has, all_has, Tables, required, object_table, slot2_table, verb_table, petition_table, Sees}, proofs.SeenLemmas.{sound_seen}, proofs.CellLemmas.{IsApart, place_behind, cell_in}}
+use Rattle.moo_tables_rows.{proofs.Words.{is_null, suc, ◌≡◌, ℕ, List, [], ◌∷◌, ◌++◌, drop, take, length, codes, Option, Some, None, true, false, refl, sym, true≢false, and_parts, Value, Row, column, State, is_of, are_typed, are_present, has_computed, Column, Datatype, NotNull, Has, all_has, Tables, required, object_table, slot2_table, verb_table, petition_table, Sees}, proofs.SeenLemmas.{sound_seen}, proofs.CellLemmas.{IsApart, place_behind, cell_in}}
 use Rattle.sqlite.specs.declared.types.Value.TheVariants as value
-use Rattle.sqlite_sql.specs.Ops.{is_null}
 use Rattle.sqlite_schema.specs.declared.schema.Kind.TheVariants as kind
 
 -- the row has a text there

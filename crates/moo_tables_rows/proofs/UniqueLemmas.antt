@@ -1,6 +1,5 @@
 -- No two rows of a table share a key of two columns, whichever row is put or taken out.
-use Rattle.moo_tables_rows.{proofs.Words.{arith, ◌≡◌, ◌⊎◌, inl, inr, ℤ, List, [], ◌∷◌, true, ◌&&◌, not, IsTrue, refl, sym, subst, AllByRecursion, and_parts, and_from, tied_itself, Int, Row, column, id_in, rowid, put_row, agree, differ, clashes, first_key, plain, value_cmp_total, Has, all_from, some_has, is_int, has_pair}, proofs.KeyLemmas.{ties_itself, is_false, int_value, pair_apart, pair_exact}, proofs.RowLemmas.{equal_number}, proofs.FindLemmas.{differ_numbers}}
-use Rattle.sqlite_rules.proofs.TableLemmas.{put_has}
+use Rattle.moo_tables_rows.{proofs.Words.{put_has, arith, ◌≡◌, ◌⊎◌, inl, inr, ℤ, List, [], ◌∷◌, true, ◌&&◌, not, IsTrue, refl, sym, subst, AllByRecursion, and_parts, and_from, tied_itself, Int, Row, column, id_in, rowid, put_row, agree, differ, clashes, first_key, plain, value_cmp_total, Has, all_from, some_has, is_int, has_pair}, proofs.KeyLemmas.{ties_itself, is_false, int_value, pair_apart, pair_exact}, proofs.RowLemmas.{equal_number}, proofs.FindLemmas.{differ_numbers}}
 
 -- no other row has the key of one
 abbrev pub AreApart : List Row → Type 0

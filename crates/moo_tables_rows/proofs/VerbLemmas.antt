@@ -1,7 +1,6 @@
 -- What the statements on verbs do.
-use Rattle.moo_tables_rows.{proofs.Words.{remove_text, keep_text, ℕ, ℤ, pos, List, [], ◌∷◌, Option, Some, None, Result, OnOk, Vec, ◌≡◌, refl, sym, ap, subst, Global, Value, Null, Int, Text, Error, Row, State, ObjNo, present, cells_over, all_but, verb_row, with_verb_cells, Tables, verb_table, paired_with, paired_over, Changes, RanStatement, HasCauseIn, WritesRow}, specs.declared.verb.VerbCells.{VerbCells}, proofs.TextLemmas.{verb_writes, verb_keeps}, proofs.RefusalLemmas.{each}, proofs.StoppedLemmas.{Ran}, proofs.StopLemmas.{PassesRows}, proofs.PairLemmas.{pair_kind}, proofs.WrittenLemmas.{HasRows, IsSeen}, proofs.KeepLemmas.{KeepsRows}, proofs.TypedLemmas.{verb_texts}, proofs.FindLemmas.{verb_pairs}, proofs.SeenLemmas.{rows_seen, sees_verb}}
+use Rattle.moo_tables_rows.{proofs.Words.{paired_in, VerbId, remove_text, keep_text, ℕ, ℤ, pos, List, [], ◌∷◌, Option, Some, None, Result, OnOk, Vec, ◌≡◌, refl, sym, ap, subst, Global, Value, Null, Int, Text, Error, Row, State, ObjNo, present, cells_over, all_but, verb_row, with_verb_cells, Tables, verb_table, paired_with, paired_over, Changes, RanStatement, HasCauseIn, WritesRow}, specs.declared.verb.VerbCells.{VerbCells}, proofs.TextLemmas.{verb_writes, verb_keeps}, proofs.RefusalLemmas.{each}, proofs.StoppedLemmas.{Ran}, proofs.StopLemmas.{PassesRows}, proofs.PairLemmas.{pair_kind}, proofs.WrittenLemmas.{HasRows, IsSeen}, proofs.KeepLemmas.{KeepsRows}, proofs.TypedLemmas.{verb_texts}, proofs.FindLemmas.{verb_pairs}, proofs.SeenLemmas.{sees_all, shows_written, kept_unread, kept_head, kept_object, kept_prop, kept_slot, kept_petition, kept_counter, rows_seen}}
 use Rattle.moo_tables_rows.proofs.StopLemmas as stop
-use Rattle.moo_rows.specs.declared.row.VerbId.{VerbId}
 
 abbrev pair_of : ObjNo × VerbId → ℤ × ℤ
 pair_of key = (key.0.0, pos key.1.0)
@@ -34,7 +33,7 @@ abbrev Over : ObjNo × VerbId → VerbCells → Option (Vec ℕ Global) → Tabl
 Over key row text tables = record tables { verb = paired_over (pair_of key) (cells_over (over key row) 4 text) tables.verb }
 
 is_seen : IsSeen pair_kind verb_table (λ tables. tables.verb) With
-is_seen = record { keyed = λ s tables seen. seen.holds.verbs; told = verb_pairs present; shows = λ s tables seen. ap (λ (t : Tables). t.verb) (rows_seen seen); changes = sees_verb }
+is_seen = record { keyed = λ s tables seen. seen.holds.verbs; told = verb_pairs present; shows = λ s tables seen. ap (λ (t : Tables). t.verb) (rows_seen seen); changes = λ old new tables key cells rows seen it keyed at_keys. (sees_all it (With key cells tables) seen.current (kept_head it tables seen (λ e. cc)) (kept_object it tables seen (λ e. cc)) (kept_prop it tables seen (λ e. cc)) (kept_slot it tables seen (λ e. cc)) (shows_written it (paired_in verb_table) (paired_with key cells) tables.verb (ap (λ (t : Tables). t.verb) (rows_seen seen)) keyed at_keys) (kept_petition it tables seen (λ e. cc)) (kept_counter it tables seen (λ e. cc)), kept_unread it (λ e. cc)) }
 
 passes : PassesRows pair_kind verb_table.name 5 verb_table.columns pair_of whole
 passes = record {

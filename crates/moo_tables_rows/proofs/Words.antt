@@ -14,7 +14,7 @@ pub use Rattle.std.specs.declared.cmp.Ordering.{Ordering}
 pub use Rattle.std.specs.declared.cmp.Ordering.TheVariants.{Equal, Greater, Less}
 pub use Rattle.moo_rows.specs.declared.row.PropId.{PropId}
 pub use Rattle.moo_tables_rows.specs.Cause.{HasCauseIn, MeetsRowIn, StopsChange, is_conflict}
-pub use Rattle.moo_tables_rows.specs.Cells.{KeepsOthers, cells_after, counter_with, head_cells, object_cells, petition_cells, petition_head_cells, prop_cells, slot_cells, tables_with, verb_cells, with_counter, with_each, with_head_cells, with_next_petition, with_object_cells, with_object_changes, with_petition_cells, with_petition_changes, with_prop_cells, with_prop_changes, with_slot_cells, with_slot_changes, with_verb_cells, with_verb_changes}
+pub use Rattle.moo_tables_rows.specs.Cells.{KeepsOthers, cells_after, counter_with, head_cells, object_cells, petition_cells, petition_head_cells, prop_cells, slot_cells, tables_with, verb_cells, with_counter, with_each, with_head_cells, with_next_petition, with_object_cells, with_petition_cells, with_prop_cells, with_slot_cells, with_verb_cells, objects_with, props_with, slots_with, verbs_with, petitions_with}
 pub use Rattle.moo_tables_rows.specs.Columns.{all_but, cells_over}
 pub use Rattle.moo_tables_rows.specs.Inside.{AreKeyed, Changes, FailsToRead, HasNoTables, HasTables, Holds, IsCurrent, IsMade, KeepsUnread, Leaves, RanStatement, ReadsTables, Rests, Sees, StaysInside, no_rows, no_tables}
 pub use Rattle.moo_tables_rows.specs.Head.{put_counter_text}
@@ -87,3 +87,14 @@ pub use Rattle.sqlite_value.proofs.OrderLemmas.{then-Equal, value_cmp-Int, value
 pub use Rattle.sqlite_value.specs.Keys.{ascending, plain}
 unfoldable pub use Rattle.sqlite_value.specs.Keys.{first_key}
 pub use Rattle.sqlite_value.specs.declared.keys.Order.{Order}
+pub use Rattle.moo_rows.specs.declared.row.PetitionId.{PetitionId}
+pub use Rattle.moo_rows.specs.declared.row.VerbId.{VerbId}
+pub use Rattle.sqlite.specs.Change.{created, next_tree, KeepsRows}
+pub use Rattle.sqlite.specs.Kind.TheVariants.{Integer}
+pub use Rattle.sqlite_rules.proofs.TableLemmas.{put_all_keeps, has_put, put_has}
+pub use Rattle.sqlite_schema.specs.declared.command.Command.{Command}
+pub use Rattle.sqlite_sql.specs.Ops.{is_null}
+pub use Rattle.sqlite_trees.proofs.TreeLemmas.{IsShaped-filter, IsShaped-put_row}
+pub use Rattle.sqlite_trees.specs.declared.error.StoreError.{StoreError}
+pub use Rattle.sqlite_value.specs.declared.keys.Key.{Key}
+pub use Rattle.std.specs.Result.{IsErrAnd}

@@ -1,6 +1,5 @@
 -- What the statements do that write a table, whichever kind of key it has.
-use Rattle.moo_tables_rows.{proofs.Words.{◌≡◌, ◌+◌, ◌/◌, ℕ, ℤ, List, [], ◌∷◌, ◌++◌, drop, map, append-nil, length, slice_get, Option, Some, None, true, false, ◌&&◌, ◌||◌, ◌⊎◌, inl, inr, Bool, Result, Ok, Err, OnOk, IfOk, IsTrue, refl, sym, ap, subst, ◌∙◌, arith, list_all, is_eq, value_cmp, option_map, IsPermutation, Null, Int, Error, Row, Term, column, col, holds, eval_all, with_rowid, next_rowid, cast_all, cast_row, Chosen, shown, Table, Trees, rowid, has_rowid, put_row, overlay, value_rows, understood, State, Executes, statement_of, runs_as, Has, some_from, true≢false, Equal, AreConflicts, conflicts, agree, plain, Column, IsSound, Tables, present_schema, cells_at, found_in, with_cells, update_text, remove_text, put_text, insert_text, AreKeyed, Sees, Changes, RanStatement, KeepsUnread, WritesOver}, proofs.TextLemmas.{IsWritten, WritesByKey, by_given, new_terms, over_terms, put_command, writes_where, rowids_where}, proofs.CastLemmas.{fit, kept_all}, proofs.StepLemmas.{cast_int, updates, deletes, inserts}, proofs.UpsertLemmas.{Settles, upserts}, proofs.OverLemmas.{free_beside, all_free}, proofs.InsertLemmas.{is_put, put_there, others_there}, proofs.UpdateLemmas.{over_or_left}, proofs.SettleLemmas.{OthersStay, settles}, proofs.FindLemmas.{find_one}, proofs.QueryLemmas.{chosen, shows_all}, proofs.KeyLemmas.{ties_itself, after_put, after_removal, after_same}, proofs.RowLemmas.{picks_given, moo_quiet, rest_keyed, rest, went_out}, proofs.SeenLemmas.{schema_seen, sound_seen, SetsTree, sees_still}, proofs.KindLemmas.{Kind, table, behind, stored, written_as}}
-use Rattle.sqlite_trees.proofs.TreeLemmas.{IsShaped-put_row}
+use Rattle.moo_tables_rows.{proofs.Words.{IsShaped-put_row, ◌≡◌, ◌+◌, ◌/◌, ℕ, ℤ, List, [], ◌∷◌, ◌++◌, drop, map, append-nil, length, slice_get, Option, Some, None, true, false, ◌&&◌, ◌||◌, ◌⊎◌, inl, inr, Bool, Result, Ok, Err, OnOk, IfOk, IsTrue, refl, sym, ap, subst, ◌∙◌, arith, list_all, is_eq, value_cmp, option_map, IsPermutation, Null, Int, Error, Row, Term, column, col, holds, eval_all, with_rowid, next_rowid, cast_all, cast_row, Chosen, shown, Table, Trees, rowid, has_rowid, put_row, overlay, value_rows, understood, State, Executes, statement_of, runs_as, Has, some_from, true≢false, Equal, AreConflicts, conflicts, agree, plain, Column, IsSound, Tables, present_schema, cells_at, found_in, with_cells, update_text, remove_text, put_text, insert_text, AreKeyed, Sees, Changes, RanStatement, KeepsUnread, WritesOver}, proofs.TextLemmas.{IsWritten, WritesByKey, by_given, new_terms, over_terms, put_command, writes_where, rowids_where}, proofs.CastLemmas.{fit, kept_all}, proofs.StepLemmas.{cast_int, updates, deletes, inserts}, proofs.UpsertLemmas.{Settles, upserts}, proofs.OverLemmas.{free_beside, all_free}, proofs.InsertLemmas.{is_put, put_there, others_there}, proofs.UpdateLemmas.{over_or_left}, proofs.SettleLemmas.{OthersStay, settles}, proofs.FindLemmas.{find_one}, proofs.QueryLemmas.{chosen, shows_all}, proofs.KeyLemmas.{ties_itself, after_put, after_removal, after_same}, proofs.RowLemmas.{picks_given, moo_quiet, rest_keyed, rest, went_out}, proofs.SeenLemmas.{schema_seen, sound_seen, SetsTree, sees_still}, proofs.KindLemmas.{Kind, table, behind, stored, written_as}}
 
 -- The rows of the table have these cells. Each of these facts is computed, whatever the columns are.
 pub record HasRows {K C : Type 0} (k : Kind) (t : Table) (key_of : K → k.Key) (cells : K → C → Row) : Type 0 where

@@ -1,10 +1,9 @@
 -- Why a change of the tables fails.
-use Rattle.std.specs.Prelude.{◌≡◌, ◌⊎◌, ⊤, Bool, true, false, MatchBool, IsSome, Result, IfErr}
+use Rattle.moo_tables_rows.specs.Words.{◌≡◌, ◌⊎◌, ⊤, Bool, true, false, MatchBool, IsSome, Result, IfErr, Error, State, HasCleanDisk}
+use Rattle.moo_tables_rows.specs.Words.{HasCause, store_error}
 use Rattle.sqlite_trees.specs.declared.error.StoreError.{StoreError}
-use Rattle.sqlite.specs.declared.error.Error.{Error}
 use Rattle.sqlite.specs.declared.error.Error.TheVariants.{SqliteFailure}
 use Rattle.sqlite.specs.declared.error.ErrorCode.TheVariants as code
-use Rattle.sqlite.specs.State.{State, HasCleanDisk, HasCause, store_error}
 use Rattle.moo_tables_rows.specs.Tables.{Tables}
 use Rattle.moo_tables_rows.specs.Inside.{Sees, KeepsUnread}
 

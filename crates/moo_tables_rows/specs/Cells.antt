@@ -1,17 +1,11 @@
 -- The changes of rows, told by their cells.
-use Rattle.std.specs.Prelude.{◌≡◌, ◌≢◌, ℕ, ℤ, pos, List, Option, Some, None, fold}
-use Rattle.std.specs.List.{AllByRecursion}
-use Rattle.sqlite.specs.Order.{Row}
-use Rattle.moo_rows.specs.declared.row.Head.{Head}
+use Rattle.moo_tables_rows.specs.Words.{◌≡◌, ◌≢◌, ℕ, ℤ, pos, List, Option, Some, None, fold, AllByRecursion, Row, Head, ObjNo, PetitionId}
+use Rattle.moo_tables_rows.specs.Words.{PropId, VerbId}
 use Rattle.moo_tables_rows.specs.declared.object.ObjectCells.{ObjectCells}
 use Rattle.moo_tables_rows.specs.declared.prop.PropCells.{PropCells}
 use Rattle.moo_tables_rows.specs.declared.petition.PetitionCells.{PetitionCells}
 use Rattle.moo_tables_rows.specs.declared.slot.SlotCells.{SlotCells}
 use Rattle.moo_tables_rows.specs.declared.verb.VerbCells.{VerbCells}
-use Rattle.moo_value.specs.declared.value.ObjNo.{ObjNo}
-use Rattle.moo_rows.specs.declared.row.PetitionId.{PetitionId}
-use Rattle.moo_rows.specs.declared.row.PropId.{PropId}
-use Rattle.moo_rows.specs.declared.row.VerbId.{VerbId}
 use Rattle.moo_tables_rows.specs.declared.cells.CellChanges.{CellChanges}
 use Rattle.moo_tables_rows.specs.Version.{present}
 use Rattle.moo_tables_rows.specs.Tables.{Tables, numbered_with, numbered_over, paired_over}
@@ -92,26 +86,6 @@ verbs_with changes table = fold (λ t c. paired_over (c.0.0.0, pos c.0.1.0) (cel
 -- the table `petition` with these changes, one after another
 abbrev pub petitions_with : List (PetitionId × Option PetitionCells) → (ℤ → Option Row) → ℤ → Option Row
 petitions_with changes table = fold (λ t c. numbered_over (pos c.0.0) (cells_after (petition_cells c.0) c.1) t) table changes
-
--- the tables with these changes of the table `object`
-abbrev pub with_object_changes : List (ObjNo × Option ObjectCells) → Tables → Tables
-with_object_changes changes t = record t { object = objects_with changes t.object }
-
--- the tables with these changes of the table `prop`
-abbrev pub with_prop_changes : List (PropId × Option PropCells) → Tables → Tables
-with_prop_changes changes t = record t { prop = props_with changes t.prop }
-
--- the tables with these changes of the slots
-abbrev pub with_slot_changes : List ((ObjNo × PropId) × Option SlotCells) → Tables → Tables
-with_slot_changes changes t = record t { slot = slots_with changes t.slot }
-
--- the tables with these changes of the table `verb`
-abbrev pub with_verb_changes : List ((ObjNo × VerbId) × Option VerbCells) → Tables → Tables
-with_verb_changes changes t = record t { verb = verbs_with changes t.verb }
-
--- the tables with these changes of the table `petition`
-abbrev pub with_petition_changes : List (PetitionId × Option PetitionCells) → Tables → Tables
-with_petition_changes changes t = record t { petition = petitions_with changes t.petition }
 
 -- The tables with all these changes: the row of `head`, the number of the next petition if one is given, and at each key that changes its
 -- new row or none.

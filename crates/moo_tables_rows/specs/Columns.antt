@@ -1,17 +1,10 @@
 -- Tables of the store and their columns, as the schema has them, and the cells of their rows.
-use Rattle.std.specs.Prelude.{◌≡◌, Bool, true, false, if◌then◌else◌, ℕ, ◌-◌, ◌+◌, pos, Vec}
-use Rattle.std.specs.Prelude.{Option, Some, None, option_map, List, [], ◌∷◌, ◌++◌, length, map, take, drop}
-use Rattle.std.specs.List.{range_with_len}
+use Rattle.moo_tables_rows.specs.Words.{◌≡◌, Bool, true, false, if◌then◌else◌, ℕ, ◌-◌, ◌+◌, pos, Vec, Option, Some, None, option_map, List}
+use Rattle.moo_tables_rows.specs.Words.{[], ◌∷◌, ◌++◌, length, map, take, drop, range_with_len, Value, Null, Int, Text, Row, column, Table}
+use Rattle.moo_tables_rows.specs.Words.{Kind, plain, Column}
 use Rattle.sqlite.specs.Collation.TheVariants.{Binary}
-use Rattle.sqlite.specs.declared.types.Value.{Value}
-use Rattle.sqlite.specs.declared.types.Value.TheVariants.{Null, Int, Text}
-use Rattle.sqlite.specs.Order.{Row, column}
-use Rattle.sqlite.specs.Table.{Table}
-use Rattle.sqlite.specs.Kind.{Kind}
 use Rattle.sqlite.specs.Kind.TheVariants.{Integer, Text}
-use Rattle.sqlite_value.specs.Keys.{plain}
 use Rattle.sqlite_value.specs.declared.keys.Order.{Order}
-use Rattle.sqlite_schema.specs.declared.schema.Column.{Column}
 use Rattle.std.specs.declared.alloc.Global.{Global}
 
 -- a column that is never empty

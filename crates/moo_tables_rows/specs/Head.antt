@@ -1,9 +1,5 @@
 -- The tables of one row, `head` and `petition_head`: their columns, and the cells of that row.
-use Rattle.std.specs.Prelude.{◌≡◌, [], ◌∷◌, ◌++◌, codes, pos, List, ℕ}
-use Rattle.sqlite.specs.Order.{Row, column}
-use Rattle.sqlite.specs.Table.{Table}
-use Rattle.sqlite.specs.declared.types.Value.TheVariants.{Int}
-use Rattle.moo_rows.specs.declared.row.Head.{Head}
+use Rattle.moo_tables_rows.specs.Words.{◌≡◌, [], ◌∷◌, ◌++◌, codes, pos, List, ℕ, Row, column, Table, Int, Head}
 use Rattle.moo_tables_rows.specs.declared.version.Version.{Version}
 use Rattle.moo_tables_rows.specs.Version.{version_number}
 use Rattle.moo_tables_rows.specs.Columns.{numbered, number, KeepsCell}

@@ -1,12 +1,7 @@
 -- What the calls of one transaction leave of a connection, and what a whole one leaves.
-use Rattle.std.specs.Prelude.{◌≡◌, ◌⊎◌, ℕ, false, IsTrue, List, [], None, Result, IfOk}
-use Rattle.std.specs.List.{AllByRecursion}
-use Rattle.sqlite.specs.Schema.{Schema}
-use Rattle.sqlite.specs.Order.{Row}
-use Rattle.sqlite.specs.Tree.{Trees}
-use Rattle.sqlite.specs.Effect.{Database, IsDatabase}
-use Rattle.sqlite.specs.declared.error.Error.{Error}
-use Rattle.sqlite.specs.State.{State, HasCleanDisk, Executes, IsUnchanged, IsRolledBack, KeepsCommit, Survives, Opens}
+use Rattle.moo_tables_rows.specs.Words.{◌≡◌, ◌⊎◌, ℕ, false, IsTrue, List, [], None, Result, IfOk, AllByRecursion, Schema, Row, Trees}
+use Rattle.moo_tables_rows.specs.Words.{Database, IsDatabase, Error, State, HasCleanDisk, Executes, IsUnchanged, IsRolledBack, KeepsCommit}
+use Rattle.moo_tables_rows.specs.Words.{Survives, Opens}
 use Rattle.moo_tables_rows.specs.declared.version.Version.{Version}
 use Rattle.moo_tables_rows.specs.declared.version.Version.TheVariants.{First}
 use Rattle.moo_tables_rows.specs.Version.{present}

@@ -1,3 +1,4 @@
+pub mod Words
 pub mod Cause
 pub mod Cells
 pub mod Columns

@@ -1,10 +1,5 @@
 -- The table `object`: its columns, and the cells of a row.
-use Rattle.std.specs.Prelude.{◌≡◌, [], ◌∷◌, codes, List, ℕ, Option}
-use Rattle.sqlite.specs.Order.{Row, column}
-use Rattle.sqlite.specs.Table.{Table}
-use Rattle.sqlite.specs.declared.types.Value.{Value}
-use Rattle.sqlite.specs.declared.types.Value.TheVariants.{Int, Text}
-use Rattle.moo_value.specs.declared.value.ObjNo.{ObjNo}
+use Rattle.moo_tables_rows.specs.Words.{◌≡◌, [], ◌∷◌, codes, List, ℕ, Option, Row, column, Table, Value, Int, Text, ObjNo}
 use Rattle.moo_rows.specs.declared.row.ObjRow.{ObjRow}
 use Rattle.moo_tables_rows.specs.declared.object.ObjectCells.{ObjectCells}
 use Rattle.moo_tables_rows.specs.Columns.{numbered, number, text, flag_cell, cells_over, KeepsCell}

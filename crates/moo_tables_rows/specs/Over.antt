@@ -1,8 +1,5 @@
 -- What a statement does that writes a row of a table.
-use Rattle.std.specs.Prelude.{◌≡◌, ◌≢◌, ℕ, List, Result, IfOk, OnOk}
-use Rattle.sqlite.specs.State.{State}
-use Rattle.sqlite.specs.Table.{Table}
-use Rattle.sqlite.specs.declared.error.Error.{Error}
+use Rattle.moo_tables_rows.specs.Words.{◌≡◌, ◌≢◌, ℕ, List, Result, IfOk, OnOk, State, Table, Error}
 use Rattle.moo_tables_rows.specs.Cause.{HasCauseIn, MeetsRowIn}
 use Rattle.moo_tables_rows.specs.Tables.{Tables}
 use Rattle.moo_tables_rows.specs.Inside.{Changes}

@@ -1,10 +1,5 @@
 -- The table `petition`: its columns, and the cells of a row.
-use Rattle.std.specs.Prelude.{◌≡◌, [], ◌∷◌, codes, List, ℕ, pos, Option}
-use Rattle.sqlite.specs.Order.{Row, column}
-use Rattle.sqlite.specs.Table.{Table}
-use Rattle.sqlite.specs.declared.types.Value.{Value}
-use Rattle.sqlite.specs.declared.types.Value.TheVariants.{Int}
-use Rattle.moo_rows.specs.declared.row.PetitionId.{PetitionId}
+use Rattle.moo_tables_rows.specs.Words.{◌≡◌, [], ◌∷◌, codes, List, ℕ, pos, Option, Row, column, Table, Value, Int, PetitionId}
 use Rattle.moo_rows.specs.declared.row.PetitionRow.{PetitionRow}
 use Rattle.moo_tables_rows.specs.declared.petition.PetitionCells.{PetitionCells}
 use Rattle.moo_tables_rows.specs.Columns.{numbered, number, text, cells_over, KeepsCell}

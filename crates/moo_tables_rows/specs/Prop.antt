@@ -1,9 +1,5 @@
 -- The table `prop`: its columns, and the cells of a row.
-use Rattle.std.specs.Prelude.{◌≡◌, [], ◌∷◌, codes, List, ℕ, pos, Option, Some}
-use Rattle.sqlite.specs.Order.{Row, column}
-use Rattle.sqlite.specs.Table.{Table}
-use Rattle.sqlite.specs.declared.types.Value.TheVariants.{Int, Text}
-use Rattle.moo_rows.specs.declared.row.PropId.{PropId}
+use Rattle.moo_tables_rows.specs.Words.{◌≡◌, [], ◌∷◌, codes, List, ℕ, pos, Option, Some, Row, column, Table, Int, Text, PropId}
 use Rattle.moo_rows.specs.declared.row.PropRow.{PropRow}
 use Rattle.moo_tables_rows.specs.declared.prop.PropCells.{PropCells}
 use Rattle.moo_tables_rows.specs.Columns.{numbered, number, text, KeepsCell}

@@ -1,11 +1,5 @@
 -- The tables of the slots, `slot` in the first version and `slot2` after it: their columns, and the cells of a row of `slot2`.
-use Rattle.std.specs.Prelude.{◌≡◌, [], ◌∷◌, codes, List, ℕ, pos, Option}
-use Rattle.sqlite.specs.Order.{Row, column}
-use Rattle.sqlite.specs.Table.{Table}
-use Rattle.sqlite.specs.declared.types.Value.{Value}
-use Rattle.sqlite.specs.declared.types.Value.TheVariants.{Int}
-use Rattle.moo_value.specs.declared.value.ObjNo.{ObjNo}
-use Rattle.moo_rows.specs.declared.row.PropId.{PropId}
+use Rattle.moo_tables_rows.specs.Words.{◌≡◌, [], ◌∷◌, codes, List, ℕ, pos, Option, Row, column, Table, Value, Int, ObjNo, PropId}
 use Rattle.moo_rows.specs.declared.row.SlotRow.{SlotRow}
 use Rattle.moo_tables_rows.specs.declared.slot.SlotCells.{SlotCells}
 use Rattle.moo_tables_rows.specs.Columns.{paired, number, text, cells_over, KeepsCell}

@@ -1,16 +1,9 @@
 -- The tables of the store, as the schema has them, and their rows.
-use Rattle.std.specs.Prelude.{◌≡◌, Bool, true, if◌then◌else◌, ◌&&◌, ℕ, ℤ, codes}
-use Rattle.std.specs.Prelude.{Option, option_map, List, [], ◌∷◌, find}
+use Rattle.moo_tables_rows.specs.Words.{◌≡◌, Bool, true, if◌then◌else◌, ◌&&◌, ℕ, ℤ, codes, Option, option_map, List, [], ◌∷◌, find, Int}
+use Rattle.moo_tables_rows.specs.Words.{Row, column, value_cmp, Trees, has_rowid, Schema, Table, Database, IsDatabase, plain}
 use Rattle.std.specs.Ordering.{is_eq, int_cmp}
-use Rattle.sqlite.specs.declared.types.Value.TheVariants.{Int}
-use Rattle.sqlite.specs.Order.{Row, column, value_cmp}
-use Rattle.sqlite.specs.Tree.{Trees, has_rowid}
-use Rattle.sqlite.specs.Schema.{Schema}
-use Rattle.sqlite.specs.Table.{Table}
-use Rattle.sqlite.specs.Effect.{Database, IsDatabase}
 use Rattle.sqlite_trees.specs.View.{IsShaped}
 use Rattle.sqlite_trees.specs.declared.store.Shape.TheVariants as shape
-use Rattle.sqlite_value.specs.Keys.{plain}
 use Rattle.sqlite_schema.specs.declared.schema.Index.{Index}
 use Rattle.moo_tables_rows.specs.declared.version.Version.{Version}
 use Rattle.moo_tables_rows.specs.declared.version.Version.TheVariants.{First, Second}

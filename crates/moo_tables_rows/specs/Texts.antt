@@ -1,12 +1,8 @@
 -- The texts of the statements on a table. Each follows from the table's name and columns.
-use Rattle.std.specs.Prelude.{ℕ, ◌+◌, false, Option, Some, None, codes}
-use Rattle.std.specs.Prelude.{List, [], ◌∷◌, ◌++◌, length, map, flat_map, take, drop}
-use Rattle.std.specs.List.{range_with_len}
+use Rattle.moo_tables_rows.specs.Words.{ℕ, ◌+◌, false, Option, Some, None, codes, List, [], ◌∷◌, ◌++◌, length, map, flat_map, take, drop}
+use Rattle.moo_tables_rows.specs.Words.{range_with_len, Table, Kind, Column}
 use Rattle.std.specs.Fmt.{digits_onto}
-use Rattle.sqlite.specs.Table.{Table}
-use Rattle.sqlite.specs.Kind.{Kind}
 use Rattle.sqlite.specs.Kind.TheVariants.{Integer, Real, Text, Blob, Any}
-use Rattle.sqlite_schema.specs.declared.schema.Column.{Column}
 use Rattle.moo_tables_rows.specs.Columns.{all_but}
 
 -- ---- their parts

@@ -1,11 +1,5 @@
 -- The table `verb`: its columns, and the cells of a row.
-use Rattle.std.specs.Prelude.{◌≡◌, [], ◌∷◌, codes, List, ℕ, pos, Option}
-use Rattle.sqlite.specs.Order.{Row, column}
-use Rattle.sqlite.specs.Table.{Table}
-use Rattle.sqlite.specs.declared.types.Value.{Value}
-use Rattle.sqlite.specs.declared.types.Value.TheVariants.{Int, Text}
-use Rattle.moo_value.specs.declared.value.ObjNo.{ObjNo}
-use Rattle.moo_rows.specs.declared.row.VerbId.{VerbId}
+use Rattle.moo_tables_rows.specs.Words.{◌≡◌, [], ◌∷◌, codes, List, ℕ, pos, Option, Row, column, Table, Value, Int, Text, ObjNo, VerbId}
 use Rattle.moo_rows.specs.declared.row.VerbRow.{VerbRow}
 use Rattle.moo_tables_rows.specs.declared.verb.VerbCells.{VerbCells}
 use Rattle.moo_tables_rows.specs.Columns.{paired, number, text, cells_over, KeepsCell}

@@ -1,10 +1,8 @@
 //! The table `petition_head`: what it is, and the writing of its rows.
 
 ghost use Rattle.std.specs.Prelude.{◌≡◌, OnOk};
-ghost use Rattle.sqlite.specs.Values.{bound};
 ghost use Rattle.moo_tables_rows.specs.Cells.{with_counter, with_next_petition};
 ghost use Rattle.moo_tables_rows.specs.Cause.{HasCauseIn};
-ghost use Rattle.moo_tables_rows.specs.Head.{petition_head_cells};
 ghost use Rattle.moo_tables_rows.specs.Inside.{StaysInside, Changes};
 
 use crate::our_table::OurTable;
@@ -23,13 +21,6 @@ pub const PETITION_HEAD: OurTable = OurTable {
     read: "SELECT id, next_petition FROM petition_head ORDER BY id",
 };
 
-/// The values of the row with the number of the next petition: its id, which is 1, and the number.
-fn counter_values(next: u32) -> [ValueRef<'static>; 2]
-    ensures { bound result ≡ petition_head_cells next }
-{
-    [ValueRef::Int(1), counter_value(next)]
-}
-
 /// Puts the number of the next petition, in place of the one that is there. If that is the same, nothing is written. Answers how many rows
 /// were written. It fails only if the store does, at the limit on steps, or if a table has no number left for a row.
 pub fn put_counter<T: Run>(tx: &mut T, next: u32) -> Result<usize, Error>
@@ -44,7 +35,7 @@ pub fn put_counter<T: Run>(tx: &mut T, next: u32) -> Result<usize, Error>
 {
     tx.run(
         "INSERT INTO petition_head VALUES (?1, ?2) ON CONFLICT (id) DO UPDATE SET next_petition = ?2 WHERE next_petition <> ?2",
-        &counter_values(next),
+        &[ValueRef::Int(1), counter_value(next)],
     )
 }
 

@@ -2,9 +2,8 @@
 
 ghost use Rattle.std.specs.Prelude.{◌≡◌};
 ghost use Rattle.sqlite.specs.Values.{bound};
-ghost use Rattle.sqlite.specs.declared.types.Value.TheVariants.{Null, Text};
+ghost use Rattle.sqlite.specs.declared.types.Value.TheVariants.{Text};
 ghost use Rattle.moo_tables_rows.specs.Cells.{with_object_cells};
-ghost use Rattle.moo_tables_rows.specs.Columns.{all_but};
 ghost use Rattle.moo_tables_rows.specs.Object.{object_row, object_table};
 
 use crate::our_table::OurTable;
@@ -67,25 +66,6 @@ fn object_values<'a>(n: ObjNo, row: &'a ObjectCells, accept: &'a [u8]) -> [Value
     ]
 }
 
-/// The values of a row but for its accept list, in the order of the columns. They are written if that cell stays.
-fn kept_object_values(n: ObjNo, row: &ObjectCells) -> [ValueRef<'_>; 11]
-    ensures { bound result ≡ all_but 11 (object_row n row.now.row Null) }
-{
-    [
-        object_value(n),
-        text_value(row.row.name.bytes()),
-        object_value(row.row.owner),
-        object_value(row.row.parent),
-        object_value(row.row.location),
-        flag_value(row.row.player),
-        flag_value(row.row.programmer),
-        flag_value(row.row.wizard),
-        flag_value(row.row.r),
-        flag_value(row.row.w),
-        flag_value(row.row.f),
-    ]
-}
-
 /// The statement that writes over a row, and leaves its accept list as it is.
 const KEEP_OBJECT: &str =
     "UPDATE object SET name = ?2, owner = ?3, parent = ?4, location = ?5, player = ?6, programmer = ?7, wizard = ?8, r = ?9, w = ?10, f = ?11 WHERE n = ?1";
@@ -112,7 +92,8 @@ impl TableRow for ObjectCells {
     fn write<T: Run>(&self, tx: &mut T, n: ObjNo, text: &str) -> Result<usize, Error> {
         match &self.accept {
             Some(accept) => tx.run(text, &object_values(n, self, accept.as_slice())),
-            None => tx.run(KEEP_OBJECT, &kept_object_values(n, self)),
+            // The accept list is the last value.
+            None => tx.run(KEEP_OBJECT, &object_values(n, self, &[])[..11]),
         }
     }
 

@@ -2,9 +2,8 @@
 
 ghost use Rattle.std.specs.Prelude.{◌≡◌};
 ghost use Rattle.sqlite.specs.Values.{bound};
-ghost use Rattle.sqlite.specs.declared.types.Value.TheVariants.{Null, Text};
+ghost use Rattle.sqlite.specs.declared.types.Value.TheVariants.{Text};
 ghost use Rattle.moo_tables_rows.specs.Cells.{with_petition_cells};
-ghost use Rattle.moo_tables_rows.specs.Columns.{all_but};
 ghost use Rattle.moo_tables_rows.specs.Petition.{petition_row, petition_table};
 
 use crate::our_table::OurTable;
@@ -49,13 +48,6 @@ fn petition_values<'a>(id: PetitionId, row: &'a PetitionCells, calls: &'a [u8]) 
     ]
 }
 
-/// The values of a row but for its calls, in the order of the columns. They are written if that cell stays.
-fn kept_petition_values(id: PetitionId, row: &PetitionCells) -> [ValueRef<'_>; 2]
-    ensures { bound result ≡ all_but 2 (petition_row id row.now Null) }
-{
-    [counter_value(id.0), object_value(row.who)]
-}
-
 /// The statement that writes over a row, and leaves its calls as they are.
 const KEEP_PETITION: &str = "UPDATE petition SET who = ?2 WHERE id = ?1";
 
@@ -81,7 +73,8 @@ impl TableRow for PetitionCells {
     fn write<T: Run>(&self, tx: &mut T, id: PetitionId, text: &str) -> Result<usize, Error> {
         match &self.calls {
             Some(calls) => tx.run(text, &petition_values(id, self, calls.as_slice())),
-            None => tx.run(KEEP_PETITION, &kept_petition_values(id, self)),
+            // The calls are the last value.
+            None => tx.run(KEEP_PETITION, &petition_values(id, self, &[])[..2]),
         }
     }
 

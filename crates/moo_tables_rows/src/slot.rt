@@ -1,11 +1,10 @@
 //! The tables of the slots: what they are, and the writing of the rows of `slot2`. Nothing writes `slot`, which had them in the first
 //! version.
 
-ghost use Rattle.std.specs.Prelude.{◌≡◌, ◌∷◌, [], pos};
+ghost use Rattle.std.specs.Prelude.{◌≡◌};
 ghost use Rattle.sqlite.specs.Values.{bound};
-ghost use Rattle.sqlite.specs.declared.types.Value.TheVariants.{Null, Int, Text};
+ghost use Rattle.sqlite.specs.declared.types.Value.TheVariants.{Text};
 ghost use Rattle.moo_tables_rows.specs.Cells.{with_slot_cells};
-ghost use Rattle.moo_tables_rows.specs.Columns.{all_but};
 ghost use Rattle.moo_tables_rows.specs.Slot.{slot_row, slot2_table};
 
 use crate::our_table::OurTable;
@@ -72,25 +71,6 @@ fn slot_values<'a>(key: (ObjNo, PropId), row: &'a SlotCells, value: &'a [u8]) ->
     ]
 }
 
-/// The values of a row but for the value of the slot, in the order of the columns. They are written if that cell stays.
-fn kept_slot_values(key: (ObjNo, PropId), row: &SlotCells) -> [ValueRef<'_>; 4]
-    ensures { bound result ≡ all_but 4 (slot_row key row.now Null) }
-{
-    [
-        object_value(key.0),
-        counter_value(key.1.0),
-        object_value(row.owner),
-        ValueRef::Int(row.bits),
-    ]
-}
-
-/// The two values of the key of a row, which name it in a statement: the object and the property.
-fn slot_key(key: (ObjNo, PropId)) -> [ValueRef<'static>; 2]
-    ensures { bound result ≡ Int key.0.0 ∷ Int (pos key.1.0) ∷ [] }
-{
-    [object_value(key.0), counter_value(key.1.0)]
-}
-
 /// The statement that writes over a row, and leaves the value of the slot as it is.
 const KEEP_SLOT: &str = "UPDATE slot2 SET owner = ?3, bits = ?4 WHERE object = ?1 AND prop = ?2";
 
@@ -116,14 +96,15 @@ impl TableRow for SlotCells {
     fn write<T: Run>(&self, tx: &mut T, key: (ObjNo, PropId), text: &str) -> Result<usize, Error> {
         match &self.value {
             Some(value) => tx.run(text, &slot_values(key, self, value.as_slice())),
-            None => tx.run(KEEP_SLOT, &kept_slot_values(key, self)),
+            // The value of the slot is the last one.
+            None => tx.run(KEEP_SLOT, &slot_values(key, self, &[])[..4]),
         }
     }
 
     fn remove<T: Run>(tx: &mut T, key: (ObjNo, PropId)) -> Result<usize, Error> {
         tx.run(
             "DELETE FROM slot2 WHERE object = ?1 AND prop = ?2",
-            &slot_key(key),
+            &[object_value(key.0), counter_value(key.1.0)],
         )
     }
 }

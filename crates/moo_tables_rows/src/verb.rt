@@ -1,8 +1,8 @@
 //! The table `verb`: what it is, and the writing of its rows.
 
-ghost use Rattle.std.specs.Prelude.{◌≡◌, ◌∷◌, [], pos};
+ghost use Rattle.std.specs.Prelude.{◌≡◌};
 ghost use Rattle.sqlite.specs.Values.{bound};
-ghost use Rattle.sqlite.specs.declared.types.Value.TheVariants.{Null, Int, Text};
+ghost use Rattle.sqlite.specs.declared.types.Value.TheVariants.{Null, Text};
 ghost use Rattle.moo_tables_rows.specs.Cells.{with_verb_cells};
 ghost use Rattle.moo_tables_rows.specs.Columns.{all_but};
 ghost use Rattle.moo_tables_rows.specs.Verb.{verb_row, verb_table};
@@ -78,13 +78,6 @@ fn kept_verb_values(key: (ObjNo, VerbId), row: &VerbCells) -> [ValueRef<'_>; 7]
     ]
 }
 
-/// The two values of the key of a row, which name it in a statement: the object and the number of the verb.
-fn verb_key(key: (ObjNo, VerbId)) -> [ValueRef<'static>; 2]
-    ensures { bound result ≡ Int key.0.0 ∷ Int (pos key.1.0) ∷ [] }
-{
-    [object_value(key.0), counter_value(key.1.0)]
-}
-
 /// The statement that writes over a row, and leaves its bits as they are.
 const KEEP_VERB: &str =
     "UPDATE verb SET names = ?3, owner = ?4, dobj = ?5, prep = ?6, iobj = ?7 WHERE object = ?1 AND id = ?2";
@@ -118,7 +111,7 @@ impl TableRow for VerbCells {
     fn remove<T: Run>(tx: &mut T, key: (ObjNo, VerbId)) -> Result<usize, Error> {
         tx.run(
             "DELETE FROM verb WHERE object = ?1 AND id = ?2",
-            &verb_key(key),
+            &[object_value(key.0), counter_value(key.1.0)],
         )
     }
 }
