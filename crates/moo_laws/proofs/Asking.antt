@@ -56,20 +56,14 @@ module _ (p : ObjNo) (w v : World) (alike : LookAlike p w v) where
   rows : row_of v ≡ row_of w
   rows = same_rows w v alike.rest
 
-  verbs_same : directory_of v ≡ directory_of w
-  verbs_same = same_verbs w v alike.rest
-
   pub there : is_object v ≡ is_object w
   there = (λ i x. sym (bare_some (v.object x)) i) ∙ ap is_object (sym alike.rest) ∙ (λ i x. bare_some (w.object x) i)
-
-  top : v.top ≡ w.top
-  top = ap (λ (k : World). k.top) (sym alike.rest)
 
   pub passes : (test : ObjRow → Bool) → row_passes test v ≡ row_passes test w
   passes test = λ i x. unwrap_or (option_map test (rows i x)) false
 
   all : objects_of v ≡ objects_of w
-  all = λ i. filter (there i) (map object_at (numbers_below (numbers_to (top i))))
+  all = λ i. filter (there i) (map object_at (numbers_below (numbers_to (ap (λ (k : World). k.top) (sym alike.rest) i))))
 
   may_list : (x : ObjNo) → may_read_object v p x ≡ may_read_object w p x
   may_list x = ap (λ (r : ObjNo → Option ObjRow). (unwrap_or (option_map (λ row. same_object p row.owner) (r x)) false || unwrap_or (option_map (λ row. row.wizard) (r p)) false) || unwrap_or (option_map (λ row. row.r) (r x)) false) rows
@@ -77,21 +71,12 @@ module _ (p : ObjNo) (w v : World) (alike : LookAlike p w v) where
   may_see : (verb : VerbRow) → may_read_verb v p verb ≡ may_read_verb w p verb
   may_see verb = ap (λ b. b || (same_object p verb.owner || verb.bits.r)) (ap (λ f. f p) (passes (λ row. row.wizard)))
 
-  one_verb : (x : ObjNo) (d : Desc) → found_verb v x d ≡ found_verb w x d
-  one_verb = same_verb w v alike.rest
-
   field_same : (x : ObjNo) (f : BuiltIn) → field_of v x f ≡ field_of w x f
   field_same x f = ap (λ (r : Option ObjRow). unwrap_or (option_map (field_in v x f) r) (Int (pos 0))) (ap (λ k. k x) rows) ∙ ap (λ (g : ObjRow → Value). unwrap_or (option_map g (row_of w x)) (Int (pos 0))) (λ i row. inside row f i)
     where
       inside : (row : ObjRow) (f : BuiltIn) → field_in v x f row ≡ field_in w x f row
       inside row Contents = λ i. object_list (filter (λ y. passes (λ row. same_object x row.location) i y) (all i))
       inside row f = refl
-
-  parents : parent_of v ≡ parent_of w
-  parents = sym (parents_same w v alike.rest)
-
-  names : property_names_of v ≡ property_names_of w
-  names = sym (names_same w v alike.rest)
 
   may_read : (a b : Slot) → emptied_slot b ≡ emptied_slot a → may_read_slot v p b ≡ may_read_slot w p a
   may_read a b same = λ i. passes (λ row. row.wizard) i p || (same_object p (same i).owner || (same i).bits.r)
@@ -119,24 +104,21 @@ module _ (p : ObjNo) (w v : World) (alike : LookAlike p w v) where
 
     pub asked : (name : CallName) (values : List Value) → is_question name ≡ true → Both Q (named_call w p name values) (named_call v p name values)
     asked Valid values h = on_givens Q (one_object values) _ _ (λ x. (λ i. flag (there i x), left))
-    asked Parent values h = on_givens Q (one_object values) _ _ (λ x. object_checked x _ _ _ (λ i. Obj (unwrap_or (parents i x) nothing), left))
+    asked Parent values h = on_givens Q (one_object values) _ _ (λ x. object_checked x _ _ _ (λ i. Obj (unwrap_or (sym (parents_same w v alike.rest) i x) nothing), left))
     asked Children values h = on_givens Q (one_object values) _ _ (λ x. object_checked x _ _ _ (λ i. object_list (filter (passes (λ row. same_object x row.parent) i) (all i)), left))
     asked IsPlayer values h = on_givens Q (one_object values) _ _ (λ x. object_checked x _ _ _ (λ i. flag (passes (λ row. row.player) i x), left))
     asked Players values h = on_givens Q (no_values values) _ _ (λ _. (λ i. object_list (filter (passes (λ row. row.player) i) (all i)), left))
-    asked MaxObject values h = on_givens Q (no_values values) _ _ (λ _. (λ i. Obj (record { 0 = top i }), left))
+    asked MaxObject values h = on_givens Q (no_values values) _ _ (λ _. (λ i. Obj (record { 0 = ap (λ (k : World). k.top) (sym alike.rest) i }), left))
     asked Get values h = on_givens Q (object_and_text values) _ _ (λ a. object_checked a.0 _ _ _ (on_fields Q (built_in a.1) _ _ _ _ (λ f. (field_same a.0 f, left)) (got a.0 a.1)))
-    asked Properties values h = on_givens Q (one_object values) _ _ (λ x. object_checked x _ _ _ (on_checks Q _ _ _ _ _ (may_list x) (λ _. (λ i. text_list (names i x), left))))
+    asked Properties values h = on_givens Q (one_object values) _ _ (λ x. object_checked x _ _ _ (on_checks Q _ _ _ _ _ (may_list x) (λ _. (λ i. text_list (sym (names_same w v alike.rest) i x), left))))
     asked PropertyInfo values h = on_givens Q (object_and_text values) _ _ (λ a. told a.0 a.1)
     asked IsClearProperty values h = on_givens Q (object_and_text values) _ _ (λ a. cleared_or_not a.0 a.1)
-    asked Verbs values h = on_givens Q (one_object values) _ _ (λ x. object_checked x _ _ _ (on_checks Q _ _ _ _ _ (may_list x) (λ _. (λ i. text_list (map (λ (verb : VerbRow). verb.names) (verbs_same i x)), left))))
-    asked VerbInfo values h = on_givens Q (object_and_desc values) _ _ (λ a. object_checked a.0 _ _ _ (on_founds Q _ _ _ _ _ (one_verb a.0 a.1) (λ found. on_checks Q _ _ _ _ _ (may_see found.1) (λ _. (refl, left)))))
-    asked VerbArgs values h = on_givens Q (object_and_desc values) _ _ (λ a. object_checked a.0 _ _ _ (on_founds Q _ _ _ _ _ (one_verb a.0 a.1) (λ found. on_checks Q _ _ _ _ _ (may_see found.1) (λ _. (refl, left)))))
+    asked Verbs values h = on_givens Q (one_object values) _ _ (λ x. object_checked x _ _ _ (on_checks Q _ _ _ _ _ (may_list x) (λ _. (λ i. text_list (map (λ (verb : VerbRow). verb.names) (same_verbs w v alike.rest i x)), left))))
+    asked VerbInfo values h = on_givens Q (object_and_desc values) _ _ (λ a. object_checked a.0 _ _ _ (on_founds Q _ _ _ _ _ (same_verb w v alike.rest a.0 a.1) (λ found. on_checks Q _ _ _ _ _ (may_see found.1) (λ _. (refl, left)))))
+    asked VerbArgs values h = on_givens Q (object_and_desc values) _ _ (λ a. object_checked a.0 _ _ _ (on_founds Q _ _ _ _ _ (same_verb w v alike.rest a.0 a.1) (λ found. on_checks Q _ _ _ _ _ (may_see found.1) (λ _. (refl, left)))))
     asked AcceptList values h = on_givens Q (one_object values) _ _ (λ x. object_checked x _ _ _ (λ i. accept_value (option_and_then (λ (row : ObjRow). row.accept) (rows i x)), left))
     asked name values h = absurd (false≢true h)
 
-same_answer : (r s : Outcome World) → Both (λ w v. Unit {0}) r s → SameAnswer r s
-same_answer r s e = grind arith
-
 pub questions_tell_no_more : (p : ObjNo) (w v : World) (call : Call) → LookAlike p w v → is_question call.name ≡ true → SameAnswer (world_call w p call) (world_call v p call)
 unfolding world_call
-questions_tell_no_more p w v call alike h = same_answer _ _ (object_checked p w v alike (λ x y. Unit {0}) tt p _ _ _ (asked p w v alike (λ x y. Unit {0}) tt call.name call.args h))
+questions_tell_no_more p w v call alike h = grind (arith, object_checked p w v alike (λ x y. Unit {0}) tt p _ _ _ (asked p w v alike (λ x y. Unit {0}) tt call.name call.args h))

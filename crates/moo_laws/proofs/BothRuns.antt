@@ -15,13 +15,10 @@ BothRan Q (FullAt k) (FullAt l) = l ≡ k
 BothRan Q r q = ⊥
 
 module _ (Q : State → State → Type 0) where
-  one_more : (a b : Value) (r q : Ran) → b ≡ a → BothRan Q r q → BothRan Q (after_one a r) (after_one b q)
-  one_more a b r q e f = grind arith
-
   -- one call, and the others from what it leaves
   pub runs_joined : (p : ObjNo) (calls : List Call) (o q : Outcome State) → Both Q o q → ((v : Value) (x y : State) → o ≡ Done v x → Q x y → BothRan Q (run_calls x p calls) (run_calls y p calls))
       → BothRan Q (elim o [ Done v next ↦ after_one v (run_calls next p calls) | Failed failure ↦ FailedAt 1 failure | Full ↦ FullAt 1 ]) (elim q [ Done v next ↦ after_one v (run_calls next p calls) | Failed failure ↦ FailedAt 1 failure | Full ↦ FullAt 1 ])
-  runs_joined p calls (Done a x) (Done b y) (same, left) rest = one_more a b _ _ same (rest a x y refl left)
+  runs_joined p calls (Done a x) (Done b y) (same, left) rest = grind (arith, rest a x y refl left)
   runs_joined p calls (Failed c) (Failed d) same rest = (refl, same)
   runs_joined p calls Full Full same rest = refl
   runs_joined p calls o q same rest = absurd same

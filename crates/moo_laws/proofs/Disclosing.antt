@@ -15,25 +15,19 @@ module _ (p : ObjNo) (w v : World) (rest : SameButSlots w v) where
   may_list : (x : ObjNo) → may_read_object v p x ≡ may_read_object w p x
   may_list x = ap (λ (r : ObjNo → Option ObjRow). (unwrap_or (option_map (λ row. same_object p row.owner) (r x)) false || unwrap_or (option_map (λ row. row.wizard) (r p)) false) || unwrap_or (option_map (λ row. row.r) (r x)) false) (same_rows w v rest)
 
-  listed_same : (x : ObjNo) → names_listed v p x ≡ names_listed w p x
-  listed_same x = λ i. if may_list x i then (sym (names_same w v rest) i x) else []
-
   module _ (slots : (x : ObjNo) (n : Name) → option_map emptied_slot (slot_of v x n) ≡ option_map emptied_slot (slot_of w x n)) where
     has_same : (x : ObjNo) (n : Name) → is_some (slot_of v x n) ≡ is_some (slot_of w x n)
     has_same x n = grind arith
 
     near_same : (call : CallName) (given : ObjNo × Name) → names_near v p call given ≡ names_near w p call given
-    near_same call given = λ i. if has_same given.0 (folded given.1) i then [] else take 200 (flat_map (λ y. listed_same y i) (objects_searched call (sym (chains_same w v rest given.0) i)))
+    near_same call given = λ i. if has_same given.0 (folded given.1) i then [] else take 200 (flat_map (λ y. if may_list y i then (sym (names_same w v rest) i y) else []) (objects_searched call (sym (chains_same w v rest given.0) i)))
 
     pub meant_same : (call : CallName) (args : List Value) (reason : Reason) → names_meant v p call args reason ≡ names_meant w p call args reason
     meant_same call args reason = ap (λ (near : ObjNo × Name → List Name). if lacks_property reason then elim (property_given args) [ None ↦ [] | Some given ↦ near given ] else []) (λ i given. near_same call given i)
 
-    shared_same : (definer q : ObjNo) → name_shared v definer q ≡ name_shared w definer q
-    shared_same definer q = λ i. find (λ name. has_same q (folded name) i) (take 200 (sym (names_same w v rest) i definer))
-
     pub clash_same : (args : List Value) (reason : Reason) → clash_name v p args reason ≡ clash_name w p args reason
     clash_same args reason = ap (λ (name : ObjNo → Option Name). elim reason [ NameShared definer ↦ name definer | _ ↦ None ])
-        (λ i definer. if may_list definer i then option_and_then (λ q. shared_same definer q i) (new_parent_given args) else None)
+        (λ i definer. if may_list definer i then option_and_then (λ q. find (λ name. has_same q (folded name) i) (take 200 (sym (names_same w v rest) i definer))) (new_parent_given args) else None)
 
 -- ---- each name is listed
 
@@ -67,10 +61,7 @@ module _ (w : World) (p : ObjNo) where
 
   found_listed : (test : Name → Bool) (names : List Name) → All (IsListed w p) names → IfSome (find test names) (IsListed w p)
   found_listed test [] listed = tt
-  found_listed test (name ∷ names) listed = by (test name) (found_listed test names (λ k d below. listed (suc k) d (omega (arith, below))))
-    where
-      by : (b : Bool) → IfSome (find test names) (IsListed w p) → IfSome (if b then Some name else find test names) (IsListed w p)
-      by b e = grind arith
+  found_listed test (name ∷ names) listed = grind (arith, found_listed test names (λ k d below. listed (suc k) d (omega (arith, below))))
 
   pub clash_listed : (args : List Value) (reason : Reason) → IfSome (clash_name w p args reason) (IsListed w p)
   clash_listed args (NameShared definer) = by (may_read_object w p definer) refl (new_parent_given args)

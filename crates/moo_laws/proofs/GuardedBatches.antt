@@ -15,15 +15,12 @@ use Rattle.moo_laws.proofs.GuardedPetitions.{of_petitions}
 module _ (p : ObjNo) where
   -- ---- one call
 
-  in_both : (s t : State) → AlikeFor p s t → (o q : Outcome World) → Both (SameButGuarded p) o q → Both (AlikeFor p) (in_world s o) (in_world t q)
-  in_both s t e o q f = grind arith
-
   step : (s t : State) → IsFormed s → is_wizard s.world p ≡ false → AlikeFor p s t → (call : Call) → Both (AlikeFor p) (batch_call s p call) (batch_call t p call)
   unfolding batch_call
   step s t formed none alike call = on_checks (AlikeFor p) (is_object s.world p) (is_object t.world p) _ _ _ (objects p s.world t.world alike.worlds.rest p) (λ _. by (petition_call call.name))
     where
       by : (o : Option PetitionCall) → Both (AlikeFor p) (elim o [ None ↦ in_world s (named_call s.world p call.name call.args) | Some c ↦ petition_call_by s p c call.args ]) (elim o [ None ↦ in_world t (named_call t.world p call.name call.args) | Some c ↦ petition_call_by t p c call.args ])
-      by None = in_both s t alike _ _ (tells p s.world t.world formed.world none alike.worlds call.name call.args)
+      by None = grind (arith, tells p s.world t.world formed.world none alike.worlds call.name call.args)
       by (Some c) = of_petitions p s t alike none c call.args
 
   -- ---- calls in turn
@@ -35,13 +32,10 @@ module _ (p : ObjNo) where
       runs_joined (AlikeFor p) p calls _ _ (step s t formed none alike call)
       (λ v x y e left. runs calls x y (requests_keep_form s x p call v formed parts.0 e) (none_after s x p call v formed.world none e) left parts.1)
 
-  own_runs : (s t : State) (b : Batch) → IsFormed s → is_wizard s.world p ≡ false → AlikeFor p s t → is_batch_of p b ≡ true → BothRan (AlikeFor p) (run_calls s b.programmer b.calls) (run_calls t b.programmer b.calls)
-  own_runs s t b formed none alike h = grind (arith, and_parts, same_object-Decides, runs)
-
   -- ---- why a batch is refused
 
   pub refused_alike : (s t : State) (b : Batch) → IsFormed s → is_wizard s.world p ≡ false → AlikeFor p s t → is_batch_of p b ≡ true → refusal_of t b ≡ refusal_of s b
-  refused_alike s t b formed none alike h = reason_of_runs (AlikeFor p) _ _ (own_runs s t b formed none alike h)
+  refused_alike s t b formed none alike h = reason_of_runs (AlikeFor p) _ _ (grind (arith, and_parts, same_object-Decides, runs))
 
   -- ---- the state on which a call is made
 
@@ -60,12 +54,9 @@ module _ (p : ObjNo) where
   judged s t b formed none alike h =
       both_judged (AlikeFor p) s t alike alike.accepted
       (λ x y left. record { worlds = left.worlds; numbers = left.numbers; own = left.own; next = left.next; accepted = ap (λ n. n + 1) alike.accepted })
-      b (own_runs s t b formed none alike h)
+      b (grind (arith, and_parts, same_object-Decides, runs))
 
   -- ---- batches, one after another
-
-  still_formed : (s : State) (b : Batch) → IsFormed s → list_all arguments_fit b.calls ≡ true → IsFormed (left_by s (judge s b))
-  still_formed s b formed fit = runs_keep_form s (b ∷ []) formed (ap (λ x. x && true) fit)
 
   none_still : (s : State) (b : Batch) → IsFormed s → list_all arguments_fit b.calls ≡ true → is_wizard s.world p ≡ false → b.programmer ≡ p → is_wizard (left_by s (judge s b)).world p ≡ false
   none_still s b formed fit none own = still_none s.world (left_by s (judge s b)).world p (nobody_rises s (b ∷ []) formed (ap (λ x. x && true) fit) (λ accepted. subst (λ x. is_wizard s.world x ≡ false) (sym own) none, tt)).rises none
@@ -77,5 +68,5 @@ module _ (p : ObjNo) where
       let mine = and_parts (same_object b.programmer p) (list_all arguments_fit b.calls) parts.0 in
       let own : b.programmer ≡ p = (same_object-Decides b.programmer p).0 mine.0 in
       let one = judged s t b formed none alike parts.0 in
-      let more = told_alike bs (left_by s (judge s b)) (left_by t (judge t b)) (still_formed s b formed mine.1) (none_still s b formed mine.1 none own) one.1 parts.1 in
+      let more = told_alike bs (left_by s (judge s b)) (left_by t (judge t b)) (runs_keep_form s (b ∷ []) formed (ap (λ x. x && true) mine.1)) (none_still s b formed mine.1 none own) one.1 parts.1 in
       ((one.0, more.0), more.1)

@@ -17,11 +17,8 @@ locations_bare : (o : Option WorldObject) → option_map (λ (r : WorldObject). 
 locations_bare o = grind arith
 
 module _ (p : ObjNo) (w v : World) (rest : SameButSlots w v) where
-  rows_same : row_of v ≡ row_of w
-  rows_same = same_rows w v rest
-
   pub passing : (test : ObjRow → Bool) (x : ObjNo) → row_passes test v x ≡ row_passes test w x
-  passing test x = λ i. unwrap_or (option_map test (rows_same i x)) false
+  passing test x = λ i. unwrap_or (option_map test (same_rows w v rest i x)) false
 
   pub objects : (x : ObjNo) → is_object v x ≡ is_object w x
   objects x = sym (objects_same w v rest x)
@@ -63,19 +60,16 @@ module _ (p : ObjNo) (w v : World) (rest : SameButSlots w v) where
 
   along_same : (l : List ObjNo) → accept_along v l ≡ accept_along w l
   along_same [] = refl
-  along_same (x ∷ l) = λ i. option_or (option_and_then (λ (row : ObjRow). row.accept) (rows_same i x)) (along_same l i)
+  along_same (x ∷ l) = λ i. option_or (option_and_then (λ (row : ObjRow). row.accept) (same_rows w v rest i x)) (along_same l i)
 
   pub accepting : (x thing : ObjNo) → accepts v x thing ≡ accepts w x thing
   accepting x thing =
       (λ i. same_object nothing x || unwrap_or (option_map (list_any (λ allowed. is_among allowed (chains thing i))) (accept_along v (chains x i))) false)
       ∙ (λ i. same_object nothing x || unwrap_or (option_map (list_any (λ allowed. is_among allowed (chain w thing))) (along_same (chain w x) i)) false)
 
-  locations : location_of v ≡ location_of w
-  locations = λ i x. (locations_bare (v.object x) ∙ ap (option_map (λ (r : ObjRow). r.location)) (λ j. rows_same j x) ∙ sym (locations_bare (w.object x))) i
-
   pub within : (x container : ObjNo) → is_within v x container ≡ is_within w x container
   unfolding location_chain
-  within x container = λ i. is_among container (climb (numbers_to (sym rest i).top) (locations i) x)
+  within x container = λ i. is_among container (climb (numbers_to (sym rest i).top) (λ x. (locations_bare (v.object x) ∙ ap (option_map (λ (r : ObjRow). r.location)) (λ j. same_rows w v rest j x) ∙ sym (locations_bare (w.object x))) i) x)
 
   -- ---- fields and names
 

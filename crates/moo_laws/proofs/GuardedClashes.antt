@@ -22,12 +22,9 @@ module _ (p : ObjNo) (w v : World) (rest : SameButSlots w v) where
 
   -- ---- the walk down from an object
 
-  children_same : (x : ObjNo) → children_of v x ≡ children_of w x
-  children_same x = λ i. filter (λ y. passing p w v rest (λ row. same_object x row.parent) y i) (filter (λ y. objects p w v rest y i) (map object_at (numbers_below (numbers_to (sym rest i).top))))
-
   below_same : (levels : ℕ) (x : ObjNo) → below levels v x ≡ below levels w x
   below_same zero x = refl
-  below_same (suc levels) x = λ i. flat_map (λ child. child ∷ below_same levels child i) (children_same x i)
+  below_same (suc levels) x = λ i. flat_map (λ child. child ∷ below_same levels child i) (filter (λ y. passing p w v rest (λ row. same_object x row.parent) y i) (filter (λ y. objects p w v rest y i) (map object_at (numbers_below (numbers_to (sym rest i).top)))))
 
   walk_same : (x : ObjNo) → walk_down v x ≡ walk_down w x
   walk_same x = λ i. if objects p w v rest x i then x ∷ below_same (numbers_to (sym rest i).top - length (chains p w v rest x i)) x i else []
@@ -40,11 +37,8 @@ module _ (p : ObjNo) (w v : World) (rest : SameButSlots w v) where
   pub met_same : (x q : ObjNo) → first_to_meet v x q ≡ first_to_meet w x q
   met_same x q = λ i. unwrap_or (find (λ y. list_any (λ name. is_some (property_named (flat_map (λ d. map (λ m. (d, m)) (names i d)) (chains p w v rest q i)) (folded name))) (names i y)) (walk_same x i)) nothing
 
-  first_same : (x : ObjNo) (n : Name) → first_to_define v x n ≡ first_to_define w x n
-  first_same x n = λ i. unwrap_or (find (λ y. defining p w v rest y n i) (chains p w v rest x i ++ walk_same x i)) nothing
-
   pub undefined_same : (x : ObjNo) (n : Name) → undefined_reason v x n ≡ undefined_reason w x n
-  undefined_same x n = λ i. if is_property_name n then NameTaken (first_same x n i) else NoPropertyName
+  undefined_same x n = λ i. if is_property_name n then NameTaken (unwrap_or (find (λ y. defining p w v rest y n i) (chains p w v rest x i ++ walk_same x i)) nothing) else NoPropertyName
 
   pub unrenamed_same : (x : ObjNo) (n : Name) (new : Option Name) → unrenamed_reason v x n new ≡ unrenamed_reason w x n new
   unrenamed_same x n new = λ i. if defining p w v rest x n i then undefined_same x (unwrap_or new n) i else NotRenamed x

@@ -37,18 +37,12 @@ module _ (p : ObjNo) (w v : World) (wf : IsWellFormed w) (none : is_wizard w p �
       where
         by : (o : Option Slot) → slot_of w y (folded n) ≡ o → option_map emptied_slot (slot_of v y (folded n)) ≡ option_map emptied_slot (slot_of w y (folded n)) → slot_of v y (folded n) ≡ o
         by (Some s) e h = all_same p w v wf none alike x (folded n) a here shown y s e (own_slots w wf x n defines y s under e ∙ sym (own_slots w wf x n defines x a (in_own_chain w wf x xo) here))
-        by None e h = nothing_there (slot_of v y (folded n)) (h ∙ ap (option_map emptied_slot) e)
-          where
-            nothing_there : (o : Option Slot) → option_map emptied_slot o ≡ None → o ≡ None
-            nothing_there o k = grind arith
-
-    changed_same : (y : ObjNo) → is_among x (chain with_info y) ≡ true → slot_of (info_set v x n owner bits) y (folded n) ≡ slot_of with_info y (folded n)
-    changed_same y under = grind (arith, slots_same, chains_same, links, slot_changed, same_text)
+        by None e h = grind (arith, h ∙ ap (option_map emptied_slot) e)
 
     pub name_alike : (new : Name) → clashes w x new ≡ false → SameButGuarded p (property_renamed with_info x n new) (property_renamed (info_set v x n owner bits) x n new)
     name_alike new free =
         alike_renamed p with_info (info_set v x n owner bits) info_alike formed x n new a (objects_same with_info w links x ∙ xo) (clashes_same with_info w links x new ∙ free)
-        (λ y t under e. own_slots with_info formed x n (defines_same with_info w links x n ∙ defines) y t under e) changed_same
+        (λ y t under e. own_slots with_info formed x n (defines_same with_info w links x n ∙ defines) y t under e) (λ y under. grind (arith, slots_same, chains_same, links, slot_changed, same_text))
 
   pub renamed_alike : (new : Option Name) → may_rename w x n new ≡ true → SameButGuarded p (renamed_to with_info x n new) (renamed_to (info_set v x n owner bits) x n new)
   renamed_alike None may = info_alike

@@ -20,10 +20,6 @@ both_redefined names first second w v same = one first w ∙ ap (redefined names
     one : (slots : ObjNo → WorldObject → Name → Option Slot) (k : World) → without_slots (redefined names slots k) ≡ redefined names (λ y r n. None) (without_slots k)
     one slots k = λ i. record k { object = λ y. by slots y (k.object y) i }
 
--- the slot of a redefined object
-slot_redefined : (names : ObjNo → List Name → List Name) (slots : ObjNo → WorldObject → Name → Option Slot) (w : World) (y : ObjNo) (n : Name) → slot_of (redefined names slots w) y n ≡ option_and_then (λ r. slots y r n) (w.object y)
-slot_redefined names slots w y n = grind arith
-
 -- ---- a name that is free
 
 module _ (w : World) (wf : IsWellFormed w) (x : ObjNo) (name : Name) (s : Slot) (xo : is_object w x ≡ true) (free : clashes w x name ≡ false) where

@@ -20,11 +20,15 @@ module _ (p : ObjNo) (s t : State) (alike : AlikeFor p s t) (none : is_wizard s.
   abbrev Rel : State → State → Type 0
   Rel x y = AlikeFor p x y
 
-  none_too : is_wizard t.world p ≡ false
-  none_too = wizards p s.world t.world alike.worlds.rest ∙ none
-
   abbrev own_now : Option PetitionRow → Option PetitionRow
   own_now o = option_and_then (λ row. if same_object row.who p then Some row else None) o
+
+  -- what is put in both states, or taken away
+  by_number : (b : Bool) (put o q : Option PetitionRow) → is_some q ≡ is_some o → is_some (cond b put q) ≡ is_some (cond b put o)
+  by_number b put o q e = grind arith
+
+  by_own : (b : Bool) (put o q : Option PetitionRow) → own_now q ≡ own_now o → own_now (cond b put q) ≡ own_now (cond b put o)
+  by_own b put o q e = grind arith
 
   -- ---- what a batch asks for
 
@@ -34,8 +38,8 @@ module _ (p : ObjNo) (s t : State) (alike : AlikeFor p s t) (none : is_wizard s.
   one_more : (calls : Values) → AlikeFor p (asked s p calls) (asked t p calls)
   one_more calls = record {
     worlds = alike.worlds;
-    numbers = λ id. ap is_some (now id) ∙ by_number (eq_by_cmp petition_cmp id (petition_id s.next_petition)) (get s.petitions id) (get t.petitions id) (alike.numbers id) ∙ sym (ap is_some (get-insert petition_total s.petitions (petition_id s.next_petition) (record { who = p; calls = calls }) id));
-    own = λ id. ap own_now (now id) ∙ by_own (eq_by_cmp petition_cmp id (petition_id s.next_petition)) (get s.petitions id) (get t.petitions id) (alike.own id) ∙ sym (ap own_now (get-insert petition_total s.petitions (petition_id s.next_petition) (record { who = p; calls = calls }) id));
+    numbers = λ id. ap is_some (now id) ∙ by_number (eq_by_cmp petition_cmp id (petition_id s.next_petition)) (Some (record { who = p; calls = calls })) (get s.petitions id) (get t.petitions id) (alike.numbers id) ∙ sym (ap is_some (get-insert petition_total s.petitions (petition_id s.next_petition) (record { who = p; calls = calls }) id));
+    own = λ id. ap own_now (now id) ∙ by_own (eq_by_cmp petition_cmp id (petition_id s.next_petition)) (Some (record { who = p; calls = calls })) (get s.petitions id) (get t.petitions id) (alike.own id) ∙ sym (ap own_now (get-insert petition_total s.petitions (petition_id s.next_petition) (record { who = p; calls = calls }) id));
     next = ap (λ n. n + 1) alike.next;
     accepted = alike.accepted;
   }
@@ -43,43 +47,16 @@ module _ (p : ObjNo) (s t : State) (alike : AlikeFor p s t) (none : is_wizard s.
       now : (id : PetitionId) → get (asked t p calls).petitions id ≡ put calls (eq_by_cmp petition_cmp id (petition_id s.next_petition)) (get t.petitions id)
       now id = get-insert petition_total t.petitions (petition_id t.next_petition) (record { who = p; calls = calls }) id ∙ ap (λ n. put calls (eq_by_cmp petition_cmp id (petition_id n)) (get t.petitions id)) alike.next
 
-      by_number : (b : Bool) (o q : Option PetitionRow) → is_some q ≡ is_some o → is_some (put calls b q) ≡ is_some (put calls b o)
-      by_number b o q e = grind arith
-
-      by_own : (b : Bool) (o q : Option PetitionRow) → own_now q ≡ own_now o → own_now (put calls b q) ≡ own_now (put calls b o)
-      by_own b o q e = grind arith
-
-  asks_for : (calls : Values) → Both Rel (petition s p calls) (petition t p calls)
-  asks_for calls =
-      on_checks Rel (list_all is_named (spread calls)) _ _ _ _ refl λ _.
-      on_checks Rel (are_few calls) _ _ _ _ refl λ _.
-      on_checks Rel (are_on_world calls) _ _ _ _ refl λ _.
-      on_checks Rel (are_shallow calls) _ _ _ _ refl λ _.
-      on_rooms Rel _ _ _ _ (ap (λ n. nat_lt n 4294967295) alike.next)
-      (ap (λ n. Int (pos n)) alike.next, one_more calls)
-
   -- ---- what is listed, granted and taken away
-
-  lists : Both Rel (petitions s p) (petitions t p)
-  lists = (ap (λ es. list_of (map listed es)) (same_list s t p (λ id. seen_own p t id none_too ∙ alike.own id ∙ sym (seen_own p s id none))), alike)
-
-  grants : (number : ℤ) → Both Rel (grant s p number) (grant t p number)
-  grants number = on_checks Rel _ _ _ _ _ (wizards p s.world t.world alike.worlds.rest) (λ may. absurd (both_ways (is_wizard s.world p) none may))
 
   one_less : (id : PetitionId) → AlikeFor p (without id s) (without id t)
   one_less id = record {
     worlds = alike.worlds;
-    numbers = λ key. ap is_some (get-remove petition_total t.petitions id key) ∙ by_number (eq_by_cmp petition_cmp key id) (get s.petitions key) (get t.petitions key) (alike.numbers key) ∙ sym (ap is_some (get-remove petition_total s.petitions id key));
-    own = λ key. ap own_now (get-remove petition_total t.petitions id key) ∙ by_own (eq_by_cmp petition_cmp key id) (get s.petitions key) (get t.petitions key) (alike.own key) ∙ sym (ap own_now (get-remove petition_total s.petitions id key));
+    numbers = λ key. ap is_some (get-remove petition_total t.petitions id key) ∙ by_number (eq_by_cmp petition_cmp key id) None (get s.petitions key) (get t.petitions key) (alike.numbers key) ∙ sym (ap is_some (get-remove petition_total s.petitions id key));
+    own = λ key. ap own_now (get-remove petition_total t.petitions id key) ∙ by_own (eq_by_cmp petition_cmp key id) None (get s.petitions key) (get t.petitions key) (alike.own key) ∙ sym (ap own_now (get-remove petition_total s.petitions id key));
     next = alike.next;
     accepted = alike.accepted;
   }
-    where
-      by_number : (b : Bool) (o q : Option PetitionRow) → is_some q ≡ is_some o → is_some (cond b None q) ≡ is_some (cond b None o)
-      by_number b o q e = grind arith
-
-      by_own : (b : Bool) (o q : Option PetitionRow) → own_now q ≡ own_now o → own_now (cond b None q) ≡ own_now (cond b None o)
-      by_own b o q e = grind arith
 
   abbrev taken_away : State → Option (PetitionId × PetitionRow) → Outcome State
   taken_away u o = found_or o NoPetition (λ found. check (same_object found.1.who p || is_wizard u.world p) (fails NotAsker) (Done zero (without found.0 u)))
@@ -95,7 +72,13 @@ module _ (p : ObjNo) (s t : State) (alike : AlikeFor p s t) (none : is_wizard s.
   declines (negsuc n) = refl
 
   pub of_petitions : (call : PetitionCall) (values : List Value) → Both Rel (petition_call_by s p call values) (petition_call_by t p call values)
-  of_petitions to_petition values = on_givens Rel (one_list values) _ _ asks_for
-  of_petitions to_list values = on_givens Rel (no_values values) _ _ (λ _. lists)
-  of_petitions to_grant values = on_givens Rel (one_integer values) _ _ grants
+  of_petitions to_petition values = on_givens Rel (one_list values) _ _ λ calls.
+      on_checks Rel (list_all is_named (spread calls)) _ _ _ _ refl λ _.
+      on_checks Rel (are_few calls) _ _ _ _ refl λ _.
+      on_checks Rel (are_on_world calls) _ _ _ _ refl λ _.
+      on_checks Rel (are_shallow calls) _ _ _ _ refl λ _.
+      on_rooms Rel _ _ _ _ (ap (λ n. nat_lt n 4294967295) alike.next)
+      (ap (λ n. Int (pos n)) alike.next, one_more calls)
+  of_petitions to_list values = on_givens Rel (no_values values) _ _ (λ _. (ap (λ es. list_of (map listed es)) (same_list s t p (λ id. seen_own p t id (wizards p s.world t.world alike.worlds.rest ∙ none) ∙ alike.own id ∙ sym (seen_own p s id none))), alike))
+  of_petitions to_grant values = on_givens Rel (one_integer values) _ _ (λ number. on_checks Rel _ _ _ _ _ (wizards p s.world t.world alike.worlds.rest) (λ may. absurd (both_ways (is_wizard s.world p) none may)))
   of_petitions to_decline values = on_givens Rel (one_integer values) _ _ declines

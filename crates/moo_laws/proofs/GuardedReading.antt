@@ -9,13 +9,7 @@ use Rattle.moo_laws.specs.Guarded.{SameButGuarded, is_shut}
 
 own_named : (d : ObjNo) (names : List Name) (n : Name) (q : Property) → property_named (map (λ k. (d, k)) names) n ≡ Some q → q.0 ≡ d
 own_named d [] n q e = absurd (none-some q e)
-own_named d (k ∷ names) n q e = by (same_text (folded k) n) e (own_named d names n q)
-  where
-    by : (b : Bool) → cond b (Some (d, k)) (property_named (map (λ k. (d, k)) names) n) ≡ Some q → (property_named (map (λ k. (d, k)) names) n ≡ Some q → q.0 ≡ d) → q.0 ≡ d
-    by b e f = grind (arith, same_Some)
-
-defined_slot : (o : Option Slot) (d : ObjNo) → option_map (λ (s : Slot). s.definer) o ≡ Some d → (s : Slot) × (o ≡ Some s) × (s.definer ≡ d)
-defined_slot o d e = grind arith
+own_named d (k ∷ names) n q e = grind (arith, same_Some, own_named d names n q)
 
 module _ (w : World) (wf : IsWellFormed w) (n : Name) where
   -- the slot above a clear one is of the same property
@@ -33,24 +27,15 @@ module _ (w : World) (wf : IsWellFormed w) (n : Name) where
   above y next [] s c up e clear = inl refl
   above y next (z ∷ l) s c up e clear =
       let there : is_object w next ≡ true = linked (w.object next) (λ r. r.row.parent) up.1 up.2 in
-      inr (defined_slot (slot_of w next n) s.definer (wf.slots next (z ∷ l) n there up ∙ named_above y next (z ∷ l) s c e clear))
+      inr (grind (arith, wf.slots next (z ∷ l) n there up ∙ named_above y next (z ∷ l) s c e clear))
 
   module _ (v : World) (d : ObjNo) (alike : (y : ObjNo) (s : Slot) → slot_of w y n ≡ Some s → s.definer ≡ d → slot_of v y n ≡ Some s) where
     -- what is read of a property whose slots are the same
     pub read_same : (l : List ObjNo) (y : ObjNo) (s : Slot) → Chain w y l → slot_of w y n ≡ Some s → s.definer ≡ d → read_along v n l ≡ read_along w n l
     read_same [] y s c e f = refl
     read_same (z ∷ l) y s c e f =
-        (λ i. read_in (there_too i) (read_along v n l)) ∙ by s.state refl (λ t. read_same l c.1 t c.3) ∙ (λ i. read_in (sym here i) (read_along w n l))
+        (λ i. read_in (alike z s (ap (λ k. slot_of w k n) (sym c.0) ∙ e) f i) (read_along v n l)) ∙ by s.state refl (λ t. read_same l c.1 t c.3) ∙ (λ i. read_in (sym (ap (λ k. slot_of w k n) (sym c.0) ∙ e) i) (read_along w n l))
       where
-        here : slot_of w z n ≡ Some s
-        here = ap (λ k. slot_of w k n) (sym c.0) ∙ e
-
-        there_too : slot_of v z n ≡ Some s
-        there_too = alike z s here f
-
-        below : Chain w z (z ∷ l)
-        below = (refl, c.1, ap (λ k. option_map (λ (r : WorldObject). r.row.parent) (w.object k)) (sym c.0) ∙ c.2, c.3)
-
         Rest : Type 0
         Rest = (t : Slot) → slot_of w c.1 n ≡ Some t → t.definer ≡ d → read_along v n l ≡ read_along w n l
 
@@ -60,7 +45,7 @@ module _ (w : World) (wf : IsWellFormed w) (n : Name) where
 
         by : (t : SlotState) → s.state ≡ t → Rest → ◌≡◌ {A = Option Value} (elim t [ Clear ↦ read_along v n l | Set u ↦ Some u ]) (elim t [ Clear ↦ read_along w n l | Set u ↦ Some u ])
         by (Set u) g rest = refl
-        by Clear g rest = further rest (above z c.1 l s below c.3 here g)
+        by Clear g rest = further rest (above z c.1 l s (refl, c.1, ap (λ k. option_map (λ (r : WorldObject). r.row.parent) (w.object k)) (sym c.0) ∙ c.2, c.3) c.3 (ap (λ k. slot_of w k n) (sym c.0) ∙ e) g)
 
 -- ---- look alike
 
@@ -69,15 +54,12 @@ module _ (p : ObjNo) (w v : World) (wf : IsWellFormed w) (none : is_wizard w p �
   pub all_same : (x : ObjNo) (n : Name) (a : Slot) → slot_of w x n ≡ Some a → is_shut p n a ≡ false → (y : ObjNo) (s : Slot) → slot_of w y n ≡ Some s → s.definer ≡ a.definer → slot_of v y n ≡ Some s
   all_same x n a e shown y s f d = elim (alike.values y n s f) [ inl same ↦ same | inr guarded ↦ absurd (both_ways (is_shut p n a) shown (guarded x a e (sym d))) ]
 
-  readable : (n : Name) (a : Slot) → may_read_slot w p a ≡ true → is_shut p n a ≡ false
-  readable n a may = grind arith
-
   pub look_alike : LookAlike p w v
   look_alike = record {
     rest = alike.rest;
     slots = alike.slots;
     values = λ x n a b e d may.
-        let same = all_same x n a e (readable n a may) in (
+        let same = all_same x n a e (grind arith) in (
           ap (λ (s : Slot). is_clear s.state) (same_Some b a (sym d ∙ same x a e refl)),
           ap (read_along v n) (sym (chains_same w v alike.rest x)) ∙ read_same w wf n v a.definer same (chain w x) x a (Chain-chain w wf.tree x (slotted w x n a e)) e refl,
         );

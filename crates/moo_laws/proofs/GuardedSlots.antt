@@ -27,9 +27,6 @@ module _ (p : ObjNo) (w v : World) (alike : SameButGuarded p w v) where
   emptied_alike g e o q f = grind arith
 
   module _ (next other : World) (rest : SameButSlots next other) (comes : (y : ObjNo) (n : Name) → Comes n (slot_of next y n) (slot_of other y n)) where
-    emptied_still : (y : ObjNo) (n : Name) → option_map emptied_slot (slot_of other y n) ≡ option_map emptied_slot (slot_of next y n)
-    emptied_still y n = grind (arith, emptied_alike)
-
     still_guarded : (n : Name) (d : ObjNo) (z : ObjNo) (s : Slot) → slot_of w z n ≡ Some s → s.definer ≡ d → IsGuarded w p d n → IsGuarded next p d n
     still_guarded n d z s e same guarded y t f g = by (comes y n)
       where
@@ -53,7 +50,7 @@ module _ (p : ObjNo) (w v : World) (alike : SameButGuarded p w v) where
             ]
 
     pub alike_from : SameButGuarded p next other
-    alike_from = record { rest = rest; slots = emptied_still; values = values_still }
+    alike_from = record { rest = rest; slots = λ y n. grind (arith, emptied_alike); values = values_still }
 
   -- ---- the same slots
 
@@ -62,29 +59,20 @@ module _ (p : ObjNo) (w v : World) (alike : SameButGuarded p w v) where
 
   -- ---- rebuilt worlds
 
-  fresh_shut : (n : Name) (owner : ObjNo) (s : Slot) → is_shut p n s ≡ true → is_shut p n (fresh owner s) ≡ true
-  fresh_shut n owner s h = grind arith
-
   module _ (cw cv : World) (q : ObjNo) (same : SameButSlots cw cv) where
-    owed : (y : ObjNo) (n : Name) → property_named (defined_by_any cv (chain cv y)) n ≡ property_named (defined_by_any cw (chain cw y)) n
-    owed y n = λ i. property_named (flat_map (λ d. map (λ m. (d, m)) (sym (names_same cw cv same) i d)) (sym (chains_same cw cv same y) i)) n
-
-    had : (y : ObjNo) (property : Property) → has_property v y property ≡ has_property w y property
-    had y property = λ i. list_any (same_property property) (flat_map (λ d. map (λ m. (d, m)) (sym (names_same w v alike.rest) i d)) (sym (chains_same w v alike.rest y) i))
-
     comes_for : (y : ObjNo) (n : Name) (o : Option Property) → Comes n (slot_for w cw q y n o) (slot_for v cv q y n o)
     comes_for y n None = gone refl refl
     comes_for y n (Some property) =
-        subst (λ b. Comes n (slot_for w cw q y n (Some property)) (if b then slot_of v y n else option_map (fresh (owner_of cv y)) (slot_of v q n))) (sym (had y property))
+        subst (λ b. Comes n (slot_for w cw q y n (Some property)) (if b then slot_of v y n else option_map (fresh (owner_of cv y)) (slot_of v q n))) (sym (λ i. list_any (same_property property) (flat_map (λ d. map (λ m. (d, m)) (sym (names_same w v alike.rest) i d)) (sym (chains_same w v alike.rest y) i))))
         (subst (λ (owner : ObjNo → ObjNo). Comes n (slot_for w cw q y n (Some property)) (if has_property w y property then slot_of v y n else option_map (fresh (owner y)) (slot_of v q n))) (owners_same cw cv same) (by (has_property w y property)))
       where
         by : (b : Bool) → Comes n (if b then slot_of w y n else option_map (fresh (owner_of cw y)) (slot_of w q n)) (if b then slot_of v y n else option_map (fresh (owner_of cw y)) (slot_of v q n))
         by true = as_it_was n y _ _ refl refl
-        by false = from q (fresh (owner_of cw y)) refl refl (λ s. refl) (λ s t e. ap (λ k. emptied_slot (fresh (owner_of cw y) k)) e) (λ s e shut. fresh_shut n (owner_of cw y) s shut)
+        by false = from q (fresh (owner_of cw y)) refl refl (λ s. refl) (λ s t e. ap (λ k. emptied_slot (fresh (owner_of cw y) k)) e) (λ s e shut. grind arith)
 
     pub alike_rebuilt : SameButGuarded p (rebuilt w cw q) (rebuilt v cv q)
     alike_rebuilt = alike_from (rebuilt w cw q) (rebuilt v cv q) (SameButSlots-rebuilt w cw q ∙ same ∙ sym (SameButSlots-rebuilt v cv q)) (λ y n.
-        subst (λ o. Comes n (slot_of (rebuilt w cw q) y n) o) (sym (slot_of-rebuilt v cv q y n ∙ ap (slot_for v cv q y n) (owed y n)))
+        subst (λ o. Comes n (slot_of (rebuilt w cw q) y n) o) (sym (slot_of-rebuilt v cv q y n ∙ ap (slot_for v cv q y n) (λ i. property_named (flat_map (λ d. map (λ m. (d, m)) (sym (names_same cw cv same) i d)) (sym (chains_same cw cv same y) i)) n)))
         (subst (λ o. Comes n o (slot_for v cv q y n (property_named (defined_by_any cw (chain cw y)) n))) (sym (slot_of-rebuilt w cw q y n)) (comes_for y n (property_named (defined_by_any cw (chain cw y)) n))))
 
   -- ---- one slot changed

@@ -11,14 +11,8 @@ module _ (p : ObjNo) (w : World) (x : ObjNo) (n : Name) (slot : Slot) (value : V
   abbrev change : Slot → Slot
   change s = record s { state = a_value value }
 
-  emptied_same : (y : ObjNo) (m : Name) → option_map emptied_slot (slot_of (value_set w x n value) y m) ≡ option_map emptied_slot (slot_of w y m)
-  emptied_same y m = grind (arith, slot_changed)
-
-  same_or_guarded : (y : ObjNo) (m : Name) (s : Slot) → slot_of w y m ≡ Some s → (slot_of (value_set w x n value) y m ≡ Some s) ⊎ IsGuarded w p s.definer m
-  same_or_guarded y m s e = grind (arith, same_text, slot_changed, and_parts, same_object-Decides, same_text-Decides, same_Some)
-
   worlds_alike : SameButGuarded p w (value_set w x n value)
-  worlds_alike = record { rest = sym (same_links w x n change); slots = emptied_same; values = same_or_guarded }
+  worlds_alike = record { rest = sym (same_links w x n change); slots = λ y m. grind (arith, slot_changed); values = λ y m s e. grind (arith, same_text, slot_changed, and_parts, same_object-Decides, same_text-Decides, same_Some) }
 
 pub other_value : (p x : ObjNo) (n : Name) (slot : Slot) (value : Value) (s : State) → slot_of s.world x (folded n) ≡ Some slot → IsGuarded s.world p slot.definer (folded n) → AlikeFor p s (with_value s x n value)
 other_value p x n slot value s here guarded = record { worlds = worlds_alike p s.world x n slot value here guarded; numbers = λ id. refl; own = λ id. refl; next = refl; accepted = refl }
@@ -41,15 +35,12 @@ one_value s x n slot value other here same = sym (ap (value_in value) (now value
 pub other_petition : (p : ObjNo) (s : State) (id : PetitionId) (row other : PetitionRow) → get s.petitions id ≡ Some row → same_object row.who p ≡ false → same_object other.who p ≡ false → AlikeFor p s (record s { petitions = insert s.petitions id other })
 other_petition p s id row other here theirs too = record {
   worlds = record { rest = refl; slots = λ x n. refl; values = λ x n slot e. inl e };
-  numbers = λ key. ap is_some (put key) ∙ number key (eq_by_cmp petition_cmp key id) refl;
-  own = λ key. ap (option_and_then (λ (r : PetitionRow). if same_object r.who p then Some r else None)) (put key) ∙ mine key (eq_by_cmp petition_cmp key id) refl;
+  numbers = λ key. ap is_some (get-insert petition_total s.petitions id other key) ∙ number key (eq_by_cmp petition_cmp key id) refl;
+  own = λ key. ap (option_and_then (λ (r : PetitionRow). if same_object r.who p then Some r else None)) (get-insert petition_total s.petitions id other key) ∙ mine key (eq_by_cmp petition_cmp key id) refl;
   next = refl;
   accepted = refl;
 }
   where
-    put : (key : PetitionId) → get (insert s.petitions id other) key ≡ cond (eq_by_cmp petition_cmp key id) (Some other) (get s.petitions key)
-    put key = get-insert petition_total s.petitions id other key
-
     at : (key : PetitionId) → eq_by_cmp petition_cmp key id ≡ true → get s.petitions key ≡ Some row
     at key e = ap (get s.petitions) ((key-Decides petition_cmp petition_total petition_exact key id).0 e) ∙ here
 

@@ -54,19 +54,13 @@ module _ (p : ObjNo) (w v : World) (alike : SameButGuarded p w v) where
 
   -- ---- quotas
 
-  quotas_shown : (s : Slot) → is_shut p quota_name s ≡ true → ⊥
-  quotas_shown s h = grind (arith, same_text, same_text-Decides)
-
   quota_slots : (y : ObjNo) → slot_of v y quota_name ≡ slot_of w y quota_name
   quota_slots y = by (slot_of w y quota_name) refl (slot_of v y quota_name) (alike.slots y quota_name)
     where
       by : (o : Option Slot) → slot_of w y quota_name ≡ o → (q : Option Slot) → option_map emptied_slot q ≡ option_map emptied_slot o → slot_of v y quota_name ≡ o
-      by (Some s) e q h = elim (alike.values y quota_name s e) [ inl same ↦ same | inr guarded ↦ absurd (quotas_shown s (guarded y s e refl)) ]
+      by (Some s) e q h = elim (alike.values y quota_name s e) [ inl same ↦ same | inr guarded ↦ absurd (grind (arith, same_text, same_text-Decides, guarded y s e refl)) ]
       by None e (Some t) h = absurd (none-some (emptied_slot t) (sym h))
-      by None e None h = bothnone (slot_of v y quota_name) (alike.slots y quota_name ∙ ap (option_map emptied_slot) e)
-        where
-          bothnone : (o : Option Slot) → option_map emptied_slot o ≡ None → o ≡ None
-          bothnone o h = grind arith
+      by None e None h = grind (arith, alike.slots y quota_name ∙ ap (option_map emptied_slot) e)
 
   quota_along : (l : List ObjNo) → read_along v quota_name l ≡ read_along w quota_name l
   quota_along [] = refl
@@ -76,17 +70,14 @@ module _ (p : ObjNo) (w v : World) (alike : SameButGuarded p w v) where
   quota_same o = ap quota_in (ap (read_along v quota_name) (sym (chains_same w v alike.rest o)) ∙ quota_along (chain w o))
 
   module _ (o : ObjNo) (state : SlotState) where
-    set_slot_now : (k : World) (y : ObjNo) (m : Name) → slot_of (object_changed k o (set_slot quota_name state)) y m ≡ (if same_object o y && same_text quota_name m then option_map (λ (s : Slot). record s { state = state }) (slot_of k y m) else slot_of k y m)
-    set_slot_now k y m = grind arith
-
     comes_set : (y : ObjNo) (m : Name) (b : Bool) → Comes p w v alike m (if b then option_map (λ (s : Slot). record s { state = state }) (slot_of w y m) else slot_of w y m) (if b then option_map (λ (s : Slot). record s { state = state }) (slot_of v y m) else slot_of v y m)
     comes_set y m false = as_it_was p w v alike m y _ _ refl refl
     comes_set y m true = from y (λ s. record s { state = state }) refl refl (λ s. refl) (λ s t e. e) (λ s f shut. shut)
 
     quota_put : SameButGuarded p (object_changed w o (set_slot quota_name state)) (object_changed v o (set_slot quota_name state))
     quota_put = alike_from p w v alike _ _ (rest w ∙ alike.rest ∙ sym (rest v)) (λ y m.
-        subst (λ k. Comes p w v alike m (slot_of (object_changed w o (set_slot quota_name state)) y m) k) (sym (set_slot_now v y m))
-        (subst (λ k. Comes p w v alike m k (if same_object o y && same_text quota_name m then option_map (λ (s : Slot). record s { state = state }) (slot_of v y m) else slot_of v y m)) (sym (set_slot_now w y m)) (comes_set y m (same_object o y && same_text quota_name m))))
+        subst (λ k. Comes p w v alike m (slot_of (object_changed w o (set_slot quota_name state)) y m) k) (sym (grind arith))
+        (subst (λ k. Comes p w v alike m k (if same_object o y && same_text quota_name m then option_map (λ (s : Slot). record s { state = state }) (slot_of v y m) else slot_of v y m)) (sym (grind arith)) (comes_set y m (same_object o y && same_text quota_name m))))
       where
         rest : (k : World) → SameButSlots (object_changed k o (set_slot quota_name state)) k
         rest k = grind arith

@@ -11,12 +11,6 @@ use Rattle.moo_laws.specs.Reading.{LookAlike, IsHidden, emptied_slot}
 apart : (a b c : Bool) → (c ≡ true → (a || b) ≡ false) → (a && c) ≡ false
 apart a b c h = grind arith
 
-later : (a b : Bool) → (a || b) ≡ false → b ≡ false
-later a b h = grind arith
-
-earlier : (a b : Bool) → (a || b) ≡ false → a ≡ false
-earlier a b h = grind arith
-
 module _ (w : World) (wf : IsWellFormed w) (p x : ObjNo) (n : Name) (value : Value) (hidden : IsHidden w p x n) where
   abbrev change : Slot → Slot
   change slot = record slot { state = a_value value }
@@ -24,18 +18,12 @@ module _ (w : World) (wf : IsWellFormed w) (p x : ObjNo) (n : Name) (value : Val
   abbrev next : World
   next = value_set w x n value
 
-  changed : (y : ObjNo) (m : Name) → slot_of next y m ≡ (if same_object x y && same_text (folded n) m then option_map change (slot_of w y m) else slot_of w y m)
-  changed y m = slot_changed w x n change y m
-
-  emptied_same : (y : ObjNo) (m : Name) → option_map emptied_slot (slot_of next y m) ≡ option_map emptied_slot (slot_of w y m)
-  emptied_same y m = grind arith
-
   same_slot : (y : ObjNo) (m : Name) → (same_object x y && same_text (folded n) m) ≡ false → slot_of next y m ≡ slot_of w y m
-  same_slot y m e = changed y m ∙ ap (λ b. if b then option_map change (slot_of w y m) else slot_of w y m) e
+  same_slot y m e = slot_changed w x n change y m ∙ ap (λ b. if b then option_map change (slot_of w y m) else slot_of w y m) e
 
   along : (objects : List ObjNo) (m : Name) → (same_text (folded n) m ≡ true → is_among x objects ≡ false) → read_along next m objects ≡ read_along w m objects
   along [] m h = refl
-  along (y ∷ objects) m h = λ i. read_in (same_slot y m (apart (same_object x y) (is_among x objects) (same_text (folded n) m) h) i) (along objects m (λ e. later (same_object x y) (is_among x objects) (h e)) i)
+  along (y ∷ objects) m h = λ i. read_in (same_slot y m (apart (same_object x y) (is_among x objects) (same_text (folded n) m) h) i) (along objects m (λ e. grind (arith, h e)) i)
 
   outside : (y : ObjNo) (m : Name) (a : Slot) → slot_of w y m ≡ Some a → may_read_slot w p a ≡ true → same_text (folded n) m ≡ true → is_among x (chain w y) ≡ false
   outside y m a e may named = false_from_ne_true (is_among x (chain w y)) (λ inside. both_ways (may_read_slot w p a) (hidden y a inside (ap (slot_of w y) ((same_text-Decides (folded n) m).0 named) ∙ e)) may)
@@ -45,17 +33,14 @@ module _ (w : World) (wf : IsWellFormed w) (p x : ObjNo) (n : Name) (value : Val
     where
       by : (o : Option WorldObject) → w.object y ≡ o → same_object x y ≡ false
       by None e = absurd (false≢true (sym (ap is_some e) ∙ there))
-      by (Some r) e = earlier (same_object x y) (is_among x (chain w r.row.parent)) (sym (ap (is_among x) (chain-step w wf.tree y r e)) ∙ out)
-
-  apart_here : (y : ObjNo) (m : Name) (a : Slot) → slot_of w y m ≡ Some a → may_read_slot w p a ≡ true → (same_object x y && same_text (folded n) m) ≡ false
-  apart_here y m a e may = grind (arith, apart, same_text, not_itself, slotted, outside)
+      by (Some r) e = grind (arith, sym (ap (is_among x) (chain-step w wf.tree y r e)) ∙ out)
 
   pub hidden_look_alike : LookAlike p w next
   hidden_look_alike = record {
     rest = sym (same_links w x n change);
-    slots = emptied_same;
+    slots = λ y m. grind arith;
     values = λ y m a b e d may. (
-      ap (λ (s : Slot). is_clear s.state) (same_Some b a (sym d ∙ same_slot y m (apart_here y m a e may) ∙ e)),
+      ap (λ (s : Slot). is_clear s.state) (same_Some b a (sym d ∙ same_slot y m (grind (arith, apart, same_text, not_itself, slotted, outside)) ∙ e)),
       ap (read_along next m) (chains_same next w (same_links w x n change) y) ∙ along (chain w y) m (outside y m a e may),
     );
   }

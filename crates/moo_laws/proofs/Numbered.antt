@@ -7,10 +7,6 @@ use Rattle.std.specs.Prelude.{ℕ, ◌+◌, Bool}
 use Rattle.moo_laws.specs.ObjectNumbers.{KeepsObjectNumbers}
 use Rattle.moo_laws.proofs.ObjectNumbers.{none_again, none_again_itself, none_again_joins}
 
--- a call that a petition holds
-one_held : (w mid : World) (p : ObjNo) (held : Value) (a : Value) → held_step w p held ≡ Done a mid → KeepsObjectNumbers w mid
-one_held w mid p held a e = grind (arith, none_again)
-
 -- all of them
 held_again : (place : ℕ) (w next : World) (p : ObjNo) (helds : List Value) (v : Value) → held_steps place w p helds ≡ Done v next → KeepsObjectNumbers w next
 held_again place w next p [] v e = subst (λ (o : Outcome World). IfDone o) e (none_again_itself w)
@@ -18,7 +14,7 @@ held_again place w next p [] v e = subst (λ (o : Outcome World). IfDone o) e (n
     IfDone : Outcome World → Type 0
     IfDone (Done v next) = KeepsObjectNumbers w next
     IfDone a = Unit {0}
-held_again place w next p (held ∷ helds) v e = by (held_step w p held) (λ mid a done. one_held w mid p held a done) (λ mid done. held_again (place + 1) mid next p helds v done) e
+held_again place w next p (held ∷ helds) v e = by (held_step w p held) (λ mid a done. grind (arith, none_again)) (λ mid done. held_again (place + 1) mid next p helds v done) e
   where
     by : (o : Outcome World) → ((mid : World) (a : Value) → o ≡ Done a mid → KeepsObjectNumbers w mid) → ((mid : World) → held_steps (place + 1) mid p helds ≡ Done v next → KeepsObjectNumbers mid next)
         → (elim o [ Done answer mid ↦ held_steps (place + 1) mid p helds | Failed failure ↦ Failed (in_petition place failure) | Full ↦ Full ]) ≡ Done v next → KeepsObjectNumbers w next
@@ -42,23 +38,17 @@ abbrev LeavesNumbers : World → Ran → Type 0
 LeavesNumbers w (Through answers s) = KeepsObjectNumbers w s.world
 LeavesNumbers w r = Unit {0}
 
-one_more : (w mid : World) (v : Value) (r : Ran) → KeepsObjectNumbers w mid → LeavesNumbers mid r → LeavesNumbers w (after_one v r)
-one_more w mid v r e f = grind arith
-
 calls_again : (s : State) (p : ObjNo) (calls : List Call) → LeavesNumbers s.world (run_calls s p calls)
 calls_again s p [] = none_again_itself s.world
 calls_again s p (call ∷ calls) = by (batch_call s p call) refl (λ next. calls_again next p calls)
   where
     by : (o : Outcome State) → batch_call s p call ≡ o → ((next : State) → LeavesNumbers next.world (run_calls next p calls)) → LeavesNumbers s.world (elim o [ Done v next ↦ after_one v (run_calls next p calls) | Failed failure ↦ FailedAt 1 failure | Full ↦ FullAt 1 ])
-    by (Done v next) e rest = one_more s.world next.world v (run_calls next p calls) (request_again s next p call v e) (rest next)
+    by (Done v next) e rest = grind (arith, request_again s next p call v e, rest next)
     by o e rest = tt
 
 batch_again : (s : State) (b : Batch) → KeepsObjectNumbers s.world (left_by s (judge s b)).world
 unfolding judge
-batch_again s b = by (is_due b.at s.seq) (nat_lt s.seq last_seq) (run_calls s b.programmer b.calls) (calls_again s b.programmer b.calls)
-  where
-    by : (due room : Bool) (r : Ran) → LeavesNumbers s.world r → KeepsObjectNumbers s.world (left_by s (if due then (if room then verdict_of s.seq r else NoRoom 0) else Stale s.seq)).world
-    by due room r e = grind arith
+batch_again s b = grind (arith, calls_again s b.programmer b.calls)
 
 pub object_numbers_stay : (s : State) (bs : List Batch) → KeepsObjectNumbers s.world (after s bs).world
 object_numbers_stay s [] = none_again_itself s.world

@@ -13,19 +13,13 @@ use Rattle.moo_rows.specs.declared.row.{Bits.{Bits}, ArgSpec.{ArgSpec}, VerbBits
 use Rattle.std.specs.Prelude.{ℕ}
 use Rattle.moo_laws.specs.ObjectNumbers.{KeepsObjectNumbers}
 
-le_self : (a : ℤ) → a ≤ℤ a
-le_self a = grind (arith, ints)
-
-le_trans : (a b c : ℤ) → a ≤ℤ b → b ≤ℤ c → a ≤ℤ c
-le_trans a b c f g = grind (arith, ints)
-
 pub le_below : (a b : ℤ) → a ≤ℤ b → (c : ℤ) → c ≤ℤ a → c ≤ℤ b
-le_below a b f c g = le_trans c a b g f
+le_below a b f c g = grind (arith, ints)
 
 pub none_again_joins : (a b c : World) → KeepsObjectNumbers a b → KeepsObjectNumbers b c → KeepsObjectNumbers a c
 none_again_joins a b c f g = record {
-  top = le_trans a.top b.top c.top f.top g.top;
-  old = λ y below is. f.old y below (g.old y (le_trans y.0 a.top b.top below f.top) is);
+  top = grind (arith, ints, f.top, g.top);
+  old = λ y below is. f.old y below (g.old y (grind (arith, ints, f.top)) is);
 }
 
 same_some : (f : WorldObject → WorldObject) (o : Option WorldObject) → is_some (option_map f o) ≡ is_some o
@@ -33,7 +27,7 @@ same_some f o = grind arith
 
 -- a world of the same number, with no other objects
 alike : (w next : World) → next.top ≡ w.top → ((y : ObjNo) → is_object next y ≡ is_object w y) → KeepsObjectNumbers w next
-alike w next top objects = record { top = subst (λ t. w.top ≤ℤ t) (sym top) (le_self w.top); old = λ y below is. sym (objects y) ∙ is }
+alike w next top objects = record { top = subst (λ t. w.top ≤ℤ t) (sym top) (grind (arith, ints)); old = λ y below is. sym (objects y) ∙ is }
 
 pub none_again_itself : (w : World) → KeepsObjectNumbers w w
 none_again_itself w = alike w w refl (λ y. refl)
@@ -57,15 +51,6 @@ module _ (w : World) where
   changed : (v : World) (x : ObjNo) (change : WorldObject → WorldObject) → Passes v → Passes (object_changed v x change)
   changed v x change k = none_again_joins w v (object_changed v x change) k (on_record v x change)
 
-  by_quota : (v : World) (o : ObjNo) (more : ℤ) → Passes v → Passes (quota_changed v o more)
-  by_quota v o more k = grind (arith, changed)
-
-  by_charge : (v : World) (o : ObjNo) → Passes v → Passes (charged v o)
-  by_charge v o k = grind (arith, nothing)
-
-  by_return : (v : World) (o : ObjNo) → Passes v → Passes (quota_returned v o)
-  by_return v o k = grind arith
-
   -- ---- objects
 
   next_is : (x : ObjNo) → next_object w ≡ Some x → x.0 ≡ w.top +ℤ pos 1
@@ -74,29 +59,14 @@ module _ (w : World) where
   above : (a b : ℤ) → a ≡ b +ℤ pos 1 → a ≤ℤ b → false ≡ true
   above a b e f = grind (arith, ints)
 
-  grows : (a b : ℤ) → b ≡ a +ℤ pos 1 → a ≤ℤ b
-  grows a b e = grind (arith, ints)
-
-  added : (x q owner : ObjNo) → next_object w ≡ Some x → Passes (object_added w x (plain_object q owner))
-  added x q owner is_next = record { top = grows w.top x.0 (next_is x is_next); old = λ y below is. by y below (same_object x y) refl is }
-    where
-      by : (y : ObjNo) → y.0 ≤ℤ w.top → (b : Bool) → same_object x y ≡ b → is_some (if b then Some (plain_object q owner) else w.object y) ≡ true → is_object w y ≡ true
-      by y e b f g = grind (arith, false≢true, above, same_object-Decides, next_is)
-
   made : (x q owner : ObjNo) → next_object w ≡ Some x → Passes (charged (created w x q (owner_or_self x owner)) owner)
-  made x q owner is_next = by_charge (created w x q (owner_or_self x owner)) owner (on_rebuilt w (object_added w x (plain_object q (owner_or_self x owner))) w q (added x q (owner_or_self x owner) is_next))
+  made x q owner is_next = grind (arith, nothing, on_rebuilt w (object_added w x (plain_object q (owner_or_self x owner))) w q (record { top = grind (arith, ints, next_is x is_next); old = λ y below is. grind (arith, false≢true, above, same_object-Decides, next_is) }))
 
   moved_under : (x q : ObjNo) → Passes (reparented w x q)
   moved_under x q = on_rebuilt w (with_parent w x q) w q (on_record w x (λ (r : WorldObject). record r { row = record r.row { parent = q } }))
 
-  removed : (x : ObjNo) → Passes (object_removed w x)
-  removed x = record { top = le_self w.top; old = λ y below is. by (same_object x y) (w.object y) is }
-    where
-      by : (b : Bool) (o : Option WorldObject) → is_some (if b then None else option_map (released x (unwrap_or (parent_of w x) nothing)) o) ≡ true → is_some o ≡ true
-      by b o is = grind arith
-
   gone : (x : ObjNo) → Passes (quota_returned (recycled w x) (owner_of w x))
-  gone x = by_return (recycled w x) (owner_of w x) (on_rebuilt w (object_removed w x) w nothing (removed x))
+  gone x = grind (arith, on_rebuilt w (object_removed w x) w nothing (record { top = grind (arith, ints); old = λ y below is. grind arith }))
 
   with_field : (x : ObjNo) (c : Change) → Passes (field_changed w x c)
   with_field x c = on_record w x _

@@ -8,27 +8,15 @@ use Rattle.moo_laws.proofs.QuotaCalls.{moved_by, moves_itself, moves_join}
 
 -- ---- one call
 
-no_maker : (name : CallName) → is_some (petition_call name) ≡ true → makes name ≡ false
-no_maker name h = grind arith
-
-no_ender : (name : CallName) → is_some (petition_call name) ≡ true → ends name ≡ false
-no_ender name h = grind arith
-
 one_call : (s next : State) (p owner : ObjNo) (quota : ℤ) (call : Call) (v : Value) → IsFormed s → IsFormed next → is_wizard s.world p ≡ false → HasKeptQuota s.world owner quota → batch_call s p call ≡ Done v next
     → QuotaMoves next.world owner quota (if same_object p owner then cond (makes call.name) 1 0 else 0) (if same_object p owner then cond (ends call.name) 1 0 else 0)
 one_call s next p owner quota call v formed later none kept done = by (is_some (petition_call call.name)) refl
   where
-    no_petition : (o : Option PetitionCall) → is_some o ≡ false → o ≡ None
-    no_petition o e = grind arith
-
-    nothing_at : (b c : Bool) → c ≡ false → ◌≡◌ {A = ℕ} 0 (if b then cond c 1 0 else 0)
-    nothing_at b c e = grind arith
-
     by : (b : Bool) → is_some (petition_call call.name) ≡ b → QuotaMoves next.world owner quota (if same_object p owner then cond (makes call.name) 1 0 else 0) (if same_object p owner then cond (ends call.name) 1 0 else 0)
-    by false e = moved_by s.world next.world p owner quota call v formed.world later.world none kept (done_in_world s next _ v (sym (request_steps s p call (no_petition (petition_call call.name) e)) ∙ done))
+    by false e = moved_by s.world next.world p owner quota call v formed.world later.world none kept (done_in_world s next _ v (sym (request_steps s p call (grind arith)) ∙ done))
     by true e =
-        subst (λ n. QuotaMoves next.world owner quota n (if same_object p owner then cond (ends call.name) 1 0 else 0)) (nothing_at (same_object p owner) (makes call.name) (no_maker call.name e))
-        (subst (λ n. QuotaMoves next.world owner quota 0 n) (nothing_at (same_object p owner) (ends call.name) (no_ender call.name e))
+        subst (λ n. QuotaMoves next.world owner quota n (if same_object p owner then cond (ends call.name) 1 0 else 0)) (grind arith)
+        (subst (λ n. QuotaMoves next.world owner quota 0 n) (grind arith)
         (subst (λ w. QuotaMoves w owner quota 0 0) (sym (petitions_leave_the_world s next p call v none e done)) (moves_itself s.world owner quota kept)))
 
 -- ---- calls in turn
@@ -36,9 +24,6 @@ one_call s next p owner quota call v formed later none kept done = by (is_some (
 -- this many, if the programmer is the owner
 abbrev share : Bool → ℕ → ℕ
 share b n = if b then n else 0
-
-shares_join : (b : Bool) (m n : ℕ) → share b m + share b n ≡ share b (m + n)
-shares_join b m n = grind arith
 
 calls_move : (p owner : ObjNo) (calls : List Call) (s : State) (quota : ℤ) → IsFormed s → list_all arguments_fit calls ≡ true → is_wizard s.world p ≡ false → HasKeptQuota s.world owner quota → (answers : List Value) (end : State) → run_calls s p calls ≡ Through answers end
     → QuotaMoves end.world owner quota (share (same_object p owner) (of_kind makes calls)) (share (same_object p owner) (of_kind ends calls))
@@ -62,8 +47,8 @@ calls_move p owner (call ∷ calls) s quota formed fit none kept answers end h =
         let later : IsFormed next = requests_keep_form s next p call v formed parts.0 e in
         let one = one_call s next p owner quota call v formed later none kept e in
         let goes = ran_on v (run_calls next p calls) answers end h in
-        subst (λ n. QuotaMoves end.world owner quota n (share (same_object p owner) (of_kind ends (call ∷ calls)))) (shares_join (same_object p owner) (cond (makes call.name) 1 0) (of_kind makes calls))
-        (subst (λ n. QuotaMoves end.world owner quota (share (same_object p owner) (cond (makes call.name) 1 0) + share (same_object p owner) (of_kind makes calls)) n) (shares_join (same_object p owner) (cond (ends call.name) 1 0) (of_kind ends calls))
+        subst (λ n. QuotaMoves end.world owner quota n (share (same_object p owner) (of_kind ends (call ∷ calls)))) (grind arith)
+        (subst (λ n. QuotaMoves end.world owner quota (share (same_object p owner) (cond (makes call.name) 1 0) + share (same_object p owner) (of_kind makes calls)) n) (grind arith)
         (moves_join end.world owner quota one.0 _ _ _ _ one.2.0 one.2.1 one.2.2 one.2.3 (rest next one.0 later parts.1 (none_after s next p call v formed.world none e) one.1 goes.0 end goes.1)))
     by o e rest h = absurd (grind arith)
 

@@ -1,5 +1,5 @@
 -- Over calls, batches and lists of batches of who isn't a wizard a quota that wizards keep moves by what is made and recycled.
-use Rattle.moo_world.{proofs.Form.Passing.{each_check}, proofs.Form.Calls.{no_wizard_keeps_ownership}, proofs.Lemmas.{zero, suc, int_lt, ◌≤ℤ◌, ◌≡◌, ◌≤◌, ℕ, ◌+◌, ℤ, pos, ◌+ℤ◌, true, false, cond, List, [], ◌∷◌, arith, refl, sym, ap, subst, ◌∙◌, Option, Some, if◌then◌else◌, option_map, ObjNo, Value, Int, Set, Name, same_object, World, Slot, WorldObject, ObjRow, unwrap_or, IsWellFormed, is_object, owner_of, slot_of, chain, is_wizard, quota_name, named_call, world_call, Outcome, Done, Holds, of_done, may_write_slot, is_among, nothing, ◌++◌, VerbRow, Clear, folded, verb_added, on_check, on_given, new_property_info, KeepsOwnership, name_after}, specs.declared.call.Call.{Call}, specs.declared.name.CallName.{CallName}}
+use Rattle.moo_world.{proofs.Form.Passing.{each_check}, proofs.Form.Calls.{no_wizard_keeps_ownership}, proofs.Lemmas.{ints, zero, suc, int_lt, ◌≤ℤ◌, ◌≡◌, ◌≤◌, ℕ, ◌+◌, ℤ, pos, ◌+ℤ◌, true, false, cond, List, [], ◌∷◌, arith, refl, sym, ap, subst, ◌∙◌, Option, Some, if◌then◌else◌, option_map, ObjNo, Value, Int, Set, Name, same_object, World, Slot, WorldObject, ObjRow, unwrap_or, IsWellFormed, is_object, owner_of, slot_of, chain, is_wizard, quota_name, named_call, world_call, Outcome, Done, Holds, of_done, may_write_slot, is_among, nothing, ◌++◌, VerbRow, Clear, folded, verb_added, on_check, on_given, new_property_info, KeepsOwnership, name_after}, specs.declared.call.Call.{Call}, specs.declared.name.CallName.{CallName}}
 use Rattle.moo_world.specs.declared.name.CallName.TheVariants.{Create, Chparent, Recycle, Move, SetPlayerFlag, Set as to_set, AddProperty, DeleteProperty, SetPropertyInfo, ClearProperty, AddVerb, DeleteVerb, SetVerbInfo, SetVerbArgs, SetAccept}
 use Rattle.std.proofs.Math.IntN.{+ℤ_assoc}
 use Rattle.moo_world.specs.Changes.{value_set, cleared}
@@ -8,7 +8,7 @@ use Rattle.moo_laws.specs.ObjectNumbers.{KeepsObjectNumbers}
 use Rattle.moo_laws.proofs.ObjectNumbers.{none_again, le_below}
 use Rattle.moo_laws.proofs.QuotaChains.{line, line_in, quota_face, same_chain}
 use Rattle.moo_laws.proofs.QuotaStays.{Same, unchanged, no_wizard, field_same, set_field, verbs_same, slot_same, added_same, removed_same, info_same, moved_same}
-use Rattle.moo_laws.proofs.QuotaSums.{below_greatest, fewer, later}
+use Rattle.moo_laws.proofs.QuotaSums.{fewer, later}
 use Rattle.moo_laws.proofs.QuotaEffects.{Effect, plain, made, ended}
 
 module _ (w : World) (p owner : ObjNo) (quota : ℤ) (wf : IsWellFormed w) (po : is_object w p ≡ true) (none : is_wizard w p ≡ false) (kept : HasKeptQuota w owner quota) (values : List Value) where
@@ -61,9 +61,6 @@ still_gone w next p names own numbers who g = (
   λ there. let was = numbers.old who g.0 there in (own.rights who was there).3 ∙ g.1 was,
 )
 
-owner_in : (o q : Option WorldObject) → option_map line_in o ≡ option_map line_in q → unwrap_or (option_map (λ (r : WorldObject). r.row.owner) o) nothing ≡ unwrap_or (option_map (λ (r : WorldObject). r.row.owner) q) nothing
-owner_in o q e = grind arith
-
 bit_in : (o q : Option WorldObject) → option_map line_in o ≡ option_map line_in q → unwrap_or (option_map (λ (row : ObjRow). row.w) (option_map (λ (r : WorldObject). r.row) o)) false ≡ unwrap_or (option_map (λ (row : ObjRow). row.w) (option_map (λ (r : WorldObject). r.row) q)) false
 bit_in o q e = grind arith
 
@@ -76,7 +73,7 @@ kept_now : (w next : World) (p owner : ObjNo) (quota now : ℤ) (gone : (who : O
 kept_now w next p owner quota now gone kept same lines faces own = record {
   set = own;
   objects = λ x e. let g = ap (is_among x) (sym same) ∙ e in (
-    subst (λ k. IsWizardOrGone next k) (sym (owner_in (next.object x) (w.object x) (lines x g))) (gone (owner_of w x) (kept.objects x g).0),
+    subst (λ k. IsWizardOrGone next k) (sym (grind (arith, lines x g))) (gone (owner_of w x) (kept.objects x g).0),
     bit_in (next.object x) (w.object x) (lines x g) ∙ (kept.objects x g).1,
   );
   slots = λ x s e f.
@@ -94,7 +91,7 @@ moved_by w next p owner quota call v wf formed none kept done = of_done (λ v le
   where
     exact : (n back : ℕ) → back ≤ n → (int_lt quota (pos 9223372036854775807) ≡ true → back ≡ n) → (quota +ℤ pos n) ≤ℤ pos 9223372036854775807 → back ≡ n
     exact zero back few whole small = omega arith
-    exact (suc n) back few whole small = whole (below_greatest quota n small)
+    exact (suc n) back few whole small = whole (grind (arith, ints))
 
     weaker : (o : Outcome World) (po : is_object w p ≡ true) → Holds (λ v left. Effect w p owner quota wf po none kept (cond (makes call.name) 1 0) (cond (ends call.name) 1 0) left) o
         → Holds (λ v left. IsWellFormed left → KeepsOwnership w left p (name_after w call) → KeepsObjectNumbers w left → QuotaMoves left owner quota (if same_object p owner then cond (makes call.name) 1 0 else 0) (if same_object p owner then cond (ends call.name) 1 0 else 0)) o
@@ -109,18 +106,9 @@ moves_itself w owner quota kept = (quota, kept, (0, (omega arith), refl, λ smal
 -- first so much is made and recycled, and then so much
 pub moves_join : (next : World) (owner : ObjNo) (quota now : ℤ) (first second early late back : ℕ) → back ≤ early → now +ℤ pos first ≡ quota +ℤ pos back → ((quota +ℤ pos early) ≤ℤ pos 9223372036854775807 → back ≡ early) → QuotaMoves next owner now second late → QuotaMoves next owner quota (first + second) (early + late)
 moves_join next owner quota now first second early late back few sum whole m =
-    (m.0, m.1, (back + m.2.0, at_most back early m.2.0 late few m.2.1, added quota now m.0 first second back m.2.0 sum m.2.2, all))
+    (m.0, m.1, (back + m.2.0, omega (arith, m.2.1), added quota now m.0 first second back m.2.0 sum m.2.2, λ small. λ i. whole (fewer quota early late (pos 9223372036854775807) small) i + m.2.3 (later quota now first back early late (pos 9223372036854775807) few sum small) i))
   where
-    all : (quota +ℤ pos (early + late)) ≤ℤ pos 9223372036854775807 → back + m.2.0 ≡ early + late
-    all small = λ i. whole (fewer quota early late (pos 9223372036854775807) small) i + m.2.3 (later quota now first back early late (pos 9223372036854775807) few sum small) i
-
-    at_most : (a b c d : ℕ) → a ≤ b → c ≤ d → a + c ≤ b + d
-    at_most a b c d e f = omega arith
-
-    turned : (a b : ℕ) → a + b ≡ b + a
-    turned a b = omega arith
-
     added : (quota now end : ℤ) (first second back more : ℕ) → now +ℤ pos first ≡ quota +ℤ pos back → end +ℤ pos second ≡ now +ℤ pos more → end +ℤ pos (first + second) ≡ quota +ℤ pos (back + more)
     added quota now end first second back more e f =
-        ap (λ n. end +ℤ pos n) (turned first second) ∙ sym (+ℤ_assoc end (pos second) (pos first)) ∙ ap (λ z. z +ℤ pos first) f ∙ +ℤ_assoc now (pos more) (pos first)
-        ∙ ap (λ n. now +ℤ pos n) (turned more first) ∙ sym (+ℤ_assoc now (pos first) (pos more)) ∙ ap (λ z. z +ℤ pos more) e ∙ +ℤ_assoc quota (pos back) (pos more)
+        ap (λ n. end +ℤ pos n) (omega arith) ∙ sym (+ℤ_assoc end (pos second) (pos first)) ∙ ap (λ z. z +ℤ pos first) f ∙ +ℤ_assoc now (pos more) (pos first)
+        ∙ ap (λ n. now +ℤ pos n) (omega arith) ∙ sym (+ℤ_assoc now (pos first) (pos more)) ∙ ap (λ z. z +ℤ pos more) e ∙ +ℤ_assoc quota (pos back) (pos more)

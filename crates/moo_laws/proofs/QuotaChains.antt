@@ -38,15 +38,12 @@ module _ (w : World) (p owner : ObjNo) (quota : ℤ) (wf : IsWellFormed w) (po :
   uncontrolled : (x : ObjNo) → hangs x ≡ true → controls w p x ≡ false
   uncontrolled x h = grind (arith, not_mine)
 
-  apart_if : (x : ObjNo) (b : Bool) → b ≡ true → (hangs x ≡ true → b ≡ false) → hangs x ≡ false
-  apart_if x b e h = false_from_ne_true (hangs x) (λ f. both_ways b (h f) e)
-
   -- what the programmer controls or may write isn't among them
   pub controlled_apart : (x : ObjNo) → controls w p x ≡ true → hangs x ≡ false
-  controlled_apart x e = apart_if x (controls w p x) e (uncontrolled x)
+  controlled_apart x e = false_from_ne_true (hangs x) (λ f. both_ways (controls w p x) ((uncontrolled x) f) e)
 
   pub written_apart : (x : ObjNo) → may_write_object w p x ≡ true → hangs x ≡ false
-  written_apart x e = apart_if x (may_write_object w p x) e (λ h i. uncontrolled x h i || (kept.objects x h).1 i)
+  written_apart x e = false_from_ne_true (hangs x) (λ f. both_ways (may_write_object w p x) ((λ h i. uncontrolled x h i || (kept.objects x h).1 i) f) e)
 
   pub slot_unwritten : (x : ObjNo) (s : Slot) → hangs x ≡ true → slot_of w x quota_name ≡ Some s → may_write_slot w p s ≡ false
   slot_unwritten x s h e = λ i. none i || (not_mine s.owner (kept.slots x s h e).0 i || (kept.slots x s h e).1 i)
@@ -63,8 +60,5 @@ module _ (w : World) (p owner : ObjNo) (quota : ℤ) (wf : IsWellFormed w) (po :
   climbs_on next [] y c h = c
   climbs_on next (z ∷ l) y c h = (c.0, c.1, ap (parent_of next) c.0 ∙ h z (ap (λ b. b || is_among z l) (same_object-self z)) ∙ ap (parent_of w) (sym c.0) ∙ c.2, climbs_on next l c.1 c.3 (λ u m. h u (or_right (same_object u z) (is_among u l) m)))
 
-  parent_in : (o q : Option WorldObject) → option_map line_in o ≡ option_map line_in q → option_map (λ (r : WorldObject). r.row.parent) o ≡ option_map (λ (r : WorldObject). r.row.parent) q
-  parent_in o q e = grind arith
-
   pub same_chain : (next : World) → IsWellFormed next → ((y : ObjNo) → hangs y ≡ true → line next y ≡ line w y) → chain next owner ≡ chain w owner
-  same_chain next formed lines = chain_is next formed.tree owner (chain w owner) (climbs_on next (chain w owner) owner own_chain (λ z m. parent_in (next.object z) (w.object z) (lines z m)))
+  same_chain next formed lines = chain_is next formed.tree owner (chain w owner) (climbs_on next (chain w owner) owner own_chain (λ z m. grind (arith, lines z m)))

@@ -23,14 +23,6 @@ module _ (v : World) (o : ObjNo) (more : ℤ) where
   slot_put : (had : ℤ) (s : Slot) → quota_of v o ≡ Some had → slot_of v o quota_name ≡ Some s → slot_of (quota_changed v o more) o quota_name ≡ Some (record s { state = Set (Int (had +ℤ more)) })
   slot_put had s e f = grind (arith, same_object-self, same_text-Decides)
 
--- a quota of one's own is read
-own_quota : (v : World) → IsWellFormed v → (o : ObjNo) (s : Slot) (q : ℤ) → slot_of v o quota_name ≡ Some s → s.state ≡ Set (Int q) → quota_of v o ≡ Some q
-own_quota v wf o s q e set =
-    let r = some_record (v.object o) (slotted v o quota_name s e) in
-    ap (λ l. quota_in (read_along v quota_name l)) (chain-step v wf.tree o r.0 r.1)
-    ∙ ap (λ k. quota_in (read_in k (read_along v quota_name (chain v r.0.row.parent)))) e
-    ∙ ap (λ t. quota_in (elim t [ Clear ↦ read_along v quota_name (chain v r.0.row.parent) | Set u ↦ Some u ])) set
-
 -- ---- effects
 
 module _ (w : World) (p owner : ObjNo) (quota : ℤ) (wf : IsWellFormed w) (po : is_object w p ≡ true) (none : is_wizard w p ≡ false) (kept : HasKeptQuota w owner quota) where
@@ -48,14 +40,8 @@ module _ (w : World) (p owner : ObjNo) (quota : ℤ) (wf : IsWellFormed w) (po :
     pub sum : now +ℤ pos (if same_object p owner then made else 0) ≡ quota +ℤ pos back
     pub whole : int_lt quota (pos 9223372036854775807) ≡ true → back ≡ (if same_object p owner then ended else 0)
 
-  hangs_itself : hangs w p owner quota wf po none kept owner ≡ true
-  hangs_itself = in_own_chain w wf owner (owner_there w p owner quota wf po none kept)
-
   still_own : (next : World) → Same w p owner quota wf po none kept next → slot_of next owner quota_name ≡ Some kept.set.0
-  still_own next same = same.slots owner hangs_itself ∙ kept.set.1
-
-  none_at : (b : Bool) → ◌≡◌ {A = ℕ} (if b then 0 else 0) 0
-  none_at b = grind arith
+  still_own next same = same.slots owner (in_own_chain w wf owner (owner_there w p owner quota wf po none kept)) ∙ kept.set.1
 
   pub plain : (next : World) → Same w p owner quota wf po none kept next → Effect 0 0 next
   plain next same = record {
@@ -65,21 +51,22 @@ module _ (w : World) (p owner : ObjNo) (quota : ℤ) (wf : IsWellFormed w) (po :
     back = 0;
     own = (kept.set.0, still_own next same, kept.set.2);
     few = omega arith;
-    sum = ap (λ n. quota +ℤ pos n) (none_at (same_object p owner));
-    whole = λ small. sym (none_at (same_object p owner));
+    sum = ap (λ n. quota +ℤ pos n) (grind arith);
+    whole = λ small. sym (grind arith);
   }
 
   module _ (v : World) (formed_v : IsWellFormed v) (same : Same w p owner quota wf po none kept v) where
     had : quota_of v owner ≡ Some quota
-    had = own_quota v formed_v owner kept.set.0 quota (still_own v same) kept.set.2
+    had =
+        let r = some_record (v.object owner) (slotted v owner quota_name kept.set.0 (still_own v same)) in
+        ap (λ l. quota_in (read_along v quota_name l)) (chain-step v formed_v.tree owner r.0 r.1)
+        ∙ ap (λ k. quota_in (read_in k (read_along v quota_name (chain v r.0.row.parent)))) (still_own v same)
+        ∙ ap (λ t. quota_in (elim t [ Clear ↦ read_along v quota_name (chain v r.0.row.parent) | Set u ↦ Some u ])) kept.set.2
 
     -- a change of the programmer's quota
     moved : (more : ℤ) (made ended back : ℕ) → back ≡ ended → (quota +ℤ more) +ℤ pos made ≡ quota +ℤ pos back → Effect made ended (quota_changed v p more)
     moved more made ended back all sum = by (same_object p owner) refl
       where
-        itself : (n : ℕ) → n ≤ n
-        itself n = omega arith
-
         by : (b : Bool) → same_object p owner ≡ b → Effect made ended (quota_changed v p more)
         by true e =
             let own : p ≡ owner = (same_object-Decides p owner).0 e in record {
@@ -88,7 +75,7 @@ module _ (w : World) (p owner : ObjNo) (quota : ℤ) (wf : IsWellFormed w) (po :
               now = quota +ℤ more;
               back = back;
               own = (record kept.set.0 { state = Set (Int (quota +ℤ more)) }, subst (λ o. slot_of (quota_changed v o more) owner quota_name ≡ Some (record kept.set.0 { state = Set (Int (quota +ℤ more)) })) (sym own) (slot_put v owner more quota kept.set.0 had (still_own v same)), refl);
-              few = subst (λ b. back ≤ (if b then ended else 0)) (sym e) (subst (λ n. back ≤ n) all (itself back));
+              few = subst (λ b. back ≤ (if b then ended else 0)) (sym e) (subst (λ n. back ≤ n) all (omega arith));
               sum = subst (λ b. (quota +ℤ more) +ℤ pos (if b then made else 0) ≡ quota +ℤ pos back) (sym e) sum;
               whole = λ small. subst (λ b. back ≡ (if b then ended else 0)) (sym e) all;
             }
@@ -104,17 +91,11 @@ module _ (w : World) (p owner : ObjNo) (quota : ℤ) (wf : IsWellFormed w) (po :
         }
 
     pub charged_once : Effect 1 0 (quota_changed v p (negsuc 0))
-    charged_once = moved (negsuc 0) 1 0 0 refl (back_again quota)
-      where
-        back_again : (k : ℤ) → (k +ℤ negsuc 0) +ℤ pos 1 ≡ k +ℤ pos 0
-        back_again k = +ℤ_assoc k (negsuc 0) (pos 1)
+    charged_once = moved (negsuc 0) 1 0 0 refl (+ℤ_assoc quota (negsuc 0) (pos 1))
 
     pub returned_once : Effect 0 1 (quota_returned v p)
     returned_once = by (unwrap_or (option_map (λ q. int_lt q (pos 9223372036854775807)) (quota_of v p)) false) refl
       where
-        one_up : (k : ℤ) → (k +ℤ pos 1) +ℤ pos 0 ≡ k +ℤ pos 1
-        one_up k = +ℤ_assoc k (pos 1) (pos 0)
-
         less : unwrap_or (option_map (λ q. int_lt q (pos 9223372036854775807)) (quota_of v p)) false ≡ false → Effect 0 0 v → Effect 0 1 v
         less no_room f = record { lines = f.lines; faces = f.faces; now = f.now; back = f.back; own = f.own; few = at_least (same_object p owner) f.few; sum = f.sum; whole = λ small. at_once small (same_object p owner) refl }
           where
@@ -127,7 +108,7 @@ module _ (w : World) (p owner : ObjNo) (quota : ℤ) (wf : IsWellFormed w) (po :
             at_once small true e = absurd (both_ways (unwrap_or (option_map (λ q. int_lt q (pos 9223372036854775807)) (quota_of v p)) false) no_room (ap (λ o. unwrap_or (option_map (λ q. int_lt q (pos 9223372036854775807)) (quota_of v o)) false) ((same_object-Decides p owner).0 e) ∙ ap (λ k. unwrap_or (option_map (λ q. int_lt q (pos 9223372036854775807)) k) false) had ∙ small))
 
         by : (b : Bool) → unwrap_or (option_map (λ q. int_lt q (pos 9223372036854775807)) (quota_of v p)) false ≡ b → Effect 0 1 (if b then quota_changed v p (pos 1) else v)
-        by true e = moved (pos 1) 0 1 1 refl (one_up quota)
+        by true e = moved (pos 1) 0 1 1 refl (+ℤ_assoc quota (pos 1) (pos 0))
         by false e = less e (plain v same)
 
   -- ---- create and recycle
@@ -144,8 +125,5 @@ module _ (w : World) (p owner : ObjNo) (quota : ℤ) (wf : IsWellFormed w) (po :
       (subst (λ b. Effect 1 0 (if b then created w x q (if b then x else p) else quota_changed (created w x q (if b then x else p)) p (negsuc 0))) (sym something)
       (charged_once (created w x q p) (formed w x q p wf is_next (parent_known w p q parent) (object_numbered w wf p po)) (created_same w p owner quota wf po none kept x q p is_next (parent_known w p q parent))))
 
-  owned : (x : ObjNo) → is_object w x ≡ true → controls w p x ≡ true → owner_of w x ≡ p
-  owned x xo mine = grind (arith, no_other, same_object-Decides)
-
   pub ended : (x : ObjNo) → is_object w x ≡ true → controls w p x ≡ true → Effect 0 1 (quota_returned (recycled w x) (owner_of w x))
-  ended x xo mine = subst (λ k. Effect 0 1 (quota_returned (recycled w x) k)) (sym (owned x xo mine)) (returned_once (recycled w x) (recycled_formed w x wf xo) (recycled_same w p owner quota wf po none kept x xo mine))
+  ended x xo mine = subst (λ k. Effect 0 1 (quota_returned (recycled w x) k)) (sym (grind (arith, no_other, same_object-Decides))) (returned_once (recycled w x) (recycled_formed w x wf xo) (recycled_same w p owner quota wf po none kept x xo mine))

@@ -19,10 +19,7 @@ definer_above w wf y n s e = by (property_named (defined_by_any w (chain w y)) n
 -- what is in a chain is an object
 in_chain_object : (w : World) (l : List ObjNo) (o y : ObjNo) → Chain w o l → is_among y l ≡ true → is_object w y ≡ true
 in_chain_object w [] o y c h = absurd (none-some true (ap (λ b. if b then Some true else None) h))
-in_chain_object w (z ∷ l) o y c h = by (same_object y z) refl h (in_chain_object w l c.1 y c.3)
-  where
-    by : (b : Bool) → same_object y z ≡ b → (b || is_among y l) ≡ true → (is_among y l ≡ true → is_object w y ≡ true) → is_object w y ≡ true
-    by b e f g = grind (arith, same_object-Decides, linked)
+in_chain_object w (z ∷ l) o y c h = grind (arith, same_object-Decides, linked, in_chain_object w l c.1 y c.3)
 
 rebuilt_line : (w s : World) (q y : ObjNo) → line (rebuilt w s q) y ≡ line s y
 unfolding rebuilt
@@ -61,22 +58,13 @@ module _ (w : World) (p owner : ObjNo) (quota : ℤ) (wf : IsWellFormed w) (po :
   set_field x f c e = grind (arith, field_same, no_wizard)
 
   pub verbs_same : (x : ObjNo) (change : List VerbRow → List VerbRow) → Same (with_verbs w x change)
-  verbs_same x change = record { lines = λ y e. lines (same_object x y) (w.object y); slots = λ y e. slots (same_object x y) (w.object y) }
-    where
-      lines : (b : Bool) (o : Option WorldObject) → option_map line_in (option_map (λ (r : WorldObject). if b then record r { verbs = change r.verbs } else r) o) ≡ option_map line_in o
-      lines b o = grind arith
-
-      slots : (b : Bool) (o : Option WorldObject) → option_and_then (λ (r : WorldObject). r.slot quota_name) (option_map (λ (r : WorldObject). if b then record r { verbs = change r.verbs } else r) o) ≡ option_and_then (λ (r : WorldObject). r.slot quota_name) o
-      slots b o = grind arith
+  verbs_same x change = record { lines = λ y e. grind arith; slots = λ y e. grind arith }
 
   -- ---- one slot
 
   pub slot_same : (x : ObjNo) (n : Name) (s : Slot) (change : Slot → Slot) → slot_of w x (folded n) ≡ Some s → may_write_slot w p s ≡ true → Same (with_slot_of w x n change)
-  slot_same x n s change e may = record { lines = λ y g. lines y; slots = λ y g. slot_changed w x n change y quota_name ∙ by y g (same_object x y && same_text (folded n) quota_name) refl }
+  slot_same x n s change e may = record { lines = λ y g. grind arith; slots = λ y g. slot_changed w x n change y quota_name ∙ by y g (same_object x y && same_text (folded n) quota_name) refl }
     where
-      lines : (y : ObjNo) → line (with_slot_of w x n change) y ≡ line w y
-      lines y = grind arith
-
       by : (y : ObjNo) → hangs w p owner quota wf po none kept y ≡ true → (b : Bool) → (same_object x y && same_text (folded n) quota_name) ≡ b → (if b then option_map change (slot_of w y quota_name) else slot_of w y quota_name) ≡ slot_of w y quota_name
       by y g false f = refl
       by y g true f =
@@ -88,11 +76,8 @@ module _ (w : World) (p owner : ObjNo) (quota : ℤ) (wf : IsWellFormed w) (po :
   -- ---- definitions
 
   pub added_same : (x : ObjNo) (n : Name) (s : Slot) → may_write_object w p x ≡ true → Same (property_added w x n s)
-  added_same x n s may = record { lines = λ y g. lines y; slots = λ y g. slot_added x n s w y quota_name ∙ by y (not_above w p owner quota wf po none kept x y (written_apart w p owner quota wf po none kept x may) g) }
+  added_same x n s may = record { lines = λ y g. grind arith; slots = λ y g. slot_added x n s w y quota_name ∙ by y (not_above w p owner quota wf po none kept x y (written_apart w p owner quota wf po none kept x may) g) }
     where
-      lines : (y : ObjNo) → line (property_added w x n s) y ≡ line w y
-      lines y = grind arith
-
       never : (a c : Bool) → (a && (false && c)) ≡ false
       never a c = grind arith
 
@@ -105,9 +90,6 @@ module _ (w : World) (p owner : ObjNo) (quota : ℤ) (wf : IsWellFormed w) (po :
   pub removed_same : (x : ObjNo) (n : Name) → may_write_object w p x ≡ true → Same (property_removed w x n)
   removed_same x n may = record { lines = λ y g. rebuilt_line w _ nothing y ∙ lines y; slots = λ y g. undefined_law w wf x n y quota_name (there y g) ∙ by y g (slot_of w y quota_name) refl }
     where
-      out : hangs w p owner quota wf po none kept x ≡ false
-      out = written_apart w p owner quota wf po none kept x may
-
       lines : (y : ObjNo) → line (object_changed w x (λ entry. record entry { defines = filter (λ defined_name. not (same_text (folded defined_name) (folded n))) entry.defines })) y ≡ line w y
       lines y = grind arith
 
@@ -116,7 +98,7 @@ module _ (w : World) (p owner : ObjNo) (quota : ℤ) (wf : IsWellFormed w) (po :
       by y g (Some s) e = ap (λ b. if b && same_text quota_name (folded n) then None else Some s) (apart s.definer (chain_in_chain w wf.tree (chain w owner) owner y s.definer (own_chain w p owner quota wf po none kept) g (definer_above w wf y quota_name s e)))
         where
           apart : (d : ObjNo) → hangs w p owner quota wf po none kept d ≡ true → same_object d x ≡ false
-          apart d k = false_from_ne_true (same_object d x) (λ f. both_ways (hangs w p owner quota wf po none kept x) out (ap (hangs w p owner quota wf po none kept) (sym ((same_object-Decides d x).0 f)) ∙ k))
+          apart d k = false_from_ne_true (same_object d x) (λ f. both_ways (hangs w p owner quota wf po none kept x) (written_apart w p owner quota wf po none kept x may) (ap (hangs w p owner quota wf po none kept) (sym ((same_object-Decides d x).0 f)) ∙ k))
 
   -- ---- another name, owner and bits
 
@@ -136,14 +118,11 @@ module _ (w : World) (p owner : ObjNo) (quota : ℤ) (wf : IsWellFormed w) (po :
       hanging : (y : ObjNo) → hangs w p owner quota wf po none kept y ≡ true → is_among x (chain (info_set w x n o bits) y) ≡ true → hangs w p owner quota wf po none kept x ≡ true
       hanging y g u = chain_in_chain w wf.tree (chain w owner) owner y x (own_chain w p owner quota wf po none kept) g (ap (is_among x) (sym (chains_same (info_set w x n o bits) w (same_links w x n (λ k. record k { owner = o; bits = bits })) y)) ∙ u)
 
-      free : clashes w x new ≡ false
-      free = not_true (clashes w x new) (and_parts _ (not (clashes w x new)) (and_parts (defines_name w x n) (may_define w x new) good).1).1
-
       no_clash : hangs w p owner quota wf po none kept x ≡ true → folded new ≡ quota_name → ⊥
       no_clash g named =
           let c = own_chain w p owner quota wf po none kept in
           none-some kept.set.0.definer (
-          ap (option_map (λ (k : Property). k.0)) (sym (none_owed w wf x new s xo free owner (chain w owner) c g))
+          ap (option_map (λ (k : Property). k.0)) (sym (none_owed w wf x new s xo (not_true (clashes w x new) (and_parts _ (not (clashes w x new)) (and_parts (defines_name w x n) (may_define w x new) good).1).1) owner (chain w owner) c g))
           ∙ sym (wf.slots owner (chain w owner) (folded new) (owner_there w p owner quota wf po none kept) c)
           ∙ ap (option_map (λ (k : Slot). k.definer)) (ap (slot_of w owner) named ∙ kept.set.1))
 

@@ -1,10 +1,6 @@
 -- Sums of a quota, and of what is made and recycled.
 use Rattle.moo_world.proofs.Lemmas.{◌≡◌, ◌≤◌, ℕ, suc, ◌+◌, ℤ, pos, ◌+ℤ◌, ◌≤ℤ◌, int_lt, true, arith, ints}
 
--- below the greatest integer, if one more is within it
-pub below_greatest : (q : ℤ) (n : ℕ) → (q +ℤ pos (suc n)) ≤ℤ pos 9223372036854775807 → int_lt q (pos 9223372036854775807) ≡ true
-below_greatest q n h = grind (arith, ints)
-
 pub fewer : (q : ℤ) (a b : ℕ) (g : ℤ) → (q +ℤ pos (a + b)) ≤ℤ g → (q +ℤ pos a) ≤ℤ g
 fewer q a b g h = omega (arith, ints)
 

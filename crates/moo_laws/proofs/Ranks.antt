@@ -24,15 +24,9 @@ kept_itself : (w : World) → Kept w w (λ x named. Some named)
 kept_itself w = record {
   rises = record { players = λ x h. h; programmers = λ x h. h; wizards = λ x h. h };
   objects = λ x e f. (refl, refl, refl, refl);
-  slots = λ x was now e f. by x was now e f;
+  slots = λ x was now e f. grind arith;
   again = none_again_itself w;
 }
-  where
-    by : (x : ObjNo) (was now : NamedSlot) → slot_of w x was.0 ≡ Some was.1 → Some was ≡ Some now → (slot_of w x now.0 ≡ Some now.1) × (now.1.owner ≡ was.1.owner)
-    by x was now e f = grind arith
-
-joined_rights : (a b c : World) (x : ObjNo) → SameRights a b x → SameRights b c x → SameRights a c x
-joined_rights a b c x f g = (g.0 ∙ f.0, g.1 ∙ f.1, g.2 ∙ f.2, g.3 ∙ f.3)
 
 kept_joins : (a b c : World) (first second : ObjNo → NamedSlot → Option NamedSlot) → IsWellFormed a → Kept a b first → Kept b c second → Kept a c (λ x named. option_and_then (second x) (first x named))
 kept_joins a b c first second formed f g = record {
@@ -41,7 +35,7 @@ kept_joins a b c first second formed f g = record {
     programmers = λ x h. f.rises.programmers x (g.rises.programmers x h);
     wizards = λ x h. f.rises.wizards x (g.rises.wizards x h);
   };
-  objects = λ x e h. let between = there x e h in joined_rights a b c x (f.objects x e between) (g.objects x between h);
+  objects = λ x e h. let between = there x e h in ((g.objects x between h).0 ∙ (f.objects x e between).0, (g.objects x between h).1 ∙ (f.objects x e between).1, (g.objects x between h).2 ∙ (f.objects x e between).2, (g.objects x between h).3 ∙ (f.objects x e between).3);
   slots = λ x was now e h. by x was now e (first x was) refl h;
   again = none_again_joins a b c f.again g.again;
 }
@@ -60,20 +54,15 @@ kept_joins a b c first second formed f g = record {
 passes_of_object : (test : ObjRow → Bool) (w : World) (x : ObjNo) → row_passes test w x ≡ true → is_object w x ≡ true
 passes_of_object test w x h = grind arith
 
--- who has a bit had it: an object that was there has its rights, and one that is made has none
-had_it : (test : ObjRow → Bool) (w v : World) (x : ObjNo) → (is_object w x ≡ true → is_object v x ≡ true → row_passes test v x ≡ row_passes test w x) → (is_object w x ≡ false → is_object v x ≡ true → row_passes test v x ≡ false)
-    → row_passes test v x ≡ true → row_passes test w x ≡ true
-had_it test w v x stays made h = grind (arith, passes_of_object)
-
 followed : (w v : World) (call : Call) (x : ObjNo) (was now : NamedSlot) → slot_behind_call w v call x was ≡ Some now → (slot_of v x now.0 ≡ Some now.1) × (now.0 ≡ name_after w call x was.0) × (was.1.definer ≡ now.1.definer)
 followed w v call x was now h = grind (arith, none-some, same_object-Decides)
 
 kept_by : (w v : World) (p : ObjNo) (call : Call) → KeepsOwnership w v p (name_after w call) → KeepsObjectNumbers w v → Kept w v (λ x named. slot_behind_call w v call x named)
 kept_by w v p call k again = record {
   rises = record {
-    players = λ x h. had_it (λ row. row.player) w v x (λ e f. (k.rights x e f).1) (λ e f. (k.made x e f).1) h;
-    programmers = λ x h. had_it (λ row. row.programmer) w v x (λ e f. (k.rights x e f).2) (λ e f. (k.made x e f).2) h;
-    wizards = λ x h. had_it (λ row. row.wizard) w v x (λ e f. (k.rights x e f).3) (λ e f. (k.made x e f).3) h;
+    players = λ x h. grind (arith, passes_of_object);
+    programmers = λ x h. grind (arith, passes_of_object);
+    wizards = λ x h. grind (arith, passes_of_object);
   };
   objects = k.rights;
   slots = λ x was now e h. let it = followed w v call x was now h in (it.0, k.slots x was.0 was.1 now.1 e (subst (λ n. slot_of v x n ≡ Some now.1) it.1 it.0) it.2);
@@ -84,26 +73,19 @@ kept_by w v p call k again = record {
 pub done_in_world : (s next : State) (o : Outcome World) (v : Value) → in_world s o ≡ Done v next → o ≡ Done v next.world
 done_in_world s next o v h = grind arith
 
--- the calls of petitions give no new names
-same_name : (w : World) (call : Call) (x : ObjNo) (n : Name) → is_some (petition_call call.name) ≡ true → name_after w call x n ≡ n
-same_name w call x n h = grind arith
-
 unchanged_by : (w : World) (p : ObjNo) (call : Call) → is_some (petition_call call.name) ≡ true → KeepsOwnership w w p (name_after w call)
 unchanged_by w p call h = record {
   rights = λ x e f. (refl, refl, refl, refl);
-  slots = λ x n a b e f d. same_owner a b (slot_of w x n) e (subst (λ m. slot_of w x m ≡ Some b) (same_name w call x n h) f);
+  slots = λ x n a b e f d. same_owner a b (slot_of w x n) e (subst (λ m. slot_of w x m ≡ Some b) (grind arith) f);
   made = λ x e f. absurd (both_ways (is_object w x) e f);
 }
 
 one_call : (s next : State) (p : ObjNo) (call : Call) (v : Value) → IsWellFormed s.world → is_wizard s.world p ≡ false → batch_call s p call ≡ Done v next → Kept s.world next.world (λ x named. slot_behind_call s.world next.world call x named)
 one_call s next p call v formed none done = by (is_some (petition_call call.name)) refl
   where
-    no_petition : (o : Option PetitionCall) → is_some o ≡ false → o ≡ None
-    no_petition o e = grind arith
-
     by : (b : Bool) → is_some (petition_call call.name) ≡ b → Kept s.world next.world (λ x named. slot_behind_call s.world next.world call x named)
     by false e =
-        let in_the_world = done_in_world s next _ v (sym (request_steps s p call (no_petition (petition_call call.name) e)) ∙ done) in
+        let in_the_world = done_in_world s next _ v (sym (request_steps s p call (grind arith)) ∙ done) in
         kept_by s.world next.world p call (no_wizard_keeps_ownership s.world next.world p call v formed none in_the_world) (none_again s.world next.world p call v in_the_world)
     by true e =
         subst (λ w. Kept s.world w (λ x named. slot_behind_call s.world w call x named)) (sym (petitions_leave_the_world s next p call v none e done))
@@ -194,24 +176,18 @@ formed_batches s (b ∷ bs) formed fit =
     let parts = and_parts (list_all arguments_fit b.calls) (list_all (λ batch. list_all arguments_fit batch.calls) bs) fit in (
       formed.world,
       λ accepted. formed_calls s b.programmer b.calls formed parts.0,
-      formed_batches (left_by s (judge s b)) bs (runs_keep_form s (b ∷ []) formed (both parts.0)) parts.1,
+      formed_batches (left_by s (judge s b)) bs (runs_keep_form s (b ∷ []) formed (grind (arith, parts.0))) parts.1,
     )
-  where
-    both : list_all arguments_fit b.calls ≡ true → list_all (λ batch. list_all arguments_fit batch.calls) (b ∷ []) ≡ true
-    both e = grind arith
 
 pub nobody_rises : (s : State) (bs : List Batch) → IsFormed s → list_all (λ batch. list_all arguments_fit batch.calls) bs ≡ true → NoWizardActs s bs → KeepsRights s bs (after s bs)
 nobody_rises s bs formed fit none = rights_kept s bs (formed_batches s bs formed fit) none
 
 -- ---- where rows lead to rows
 
-done_once : (o : Outcome State) (v w : Value) (a b : State) → o ≡ Done v a → o ≡ Done w b → a ≡ b
-done_once o v w a b e f = grind arith
-
 led_calls : (p : ObjNo) (calls : List Call) (old new : Maps) → IsGood old → CallsLead p calls old new → FormedBy (state_of old) p calls
 led_calls p [] old new good it = good.formed
 led_calls p (call ∷ calls) old new good it =
-    (good.formed, λ v next done. subst (λ s. FormedBy s p calls) (done_once _ it.0 v (state_of it.1) next it.2 done) (led_calls p calls it.1 new it.3 it.5))
+    (good.formed, λ v next done. subst (λ s. FormedBy s p calls) (grind (arith, it.2)) (led_calls p calls it.1 new it.3 it.5))
 
 pub led_batch : (b : Batch) (old new : Maps) → IsGood old → BatchLeads b old new → FormedBy (state_of old) b.programmer b.calls
 led_batch b old new good it = led_calls b.programmer b.calls old it.0 good it.1

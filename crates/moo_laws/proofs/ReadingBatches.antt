@@ -13,20 +13,11 @@ use Rattle.moo_laws.proofs.BothRuns.{BothRan, runs_joined, reason_of_runs, befor
 use Rattle.moo_laws.proofs.Asking.{there, asked}
 use Rattle.moo_laws.proofs.PetitionsSeen.{same_list}
 
-of_world : (name : CallName) → is_question name ≡ true → petition_call name ≡ None
-of_world name h = grind arith
-
-to_the_list : (name : CallName) → lists_petitions name ≡ true → petition_call name ≡ Some to_list
-to_the_list name h = grind arith
-
 either : (a b : Bool) → (a || b) ≡ true → (a ≡ false → b ≡ true)
 either a b h = grind arith
 
 module _ (p : ObjNo) where
   -- ---- one call from two states
-
-  in_both : (s t : State) (o q : Outcome World) → Both (λ w v. AgreeFor p (record s { world = w }) (record t { world = v })) o q → Both (AgreeFor p) (in_world s o) (in_world t q)
-  in_both s t o q e = grind arith
 
   step : (s t : State) → AgreeFor p s t → (call : Call) → (is_question call.name || lists_petitions call.name) ≡ true → Both (AgreeFor p) (batch_call s p call) (batch_call t p call)
   unfolding batch_call
@@ -37,10 +28,10 @@ module _ (p : ObjNo) where
 
       by : (b : Bool) → is_question call.name ≡ b → Same (petition_call call.name)
       by true e =
-          subst Same (sym (of_world call.name e))
-          (in_both s t _ _ (asked p s.world t.world agree.worlds (λ w v. AgreeFor p (record s { world = w }) (record t { world = v })) (record { worlds = agree.worlds; petitions = agree.petitions; accepted = agree.accepted }) call.name call.args e))
+          subst Same (sym (grind arith))
+          (grind (arith, asked p s.world t.world agree.worlds (λ w v. AgreeFor p (record s { world = w }) (record t { world = v })) (record { worlds = agree.worlds; petitions = agree.petitions; accepted = agree.accepted }) call.name call.args e))
       by false e =
-          subst Same (sym (to_the_list call.name (either _ _ h e)))
+          subst Same (sym (grind (arith, either _ _ h e)))
           (on_givens (AgreeFor p) (no_values call.args) _ _ (λ _. (ap (λ es. list_of (map listed es)) (same_list s t p agree.petitions), agree)))
 
   -- ---- calls in turn
