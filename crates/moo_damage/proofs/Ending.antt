@@ -6,12 +6,9 @@ find-lookup : {K X : Type 0} (cmp : K → K → Ordering) (q : K) (es : List (K 
 find-lookup cmp q [] = refl
 find-lookup cmp q (e ∷ es) = ap (cond (eq_by_cmp cmp q e.0) (Some e.1)) (find-lookup cmp q es)
 
-key_same : (x y : ObjNo) → eq_by_cmp object_cmp x y ≡ same_object x y
-key_same x y = decided_alike _ _ (x ≡ y) (key-Decides object_cmp object_total object_exact x y) (same_object-Decides x y)
-
 apart : (x : ObjNo) (l : List ObjNo) → is_among x l ≡ false → AllByRecursion (λ y. eq_by_cmp object_cmp x y ≡ false) l
 apart x [] e = tt
-apart x (y ∷ l) e = let parts = or_parts (same_object x y) (is_among x l) e in (key_same x y ∙ parts.0, apart x l parts.1)
+apart x (y ∷ l) e = let parts = or_parts (same_object x y) (is_among x l) e in (decided_alike _ _ (x ≡ y) (key-Decides object_cmp object_total object_exact x y) (same_object-Decides x y) ∙ parts.0, apart x l parts.1)
 
 pub some_mapped : {A B : Type 0} (o : Option A) (f : A → B) (b : B) → option_map f o ≡ Some b → is_some o ≡ true
 some_mapped None f b e = absurd (none-some b e)
@@ -21,13 +18,10 @@ module _ (link : TreeLink) (m : Maps) (h : LinksHold link m) where
   abbrev next : ObjNo → Option ObjNo
   next = next_of link m
 
-  none : next nothing ≡ None
-  none = ap (option_map (link_of link)) h.nothing
-
   distinct : (l : List ObjNo) (x : ObjNo) → Climbs next x l → IsDistinct (eq_by_cmp object_cmp) l
   unfolding IsDistinct
   distinct [] x p = tt
-  distinct (y ∷ l) x p = (subst (λ z. AllByRecursion (λ y. eq_by_cmp object_cmp z y ≡ false) l) p.0 (apart x l (Climbs-once next none l x y p)), distinct l p.1 p.3)
+  distinct (y ∷ l) x p = (subst (λ z. AllByRecursion (λ y. eq_by_cmp object_cmp z y ≡ false) l) p.0 (apart x l (Climbs-once next (ap (option_map (link_of link)) h.nothing) l x y p)), distinct l p.1 p.3)
 
   within : (l : List ObjNo) (x q : ObjNo) → Climbs next x l → list_any (eq_by_cmp object_cmp q) l ≡ true → is_some (get m.objects q) ≡ true
   within [] x q p e = absurd (false≢true e)
@@ -45,16 +39,13 @@ module _ (link : TreeLink) (m : Maps) (h : LinksHold link m) where
       (λ q e. ap is_some (find-lookup object_cmp q (entries m.objects) ∙ sym (get-entries m.objects q)) ∙ within l x q p e)
 
   module _ (x : ObjNo) (row : ObjRow) (there : get m.objects x ≡ Some row) where
-    up : next x ≡ Some (link_of link row)
-    up = ap (option_map (link_of link)) there
-
     -- from where the chain ends it ends one step lower
     pub step_up : HasEnd link m (link_of link row) → HasEnd link m x
-    step_up c = (x ∷ c.0, (refl, link_of link row, up, c.1))
+    step_up c = (x ∷ c.0, (refl, link_of link row, ap (option_map (link_of link)) there, c.1))
 
     pub step_down : (c : List ObjNo) → Climbs next x c → (rest : List ObjNo) × Climbs next (link_of link row) rest × (suc (length rest) ≡ length c)
     step_down [] p = absurd (none-some row (sym h.nothing ∙ ap (get m.objects) (sym p) ∙ there))
-    step_down (y ∷ rest) p = (rest, subst (λ z. Climbs next z rest) (same_Some p.1 (link_of link row) (sym p.2 ∙ up)) p.3, refl)
+    step_down (y ∷ rest) p = (rest, subst (λ z. Climbs next z rest) (same_Some p.1 (link_of link row) (sym p.2 ∙ ap (option_map (link_of link)) there)) p.3, refl)
 
   -- what has no row, but is linked to, is the end
   pub ends_here : (x : ObjNo) → (x ≡ nothing) ⊎ (is_some (get m.objects x) ≡ true) → get m.objects x ≡ None → HasEnd link m x

@@ -1,5 +1,5 @@
 -- The first bad row of a map, found by going through its entries in order.
-use Rattle.moo_damage.proofs.Words.{arith, ◌≡◌, Bool, true, false, cond, Option, None, Some, List, [], ◌∷◌, Ordering, Less, refl, sym, ap, ◌∙◌, subst, inl, inr, IsTotalOrder, tied_itself, eq_by_cmp, is_eq, ordering_reverse, AllByRecursion, FinMap, get, find, entries, get-entries, CmpEqualImpliesEq, none-some, same_Some, key-Decides, IsLeastBad, T, is_sorted, entries_sorted, own_entries, ◌⊎◌, is_some, list_any, both_ways, any_held}
+use Rattle.moo_damage.proofs.Words.{arith, ◌≡◌, Bool, true, false, cond, Option, None, Some, List, [], ◌∷◌, Ordering, Less, refl, sym, ap, ◌∙◌, subst, inl, inr, IsTotalOrder, tied_itself, eq_by_cmp, is_eq, ordering_reverse, FinMap, get, find, entries, get-entries, CmpEqualImpliesEq, none-some, same_Some, key-Decides, IsLeastBad, T, is_sorted, entries_sorted, ◌⊎◌, is_some, list_any, both_ways, any_held, all_held}
 use Rattle.moo_damage.proofs.Apart.{one_passing}
 use Rattle.moo_damage.specs.First.{MaySay, SaysOfRow}
 use denote.Ref.{Bor}
@@ -38,13 +38,6 @@ module _ {K X : Type 0} (right bad : K → X → Type 0) where
     found_at (x ∷ es) s key (inl f) = grind (arith, second_of, above_first, first_of, elsewhere, same_Some, key-Decides, found_at es)
 
 module _ {K X : Type 0} {cmp : K → K → Ordering} (right bad : K → X → Type 0) (total : IsTotalOrder cmp) (exact : CmpEqualImpliesEq cmp) (m : FinMap cmp X) where
-  pub held_entries : AllByRecursion (λ e. get m e.0 ≡ Some e.1) (entries m)
-  held_entries = held (entries m) (own_entries cmp total (entries m) (entries_sorted m))
-    where
-      held : (es : List (K × X)) → AllByRecursion (λ e. find cmp e.0 (entries m) ≡ Some e.1) es → AllByRecursion (λ e. get m e.0 ≡ Some e.1) es
-      held [] a = tt
-      held (e ∷ es) a = (get-entries m e.0 ∙ a.0, held es a.1)
-
   pub least_in : (o : Option K) → FirstIn right bad (entries m) o → IsLeastBad m right bad o
   least_in None f = λ k r e. each_right right bad cmp total exact (entries m) f k r (sym (get-entries m k) ∙ e)
   least_in (Some key) f =
@@ -63,7 +56,7 @@ any_found {K} {X} {cmp} total exact rows test o f = by (list_any (λ e. test e.0
   where
     by : (b : Bool) → list_any (λ e. test e.0 e.1) (entries rows) ≡ b → (o : Option K) → IsLeastBad rows (λ k r. test k r ≡ false) (λ k r. test k r ≡ true) o → is_some o ≡ b
     by true e None f =
-        let k = one_passing (λ e. get rows e.0 ≡ Some e.1) (λ e. test e.0 e.1) (entries rows) (held_entries (λ k r. test k r ≡ false) (λ k r. test k r ≡ true) total exact rows) e in
+        let k = one_passing (λ e. get rows e.0 ≡ Some e.1) (λ e. test e.0 e.1) (entries rows) (all_held total exact rows) e in
         absurd (both_ways (test k.0.0 k.0.1) (f k.0.0 k.0.1 k.1) k.2)
     by true e (Some k) f = refl
     by false e None f = refl

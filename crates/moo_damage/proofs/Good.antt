@@ -1,12 +1,10 @@
 -- Rows within the limits that nothing is wrong with are sound, their world is well formed, and petitions stand as they may.
 use Rattle.moo_damage.{proofs.Words.{◌≡◌, ◌≢◌, ℕ, ◌<◌, ◌≤◌, ℤ, pos, negsuc, Bool, true, false, ◌||◌, ◌&&◌, Option, None, Some, List, [], ◌∷◌, refl, sym, ap, ◌∙◌, subst, ◌⊎◌, inl, inr, arith, ◌≤ℤ◌, int_lt, nat_lt, nat_le, not, is_some, unwrap_or, if◌then◌else◌, option_map, filter_map, list_any, list_all, IsDistinct, AllByRecursion, get, entries, get-entries, false≢true, both_ways, and_parts, or_parts, or_cases, or_left, or_right, cases_lt, nat_tests, ints, none-some, same_Some, ObjNo, ObjRow, PropRow, SlotRow, Clear, prop_exact, Maps, prop_cmp, prop_total, Name, Property, nothing, same_object, same_text, folded, is_among, same_object-Decides, same_text-Decides, IsGood, look_ups, world_of, world_shown, numbers_below, prop_id, World, Climbs, IsTree, Chain, is_object, parent_of, chain, defined_by_any, property_named, Climbs-once, some_of, is_object_seen, chain_is, Chain-chain, no_parent, entries_held, any_held, TreeLink, Parent, Location, is_clear, next_of, link_of, share_name, is_double, is_clear_definer, is_lost, LinksEnd, LinksHold, IsClean, option_and_then, LookUps, AreSound, object_shown, name_on, verb_id, WorldObject, KeepsLimits, NamesDiffer, location_of, property_names_of, defined_by, slot_of, slot_fits, row_fits, verb_fits, is_property_name, without_slots, named_so, found_among, names_shown, defines_pair, any_owed, NumbersGiven}, specs.Limits.{AreWithin}, proofs.Apart.{both_true, all_map, none_any, one_passing, all_made, distinct_append, all_numbers, distinct_numbers, distinct_mapped}, proofs.Chained.{chain_object, not_false}}
 use Rattle.moo_world.{specs.Petitions.{PetitionsStand}, specs.World.{Slot}, proofs.Inheritance.Keeping.{named_is}, proofs.Shown.Slots.{SlotHere, slot_from, no_slot_from}, proofs.Ancestry.Subtrees.{owed_listed}}
+use Rattle.moo_damage.proofs.Nearby.{one_named}
 use Rattle.moo_tree.proofs.Searching.{a_row}
 use Rattle.moo_props.proofs.Cases.{no_value, passing}
 use Rattle.moo_world.proofs.Ownership.Kept.{slotted}
-
-or_swap : (a b : Bool) → (a || b) ≡ true → (b || a) ≡ true
-or_swap a b e = elim (or_cases a b e) [ inl k ↦ or_right b a k | inr k ↦ or_left b a k ]
 
 not_less : (x y : ℤ) → int_lt y x ≡ false → x ≤ℤ y
 not_less (pos n) (pos k) e = let l : n ≤ k = grind (arith, nat_tests) in omega (arith, ints)
@@ -14,25 +12,20 @@ not_less (pos n) (negsuc k) e = absurd (false≢true (sym e))
 not_less (negsuc n) (pos k) e = omega (arith, ints)
 not_less (negsuc n) (negsuc k) e = let l : k ≤ n = grind (arith, nat_tests) in omega (arith, ints)
 
-given : (x top : ℤ) → (int_lt x (pos 0) || int_lt top x) ≡ false → (pos 0 ≤ℤ x) × (x ≤ℤ top)
-given x top e = let parts = or_parts (int_lt x (pos 0)) (int_lt top x) e in (not_less (pos 0) x parts.0, not_less x top parts.1)
-
 below : (n next : ℕ) → nat_le next n ≡ false → n < next
 below n next e = grind (arith, nat_tests)
 
-pub parents_seen : (m : Maps) → parent_of (world_of m) ≡ next_of Parent m
+-- what objects of the world are linked to
+pub links_seen : (link : TreeLink) (m : Maps) → (λ (x : ObjNo). option_map (λ (r : WorldObject). link_of link r.row) ((world_of m).object x)) ≡ next_of link m
 unfolding world_shown
-parents_seen m = λ i x. by x (get m.objects x) i
+links_seen link m = λ i x. by x (get m.objects x) i
   where
-    by : (x : ObjNo) (o : Option ObjRow) → option_map (λ (r : WorldObject). r.row.parent) (option_map (object_shown (look_ups m) x) o) ≡ option_map (link_of Parent) o
+    by : (x : ObjNo) (o : Option ObjRow) → option_map (λ (r : WorldObject). link_of link r.row) (option_map (object_shown (look_ups m) x) o) ≡ option_map (link_of link) o
     by x o = grind arith
 
-pub places_seen : (m : Maps) → location_of (world_of m) ≡ next_of Location m
-unfolding world_shown
-places_seen m = λ i x. by x (get m.objects x) i
-  where
-    by : (x : ObjNo) (o : Option ObjRow) → option_map (λ (r : WorldObject). r.row.location) (option_map (object_shown (look_ups m) x) o) ≡ option_map (link_of Location) o
-    by x o = grind arith
+-- what has a row is an object
+pub object_there : (m : Maps) (x : ObjNo) (row : ObjRow) → get m.objects x ≡ Some row → is_object (world_of m) x ≡ true
+object_there m x row e = is_object_seen (look_ups m) x ∙ ap is_some e
 
 limits_seen : (m : Maps) → AreWithin m → KeepsLimits (without_slots (world_of m))
 unfolding world_shown
@@ -45,15 +38,9 @@ limits_seen m fit = record {
   rows = λ x. rows x (get m.objects x) refl;
 }
   where
-    bare : ObjNo → Option ObjRow → Option WorldObject
-    bare x o = option_map (λ (r : WorldObject). record r { slot = λ n. None }) (option_map (object_shown (look_ups m) x) o)
-
     names : (x : ObjNo) (o : Option ObjRow) → list_all is_property_name (unwrap_or (option_map (λ (r : WorldObject). r.defines) (option_map (λ (r : WorldObject). record r { slot = λ n. None }) (option_map (object_shown (look_ups m) x) o))) []) ≡ true
     names x None = refl
-    names x (Some row) = all_made (name_on (look_ups m) x) is_property_name (numbers_below m.head.next_prop) (λ i u e. named i u (get m.props (prop_id i)) refl e)
-      where
-        named : (i : ℕ) (u : Name) (o : Option PropRow) → get m.props (prop_id i) ≡ o → option_and_then (λ (p : PropRow). if same_object p.definer x then Some p.name else None) o ≡ Some u → is_property_name u ≡ true
-        named i u o g e = grind (arith, fit.props (prop_id i))
+    names x (Some row) = all_made (name_on (look_ups m) x) is_property_name (numbers_below m.head.next_prop) (λ i u e. grind (arith, fit.props (prop_id i)))
 
     verbs : (x : ObjNo) (o : Option ObjRow) → list_all verb_fits (unwrap_or (option_map (λ (r : WorldObject). r.verbs) (option_map (λ (r : WorldObject). record r { slot = λ n. None }) (option_map (object_shown (look_ups m) x) o))) []) ≡ true
     verbs x None = refl
@@ -70,21 +57,14 @@ numbers_seen m x h = h
 -- given numbers, and chains that end, are trees
 pub tree_of : (m : Maps) → NumbersGiven m → LinksEnd Parent m → LinksEnd Location m → IsTree (world_of m)
 tree_of m numbers chains locations = record {
-  numbers = λ x o. let k = a_row m x o in numbers_seen m x (given x.0 m.head.top (numbers.objects x k.0 k.1));
-  chains = λ x o. let k = a_row m x o in let c = chains x k.0 k.1 in (c.0, subst (λ link. Climbs link x c.0) (sym (parents_seen m)) c.1);
-  locations = λ x o. let k = a_row m x o in let c = locations x k.0 k.1 in (c.0, subst (λ link. Climbs link x c.0) (sym (places_seen m)) c.1);
+  numbers = λ x o. let k = a_row m x o in numbers_seen m x (let parts = or_parts (int_lt x.0 (pos 0)) (int_lt m.head.top x.0) (numbers.objects x k.0 k.1) in (not_less (pos 0) x.0 parts.0, not_less x.0 m.head.top parts.1));
+  chains = λ x o. let k = a_row m x o in let c = chains x k.0 k.1 in (c.0, subst (λ link. Climbs link x c.0) (sym (links_seen Parent m)) c.1);
+  locations = λ x o. let k = a_row m x o in let c = locations x k.0 k.1 in (c.0, subst (λ link. Climbs link x c.0) (sym (links_seen Location m)) c.1);
 }
 
 -- what has been given its number is not nothing
 pub nothing_there : (m : Maps) → NumbersGiven m → get m.objects nothing ≡ None
 nothing_there m numbers = no_value (get m.objects nothing) (λ row e. false≢true (sym (numbers.objects nothing row e)))
-
--- links that are not lost hold
-pub links_hold : (link : TreeLink) (m : Maps) → NumbersGiven m → ((x : ObjNo) (row : ObjRow) → get m.objects x ≡ Some row → is_lost link m row ≡ false) → LinksHold link m
-links_hold link m numbers found = record { links = λ x row e. by (link_of link row) (found x row e); nothing = nothing_there m numbers }
-  where
-    by : (y : ObjNo) → (not (same_object nothing y) && not (is_object (world_of m) y)) ≡ false → (y ≡ nothing) ⊎ (is_some (get m.objects y) ≡ true)
-    by y e = grind (arith, same_object-Decides, is_object_seen)
 
 module _ (m : Maps) (fit : AreWithin m) (clean : IsClean m) where
   abbrev r : LookUps
@@ -101,32 +81,17 @@ module _ (m : Maps) (fit : AreWithin m) (clean : IsClean m) where
   owed_row x id s e = passing (λ (p : PropRow). is_among p.definer (chain w x)) (get m.props (prop_id id)) (not_false _ (clean.slots.owed (x, prop_id id) s e))
 
   -- of two objects of one chain one stands in the other's
-  comparable : (l : List ObjNo) (x d e : ObjNo) → Chain w x l → is_among d l ≡ true → is_among e l ≡ true → (is_among e (chain w d) || is_among d (chain w e)) ≡ true
+  comparable : (l : List ObjNo) (x d e : ObjNo) → Chain w x l → is_among d l ≡ true → is_among e l ≡ true → (is_among e (chain w d) ≡ true) ⊎ (is_among d (chain w e) ≡ true)
   comparable [] x d e p f g = absurd (false≢true f)
   comparable (y ∷ l) x d e p f g = by (or_cases (same_object d y) (is_among d l) f) (or_cases (same_object e y) (is_among e l) g) (comparable l p.1 d e p.3)
     where
       own : (z : ObjNo) → same_object z y ≡ true → chain w z ≡ y ∷ l
       own z k = chain_is w tree z (y ∷ l) (subst (λ v. Chain w v (y ∷ l)) (p.0 ∙ sym ((same_object-Decides z y).0 k)) p)
 
-      by : (same_object d y ≡ true) ⊎ (is_among d l ≡ true) → (same_object e y ≡ true) ⊎ (is_among e l ≡ true) → (is_among d l ≡ true → is_among e l ≡ true → (is_among e (chain w d) || is_among d (chain w e)) ≡ true) → (is_among e (chain w d) || is_among d (chain w e)) ≡ true
-      by (inl k) h rec = or_left (is_among e (chain w d)) (is_among d (chain w e)) (ap (is_among e) (own d k) ∙ g)
-      by (inr k) (inl h) rec = or_right (is_among e (chain w d)) (is_among d (chain w e)) (ap (is_among d) (own e h) ∙ f)
+      by : (same_object d y ≡ true) ⊎ (is_among d l ≡ true) → (same_object e y ≡ true) ⊎ (is_among e l ≡ true) → (is_among d l ≡ true → is_among e l ≡ true → (is_among e (chain w d) ≡ true) ⊎ (is_among d (chain w e) ≡ true)) → (is_among e (chain w d) ≡ true) ⊎ (is_among d (chain w e) ≡ true)
+      by (inl k) h rec = inl (ap (is_among e) (own d k) ∙ g)
+      by (inr k) (inl h) rec = inr (ap (is_among d) (own e h) ∙ f)
       by (inr k) (inr h) rec = rec k h
-
-  double_at : (i j : ℕ) (p q : PropRow) → get m.props (prop_id i) ≡ Some p → get m.props (prop_id j) ≡ Some q → i < j → share_name w q p ≡ true → ⊥
-  double_at i j p q f g l s =
-      let less : nat_lt i j ≡ true = grind (arith, nat_tests) in
-      both_ways (is_double m (prop_id j) q) (clean.props.names (prop_id j) q g)
-      (any_held prop_cmp prop_total prop_exact (λ e. nat_lt e.0.0 j && share_name w q e.1) (prop_id i) p (entries m.props) (sym (get-entries m.props (prop_id i)) ∙ f) (both_true (nat_lt i j) (share_name w q p) less s))
-
-  -- properties of one name, on one object or on an object and its ancestor, are one
-  one_property : (i j : ℕ) (p q : PropRow) → get m.props (prop_id i) ≡ Some p → get m.props (prop_id j) ≡ Some q → folded p.name ≡ folded q.name → (is_among q.definer (chain w p.definer) || is_among p.definer (chain w q.definer)) ≡ true → i ≡ j
-  one_property i j p q f g n c = by (cases_lt i j) (cases_lt j i)
-    where
-      by : (i < j) ⊎ (j ≤ i) → (j < i) ⊎ (i ≤ j) → i ≡ j
-      by (inl l) h = absurd (double_at i j p q f g l (both_true (same_text (folded q.name) (folded p.name)) (is_among p.definer (chain w q.definer) || is_among q.definer (chain w p.definer)) ((same_text-Decides (folded q.name) (folded p.name)).1 (sym n)) (or_swap (is_among q.definer (chain w p.definer)) (is_among p.definer (chain w q.definer)) c)))
-      by (inr l) (inl h) = absurd (double_at j i q p g f h (both_true (same_text (folded p.name) (folded q.name)) (is_among q.definer (chain w p.definer) || is_among p.definer (chain w q.definer)) ((same_text-Decides (folded p.name) (folded q.name)).1 n) c))
-      by (inr l) (inr h) = omega arith
 
   pub sound : AreSound r
   sound = record {
@@ -143,7 +108,10 @@ module _ (m : Maps) (fit : AreWithin m) (clean : IsClean m) where
         let u = owed_row x j t.0 t.1 in
         let here = subst (λ k. is_among k.definer (chain w x) ≡ true) (same_Some o.0 p (sym o.1 ∙ f)) o.2 in
         let there = subst (λ k. is_among k.definer (chain w x) ≡ true) (same_Some u.0 q (sym u.1 ∙ g)) u.2 in
-        one_property i j p q f g n (comparable (chain w x) x p.definer q.definer (Chain-chain w tree x (chain_object w x p.definer here)) here there);
+        elim (comparable (chain w x) x p.definer q.definer (Chain-chain w tree x (chain_object w x p.definer here)) here there) [
+          | inl above ↦ one_named m clean.props.names (prop_id i) (prop_id j) p q f g above n
+          | inr above ↦ sym (one_named m clean.props.names (prop_id j) (prop_id i) q p g f above (sym n))
+        ];
     verbs = λ x id e.
         let k = some_of (get m.verbs (x, verb_id id)) e in
         (sym (is_object_seen r x) ∙ not_false _ (clean.slots.verbs (x, verb_id id) k.0 k.1), (fit.verbs (x, verb_id id) k.0 k.1).0, below id m.head.next_verb (clean.numbers.verbs (x, verb_id id) k.0 k.1));
@@ -154,9 +122,6 @@ module _ (m : Maps) (fit : AreWithin m) (clean : IsClean m) where
   name_row : (d : ObjNo) (i : ℕ) (n : Name) → name_on r d i ≡ Some n → (p : PropRow) × (get m.props (prop_id i) ≡ Some p) × (p.definer ≡ d) × (p.name ≡ n)
   name_row d i n e = by (get m.props (prop_id i)) refl e
     where
-      Found : Type 0
-      Found = (p : PropRow) × (get m.props (prop_id i) ≡ Some p) × (p.definer ≡ d) × (p.name ≡ n)
-
       tested : (p : PropRow) → get m.props (prop_id i) ≡ Some p → (b : Bool) → same_object p.definer d ≡ b → (if b then Some p.name else None) ≡ Some n → (p : PropRow) × (get m.props (prop_id i) ≡ Some p) × (p.definer ≡ d) × (p.name ≡ n)
       tested p g false h k = absurd (none-some n k)
       tested p g true h k = (p, g, (same_object-Decides p.definer d).0 h, same_Some p.name n k)
@@ -165,25 +130,13 @@ module _ (m : Maps) (fit : AreWithin m) (clean : IsClean m) where
       by None g k = absurd (none-some n k)
       by (Some p) g k = tested p g (same_object p.definer d) refl k
 
-  alike : Name → Name → Bool
-  alike a b = same_text (folded a) (folded b)
-
   module _ (d : ObjNo) (l : List ObjNo) (c : Chain w d (d ∷ l)) where
-    chain_d : chain w d ≡ d ∷ l
-    chain_d = chain_is w tree d (d ∷ l) c
-
-    not_again : is_among d l ≡ false
-    not_again = Climbs-once (parent_of w) (no_parent w tree) l d d c
-
     there : is_object w d ≡ true
-    there = chain_object w d d (ap (is_among d) chain_d ∙ or_left (same_object d d) (is_among d l) ((same_object-Decides d d).1 refl))
-
-    listed : property_names_of w d ≡ filter_map (name_on r d) (numbers_below m.head.next_prop)
-    listed = let k = a_row m d there in names_shown r d k.0 k.1
+    there = chain_object w d d (ap (is_among d) (chain_is w tree d (d ∷ l) c) ∙ or_left (same_object d d) (is_among d l) ((same_object-Decides d d).1 refl))
 
     own_names : IsDistinct (λ a b. same_text (folded a) (folded b)) (property_names_of w d)
     own_names =
-        subst (IsDistinct (λ a b. same_text (folded a) (folded b))) (sym listed)
+        subst (IsDistinct (λ a b. same_text (folded a) (folded b))) (sym (let k = a_row m d there in names_shown r d k.0 k.1))
         (distinct_numbers (λ a b. same_text (folded a) (folded b)) (name_on r d) m.head.next_prop (λ i j u v l e k. differ i j u v l (name_row d i u e) (name_row d j v k) (same_text (folded u) (folded v)) refl))
       where
         differ : (i j : ℕ) (u v : Name) → i < j → (p : PropRow) × (get m.props (prop_id i) ≡ Some p) × (p.definer ≡ d) × (p.name ≡ u) → (q : PropRow) × (get m.props (prop_id j) ≡ Some q) × (q.definer ≡ d) × (q.name ≡ v) → (b : Bool) → same_text (folded u) (folded v) ≡ b → b ≡ false
@@ -192,17 +145,14 @@ module _ (m : Maps) (fit : AreWithin m) (clean : IsClean m) where
             let names : folded p.0.name ≡ folded q.0.name = ap folded p.3 ∙ (same_text-Decides (folded u) (folded v)).0 e ∙ sym (ap folded q.3) in
             let same : p.0.definer ≡ q.0.definer = p.2 ∙ sym q.2 in
             let here : is_among q.0.definer (chain w p.0.definer) ≡ true =
-            (λ k. is_among (q.2 k) (chain w (p.2 k))) ∙ ap (is_among d) chain_d ∙ or_left (same_object d d) (is_among d l) ((same_object-Decides d d).1 refl) in
-            let one : i ≡ j = one_property i j p.0 q.0 p.1 q.1 names (or_left _ _ here) in
+            (λ k. is_among (q.2 k) (chain w (p.2 k))) ∙ ap (is_among d) (chain_is w tree d (d ∷ l) c) ∙ or_left (same_object d d) (is_among d l) ((same_object-Decides d d).1 refl) in
+            let one : i ≡ j = one_named m clean.props.names (prop_id i) (prop_id j) p.0 q.0 p.1 q.1 here names in
             absurd (omega arith)
 
     -- a name of d is none of those that its ancestors define
     none_above : (i : ℕ) (n : Name) → name_on r d i ≡ Some n → list_any (λ k. same_text (folded n) (folded k.1)) (defined_by_any w l) ≡ false
     none_above i n e = by (list_any (λ k. same_text (folded n) (folded k.1)) (defined_by_any w l)) refl
       where
-        test : Property → Bool
-        test k = same_text (folded n) (folded k.1)
-
         by : (b : Bool) → list_any (λ k. same_text (folded n) (folded k.1)) (defined_by_any w l) ≡ b → b ≡ false
         by false h = refl
         by true h =
@@ -211,15 +161,15 @@ module _ (m : Maps) (fit : AreWithin m) (clean : IsClean m) where
             (sym (any_owed m sound (λ k. same_text (folded n) (folded k.1)) l) ∙ h) in
             let parts = and_parts (is_among k.0.1.definer l) (same_text (folded n) (folded k.0.1.name)) k.2 in
             let names : folded p.0.name ≡ folded k.0.1.name = ap folded p.3 ∙ (same_text-Decides (folded n) (folded k.0.1.name)).0 parts.1 in
-            let here : is_among k.0.1.definer (chain w p.0.definer) ≡ true = ap (λ z. is_among k.0.1.definer (chain w z)) p.2 ∙ ap (is_among k.0.1.definer) chain_d ∙ or_right (same_object k.0.1.definer d) (is_among k.0.1.definer l) parts.0 in
-            let one : i ≡ k.0.0.0 = one_property i k.0.0.0 p.0 k.0.1 p.1 k.1 names (or_left _ _ here) in
+            let here : is_among k.0.1.definer (chain w p.0.definer) ≡ true = ap (λ z. is_among k.0.1.definer (chain w z)) p.2 ∙ ap (is_among k.0.1.definer) (chain_is w tree d (d ∷ l) c) ∙ or_right (same_object k.0.1.definer d) (is_among k.0.1.definer l) parts.0 in
+            let one : i ≡ k.0.0.0 = one_named m clean.props.names (prop_id i) k.0.0 p.0 k.0.1 p.1 k.1 here names in
             let row : p.0 ≡ k.0.1 = same_Some p.0 k.0.1 (sym p.1 ∙ ap (λ z. get m.props (prop_id z)) one ∙ k.1) in
-            absurd (both_ways (is_among d l) not_again (ap (λ z. is_among z l) (sym p.2 ∙ ap (λ (z : PropRow). z.definer) row) ∙ parts.0))
+            absurd (both_ways (is_among d l) (Climbs-once (parent_of w) (no_parent w tree) l d d c) (ap (λ z. is_among z l) (sym p.2 ∙ ap (λ (z : PropRow). z.definer) row) ∙ parts.0))
 
     apart : AllByRecursion (λ p. AllByRecursion (λ q. same_text (folded p.1) (folded q.1) ≡ false) (defined_by_any w l)) (defined_by w d)
     apart =
         all_map (λ p. AllByRecursion (λ q. same_text (folded p.1) (folded q.1) ≡ false) (defined_by_any w l)) (λ n. (d, n)) (property_names_of w d)
-        (subst (AllByRecursion (λ n. AllByRecursion (λ q. same_text (folded n) (folded q.1) ≡ false) (defined_by_any w l))) (sym listed)
+        (subst (AllByRecursion (λ n. AllByRecursion (λ q. same_text (folded n) (folded q.1) ≡ false) (defined_by_any w l))) (sym (let k = a_row m d there in names_shown r d k.0 k.1))
         (all_numbers (λ a b. same_text (folded a) (folded b)) (name_on r d) (λ n. AllByRecursion (λ q. same_text (folded n) (folded q.1) ≡ false) (defined_by_any w l)) m.head.next_prop
         (λ i n k e. none_any (λ q. same_text (folded n) (folded q.1)) (defined_by_any w l) (none_above i n e))))
 
@@ -236,9 +186,6 @@ module _ (m : Maps) (fit : AreWithin m) (clean : IsClean m) where
   slots : (x : ObjNo) (l : List ObjNo) (n : Name) → is_object w x ≡ true → Chain w x l → option_map (λ s. s.definer) (slot_of w x n) ≡ option_map (λ p. p.0) (property_named (defined_by_any w l) n)
   slots x l n o c = by (slot_of w x n) refl (property_named (defined_by_any w l) n) refl
     where
-      row : (row : ObjRow) × (get m.objects x ≡ Some row)
-      row = a_row m x o
-
       by : (a : Option Slot) → slot_of w x n ≡ a → (b : Option Property) → property_named (defined_by_any w l) n ≡ b → option_map (λ s. s.definer) a ≡ option_map (λ p. p.0) b
       by (Some s) e b f =
           let k = slot_from r x n (a_row m x o).0 (a_row m x o).1 s e in
@@ -258,12 +205,10 @@ module _ (m : Maps) (fit : AreWithin m) (clean : IsClean m) where
           let parts = and_parts (is_among k.0.1.definer l) (same_text (folded k.0.1.name) n) k.2 in
           let among : is_among k.0.1.definer (chain w x) ≡ true = ap (is_among k.0.1.definer) (chain_is w tree x l c) ∙ parts.0 in
           let owed : unwrap_or (option_map (λ p. is_among p.definer (chain w x)) (get m.props k.0.0)) false ≡ true = ap (λ o. unwrap_or (option_map (λ (p : PropRow). is_among p.definer (chain w x)) o) false) k.1 ∙ among in
-          let s = there (unwrap_or (option_map (λ p. is_among p.definer (chain w x)) (get m.props k.0.0)) false) (get m.slots (x, k.0.0)) (get m.slots (x, k.0.0)) refl owed (clean.slots.there x (a_row m x o).0 (a_row m x o).1 k.0.0 k.0.1 k.1) in
+          let held : is_some (get m.slots (x, k.0.0)) ≡ true = not_false _ (ap (λ b. b && not (is_some (get m.slots (x, k.0.0)))) (sym owed) ∙ clean.slots.there x (a_row m x o).0 (a_row m x o).1 k.0.0 k.0.1 k.1) in
+          let s = some_of (get m.slots (x, k.0.0)) held in
           let h : SlotHere r x n k.0.0.0 = record { prop = k.0.1; row = s.0; there = k.1; held = s.1; name = (same_text-Decides (folded k.0.1.name) n).0 parts.1 } in
           absurd (no_slot_from r x n (a_row m x o).0 (a_row m x o).1 e k.0.0.0 (below k.0.0.0 m.head.next_prop (clean.numbers.props k.0.0 k.0.1 k.1)) h)
-        where
-          there : {S : Type 0} (a : Bool) (o p : Option S) → p ≡ o → a ≡ true → (a && not (is_some o)) ≡ false → (s : S) × (p ≡ Some s)
-          there a o p g h k = grind arith
 
   set : (x : ObjNo) (n : Name) (s : Slot) → slot_of w x n ≡ Some s → s.definer ≡ x → s.state ≢ Clear
   set x n s e d h =
@@ -280,16 +225,13 @@ module _ (m : Maps) (fit : AreWithin m) (clean : IsClean m) where
       let k = slot_from r x n row.0 row.1 s e in
       ap slot_fits k.2 ∙ fit.slots (x, prop_id k.0) k.1.row k.1.held
 
-  petitions : PetitionsStand m.petitions m.head.next_petition
-  petitions = record {
-    numbered = λ id e. let k = some_of (get m.petitions id) e in ((fit.petitions id k.0 k.1).0, below id.0 m.head.next_petition (clean.numbers.petitions id k.0 k.1));
-    fit = λ id row e. (fit.petitions id row e).1;
-    counter = fit.next_petition;
-  }
-
   pub good : IsGood m
   good = record {
     sound = sound;
     formed = record { tree = tree; names = λ x l c. names l x c; slots = slots; set = set; fit = fits; limits = limits_seen m fit };
-    petitions = petitions;
+    petitions = record {
+      numbered = λ id e. let k = some_of (get m.petitions id) e in ((fit.petitions id k.0 k.1).0, below id.0 m.head.next_petition (clean.numbers.petitions id k.0 k.1));
+      fit = λ id row e. (fit.petitions id row e).1;
+      counter = fit.next_petition;
+    };
   }

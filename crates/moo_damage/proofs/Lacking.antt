@@ -1,13 +1,10 @@
 -- The first slot that is missing, as the least key at which one is.
 use Rattle.moo_damage.{proofs.Words.{arith, ◌≡◌, Bool, true, false, Option, None, Some, Less, sym, ap, subst, inl, inr, ◌<ℤ◌, not, pos, is_some, unwrap_or, ◌⊎◌, int_cmp_is, option_map, get, false≢true, and_parts, both_ways, ObjNo, PropId, PropRow, Maps, is_among, world_of, chain, some_of, MissingSlot, is_owed, is_missing, AtSlot, InRows, IsLeast, IsFirstMissing, Misses, Slot}, proofs.Least.{least_at, number_less}}
 
-mapped_some : {A : Type 0} (o : Option A) (f : A → Bool) → unwrap_or (option_map f o) false ≡ true → is_some o ≡ true
-mapped_some o f h1 = grind (arith, false≢true)
-
 module _ (m : Maps) where
   -- the property of a missing slot is there
   pub owed_prop : (key : ObjNo × PropId) → is_missing m key ≡ true → is_some (get m.props key.1) ≡ true
-  owed_prop key e = mapped_some (get m.props key.1) (λ (p : PropRow). is_among p.definer (chain (world_of m) key.0)) (and_parts (is_owed m key) (not (is_some (get m.slots key))) e).0
+  owed_prop key e = grind (arith, false≢true, (and_parts (is_owed m key) (not (is_some (get m.slots key))) e).0)
 
   none_of : (x : ObjNo) → Misses m x None → (id : PropId) → ¬ (is_missing m (x, id) ≡ true)
   none_of x f id e = let p = some_of (get m.props id) (owed_prop (x, id) e) in both_ways (is_missing m (x, id)) (f id p.0 p.1) e

@@ -1,5 +1,5 @@
 -- Slots that hold locally are just those that are owed, and their names are apart.
-use Rattle.moo_damage.{proofs.Words.{◌≡◌, Bool, true, false, ◌||◌, ◌&&◌, Option, Some, List, [], ◌∷◌, refl, sym, ap, ◌∙◌, subst, ◌⊎◌, inl, inr, arith, not, is_some, unwrap_or, option_map, get, false≢true, or_cases, or_left, or_right, same_Some, ObjNo, ObjRow, PropId, PropRow, Maps, same_object, is_among, same_object-Decides, look_ups, world_of, World, IsTree, Chain, is_object, parent_of, chain, some_of, is_object_seen, Chain-chain, nothing_is_no_object, defines, Parent, link_of, has_slot, AreLocal, SlotsHold}, proofs.Good.{parents_seen}, proofs.Chained.{chain_object}}
+use Rattle.moo_damage.{proofs.Words.{◌≡◌, Bool, true, false, ◌||◌, ◌&&◌, Option, Some, List, [], ◌∷◌, refl, sym, ap, ◌∙◌, subst, ◌⊎◌, inl, inr, arith, not, is_some, unwrap_or, option_map, get, false≢true, or_cases, or_left, or_right, same_Some, ObjNo, ObjRow, PropId, PropRow, Maps, same_object, is_among, same_object-Decides, look_ups, world_of, World, IsTree, Chain, is_object, parent_of, chain, some_of, is_object_seen, Chain-chain, nothing_is_no_object, defines, Parent, link_of, has_slot, AreLocal, SlotsHold}, proofs.Good.{links_seen, object_there}, proofs.Chained.{chain_object}}
 use Rattle.moo_props.proofs.Cases.{passing}
 use Rattle.moo_damage.proofs.Nearby.{not_double}
 
@@ -7,18 +7,9 @@ module _ (m : Maps) (t : IsTree (world_of m)) (h : AreLocal m) where
   abbrev w : World
   w = world_of m
 
-  object_there : (x : ObjNo) (row : ObjRow) → get m.objects x ≡ Some row → is_object w x ≡ true
-  object_there x row e = is_object_seen (look_ups m) x ∙ ap is_some e
-
-  parent_there : (x : ObjNo) (row : ObjRow) → get m.objects x ≡ Some row → parent_of w x ≡ Some row.parent
-  parent_there x row e = ap (λ (f : ObjNo → Option ObjNo). f x) (parents_seen m) ∙ ap (option_map (link_of Parent)) e
-
   -- the row of an object whose parent is known
   row_with : (x p : ObjNo) → parent_of w x ≡ Some p → (row : ObjRow) × (get m.objects x ≡ Some row) × (row.parent ≡ p)
-  row_with x p e = by (get m.objects x) refl (sym (ap (λ (f : ObjNo → Option ObjNo). f x) (parents_seen m)) ∙ e)
-    where
-      by : (o : Option ObjRow) → get m.objects x ≡ o → option_map (link_of Parent) o ≡ Some p → (row : ObjRow) × (get m.objects x ≡ Some row) × (row.parent ≡ p)
-      by o g k = grind arith
+  row_with x p e = grind (arith, sym (ap (λ (f : ObjNo → Option ObjNo). f x) (links_seen Parent m)) ∙ e)
 
   abbrev Owed : List ObjNo → PropId → Type 0
   Owed l id = (p : PropRow) × (get m.props id ≡ Some p) × (is_among p.definer l ≡ true)
@@ -36,7 +27,7 @@ module _ (m : Maps) (t : IsTree (world_of m)) (h : AreLocal m) where
   slot_owed : (l : List ObjNo) (x : ObjNo) (id : PropId) → Chain w x l → has_slot m x id ≡ true → Owed l id
   slot_owed [] x id c e =
       let k = at_slot x id e in
-      absurd (false≢true (sym (nothing_is_no_object w t) ∙ sym (ap (is_object w) c) ∙ object_there x k.0 k.1))
+      absurd (false≢true (sym (nothing_is_no_object w t) ∙ sym (ap (is_object w) c) ∙ object_there m x k.0 k.1))
   slot_owed (y ∷ l) x id c e = by (at_slot x id e) (slot_owed l c.1 id c.3)
     where
       by : (row : ObjRow) × (get m.objects x ≡ Some row) × ((defines m x id || has_slot m row.parent id) ≡ true) → (has_slot m c.1 id ≡ true → Owed l id) → Owed (y ∷ l) id
@@ -45,7 +36,7 @@ module _ (m : Maps) (t : IsTree (world_of m)) (h : AreLocal m) where
             let p = defined x id d in
             (p.0, p.1, or_left (same_object p.0.definer y) (is_among p.0.definer l) ((same_object-Decides p.0.definer y).1 (p.2 ∙ c.0)))
         | inr u ↦
-            let same : k.0.parent ≡ c.1 = same_Some k.0.parent c.1 (sym (parent_there x k.0 k.1) ∙ c.2) in
+            let same : k.0.parent ≡ c.1 = same_Some k.0.parent c.1 (sym (ap (λ (f : ObjNo → Option ObjNo). f x) (links_seen Parent m) ∙ ap (option_map (link_of Parent)) k.1) ∙ c.2) in
             let p = rec (subst (λ z. has_slot m z id ≡ true) same u) in
             (p.0, p.1, or_right (same_object p.0.definer y) (is_among p.0.definer l) p.2)
       ]
@@ -68,15 +59,12 @@ module _ (m : Maps) (t : IsTree (world_of m)) (h : AreLocal m) where
   not_missing x id p e false g = refl
   not_missing x id p e true g = ap not (in_chain x id p e g)
 
-  not_strange : (x : ObjNo) (id : PropId) → has_slot m x id ≡ true → not (unwrap_or (option_map (λ (p : PropRow). is_among p.definer (chain w x)) (get m.props id)) false) ≡ false
-  not_strange x id e =
-      let r = at_slot x id e in
-      let k = slot_owed (chain w x) x id (Chain-chain w t x (object_there x r.0 r.1)) e in
-      ap not (ap (λ o. unwrap_or (option_map (λ (p : PropRow). is_among p.definer (chain w x)) o) false) k.1 ∙ k.2)
-
   pub slots_hold : SlotsHold m
   slots_hold = record {
     names = not_double m (λ i j p q e f b n. ap (λ (z : PropId). z.0) (h.apart i j p q e f (in_chain p.definer j q f b) n));
-    owed = λ key s e. not_strange key.0 key.1 (ap is_some e);
+    owed = λ key s e.
+        let r = at_slot key.0 key.1 (ap is_some e) in
+        let k = slot_owed (chain w key.0) key.0 key.1 (Chain-chain w t key.0 (object_there m key.0 r.0 r.1)) (ap is_some e) in
+        ap not (ap (λ o. unwrap_or (option_map (λ (p : PropRow). is_among p.definer (chain w key.0)) o) false) k.1 ∙ k.2);
     there = λ x row o id p e. ap (λ b. unwrap_or (option_map (λ (q : PropRow). is_among q.definer (chain w x)) b) false && not (is_some (get m.slots (x, id)))) e ∙ not_missing x id p e (is_among p.definer (chain w x)) refl;
   }

@@ -1,9 +1,9 @@
 -- What the tests of all rows say of each.
-use Rattle.moo_damage.proofs.Words.{arith, and_parts, or_cases, nat_lt, nat_tests, inl, inr, is_double, share_name, world_of, chain, is_among, folded, same_text, same_text-Decides, ◌≡◌, ◌<◌, Bool, true, false, ◌&&◌, ◌||◌, Some, Ordering, Less, refl, sym, ap, ◌∙◌, not, IsTotalOrder, tied_itself, nat_cmp_is, int_eq, ordering_then, list_any, FinMap, get, entries, get-entries, both_ways, Decides-int_eq, CmpEqualImpliesEq, ObjNo, PropId, PropRow, SlotRow, object_exact, prop_exact, slot_exact, Maps, prop_cmp, slot_cmp, slots_of_left, is_past, object_total, prop_total, slot_total, some_of, any_held, DefinersApart, has_slot, comes_down, lacks_slot_of, AreLocal, is_lt}
+use Rattle.moo_damage.proofs.Words.{arith, and_parts, cases_lt, or_cases, or_left, or_right, ◌⊎◌, ◌≤◌, nat_lt, nat_tests, inl, inr, is_double, share_name, world_of, chain, is_among, folded, same_text, same_text-Decides, ◌≡◌, ◌<◌, Bool, true, false, ◌&&◌, ◌||◌, Some, Ordering, Less, refl, sym, ap, ◌∙◌, not, IsTotalOrder, tied_itself, nat_cmp_is, int_eq, ordering_then, list_any, FinMap, get, entries, get-entries, both_ways, Decides-int_eq, CmpEqualImpliesEq, ObjNo, PropId, PropRow, SlotRow, object_exact, prop_exact, slot_exact, Maps, prop_cmp, slot_cmp, slots_of_left, is_past, object_total, prop_total, slot_total, some_of, any_held, DefinersApart, has_slot, comes_down, lacks_slot_of, AreLocal, is_lt}
 use Rattle.moo_damage.proofs.Chained.{not_false}
 use Rattle.moo_props.proofs.Walked.{all_held, any_filter}
 use Rattle.std.proofs.lemmas.Bool.{false_from_ne_true, true_from_ne_false}
-use Rattle.moo_damage.proofs.Apart.{one_passing}
+use Rattle.moo_damage.proofs.Apart.{both_true, one_passing}
 
 -- where none passes, no row does
 pub none_held : {K X : Type 0} (cmp : K → K → Ordering) (total : IsTotalOrder cmp) (exact : CmpEqualImpliesEq cmp) (rows : FinMap cmp X) (test : K × X → Bool) (k : K) (v : X) → get rows k ≡ Some v → list_any test (entries rows) ≡ false → test (k, v) ≡ false
@@ -23,18 +23,29 @@ not_double m one id p e = false_from_ne_true (is_double m id p) (λ h.
     ] in
     omega (arith, same, less))
 
+-- and where none is a second one, two such properties are one
+pub one_named : (m : Maps) → ((id : PropId) (p : PropRow) → get m.props id ≡ Some p → is_double m id p ≡ false) → (i j : PropId) (p q : PropRow) → get m.props i ≡ Some p → get m.props j ≡ Some q → is_among q.definer (chain (world_of m) p.definer) ≡ true → folded p.name ≡ folded q.name → i.0 ≡ j.0
+one_named m names i j p q f g a n = by (cases_lt i.0 j.0) (cases_lt j.0 i.0)
+  where
+    never : (i j : PropId) (p q : PropRow) → get m.props i ≡ Some p → get m.props j ≡ Some q → i.0 < j.0 → share_name (world_of m) q p ≡ true → ⊥
+    never i j p q f g l s =
+        let less : nat_lt i.0 j.0 ≡ true = grind (arith, nat_tests) in
+        both_ways _ (none_held prop_cmp prop_total prop_exact m.props (λ e. nat_lt e.0.0 j.0 && share_name (world_of m) q e.1) i p f (names j q g)) (both_true (nat_lt i.0 j.0) (share_name (world_of m) q p) less s)
+
+    by : (i.0 < j.0) ⊎ (j.0 ≤ i.0) → (j.0 < i.0) ⊎ (i.0 ≤ j.0) → i.0 ≡ j.0
+    by (inl l) r = absurd (never i j p q f g l (both_true _ _ ((same_text-Decides (folded q.name) (folded p.name)).1 (sym n)) (or_right (is_among p.definer (chain (world_of m) q.definer)) (is_among q.definer (chain (world_of m) p.definer)) a)))
+    by (inr l) (inl r) = absurd (never j i q p g f r (both_true _ _ ((same_text-Decides (folded p.name) (folded q.name)).1 n) (or_left (is_among q.definer (chain (world_of m) p.definer)) (is_among p.definer (chain (world_of m) q.definer)) a)))
+    by (inr l) (inr r) = omega arith
+
 module _ (m : Maps) where
   -- where none of the slots of x passes, no slot of x does
   none_walked : (x : ObjNo) (test : (ObjNo × PropId) × SlotRow → Bool) (id : PropId) (s : SlotRow) → 0 < id.0 → get m.slots (x, id) ≡ Some s → list_any test (slots_of_left x (record { 0 = 0 }) m) ≡ false → test ((x, id), s) ≡ false
   none_walked x test id s low e h =
-      sym (λ i. past i && (own i && test ((x, id), s)))
+      sym (λ i. past i && (((Decides-int_eq x.0 x.0).1 refl) i && test ((x, id), s)))
       ∙ none_held slot_cmp slot_total slot_exact m.slots (λ e. is_past slot_cmp (Some (x, record { 0 = 0 })) e.0 && (int_eq e.0.0.0 x.0 && test e)) (x, id) s e
       (sym (any_filter test (λ e. int_eq e.0.0.0 x.0) _
       ∙ any_filter (λ e. int_eq e.0.0.0 x.0 && test e) (λ e. is_past slot_cmp (Some (x, record { 0 = 0 })) e.0) (entries m.slots)) ∙ h)
     where
-      own : int_eq x.0 x.0 ≡ true
-      own = (Decides-int_eq x.0 x.0).1 refl
-
       past : is_past slot_cmp (Some (x, record { 0 = 0 })) (x, id) ≡ true
       past =
           ap (λ o. is_lt (ordering_then o (prop_cmp (record { 0 = 0 }) id))) (tied_itself object_total x)

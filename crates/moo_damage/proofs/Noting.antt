@@ -25,11 +25,8 @@ seen_after (e ∷ es) k v n = by (by_text k e.0) refl (seen_after es k v n)
     by : (o : Ordering) → by_text k e.0 ≡ o → seen (insert_entry by_text es k v) n ≡ cond (same_text n k.items) (Some v) (seen es n)
         → seen (match_ordering o ((k, v) ∷ e ∷ es) ((e.0, v) ∷ es) (e ∷ insert_entry by_text es k v)) n ≡ cond (same_text n k.items) (Some v) (cond (same_text n e.0.items) (Some e.1) (seen es n))
     by Less g r = refl
-    by Equal g r = one (same_text n k.items) (same_text n e.0.items) (ap (same_text n) (sym same))
+    by Equal g r = one (same_text n k.items) (same_text n e.0.items) (ap (same_text n) (sym ((same_text-Decides k.items e.0.items).0 (sym (same_tie k.items e.0.items) ∙ ap is_eq g))))
       where
-        same : k.items ≡ e.0.items
-        same = (same_text-Decides k.items e.0.items).0 (sym (same_tie k.items e.0.items) ∙ ap is_eq g)
-
         one : (a b : Bool) → b ≡ a → cond b (Some v) (seen es n) ≡ cond a (Some v) (cond b (Some e.1) (seen es n))
         one true true h = refl
         one true false h = absurd (false≢true h)
@@ -37,11 +34,8 @@ seen_after (e ∷ es) k v n = by (by_text k e.0) refl (seen_after es k v n)
         one false false h = refl
     by Greater g r = other (same_text n k.items) (same_text n e.0.items) refl refl
       where
-        apart : k.items ≡ e.0.items → ⊥
-        apart h = both_ways (is_eq (by_text k e.0)) (ap is_eq g) (same_tie k.items e.0.items ∙ (same_text-Decides k.items e.0.items).1 h)
-
         other : (a b : Bool) → same_text n k.items ≡ a → same_text n e.0.items ≡ b → cond b (Some e.1) (seen (insert_entry by_text es k v) n) ≡ cond a (Some v) (cond b (Some e.1) (seen es n))
-        other true true h u = absurd (apart (sym ((same_text-Decides n k.items).0 h) ∙ (same_text-Decides n e.0.items).0 u))
+        other true true h u = absurd (both_ways (is_eq (by_text k e.0)) (ap is_eq g) (same_tie k.items e.0.items ∙ (same_text-Decides k.items e.0.items).1 (sym ((same_text-Decides n k.items).0 h) ∙ (same_text-Decides n e.0.items).0 u)))
         other true false h u = r ∙ ap (λ c. cond c (Some v) (seen es n)) h
         other false true h u = refl
         other false false h u = r ∙ ap (λ c. cond c (Some v) (seen es n)) h
@@ -49,6 +43,14 @@ seen_after (e ∷ es) k v n = by (by_text k e.0) refl (seen_after es k v n)
 pub lowered : (name key : Name) → key ≡ map to_ascii_lowercase name → key ≡ folded name
 unfolding folded
 lowered name key e = e
+
+-- what is put under the bytes of a key is noted under the name that they lower
+pub notes_under : (name : Name) (key : Vec ℕ) (id : PropId) (old new : List (Vec ℕ × PropId)) → key.items ≡ map to_ascii_lowercase name → new ≡ insert_entry by_text old key id → (n : Name) → seen new n ≡ cond (same_text n (folded name)) (Some id) (seen old n)
+notes_under name key id old new lower is n =
+    ap (λ es. seen es n) is ∙ seen_after old key id n ∙ ap (λ t. cond (same_text n t) (Some id) (seen old n)) (lowered name key.items lower)
+
+pub alone_under : (name : Name) (key : Vec ℕ) (id : PropId) (old : List (Vec ℕ × PropId)) (o : Option PropId) → key.items ≡ map to_ascii_lowercase name → o ≡ lookup (is_at (by_text key)) old → is_alone o id ≡ is_alone (seen old (folded name)) id
+alone_under name key id old o lower is = ap (λ p. is_alone p id) (is ∙ seen_at old key ∙ ap (seen old) (lowered name key.items lower))
 
 -- ---- going over the slots of x
 
@@ -71,9 +73,6 @@ module _ (m : Maps) (x : ObjNo) where
   number_same : (i j : PropId) → nat_eq i.0 j.0 ≡ true → i ≡ j
   number_same i j e = let k = (unsigned_Decides i.0 j.0).0 e in λ t. record { 0 = k t }
 
-  alone_is : (o : Option PropId) (id other : PropId) → is_alone o id ≡ true → o ≡ Some other → id ≡ other
-  alone_is o id other h1 h2 = grind (arith, none-some, number_same, same_Some)
-
   pub reached : (left rest : Slots) (e : (ObjNo × PropId) × SlotRow) (old new : Noted) → left ≡ e ∷ rest → NotesProp (get m.props e.0.1) e.0.1 old new true → Reached old left → Reached new rest
   reached left rest e old new is notes h id p there low slot = by (get m.props e.0.1) refl notes (h id p there low slot)
     where
@@ -82,7 +81,7 @@ module _ (m : Maps) (x : ObjNo) where
         where
           put : (b : Bool) → same_text (folded p.name) (folded q.name) ≡ b → (if b then Some e.0.1 else noted_as old (folded p.name)) ≡ Some id
           put false u = k
-          put true u = ap Some (alone_is (noted_as old (folded q.name)) e.0.1 id (sym n.1) (ap (noted_as old) (sym ((same_text-Decides (folded p.name) (folded q.name)).0 u)) ∙ k))
+          put true u = ap Some (grind (arith, none-some, number_same, same_Some, sym n.1, ap (noted_as old) (sym ((same_text-Decides (folded p.name) (folded q.name)).0 u)) ∙ k))
       after q g n (inr k) = elim (or_cases (nat_eq e.0.1.0 id.0) (list_any (λ e. nat_eq e.0.1.0 id.0) rest) k) [
         | inl u ↦
             let same : e.0.1 ≡ id = number_same e.0.1 id u in
@@ -133,10 +132,6 @@ module _ (m : Maps) (x : ObjNo) where
   pub always_alone : (e : (ObjNo × PropId) × SlotRow) (old new : Noted) (alone : Bool) → IsSound m → has_slot m x e.0.1 ≡ true → NotesProp (get m.props e.0.1) e.0.1 old new alone → Own old → alone ≡ true
   always_alone e old new alone sound slot notes h = grind (arith, unsigned_Decides)
 
--- one more of which it is known
-pub AreApart-noted : (m : Maps) (known : FinMap object_cmp (Unit {0})) (x : ObjNo) → NamesApart m x → AreApart m known → AreApart m (insert known x tt)
-AreApart-noted m known x apart are z e = grind (arith, get-insert, object_total, key-Decides)
-
 -- the walk goes over slots of x
 pub slots_walked : (m : Maps) (x : ObjNo) → AreSlots m x (walk m x)
 slots_walked m x = all (walk m x) (walk_held m x)
@@ -146,7 +141,3 @@ slots_walked m x = all (walk m x) (walk_held m x)
     all (e ∷ l) a =
         let same : e.0.0 ≡ x = let k = (Decides-int_eq e.0.0.0 x.0).0 a.0.1 in λ i. record { 0 = k i } in
         (ap (λ z. is_some (get m.slots (z, e.0.1))) (sym same) ∙ ap is_some a.0.0, all l a.1)
-
--- each slot of x is gone over
-pub all_walked : (m : Maps) (x : ObjNo) (id : PropId) → 0 < id.0 → has_slot m x id ≡ true → list_any (λ e. nat_eq e.0.1.0 id.0) (walk m x) ≡ true
-all_walked m x id low a = grind (arith, some_of, met, unsigned_Decides)

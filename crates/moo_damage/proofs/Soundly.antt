@@ -1,12 +1,12 @@
 -- Of good rows the tests of each row and its neighbours find nothing.
-use Rattle.moo_damage.{proofs.Words.{◌≡◌, Bool, true, false, ◌&&◌, Some, Ordering, refl, sym, ap, ◌∙◌, subst, not, is_some, IsTotalOrder, int_eq, list_any, FinMap, get, entries, both_ways, Decides-int_eq, CmpEqualImpliesEq, ObjNo, PropId, SlotRow, object_exact, prop_exact, slot_exact, Maps, slot_cmp, slots_of_left, is_past, object_total, prop_total, slot_total, IsGood, has_slot, comes_down, lacks_slot_of, AreLocal}, proofs.Apart.{one_passing}, proofs.Clean.{clean}, proofs.Firsts.{held_entries}, proofs.HeldLocal.{are_local as held_local}}
+use Rattle.moo_damage.{proofs.Words.{◌≡◌, Bool, true, false, ◌&&◌, Some, Ordering, refl, sym, ap, ◌∙◌, subst, not, is_some, IsTotalOrder, all_held, int_eq, list_any, FinMap, get, entries, both_ways, Decides-int_eq, CmpEqualImpliesEq, ObjNo, PropId, SlotRow, object_exact, prop_exact, slot_exact, Maps, slot_cmp, slots_of_left, is_past, object_total, prop_total, slot_total, IsGood, has_slot, comes_down, lacks_slot_of, AreLocal}, proofs.Apart.{one_passing}, proofs.Clean.{clean}, proofs.HeldLocal.{are_local as held_local}}
 use Rattle.moo_props.proofs.Walked.{any_filter}
 use Rattle.std.proofs.lemmas.Bool.{false_from_ne_true}
 
 -- where no row passes, none of all does
 any_none : {K X : Type 0} {cmp : K → K → Ordering} (total : IsTotalOrder cmp) (exact : CmpEqualImpliesEq cmp) (rows : FinMap cmp X) (test : K × X → Bool) → ((k : K) (v : X) → get rows k ≡ Some v → test (k, v) ≡ false) → list_any test (entries rows) ≡ false
 any_none {K = K} {X = X} total exact rows test f = false_from_ne_true _ (λ e.
-    let k = one_passing (λ e. get rows e.0 ≡ Some e.1) test (entries rows) (held_entries (λ (k : K) (r : X). ⊥) (λ (k : K) (r : X). ⊥) total exact rows) e in
+    let k = one_passing (λ e. get rows e.0 ≡ Some e.1) test (entries rows) (all_held total exact rows) e in
     both_ways (test k.0) (f k.0.0 k.0.1 k.1) k.2)
 
 -- none of the slots of x passes where none of them does

@@ -17,7 +17,7 @@ pub use Rattle.std.specs.Prelude.{IfNone, IfSome, IsSome, IsTrue, if◌then◌el
 pub use Rattle.moo_rows.specs.Ordered.{contents, lesser}
 pub use Rattle.moo_props.proofs.Gains.{defines_pair, slot_on_heir}
 pub use Rattle.moo_props.proofs.Owing.{any_owed, entries_held}
-pub use Rattle.moo_props.proofs.Walked.{any_held, walk, walk_held}
+pub use Rattle.moo_props.proofs.Walked.{all_held, any_held, walk, walk_held}
 pub use Rattle.moo_props.specs.Names.{defines}
 pub use Rattle.moo_rows.proofs.Orders.{object_total, petition_total, prop_total, slot_total, verb_total}
 pub use Rattle.moo_rows.specs.Exact.{object_exact, petition_exact, prop_exact, slot_exact, verb_exact}

@@ -1,8 +1,9 @@
-use Rattle.moo_damage.{proofs.Words.{arith, None, subst, lost_kind, loop_kind, InRows, IsLeast}, proofs.Good.{links_hold}, proofs.InTurn.{none_more}, proofs.Searched.{of_object, lost_least, loops_least, told, after_lost}}
+use Rattle.moo_damage.{proofs.Words.{is_object_seen, nothing, same_object-Decides, arith, None, subst, lost_kind, loop_kind, InRows, IsLeast}, proofs.InTurn.{none_more}, proofs.Searched.{of_object, lost_least, loops_least, told, after_lost}}
+use Rattle.moo_damage.proofs.Good.{nothing_there}
 use Rattle.moo_damage.proofs.damage.wrong_link.Goals as goal
 
 pub looping_object-requires-clause-links : goal.looping_object-requires-clause-links
-looping_object-requires-clause-links g c = links_hold c.args.link (g.R.Rows.held c.args.rows.now).maps c.requires.numbers c.in_default.ensures
+looping_object-requires-clause-links g c = record { links = λ x row e. grind (arith, same_object-Decides, is_object_seen, c.in_default.ensures x row e); nothing = nothing_there (g.R.Rows.held c.args.rows.now).maps c.requires.numbers }
 
 pub returns-in-Some-clause-first : goal.returns-in-Some-clause-first
 returns-in-Some-clause-first g c =

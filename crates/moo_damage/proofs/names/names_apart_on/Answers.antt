@@ -1,4 +1,5 @@
-use Rattle.moo_damage.{proofs.Words.{rules, ◌≡◌, true, inr, sym, ap, ◌∙◌, subst, nat_eq, get, list_any, lookup, none-some, ObjNo, PropId, SlotRow, slots_of_left, same_text, walk, NotesProp}, proofs.Noting.{AreSlots, all_walked, always_alone, apart_at_end, own_still, reached, slots_walked}}
+use Rattle.moo_damage.{proofs.Words.{arith, unsigned_Decides, some_of, rules, ◌≡◌, true, inr, sym, ap, ◌∙◌, subst, nat_eq, get, list_any, lookup, none-some, ObjNo, PropId, SlotRow, slots_of_left, same_text, walk, NotesProp}, proofs.Noting.{AreSlots, always_alone, apart_at_end, own_still, reached, slots_walked}}
+use Rattle.moo_damage.proofs.Nearby.{met}
 use Rattle.moo_damage.proofs.names.names_apart_on.Goals as goal
 
 pub loop-key-init : goal.loop-key-init
@@ -8,7 +9,7 @@ loop-key-init g c =
     let from = c.into_iter-key-iterator.result in
     let whole : slots_of_left from.object from.last (g.R.Rows.held from.rows.now).maps ≡ walk m x = search rules in
     record {
-      reached = λ id p e low a. inr (subst (λ l. list_any (λ e. nat_eq e.0.1.0 id.0) l ≡ true) (sym whole) (all_walked m x id low a));
+      reached = λ id p e low a. inr (subst (λ l. list_any (λ e. nat_eq e.0.1.0 id.0) l ≡ true) (sym whole) (grind (arith, some_of, met, unsigned_Decides)));
       own = λ n id e. absurd (none-some id (sym (ap (λ es. lookup (λ k. same_text n k.items) es) c.new-noted.ensures.empty) ∙ e));
       slots = subst (AreSlots m x) (sym whole) (slots_walked m x);
     }

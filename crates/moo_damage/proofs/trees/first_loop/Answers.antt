@@ -1,4 +1,4 @@
-use Rattle.moo_damage.{proofs.Words.{rules, ◌≡◌, Some, sym, ap, ◌∙◌, subst, IfNone, AllByRecursion, get, entries, from_entries, get-empty, none-some, ObjNo, ObjRow, object_exact, object_cmp, objects_left, object_total, HasEnd, Loops}, proofs.Firsts.{FirstIn, held_entries, ended, stopped}, proofs.Descending.{all_end}}
+use Rattle.moo_damage.{proofs.Words.{rules, ◌≡◌, Some, sym, ap, ◌∙◌, subst, IfNone, AllByRecursion, all_held, get, entries, from_entries, get-empty, none-some, ObjNo, ObjRow, object_exact, object_cmp, objects_left, object_total, HasEnd, Loops}, proofs.Firsts.{FirstIn, ended, stopped}, proofs.Descending.{all_end}}
 use Rattle.moo_damage.proofs.trees.first_loop.Goals as goal
 
 pub returns-then-links_descend : goal.returns-then-links_descend
@@ -13,7 +13,7 @@ loop-x-init g c =
     let whole : left ≡ entries m.objects = search rules in
     record {
       first = λ o f. subst (λ l. FirstIn right bad l o) whole f;
-      held = subst (AllByRecursion (λ e. get m.objects e.0 ≡ Some e.1)) (sym whole) (held_entries right bad object_total object_exact m.objects);
+      held = subst (AllByRecursion (λ e. get m.objects e.0 ≡ Some e.1)) (sym whole) (all_held object_total object_exact m.objects);
       known = λ z e. absurd (none-some tt (sym (get-empty object_cmp z) ∙ sym (ap (λ es. get (from_entries {R = object_cmp} es) z) c.new-known.ensures.empty) ∙ e));
     }
 
