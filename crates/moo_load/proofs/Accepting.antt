@@ -32,9 +32,6 @@ all_objects values i objects over read = sym (take_all i values over) ∙ read
 pub few_objects : (values : List Value) (objects : List ObjNo) → values ≡ map Obj objects → length values ≤ MOST_ACCEPTED → list_all is_number objects ≡ true → accept_fits (Some objects) ≡ true
 few_objects values objects is short fits = both_true _ _ (le-leb (length objects) MOST_ACCEPTED (omega (arith, length-map objects Obj, ap length is))) fits
 
-pub too_many : (values : List Value) (objects : List ObjNo) → MOST_ACCEPTED < length values → length objects ≤ MOST_ACCEPTED → values ≡ map Obj objects → ⊥
-too_many values objects long short is = omega (arith, length-map objects Obj, ap length is)
-
 spread_objects : (objects : List ObjNo) → spread (gather (map Obj objects)) ≡ map Obj objects
 spread_objects [] = refl
 spread_objects (x ∷ objects) = ap (λ l. Obj x ∷ l) (spread_objects objects)

@@ -44,9 +44,6 @@ first_line e es =
     ∙ ap (λ (t : List ℕ). t ++ entry_lines es) (text_is e)
     ∙ append_assoc (line_of e) (10 ∷ []) (entry_lines es)
 
-not_last : (e : Entry) → line_of e ≡ codes "end" → ⊥
-not_last e is = no_end e [] (append-nil (entry_text e) ∙ text_is e ∙ ap (λ (t : List ℕ). t ++ 10 ∷ []) is)
-
 -- the line is the one in front of the text
 abbrev pub IsFirst : List ℕ → List ℕ → Type 0
 IsFirst line rest = (l r : List ℕ) → IsOneLine l → rest ≡ l ++ 10 ∷ r → line ≡ l
@@ -61,7 +58,7 @@ module _ {T : Type 0} {step : Entry → T → T} {Sure Needs : Entry → T → T
   at_end line is end = elim a.left as (λ (left : List Entry). AllByRecursion EntryFits left → rest ≡ entry_lines left
       → carried step left now ≡ carried step es first → now ≡ carried step es first) [
         | [] ↦ λ fit printed same. same
-        | e ∷ more ↦ λ fit printed same. absurd (not_last e (sym (is (line_of e) (entry_lines more) (line_plain e fit.0) (printed ∙ first_line e more)) ∙ end))
+        | e ∷ more ↦ λ fit printed same. absurd (no_end e [] (append-nil (entry_text e) ∙ text_is e ∙ ap (λ (t : List ℕ). t ++ 10 ∷ []) (sym (is (line_of e) (entry_lines more) (line_plain e fit.0) (printed ∙ first_line e more)) ∙ end)))
       ] a.fit a.printed a.same
 
   -- another line that isn't taken is that of no entry

@@ -12,19 +12,13 @@ one_line_append a b p q = list_all-append plain a b ∙ both_true _ _ p q
 other : (c : ℕ) → (c ≡ 10 → ⊥) → plain c ≡ true
 other c differ = elim (c == 10) as (λ b. (c == 10) ≡ b → not b ≡ true) [ true ↦ λ e. absurd (differ ((Decides-eqb c 10).0 e)) | false ↦ λ e. refl ] refl
 
-digit_plain : (c : ℕ) → IsTrue (is_digit c) → plain c ≡ true
-digit_plain c d = other c (λ e. false≢true (ap is_digit (sym e) ∙ d))
-
 digits_plain : (b : List ℕ) → AreDigits b → IsOneLine b
 digits_plain [] a = refl
-digits_plain (c ∷ b) a = both_true _ _ (digit_plain c a.0) (digits_plain b a.1)
-
-blank_plain : (c : ℕ) → IsTrue (is_blank c) → plain c ≡ true
-blank_plain c d = other c (λ e. false≢true (ap is_blank (sym e) ∙ d))
+digits_plain (c ∷ b) a = both_true _ _ (other c (λ e. false≢true (ap is_digit (sym e) ∙ a.0))) (digits_plain b a.1)
 
 blanks_plain : (b : List ℕ) → AreBlanks b → IsOneLine b
 blanks_plain [] a = refl
-blanks_plain (c ∷ b) a = both_true _ _ (blank_plain c a.0) (blanks_plain b a.1)
+blanks_plain (c ∷ b) a = both_true _ _ (other c (λ e. false≢true (ap is_blank (sym e) ∙ a.0))) (blanks_plain b a.1)
 
 spelled_plain : (z : ℤ) (b : List ℕ) → SpellsNumber z b → IsOneLine b
 spelled_plain z b s = ap (list_all plain) s.whole ∙ elim s.negative as (λ (negative : Bool). IsOneLine (cond negative (45 ∷ s.digits) s.digits)) [ true ↦ digits_plain s.digits s.each | false ↦ digits_plain s.digits s.each ]
@@ -38,15 +32,9 @@ integer_plain z fits = spaced_plain (SpellsNumber z) (spelled_plain z) (signed_d
 pub object_plain : (z : ℤ) → InRange an_object z → IsOneLine (35 ∷ signed_decimal z)
 object_plain z fits = spaced_plain (SpellsObject z) (λ t o. ap (list_all plain) o.1 ∙ spelled_plain z o.0 o.2) (35 ∷ signed_decimal z) (spelled (Obj (record { 0 = z })) fits)
 
-escaped_plain : (c : ℕ) → is_allowed c ≡ true → IsOneLine (escape c)
-escaped_plain c allowed = grind (arith, other, false≢true, both_true)
-
 bytes_plain : (s : List ℕ) → list_all is_allowed s ≡ true → IsOneLine (flat_map escape s)
 bytes_plain [] a = refl
-bytes_plain (c ∷ s) a = let p = and_parts (is_allowed c) (list_all is_allowed s) a in one_line_append (escape c) (flat_map escape s) (escaped_plain c p.0) (bytes_plain s p.1)
-
-string_plain : (s : List ℕ) → IsText s → IsOneLine (print_string s)
-string_plain s text = one_line_append (flat_map escape s) (34 ∷ []) (bytes_plain s text.allowed) refl
+bytes_plain (c ∷ s) a = let p = and_parts (is_allowed c) (list_all is_allowed s) a in one_line_append (escape c) (flat_map escape s) (grind (arith, other, false≢true, both_true, p.0)) (bytes_plain s p.1)
 
 name_plain : (e : Code) → IsOneLine (name e)
 name_plain None = refl
@@ -63,7 +51,7 @@ items_plain : (first : Bool) (vs : Values) → HoldInside InRange IsText vs → 
 items_plain first no_values h = refl
 items_plain first (int n vs) h = item_plain first (signed_decimal n) (print_items false vs) (integer_plain n h.0) (items_plain false vs h.1)
 items_plain first (object n vs) h = item_plain first (35 ∷ signed_decimal n) (print_items false vs) (object_plain n h.0) (items_plain false vs h.1)
-items_plain first (string s vs) h = item_plain first (print_string s) (print_items false vs) (string_plain s h.0) (items_plain false vs h.1)
+items_plain first (string s vs) h = item_plain first (print_string s) (print_items false vs) (one_line_append (flat_map escape s) (34 ∷ []) (bytes_plain s h.0.allowed) refl) (items_plain false vs h.1)
 items_plain first (error e vs) h = item_plain first (name e) (print_items false vs) (name_plain e) (items_plain false vs h)
 items_plain first (list us vs) h = item_plain first (123 ∷ print_items true us) (print_items false vs) (items_plain true us h.0) (items_plain false vs h.1)
 

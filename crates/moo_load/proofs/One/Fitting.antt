@@ -33,9 +33,6 @@ verb_letters_fit false = three_bits (λ w x d. let b : VerbBits = record { r = f
 place_fit : (p : ObjectSpec) → fits (Str (object_spec_text p)) ≡ true
 place_fit p = grind arith
 
-prep_fit : (p : Preposition) → fits (Str (prep_text p)) ≡ true
-prep_fit p = grind arith
-
 pub state_fit : (s : SlotState) → state_fits s ≡ true → AllByRecursion Fits (state_values s)
 state_fit Clear e = (fit (Int (pos 0)) refl, tt)
 state_fit (Set v) e = (fit (Int (pos 1)) refl, (fit v e, tt))
@@ -51,7 +48,7 @@ pub verb_fit : (x : ObjNo) (v : VerbRow) → is_number x ≡ true → verb_fits 
 verb_fit x v number fitting =
     let p = and_parts (has_word v.names) (is_text v.names && is_number v.owner) fitting in
     let q = and_parts (is_text v.names) (is_number v.owner) p.1 in
-    (fit (Obj x) number, (fit (Str v.names) q.0, (fit (Obj v.owner) q.1, (fit (Str (verb_letters_of v.bits)) (verb_letters_fit v.bits.r v.bits.w v.bits.x v.bits.d), (fit (Str (object_spec_text v.args.dobj)) (place_fit v.args.dobj), (fit (Str (prep_text v.args.prep)) (prep_fit v.args.prep), (fit (Str (object_spec_text v.args.iobj)) (place_fit v.args.iobj), tt)))))))
+    (fit (Obj x) number, (fit (Str v.names) q.0, (fit (Obj v.owner) q.1, (fit (Str (verb_letters_of v.bits)) (verb_letters_fit v.bits.r v.bits.w v.bits.x v.bits.d), (fit (Str (object_spec_text v.args.dobj)) (place_fit v.args.dobj), (fit (Str (prep_text v.args.prep)) (grind arith), (fit (Str (object_spec_text v.args.iobj)) (place_fit v.args.iobj), tt)))))))
 
 pub petition_fit : (id : PetitionId) (row : PetitionRow) → id.0 < 4294967295 → petition_fits row ≡ true → AllByRecursion Fits (petition_values id row)
 petition_fit id row below fitting =

@@ -34,9 +34,6 @@ flag_in v = not (size_in (integer_in v) == 0)
 flag_again : (b : Bool) → flag_in (flag b) ≡ b
 flag_again b = grind arith
 
-one_flag : (a b : Bool) → flag a ≡ flag b → a ≡ b
-one_flag a b e = sym (flag_again a) ∙ ap flag_in e ∙ flag_again b
-
 objects_again : (l : List ObjNo) → objects_among (spread (gather (map Obj l))) ≡ Some l
 objects_again [] = refl
 objects_again (x ∷ l) = ap (option_map (λ m. x ∷ m)) (objects_again l)
@@ -48,9 +45,6 @@ accept_in v = None
 accept_again : (a : Option (List ObjNo)) → accept_in (accept_value a) ≡ a
 accept_again None = refl
 accept_again (Some l) = objects_again l
-
-one_accept : (a b : Option (List ObjNo)) → accept_value a ≡ accept_value b → a ≡ b
-one_accept a b e = sym (accept_again a) ∙ ap accept_in e ∙ accept_again b
 
 -- what holds of each way in which bits are given
 pub each_bit : (P : Bool → Type 0) → P true × P false → (a : Bool) → P a

@@ -23,11 +23,8 @@ module _ (s : State) (held : IsHeld s) where
     numbers_are few = subst (NumbersAreLeft (entries_of s)) (sym same_first) (enough_numbers s held.formed few)
 
     module _ (taken : Maps) (is : taken ≡ entries_taken (entries_of s) first) where
-      same_taken : taken ≡ entries_taken (entries_of s) (record no_maps { head = first_head s })
-      same_taken = is ∙ ap (entries_taken (entries_of s)) same_first
-
       pub slots_are_next : EachHas (SlotIsNext number_by) (slot_line_put number_by) (entries_of s) (no_slot, taken)
-      slots_are_next = subst (λ (m : Maps). EachHas (SlotIsNext number_by) (slot_line_put number_by) (entries_of s) (no_slot, m)) (sym same_taken) (slots_in_turn s held.formed)
+      slots_are_next = subst (λ (m : Maps). EachHas (SlotIsNext number_by) (slot_line_put number_by) (entries_of s) (no_slot, m)) (sym (is ∙ ap (entries_taken (entries_of s)) same_first)) (slots_in_turn s held.formed)
 
       pub all_read : (new : Maps) → new ≡ (carried (slot_line_put number_by) (entries_of s) (no_slot, taken)).1 → AreRowsOf s new
-      all_read new e = subst (AreRowsOf s) (sym (e ∙ ap (λ (m : Maps). (carried (slot_line_put number_by) (entries_of s) (no_slot, m)).1) same_taken)) (rows_are s held.formed)
+      all_read new e = subst (AreRowsOf s) (sym (e ∙ ap (λ (m : Maps). (carried (slot_line_put number_by) (entries_of s) (no_slot, m)).1) (is ∙ ap (entries_taken (entries_of s)) same_first))) (rows_are s held.formed)

@@ -10,9 +10,6 @@ same_number : (x : ObjNo) → int_eq x.0 x.0 ≡ true
 unfolding same_object
 same_number x = (same_object-Decides x x).1 refl
 
-own_goes_on : (x d : ObjNo) (id : PropId) → goes_on (record { object = x; definer = d; id = id }) x d ≡ true
-own_goes_on x d id = λ i. same_number x i && same_number d i
-
 other_stops : (x d e : ObjNo) (id : PropId) → same_object d e ≡ false → goes_on (record { object = x; definer = d; id = id }) x e ≡ false
 unfolding same_object
 other_stops x d e id h = λ i. same_number x i && h i
@@ -39,9 +36,6 @@ module _ (w : World) (wf : IsWellFormed w) where
   other_definer : (m : Maps) → Numbered m → (d : ObjNo) (id : PropId) → ((p : Property) → at_number all id.0 ≡ Some p → same_object p.0 d ≡ false) → is_definer m d id ≡ false
   unfolding same_object
   other_definer m num d id h = ap (row_defined d) (num id) ∙ elim (at_number all id.0) as (λ (o : Option Property). at_number all id.0 ≡ o → row_defined d (option_map property_row o) ≡ false) [ None ↦ λ e. refl | Some p ↦ λ e. h p e ] refl
-
-  own_definer : (m : Maps) → Numbered m → (p : Property) (id : PropId) → at_number all id.0 ≡ Some p → is_definer m p.0 id ≡ true
-  own_definer m num p id e = ap (row_defined p.0) (num id ∙ ap (option_map property_row) e) ∙ same_number p.0
 
   abbrev HasSlot : ObjNo → Property → Type 0
   HasSlot x p = (k : Slot) × (slot_of w x (folded p.1) ≡ Some k)
@@ -72,7 +66,7 @@ module _ (w : World) (wf : IsWellFormed w) where
         let found : at_number all (place (d, n) all) ≡ Some (d, n) = ap (at_number all) own_number ∙ at in
         record {
           next = (
-            own_definer t.1 num (d, n) (number all (d, n)) found,
+            (ap (row_defined (d, n).0) (num (number all (d, n)) ∙ ap (option_map property_row) found) ∙ same_number (d, n).0),
             sym (nat_cmp_is (number_before t.0 x d).0 (place (d, n) all) Less (let h = before.0 in omega arith)),
             λ q above below. other_definer t.1 num d q (before.1 q.0 (ranked (number_before t.0 x d).0 q.0 Less (sym above)) (let h : q.0 < place (d, n) all = ranked q.0 (place (d, n) all) Less (sym below) in omega arith)),
           );
@@ -84,7 +78,7 @@ module _ (w : World) (wf : IsWellFormed w) where
         let last : LastSlot = record { object = x; definer = d; id = number all (d, n) } in
         let own_number : place (d, n) all ≡ length front + length a + 1 = number_is w wf (length front + length a + 1) (d, n) (own_place a b n e) in
         let count : length (a ++ n ∷ []) ≡ length a + 1 = length-append a (n ∷ []) in
-        let now : (number_before last x d).0 ≡ place (d, n) all = ap (λ (c : Bool). (let id : PropId = cond c (number all (d, n)) (record { 0 = 0 }) in id).0) (own_goes_on x d (number all (d, n))) in
+        let now : (number_before last x d).0 ≡ place (d, n) all = ap (λ (c : Bool). (let id : PropId = cond c (number all (d, n)) (record { 0 = 0 }) in id).0) (λ i. same_number x i && same_number d i) in
         (omega arith, λ q above below. absurd (omega arith))
 
     names_next : (b a : List Name) → property_names_of w d ≡ a ++ b → (fs : List Entry) (t : LastSlot × Maps) → Numbered t.1 → R t.0 → Before (length front + length a) t.0 → AllByRecursion (λ n. HasSlot x (d, n)) b

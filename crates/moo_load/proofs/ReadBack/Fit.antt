@@ -1,13 +1,10 @@
 -- The entries of a state, kind by kind, and the numbers that their rows need.
 use Rattle.moo_load.{proofs.Words.{◌≡◌, ℕ, suc, ◌+◌, ◌<◌, ◌≤◌, Option, Some, None, List, [], ◌∷◌, ◌++◌, map, length, refl, ap, ◌∙◌, arith, append-nil, unwrap_or, entries, AllByRecursion, flat_map, filter_map, cons_option, option_map, filter_map-append, ObjNo, PetitionId, PetitionRow, Maps, State, objects_of, Property, folded, World, WorldObject, Slot, slot_of, defined_by, defined_by_any, chain, directory_of, Entry, a_property, a_slot, a_verb, a_petition, NumbersAreLeft, entry_taken, all_properties, all_verbs}, proofs.ReadBack.Lists.{none_made, made_flat, each_flat, each_made, each_map}, proofs.One.Entries.{owed_entry, record_entries, object_entries, entries_of, beside_row}, proofs.ReadBack.Taken.{property_in, verb_in, petition_in}, proofs.ReadBack.Said.{objects_hold}}
 
-numbers_below_most : (n k : ℕ) → n + suc k ≤ 4294967295 → (n < 4294967295) × (n + 1 + k ≤ 4294967295)
-numbers_below_most n k h = (omega arith, omega arith)
-
 pub numbers_left : (es : List Entry) (m : Maps) → m.head.next_prop + length (filter_map property_in es) ≤ 4294967295 → m.head.next_verb + length (filter_map verb_in es) ≤ 4294967295 → NumbersAreLeft es m
 numbers_left [] m p v = tt
-numbers_left (a_property x n ∷ es) m p v = let h = numbers_below_most m.head.next_prop (length (filter_map property_in es)) p in (h.0, numbers_left es (entry_taken (a_property x n) m) h.1 v)
-numbers_left (a_verb x r ∷ es) m p v = let h = numbers_below_most m.head.next_verb (length (filter_map verb_in es)) v in (h.0, numbers_left es (entry_taken (a_verb x r) m) p h.1)
+numbers_left (a_property x n ∷ es) m p v = let h = (omega arith, omega arith) in (h.0, numbers_left es (entry_taken (a_property x n) m) h.1 v)
+numbers_left (a_verb x r ∷ es) m p v = let h = (omega arith, omega arith) in (h.0, numbers_left es (entry_taken (a_verb x r) m) p h.1)
 numbers_left (e ∷ es) m p v = (tt, numbers_left es (entry_taken e m) p v)
 
 -- ---- kinds

@@ -28,31 +28,22 @@ objects_are w = recursion_from_All (λ x. is_object w x ≡ true) (objects_of w)
 abbrev pub alike : Property → Property → Bool
 alike p q = same_object p.0 q.0 && same_text (folded p.1) (folded q.1)
 
-alike_self : (p : Property) → alike p p ≡ true
-alike_self p = both_true _ _ ((same_object-Decides p.0 p.0).1 refl) ((same_text-Decides (folded p.1) (folded p.1)).1 refl)
-
-not_both : (a b : Bool) → b ≡ false → (a && b) ≡ false
-not_both a b e = grind arith
-
 other_pair : (p q : Property) → alike p q ≡ false → same_property p q ≡ false
-other_pair p q e = false_from_ne_true (same_property p q) (λ h. false≢true (sym e ∙ ap (alike p) (sym (same_property-is p q h)) ∙ alike_self p))
+other_pair p q e = false_from_ne_true (same_property p q) (λ h. false≢true (sym e ∙ ap (alike p) (sym (same_property-is p q h)) ∙ both_true _ _ ((same_object-Decides p.0 p.0).1 refl) ((same_text-Decides (folded p.1) (folded p.1)).1 refl)))
 
 module _ (w : World) (wf : IsWellFormed w) where
   own_names : (x : ObjNo) → is_object w x ≡ true → IsDistinct alike (defined_by w x)
   own_names x there =
       let r = some_of (w.object x) there in
-      distinct_weaker (λ p q. same_text (folded p.1) (folded q.1)) alike (λ p q e. not_both (same_object p.0 q.0) (same_text (folded p.1) (folded q.1)) e) (defined_by w x)
+      distinct_weaker (λ p q. same_text (folded p.1) (folded q.1)) alike (λ p q e. grind arith) (defined_by w x)
       (pairs_left (defined_by w x) (defined_by_any w (chain w r.0.row.parent)) (subst (λ (l : List ObjNo). NamesDiffer (defined_by_any w l)) (chain-step w wf.tree x r.0 r.1) (wf.names x (chain w x) (Chain-chain w wf.tree x there))))
-
-  others : (x : ObjNo) (n : Name) (l : List ObjNo) → AllByRecursion (λ y. same_object x y ≡ false) l → AllByRecursion (λ q. alike (x, n) q ≡ false) (defined_by_any w l)
-  others x n l a = of_holders (property_names_of w) (λ q. alike (x, n) q ≡ false) l (λ y s k h. ap (λ b. b && same_text (folded n) (folded k)) (of_all (λ y. same_object x y ≡ false) l y a s))
 
   differ_along : (l : List ObjNo) → IsDistinct same_object l → AllByRecursion (λ x. is_object w x ≡ true) l → IsDistinct alike (defined_by_any w l)
   unfolding IsDistinct
   differ_along [] d a = tt
   differ_along (x ∷ l) d a =
       distinct_append alike (defined_by w x) (defined_by_any w l) (own_names x a.0) (differ_along l d.1 a.1)
-      (each_map (λ p. AllByRecursion (λ q. alike p q ≡ false) (defined_by_any w l)) (λ n. (x, n)) (property_names_of w x) (λ n s. others x n l d.0))
+      (each_map (λ p. AllByRecursion (λ q. alike p q ≡ false) (defined_by_any w l)) (λ n. (x, n)) (property_names_of w x) (λ n s. of_holders (property_names_of w) (λ q. alike (x, n) q ≡ false) l (λ y s k h. ap (λ b. b && same_text (folded n) (folded k)) (of_all (λ y. same_object x y ≡ false) l y d.0 s))))
 
   pub properties_differ : IsDistinct alike (all_properties w)
   properties_differ = differ_along (objects_of w) (objects_once w) (objects_are w)

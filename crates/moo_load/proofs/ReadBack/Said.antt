@@ -26,17 +26,14 @@ module _ (P : Entry → Type 0) (w : World) (object : (x : ObjNo) (r : WorldObje
   owed_hold : (x : ObjNo) → is_object w x ≡ true → (p : Property) → Stands p (defined_by_any w (chain w x)) → AllByRecursion P (owed_entry w x p)
   owed_hold x here p s = elim (slot_of w x (folded p.1)) as (λ (o : Option Slot). slot_of w x (folded p.1) ≡ o → AllByRecursion P (elim o [ None ↦ [] | Some k ↦ a_slot x p k ∷ [] ])) [ None ↦ λ e. tt | Some k ↦ λ e. (slot x here p s k e, tt) ] refl
 
-  object_holds : (x : ObjNo) → AllByRecursion P (object_entries w x)
-  object_holds x =
+  pub objects_hold : AllByRecursion P (flat_map (object_entries w) (objects_of w))
+  objects_hold = each_flat P (object_entries w) (objects_of w) λ x s.
       elim (w.object x) as (λ (o : Option WorldObject). w.object x ≡ o → AllByRecursion P (elim o [ None ↦ [] | Some r ↦ record_entries w x r ])) [
         | None ↦ λ e. tt
         | Some r ↦ λ e.
             let slots = flat_map (owed_entry w x) (defined_by_any w (chain w x)) in
             (object x r e, all_append P (map (a_property x) r.defines) (slots ++ map (a_verb x) r.verbs) (each_map P (a_property x) r.defines (property x r e)) (all_append P slots (map (a_verb x) r.verbs) (each_flat P (owed_entry w x) (defined_by_any w (chain w x)) (owed_hold x (ap is_some e))) (each_map P (a_verb x) r.verbs (verb x r e))))
       ] refl
-
-  pub objects_hold : AllByRecursion P (flat_map (object_entries w) (objects_of w))
-  objects_hold = each_flat P (object_entries w) (objects_of w) (λ x s. object_holds x)
 
 -- a property that is owed is one that its definer defines
 pub owed_defined : (w : World) (os : List ObjNo) (p : Property) → Stands p (defined_by_any w os) → Stands p (defined_by w p.0)

@@ -83,12 +83,6 @@ module _ (s : State) (formed : IsFormed s) where
       let o = passed (same_object x r.0.0) r.0.1 v r.2 in
       (id.0, r.0, r.1, λ i. ((sym ((same_object-Decides x r.0.0).0 o.0) i, id), o.1 i)))
 
-  petitions_are : puts {cmp = petition_cmp} (filter_map petition_in es) empty ≡ s.petitions
-  petitions_are =
-      ap (λ (l : List (PetitionId × PetitionRow)). puts {cmp = petition_cmp} l empty) (petitions_of s)
-      ∙ same_map petition_total petition_exact (puts {cmp = petition_cmp} (entries s.petitions) empty) s.petitions (λ id.
-      exactly petition_total petition_exact (λ (k : PetitionId). get s.petitions k) id (entries s.petitions) (petitions_own s.petitions) (petition_stands s.petitions id))
-
   -- ---- slots
 
   abbrev slot_told : ObjNo × PropId → Option SlotRow
@@ -133,11 +127,8 @@ module _ (s : State) (formed : IsFormed s) where
   abbrev first : Maps
   first = record no_maps { head = first_head s }
 
-  props_got : (id : PropId) → get (entries_taken es first).props id ≡ option_map property_row (at_number all id.0)
-  props_got id = ap (λ (m : Maps). get m.props id) (all_taken es first) ∙ ap (λ (l : List Property). get (puts {cmp = prop_cmp} (counted property_entry 1 l) empty) id) (properties_are s) ∙ props_are id
-
   pub slots_in_turn : Each w formed.world es (no_slot, entries_taken es first)
-  slots_in_turn = slots_next s formed.world (entries_taken es first) props_got
+  slots_in_turn = slots_next s formed.world (entries_taken es first) (λ id. ap (λ (m : Maps). get m.props id) (all_taken es first) ∙ ap (λ (l : List Property). get (puts {cmp = prop_cmp} (counted property_entry 1 l) empty) id) (properties_are s) ∙ props_are id)
 
   pub rows_are : AreRowsOf s (made_by all es (first_head s))
   rows_are =
@@ -152,7 +143,10 @@ module _ (s : State) (formed : IsFormed s) where
         props = λ id. ap (λ (l : List Property). get (puts {cmp = prop_cmp} (counted property_entry 1 l) empty) id) (properties_are s) ∙ props_are id;
         slots = slots_are;
         verbs = λ x id. ap (λ (l : List (ObjNo × VerbRow)). get (puts {cmp = verb_cmp} (counted verb_entry 1 l) empty) (x, id)) (verbs_are s) ∙ verbs_are_by x id;
-        petitions = petitions_are;
+        petitions =
+            ap (λ (l : List (PetitionId × PetitionRow)). puts {cmp = petition_cmp} l empty) (petitions_of s)
+            ∙ same_map petition_total petition_exact (puts {cmp = petition_cmp} (entries s.petitions) empty) s.petitions (λ id.
+            exactly petition_total petition_exact (λ (k : PetitionId). get s.petitions k) id (entries s.petitions) (petitions_own s.petitions) (petition_stands s.petitions id));
       })
 
   pub enough_numbers : HasNumbers s → NumbersAreLeft (entries_of s) first

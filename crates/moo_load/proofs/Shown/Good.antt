@@ -21,23 +21,6 @@ module _ (s : State) (formed : IsFormed s) (m : Maps) (rows : AreRowsOf s m) whe
   has_row : (x : ObjNo) → is_object w x ≡ true → is_some (get m.objects x) ≡ true
   has_row x there = let r = some_of (w.object x) there in ap is_some (rows.objects x ∙ ap (option_map (λ (k : WorldObject). k.row)) r.1)
 
-  one_name : (x : ObjNo) (i j : ℕ) (p q : PropRow) → is_some (get m.slots (x, prop_id i)) ≡ true → is_some (get m.slots (x, prop_id j)) ≡ true → get m.props (prop_id i) ≡ Some p → get m.props (prop_id j) ≡ Some q → folded p.name ≡ folded q.name → i ≡ j
-  one_name x i j p q e f g h same =
-      let a = some_of (get m.slots (x, prop_id i)) e in
-      let b = some_of (get m.slots (x, prop_id j)) f in
-      let c = of_row x i a.0 a.1 in
-      let d = of_row x j b.0 b.1 in
-      let u = of_property w x c.0 a.0 c.2 in
-      let v = of_property w x d.0 b.0 d.2 in
-      let first : c.0.1 ≡ p.name = let o = of_prop i p g in ap (λ (r : Property). r.1) (same_Some c.0 o.0 (sym c.1 ∙ o.1)) ∙ ap (λ (r : PropRow). r.name) o.2 in
-      let second : d.0.1 ≡ q.name = let o = of_prop j q h in ap (λ (r : Property). r.1) (same_Some d.0 o.0 (sym d.1 ∙ o.1)) ∙ ap (λ (r : PropRow). r.name) o.2 in
-      let names : folded c.0.1 ≡ folded d.0.1 = ap folded first ∙ same ∙ sym (ap folded second) in
-      let one : u.0 ≡ v.0 = same_Some u.0 v.0 (sym u.1 ∙ ap (slot_of w x) names ∙ v.1) in
-      let definers : c.0.0 ≡ d.0.0 = sym u.2 ∙ ap (λ (k : Slot). k.definer) one ∙ v.2 in
-      one_number alike ps (properties_differ w formed.world) i j c.0 d.0 c.1 d.1
-      (both_true _ _ ((same_object-Decides c.0.0 d.0.0).1 definers) ((same_text-Decides (folded c.0.1) (folded d.0.1)).1 names))
-      (both_true _ _ ((same_object-Decides d.0.0 c.0.0).1 (sym definers)) ((same_text-Decides (folded d.0.1) (folded c.0.1)).1 (sym names)))
-
   sound : IsSound m
   sound = record {
     props_below = λ id there.
@@ -53,7 +36,21 @@ module _ (s : State) (formed : IsFormed s) (m : Maps) (rows : AreRowsOf s m) whe
         let q = of_row x id r.0 r.1 in
         let k = of_property w x q.0 r.0 q.2 in
         (has_row x (slot_object w x (folded q.0.1) k.0 k.1), ap is_some (rows.props (prop_id id) ∙ ap (option_map property_row) q.1));
-    one_name = one_name;
+    one_name = λ x i j p q e f g h same.
+        let a = some_of (get m.slots (x, prop_id i)) e in
+        let b = some_of (get m.slots (x, prop_id j)) f in
+        let c = of_row x i a.0 a.1 in
+        let d = of_row x j b.0 b.1 in
+        let u = of_property w x c.0 a.0 c.2 in
+        let v = of_property w x d.0 b.0 d.2 in
+        let first : c.0.1 ≡ p.name = let o = of_prop i p g in ap (λ (r : Property). r.1) (same_Some c.0 o.0 (sym c.1 ∙ o.1)) ∙ ap (λ (r : PropRow). r.name) o.2 in
+        let second : d.0.1 ≡ q.name = let o = of_prop j q h in ap (λ (r : Property). r.1) (same_Some d.0 o.0 (sym d.1 ∙ o.1)) ∙ ap (λ (r : PropRow). r.name) o.2 in
+        let names : folded c.0.1 ≡ folded d.0.1 = ap folded first ∙ same ∙ sym (ap folded second) in
+        let one : u.0 ≡ v.0 = same_Some u.0 v.0 (sym u.1 ∙ ap (slot_of w x) names ∙ v.1) in
+        let definers : c.0.0 ≡ d.0.0 = sym u.2 ∙ ap (λ (k : Slot). k.definer) one ∙ v.2 in
+        one_number alike ps (properties_differ w formed.world) i j c.0 d.0 c.1 d.1
+        (both_true _ _ ((same_object-Decides c.0.0 d.0.0).1 definers) ((same_text-Decides (folded c.0.1) (folded d.0.1)).1 names))
+        (both_true _ _ ((same_object-Decides d.0.0 c.0.0).1 (sym definers)) ((same_text-Decides (folded d.0.1) (folded c.0.1)).1 (sym names)));
     verbs = λ x id there.
         let r = some_of (get m.verbs (x, verb_id id)) there in
         let v = found_in (verb_on x) (at_number (all_verbs w) id) r.0 (sym (rows.verbs x (verb_id id)) ∙ r.1) in
@@ -69,12 +66,9 @@ module _ (s : State) (formed : IsFormed s) (m : Maps) (rows : AreRowsOf s m) whe
 
   -- ---- the same state
 
-  objects : (world_of m).object ≡ w.object
-  objects = λ i x. object_is s formed m rows x i
-
   pub same_state : AreTheSame (state_of m) s
   unfolding world_shown
-  same_state = record { seq = rows.seq; top = rows.top; objects = objects; petitions = rows.petitions }
+  same_state = record { seq = rows.seq; top = rows.top; objects = λ i x. object_is s formed m rows x i; petitions = rows.petitions }
 
   -- ---- good
 
@@ -84,7 +78,7 @@ module _ (s : State) (formed : IsFormed s) (m : Maps) (rows : AreRowsOf s m) whe
 
   world_is : counted ≡ world_of m
   unfolding world_shown
-  world_is = λ i. record { object = sym objects i; top = sym rows.top i; next_prop = m.head.next_prop; next_verb = m.head.next_verb }
+  world_is = λ i. record { object = sym (λ x. object_is s formed m rows x i); top = sym rows.top i; next_prop = m.head.next_prop; next_verb = m.head.next_verb }
 
   still_formed : HasNumbers s → IsWellFormed counted
   still_formed numbers =

@@ -59,9 +59,6 @@ module _ {B : Type 0} (items : ObjNo → List B) where
   abbrev pub of : ObjNo → ObjNo × B → Option B
   of x e = cond (same_object x e.0) (Some e.1) None
 
-  own : (x y : ObjNo) → same_object x y ≡ true → filter_map (of x) (with_object y) ≡ items y
-  own x y same = each_made (of x) (λ b. (y, b)) (λ b. ap (λ (t : Bool). cond t (Some b) None) same) (items y)
-
   other : (x y : ObjNo) → same_object x y ≡ false → filter_map (of x) (with_object y) ≡ []
   other x y differ = none_made (of x) (with_object y) (all_map (λ e. of x e ≡ None) (λ b. (y, b)) (items y) (all_of (λ b. of x (y, b) ≡ None) (items y) (λ b s. ap (λ (t : Bool). cond t (Some b) None) differ)))
 
@@ -81,6 +78,6 @@ module _ {B : Type 0} (items : ObjNo → List B) where
         | true ↦ λ e h.
             let same : x ≡ y = (same_object-Decides x y).0 e in
             let rest : is_among x l ≡ false = none_among x l (subst (λ (z : ObjNo). AllByRecursion (λ q. same_object z q ≡ false) l) (sym same) d.0) in
-            (λ i. own x y e i ++ none_of x l rest i) ∙ append-nil (items y) ∙ ap items (sym same)
+            (λ i. each_made (of x) (λ b. (y, b)) (λ b. ap (λ (t : Bool). cond t (Some b) None) e) (items y) i ++ none_of x l rest i) ∙ append-nil (items y) ∙ ap items (sym same)
         | false ↦ λ e h i. other x y e i ++ of_object x l d.1 h i
       ] refl a

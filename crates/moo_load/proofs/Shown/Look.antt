@@ -44,16 +44,12 @@ module _ (s : State) (formed : IsFormed s) (m : Maps) (rows : AreRowsOf s m) whe
   slot_is : (x : ObjNo) (n : Name) (k : ℕ) → slot_on (look_ups m) x n k ≡ option_and_then (slot_of_pair x n) (at_number ps k)
   slot_is x n k = grind (arith, same_text)
 
-  -- what a property of the name gives is the slot of the name
-  only_slot : (x : ObjNo) (n : Name) (p : Property) (k : Slot) → slot_of_pair x n p ≡ Some k → slot_of w x n ≡ Some k
-  only_slot x n p k e = grind (arith, same_text, none-some, made_of, of_property, same_text-Decides)
-
   slots_are : (x : ObjNo) (n : Name) → slice_get (filter_map (slot_on (look_ups m) x n) (numbers_below m.head.next_prop)) 0 ≡ slot_of w x n
   slots_are x n =
       ap (λ (f : ℕ → Option Slot). slice_get (filter_map f (numbers_below m.head.next_prop)) 0) (λ i k. slot_is x n k i)
       ∙ ap (λ (l : List Slot). slice_get l 0) (all_by_number (slot_of_pair x n) ps m.head.next_prop rows.next_prop)
       ∙ elim (slice_get (filter_map (slot_of_pair x n) ps) 0) as (λ o. slice_get (filter_map (slot_of_pair x n) ps) 0 ≡ o → o ≡ slot_of w x n) [
-        | Some k ↦ λ e. let h = first_made (slot_of_pair x n) ps k e in sym (only_slot x n h.0 k h.1)
+        | Some k ↦ λ e. let h = first_made (slot_of_pair x n) ps k e in sym (grind (arith, same_text, none-some, made_of, of_property, same_text-Decides, h.1))
         | None ↦ λ e. elim (slot_of w x n) as (λ q. slot_of w x n ≡ q → None ≡ q) [
           | None ↦ λ f. refl
           | Some k ↦ λ f.

@@ -1,8 +1,8 @@
-use Rattle.moo_load.{proofs.Words.{rules, ◌≡◌, ◌<◌, ◌++◌, [], ◌∷◌, length, arith, from_err}, proofs.Accepting.{not_objects, objects_more, numbers_more, all_objects, few_objects, too_many}}
+use Rattle.moo_load.{proofs.Words.{length-map, ap, Obj, rules, ◌≡◌, ◌<◌, ◌++◌, [], ◌∷◌, length, arith, from_err}, proofs.Accepting.{not_objects, objects_more, numbers_more, all_objects, few_objects}}
 use Rattle.moo_load.proofs.value.objects_of.Goals as goal
 
 pub returns-then-values-gt-MOST_ACCEPTED-clause-err : goal.returns-then-values-gt-MOST_ACCEPTED-clause-err
-returns-then-values-gt-MOST_ACCEPTED-clause-err c = λ unreadable objects short same. too_many c.args.values.now objects (omega arith) short same
+returns-then-values-gt-MOST_ACCEPTED-clause-err c = λ unreadable objects short same. omega (arith, length-map objects Obj, ap length same)
 
 pub returns-in_err-object-clause-err : goal.returns-in_err-object-clause-err
 returns-in_err-object-clause-err c =
