@@ -61,12 +61,6 @@ some_spelled : (args : List Value) (b : List ℕ) → SpellsSome args b → Spel
 unfolding SpellsSome
 some_spelled args b (v, vs, is, fits, item) = subst (λ (us : List Value). SpellsArguments true us b) (sym is) (fits, item)
 
-arguments_taken : (b : List ℕ) (args : List Value) → arguments_of b ≡ Some args → SpellsArguments true args b
-arguments_taken b args e = by_mark (after_mark 41 b) refl e
-  where
-    by_mark : (o : Option (List ℕ)) → after_mark 41 b ≡ o → option_map_or (closed []) o (values_at 41 (length b) b) ≡ Some args → SpellsArguments true args b
-    by_mark o mark h = grind (arith, mark, chosen, closes, some_spelled, values_taken)
-
 word_letters : (b : List ℕ) → AllByRecursion (λ c. IsTrue (is_word c)) (word b)
 word_letters [] = tt
 word_letters (c ∷ cs) = grind (arith, word_letters cs)
@@ -92,7 +86,7 @@ call_taken line call e = elim (chosen (is_within_line line) (call_behind (after_
         blank_before = before.1;
         is_name = record { letters = word_letters b; names = (spelled_is (folded (word b)) t.0).0 t.1 };
         blank_between = between.1;
-        arguments = arguments_taken u.0 m.0 m.1;
+        arguments = grind (arith, refl, chosen, closes, some_spelled, values_taken, m.1);
       } in
       subst (λ (c : Call). SpellsCall c line) m.2 made
   | inr other ↦ absurd (let k : None ≡ Some call = other.1 in cc)
@@ -121,13 +115,10 @@ arguments_stop (v ∷ vs) rest (fits, (comma, value, more, (blanks, token, all, 
     let s = stopped 44 blanks (value ++ more) all (record { no_digit = refl; no_word = refl }) in
     (s.0, s.1, whole ∙ ap (λ (t : List ℕ). t ++ (value ++ more)) (is_comma ∙ ap (λ (t : List ℕ). blanks ++ t) is) ∙ append_assoc blanks (44 ∷ []) (value ++ more) ∙ s.2, s.3)
 
-ends_there : (v : Value) (rest : List ℕ) (c : ℕ) (cs : List ℕ) → rest ≡ c ∷ cs → Stops c → Ends v rest
-ends_there v rest c cs is s = grind arith
-
 item_front : (v : Value) (vs : List Value) (b : List ℕ) → Fits v → (i : Item true (SpellsToken v) (SpellsArguments false vs) b) → front_of b ≡ Some (v, i.2)
 item_front v vs b fits (comma, value, rest, none, spelled, behind, whole) =
     let s = arguments_stop vs rest behind in
-    ap front_of (whole ∙ ap (λ (t : List ℕ). t ++ (value ++ rest)) none) ∙ front_again_of v value rest spelled fits (ends_there v rest s.0 s.1 s.2 s.3)
+    ap front_of (whole ∙ ap (λ (t : List ℕ). t ++ (value ++ rest)) none) ∙ front_again_of v value rest spelled fits (grind (arith, s.2, s.3))
 
 comma_again : (v : Value) (vs : List Value) (rest : List ℕ) → (s : SpellsArguments false (v ∷ vs) rest) → (others : List ℕ) × (after_mark 44 rest ≡ Some others) × (after_mark 41 rest ≡ None) × SpellsArguments true (v ∷ vs) others
 comma_again v vs rest (fits, (comma, value, more, (blanks, token, all, is, is_comma), spelled, behind, whole)) =
@@ -169,15 +160,12 @@ begins [] between behind letters all = subst (λ (t : List ℕ). Begins t [] beh
 begins (c ∷ cs) between behind letters all =
     let tail = between ++ 40 ∷ behind in
     let here : is_word c ≡ true = letters.0 in
-    let solid : is_blank c ≡ false = word_is_solid c here in
+    let solid : is_blank c ≡ false = grind (arith, blank_stops) in
     let stays : after_blanks ((c ∷ cs) ++ tail) ≡ (c ∷ cs) ++ tail = rw solid refl in
     let s = stopped 40 between behind all (record { no_digit = refl; no_word = refl }) in
     let ends : BeginsNo is_word tail = subst (BeginsNo is_word) (sym s.2) s.3.no_word in
     let w = word_again (c ∷ cs) tail letters ends in
     subst (λ (t : List ℕ). Begins t (c ∷ cs) behind) (sym stays) (record { front = w.0; mark = ap (after_mark 40) w.1 ∙ ap (behind_mark 40) (blanks_skipped between (40 ∷ behind) all) })
-  where
-    word_is_solid : (c : ℕ) → is_word c ≡ true → is_blank c ≡ false
-    word_is_solid c h = grind (arith, blank_stops)
 
 pub call_again : (line : List ℕ) (call : Call) → SpellsCall call line → call_of line ≡ Some call
 call_again line call s =

@@ -1,5 +1,5 @@
 -- What the lines that are left of a text say, from one line to the next.
-use Rattle.moo_text.{proofs.Shared.{◌≡◌, ℕ, ◌+◌, ◌<◌, ◌≤◌, true, false, inl, inr, List, [], ◌∷◌, ◌++◌, length, Option, Some, None, Result, Ok, Err, IfOk, IfErr, refl, sym, ap, subst, ◌∙◌, arith, nat_lt, length-append, Call, is_within_line, is_blank_line, is_end_line, header_of, call_of, between, within, skipping, IsLineRead, Side, ReadsOn, ReadsLine, ReadsAlong, ReadsFirst, ReadsNext, BreaksOff, TextFault, OutOfMemory, Header, Next}, proofs.Giving.{ReadsOn-then, ReadsOn-map, ReadsOn-breaks, out_of_memory}, specs.declared.next.Next.TheVariants.{Batch as Whole, Malformed}}
+use Rattle.moo_text.{proofs.Shared.{◌≡◌, ℕ, ◌+◌, ◌<◌, ◌≤◌, true, false, inl, inr, List, [], ◌∷◌, ◌++◌, length, Option, Some, None, Result, Ok, Err, IfOk, IfErr, refl, sym, ap, subst, ◌∙◌, arith, nat_lt, length-append, Call, is_within_line, is_blank_line, is_end_line, header_of, call_of, between, within, skipping, IsLineRead, Side, ReadsOn, ReadsLine, ReadsAlong, ReadsFirst, ReadsNext, BreaksOff, TextFault, OutOfMemory, Header, Next}, proofs.Giving.{ReadsOn-then, ReadsOn-map, ReadsOn-breaks}, specs.declared.next.Next.TheVariants.{Batch as Whole, Malformed}}
 use Rattle.moo_world.specs.declared.call.TheConstants.{MOST_CALLS}
 use Rattle.moo_text.specs.declared.line.TheConstants.{LONGEST_LINE}
 
@@ -30,9 +30,6 @@ between_alike read line rest a = rw (a.blank, a.end, a.header) refl
 pub within_alike : (header : Header) (calls : List Call) (n : ℕ) → SeesAlike (within header calls n)
 within_alike header calls n read line rest a = rw (a.blank, a.end, a.call) refl
 
-pub skipping_alike : (n : ℕ) → SeesAlike (skipping n)
-skipping_alike n read line rest a = rw a.end refl
-
 -- one line on
 pub along_line : (f g h : List (List ℕ) → List Next) {a b c : Side} (read : List ℕ) → SeesAlike g → ReadsAlong f g a b → ReadsLine b c (Some read) → ((rest : List (List ℕ)) → g (read ∷ rest) ≡ h rest) → ReadsAlong f h a c
 along_line f g h {a} {b} {c} read sees p q step = grind (arith, ReadsOn-then, alike)
@@ -43,7 +40,7 @@ along_end f g h {a} {b} {c} p q step = grind (arith, ReadsOn-then)
 
 -- reading stops for want of memory
 pub along_refused : {P : List ℕ → List ℕ → Type 0} {a b c : Side} (line : List ℕ) → ReadsOn a b P → ReadsLine b c (Some line) → BreaksOff a c OutOfMemory
-along_refused {b = b} {c = c} line p q = ReadsOn-breaks p (out_of_memory b c q.given q.gives q.room)
+along_refused {b = b} {c = c} line p q = ReadsOn-breaks p (record { given = q.given; gives = q.gives; count = omega (arith, q.room) })
 
 -- ---- what a line says inside a batch
 
@@ -70,10 +67,10 @@ module _ {a b c : Side} (line : List ℕ) (p : ReadsAlong between between a b) (
 -- a line of a batch that is skipped
 module _ {n : ℕ} {a b c : Side} (line : List ℕ) (p : ReadsAlong (skipping n) (skipping n) a b) (q : ReadsLine b c (Some line)) where
   pub skipping_end : is_end_line line ≡ true → ReadsAlong (skipping n) (λ rest. Malformed n ∷ between rest) a c
-  skipping_end end = along_line (skipping n) (skipping n) (λ rest. Malformed n ∷ between rest) line (skipping_alike n) p q (λ rest. rw end refl)
+  skipping_end end = along_line (skipping n) (skipping n) (λ rest. Malformed n ∷ between rest) line (λ read line rest a. rw a.end refl) p q (λ rest. rw end refl)
 
   pub skipping_on : is_end_line line ≡ false → ReadsAlong (skipping n) (skipping n) a c
-  skipping_on not_end = along_line (skipping n) (skipping n) (skipping n) line (skipping_alike n) p q (λ rest. rw not_end refl)
+  skipping_on not_end = along_line (skipping n) (skipping n) (skipping n) line (λ read line rest a. rw a.end refl) p q (λ rest. rw not_end refl)
 
 -- a line behind those of a batch
 module _ {header : Header} {calls : List Call} {n : ℕ} {a b c : Side} (line : List ℕ) (p : ReadsAlong (within header [] 1) (within header calls n) a b) (q : ReadsLine b c (Some line)) where

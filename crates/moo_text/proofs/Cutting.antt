@@ -6,15 +6,6 @@ use Rattle.moo_world.specs.declared.call.TheConstants.{MOST_CALLS}
 no_header : (line : List ℕ) → IsNoHeader line → header_of line ≡ None
 no_header line none = none_if (header_of line) (λ h e. none h (header_taken line h e))
 
-is_no_header : (line : List ℕ) → header_of line ≡ None → IsNoHeader line
-is_no_header line none h s = let e : None ≡ Some h = sym none ∙ header_again line h s in cc
-
-no_call : (line : List ℕ) → IsNoCall line → call_of line ≡ None
-no_call line none = none_if (call_of line) (λ c e. none c (call_taken line c e))
-
-is_no_call : (line : List ℕ) → call_of line ≡ None → IsNoCall line
-is_no_call line none c s = let e : None ≡ Some c = sym none ∙ call_again line c s in cc
-
 -- ---- what is cut so is read so
 
 blanks_skipped : (blanks lines : List (List ℕ)) → AreBlankLines blanks → between (blanks ++ lines) ≡ between lines
@@ -45,15 +36,10 @@ calls_read p before n (line ∷ body) calls lines (inr one) few =
     rw (one.0.not_blank, one.0.not_end, is, room) more
 
 -- inside a batch whose end doesn't come
-one_more : (A : Type 0) (blank : Bool) (call : Option Call) (room ends : Bool) (x w s t : A) (f : Call → A) → ends ≡ false → x ≡ t → ((c : Call) → f c ≡ t) → s ≡ t
-    → cond blank x (cond ends w (option_map_or (λ c. cond room (f c) s) call s)) ≡ t
-one_more A blank call room ends x w s t f none e g h = grind arith
-
--- inside a batch whose end doesn't come
 never_ends : (p : Header) (calls : List Call) (n : ℕ) (lines : List (List ℕ)) → HaveNoEnd lines → within p calls n lines ≡ Truncated ∷ []
 never_ends p calls n [] none = refl
 never_ends p calls n (line ∷ lines) none =
-    one_more (List Next) (is_blank_line line) (call_of line) (nat_lt (length calls) MOST_CALLS) (is_end_line line) (within p calls (n + 1) lines) (Whole (record { programmer = p.programmer; at = p.at; calls = calls }) ∷ between lines) (skipping (n + 1) lines) (Truncated ∷ [])
+    (λ f none e g h. grind arith)
     (λ c. within p (calls ++ c ∷ []) (n + 1) lines) none.0 (never_ends p calls (n + 1) lines none.1) (λ c. never_ends p (calls ++ c ∷ []) (n + 1) lines none.1) (skipped_out (n + 1) lines none.1)
 
 -- no call more
@@ -76,7 +62,7 @@ first_bad_read lines n rest (inr b) =
     ap between b.11 ∙ rw (b.5.not_blank, b.5.not_end, is) inside
   where
     by_fault : (IsNoCall b.3 ⊎ (length b.4 ≡ MOST_CALLS)) → within b.1 b.4 (1 + length b.2) (b.3 ∷ rest) ≡ skipping n rest
-    by_fault (inl never) = let none = no_call b.3 never in rw (b.9.not_blank, b.9.not_end, none) (ap (λ (k : ℕ). skipping k rest) (omega (arith, b.12)))
+    by_fault (inl never) = let none = none_if (call_of b.3) (λ c e. never c (call_taken b.3 c e)) in rw (b.9.not_blank, b.9.not_end, none) (ap (λ (k : ℕ). skipping k rest) (omega (arith, b.12)))
     by_fault (inr full) =
         let room : nat_lt (length b.4) MOST_CALLS ≡ false = grind (arith, full) in
         let number : 1 + length b.2 + 1 ≡ n = omega (arith, b.12) in
@@ -101,12 +87,9 @@ cut_read lines (Truncated ∷ items) c = ap between c.2 ∙ blanks_skipped c.0 c
 no_nil : (n : ℕ) → (true && (suc n == 0)) ≡ true → ⊥
 no_nil n e = grind (arith, e)
 
-blank_not_end : (line : List ℕ) → is_blank_line line ≡ true → is_end_line line ≡ false
-blank_not_end line blank = grind (arith, no_nil)
-
 calls_no_end : (body : List (List ℕ)) (calls : List Call) → AreCalls body calls → HaveNoEnd body
 calls_no_end [] calls are = tt
-calls_no_end (line ∷ body) calls (inl blank) = (blank_not_end line blank.0, calls_no_end body calls blank.1)
+calls_no_end (line ∷ body) calls (inl blank) = (grind (arith, no_nil, blank.0), calls_no_end body calls blank.1)
 calls_no_end (line ∷ body) calls (inr one) = (one.0.not_end, calls_no_end body one.1.1 one.1.4)
 
 no_end-append : (xs ys : List (List ℕ)) → HaveNoEnd xs → HaveNoEnd ys → HaveNoEnd (xs ++ ys)
@@ -127,9 +110,6 @@ calls-push [] calls line call are text is = inr (text, (call, [], is, ap (λ (t 
 calls-push (b ∷ body) calls line call (inl x) text is = inl (x.0, calls-push body calls line call x.1 text is)
 calls-push (b ∷ body) calls line call (inr x) text is = inr (x.0, (x.1.0, x.1.1 ++ call ∷ [], x.1.2, ap (λ (t : List Call). t ++ call ∷ []) x.1.3, calls-push body x.1.1 line call x.1.4 text is))
 
-out_is : (lines : List (List ℕ)) (n : ℕ) (rest : List (List ℕ)) → IsFirstBad lines n rest → HaveNoEnd rest → IsTruncated lines
-out_is lines n rest e none = grind (arith, no_end-append, calls_no_end)
-
 -- an option is some or none
 some_or_none : {A : Type 0} (o : Option A) → ((x : A) × (o ≡ Some x)) ⊎ (o ≡ None)
 some_or_none None = inr refl
@@ -141,12 +121,6 @@ next_line blanks header p front calls line rest cut =
     let number : 1 + length (front ++ line ∷ []) ≡ 1 + length front + 1 = omega (arith, length-append front (line ∷ [])) in
     subst (λ (k : ℕ). Cuts (blanks ++ header ∷ (front ++ line ∷ rest)) (within p calls k rest)) number
     (subst (λ (t : List (List ℕ)). Cuts (blanks ++ header ∷ t) (within p calls (1 + length (front ++ line ∷ [])) rest)) (append_assoc front (line ∷ []) rest) cut)
-
-has_room : (calls : List Call) (call : Call) → nat_lt (length calls) MOST_CALLS ≡ true → length (calls ++ call ∷ []) ≤ MOST_CALLS
-has_room calls call room = grind (arith, length-append)
-
-is_full : (calls : List Call) → nat_lt (length calls) MOST_CALLS ≡ false → length calls ≤ MOST_CALLS → length calls ≡ MOST_CALLS
-is_full calls full few = grind arith
 
 mutual
   pub cut_between : (blanks lines : List (List ℕ)) → AreBlankLines blanks → Cuts (blanks ++ lines) (between lines)
@@ -160,13 +134,13 @@ mutual
               let text : IsContentLine line = record { not_blank = not_blank; not_end = not_end } in
               elim (some_or_none (header_of line)) [
                 | inl h ↦ rw (not_blank, not_end, h.1) (cut_within blanks line h.0 [] [] lines all text (header_taken line h.0 h.1) refl (omega arith))
-                | inr none ↦ rw (not_blank, not_end, none) (cut_skipping blanks (line ∷ lines) 1 [] lines all (inl (line, text, is_no_header line none, refl, refl)) tt)
+                | inr none ↦ rw (not_blank, not_end, none) (cut_skipping blanks (line ∷ lines) 1 [] lines all (inl (line, text, (λ h s. let e : None ≡ Some h = sym none ∙ header_again line h s in cc), refl, refl)) tt)
               ]
         ]
       ]
 
   cut_skipping : (blanks lines : List (List ℕ)) (n : ℕ) (over rest : List (List ℕ)) → AreBlankLines blanks → IsFirstBad lines n (over ++ rest) → HaveNoEnd over → Cuts (blanks ++ lines) (skipping n rest)
-  cut_skipping blanks lines n over [] all bad none = (blanks, lines, refl, all, out_is lines n over (rw append-nil at bad) none, refl)
+  cut_skipping blanks lines n over [] all bad none = (blanks, lines, refl, all, grind (arith, no_end-append, calls_no_end), refl)
   cut_skipping blanks lines n over (line ∷ rest) all bad none =
       elim (cases_Bool (is_end_line line)) [
         | inl end ↦ rw end (blanks, lines, rest, refl, all, inr (over, line, bad, none, end), cut_between [] rest tt)
@@ -185,13 +159,10 @@ mutual
               let here : IsContentLine line = record { not_blank = not_blank; not_end = not_end } in
               elim (some_or_none (call_of line)) [
                 | inl c ↦ elim (cases_Bool (nat_lt (length calls) MOST_CALLS)) [
-                  | inl room ↦ rw (not_blank, not_end, c.1, room) (next_line blanks header p front (calls ++ c.0 ∷ []) line rest (cut_within blanks header p (front ++ line ∷ []) (calls ++ c.0 ∷ []) rest all text is (calls-push front calls line c.0 are here (call_taken line c.0 c.1)) (has_room calls c.0 room)))
-                  | inr full ↦ rw (not_blank, not_end, c.1, full) (cut_skipping blanks (header ∷ (front ++ line ∷ rest)) (1 + length front + 1) [] rest all (inr (header, p, front, line, calls, text, is, are, few, here, inr (is_full calls full few), refl, omega arith)) tt)
+                  | inl room ↦ rw (not_blank, not_end, c.1, room) (next_line blanks header p front (calls ++ c.0 ∷ []) line rest (cut_within blanks header p (front ++ line ∷ []) (calls ++ c.0 ∷ []) rest all text is (calls-push front calls line c.0 are here (call_taken line c.0 c.1)) (grind (arith, length-append))))
+                  | inr full ↦ rw (not_blank, not_end, c.1, full) (cut_skipping blanks (header ∷ (front ++ line ∷ rest)) (1 + length front + 1) [] rest all (inr (header, p, front, line, calls, text, is, are, few, here, inr (grind arith), refl, omega arith)) tt)
                 ]
-                | inr none ↦ rw (not_blank, not_end, none) (cut_skipping blanks (header ∷ (front ++ line ∷ rest)) (1 + length front + 1) [] rest all (inr (header, p, front, line, calls, text, is, are, few, here, inl (is_no_call line none), refl, omega arith)) tt)
+                | inr none ↦ rw (not_blank, not_end, none) (cut_skipping blanks (header ∷ (front ++ line ∷ rest)) (1 + length front + 1) [] rest all (inr (header, p, front, line, calls, text, is, are, few, here, inl (λ c s. let e : None ≡ Some c = sym none ∙ call_again line c s in cc), refl, omega arith)) tt)
               ]
         ]
       ]
-
-pub is_cut : (lines : List (List ℕ)) → Cuts lines (between lines)
-is_cut lines = cut_between [] lines tt

@@ -2,14 +2,8 @@
 use Rattle.moo_text.proofs.Shared.{◌≡◌, ℕ, ◌+◌, true, List, [], ◌++◌, length, Option, refl, sym, ap, subst, ◌∙◌, append_assoc, arith, Result, IfErr, length-append, Side, ReaderGives, ReadsOn, Explains, BreaksOff, TextFault, OutOfMemory}
 use Rattle.std.{specs.Io.KnownBytes.{Consumes}, specs.Result.{IsErrAnd}, proofs.lemmas.Result.{err_from_is_err_and}}
 
-Consumes-none : (a : Option (List ℕ)) → Consumes a a []
-Consumes-none a = grind arith
-
 Consumes-then : (a b c : Option (List ℕ)) (xs ys : List ℕ) → Consumes a b xs → Consumes b c ys → Consumes a c (xs ++ ys)
 Consumes-then a b c xs ys p q = grind (arith, append_assoc)
-
-pub ReaderGives-none : (a : Side) → ReaderGives a a []
-ReaderGives-none a = record { known = Consumes-none a.left; stays = λ e. (refl, e); at_end = λ was e. was e }
 
 pub ReaderGives-then : (a b c : Side) (xs ys : List ℕ) → ReaderGives a b xs → ReaderGives b c ys → ReaderGives a c (xs ++ ys)
 ReaderGives-then a b c xs ys p q = grind (arith, Consumes-then)
@@ -17,9 +11,6 @@ ReaderGives-then a b c xs ys p q = grind (arith, Consumes-then)
 -- what comes from the second reader's side is nothing, where the first has ended
 pub nothing_more : (b c : Side) (ys rest : List ℕ) → ReaderGives b c ys → (c.ended ≡ true → rest ≡ []) → b.ended ≡ true → ys ++ rest ≡ []
 nothing_more b c ys rest q none e = let second = q.stays e in ap (λ (t : List ℕ). t ++ rest) second.0 ∙ none second.1
-
-pub ReadsOn-none : (a : Side) (P : List ℕ → List ℕ → Type 0) → ((x : List ℕ) → P x x) → ReadsOn a a P
-ReadsOn-none a P p = record { given = []; gives = ReaderGives-none a; room = omega arith; holds = λ rest _. p (a.ahead ++ rest) }
 
 -- two calls
 pub ReadsOn-then : (a b c : Side) (P Q S : List ℕ → List ℕ → Type 0) → ReadsOn a b P → ReadsOn b c Q → ((x y z : List ℕ) → P x y → Q y z → S x z) → ReadsOn a c S
@@ -47,15 +38,6 @@ gives_then_breaks a b c given fault p room q = record {
 
 pub ReadsOn-breaks : {a b c : Side} {P : List ℕ → List ℕ → Type 0} {fault : TextFault} → ReadsOn a b P → BreaksOff b c fault → BreaksOff a c fault
 ReadsOn-breaks {a} {b} {c} {P} {fault} p q = gives_then_breaks a b c p.given fault p.gives p.room q
-
--- what was read before a call that is stopped stands, whatever the reader may give behind it
-pub ReadsOn-stand : (a b c : Side) (P : List ℕ → List ℕ → Type 0) (fault : TextFault) (p : ReadsOn a b P) (q : BreaksOff b c fault) (rest : List ℕ) → (c.ended ≡ true → rest ≡ [])
-    → P (a.ahead ++ ((p.given ++ q.given) ++ rest)) (b.ahead ++ (q.given ++ rest))
-ReadsOn-stand a b c P fault p q rest none = grind (arith, append_assoc, nothing_more)
-
--- memory is refused behind these bytes
-pub out_of_memory : (a b : Side) (given : List ℕ) → ReaderGives a b given → a.room ≡ length given + b.room → BreaksOff a b OutOfMemory
-out_of_memory a b given p room = record { given = given; gives = p; count = omega (arith, room) }
 
 -- a fault that is handed on
 pub handed_on : {T F : Type 0} (r : Result T F) (P : F → Type 0) {fault : F} → IsErrAnd r (λ e. e ≡ fault) → P fault → IfErr r P

@@ -26,9 +26,6 @@ unspaced : (o : ObjNo) (cs text : List ℕ) → text ≡ 35 ∷ cs → Spells (O
 unspaced o cs text begins ([], token, blank, s, whole) = subst (SpellsObject o.0) (sym whole) s
 unspaced o cs text begins (c ∷ blanks, token, blank, s, whole) = grind (arith)
 
-value_object : (v : Value) (o : ObjNo) → object_value v ≡ Some o → v ≡ Obj o
-value_object v o e = grind arith
-
 pub nothing_left : (t : List ℕ) → (length t == 0) ≡ true → t ≡ []
 nothing_left [] e = refl
 nothing_left (c ∷ cs) e = absurd (grind (arith, e))
@@ -40,7 +37,7 @@ object_taken w o e = elim (chosen (begins_with_byte 35 w) (option_and_then (λ x
       let t = then_some (λ x. cond (length x.1 == 0) (object_value x.0) None) (front_of w) o here.1 in
       elim (chosen (length t.0.1 == 0) (object_value t.0.0) None (Some o) t.2) [
         | inl done ↦
-            let v : t.0.0 ≡ Obj o = value_object t.0.0 o done.1 in
+            let v : t.0.0 ≡ Obj o = grind (arith, done.1) in
             let rest : t.0.1 ≡ [] = nothing_left t.0.1 done.0 in
             let front : front_of w ≡ Some (Obj o, []) = t.1 ∙ ap (λ (u : Value). Some (u, t.0.1)) v ∙ ap (λ (u : List ℕ). Some (Obj o, u)) rest in
             let r = front_read w (Obj o) [] front in
@@ -79,15 +76,12 @@ le_taken a b e = grind (arith, e)
 pub le_again : (a b : ℕ) → a ≤ b → nat_le a b ≡ true
 le_again a b h = grind (arith, h)
 
-place_taken : (w : List ℕ) (n : ℕ) → place_number w ≡ Some n → SpellsPlace n w
-place_taken w n e = grind (arith, chosen, both, digits_taken, le_taken)
-
 place_again : (w : List ℕ) (n : ℕ) → SpellsPlace n w → place_number w ≡ Some n
 place_again w n s = grind (arith, le_again, joined, digits_again)
 
 last_taken : (ws : List (List ℕ)) (n : ℕ) → last_place ws ≡ Some n → (w : List ℕ) × (ws ≡ w ∷ []) × SpellsPlace n w
 last_taken [] n e = absurd cc
-last_taken (w ∷ []) n e = (w, refl, place_taken w n e)
+last_taken (w ∷ []) n e = (w, refl, grind (arith, chosen, both, digits_taken, le_taken))
 last_taken (w ∷ x ∷ more) n e = absurd (let h : (length (x ∷ more) == 0) ≡ false = grind arith in let k : last_place (w ∷ x ∷ more) ≡ None = rw h refl in let z : None ≡ Some n = sym k ∙ e in cc)
 
 at_taken : (more : List (List ℕ)) (at : Option ℕ) → at_of more ≡ Some at → SpellsAt at more

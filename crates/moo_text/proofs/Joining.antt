@@ -1,8 +1,8 @@
 -- The items that are read from call to call, over the bytes that were given in all of them.
-use Rattle.moo_text.{proofs.Shared.{arith, ◌≡◌, ℕ, true, List, [], ◌∷◌, ◌++◌, Option, refl, sym, ap, subst, ◌∙◌, append_assoc, length, append-nil, length-append, items, Side, untouched, ReaderGives, Explains, BreaksOff, ReadsNext, ReadsItems, ReadsAll, StopsBehind, GivesAll, TextFault, Next}, specs.declared.next.Next.TheVariants.{End}, proofs.Giving.{ReaderGives-then, Explains-then, ReadsOn-none, ReadsOn-then, ReadsOn-stand}}
+use Rattle.moo_text.{proofs.Shared.{arith, ◌≡◌, ℕ, true, List, [], ◌∷◌, ◌++◌, Option, refl, sym, ap, subst, ◌∙◌, append_assoc, length, append-nil, length-append, items, Side, untouched, ReaderGives, Explains, BreaksOff, ReadsNext, ReadsItems, ReadsAll, StopsBehind, GivesAll, TextFault, Next}, specs.declared.next.Next.TheVariants.{End}, proofs.Giving.{nothing_more, ReaderGives-then, Explains-then, ReadsOn-then}}
 
 pub items_none : (a : Side) → ReadsItems a a []
-items_none a = ReadsOn-none a (λ before behind. items before ≡ [] ++ items behind) (λ x. refl)
+items_none a = record { given = []; gives = record { known = grind arith; stays = λ e. (refl, e); at_end = λ was e. was e }; room = omega arith; holds = λ rest _. (λ x. refl) (a.ahead ++ rest) }
 
 -- one item more
 pub items_then : (a b c : Side) (done : List Next) (item : Next) → ReadsItems a b done → ReadsNext b c item → (item ≡ End → ⊥) → ReadsItems a c (done ++ item ∷ [])
@@ -27,5 +27,5 @@ items_stop left room b c done fault p q =
       given = p.given ++ q.given;
       gives = ReaderGives-then start b c p.given q.given p.gives q.gives;
       count = subst (λ (n : ℕ). Explains room n fault) (sym (length-append p.given q.given)) (Explains-then room b.room (length p.given) (length q.given) fault p.room q.count);
-      front = λ rest none. (items (b.ahead ++ (q.given ++ rest)), ReadsOn-stand start b c (λ x y. items x ≡ done ++ items y) fault p q rest none);
+      front = λ rest none. (items (b.ahead ++ (q.given ++ rest)), grind (arith, append_assoc, nothing_more));
     }

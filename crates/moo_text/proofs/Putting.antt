@@ -14,10 +14,6 @@ kept_last (Err e) old before added new is kept = kept_on new before old (starts_
 pub three : (old first second a b c : List ℕ) → first ≡ old ++ a → second ≡ first ++ b → second ++ c ≡ old ++ (a ++ (b ++ c))
 three old first second a b c one two = ap (λ t. t ++ c) (two ∙ ap (λ t. t ++ b) one ∙ append_assoc old a b) ∙ append_assoc old (a ++ b) c ∙ ap (λ t. old ++ t) (append_assoc a b c)
 
--- a line of a word, a number and a mark, and two texts behind it
-pub line_and_two : (old first second word digits mark b c : List ℕ) → first ≡ old ++ (word ++ (digits ++ mark)) → second ≡ first ++ b → second ++ c ≡ old ++ (word ++ (digits ++ (mark ++ (b ++ c))))
-line_and_two old first second word digits mark b c one two = grind (arith, three, append_assoc)
-
 -- a text that was put alone
 pub put_first : {A E : Type 0} (r : Result A E) (old added new : List ℕ) → new ≡ (if is_ok r then old ++ added else old) → (whole : List ℕ) → added ≡ whole → OnOk r (new ≡ old ++ whole)
 put_first r old added new is whole same = grind arith

@@ -27,9 +27,6 @@ pub no_front : (b : List ℕ) → ((v : Value) (n : ℕ) → Front b v n → ⊥
 unfolding front_of
 no_front b none = found_none (literal_at b) (λ v rest e. none v (length b - length rest) (front_taken b v rest e))
 
-found_ok : (r : Read Value) (v : Value) (rest : List ℕ) → found r ≡ Some (v, rest) → r ≡ Ok (v, rest)
-found_ok r v rest e = grind arith
-
 -- a literal that was read, and what follows it
 pub record FrontRead (b : List ℕ) (v : Value) (rest : List ℕ) : Type 0 where
   pub text : List ℕ
@@ -42,7 +39,7 @@ pub record FrontRead (b : List ℕ) (v : Value) (rest : List ℕ) : Type 0 where
 pub front_read : (b : List ℕ) (v : Value) (rest : List ℕ) → front_of b ≡ Some (v, rest) → FrontRead b v rest
 unfolding front_of literal_at
 front_read b v rest e =
-    let r : value_at MAX_NESTING b ≡ Ok (v, rest) = found_ok (value_at MAX_NESTING b) v rest e in
+    let r : value_at MAX_NESTING b ≡ Ok (v, rest) = grind arith in
     let t = value_taken MAX_NESTING b (v, rest) r in
     let s = takes MAX_NESTING b v rest r in
     let size : length s.0 ≡ length t.text = omega (arith, ap length s.1 ∙ length-append s.0 rest, ap length t.whole ∙ length-append t.text rest) in
@@ -94,6 +91,3 @@ name_none w never = none_if (call_name_of w) (λ name e. never name ((spelled_is
 pub name_is : (w : List ℕ) (read : Option CallName) → ((name : CallName) → (read ≡ Some name) ↔ (folded w ≡ spelling name)) → read ≡ call_name_of w
 name_is w None reads = sym (name_none w (λ name e. let h : None ≡ Some name = (reads name).1 e in cc))
 name_is w (Some name) reads = sym (name_found w name ((reads name).0 refl))
-
-pub fits_push : (vs : List Value) (v : Value) (pushed : List Value) → list_all fits vs ≡ true → fits v ≡ true → pushed ≡ vs ++ v ∷ [] → list_all fits pushed ≡ true
-fits_push vs v pushed all here is = grind (arith, fits, list_all-append)

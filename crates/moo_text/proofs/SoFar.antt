@@ -15,22 +15,13 @@ pub record SoFar (start now : Side) (line : List ℕ) : Type 0 where
 abbrev pub beside : Side → List ℕ → Side
 beside a ahead = record { left = a.left; room = a.room; ended = a.ended; ahead = ahead }
 
-gives_from : (a b : Side) (ahead given : List ℕ) → ReaderGives (beside a ahead) b given → ReaderGives a b given
-gives_from a b ahead given g = record { known = g.known; stays = g.stays; at_end = g.at_end }
-
-gives_to : (a b : Side) (ahead given : List ℕ) → ReaderGives a b given → ReaderGives a (beside b ahead) given
-gives_to a b ahead given g = record { known = g.known; stays = g.stays; at_end = g.at_end }
-
-breaks_from : (a b : Side) (ahead : List ℕ) (fault : TextFault) → BreaksOff (beside a ahead) b fault → BreaksOff a b fault
-breaks_from a b ahead fault o = record { given = o.given; gives = gives_from a b ahead o.given o.gives; count = o.count }
-
 -- what was read ahead is used up, and a piece is read
 pub piece_read : {start now next : Side} {line used : List ℕ} (longer : List ℕ) → SoFar start now line → HasNoNewline now.ahead → longer ≡ take MOST_KEPT (line ++ now.ahead)
     → ReaderGives (beside now used) next next.ahead → now.room ≡ length next.ahead + next.room → SoFar start next longer
 piece_read {start} {now} {next} {line} {used} longer s none put took less = record {
   given = s.given ++ next.ahead;
   raw = s.raw ++ now.ahead;
-  gives = ReaderGives-then start now next s.given next.ahead s.gives (gives_from now next used next.ahead took);
+  gives = ReaderGives-then start now next s.given next.ahead s.gives (record { known = took.known; stays = took.stays; at_end = took.at_end });
   room = omega (arith, s.room, less, length-append s.given next.ahead);
   none = none-append s.raw now.ahead s.none none;
   kept = put ∙ ap (λ (t : List ℕ). take MOST_KEPT (t ++ now.ahead)) s.kept ∙ kept_again MOST_KEPT s.raw now.ahead;
@@ -56,7 +47,7 @@ pub found_line : {start now : Side} {line : List ℕ} (next left : List ℕ) {at
     → ReadsLine start (beside now left) (Some (strip_carriage_return next))
 found_line {start} {now} {line} next left {at} s there put is = record {
   given = s.given;
-  gives = gives_to start now left s.given s.gives;
+  gives = record { known = s.gives.known; stays = s.gives.stays; at_end = s.gives.at_end };
   room = s.room;
   holds = λ rest _. end_found (start.ahead ++ (s.given ++ rest)) line now.ahead rest next left at (behind start now line s rest) there put is;
 }
@@ -76,4 +67,4 @@ pub some_there : (n : ℕ) → (n == 0) ≡ false → 0 < n
 some_there n e = grind (arith, e)
 
 pub piece_fails : {start now next : Side} {line used : List ℕ} {fault : TextFault} → SoFar start now line → BreaksOff (beside now used) next fault → BreaksOff start next fault
-piece_fails {start} {now} {next} {line} {used} {fault} s o = gives_then_breaks start now next s.given fault s.gives s.room (breaks_from now next used fault o)
+piece_fails {start} {now} {next} {line} {used} {fault} s o = gives_then_breaks start now next s.given fault s.gives s.room (record { given = o.given; gives = record { known = o.gives.known; stays = o.gives.stays; at_end = o.gives.at_end }; count = o.count })

@@ -58,15 +58,11 @@ after_starts (d ∷ ds) c cs e = elim (cases_Bool (is_blank d)) [
       ap until_blank stays ∙ front ∙ (let a : d ≡ c = cc in let b : ds ≡ cs = cc in cc)
 ]
 
--- nothing but blanks has no words
-pub no_words : (b : List ℕ) → after_blanks b ≡ [] → words_of_line b ≡ []
-no_words b e = words_after_blanks b ∙ ap words_of_line e
-
 pub next_word_is : (b start : List ℕ) → start ≡ after_blanks b → (length start == 0) ≡ false → words_of_line b ≡ until_blank start ∷ words_of_line (from_blank start)
 next_word_is b [] is some = absurd (grind (arith, some))
 next_word_is b (c ∷ cs) is some =
     words_after_blanks b ∙ first_of (after_blanks b) c (until_blank cs) (after_starts b c cs (sym is)) ∙ ap (λ (t : List ℕ). until_blank t ∷ words_of_line (from_blank t)) (sym is)
 
 pub no_words_of : (b start : List ℕ) → start ≡ after_blanks b → (length start == 0) ≡ true → words_of_line b ≡ []
-no_words_of b [] is none = no_words b (sym is)
+no_words_of b [] is none = words_after_blanks b ∙ ap words_of_line (sym is)
 no_words_of b (c ∷ cs) is none = absurd (grind (arith, none))

@@ -74,10 +74,6 @@ pub record StopsBehind (left : Option (List ℕ)) (room : ℕ) (new : Side) (don
 abbrev pub GivesAll : Option (List ℕ) → List ℕ → Type 0
 GivesAll left given = IfSome left (λ text. given ≡ text)
 
--- if the reader tells its bytes, these come first
-abbrev pub GivesFront : Option (List ℕ) → List ℕ → Type 0
-GivesFront left given = IfSome left (λ text. (rest : List ℕ) × (text ≡ given ++ rest))
-
 -- ---- of what reads the lines of a text, before and after
 
 -- the first line of the text is read; no line if the text is at its end

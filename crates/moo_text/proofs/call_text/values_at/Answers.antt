@@ -1,4 +1,5 @@
-use Rattle.moo_text.{proofs.Shared.{◌≡◌, ◌++◌, [], ◌∷◌, Some, arith, rules, sym, ap, ◌∙◌, after_mark}, proofs.Reading.{one_read, closed_read, comma_read, front_shorter, mark_shorter, fits_push}, proofs.Giving.{handed_on}}
+use Rattle.moo_text.{proofs.Shared.{fits, ◌≡◌, ◌++◌, [], ◌∷◌, Some, arith, rules, sym, ap, ◌∙◌, after_mark}, proofs.Reading.{one_read, closed_read, comma_read, front_shorter, mark_shorter}, proofs.Giving.{handed_on}}
+use Rattle.std.proofs.lemmas.List.Folds.{list_all-append}
 use Rattle.moo_text.proofs.call_text.values_at.Goals as goal
 
 pub returns-then-is_all_blank-clause-ok : goal.returns-then-is_all_blank-clause-ok
@@ -19,6 +20,6 @@ loop-values-preserved c =
     let comma : after_mark 44 c.in_ok-value.after.now ≡ Some c.in_ok-rest.rest.now = search rules in
     let pushed : c.push.new.self.items ≡ c.loop-values.values.items ++ c.in_ok-value.value ∷ [] = search rules in
     record {
-      fit = fits_push c.loop-values.values.items c.in_ok-value.value c.push.new.self.items c.loop-values.invariant.fit (search rules) pushed;
+      fit = grind (arith, fits, list_all-append, c.loop-values.invariant.fit);
       goes_on = comma_read one (search rules) comma (omega (arith, mark_shorter 44 c.in_ok-value.after.now c.in_ok-rest.rest.now comma)) pushed;
     }

@@ -1,4 +1,4 @@
-use Rattle.moo_text.{proofs.Shared.{ReadsLine, lines_side, ◌≡◌, ◌<◌, ◌+◌, true, false, ℕ, List, Some, None, length, drop, sym, ap, subst, ◌∙◌, arith, rules, ◌==◌, position_from, length-drop}, proofs.Kept.{kept_short, no_newline, newline_there, text_ends, last_line}, proofs.Giving.{handed_on}, proofs.SoFar.{beside, piece_read, room_falls, some_there, found_line, ends_with, piece_fails}}
+use Rattle.moo_text.{proofs.Shared.{[], refl, append-nil, eqb-true, ReadsLine, lines_side, ◌≡◌, ◌<◌, ◌+◌, true, false, ℕ, List, Some, None, length, drop, sym, ap, subst, ◌∙◌, arith, rules, ◌==◌, position_from, length-drop}, proofs.Kept.{kept_short, no_newline, newline_there, last_line}, proofs.Giving.{handed_on}, proofs.SoFar.{beside, piece_read, room_falls, some_there, found_line, ends_with, piece_fails}}
 use Rattle.moo_text.proofs.lines.LineReader.read_line.Goals as goal
 use Rattle.std.proofs.Math.Seq.{drop-length}
 use Rattle.moo_text.specs.declared.lines.TheConstants.{MOST_KEPT}
@@ -32,7 +32,7 @@ returns-then-is_empty g c =
       cause = tt;
       ends = over;
       falls = omega (arith, room_falls so);
-      line = ends_with None so over (λ text l. text_ends text line l zero);
+      line = ends_with None so over (λ text l. let raw : l.raw ≡ [] = grind (arith, ap length (sym l.kept) ∙ eqb-true (length line) 0 zero) in (l.whole ∙ append-nil l.raw ∙ raw, refl));
     }
 
 pub returns-then-not-branch : goal.returns-then-not-branch
