@@ -1,9 +1,9 @@
 -- The lines that are printed from the rows are those of the world.
 use Rattle.moo_dump.{proofs.Words.{arith, ◌||◌, ◌≡◌, ℕ, Bool, true, false, Option, Some, None, List, [], ◌∷◌, ◌++◌, refl, sym, ap, ◌∙◌, unwrap_or, option_map, filter, flat_map, AllByRecursion, entries, ObjNo, ObjRow, PropId, Maps, same_object, same_object-Decides, world_of, Entry, walk, verb_line, object_lines, ids_defined, property_line_of, slot_line_of, slot_lines_over, objects_text}, specs.Dump.{object_line, property_line, slot_line, owed_line, record_lines}, specs.Lines.{slot_line_by}, proofs.FlatMaps.{flat_map-map, flat_map-flat_map, flat_map-alike, all_passing}}
 use Rattle.std.{specs.Prelude.{is_some}, specs.FinMap.{get-entries, entries_sorted, find, get}, proofs.lemmas.Bool.{or_right, false≢true}}
-use Rattle.moo_rows.{specs.declared.row.PropRow.{PropRow}, specs.declared.row.SlotRow.{SlotRow}, specs.Maps.{prop_cmp}, proofs.Orders.{prop_total}}
+use Rattle.moo_rows.{specs.declared.row.PropRow.{PropRow}, specs.declared.row.SlotRow.{SlotRow}, specs.Exact.{prop_exact}, proofs.Orders.{prop_total}}
 use Rattle.moo_world.{specs.Objects.{Name, folded, is_among}, specs.World.{World, WorldObject, Slot, is_object, chain, property_names_of, defined_by, defined_by_any, directory_of, slot_of}, specs.Rows.{IsSound, IsGood, look_ups, world_shown, object_shown, slot_seen}, proofs.Shown.EntriesInOrder.{own_entries, all_weaker}, proofs.Shown.ObjectEntries.{objects_listed}, proofs.Shown.PairLists.{some_of}, proofs.Shown.Seen.{object_seen}}
-use Rattle.moo_props.{proofs.DefinedNames.{names_listed}, proofs.Gains.{slot_on_heir}, proofs.Walked.{here_seen}}
+use Rattle.moo_props.{proofs.DefinedNames.{names_listed}, proofs.Gains.{slot_on_heir}, proofs.Walked.{all_held, here_seen}}
 use Rattle.moo_verbs.proofs.Found.{walked_rows}
 
 -- each object of a list is among them
@@ -19,9 +19,6 @@ module _ (t : Maps) where
   abbrev IsHeld : PropId × PropRow → Type 0
   IsHeld e = get t.props e.0 ≡ Some e.1
 
-  props_held : AllByRecursion IsHeld (entries t.props)
-  props_held = all_weaker (λ e. find prop_cmp e.0 (entries t.props) ≡ Some e.1) IsHeld (λ e h. get-entries t.props e.0 ∙ h) (entries t.props) (own_entries prop_cmp prop_total (entries t.props) (entries_sorted t.props))
-
   abbrev defined_among : ObjNo → List (PropId × PropRow)
   defined_among d = filter (λ e. same_object e.1.definer d) (entries t.props)
 
@@ -30,7 +27,7 @@ module _ (t : Maps) where
   defined_alike sound d f g h =
       flat_map-map f (λ e. e.0) (defined_among d)
       ∙ flat_map-alike (λ e. IsHeld e × (same_object e.1.definer d ≡ true)) (λ e. f e.0) (λ e. g e.1.name) (λ e k. h e.0 e.1 k.0 ((same_object-Decides e.1.definer d).0 k.1)) (defined_among d)
-      (all_passing IsHeld (λ e. same_object e.1.definer d) (entries t.props) props_held)
+      (all_passing IsHeld (λ e. same_object e.1.definer d) (entries t.props) (all_held prop_total prop_exact t.props))
       ∙ sym (flat_map-map g (λ (e : PropId × PropRow). e.1.name) (defined_among d))
       ∙ ap (flat_map g) (names_listed t sound d)
 

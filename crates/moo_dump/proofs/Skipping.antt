@@ -10,13 +10,10 @@ module _ (t : Maps) where
   pub leads_up : IsTree (world_of t) → (x : ObjNo) (row : ObjRow) → Some row ≡ get t.objects x → ids_defined t x ≡ [] → LeadsUp t x row.parent
   leads_up tree x row there none = grind (arith, chain_of_row)
 
-  pub leads_on : (x y z : ObjNo) → LeadsUp t x y → LeadsUp t y z → LeadsUp t x z
-  leads_on x y z a b = record { nearer = omega (arith, a.nearer, b.nearer); same = λ u. a.same u ∙ b.same u }
-
   -- all of a way lead on
   pub all_on : (l : List ObjNo) (y z : ObjNo) → AllByRecursion (λ x. LeadsUp t x y) l → LeadsUp t y z → AllByRecursion (λ x. LeadsUp t x z) l
   all_on [] y z a b = tt
-  all_on (x ∷ l) y z a b = (leads_on x y z a.0 b, all_on l y z a.1 b)
+  all_on (x ∷ l) y z a b = (record { nearer = omega (arith, a.0.nearer, b.nearer); same = λ u. a.0.same u ∙ b.same u }, all_on l y z a.1 b)
 
   -- where the way goes on, at or past p, the lines of slots are those from p up
   over_past : (z p r : ObjNo) → (r ≡ p) ⊎ LeadsUp t p r → slot_lines_over t z (chain (world_of t) p) ≡ slot_lines_over t z (chain (world_of t) r)

@@ -12,14 +12,6 @@ front_taken a b text h = record { front = take h.0 text; rest = drop h.0 text; w
 pub taken_front : (a b : Option (List ℕ)) (text : List ℕ) → AppendsFront a b text → (count : ℕ) × Appends a b (take count text)
 taken_front a b text h = (length h.front, subst (Appends a b) (sym (ap (take (length h.front)) h.whole ∙ take_at h.front h.rest (length h.front) refl)) h.wrote)
 
--- a front of the first of two texts is one of both
-pub front_before : (a b : Option (List ℕ)) (xs ys : List ℕ) → AppendsFront a b xs → AppendsFront a b (xs ++ ys)
-front_before a b xs ys h = record { front = h.front; rest = h.rest ++ ys; whole = ap (λ (t : List ℕ). t ++ ys) h.whole ∙ append_assoc h.front h.rest ys; wrote = h.wrote }
-
--- so is the first with a front of the second
-pub front_then : (a b c : Option (List ℕ)) (xs ys : List ℕ) → Appends a b xs → AppendsFront b c ys → AppendsFront a c (xs ++ ys)
-front_then a b c xs ys p h = grind (arith, append_assoc, Appends-trans)
-
 -- ---- a text that is written in parts
 
 -- so much of the text is written, and the rest is left
@@ -38,7 +30,7 @@ pub written_all : (a b : Option (List ℕ)) (text : List ℕ) → HasWritten a b
 written_all a b text h = subst (Appends a b) (sym (h.whole ∙ append-nil h.done)) h.wrote
 
 pub written_part : (a b c : Option (List ℕ)) (xs left text : List ℕ) → HasWritten a b (xs ++ left) text → AppendsFront b c xs → AppendsFront a c text
-written_part a b c xs left text h p = subst (AppendsFront a c) (sym h.whole) (front_then a b c h.done (xs ++ left) h.wrote (front_before b c xs left p))
+written_part a b c xs left text h p = subst (AppendsFront a c) (sym h.whole) (grind (arith, append_assoc, Appends-trans, h.wrote, record { front = p.front; rest = p.rest ++ left; whole = ap (λ (t : List ℕ). t ++ left) p.whole ∙ append_assoc p.front p.rest left; wrote = p.wrote }))
 
 -- ---- pieces, as they are written
 
