@@ -19,13 +19,14 @@ seen-written of put f g same is counted = λ i.
 -- a change is put over the rows below, or there is no memory for it: what the draft is seen as says so
 module _ {K X T E : Type 0} {cmp : K → K → Ordering} (total : IsTotalOrder cmp) (exact : CmpEqualImpliesEq cmp) (of : Maps → FinMap cmp X) (put : FinMap cmp X → Maps → Maps)
     {before now : Held} (same : before ≡ now) (r : Result T E) (below : FinMap cmp X) (old new : FinMap cmp (Option X)) (count : ℕ) (seen : of before.maps ≡ overlaid below old) where
-  pub seen-put : (key : K) (o : Option X) → OnOk r ((new ≡ insert old key o) × (count ≡ before.writes + 1))
+  pub seen-put : (key : K) (o : Option X) → OnOk r ((new ≡ insert old key o) × (count ≡ before.writes + 1)) → OnErr r ((new ≡ old) × (count ≡ before.writes))
       → OnOk r (record before { maps = put (overlaid below new) before.maps; writes = count } ≡ record now { maps = put (changed (of now.maps) key o) now.maps; writes = now.writes + 1 })
-  seen-put key o ok = on_ok_weaker r (λ (h : (new ≡ insert old key o) × (count ≡ before.writes + 1)). seen-written of put (λ m. changed m key o) (λ n. n + 1) same
-      (ap (overlaid below) h.0 ∙ overlaid-insert total exact below old key o ∙ sym (ap (λ m. changed m key o) seen)) h.1) ok
-
-  pub seen-refused : OnErr r ((new ≡ old) × (count ≡ before.writes)) → OnErr r (record before { maps = put (overlaid below new) before.maps; writes = count } ≡ record now { maps = put (of now.maps) now.maps })
-  seen-refused err = on_err_weaker r (λ (h : (new ≡ old) × (count ≡ before.writes)). seen-written of put (λ m. m) (λ n. n) same (ap (overlaid below) h.0 ∙ sym seen) h.1) err
+        × OnErr r (record before { maps = put (overlaid below new) before.maps; writes = count } ≡ record now { maps = put (of now.maps) now.maps })
+  seen-put key o ok err = (
+    on_ok_weaker r (λ (h : (new ≡ insert old key o) × (count ≡ before.writes + 1)). seen-written of put (λ m. changed m key o) (λ n. n + 1) same
+        (ap (overlaid below) h.0 ∙ overlaid-insert total exact below old key o ∙ sym (ap (λ m. changed m key o) seen)) h.1) ok,
+    on_err_weaker r (λ (h : (new ≡ old) × (count ≡ before.writes)). seen-written of put (λ m. m) (λ n. n) same (ap (overlaid below) h.0 ∙ sym seen) h.1) err,
+  )
 
 -- ---- links
 
@@ -45,13 +46,10 @@ may-as-put total r old new k sets link l q is kept ok =
 pub draft-covers : (below : FinMap object_cmp ObjRow) (changes : FinMap object_cmp (Option ObjRow)) (own : OwnLinks) → EitherCovers (get below) (of_changes changes) own
     → (link : Link) (q : ObjNo) → is_candidate_of_either (get below) changes own link q ≡ false → row_has link (get (overlaid below changes) q) ≡ false
 draft-covers below changes own covers link q h =
-    ap (row_has link) (get-overlaid object_total below changes q) ∙ by (is_to_nothing link) (is_that own.first q) (get changes q) (covers link q) apart
+    ap (row_has link) (get-overlaid object_total below changes q) ∙ by (is_to_nothing link) (is_that own.first q) (get changes q) (covers link q) (or_second (row_has link (get below q)) (is_own_candidate own changes link q) h)
   where
     lacks : row_has link (get below q) ≡ false
     lacks = or_first (row_has link (get below q)) (is_own_candidate own changes link q) h
-
-    apart : is_own_candidate own changes link q ≡ false
-    apart = or_second (row_has link (get below q)) (is_own_candidate own changes link q) h
 
     by : (b first : Bool) (o : Option (Option ObjRow))
         → ((first || (b || is_kept own.others link q)) ≡ false → row_has link (get below q) ≡ false → row_has link (unwrap_or o None) ≡ false)

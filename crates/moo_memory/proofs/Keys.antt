@@ -1,7 +1,7 @@
 -- Properties, kept by a key of their rows: exactly those that have it, after more are kept and some are forgotten.
-use Rattle.moo_memory.{proofs.Words.{arith, ◌≡◌, ◌≢◌, true, false, cond, Option, None, Some, Ordering, is_some, sym, ap, ◌∙◌, eq_by_cmp, FinMap, get, insert, get-remove, get-insert, PropId, prop_cmp, slot_cmp, named_cmp, AreOfDefiners, AreByName, tag_of, ⊤}, specs.Forgotten.{AddsAtMost, AreKeysOf, ForgetsKey}, proofs.Keeping.{differs, had-insert, had-removed}}
+use Rattle.moo_memory.{proofs.Words.{arith, ◌≡◌, ◌≢◌, true, false, cond, Option, None, Some, Ordering, is_some, sym, ap, ◌∙◌, eq_by_cmp, FinMap, get, insert, get-remove, get-insert, PropId, prop_cmp, slot_cmp, named_cmp, AreOfDefiners, List, name_hash, named-covers, row_named, tag_of, ⊤}, specs.Forgotten.{AddsAtMost, AreKeysOf, ForgetsKey}, proofs.Keeping.{differs, had-insert, had-removed}}
 use Rattle.std.proofs.lemmas.Bool.{false_from_ne_true}
-use Rattle.std.{specs.Prelude.{◌↔◌, OnErr, OnOk}, specs.FinMap.{remove}, specs.Option.{option_map}, proofs.Common.{Result, inl, inr}, specs.Cmp.{IsTotalOrder}, proofs.lemmas.Bool.{true≢false}, proofs.lemmas.Bool.Decides.{Decides-int_eq}, proofs.lemmas.Map.Lookups.{CmpEqualImpliesEq}, proofs.lemmas.Option.{none-some, same_Some}}
+use Rattle.std.{specs.Prelude.{ℕ, ◌↔◌, OnErr, OnOk}, specs.FinMap.{remove}, specs.Option.{option_map}, proofs.Common.{Result, inl, inr}, specs.Cmp.{IsTotalOrder}, proofs.lemmas.Bool.{true≢false}, proofs.lemmas.Bool.Decides.{Decides-int_eq}, proofs.lemmas.Map.Lookups.{CmpEqualImpliesEq}, proofs.lemmas.Option.{none-some, same_Some}}
 use Rattle.moo_rows.specs.declared.row.PropRow.{PropRow}
 use Rattle.moo_value.specs.declared.value.ObjNo.{ObjNo}
 
@@ -68,8 +68,10 @@ module _ {K : Type 0} {cmp : K × PropId → K × PropId → Ordering} (of : Pro
 pub keys-define : (row_at : PropId → Option PropRow) (definers : FinMap slot_cmp ⊤) → AreKeysOf (λ row. row.definer) row_at definers → AreOfDefiners row_at definers
 keys-define row_at definers keys x id lacks = grind (arith, false_from_ne_true, Decides-int_eq, true≢false)
 
-pub keys-name : (row_at : PropId → Option PropRow) (names : FinMap named_cmp ⊤) → AreKeysOf tag_of row_at names → AreByName row_at names
-keys-name row_at names keys id row is = (keys (tag_of row) id).1 (ap (option_map tag_of) is)
+pub keys-name : (row_at : PropId → Option PropRow) (names : FinMap named_cmp ⊤) → AreKeysOf tag_of row_at names → (x : ObjNo) (name : List ℕ) (hash : ℕ) → hash ≡ name_hash name
+    → (q : PropId) → is_some (get names ((x, hash), q)) ≡ false → row_named x name (row_at q) ≡ false
+keys-name row_at names keys x name hash is q e =
+    named-covers row_at names (λ id row found. (keys (tag_of row) id).1 (ap (option_map tag_of) found)) x name q (ap (λ h. is_some (get names ((x, h), q))) (sym is) ∙ e)
 
 -- no row, and nothing that is kept
 pub keys-of-nothing : {K : Type 0} {cmp : K × PropId → K × PropId → Ordering} (of : PropRow → K) (row_at : PropId → Option PropRow) (kept : FinMap cmp ⊤)

@@ -4,20 +4,13 @@ use Rattle.std.proofs.lemmas.List.{nil_from_length}
 use Rattle.std.{specs.Cmp.{IsTotalOrder}, specs.BTreeMap.{BTreeMap}, proofs.lemmas.Map.Lookups.{CmpEqualImpliesEq}}
 use Rattle.moo_rows.{specs.Walk.{entries_past}, proofs.Walking.{next-step, onward}}
 
-by_or : (b : Bool) → IsTrue (b || false) → IsTrue b
-by_or b h = grind arith
-
 module _ {K X : Type 0} {cmp : K → K → Ordering} (row_at : K → Option X) (changes : FinMap cmp (Option X)) where
   -- no row where neither has the key
   pub none_over : (q : K) → (row_at q ≡ None) × (get changes q ≡ None) → row_over row_at changes q ≡ None
   none_over q h = ap (λ o. unwrap_or o (row_at q)) h.1 ∙ h.0
 
-  -- a row where one has the key and it isn't removed
-  held_over : (q : K) → IsTrue (is_some (row_at q) || is_some (get changes q)) → get changes q ≢ Some None → IsSome (row_over row_at changes q)
-  held_over q h kept = grind arith
-
   pub next_held : (from : Option K) (key : K) → IsNextOfEither row_at changes from (Some key) → get changes key ≢ Some None → IsNextAt cmp (row_over row_at changes) from (Some key)
-  next_held from key h kept = (held_over key h.0 kept, h.1, λ q past less. none_over q (h.2 q past less))
+  next_held from key h kept = (grind (arith, h.0), h.1, λ q past less. none_over q (h.2 q past less))
 
   module _ (total : IsTotalOrder cmp) (exact : CmpEqualImpliesEq cmp) where
     split_at : (key q : K) → (cmp q key ≡ Less → row_over row_at changes q ≡ None) → row_over row_at changes key ≡ None

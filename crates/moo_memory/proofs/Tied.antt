@@ -39,10 +39,6 @@ module _ (x : ObjNo) where
   tied_order : (a b : ObjNo) → tie_cmp (x, a) (x, b) ≡ object_cmp a b
   tied_order a b = ap (λ o. ordering_then o (object_cmp a b)) (tied_itself object_total x)
 
-  -- a later pair of another object is past each of x
-  past_all : (a q : ObjNo) (p : ObjNo × ObjNo) → tie_cmp (x, a) p ≡ Less → int_eq p.0.0 x.0 ≡ false → tie_cmp (x, q) p ≡ Less
-  past_all a q p less other = grind (arith, true≢false, Decides-int_eq)
-
   module _ (t : Maps) (link : Link) where
     pub tied_linked : (after : ObjNo) (es : List ((ObjNo × ObjNo) × ⊤)) → T (below_all tie_cmp (x, after) es) → T (is_sorted tie_cmp es)
         → ((q : ObjNo) → object_cmp after q ≡ Less → is_some (find tie_cmp (x, q) es) ≡ false → is_linked t link q ≡ false)
@@ -64,9 +60,6 @@ module _ (x : ObjNo) where
         lacks : (q : ObjNo) → tie_cmp (x, q) e.0 ≡ Less → is_some (find tie_cmp (x, q) (e ∷ es)) ≡ false
         lacks q less = ap is_some (elsewhere tie_cmp (x, q) e es (ap is_eq less) ∙ below tie_cmp tie_total (x, q) e.0 es less (first_of (below_all tie_cmp e.0 es) (is_sorted tie_cmp es) sorted))
 
-        later : (q : ObjNo) → is_eq (tie_cmp (x, q) e.0) ≡ false → is_some (find tie_cmp (x, q) es) ≡ false → is_some (find tie_cmp (x, q) (e ∷ es)) ≡ false
-        later q apart none = ap is_some (elsewhere tie_cmp (x, q) e es apart) ∙ none
-
         own : e.0 ≡ (x, k) → (T (below_all tie_cmp (x, k) es) → Covers k → Lists k) → (Covers after → Lists after) → cond (is_linked t link k) (k ∷ tied_to x (is_linked t link) es) (tied_to x (is_linked t link) es) ≡ map (λ e. e.0) (linked_left link after t)
         own key from_k from_after = by (is_linked t link k) refl
           where
@@ -76,28 +69,25 @@ module _ (x : ObjNo) where
             past : object_cmp after k ≡ Less
             past = sym (order after) ∙ less_of (tie_cmp (x, after) e.0) (first_of (is_lt (tie_cmp (x, after) e.0)) (below_all tie_cmp (x, after) es) low)
 
-            above : (q : ObjNo) → object_cmp k q ≡ Less → is_eq (tie_cmp (x, q) e.0) ≡ false
-            above q less = ap is_eq (order q ∙ object_total.antisymm q k ∙ ap ordering_reverse less)
-
             by : (b : Bool) → is_linked t link k ≡ b
                 → cond b (k ∷ tied_to x (is_linked t link) es) (tied_to x (is_linked t link) es) ≡ map (λ e. e.0) (linked_left link after t)
             by true has =
                 ap (λ l. k ∷ l) (from_k (subst (λ p. T (below_all tie_cmp p es)) key (first_of (below_all tie_cmp e.0 es) (is_sorted tie_cmp es) sorted))
-                (λ q far none. covers q (object_total.trans after k q past far) (later q (above q far) none)))
+                (λ q far none. covers q (object_total.trans after k q past far) (ap is_some (elsewhere tie_cmp (x, q) e es (ap is_eq (order q ∙ object_total.antisymm q k ∙ ap ordering_reverse far))) ∙ none)))
                 ∙ sym (linked_first t link after k (has, past, λ q far less. covers q far (lacks q (order q ∙ less))))
             by false has = from_after (λ q far none. among q far none (object_cmp q k) refl)
               where
                 among : (q : ObjNo) → object_cmp after q ≡ Less → is_some (find tie_cmp (x, q) es) ≡ false → (o : Ordering) → object_cmp q k ≡ o → is_linked t link q ≡ false
                 among q far none Equal o = ap (is_linked t link) (object_exact q k o) ∙ has
-                among q far none Less o = covers q far (later q (ap is_eq (order q ∙ o)) none)
-                among q far none Greater o = covers q far (later q (ap is_eq (order q ∙ o)) none)
+                among q far none Less o = covers q far (ap is_some (elsewhere tie_cmp (x, q) e es (ap is_eq (order q ∙ o))) ∙ none)
+                among q far none Greater o = covers q far (ap is_some (elsewhere tie_cmp (x, q) e es (ap is_eq (order q ∙ o))) ∙ none)
 
         by : (b : Bool) → int_eq e.0.0.0 x.0 ≡ b → (T (below_all tie_cmp (x, k) es) → Covers k → Lists k) → (Covers after → Lists after)
             → cond b (cond (is_linked t link k) (k ∷ tied_to x (is_linked t link) es) (tied_to x (is_linked t link) es)) [] ≡ map (λ e. e.0) (linked_left link after t)
         by true same from_k from_after =
             let number = (Decides-int_eq e.0.0.0 x.0).0 same in
             own (λ i. (record { 0 = number i }, k)) from_k from_after
-        by false other from_k from_after = sym (linked_end t link after (λ q far. covers q far (lacks q (past_all after q e.0 (less_of (tie_cmp (x, after) e.0) (first_of (is_lt (tie_cmp (x, after) e.0)) (below_all tie_cmp (x, after) es) low)) other))))
+        by false other from_k from_after = sym (linked_end t link after (λ q far. covers q far (lacks q (grind (arith, true≢false, Decides-int_eq, less_of (tie_cmp (x, after) e.0) (first_of (is_lt (tie_cmp (x, after) e.0)) (below_all tie_cmp (x, after) es) low))))))
 
     -- the partners of x past `after` that have the link are those objects that have it, if all of these are among its partners
     pub tied_left : (pairs : BTreeMap (ObjNo × ObjNo) ⊤) (after : ObjNo) → IsOrdered tie_cmp pairs
@@ -120,9 +110,6 @@ module _ (x : ObjNo) where
     tied_all [] all = refl
     tied_all (e ∷ es) all = by (int_eq e.0.0.0 x.0) refl (tied_all es rest)
       where
-        first : tie_cmp (x, e.0.1) (x, e.0.1) ≡ Equal
-        first = tied_itself tie_total (x, e.0.1)
-
         rest : (q : ObjNo) → is_some (find tie_cmp (x, q) es) ≡ true → is_linked t link q ≡ true
         rest q h = later (is_eq (tie_cmp (x, q) e.0)) refl
           where
@@ -134,7 +121,7 @@ module _ (x : ObjNo) where
         by true same after =
             let number = (Decides-int_eq e.0.0.0 x.0).0 same in
             let key : e.0 ≡ (x, e.0.1) = λ i. (record { 0 = number i }, e.0.1) in
-            let own : is_linked t link e.0.1 ≡ true = all e.0.1 (ap is_some (here tie_cmp (x, e.0.1) e es (ap (λ p. is_eq (tie_cmp (x, e.0.1) p)) key ∙ ap is_eq first))) in
+            let own : is_linked t link e.0.1 ≡ true = all e.0.1 (ap is_some (here tie_cmp (x, e.0.1) e es (ap (λ p. is_eq (tie_cmp (x, e.0.1) p)) key ∙ ap is_eq (tied_itself tie_total (x, e.0.1))))) in
             ap (λ l. e.0.1 ∷ l) after ∙ sym (ap (λ b. cond b (e.0.1 ∷ tied_to x (is_linked t link) es) (tied_to x (is_linked t link) es)) own)
         by false other after = refl
 

@@ -1,11 +1,8 @@
-use Rattle.moo_memory.{proofs.Words.{Some, refl, object_exact, object_total, get, ap, ◌∙◌, contents, object_cmp, has_link, of_changes, may_have_own}, proofs.Drafts.{seen-put, seen-refused, either-change, either-more, put-there}}
+use Rattle.moo_memory.{proofs.Words.{Some, refl, object_exact, object_total, get, ap, ◌∙◌, contents, object_cmp, has_link, of_changes, may_have_own}, proofs.Drafts.{seen-put, either-change, either-more, put-there}}
 use Rattle.moo_memory.proofs.draft.DraftRows.put_object.Goals as goal
 
-pub returns-clause-ok : goal.returns-clause-ok
-returns-clause-ok g c = seen-put object_total object_exact (λ t. t.objects) (λ m t. record t { objects = m }) c.self.view_is c.put.result _ _ _ _ refl c.args.key (Some c.args.row) c.put.ensures.ok
-
-pub returns-clause-err : goal.returns-clause-err
-returns-clause-err g c = seen-refused object_total object_exact (λ t. t.objects) (λ m t. record t { objects = m }) c.self.view_is c.put.result _ _ _ _ refl c.put.ensures.err
+pub returns : goal.returns
+returns g c = let seen = seen-put object_total object_exact (λ t. t.objects) (λ m t. record t { objects = m }) c.self.view_is c.put.result _ _ _ _ refl c.args.key (Some c.args.row) c.put.ensures.ok c.put.ensures.err in record { ok = seen.0; err = seen.1 }
 
 pub invariant_of-self-2 : goal.invariant_of-self-2
 invariant_of-self-2 g c =

@@ -1,11 +1,8 @@
-use Rattle.moo_memory.{proofs.Words.{Some, refl, sym, ap, ◌∙◌, subst, is_some, get, insert, prop_exact, prop_total, slot_total, contents, prop_cmp, slot_cmp, named_cmp, lacked-insert, of_changes, AreByName, Tag}, proofs.Drafts.{seen-put, seen-refused, draft-put, draft-tag}}
+use Rattle.moo_memory.{proofs.Words.{Some, refl, sym, ap, ◌∙◌, subst, is_some, get, insert, prop_exact, prop_total, slot_total, contents, prop_cmp, slot_cmp, named_cmp, lacked-insert, of_changes, AreByName, Tag}, proofs.Drafts.{seen-put, draft-put, draft-tag}}
 use Rattle.moo_memory.proofs.draft.DraftRows.put_prop.Goals as goal
 
-pub returns-clause-ok : goal.returns-clause-ok
-returns-clause-ok g c = seen-put prop_total prop_exact (λ t. t.props) (λ m t. record t { props = m }) c.self.view_is c.put-3.result _ _ _ _ refl c.args.key (Some c.args.row) c.put-3.ensures.ok
-
-pub returns-clause-err : goal.returns-clause-err
-returns-clause-err g c = seen-refused prop_total prop_exact (λ t. t.props) (λ m t. record t { props = m }) c.self.view_is c.put-3.result _ _ _ _ refl c.put-3.ensures.err
+pub returns : goal.returns
+returns g c = let seen = seen-put prop_total prop_exact (λ t. t.props) (λ m t. record t { props = m }) c.self.view_is c.put-3.result _ _ _ _ refl c.args.key (Some c.args.row) c.put-3.ensures.ok c.put-3.ensures.err in record { ok = seen.0; err = seen.1 }
 
 pub invariant_of-self-in_err-put-2 : goal.invariant_of-self-in_err-put-2
 invariant_of-self-in_err-put-2 g c = (

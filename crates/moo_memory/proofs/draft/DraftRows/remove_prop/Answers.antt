@@ -3,7 +3,7 @@ use Rattle.moo_memory.{proofs.Words.{None, refl, prop_exact, prop_total, content
 use Rattle.moo_memory.proofs.draft.DraftRows.remove_prop.Goals as goal
 
 pub returns-clause-ok : goal.returns-clause-ok
-returns-clause-ok g c = seen-put {T = ⊤} {E = ⊤} prop_total prop_exact (λ t. t.props) (λ m t. record t { props = m }) c.self.view_is (Ok tt) _ _ _ _ refl c.args.key None c.in_ok-put.ensures.ok
+returns-clause-ok g c = (seen-put {T = ⊤} {E = ⊤} prop_total prop_exact (λ t. t.props) (λ m t. record t { props = m }) c.self.view_is (Ok tt) _ _ _ _ refl c.args.key None c.in_ok-put.ensures.ok tt).0
 
 pub invariant_of-self-2 : goal.invariant_of-self-2
 invariant_of-self-2 g c = (
