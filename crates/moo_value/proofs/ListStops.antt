@@ -1,5 +1,5 @@
 -- Where reading a list stops, and any value.
-use Rattle.moo_value.{proofs.Words.{◌≡◌, ℕ, zero, suc, ◌+◌, ◌-◌, ◌≤◌, Bool, true, false, inl, inr, List, [], ◌∷◌, ◌++◌, length, drop, Ok, Err, refl, sym, ap, subst, ◌∙◌, append_assoc, arith, ◌==◌, eqb-true, length-append, append-nil, drop_at, LiteralFault, NotALiteral, TooDeep, Value, a_list, IsText, Values, no_values, levels, prepend, nesting, is_blank, AreBlanks, Comma, SpellsItems, SpellsToken, Spells, HoldInside, HoldIn, InRange, Ends, NumberBut, TextBut, DepthBut, MayBreak, Read, ◌>>=◌, after_blanks, token_at, opened_at, items_at, value_at, chosen, is_err, no_err, bind_err}, proofs.ReadOrRefused.{all_deep, all_in, value_again}, proofs.Results.{bind_which}, proofs.Items.{item_at, no_blank, skipped}, proofs.Lists.{and_others, blanks_taken, blanks_skipped, items_more, item_spelled, item_holds, item_levels, value_taken, takes, item_front, step_at, item_view}, proofs.Stops.{Stop, SameHead, at_head, behind, behind_more, at_once, at_end}, proofs.Tokens.{Fine, Goes, flat, zero_fits, token_stop}}
+use Rattle.moo_value.{proofs.Words.{◌≡◌, ℕ, zero, suc, ◌+◌, ◌-◌, ◌≤◌, Bool, true, false, inl, inr, List, [], ◌∷◌, ◌++◌, length, drop, Ok, Err, refl, sym, ap, subst, ◌∙◌, append_assoc, arith, ◌==◌, eqb-true, length-append, append-nil, drop_at, LiteralFault, NotALiteral, TooDeep, Value, a_list, IsText, Values, no_values, levels, prepend, nesting, is_blank, AreBlanks, Comma, SpellsItems, SpellsToken, Spells, HoldInside, HoldIn, InRange, Ends, NumberBut, TextBut, DepthBut, MayBreak, Read, ◌>>=◌, after_blanks, token_at, opened_at, items_at, value_at, chosen, is_err, no_err, bind_err}, proofs.ReadOrRefused.{all_deep, all_in, value_again}, proofs.Items.{item_at, no_blank, skipped}, proofs.Lists.{and_others, blanks_taken, blanks_skipped, items_more, item_spelled, item_holds, item_levels, value_taken, takes, item_front, step_at, item_view}, proofs.Stops.{Stop, SameHead, at_head, behind, behind_more, at_once, at_end}, proofs.Tokens.{token_met, Fine, Goes, flat, zero_fits}}
 
 abbrev pub FineItems : ℕ → Bool → List ℕ → Type 0
 FineItems l first t = (vs : Values) × HoldInside InRange IsText vs × (levels vs ≤ l) × SpellsItems first vs t
@@ -10,21 +10,9 @@ GoesItems l first f c t = MayBreak f c × ((vs : Values) × HoldInside (NumberBu
 abbrev pub ValueStops : ℕ → Type 0
 ValueStops l = (b : List ℕ) (f : LiteralFault) → value_at l b ≡ Err f → Stop (value_at l) (Fine Spells l) (Goes Spells l) b f
 
-end_spelled : (first : Bool) → SpellsItems first no_values (125 ∷ [])
-end_spelled first = ([], 125 ∷ [], tt, refl, refl)
-
-nothing_fine : (l : ℕ) (first : Bool) → (more : List ℕ) × FineItems l first more
-nothing_fine l first = (125 ∷ [], (no_values, tt, flat l, end_spelled first))
-
 -- a value and the end of its list
 closed_item : (first : Bool) (v : Value) (comma t : List ℕ) → Comma first comma → Spells v t → SpellsItems first (prepend v no_values) (comma ++ (t ++ 125 ∷ []))
-closed_item first v comma t is s = item_spelled first v no_values (comma ++ (t ++ 125 ∷ [])) (comma, t, 125 ∷ [], is, s, end_spelled false, refl)
-
-pub item_deep : (f : LiteralFault) (v : Value) (vs : Values) (l : ℕ) → DepthBut f l (nesting v) → DepthBut f l (levels vs) → DepthBut f l (levels (prepend v vs))
-item_deep f v vs l d ds = grind (arith, item_levels)
-
-ends_on : (v : Value) (rest t : List ℕ) (d : ℕ) (ds : List ℕ) → rest ≡ d ∷ ds → SameHead rest t → Ends v rest → Ends v t
-ends_on v rest t d ds e same h = let s = same d ds e in grind arith
+closed_item first v comma t is s = item_spelled first v no_values (comma ++ (t ++ 125 ∷ [])) (comma, t, 125 ∷ [], is, s, ([], 125 ∷ [], tt, refl, refl), refl)
 
 blank_stop : (l : ℕ) (first : Bool) (c : ℕ) (cs : List ℕ) (f : LiteralFault) → is_blank c ≡ true → Stop (items_at (value_at l) first zero) (FineItems l first) (GoesItems l first) cs f → Stop (items_at (value_at l) first zero) (FineItems l first) (GoesItems l first) (c ∷ cs) f
 blank_stop l first c cs f here s =
@@ -62,8 +50,8 @@ by_rest l first comma f v text (d ∷ ds) is t bad s =
     (λ u fine. (prepend v fine.0, item_holds InRange IsText v fine.0 t.1 fine.1, item_levels v fine.0 l t.2 fine.2, item_spelled first v fine.0 ((comma ++ text) ++ u) (comma, text, u, is, t.0, fine.3, append_assoc comma text u)))
     (λ u same read.
     ap (items_at (value_at l) first zero) (append_assoc comma text u) ∙ item_front l first v comma text u is t.0
-    ∙ ap (and_others l) (value_again l v text u t.0 t.1 t.2 (ends_on v (d ∷ ds) u d ds refl same t.3)) ∙ ap (λ (r : Read Values). r >>= λ vs. Ok (prepend v vs.0, vs.1)) read)
-    (λ c u over. (over.0, (prepend v over.1.0, item_holds (NumberBut f) (TextBut f) v over.1.0 (all_in f v t.1) over.1.1, item_deep f v over.1.0 l (all_deep f l (nesting v) t.2) over.1.2, item_spelled first v over.1.0 ((comma ++ text) ++ u) (comma, text, u, is, t.0, over.1.3, append_assoc comma text u))))
+    ∙ ap (and_others l) (value_again l v text u t.0 t.1 t.2 (let s = same d ds refl in grind arith)) ∙ ap (λ (r : Read Values). r >>= λ vs. Ok (prepend v vs.0, vs.1)) read)
+    (λ c u over. (over.0, (prepend v over.1.0, item_holds (NumberBut f) (TextBut f) v over.1.0 (all_in f v t.1) over.1.1, grind (arith, item_levels, all_deep f l (nesting v) t.2, over.1.2), item_spelled first v over.1.0 ((comma ++ text) ++ u) (comma, text, u, is, t.0, over.1.3, append_assoc comma text u))))
     s)
 
 -- a stop in a value of a list, or behind it
@@ -73,12 +61,12 @@ item_stop : (l : ℕ) → ValueStops l → (first : Bool) (comma b cs : List ℕ
     → ((k : ℕ) → items_at (value_at l) false k cs ≡ Err f → Stop (items_at (value_at l) false zero) (FineItems l false) (GoesItems l false) (drop k cs) f)
     → step_at l b cs ≡ Err f → Stop (items_at (value_at l) first zero) (FineItems l first) (GoesItems l first) (comma ++ b) f
 item_stop l stops first comma b cs f is suffix fronts rest_stops e =
-    elim (bind_which (value_at l b) (λ v. items_at (value_at l) false (length cs - length v.1) cs >>= λ vs. Ok (prepend v.0 vs.0, vs.1)) f e) [
+    elim (grind arith) [
       | inl here ↦
           behind_more (value_at l) (Fine Spells l) (Goes Spells l) (items_at (value_at l) first zero) (FineItems l first) (GoesItems l first) b comma f
           (λ t fine. (125 ∷ [], (prepend fine.0 no_values, item_holds InRange IsText fine.0 no_values fine.1.0 tt, item_levels fine.0 no_values l fine.1.1 (flat l), closed_item first fine.0 comma t is fine.2)))
           (λ t same read. fronts t same ∙ ap (and_others l) read)
-          (λ c t over. (125 ∷ [], (over.0, (prepend over.1.0 no_values, item_holds (NumberBut f) (TextBut f) over.1.0 no_values over.1.1.0 tt, item_deep f over.1.0 no_values l over.1.1.1 (all_deep f l 0 (flat l)), closed_item first over.1.0 comma t is over.1.2))))
+          (λ c t over. (125 ∷ [], (over.0, (prepend over.1.0 no_values, item_holds (NumberBut f) (TextBut f) over.1.0 no_values over.1.1.0 tt, grind (arith, item_levels, over.1.1.1, all_deep f l 0 (flat l)), closed_item first over.1.0 comma t is over.1.2))))
           (stops b f here)
       | inr further ↦ after further.0 further.1 (bind_err (items_at (value_at l) false (length cs - length further.0.1) cs) (λ vs. (prepend further.0.0 vs.0, vs.1)) f further.2)
     ]
@@ -94,8 +82,8 @@ item_stop l stops first comma b cs f is suffix fronts rest_stops e =
         (by_rest l first comma f x.0 t.text x.1 is (t.spelled, t.fits, t.shallow, t.ends) at_rest (subst (λ (u : List ℕ). Stop (items_at (value_at l) false zero) (FineItems l false) (GoesItems l false) u f) left s))
 
 items_stop : (l : ℕ) → ValueStops l → (first : Bool) (k : ℕ) (b : List ℕ) (f : LiteralFault) → items_at (value_at l) first k b ≡ Err f → Stop (items_at (value_at l) first zero) (FineItems l first) (GoesItems l first) (drop k b) f
-items_stop l stops first zero [] f e = at_end (items_at (value_at l) first zero) (FineItems l first) (GoesItems l first) f (nothing_fine l first) (sym (is_err NotALiteral f e))
-items_stop l stops first (suc k) [] f e = at_end (items_at (value_at l) first zero) (FineItems l first) (GoesItems l first) f (nothing_fine l first) (sym (is_err NotALiteral f e))
+items_stop l stops first zero [] f e = at_end (items_at (value_at l) first zero) (FineItems l first) (GoesItems l first) f ((125 ∷ [], (no_values, tt, flat l, ([], 125 ∷ [], tt, refl, refl)))) (sym (is_err NotALiteral f e))
+items_stop l stops first (suc k) [] f e = at_end (items_at (value_at l) first zero) (FineItems l first) (GoesItems l first) f ((125 ∷ [], (no_values, tt, flat l, ([], 125 ∷ [], tt, refl, refl)))) (sym (is_err NotALiteral f e))
 items_stop l stops first (suc k) (c ∷ cs) f e = items_stop l stops first k cs f e
 items_stop l stops first zero (c ∷ cs) f e = elim (item_view l (takes l) first c cs) [
   | inl blank ↦ blank_stop l first c cs f blank.0 (items_stop l stops first zero cs f (sym blank.1 ∙ e))
@@ -106,7 +94,7 @@ items_stop l stops first zero (c ∷ cs) f e = elim (item_view l (takes l) first
   | inr (inr (inr bad)) ↦
       let h : (let r : Read Values = Err NotALiteral in r) ≡ Err f = sym (bad cs) ∙ e in
       subst (λ (g : LiteralFault). Stop (items_at (value_at l) first zero) (FineItems l first) (GoesItems l first) (c ∷ cs) g) (is_err NotALiteral f h)
-      (at_once (items_at (value_at l) first zero) (FineItems l first) (GoesItems l first) c cs NotALiteral (nothing_fine l first) bad (inl refl))
+      (at_once (items_at (value_at l) first zero) (FineItems l first) (GoesItems l first) c cs NotALiteral ((125 ∷ [], (no_values, tt, flat l, ([], 125 ∷ [], tt, refl, refl)))) bad (inl refl))
 ]
 
 -- ---- where reading a value stops
@@ -124,7 +112,7 @@ opened_stop l items f brace (c ∷ cs) e =
           behind token_at (Fine SpellsToken l) (Goes SpellsToken l) (opened_at items) (Fine SpellsToken l) (Goes SpellsToken l) (c ∷ cs) [] f
           (λ t v. v)
           (λ t same read. at_head (opened_at items) token_at c cs t same (λ ds. rw other.0 refl) ∙ read) (λ d t over. over)
-          (token_stop l (c ∷ cs) f other.1)
+          (subst (TokenMet l (c ∷ cs)) other.1 (token_met l (c ∷ cs)))
     ]
 
 spaced_stop : (l : ℕ) (items : List ℕ → Read Values) (f : LiteralFault) → ((b : List ℕ) → opened_at items b ≡ Err f → Stop (opened_at items) (Fine SpellsToken l) (Goes SpellsToken l) b f)
@@ -146,9 +134,6 @@ spaced_stop l items f stops b w (c ∷ cs) all whole after e =
     (λ d t over. (over.0, (over.1.0, over.1.1, (w, t, all, over.1.2, refl))))
     (stops (c ∷ cs) e))
 
-outer_deep : (f : LiteralFault) (a l : ℕ) → DepthBut f l a → DepthBut f (suc l) (a + 1)
-outer_deep f a l d = grind arith
-
 pub value_stop : (l : ℕ) → ValueStops l
 value_stop zero b f e =
     let w = blanks_taken b in
@@ -157,7 +142,7 @@ value_stop zero b f e =
     let is : TooDeep ≡ f = is_err TooDeep f h in
     subst (λ (g : LiteralFault). Stop (opened_at (λ _. Err TooDeep)) (Fine SpellsToken zero) (Goes SpellsToken zero) (123 ∷ cs) g) is
     (at_once (opened_at (λ _. Err TooDeep)) (Fine SpellsToken zero) (Goes SpellsToken zero) 123 cs TooDeep (zero_fits zero) (λ any. refl)
-    (inr (125 ∷ [], (tt, (a_list no_values, (tt, tt), (125 ∷ [], refl, end_spelled true))))))))
+    (inr (125 ∷ [], (tt, (a_list no_values, (tt, tt), (125 ∷ [], refl, ([], 125 ∷ [], tt, refl, refl)))))))))
     b w.0 (after_blanks b) w.1 w.2 refl e
 value_stop (suc l) b f e =
     let w = blanks_taken b in
@@ -167,6 +152,6 @@ value_stop (suc l) b f e =
     behind items (FineItems l true) (GoesItems l true) (opened_at items) (Fine SpellsToken (suc l)) (Goes SpellsToken (suc l)) cs (123 ∷ []) f
     (λ t fine. (a_list fine.0, (fine.1, omega (arith, fine.2)), (t, refl, fine.3)))
     (λ t same read. ap (λ (r : Read Values). r >>= λ vs. Ok (a_list vs.0, vs.1)) read)
-    (λ d t over. (over.0, (a_list over.1.0, (over.1.1, outer_deep f (levels over.1.0) l over.1.2), (t, refl, over.1.3))))
+    (λ d t over. (over.0, (a_list over.1.0, (over.1.1, grind (arith, over.1.2)), (t, refl, over.1.3))))
     (items_stop l (value_stop l) true zero cs f (bind_err (items cs) (λ vs. (a_list vs.0, vs.1)) f h))))
     b w.0 (after_blanks b) w.1 w.2 refl e

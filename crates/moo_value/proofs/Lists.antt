@@ -1,5 +1,5 @@
 -- Blanks, lists and values: what is read is spelled so.
-use Rattle.moo_value.{proofs.Words.{◌≡◌, ℕ, zero, suc, ◌+◌, ◌-◌, ◌<◌, ◌≤◌, ℤ, Bool, true, false, inl, inr, List, [], ◌∷◌, ◌++◌, length, drop, Ok, Err, refl, sym, ap, subst, ◌∙◌, append_assoc, arith, ◌⊎◌, ◌==◌, eqb-true, length-append, drop_at, NotALiteral, TooDeep, Value, a_list, IsText, Values, no_values, levels, prepend, nesting, is_blank, is_digit, is_word, AreBlanks, Comma, Item, SpellsItems, SpellsToken, Spells, HoldInside, HoldIn, NumberKind, InRange, Ends, Read, ◌>>=◌, after_blanks, token_at, opened_at, items_at, value_at, chosen, is_ok, bind_ok, no_ok, cases_Bool}, proofs.Stops.{SameHead}, specs.Literal.{Spaced}, proofs.Tokens.{token_taken, token_starts, TokenTaken}, proofs.Items.{TakesSome, behind_byte, first_is, comma_is, spaced_is, item_at}}
+use Rattle.moo_value.{proofs.Words.{◌≡◌, ℕ, zero, suc, ◌+◌, ◌-◌, ◌<◌, ◌≤◌, ℤ, Bool, true, false, inl, inr, List, [], ◌∷◌, ◌++◌, length, drop, Ok, Err, refl, sym, ap, subst, ◌∙◌, append_assoc, arith, ◌⊎◌, ◌==◌, eqb-true, length-append, drop_at, NotALiteral, TooDeep, Value, a_list, IsText, Values, no_values, levels, prepend, nesting, is_blank, is_digit, is_word, AreBlanks, Comma, Item, SpellsItems, SpellsToken, Spells, HoldInside, HoldIn, NumberKind, InRange, Ends, Read, ◌>>=◌, after_blanks, token_at, opened_at, items_at, value_at, chosen, is_ok, bind_ok, no_ok, cases_Bool}, proofs.Stops.{SameHead}, specs.Literal.{Spaced}, proofs.Tokens.{token_met, token_starts, TokenTaken}, proofs.Items.{TakesSome, behind_byte, first_is, comma_is, spaced_is, item_at}}
 
 -- ---- blanks
 
@@ -14,17 +14,14 @@ pub blanks_skipped : (blanks b : List ℕ) → AreBlanks blanks → after_blanks
 blanks_skipped [] b all = refl
 blanks_skipped (c ∷ cs) b all = let h : is_blank c ≡ true = all.0 in rw h (blanks_skipped cs b all.1)
 
-spaced_more : (P : List ℕ → Type 0) (c : ℕ) (t : List ℕ) → is_blank c ≡ true → Spaced P t → Spaced P (c ∷ t)
-spaced_more P c t here s = (c ∷ s.0, s.1, (here, s.2), s.3, ap (λ (u : List ℕ). c ∷ u) s.4)
-
 item_more : (first : Bool) (P Q : List ℕ → Type 0) (c : ℕ) (t : List ℕ) → is_blank c ≡ true → Item first P Q t → Item first P Q (c ∷ t)
 item_more true P Q c t here s =
-    ([], c ∷ s.1, s.2, refl, spaced_more P c s.1 here s.4, s.5, ap (λ (u : List ℕ). c ∷ u) (s.6 ∙ ap (λ (u : List ℕ). u ++ (s.1 ++ s.2)) s.3))
+    ([], c ∷ s.1, s.2, refl, (c ∷ s.4.0, s.4.1, (here, s.4.2), s.4.3, ap (λ (u : List ℕ). c ∷ u) s.4.4), s.5, ap (λ (u : List ℕ). c ∷ u) (s.6 ∙ ap (λ (u : List ℕ). u ++ (s.1 ++ s.2)) s.3))
 item_more false P Q c t here s =
-    (c ∷ s.0, s.1, s.2, spaced_more (λ t. t ≡ 44 ∷ []) c s.0 here s.3, s.4, s.5, ap (λ (u : List ℕ). c ∷ u) s.6)
+    (c ∷ s.0, s.1, s.2, (c ∷ s.3.0, s.3.1, (here, s.3.2), s.3.3, ap (λ (u : List ℕ). c ∷ u) s.3.4), s.4, s.5, ap (λ (u : List ℕ). c ∷ u) s.6)
 
 pub items_more : (first : Bool) (vs : Values) (c : ℕ) (t : List ℕ) → is_blank c ≡ true → SpellsItems first vs t → SpellsItems first vs (c ∷ t)
-items_more first no_values c t here s = spaced_more (λ t. t ≡ 125 ∷ []) c t here s
+items_more first no_values c t here s = (c ∷ s.0, s.1, (here, s.2), s.3, ap (λ (u : List ℕ). c ∷ u) s.4)
 items_more first _ c t here s = item_more first _ _ c t here s
 
 -- ---- a value in front of the values of a list
@@ -58,9 +55,6 @@ pub record ItemsTaken (l : ℕ) (first : Bool) (b : List ℕ) (x : Values × Lis
 
 abbrev pub ReadsWell : ℕ → Type 0
 ReadsWell l = (b : List ℕ) (x : Value × List ℕ) → value_at l b ≡ Ok x → Taken l b x
-
-pub takes_some : (l : ℕ) → ReadsWell l → TakesSome (value_at l)
-takes_some l well b v rest e = let t = well b (v, rest) e in (t.text, t.whole, t.some)
 
 abbrev pub step_at : ℕ → List ℕ → List ℕ → Read Values
 step_at l b cs = value_at l b >>= λ v. items_at (value_at l) false (length cs - length v.1) cs >>= λ vs. Ok (prepend v.0 vs.0, vs.1)
@@ -122,7 +116,7 @@ end_taken l first c cs x here e =
 items_taken : (l : ℕ) → ReadsWell l → (first : Bool) (k : ℕ) (b : List ℕ) (x : Values × List ℕ) → items_at (value_at l) first k b ≡ Ok x → ItemsTaken l first (drop k b) x
 items_taken l well first k [] x e = absurd (no_ok NotALiteral x e)
 items_taken l well first (suc k) (c ∷ cs) x e = items_taken l well first k cs x e
-items_taken l well first zero (c ∷ cs) x e = elim (item_view l (takes_some l well) first c cs) [
+items_taken l well first zero (c ∷ cs) x e = elim (item_view l (λ b v rest e. let t = well b (v, rest) e in (t.text, t.whole, t.some)) first c cs) [
   | inl blank ↦ blank_taken l first c cs x blank.0 (items_taken l well first zero cs x (sym blank.1 ∙ e))
   | inr (inl ends) ↦ end_taken l first c cs x ends.0 (sym ends.1 ∙ e)
   | inr (inr (inl v)) ↦ subst (λ (u : List ℕ). ItemsTaken l first u x) (sym v.whole) (item_taken l well first v.comma v.value cs x v.is v.suffix (λ k y h. items_taken l well false k cs y h) (sym v.step ∙ e))
@@ -143,7 +137,7 @@ opened_taken l items inside b x e = let w = blanks_taken b in spaced w.0 (after_
               let t = inside cs vs.0 vs.1 in
               let made : Value × List ℕ = (a_list vs.0.0, vs.0.1) in
               subst (TokenTaken l (c ∷ cs)) (is_ok made x vs.2) (record { text = 123 ∷ t.0; whole = ap (λ (d : ℕ). d ∷ cs) (eqb-true c 123 brace.0) ∙ ap (λ (u : List ℕ). 123 ∷ u) t.1; some = omega arith; spelled = (t.0, refl, t.2); fits = t.3; shallow = t.4; ends = tt })
-          | inr other ↦ token_taken l (c ∷ cs) x other.1
+          | inr other ↦ subst (TokenMet l (c ∷ cs)) other.1 (token_met l (c ∷ cs))
         ]
 
     spaced : (w t : List ℕ) → AreBlanks w → b ≡ w ++ t → TokenTaken l t x → Taken l b x
@@ -154,7 +148,7 @@ value_taken zero b x e = opened_taken zero (λ _. Err TooDeep) (λ cs y h. absur
 value_taken (suc l) b x e = opened_taken (suc l) (items_at (value_at l) true zero) (λ cs y h. let t = items_taken l (value_taken l) true zero cs y h in (t.text, t.whole, t.spelled, t.fits, omega (arith, t.shallow))) b x e
 
 pub takes : (l : ℕ) → TakesSome (value_at l)
-takes l = takes_some l (value_taken l)
+takes l = λ b v rest e. let t = (value_taken l) b (v, rest) e in (t.text, t.whole, t.some)
 
 -- ---- what follows a value, and what is in front of one
 
@@ -164,23 +158,17 @@ Between c = (is_digit c ≡ false) × (is_word c ≡ false)
 abbrev pub BeginsBetween : List ℕ → Type 0
 BeginsBetween u = (c : ℕ) × (cs : List ℕ) × (u ≡ c ∷ cs) × Between c
 
-blank_between : (c : ℕ) → is_blank c ≡ true → Between c
-blank_between c h = (grind (arith, h), grind (arith, h))
-
 spaced_byte : (P : List ℕ → Type 0) (u : List ℕ) → ((token : List ℕ) → P token → BeginsBetween token) → Spaced P u → BeginsBetween u
 spaced_byte P u front p = by_blanks p.0 p.1 p.2 p.3 p.4
   where
     by_blanks : (blanks token : List ℕ) → AreBlanks blanks → P token → u ≡ blanks ++ token → BeginsBetween u
     by_blanks [] token all h e = let f = front token h in (f.0, f.1, e ∙ f.2, f.3)
-    by_blanks (c ∷ cs) token all h e = (c, cs ++ token, e, blank_between c all.0)
-
-item_byte : (P Q : List ℕ → Type 0) (u : List ℕ) → Item false P Q u → BeginsBetween u
-item_byte P Q u i = let f = spaced_byte (λ w. w ≡ 44 ∷ []) i.0 (λ token h. (44, [], h, (refl, refl))) i.3 in (f.0, f.1 ++ (i.1 ++ i.2), i.6 ∙ ap (λ (w : List ℕ). w ++ (i.1 ++ i.2)) f.2, f.3)
+    by_blanks (c ∷ cs) token all h e = (c, cs ++ token, e, (grind (arith, all.0), grind (arith, all.0)))
 
 -- what follows a value in a list goes on with no token
 items_byte : (us : Values) (u : List ℕ) → SpellsItems false us u → BeginsBetween u
 items_byte no_values u p = spaced_byte (λ w. w ≡ 125 ∷ []) u (λ token h. (125, [], h, (refl, refl))) p
-items_byte _ u p = item_byte _ _ u p
+items_byte _ u p = let f = spaced_byte (λ w. w ≡ 44 ∷ []) p.0 (λ token h. (44, [], h, (refl, refl))) p.3 in (f.0, f.1 ++ (p.1 ++ p.2), p.6 ∙ ap (λ (w : List ℕ). w ++ (p.1 ++ p.2)) f.2, f.3)
 
 pub items_end : (v : Value) (vs : Values) (t rest : List ℕ) → SpellsItems false vs t → Ends v (t ++ rest)
 items_end v vs t rest s = let f = items_byte vs t s in grind arith
@@ -212,8 +200,5 @@ item_front l false v comma value rest is s =
 
 -- ---- for the loop over a list's values
 
-mark_shorter : (b : List ℕ) (c : ℕ) (rest : List ℕ) → after_blanks b ≡ c ∷ rest → length rest < length b
-mark_shorter b c rest e = let w = blanks_taken b in omega (arith, ap length w.2 ∙ length-append w.0 (after_blanks b), ap length e)
-
 pub comma_shorter : (l : ℕ) (b : List ℕ) (v : Value) (after rest : List ℕ) → value_at l b ≡ Ok (v, after) → after_blanks after ≡ 44 ∷ rest → length rest < length b
-comma_shorter l b v after rest e comma = let t = value_taken l b (v, after) e in omega (arith, ap length t.whole ∙ length-append t.text after, mark_shorter after 44 rest comma)
+comma_shorter l b v after rest e comma = let t = value_taken l b (v, after) e in omega (arith, ap length t.whole ∙ length-append t.text after, let w = blanks_taken after in omega (arith, ap length w.2 ∙ length-append w.0 (after_blanks after), ap length comma))

@@ -8,9 +8,6 @@ use Rattle.moo_value.specs.declared.text.TheConstants.{MAX_LENGTH}
 all_number : (f : LiteralFault) (kind : NumberKind) (z : ℤ) → InRange kind z → NumberBut f kind z
 all_number f kind z h = grind arith
 
-all_text : (f : LiteralFault) (s : List ℕ) → IsText s → TextBut f s
-all_text f s h = grind arith
-
 pub all_deep : (f : LiteralFault) (l d : ℕ) → d ≤ l → DepthBut f l d
 all_deep f l d h = grind arith
 
@@ -18,14 +15,14 @@ all_inside : (f : LiteralFault) (vs : Values) → HoldInside InRange IsText vs �
 all_inside f no_values h = tt
 all_inside f (int n vs) h = (all_number f an_integer n h.0, all_inside f vs h.1)
 all_inside f (object n vs) h = (all_number f an_object n h.0, all_inside f vs h.1)
-all_inside f (string s vs) h = (all_text f s h.0, all_inside f vs h.1)
+all_inside f (string s vs) h = (grind (arith, h.0), all_inside f vs h.1)
 all_inside f (error e vs) h = all_inside f vs h
 all_inside f (list us vs) h = (all_inside f us h.0, all_inside f vs h.1)
 
 pub all_in : (f : LiteralFault) (v : Value) → HoldIn InRange IsText v → HoldIn (NumberBut f) (TextBut f) v
 all_in f (Int n) h = all_number f an_integer n h
 all_in f (Obj o) h = all_number f an_object o.0 h
-all_in f (Str s) h = all_text f s h
+all_in f (Str s) h = grind arith
 all_in f (Error e) h = tt
 all_in f (a_list vs) h = all_inside f vs h
 
@@ -79,9 +76,6 @@ string_either s (c ∷ u) body rest spelled =
 
 -- ---- tokens
 
-range_gave : (g : LiteralFault) (kind : NumberKind) (z : ℤ) → NumberBut g kind z → (g ≡ OutOfRange) ⊎ InRange kind z
-range_gave g kind z n = grind arith
-
 text_gave : (g : LiteralFault) (u rest : List ℕ) (r : Read (List ℕ)) → TextBut g u → StringOr [] u rest r → Either (Gave g) r (u, rest)
 text_gave g u rest r t (inl ok) = inl ok
 text_gave BadByte u rest r t (inr (inl bad)) = inr (BadByte, inl refl, bad.0)
@@ -96,7 +90,7 @@ bind_either P r x f y (inl ok) e = inl (ap (λ q. q >>= f) ok ∙ e)
 bind_either P r x f y (inr bad) e = inr (bad.0, bad.1, ap (λ q. q >>= f) bad.2)
 
 number_gave : (g : LiteralFault) (kind : NumberKind) (z : ℤ) (t rest : List ℕ) → SpellsNumber z t → NumberBut g kind z → BeginsNo is_digit rest → Either (Gave g) (number_at (greatest kind) (t ++ rest)) (z, rest)
-number_gave g kind z t rest s n ends = go (range_gave g kind z n) (number_either kind z t rest s ends)
+number_gave g kind z t rest s n ends = go (grind arith) (number_either kind z t rest s ends)
   where
     go : (g ≡ OutOfRange) ⊎ InRange kind z → (InRange kind z × (number_at (greatest kind) (t ++ rest) ≡ Ok (z, rest))) ⊎ (number_at (greatest kind) (t ++ rest) ≡ Err OutOfRange) → Either (Gave g) (number_at (greatest kind) (t ++ rest)) (z, rest)
     go (inr fits) _ = inl (number_again kind z t rest s fits ends)
@@ -152,12 +146,6 @@ flat_deep g l = all_deep g l 0 (omega arith)
 left_deep : (g : LiteralFault) (a b l : ℕ) → DepthBut g l (max (a + 1) b) → DepthBut g l (a + 1) × DepthBut g l b
 left_deep g a b l d = grind arith
 
-inner_deep : (g : LiteralFault) (a l : ℕ) → DepthBut g (suc l) (a + 1) → DepthBut g l a
-inner_deep g a l d = grind arith
-
-too_deep : (g : LiteralFault) (a : ℕ) → DepthBut g 0 (a + 1) → Gave g TooDeep
-too_deep g a d = grind arith
-
 items_either : (g : LiteralFault) (l : ℕ) → ReadsEither g l → (vs : Values) (first : Bool) (t rest : List ℕ) → SpellsItems first vs t → HoldInside (NumberBut g) (TextBut g) vs → DepthBut g l (levels vs) → Either (Gave g) (items_at (value_at l) first zero (t ++ rest)) (vs, rest)
 items_either g l either no_values first t rest s holds deep =
     inl (ap (λ (u : List ℕ). items_at (value_at l) first zero (u ++ rest)) (s.4 ∙ ap (λ (u : List ℕ). s.0 ++ u) s.3)
@@ -190,11 +178,11 @@ flat_either g (suc l) v t rest flat s holds ends = subst (λ (r : Read Value). E
 
 pub value_either : (g : LiteralFault) (l : ℕ) → ReadsEither g l
 value_either g zero (a_list vs) t rest s keeps ends =
-    inr (TooDeep, too_deep g (levels vs) keeps.1, spaced_same zero (a_list vs) t rest s ∙ ap (λ (u : List ℕ). value_at zero (u ++ rest)) s.3.1)
+    inr (TooDeep, grind (arith, keeps.1), spaced_same zero (a_list vs) t rest s ∙ ap (λ (u : List ℕ). value_at zero (u ++ rest)) s.3.1)
 value_either g (suc l) (a_list vs) t rest s keeps ends =
     let body = s.3.0 in
     let same : value_at (suc l) (t ++ rest) ≡ (items_at (value_at l) true zero (body ++ rest) >>= λ vs. Ok (a_list vs.0, vs.1)) = spaced_same (suc l) (a_list vs) t rest s ∙ ap (λ (u : List ℕ). value_at (suc l) (u ++ rest)) s.3.1 in
-    let inside = items_either g l (value_either g l) vs true body rest s.3.2 keeps.0 (inner_deep g (levels vs) l keeps.1) in
+    let inside = items_either g l (value_either g l) vs true body rest s.3.2 keeps.0 (grind (arith, keeps.1)) in
     subst (λ (r : Read Value). Either (Gave g) r (a_list vs, rest)) (sym same) (bind_either (Gave g) (items_at (value_at l) true zero (body ++ rest)) (vs, rest) (λ vs. Ok (a_list vs.0, vs.1)) (a_list vs, rest) inside refl)
 value_either g l v t rest s keeps ends = flat_either g l v t rest tt s keeps.0 ends
 

@@ -24,6 +24,3 @@ bind_ok r f y e = grind arith
 
 pub bind_err : {A B : Type 0} (r : Result A LiteralFault) (f : A → B × List ℕ) (g : LiteralFault) → (r >>= λ x. Ok (f x)) ≡ Err g → r ≡ Err g
 bind_err r f g e = grind arith
-
-pub bind_which : {A B : Type 0} (r : Result A LiteralFault) (f : A → Result B LiteralFault) (g : LiteralFault) → (r >>= f) ≡ Err g → (r ≡ Err g) ⊎ ((x : A) × (r ≡ Ok x) × (f x ≡ Err g))
-bind_which r f g e = grind arith
