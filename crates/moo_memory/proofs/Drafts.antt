@@ -21,7 +21,7 @@ module _ {K X T E : Type 0} {cmp : K → K → Ordering} (total : IsTotalOrder c
     {before now : Held} (same : before ≡ now) (r : Result T E) (below : FinMap cmp X) (old new : FinMap cmp (Option X)) (count : ℕ) (seen : of before.maps ≡ overlaid below old) where
   pub seen-put : (key : K) (o : Option X) → OnOk r ((new ≡ insert old key o) × (count ≡ before.writes + 1)) → OnErr r ((new ≡ old) × (count ≡ before.writes))
       → OnOk r (record before { maps = put (overlaid below new) before.maps; writes = count } ≡ record now { maps = put (changed (of now.maps) key o) now.maps; writes = now.writes + 1 })
-        × OnErr r (record before { maps = put (overlaid below new) before.maps; writes = count } ≡ record now { maps = put (of now.maps) now.maps })
+      × OnErr r (record before { maps = put (overlaid below new) before.maps; writes = count } ≡ record now { maps = put (of now.maps) now.maps })
   seen-put key o ok err = (
     on_ok_weaker r (λ (h : (new ≡ insert old key o) × (count ≡ before.writes + 1)). seen-written of put (λ m. changed m key o) (λ n. n + 1) same
         (ap (overlaid below) h.0 ∙ overlaid-insert total exact below old key o ∙ sym (ap (λ m. changed m key o) seen)) h.1) ok,
