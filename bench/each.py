@@ -33,6 +33,7 @@ SECTIONS = (
     ("is_player", "is_player(#{x})"),
     ("players", "players()"),
     ("max_object", "max_object()"),
+    ("object_count", "object_count()"),
     ("accept_list", "accept_list(#{x})"),
     ("get", 'get(#{x}, "name")'),
     ("get contents", 'get(#{x}, "contents")'),

@@ -116,7 +116,7 @@ class Caller:
 
     def reads(self) -> list[str]:
         """Calls that read all that the programmer may read."""
-        found = [f"{name}()" for name in ("players", "max_object", "petitions")]
+        found = [f"{name}()" for name in ("players", "max_object", "object_count", "petitions")]
         for number in [*self.plot.things, *self.made]:
             found += [f"{name}(#{number})" for name in ("valid", "parent", "children", "is_player", "accept_list", "properties", "verbs")]
             for each in (*NAMES, *NEW, "name", "owner", "contents"):
@@ -133,6 +133,7 @@ CALLS: dict[str, tuple[int, Callable[[Caller], str]]] = {
     "is_player": (1, Caller.object),
     "players": (1, lambda _: ""),
     "max_object": (1, lambda _: ""),
+    "object_count": (1, lambda _: ""),
     "accept_list": (1, Caller.object),
     "get": (10, Caller.slot),
     "properties": (3, Caller.object),

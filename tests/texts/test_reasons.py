@@ -78,6 +78,7 @@ REFUSED = [
     ("is_player(#9)", "E_INVARG, #9 isn't an object"),
     ("players(1)", "E_ARGS, it is written players()"),
     ("max_object(1)", "E_ARGS, it is written max_object()"),
+    ("object_count(1)", "E_ARGS, it is written object_count()"),
     ("accept_list(#9)", "E_INVARG, #9 isn't an object"),
     ("get(#9, \"name\")", "E_INVIND, #9 isn't an object"),
     ("get(#4, \"none\")", "E_PROPNF, #4 has no property \"none\""),

@@ -81,7 +81,7 @@ class Grammar(unittest.TestCase):
                 written(value)
 
     def test_the_calls_of_the_page(self) -> None:
-        self.assertEqual(len(TABLE), 33)
+        self.assertEqual(len(TABLE), 34)
         self.assertEqual({name for name, _ in TABLE}, calls.NAMES)
         reading = [name for name, _ in TABLE[: [name for name, _ in TABLE].index("create")]]
         self.assertEqual({*reading, "petitions"}, calls.READING)

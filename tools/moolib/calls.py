@@ -19,8 +19,8 @@ from moolib.values import BLANKS, Given, Name, NoValue, Obj, Value, given_at, wr
 # A line isn't longer than that.
 LONGEST_CALL = 262_144
 READING = frozenset(
-    "valid parent children is_player players max_object accept_list get properties property_info is_clear_property "
-    "verbs verb_info verb_args petitions".split()
+    "valid parent children is_player players max_object object_count accept_list get properties property_info "
+    "is_clear_property verbs verb_info verb_args petitions".split()
 )
 # What a call makes anew.
 MAKING = {"create": "object", "add_property": "property", "add_verb": "verb", "petition": "petition"}

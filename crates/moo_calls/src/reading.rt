@@ -3,7 +3,7 @@
 
 ghost use Rattle.std.specs.Prelude.{◌≡◌, false, Some, IfOk, IfErr};
 ghost use Rattle.moo_world.specs.declared.reason.Reason.TheVariants.{NoObject};
-ghost use Rattle.moo_world.specs.{Calls.{valid, parent, children, is_player, players, max_object, accept_list}, Rows.{IsGood}};
+ghost use Rattle.moo_world.specs.{Calls.{valid, parent, children, is_player, players, max_object, object_count, accept_list}, Rows.{IsGood}};
 ghost use Rattle.moo_world.specs.{World.{is_object, row_of}, Arguments.{no_values, one_object}, Outcomes.{given}};
 ghost use Rattle.moo_calls_shared.specs.{declared.fault.Fault.TheVariants.{Moo}, Outcomes.{world_in, Answers}};
 
@@ -88,6 +88,18 @@ pub(crate) fn max_object<R: Rows>(rows: &R, args: &[Value]) -> Result<Value, Fau
 {
     no_values(args)?;
     Ok(Value::Obj(ObjNo(rows.head().top)))
+}
+
+/// `object_count()`: the number of objects, from 0 to 2147483648. It takes the time of a look at each. E_ARGS if there are arguments.
+/// LambdaMOO has no such call.
+pub(crate) fn object_count<R: Rows>(rows: &R, args: &[Value]) -> Result<Value, Fault>
+    // The rows are those of a well formed world.
+    requires { IsGood (R.held rows.now).maps }
+    // The answer, or the error, is that of the definition `object_count`.
+    ensures comes { Answers (given (no_values args.now) (λ _. object_count (world_in (R.held rows.now)))) (R.held rows.now) result }
+{
+    no_values(args)?;
+    Ok(Value::Int(moo_rows::object_count(rows) as i64))
 }
 
 /// `accept_list(object)`: the list of objects that the object itself accepts with their descendants, or 0 if it holds no list. E_ARGS and

@@ -36,6 +36,7 @@ fn named_call<R: Rows>(
         CallName::IsPlayer => reading::is_player(rows, args),
         CallName::Players => reading::players(rows, alloc, args),
         CallName::MaxObject => reading::max_object(rows, args),
+        CallName::ObjectCount => reading::object_count(rows, args),
         CallName::Get => on_properties::get_given(rows, alloc, programmer, args),
         CallName::Properties => on_properties::properties_given(rows, alloc, programmer, args),
         CallName::PropertyInfo => on_properties::property_info_given(rows, alloc, programmer, args),

@@ -95,6 +95,7 @@ and the others are texts; VERB may be a number. A call answers 0 if nothing else
   create(PARENT), create(PARENT, OWNER)   makes and answers an object; it owns itself if OWNER is #-1
   recycle(O)                      destroys O: its children get its parent, and what it holds goes nowhere
   valid(O), max_object()          1 if O is an object, else 0; the greatest number that an object was given
+  object_count()                  how many objects there are
   chparent(O, PARENT)             O inherits from PARENT, or from nothing if that is #-1; O and all under it
                                   lose the properties that they no longer inherit
   parent(O), children(O)          its parent; the objects whose parent it is

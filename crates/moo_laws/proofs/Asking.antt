@@ -1,6 +1,6 @@
 -- Calls that only read answer the same in worlds that look alike.
 use Rattle.moo_world.{proofs.Lemmas.{◌≡◌, Bool, true, false, List, arith, refl, sym, ap, ◌∙◌, Option, Some, None, is_some, unwrap_or, if◌then◌else◌, option_map, option_and_then, false≢true, filter, map, length, nat_lt, ObjNo, ObjRow, Value, VerbRow, Name, same_object, World, WorldObject, Slot, is_object, SameButSlots, parent_of, slot_of, parents_same, names_same, property_names_of, row_passes, row_of, Outcome, Failed, check, found_or, named_call, world_call}, specs.declared.name.CallName.{CallName}, specs.declared.call.Call.{Call}, specs.declared.descriptor.Desc.{Desc}}
-use Rattle.moo_world.specs.declared.name.CallName.TheVariants.{Valid, Parent, Children, IsPlayer, Players, MaxObject, Get, Properties, PropertyInfo, IsClearProperty, Verbs, VerbInfo, VerbArgs, AcceptList}
+use Rattle.moo_world.specs.declared.name.CallName.TheVariants.{Valid, Parent, Children, IsPlayer, Players, MaxObject, ObjectCount, Get, Properties, PropertyInfo, IsClearProperty, Verbs, VerbInfo, VerbArgs, AcceptList}
 use Rattle.moo_world.specs.declared.descriptor.Desc.TheVariants.{Index, Name as a_word}
 use Rattle.moo_world.specs.declared.built_in.BuiltIn.{BuiltIn}
 use Rattle.moo_world.specs.declared.built_in.BuiltIn.TheVariants.{Contents}
@@ -124,6 +124,7 @@ module _ (p : ObjNo) (w v : World) (alike : LookAlike p w v) where
     asked IsPlayer values h = on_givens Q (one_object values) _ _ (λ x. object_checked x _ _ _ (λ i. flag (passes (λ row. row.player) i x), left))
     asked Players values h = on_givens Q (no_values values) _ _ (λ _. (λ i. object_list (filter (passes (λ row. row.player) i) (all i)), left))
     asked MaxObject values h = on_givens Q (no_values values) _ _ (λ _. (λ i. Obj (record { 0 = top i }), left))
+    asked ObjectCount values h = on_givens Q (no_values values) _ _ (λ _. (λ i. Int (pos (length (all i))), left))
     asked Get values h = on_givens Q (object_and_text values) _ _ (λ a. object_checked a.0 _ _ _ (on_fields Q (built_in a.1) _ _ _ _ (λ f. (field_same a.0 f, left)) (got a.0 a.1)))
     asked Properties values h = on_givens Q (one_object values) _ _ (λ x. object_checked x _ _ _ (on_checks Q _ _ _ _ _ (may_list x) (λ _. (λ i. text_list (names i x), left))))
     asked PropertyInfo values h = on_givens Q (object_and_text values) _ _ (λ a. told a.0 a.1)

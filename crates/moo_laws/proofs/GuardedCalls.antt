@@ -1,6 +1,6 @@
 -- Each call of who isn't a wizard tells the same in worlds that are the same but for guarded values, and leaves such worlds.
 use Rattle.moo_world.{proofs.Lemmas.{arith, ◌≡◌, true, false, ◌||◌, List, [], ◌∷◌, ◌++◌, not, nat_lt, nat_le, length, refl, sym, ap, subst, Option, unwrap_or, option_map, and_parts, ObjNo, Value, Clear, Set, Name, nothing, same_object, same_text, folded, is_among, Outcome, Failed, World, IsWellFormed, is_object, is_wizard, may_define, clashes, change_of, created, plain_object, owner_or_self, recycled, owner_of, owners_same, create, chparent, recycle, move, set_player_flag, set_accept, set, add_property, delete_property, set_property_info, clear_property, named_call, check, quota_returned, int_lt, filter, has_word}, proofs.Form.Fields.{not_true}, specs.declared.name.CallName.{CallName}, specs.declared.descriptor.Desc.{Desc}}
-use Rattle.moo_world.specs.declared.name.CallName.TheVariants.{Valid, Parent, Children, IsPlayer, Players, MaxObject, Get, Properties, PropertyInfo, IsClearProperty, Verbs, VerbInfo, VerbArgs, AcceptList, Create, Chparent, Recycle, Move, SetPlayerFlag, Set as to_set, AddProperty, DeleteProperty, SetPropertyInfo, ClearProperty, AddVerb, DeleteVerb, SetVerbInfo, SetVerbArgs, SetAccept}
+use Rattle.moo_world.specs.declared.name.CallName.TheVariants.{Valid, Parent, Children, IsPlayer, Players, MaxObject, ObjectCount, Get, Properties, PropertyInfo, IsClearProperty, Verbs, VerbInfo, VerbArgs, AcceptList, Create, Chparent, Recycle, Move, SetPlayerFlag, Set as to_set, AddProperty, DeleteProperty, SetPropertyInfo, ClearProperty, AddVerb, DeleteVerb, SetVerbInfo, SetVerbArgs, SetAccept}
 use Rattle.moo_world.specs.Arguments.{Info, one_object, two_objects, object_and_text, object_and_value, object_text_and_value, parent_and_owner, object_and_accept, new_property, new_property_info, object_and_desc, new_verb, new_verb_info, new_verb_args}
 use Rattle.std.specs.Prelude.{pos}
 use Rattle.moo_world.specs.BuiltIns.{built_in}
@@ -184,6 +184,7 @@ module _ (p : ObjNo) (w v : World) (wf : IsWellFormed w) (none : is_wizard w p �
   tells IsPlayer values = asks IsPlayer values refl
   tells Players values = asks Players values refl
   tells MaxObject values = asks MaxObject values refl
+  tells ObjectCount values = asks ObjectCount values refl
   tells Get values = asks Get values refl
   tells Properties values = asks Properties values refl
   tells PropertyInfo values = asks PropertyInfo values refl

@@ -3,7 +3,7 @@ use Rattle.std.specs.{Prelude.{◌≡◌, Bool, true, false, Some, ⊤}, Option.
 use Rattle.moo_value.specs.declared.value.ObjNo.{ObjNo}
 use Rattle.moo_rows.specs.declared.row.SlotState.TheVariants.{Clear}
 use Rattle.moo_world.specs.declared.name.CallName.{CallName}
-use Rattle.moo_world.specs.declared.name.CallName.TheVariants.{Valid, Parent, Children, IsPlayer, Players, MaxObject, Get, Properties}
+use Rattle.moo_world.specs.declared.name.CallName.TheVariants.{Valid, Parent, Children, IsPlayer, Players, MaxObject, ObjectCount, Get, Properties}
 use Rattle.moo_world.specs.declared.name.CallName.TheVariants.{PropertyInfo, IsClearProperty, Verbs, VerbInfo, VerbArgs, AcceptList}
 use Rattle.moo_world.specs.{Objects.{Name, folded, is_among}, Outcomes.{Outcome, Done, Failed, Full}, PropertyCalls.{is_clear}}
 use Rattle.moo_world.specs.{Rights.{may_read_slot}, World.{World, Slot, SameButSlots, chain, slot_of, read_of}}
@@ -17,6 +17,7 @@ is_question name = elim name [
   | IsPlayer ↦ true
   | Players ↦ true
   | MaxObject ↦ true
+  | ObjectCount ↦ true
   | Get ↦ true
   | Properties ↦ true
   | PropertyInfo ↦ true

@@ -11,6 +11,7 @@ pub(crate) fn form_of(name: CallName) -> &'static str {
         CallName::IsPlayer => "is_player(O)",
         CallName::Players => "players()",
         CallName::MaxObject => "max_object()",
+        CallName::ObjectCount => "object_count()",
         CallName::Get => "get(O, \"NAME\")",
         CallName::Properties => "properties(O)",
         CallName::PropertyInfo => "property_info(O, \"NAME\")",

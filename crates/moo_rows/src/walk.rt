@@ -1,6 +1,6 @@
 //! Going over the rows in the order of their keys.
 
-ghost use Rattle.std.specs.Prelude.{◌≡◌, length};
+ghost use Rattle.std.specs.Prelude.{◌≡◌, ◌≤◌, length};
 ghost use Rattle.std.specs.FinMap as map;
 ghost use Rattle.std.specs.Iterator.{YieldsFirstBy, item_count};
 ghost use Rattle.moo_rows.specs.Links.{defined_left};
@@ -48,9 +48,11 @@ pub fn each_object<R: Rows>(rows: &R) -> Walk<'_, R, ObjRow>
     each_row(rows)
 }
 
-/// The number of objects. Takes no memory.
+/// The number of objects: at most 4,294,967,296, since their numbers have 32 bits. Takes no memory.
 pub fn object_count<R: Rows>(rows: &R) -> u64
-    ensures { result ≡ length (map.entries (R.held rows.now).maps.objects) }
+    ensures count { result ≡ length (map.entries (R.held rows.now).maps.objects) }
+    // No more objects have numbers of 32 bits.
+    ensures fits { result ≤ 4294967296 }
 {
     let mut count = 0;
     let mut last = None;

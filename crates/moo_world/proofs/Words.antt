@@ -78,6 +78,6 @@ pub use Rattle.moo_world.specs.declared.call.Call.{Call}
 pub use Rattle.moo_world.specs.declared.change.Change.{Change}
 pub use Rattle.moo_world.specs.declared.descriptor.Desc.{Desc}
 pub use Rattle.moo_world.specs.declared.name.CallName.{CallName}
-pub use Rattle.moo_world.specs.declared.name.CallName.TheVariants.{AcceptList, AddProperty, AddVerb, Children, Chparent, ClearProperty, Create, Decline, DeleteProperty, DeleteVerb, Get, Grant, IsClearProperty, IsPlayer, MaxObject, Move, Parent, Petition, Petitions, Players, Properties, PropertyInfo, Recycle, SetAccept, SetPlayerFlag, SetPropertyInfo, SetVerbArgs, SetVerbInfo, Valid, VerbArgs, VerbInfo, Verbs}
+pub use Rattle.moo_world.specs.declared.name.CallName.TheVariants.{AcceptList, AddProperty, AddVerb, Children, Chparent, ClearProperty, Create, Decline, DeleteProperty, DeleteVerb, Get, Grant, IsClearProperty, IsPlayer, MaxObject, Move, ObjectCount, Parent, Petition, Petitions, Players, Properties, PropertyInfo, Recycle, SetAccept, SetPlayerFlag, SetPropertyInfo, SetVerbArgs, SetVerbInfo, Valid, VerbArgs, VerbInfo, Verbs}
 pub use Rattle.moo_world.specs.declared.name.PetitionCall.{PetitionCall}
 pub use Rattle.std.specs.Cmp.Derive.{both_true}

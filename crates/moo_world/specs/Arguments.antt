@@ -52,7 +52,7 @@ fits value = nat_le (nesting value) MAX_NESTING && is_within_limits value
 
 -- ---- objects, names and values
 
--- nothing: what players, max_object and petitions take
+-- nothing: what players, max_object, object_count and petitions take
 abbrev pub no_values : List Value → Result (Unit {0}) Code
 no_values [] = Ok tt
 no_values args = Err E_ARGS

@@ -24,18 +24,18 @@
 --                       (Reasons). `x ← found or_else R`: x is what was found, or the call fails for R if it is `None`. `x ← given r` and
 --                       `x ← taken_for r`: x is what r holds, or the call fails with its error or for its reason.
 --                       `x ← with_next n` and `require_room c`: `Full` if no number is left. `Done a w` answers a and leaves w.
-use Rattle.std.specs.{Prelude.{nat_le, not, ◌||◌, List, [], length, Option, None, Some, unwrap_or, if◌then◌else◌}, Option.{option_and_then}}
-use Rattle.moo_value.specs.{declared.value.ObjNo.{ObjNo}, declared.value.Value.{Value}, declared.value.Value.TheVariants.{Obj}}
+use Rattle.std.specs.{Prelude.{pos, nat_le, not, ◌||◌, List, [], length, Option, None, Some, unwrap_or, if◌then◌else◌}, Option.{option_and_then}}
+use Rattle.moo_value.specs.{declared.value.ObjNo.{ObjNo}, declared.value.Value.{Value}, declared.value.Value.TheVariants.{Int, Obj}}
 use Rattle.moo_value.specs.Value.{is_true}
 use Rattle.moo_world.specs.declared.change.Change.TheVariants as to
 use Rattle.moo_world.specs.{declared.reason.Reason.{Reason}, Objects.{nothing, same_object, is_among}}
 use Rattle.moo_world.specs.World.{World, is_object, row_of, row_passes, owner_of, parent_of, chain, reparented}
 use Rattle.moo_world.specs.Outcomes.{Outcome, Done, fails, require◌else◌, ◌>>◌, given, with_next, ◌>>=◌}
-use Rattle.moo_world.specs.{Answers.{zero, flag, object_list}, ObjectLists.{children_of, players_of, shares_property_name, first_to_meet}}
+use Rattle.moo_world.specs.{Answers.{zero, flag, object_list}, ObjectLists.{objects_of, children_of, players_of, shares_property_name, first_to_meet}}
 use Rattle.moo_world.specs.Rights.{is_wizard, controls, may_be_parent, may_make_owner, accepts, is_within}
 use Rattle.moo_world.specs.{Quota.{may_afford, charged, quota_returned}, Creation.{next_object, owner_or_self, created}}
 use Rattle.moo_world.specs.{Recycling.{recycled}, Fields.{field_changed}, declared.call.Call.{Call}, declared.name.CallName.{CallName}}
-use Rattle.moo_world.specs.declared.name.CallName.TheVariants.{Valid, Parent, Children, IsPlayer, Players, MaxObject, Get, Properties}
+use Rattle.moo_world.specs.declared.name.CallName.TheVariants.{Valid, Parent, Children, IsPlayer, Players, MaxObject, ObjectCount, Get, Properties}
 use Rattle.moo_world.specs.declared.name.CallName.TheVariants.{PropertyInfo, IsClearProperty, Verbs, VerbInfo, VerbArgs, AcceptList, Create}
 use Rattle.moo_world.specs.declared.name.CallName.TheVariants.{Chparent, Recycle, Move, SetPlayerFlag, Set, AddProperty, DeleteProperty}
 use Rattle.moo_world.specs.declared.name.CallName.TheVariants.{SetPropertyInfo, ClearProperty, AddVerb, DeleteVerb, SetVerbInfo}
@@ -81,6 +81,10 @@ players world = Done (object_list (players_of world)) world
 -- the greatest number that was ever given to an object
 abbrev pub max_object : World → Outcome World
 max_object world = Done (Obj (record { 0 = world.top })) world
+
+-- how many objects there are
+abbrev pub object_count : World → Outcome World
+object_count world = Done (Int (pos (length (objects_of world)))) world
 
 -- the list, or 0 if none is held
 abbrev pub accept_value : Option (List ObjNo) → Value
@@ -162,6 +166,7 @@ named_call world programmer Children args = given (one_object args) (children wo
 named_call world programmer IsPlayer args = given (one_object args) (is_player world)
 named_call world programmer Players args = given (no_values args) (λ _. players world)
 named_call world programmer MaxObject args = given (no_values args) (λ _. max_object world)
+named_call world programmer ObjectCount args = given (no_values args) (λ _. object_count world)
 named_call world programmer Get args = given (object_and_text args) λ (object, name). get world programmer object name
 named_call world programmer Properties args = given (one_object args) (properties world programmer)
 named_call world programmer PropertyInfo args = given (object_and_text args) λ (object, name). property_info world programmer object name

@@ -5,7 +5,7 @@ use Rattle.moo_world.specs.{Objects.{same_text, same_text-Decides, folded}, decl
 use Rattle.moo_world.specs.declared.name.PetitionCall.{PetitionCall}
 use Rattle.moo_world.specs.declared.name.PetitionCall.TheVariants.{Petition as to_petition, Petitions as to_list, Grant as to_grant}
 use Rattle.moo_world.specs.declared.name.PetitionCall.TheVariants.{Decline as to_decline}
-use Rattle.moo_world.specs.declared.name.CallName.TheVariants.{Valid, Parent, Children, IsPlayer, Players, MaxObject, Get, Properties}
+use Rattle.moo_world.specs.declared.name.CallName.TheVariants.{Valid, Parent, Children, IsPlayer, Players, MaxObject, ObjectCount, Get, Properties}
 use Rattle.moo_world.specs.declared.name.CallName.TheVariants.{PropertyInfo, IsClearProperty, Verbs, VerbInfo, VerbArgs, AcceptList, Create}
 use Rattle.moo_world.specs.declared.name.CallName.TheVariants.{Chparent, Recycle, Move, SetPlayerFlag, Set, AddProperty, DeleteProperty}
 use Rattle.moo_world.specs.declared.name.CallName.TheVariants.{SetPropertyInfo, ClearProperty, AddVerb, DeleteVerb, SetVerbInfo}
@@ -19,6 +19,7 @@ spelling Children = codes "children"
 spelling IsPlayer = codes "is_player"
 spelling Players = codes "players"
 spelling MaxObject = codes "max_object"
+spelling ObjectCount = codes "object_count"
 spelling Get = codes "get"
 spelling Properties = codes "properties"
 spelling PropertyInfo = codes "property_info"
@@ -50,7 +51,7 @@ spelling Decline = codes "decline"
 -- every call once
 abbrev pub all_names : List CallName
 all_names =
-    Valid ∷ Parent ∷ Children ∷ IsPlayer ∷ Players ∷ MaxObject ∷ Get ∷ Properties
+    Valid ∷ Parent ∷ Children ∷ IsPlayer ∷ Players ∷ MaxObject ∷ ObjectCount ∷ Get ∷ Properties
     ∷ PropertyInfo ∷ IsClearProperty ∷ Verbs ∷ VerbInfo ∷ VerbArgs ∷ AcceptList ∷ Create ∷ Chparent
     ∷ Recycle ∷ Move ∷ SetPlayerFlag ∷ Set ∷ AddProperty ∷ DeleteProperty ∷ SetPropertyInfo ∷ ClearProperty
     ∷ AddVerb ∷ DeleteVerb ∷ SetVerbInfo ∷ SetVerbArgs ∷ SetAccept ∷ Petition ∷ Petitions ∷ Grant
@@ -83,6 +84,7 @@ spelled-spelling Children = refl
 spelled-spelling IsPlayer = refl
 spelled-spelling Players = refl
 spelled-spelling MaxObject = refl
+spelled-spelling ObjectCount = refl
 spelled-spelling Get = refl
 spelled-spelling Properties = refl
 spelled-spelling PropertyInfo = refl
@@ -126,6 +128,7 @@ spelled_alike_is Children = refl
 spelled_alike_is IsPlayer = refl
 spelled_alike_is Players = refl
 spelled_alike_is MaxObject = refl
+spelled_alike_is ObjectCount = refl
 spelled_alike_is Get = refl
 spelled_alike_is Properties = refl
 spelled_alike_is PropertyInfo = refl

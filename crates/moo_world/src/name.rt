@@ -12,6 +12,7 @@ pub enum CallName {
     IsPlayer,
     Players,
     MaxObject,
+    ObjectCount,
     Get,
     Properties,
     PropertyInfo,
@@ -51,13 +52,14 @@ pub enum PetitionCall {
 }
 
 /// Every call.
-const ALL: [CallName; 33] = [
+const ALL: [CallName; 34] = [
     CallName::Valid,
     CallName::Parent,
     CallName::Children,
     CallName::IsPlayer,
     CallName::Players,
     CallName::MaxObject,
+    CallName::ObjectCount,
     CallName::Get,
     CallName::Properties,
     CallName::PropertyInfo,
@@ -108,6 +110,7 @@ impl CallName {
             CallName::IsPlayer => b"is_player",
             CallName::Players => b"players",
             CallName::MaxObject => b"max_object",
+            CallName::ObjectCount => b"object_count",
             CallName::Get => b"get",
             CallName::Properties => b"properties",
             CallName::PropertyInfo => b"property_info",

@@ -1,6 +1,6 @@
 -- What every call keeps, by one walk through the checks of each: the form of the world, and nobody's ownership changes by who is
 -- no wizard.
-use Rattle.moo_world.{proofs.Lemmas.{◌≡◌, ℕ, Bool, true, false, ◌||◌, List, [], ◌∷◌, ◌++◌, ◌+◌, arith, refl, sym, ◌∙◌, ap, ◌⊎◌, inl, inr, Option, Some, None, Result, Ok, not, nat_lt, list_all, same_Some, both_ways, or_cases, and_parts, ltb-true, ObjNo, Value, Bits, Clear, Reason, VerbRow, BuiltIn, Call, Change, CallName, Valid, Parent, Children, IsPlayer, Players, MaxObject, Get, Properties, PropertyInfo, IsClearProperty, Verbs, VerbInfo, VerbArgs, AcceptList, Create, Chparent, Recycle, Move, SetPlayerFlag, AddProperty, DeleteProperty, SetPropertyInfo, ClearProperty, AddVerb, DeleteVerb, SetVerbInfo, SetVerbArgs, SetAccept, Petition, Petitions, Grant, Decline, is_number, is_text, fits, new_property_info, clashes, info_set, next_object, owner_or_self, created, with_verbs, verb_added, CallsKeepForm, Name, nothing, same_object, folded, is_among, same_object-Decides, shares_property_name, Done, KeepsOwnership, NoWizardKeepsOwnership, name_by, name_given, name_after, change_of, may_set, defines_name, may_define, may_rename, renamed_to, recycled, is_wizard, may_be_parent, may_make_owner, named_call, world_call, World, Slot, IsWellFormed, is_object, owner_of, slot_of, chain, has_word, is_property_name, verb_fits, state_fits, IsWellFormed-with_slot_of, same_links, object_numbered, slot_owner, on_record, on_slot, unchanged, Holds, on_check, on_failed, objects_same, NoClash-from_meets, nothing_is_no_object, of_done, on_given, both_true}, specs.declared.name.CallName.TheVariants.{Set}, proofs.Form.Directories.{all_fit, added_fit, removed_fit, changed_fit, stays_formed}, proofs.Form.Fields.{IsWellFormed-field_changed, not_true}, proofs.Form.Arguments.{set_value_fits, new_value_fits, accept_list_numbered, new_verb_named, new_verb_info_named, change_allowed}, proofs.Form.Values.{set_formed, renamed_formed, clashes_same, defines_same}, proofs.Form.Quotas.{charged_formed, returned_formed}, proofs.Inheritance.Insertion.{IsWellFormed-property_added}, proofs.Ownership.Changed.{is_modest, by_field_change, by_charge, by_return, by_info, by_defining, by_renaming}, proofs.Ownership.Counted.{parent_known}, proofs.Ownership.Kept.{after}, proofs.Ownership.Rebuilt.{by_reparenting, by_recycling, by_undefining, by_creation}, proofs.Inheritance.Recycling.{IsWellFormed-recycled}, proofs.Inheritance.Reparenting.{IsWellFormed-reparented}, proofs.Inheritance.Shorter.{IsWellFormed-property_removed}}
+use Rattle.moo_world.{proofs.Lemmas.{◌≡◌, ℕ, Bool, true, false, ◌||◌, List, [], ◌∷◌, ◌++◌, ◌+◌, arith, refl, sym, ◌∙◌, ap, ◌⊎◌, inl, inr, Option, Some, None, Result, Ok, not, nat_lt, list_all, same_Some, both_ways, or_cases, and_parts, ltb-true, ObjNo, Value, Bits, Clear, Reason, VerbRow, BuiltIn, Call, Change, CallName, Valid, Parent, Children, IsPlayer, Players, MaxObject, ObjectCount, Get, Properties, PropertyInfo, IsClearProperty, Verbs, VerbInfo, VerbArgs, AcceptList, Create, Chparent, Recycle, Move, SetPlayerFlag, AddProperty, DeleteProperty, SetPropertyInfo, ClearProperty, AddVerb, DeleteVerb, SetVerbInfo, SetVerbArgs, SetAccept, Petition, Petitions, Grant, Decline, is_number, is_text, fits, new_property_info, clashes, info_set, next_object, owner_or_self, created, with_verbs, verb_added, CallsKeepForm, Name, nothing, same_object, folded, is_among, same_object-Decides, shares_property_name, Done, KeepsOwnership, NoWizardKeepsOwnership, name_by, name_given, name_after, change_of, may_set, defines_name, may_define, may_rename, renamed_to, recycled, is_wizard, may_be_parent, may_make_owner, named_call, world_call, World, Slot, IsWellFormed, is_object, owner_of, slot_of, chain, has_word, is_property_name, verb_fits, state_fits, IsWellFormed-with_slot_of, same_links, object_numbered, slot_owner, on_record, on_slot, unchanged, Holds, on_check, on_failed, objects_same, NoClash-from_meets, nothing_is_no_object, of_done, on_given, both_true}, specs.declared.name.CallName.TheVariants.{Set}, proofs.Form.Directories.{all_fit, added_fit, removed_fit, changed_fit, stays_formed}, proofs.Form.Fields.{IsWellFormed-field_changed, not_true}, proofs.Form.Arguments.{set_value_fits, new_value_fits, accept_list_numbered, new_verb_named, new_verb_info_named, change_allowed}, proofs.Form.Values.{set_formed, renamed_formed, clashes_same, defines_same}, proofs.Form.Quotas.{charged_formed, returned_formed}, proofs.Inheritance.Insertion.{IsWellFormed-property_added}, proofs.Ownership.Changed.{is_modest, by_field_change, by_charge, by_return, by_info, by_defining, by_renaming}, proofs.Ownership.Counted.{parent_known}, proofs.Ownership.Kept.{after}, proofs.Ownership.Rebuilt.{by_reparenting, by_recycling, by_undefining, by_creation}, proofs.Inheritance.Recycling.{IsWellFormed-recycled}, proofs.Inheritance.Reparenting.{IsWellFormed-reparented}, proofs.Inheritance.Shorter.{IsWellFormed-property_removed}}
 use Rattle.std.specs.List.{remove}
 use Rattle.moo_world.specs.Changes.{value_set, cleared, property_added, property_removed}
 use Rattle.moo_world.specs.Directories.{verb_removed, verb_info_set, verb_args_set}
@@ -179,6 +179,7 @@ module _ (w : World) (p : ObjNo) (values : List Value) (wf : IsWellFormed w) (po
   named_kept IsPlayer = search (each_check, same)
   named_kept Players = search (each_check, same)
   named_kept MaxObject = search (each_check, same)
+  named_kept ObjectCount = search (each_check, same)
   named_kept Get = search (each_check, same) depth 9
   named_kept Properties = search (each_check, same) depth 9
   named_kept PropertyInfo = search (each_check, same) depth 9

@@ -11,7 +11,7 @@ fit_on : (last : Option ObjNo) (x : ObjNo) (count : ℕ) → IsPast object_cmp l
 fit_on last x count h1 h2 h3 = grind (arith, int_ranked)
 
 pub loop-x-init : goal.loop-x-init
-loop-x-init g c = let all = ap length (past_none object_cmp (entries (g.R.Rows.held c.args.rows.now).maps.objects)) in (omega (arith, all), refl)
+loop-x-init g c = let all = ap length (past_none object_cmp (entries (g.R.Rows.held c.args.rows.now).maps.objects)) in (omega (arith, all), refl, omega arith)
 
 pub overflow_add-count : goal.overflow_add-count
 overflow_add-count g c =
@@ -25,12 +25,18 @@ loop-x-smaller g c = omega (arith, one_left (g.R.Rows.held c.args.rows.now).maps
 
 pub loop-x-preserved : goal.loop-x-preserved
 loop-x-preserved g c =
-    let low : negsuc 2147483647 ≤ℤ c.in-Some.x.0 = search rules in (
+    let low : negsuc 2147483647 ≤ℤ c.in-Some.x.0 = search rules in
+    let high : c.in-Some.x.0 ≤ℤ pos 2147483647 = search rules in
+    let fit = fit_on c.loop-x.last c.in-Some.x c.loop-x.count c.in-Some.ensures.1 low c.loop-x.invariant.1 in (
       omega (arith, c.loop-x.invariant.0, one_left (g.R.Rows.held c.args.rows.now).maps c.loop-x.last c.in-Some.x c.in-Some.ensures),
-      fit_on c.loop-x.last c.in-Some.x c.loop-x.count c.in-Some.ensures.1 low c.loop-x.invariant.1,
+      fit,
+      omega (arith, ints, fit, high),
     )
 
-pub returns : goal.returns
-returns g c =
+pub returns-clause-count : goal.returns-clause-count
+returns-clause-count g c =
     let none : length (objects_left c.loop-x.last (g.R.Rows.held c.args.rows.now).maps) ≡ 0 = ap length (objects-end (g.R.Rows.held c.args.rows.now).maps c.loop-x.last c.in_default.ensures) in
     omega (arith, c.loop-x.invariant.0, none)
+
+pub returns-clause-fits : goal.returns-clause-fits
+returns-clause-fits g c = c.loop-x.invariant.2

@@ -8,7 +8,7 @@ use Rattle.moo_tables.{specs.Listing.{AreListed, tables_of}, proofs.ReadLemmas.{
 pub returns-then-shown-clause-checks : goal.returns-then-shown-clause-checks
 returns-then-shown-clause-checks g c = record {
   shown = λ clean tables rests. c.in-Ok-show_in_turn.ensures.shown clean c.if-shown.true tables rests (version_is (state g.S.Store c.args.conn.now) present tables c.in-Ok.ensures.ours rests);
-  count = c.object_count.ensures ∙ objects_held c.args.own.now.maps c.requires.good;
+  count = c.object_count.ensures.count ∙ objects_held c.args.own.now.maps c.requires.good;
   rests = λ clean tables rests. rests_still g.S.Store c.args.conn.now c.show_in_turn.new.conn present c.args.own.now.maps c.in-Ok.ensures.ours c.in-Ok-show_in_turn.ensures.reads.read clean tables rests;
 }
 

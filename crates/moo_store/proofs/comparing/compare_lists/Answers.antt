@@ -2,4 +2,4 @@ use Rattle.moo_store.{proofs.Words.{◌∙◌}, proofs.CompareLemmas.{objects_he
 use Rattle.moo_store.proofs.comparing.compare_lists.Goals as goal
 
 pub returns-in-Ok-None-clause-count : goal.returns-in-Ok-None-clause-count
-returns-in-Ok-None-clause-count c = c.object_count.ensures ∙ objects_held c.args.own.now.maps c.requires.good
+returns-in-Ok-None-clause-count c = c.object_count.ensures.count ∙ objects_held c.args.own.now.maps c.requires.good

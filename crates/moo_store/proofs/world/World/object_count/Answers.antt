@@ -5,4 +5,4 @@ use Rattle.moo_world.specs.ObjectLists.{objects_of}
 pub returns-clause-count : goal.returns-clause-count
 returns-clause-count g c works =
     ap Ok (subst (λ (w : World _). c.object_count.result ≡ length (objects_of (world_of w.rows.maps))) c.self.view_is
-    (c.object_count.ensures ∙ objects_held c.self.inside.rows.maps (c.self.invariant.1 c.if-self.false)))
+    (c.object_count.ensures.count ∙ objects_held c.self.inside.rows.maps (c.self.invariant.1 c.if-self.false)))
