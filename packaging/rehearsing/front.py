@@ -10,7 +10,7 @@ from typing import NamedTuple
 
 from rehearsing.clients import Made, answered, has_all, visits
 from rehearsing.machines import SECONDS, Machine, run_to_answer
-from rehearsing.page import TOP, block, is_wrong
+from rehearsing.page import NEW, TOP, block, is_wrong, of_version
 
 PASSWORD = "a password of the wizard's"
 RESTARTS = int(os.environ.get("RESTARTS", 24))
@@ -51,9 +51,9 @@ def own_port(machine: Machine) -> None:
     machine.run([f"mkdir -p $(dirname {PORT_CONF})", f"printf '[Socket]\\nListenStream=\\nListenStream=127.0.0.1:8088\\n' >{PORT_CONF}"])
 
 
-def let_people_in(one: Machine) -> str:
+def let_people_in(one: Machine, version: str = NEW) -> str:
     """A front for the world that is there, with its journal on two disks. Gives the wizard's token."""
-    one.run(["cd moo", *block("install the front"), "apt-get install curl"])
+    one.run(["cd moo", *of_version(block("install the front"), version), "apt-get install curl"])
     own_port(one)
     one.run(SLOW_WATCH)
     one.run(block("start the front"), text=f"{PASSWORD}\n")

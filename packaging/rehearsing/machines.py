@@ -1,4 +1,4 @@
-"""New machines of Debian 12: containers that boot systemd, made by `debootstrap`."""
+"""New machines of Debian: containers that boot systemd, made by `debootstrap`."""
 
 from __future__ import annotations
 
@@ -153,18 +153,18 @@ def until(machine: Machine, lines: list[str], seconds: float = SECONDS) -> str:
     raise AssertionError
 
 
-def test_shipped() -> None:
-    """The machines have the shipped program alone, so that it has to be of these sources."""
-    ran = subprocess.run([TOP / ".ci/sources"], stdout=subprocess.PIPE, text=True, check=True)
-    if ran.stdout.strip() != (TOP / "dist/SOURCES").read_text().strip():
-        is_wrong("the program in dist/ was made from other sources than these, and a new machine can build none")
+def test_shipped(top: Path = TOP) -> None:
+    """The machines have the shipped program alone, so that it has to be of its sources."""
+    ran = subprocess.run([top / ".ci/sources"], stdout=subprocess.PIPE, text=True, check=True)
+    if ran.stdout.strip() != (top / "dist/SOURCES").read_text().strip():
+        is_wrong(f"the program in {top}/dist was made from other sources, and a new machine can build none")
 
 
-def make_base(folder: Path) -> None:
+def make_base(folder: Path, release: str = "bookworm") -> None:
     """What each machine begins as, the sources for them, and the disk that outlives them."""
-    test_shipped()
     if not (folder / "base").exists():
-        words = ["debootstrap", "--include=dbus,systemd-sysv", "bookworm", str(folder / "unfinished"), MIRROR]
+        shutil.rmtree(folder / "unfinished", ignore_errors=True)
+        words = ["debootstrap", "--include=dbus,systemd-sysv", release, str(folder / "unfinished"), MIRROR]
         subprocess.run(words, stdout=subprocess.DEVNULL, check=True)
         (folder / "unfinished/etc/apt/apt.conf.d/yes").write_text('APT::Get::Assume-Yes "true";\n')
         # Debian's own packages needn't be synced file by file.

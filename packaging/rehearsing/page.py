@@ -14,6 +14,8 @@ from pathlib import Path
 from typing import NoReturn
 
 TOP = Path(__file__).resolve().parents[2]
+# The version of these sources, which `.ci/test versions` compares with the program's.
+(NEW,) = re.findall(r'^version = "(.*)"$', (TOP / "pyproject.toml").read_text(), re.MULTILINE)
 # Each block of commands of the page that is followed: its heading, and how its first line begins.
 BLOCKS = {
     "install": ("Install", "apt-get update"),
@@ -48,9 +50,12 @@ BLOCKS = {
     "bound of a start": ("Limits, and what to do about them", "[Service]"),
     "go on from noon": ("Drills", "systemctl stop moo-web@world.socket moo-web@world moo@world"),
     "somebody left": ("Drills", "runuser -u moo-web -- moo-people"),
-    "upgrade": ("Upgrade", "make deb"),
-    "from 1.0.0": ("Upgrade", "systemctl enable --now moo-check"),
-    "upgrade both": ("Upgrade", "apt-get install --reinstall"),
+    "make the packages": ("Upgrade", "make deb"),
+    "upgrade a standby": ("Upgrade", "apt-get install --reinstall"),
+    "upgrade": ("Upgrade", "systemctl start moo-backup@world"),
+    "upgrade both": ("Upgrade", "systemctl start moo-keep@world"),
+    "from 1.0.0": ("Upgrade", "sed -i '/^COUNT=/d'"),
+    "the way back": ("Upgrade", "apt-get install --allow-downgrades"),
 }
 
 
@@ -117,6 +122,11 @@ def here(lines: list[str]) -> list[str]:
     for old, new in changes:
         lines = [line.replace(old, new) for line in lines]
     return lines
+
+
+def of_version(lines: list[str], version: str) -> list[str]:
+    """Commands with the packages of this version."""
+    return [re.sub(r"(/moo(?:-web)?)_(?:VERSION|\d[\d.]*)_", rf"\1_{version}_", line) for line in lines]
 
 
 def with_copy(lines: list[str], copy: Path) -> list[str]:

@@ -9,14 +9,14 @@ from rehearsing.clients import Made, has_all, visits
 from rehearsing.copies import copies, tried_copies
 from rehearsing.front import INSTALL, number, own_port
 from rehearsing.machines import SECONDS, Machine, until
-from rehearsing.page import block, is_wrong, steady_port, step
+from rehearsing.page import NEW, block, is_wrong, steady_port, step
 
 
-def standby_on(folder: Path, one: Machine) -> Machine:
+def standby_on(folder: Path, one: Machine, version: str = NEW) -> Machine:
     """A second machine that follows the first: at first over ssh, and then by the disk that outlives the first."""
     two = Machine(folder, "two")
     with step("install a standby"):
-        one.run(["cp moo/out/moo*.deb /other/"])
+        one.run([f"cp moo/out/moo_{version}_*.deb moo/out/moo-web_{version}_*.deb /other/"])
         two.run(["apt-get update", f"{INSTALL} openssh-client"])
         two.run(["runuser -u moo-web -- ssh-keygen -q -t ed25519 -N '' -f /var/lib/moo-web/.ssh/id_ed25519"])
         key = two.run(["cat /var/lib/moo-web/.ssh/id_ed25519.pub"]).strip()

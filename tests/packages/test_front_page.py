@@ -23,7 +23,7 @@ ELSEWHERE = {
     "make": "packages.front_page",
     "make test": "packages.front_page",
     'make test SUBJECTS="shell web.forms"': "packages.front_page",
-    "make deb && apt-get install ./out/moo_1.0.0_amd64.deb": "packages.install",
+    "make deb && apt-get install ./out/moo_1.1.0_amd64.deb": "packages.install",
     "make demo": "web.demo",
     "apt-get install python3-waitress python3-jinja2": "packages.install",
     # The gate itself.

@@ -578,6 +578,20 @@ class Rehearsal(unittest.TestCase):
         with self.assertRaises(SystemExit), unittest.mock.patch.dict(page.BLOCKS, another=("Run", "apt-get")):
             page.block("another")
 
+    def test_an_upgrade_names_its_packages(self):
+        page = sys.modules["rehearsing.page"]
+        both = "apt-get install --reinstall ./out/moo_2.0_amd64.deb ./out/moo-web_2.0_all.deb"
+        self.assertIn(both, page.of_version(page.block("upgrade both"), "2.0"))
+        self.assertEqual(page.of_version(page.block("install")[-1:], "2.0"), ["apt-get install ./out/moo_2.0_amd64.deb"])
+
+    def test_an_upgrade_on_a_debian_by_its_name(self):
+        upgrade = tool("rehearse-upgrade", TOP / "packaging")
+        self.assertEqual(upgrade.read_words(["machines"]).releases, [])
+        self.assertEqual(upgrade.read_words(["machines", "trixie"]).releases, ["trixie"])
+        with self.assertRaises(SystemExit) as raised, contextlib.redirect_stderr(io.StringIO()):
+            upgrade.read_words(["machines", "sid"])
+        self.assertEqual(raised.exception.code, 2)
+
     def test_a_drill_by_its_name(self):
         said = self.rehearse.read_words(["machines", "--from", "the clock was ahead"])
         self.assertEqual((said.folder, said.first, said.only), (pathlib.Path("machines"), "the clock was ahead", None))
@@ -736,20 +750,22 @@ class Package(InFolder):
     @staticmethod
     def make_package(folder):
         moment = {"SOURCE_DATE_EPOCH": "1700000000"}
-        return [pathlib.Path(line) for line in ran(TOP / "packaging/deb", folder, env={**os.environ, **moment, "MOO": MOO}).splitlines()]
+        lines = ran(TOP / "packaging/deb", folder, env={**os.environ, **moment, "MOO": MOO}).splitlines()
+        # Another program than the shipped one is told of.
+        return [pathlib.Path(line) for line in lines if line.endswith(".deb")]
 
     def test_the_package_of_the_front(self):
         """It has whole folders of the modules, and what it needs is said."""
         self.assertEqual(self.web.name, f"moo-web_{ran(MOO, '--version').split()[1]}_all.deb")
         said = ran("dpkg-deb", "--field", self.web, "Depends").strip().split(", ")
         self.assertEqual(
-            said[1:], [f"moo (>= {ran(MOO, '--version').split()[1]})", "python3 (>= 3.11)", "python3-jinja2", "python3-waitress"]
+            said[1:], [f"moo (= {ran(MOO, '--version').split()[1]})", "python3 (>= 3.11)", "python3-jinja2", "python3-waitress"]
         )
         ran("dpkg-deb", "-x", self.web, self.room / "top")
         held = modes(self.room / "top")
         for name, mode in INSTALLED_WEB.items():
             self.assertEqual(held.pop(f"usr/{name}"), mode, name)
-        self.assertEqual({name.rpartition("/")[0] for name in held}, {"usr/share/doc/moo-web"})
+        self.assertEqual({name.rpartition("/")[0] for name in held}, {"usr/share/doc/moo-web", "usr/share/lintian/overrides"})
         self.assertEqual(os.readlink(self.room / "top/usr/lib/moo-web/moo_client.py"), "../../share/moo/moo_client.py")
         self.assertEqual(os.readlink(self.room / "top/usr/lib/moo-web/moolib"), "../../share/moo/moolib")
 
@@ -757,9 +773,9 @@ class Package(InFolder):
         version = ran(MOO, "--version").split()[1]
         self.assertEqual(self.package.name, f"moo_{version}_{ran('dpkg', '--print-architecture').strip()}.deb")
         said = ran("dpkg-deb", "--info", self.package)
-        for line in ("Package: moo", f"Version: {version}", "Depends: libc6 (>= 2.34), adduser, python3 (>= 3.9)"):
+        for line in ("Package: moo", f"Version: {version}", "Depends: libc6 (>= 2.34), adduser, python3 (>= 3.9)", f"Breaks: moo-web (<< {version})"):
             self.assertIn(f" {line}\n", said)
-        self.assertNotIn("@", re.sub(r"Maintainer: .*", "", said))
+        self.assertNotIn("@", said)
 
     def test_what_it_holds(self):
         ran("dpkg-deb", "-x", self.package, self.room / "top")

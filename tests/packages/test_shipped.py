@@ -66,6 +66,7 @@ def make_repository(top):
         shutil.copy(TOP / ".ci" / name, top / ".ci" / name)
     shutil.copy(TOP / "moo", top / "moo")
     write(top / ".gitignore", "out/\nbuild.log\n")
+    write(top / "packaging/spdx", "#!/bin/sh\necho '{}'\n", 0o755)
     write(top / "crates.txt", "low:\nmoo: low\ntest_low: low\n")
     write(top / "HANDLES", "Handles allowed: Net.\n")
     write(top / "crates/low/src/lib.rt", "// low\n")

@@ -38,7 +38,7 @@ class Words(ProgramTest):
         for word in COMMANDS:
             self.says(f"help of {word} has an example", 0, "Example:", word, "--help")
             self.says(f"help of {word} has its statuses", 0, "Exit status:", word, "--help")
-        self.says("the version", 0, "moo 1.0.0", "--version")
+        self.says("the version", 0, "moo 1.1.0", "--version")
 
     def test_mistakes(self):
         for word in COMMANDS:

@@ -67,7 +67,7 @@ pub trait Arrivals {
     )
         ensures { takes_back self.old connection self.new };
 
-    /// Tells of a connection that was taken back, and whose answer was lost after that. None if there is none; each is told of once. If
+    /// Tells of a connection that was taken back, and whose answer was lost after that. None if no answer was; each is told of once. If
     /// this `is_last`, it waits first until each answer is sent or lost.
     fn settle(&mut self, is_last: bool) -> Option<Loss>
         ensures { loses self.old result self.new };

@@ -3,12 +3,12 @@ use Rattle.std.specs.Prelude.{◌≡◌, ◌≢◌, ◌≤◌, ◌<◌, ℕ, Opt
 use Rattle.moo_batch.specs.declared.judging.Verdict.{Verdict}
 use Rattle.moo_batch.specs.declared.judging.Verdict.TheVariants.{Accepted, Refused, Full, Stale, OutOfMemory}
 
--- no ticks come back; without a bound there is none afterwards either
+-- no ticks come back; without a bound there is no bound afterwards either
 abbrev pub NoneComeBack : Option ℕ → Option ℕ → Type 0
 NoneComeBack None new = new ≡ None
 NoneComeBack (Some old) new = (left : ℕ) × (new ≡ Some left) × (left ≤ old)
 
--- one tick was taken at least; without a bound there is none afterwards either
+-- one tick was taken at least; without a bound there is no bound afterwards either
 abbrev pub TakesOne : Option ℕ → Option ℕ → Type 0
 TakesOne None new = new ≡ None
 TakesOne (Some old) new = (left : ℕ) × (new ≡ Some left) × (left < old)
@@ -21,7 +21,7 @@ HasMadeCall (Full call) = call ≢ 0
 HasMadeCall (Stale seq) = ⊥
 HasMadeCall OutOfMemory = ⊥
 
--- none come back, and one is taken at least if the verdict says that a call was made; without a bound there is none afterwards either
+-- none come back, and one is taken at least if the verdict says that a call was made; without a bound there is no bound afterwards either
 abbrev pub TakesTicks : Option ℕ → Option ℕ → Verdict → Type 0
 TakesTicks None new verdict = new ≡ None
 TakesTicks (Some old) new verdict = (left : ℕ) × (new ≡ Some left) × (left ≤ old) × (HasMadeCall verdict → left < old)

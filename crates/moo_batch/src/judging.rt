@@ -202,7 +202,7 @@ fn leave_ticks<R: Rows, W: Witness>(draft: &Draft<'_, R>, ticks: Option<u64>, wi
     // `ticks` is how many the witness had; if there is a bound, one at least.
     requires left { ticks ≡ W.left witness.old }
     requires some { (n : ℕ) → ticks ≡ Some n → 0 < n }
-    // The witness has fewer ticks than before; without a bound there is none afterwards either.
+    // The witness has fewer ticks than before; without a bound there is no bound afterwards either.
     ensures takes { TakesOne ticks (W.left witness.new) }
     // The witness sees no refusal.
     ensures kept { W.kept witness.new ≡ W.kept witness.old }

@@ -7,6 +7,6 @@ use Rattle.moo_world.specs.{Objects.{nothing, same_object}, Quota.{quota_of}, Wo
 abbrev pub quota_given : World → ObjNo → Option ℤ
 quota_given world owner = if same_object nothing owner then None else quota_of world owner
 
--- whether a quota is above 0, or there is none
+-- whether a quota is above 0, or there is no quota
 abbrev pub has_one_left : Option ℤ → Bool
 has_one_left quota = unwrap_or (option_map (λ number. int_lt (pos 0) number) quota) true

@@ -39,7 +39,7 @@ fn quota_given<R: Rows>(rows: &R, owner: ObjNo) -> Option<i64>
     // The rows are good: sound rows of a well formed world, and petitions as they may be beside it.
     requires { IsGood (R.held rows.now).maps }
     ensures quota { result ≡ quota_given (world_in (R.held rows.now)) owner }
-    // The quota has one left, or there is none, if and only if the owner may afford one more object.
+    // The quota has one left, or there is no quota, if and only if the owner may afford one more object.
     ensures left { has_one_left result ≡ may_afford (world_in (R.held rows.now)) owner }
 {
     if is_nothing(owner) {
@@ -49,7 +49,7 @@ fn quota_given<R: Rows>(rows: &R, owner: ObjNo) -> Option<i64>
     }
 }
 
-/// Whether a quota is above 0, or there is none.
+/// Whether a quota is above 0, or there is no quota.
 fn has_one_left(quota: Option<i64>) -> bool
     ensures { result ≡ has_one_left quota }
 {
@@ -63,9 +63,9 @@ fn has_one_left(quota: Option<i64>) -> bool
 fn charge<R: Rows>(rows: &mut R, owner: ObjNo, quota: Option<i64>) -> Result<(), AllocError>
     // The rows are good: sound rows of a well formed world, and petitions as they may be beside it.
     requires good { IsGood (R.held rows.old).maps }
-    // The quota is the owner's, and there is none if the owner is `#-1`.
+    // The quota is the owner's, and there is no quota if the owner is `#-1`.
     requires quota { quota ≡ quota_given (world_in (R.held rows.old)) owner }
-    // The quota is above 0, or there is none.
+    // The quota is above 0, or there is no quota.
     requires left { has_one_left quota ≡ true }
     // The owner's quota, if there is one, is one lower, and the world is as it was otherwise.
     ensures world { OnOk result (world_in (R.held rows.new) ≡ charged (world_in (R.held rows.old)) owner) }

@@ -1,6 +1,6 @@
 //! The texts that `moo --help` and `moo COMMAND --help` print, and the version.
 
-pub(crate) const VERSION: &str = "1.0.0";
+pub(crate) const VERSION: &str = "1.1.0";
 
 pub(crate) const FILE: &str =
     "A database file (FILE-wal is a part of it), or :memory: for a new world that is gone at the end";

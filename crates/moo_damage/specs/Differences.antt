@@ -24,7 +24,7 @@ IsFirstDifference a b key = ¬ (AgreeAt a b key) × ((other : Key) → IsBelow o
 
 -- ---- one map
 
--- the least key whose rows in two maps differ, or that one alone has; `None` if there is none
+-- the least key whose rows in two maps differ, or that one alone has; `None` if there is no such key
 abbrev pub IsFirstUnlike : {K X : Type 0} {cmp : K → K → Ordering} → FinMap cmp X → FinMap cmp X → Option K → Type 0
 IsFirstUnlike {K = K} a b None = (k : K) → get a k ≡ get b k
 IsFirstUnlike {K = K} {cmp = cmp} a b (Some key) = (get a key ≢ get b key) × ((k : K) → cmp k key ≡ Less → get a k ≡ get b k)
@@ -34,6 +34,6 @@ abbrev pub IsUnlike : {K X : Type 0} {cmp : K → K → Ordering} → FinMap cmp
 IsUnlike there true key row = get there key ≢ Some row
 IsUnlike there false key row = get there key ≡ Some row
 
--- the least key of a map whose row isn't the row of the key in another map; `None` if there is none
+-- the least key of a map whose row isn't the row of the key in another map; `None` if there is no such key
 abbrev pub IsLeastUnlike : {K X : Type 0} {cmp : K → K → Ordering} → FinMap cmp X → FinMap cmp X → Option K → Type 0
 IsLeastUnlike rows there o = IsLeastBad rows (IsUnlike there false) (IsUnlike there true) o

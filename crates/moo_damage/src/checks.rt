@@ -81,21 +81,21 @@ pub(crate) fn is_lost<R: Rows>(rows: &R, link: TreeLink, row: &ObjRow) -> bool
     !valid(rows, next)
 }
 
-/// The least object whose link names neither an object nor `#-1`; `None` if there is none.
+/// The least object whose link names neither an object nor `#-1`; `None` if there is no such object.
 pub(crate) fn first_lost<R: Rows>(rows: &R, link: TreeLink) -> Option<ObjNo>
     ensures { IsLeastPassing (R.held rows.now).maps.objects (λ _ row. is_lost link (R.held rows.now).maps row) result }
 {
     first_bad::<ObjRow, R, _>(rows, |_x, row| is_lost(rows, link, row))
 }
 
-/// The least property whose definer isn't an object; `None` if there is none.
+/// The least property whose definer isn't an object; `None` if there is no such property.
 pub(crate) fn first_undefined<R: Rows>(rows: &R) -> Option<PropId>
     ensures { IsLeastPassing (R.held rows.now).maps.props (λ _ row. lacks_definer (R.held rows.now).maps row) result }
 {
     first_bad::<PropRow, R, _>(rows, |_id, row| !valid(rows, row.definer))
 }
 
-/// The least verb under a number that isn't an object's; `None` if there is none.
+/// The least verb under a number that isn't an object's; `None` if there is no such verb.
 pub(crate) fn first_strange_verb<R: Rows>(rows: &R) -> Option<(ObjNo, VerbId)>
     ensures { IsLeastPassing (R.held rows.now).maps.verbs (λ key _. is_strange_verb (R.held rows.now).maps key) result }
 {
@@ -208,7 +208,8 @@ fn any_clear_own<R: Rows>(rows: &R) -> bool
     any_bad::<PropRow, R, _>(rows, |id, row| has_clear(rows, (row.definer, id)))
 }
 
-/// The least slot that is clear on the definer of its property; `None` if there is none. Slots are looked at only if some property has one.
+/// The least slot that is clear on the definer of its property; `None` if there is no such slot. Slots are looked at only if some property
+/// has one.
 pub(crate) fn first_clear<R: Rows>(rows: &R) -> Option<(ObjNo, PropId)>
     ensures { IsLeastPassing (R.held rows.now).maps.slots (is_clear_definer (R.held rows.now).maps) result }
 {
@@ -218,7 +219,7 @@ pub(crate) fn first_clear<R: Rows>(rows: &R) -> Option<(ObjNo, PropId)>
     first_bad::<SlotRow, R, _>(rows, |key, row| is_clear_definer(rows, key, row))
 }
 
-/// The least property that x is owed and has no slot of; `None` if there is none.
+/// The least property that x is owed and has no slot of; `None` if there is no such property.
 fn first_missing_of<R: Rows>(rows: &R, x: ObjNo) -> Option<PropId>
     // Parents and locations are objects or `#-1`, without loops, and each object's number was given.
     requires { IsTree (world_of (R.held rows.now).maps) }
@@ -227,7 +228,7 @@ fn first_missing_of<R: Rows>(rows: &R, x: ObjNo) -> Option<PropId>
     first_bad::<PropRow, R, _>(rows, |key, _row| is_missing(rows, (x, key)))
 }
 
-/// The least slot that an object is owed and doesn't have; `None` if there is none.
+/// The least slot that an object is owed and doesn't have; `None` if there is no such slot.
 pub(crate) fn first_missing<R: Rows>(rows: &R) -> Option<(ObjNo, PropId)>
     // Parents and locations are objects or `#-1`, without loops, and each object's number was given.
     requires { IsTree (world_of (R.held rows.now).maps) }

@@ -21,7 +21,7 @@ fn ungiven_number<R: Rows>(rows: &R, are_plain: bool) -> Option<(Kind, Key)>
     requires { are_plain ≡ true → ArePlain (R.held rows.now).maps }
     // Some damage is the first that is met, with its least key. `None` only if no kind up to `PastHead` is met.
     ensures first { IsFirstBefore (InRows (R.held rows.now).maps) 4 result }
-    // If there is none, each number was given.
+    // If there is no damage, each number was given.
     ensures given { IfNone result (NumbersGiven (R.held rows.now).maps) }
 {
     if let Some(x) = past_object(rows, are_plain) {
@@ -39,8 +39,8 @@ fn ungiven_number<R: Rows>(rows: &R, are_plain: bool) -> Option<(Kind, Key)>
     None
 }
 
-/// The first object whose link names no object, or else whose chain of links has no end; `None` if there is none. If `are_plain`, none
-/// is looked for: it says that the objects are known to be right. The only error is a lack of memory.
+/// The first object whose link names no object, or else whose chain of links has no end; `None` if there is no such object. If `are_plain`,
+/// none is looked for: it says that the objects are known to be right. The only error is a lack of memory.
 fn wrong_link<R: Rows>(
     alloc: Global,
     rows: &R,
@@ -55,7 +55,7 @@ fn wrong_link<R: Rows>(
     requires before { NoneBefore (InRows (R.held rows.now).maps) (rank (lost_kind link)) }
     // Some damage is the first that is met, with its least key. `None` only if no kind up to that of a chain without an end is met.
     ensures first { IfOk result (IsFirstBefore (InRows (R.held rows.now).maps) (suc (rank (loop_kind link)))) }
-    // If there is none, each object's chain of this link ends.
+    // If there is no such object, each object's chain of this link ends.
     ensures ends { IfOk result (λ o. IfNone o (LinksEnd link (R.held rows.now).maps)) }
 {
     if let Some(x) = lost_object(rows, link, are_plain) {
@@ -67,7 +67,7 @@ fn wrong_link<R: Rows>(
     }
 }
 
-/// The first property whose definer isn't an object, or else whose name one of lesser number has; `None` if there is none. If
+/// The first property whose definer isn't an object, or else whose name one of lesser number has; `None` if there is no such property. If
 /// `slots_are_owed`, names aren't looked at: it says that the slots are known to be just those that objects are owed.
 fn wrong_property<R: Rows>(rows: &R, slots_are_owed: bool) -> Option<(Kind, Key)>
     // Parents and locations are objects or `#-1`, without loops, and each object's number was given.
@@ -78,7 +78,7 @@ fn wrong_property<R: Rows>(rows: &R, slots_are_owed: bool) -> Option<(Kind, Key)
     requires before { NoneBefore (InRows (R.held rows.now).maps) 8 }
     // Some damage is the first that is met, with its least key. `None` only if no kind up to `DoubleName` is met.
     ensures first { IsFirstBefore (InRows (R.held rows.now).maps) 10 result }
-    // If there is none, each definer is an object, and no name is double.
+    // If there is no such property, each definer is an object, and no name is double.
     ensures right { IfNone result (PropsRight (R.held rows.now).maps) }
 {
     if let Some(id) = first_undefined(rows) {
@@ -91,8 +91,8 @@ fn wrong_property<R: Rows>(rows: &R, slots_are_owed: bool) -> Option<(Kind, Key)
 }
 
 /// The first damage of slots or verbs, with its least key, in this order: a slot that its object isn't owed, a slot that is owed and
-/// missing, a slot that is clear on the definer of its property, a verb of no object. `None` if there is none. If `slots_are_owed`, the
-/// first two aren't looked for: it says that the slots are known to be just those that objects are owed.
+/// missing, a slot that is clear on the definer of its property, a verb of no object. `None` if there is no damage. If `slots_are_owed`,
+/// the first two aren't looked for: it says that the slots are known to be just those that objects are owed.
 fn wrong_slot_or_verb<R: Rows>(rows: &R, slots_are_owed: bool) -> Option<(Kind, Key)>
     // Parents and locations are objects or `#-1`, without loops, and each object's number was given.
     requires tree { IsTree (world_of (R.held rows.now).maps) }
@@ -102,7 +102,7 @@ fn wrong_slot_or_verb<R: Rows>(rows: &R, slots_are_owed: bool) -> Option<(Kind, 
     requires before { NoneBefore (InRows (R.held rows.now).maps) 10 }
     // Some damage is the first that is met, with its least key. `None` only if no kind up to `StrangeVerb` is met.
     ensures first { IsFirstBefore (InRows (R.held rows.now).maps) 14 result }
-    // If there is none, slots are just those that are owed, none is clear on its definer, and each verb is of an object.
+    // If there is no damage, slots are just those that are owed, none is clear on its definer, and each verb is of an object.
     ensures right { IfNone result (SlotsRight (R.held rows.now).maps) }
 {
     if let Some(key) = strange_slot(rows, slots_are_owed) {

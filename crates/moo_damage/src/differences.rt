@@ -25,7 +25,7 @@ fn first_unlike<T: KeyedRow, R: Rows>(rows: &R, there: &R) -> Option<T::Key>
     first_bad::<T, R, _>(rows, |key, row| is_unlike::<T, R>(there, key, row))
 }
 
-/// The least key of a kind of row whose rows differ in the two sets, or that is in one alone; `None` if there is none.
+/// The least key of a kind of row whose rows differ in the two sets, or that is in one alone; `None` if there is no such key.
 fn first_differing<T: KeyedRow, R: Rows>(own: &R, found: &R) -> Option<T::Key>
     ensures { IsFirstUnlike (T.map_of (R.held own.now).maps) (T.map_of (R.held found.now).maps) result }
 {

@@ -94,7 +94,8 @@ pub(crate) fn slots_are_owed<R: Rows>(alloc: Global, rows: &R) -> Result<bool, A
     are_names_apart(alloc, rows)
 }
 
-/// The least property whose name one of lesser number has; `None` if there is none, as is known without a look if `slots_are_owed`.
+/// The least property whose name one of lesser number has; `None` if there is no such property, as is known without a look if
+/// `slots_are_owed`.
 pub(crate) fn double_name<R: Rows>(rows: &R, slots_are_owed: bool) -> Option<PropId>
     // Parents and locations are objects or `#-1`, without loops, and each object's number was given.
     requires tree { IsTree (world_of (R.held rows.now).maps) }
@@ -108,7 +109,7 @@ pub(crate) fn double_name<R: Rows>(rows: &R, slots_are_owed: bool) -> Option<Pro
     first_bad::<PropRow, R, _>(rows, |id, row| is_double(rows, id, row))
 }
 
-/// The least slot that its object isn't owed; `None` if there is none, as is known without a look if `slots_are_owed`.
+/// The least slot that its object isn't owed; `None` if there is no such slot, as is known without a look if `slots_are_owed`.
 pub(crate) fn strange_slot<R: Rows>(rows: &R, slots_are_owed: bool) -> Option<(ObjNo, PropId)>
     // Parents and locations are objects or `#-1`, without loops, and each object's number was given.
     requires tree { IsTree (world_of (R.held rows.now).maps) }
@@ -122,7 +123,7 @@ pub(crate) fn strange_slot<R: Rows>(rows: &R, slots_are_owed: bool) -> Option<(O
     first_bad::<SlotRow, R, _>(rows, |key, _row| is_strange(rows, key))
 }
 
-/// The least slot that an object is owed and doesn't have; `None` if there is none, as is known without a look if `slots_are_owed`.
+/// The least slot that an object is owed and doesn't have; `None` if there is no such slot, as is known without a look if `slots_are_owed`.
 pub(crate) fn missing_slot<R: Rows>(rows: &R, slots_are_owed: bool) -> Option<(ObjNo, PropId)>
     // Parents and locations are objects or `#-1`, without loops, and each object's number was given.
     requires tree { IsTree (world_of (R.held rows.now).maps) }

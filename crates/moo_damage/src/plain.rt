@@ -32,7 +32,7 @@ pub(crate) fn are_plain<R: Rows>(rows: &R) -> bool
     first_bad::<ObjRow, R, _>(rows, |x, row| !is_plain_object(rows, x, row)).is_none()
 }
 
-/// The least object whose number was never given; `None` if there is none, as is known without a look if `are_plain`.
+/// The least object whose number was never given; `None` if there is no such object, as is known without a look if `are_plain`.
 pub(crate) fn past_object<R: Rows>(rows: &R, are_plain: bool) -> Option<ObjNo>
     // `are_plain` is true only if one look at each object shows that it is right.
     requires { are_plain ≡ true → ArePlain (R.held rows.now).maps }
@@ -44,7 +44,8 @@ pub(crate) fn past_object<R: Rows>(rows: &R, are_plain: bool) -> Option<ObjNo>
     first_past::<ObjRow, R>(rows)
 }
 
-/// The least object whose link names neither an object nor `#-1`; `None` if there is none, as is known without a look if `are_plain`.
+/// The least object whose link names neither an object nor `#-1`; `None` if there is no such object, as is known without a look if
+/// `are_plain`.
 pub(crate) fn lost_object<R: Rows>(rows: &R, link: TreeLink, are_plain: bool) -> Option<ObjNo>
     // `are_plain` is true only if one look at each object shows that it is right.
     requires { are_plain ≡ true → ArePlain (R.held rows.now).maps }
@@ -56,7 +57,8 @@ pub(crate) fn lost_object<R: Rows>(rows: &R, link: TreeLink, are_plain: bool) ->
     first_lost(rows, link)
 }
 
-/// The least object whose chain of links doesn't end; `None` if there is none, as is known if `are_plain`. AllocError: memory ran out.
+/// The least object whose chain of links doesn't end; `None` if there is no such object, as is known if `are_plain`. AllocError: memory ran
+/// out.
 pub(crate) fn looping_object<R: Rows>(
     alloc: Global,
     rows: &R,

@@ -126,7 +126,7 @@ fn note_path(known: &mut BTreeMap<ObjNo, ()>, path: &[ObjNo]) -> Result<(), Allo
     Ok(())
 }
 
-/// The least object whose chain of links doesn't end; `None` if there is none. The only error is a lack of memory.
+/// The least object whose chain of links doesn't end; `None` if there is no such object. The only error is a lack of memory.
 ///
 /// In most worlds each object is linked to one of a lesser number, or to a root as a new world's system object is, and that is looked
 /// for first, without any memory. Else each object is climbed over once: the objects whose chains are known to end are noted, and the

@@ -11,7 +11,7 @@ NotesLoss old loss new =
     ⊎ ((new.all.items ≡ old.all.items) × (new.more ≡ min (old.more + 1) (2 ^ 32 - 1)))
 
 -- A loss that was noted is told of, and isn't noted any more; after all of these, one for which there was no memory. None is told of only
--- if there is none.
+-- if no loss is left.
 abbrev pub TellsOf : Losses → Option Loss → Losses → Type 0
 TellsOf old None new = (old.all.items ≡ []) × (old.more ≡ 0) × (new.all.items ≡ []) × (new.more ≡ 0)
 TellsOf old (Some loss) new =

@@ -218,8 +218,8 @@ impl<R: Inward + OpenStream + Drop, W: Outward + OpenStream + Drop> Held<R, W> {
         any_item(&self.slots, &Ready)
     }
 
-    /// Takes the connection that came first of those whose request is whole, or of which nothing more comes. None if there is none, and
-    /// while 32 MiB of answers or more are held beside the largest.
+    /// Takes the connection that came first of those whose request is whole, or of which nothing more comes. None if no connection is
+    /// ready, and while 32 MiB of answers or more are held beside the largest.
     pub fn next_whole(&mut self) -> Option<Slot<R, W>>
         ensures { TakesSlot (book_of self.old) result (book_of self.new) }
     {
@@ -230,7 +230,7 @@ impl<R: Inward + OpenStream + Drop, W: Outward + OpenStream + Drop> Held<R, W> {
         Some(self.slots.remove(place))
     }
 
-    /// For how long the oldest unfinished request can't be ended yet. None if it can be, or if there is none.
+    /// For how long the oldest unfinished request can't be ended yet. None if it can be, or if no request is unfinished.
     pub fn spared_time(&self, now: Duration) -> Option<Duration>
         // It is the time until 201 milliseconds after the oldest unfinished request came; none if that is past.
         ensures oldest { OfFirst IsUnfinished (IsSpared now result) self.now.slots.items }

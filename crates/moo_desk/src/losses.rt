@@ -35,7 +35,7 @@ impl Losses {
     }
 
     /// Takes one loss, to be told of. After those that were noted, it takes those for which there was no memory, each with the route
-    /// Unknown and the cause OutOfMemory. None if there is none.
+    /// Unknown and the cause OutOfMemory. None if no loss is left.
     pub fn take(&mut self) -> Option<Loss>
         ensures { TellsOf self.old result self.new }
     {

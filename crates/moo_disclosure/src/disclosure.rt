@@ -39,7 +39,7 @@ pub fn disclosure_of<R: Rows>(
     ensures meant { IfOk result (λ told. is_held ≡ false →
         told.meant.items ≡ names_meant (world_of (R.held rows.now).maps) programmer call args.now reason) }
     // If the call is one of the batch itself and fails as `NameShared`, `clash` is the first of the definer's first 200 names that the new
-    // parent has, if the programmer may read the definer; else there is none.
+    // parent has, if the programmer may read the definer; else no name.
     ensures clash { IfOk result (λ told. is_held ≡ false →
         told.clash ≡ clash_name (world_of (R.held rows.now).maps) programmer args.now reason) }
     // Of a call that a granted petition holds no name is told.

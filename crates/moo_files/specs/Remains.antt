@@ -16,7 +16,7 @@ use Rattle.moo_store.specs.declared.fault.StoreFault.TheVariants.{Store, OutOfMe
 use Rattle.moo_files.specs.{Contents.{HoldsSuch, HoldsNothingBut, HasNoSums, IsKept, ReadsAs}, declared.remains.Remains.{Remains}}
 use Rattle.moo_files.specs.declared.remains.Remains.TheVariants as remains
 
--- the fault of a file that can't be opened: there is none of this name, or the host refused it
+-- the fault of a file that can't be opened: there is no file of this name, or the host refused it
 abbrev pub cannot_open : StoreFault
 cannot_open = Store (SqliteFailure CannotOpen)
 

@@ -20,7 +20,7 @@ fn with_digit(number: u64, digit: u64, most: u64) -> u64
     }
 }
 
-/// The number that one or more digits write. None if a byte isn't a digit, there is none, or the number is over `most`.
+/// The number that one or more digits write. None if a byte isn't a digit, there is no byte, or the number is over `most`.
 pub(crate) fn number_at_most(text: &[u8], most: u64) -> Option<u64>
     // So ten times the limit can't overflow.
     requires { most < 2 ^ 59 }

@@ -202,8 +202,8 @@ fn path_refusal(path: &[u8]) -> Refusal
     }
 }
 
-/// The plan of a request, by the route of its path: it is refused if there is none, and then if it is for another machine and the route is
-/// guarded. Then its method is looked at.
+/// The plan of a request, by the route of its path: it is refused if there is no route, and then if it is for another machine and the route
+/// is guarded. Then its method is looked at.
 fn plan_route(
     endpoint: Option<Endpoint>,
     method: &[u8],

@@ -26,7 +26,7 @@ fn error_entry(alloc: Global, word: &str, why: Option<&str>) -> Result<Value, Al
     Ok(Value::Object(fields))
 }
 
-/// The first answer as the text of its literal, or null if there is none. The only error is a lack of memory.
+/// The first answer as the text of its literal, or null if there is no answer. The only error is a lack of memory.
 fn first_answer(alloc: Global, answers: &[Literal]) -> Result<Value, AllocError>
     ensures { IfOk result (λ value. view value ≡ first_answer answers.now) }
 {

@@ -56,7 +56,7 @@ fn head_why(refusal: Refusal) -> Option<&'static str>
     }
 }
 
-/// The sentence that tells why a head is refused. None if there is none for this refusal, or the request doesn't ask why.
+/// The sentence that tells why a head is refused. None if this refusal has no sentence, or the request doesn't ask why.
 pub(crate) fn head_told(asks_why: bool, refusal: Refusal) -> Option<&'static str>
     ensures { option_map (λ why. why.now) result ≡ head_told asks_why refusal }
 {

@@ -8,7 +8,7 @@ use moo_dump::dump;
 use moo_rows::Rows;
 use std::alloc::{AllocError, Global};
 
-/// The number of the first line of a text, after the line of a number, that has the bytes of a line. `None` if there is none.
+/// The number of the first line of a text, after the line of a number, that has the bytes of a line. `None` if there is no such line.
 fn same_line_after(text: &[u8], number: u64, line: &[u8]) -> Option<u64> {
     let mut at: u64 = 0;
     for other in text.split(|byte| *byte == b'\n') {

@@ -18,7 +18,7 @@ pub(crate) fn line_at(text: &[u8], at: usize) -> u64
     number
 }
 
-/// The place of the first line end, from 0; `None` if there is none.
+/// The place of the first line end, from 0; `None` if there is no such line end.
 fn end_of(bytes: &[u8]) -> Option<usize>
     ensures first { result ≡ position_from (λ byte. byte == 10) 0 bytes.now }
     ensures within { IfSome result (λ end. end < length bytes.now) }

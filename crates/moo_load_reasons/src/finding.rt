@@ -47,7 +47,8 @@ pub(crate) fn begin_with(values: &[Value], front: &[Value]) -> bool {
             .all(|(value, other)| value.same(other))
 }
 
-/// The first line whose word is `word` and whose list begins with the values `front`; `None` if there is none. AllocError: memory ran out.
+/// The first line whose word is `word` and whose list begins with the values `front`; `None` if there is no such line. AllocError: memory
+/// ran out.
 pub(crate) fn line_with(
     alloc: Global,
     text: &[u8],

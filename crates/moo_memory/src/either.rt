@@ -13,8 +13,8 @@ use moo_rows::{Link, ObjRow, PropId, Rows, ordered};
 use moo_value::ObjNo;
 use std::collections::BTreeMap;
 
-/// The least object past `after` that has the link in the base, or is changed and to be looked at for the link; `None` if there is none.
-/// Takes no memory.
+/// The least object past `after` that has the link in the base, or is changed and to be looked at for the link; `None` if there is no such
+/// object. Takes no memory.
 pub(crate) fn next_linked_of_either<R: Rows>(
     base: &R,
     changes: &BTreeMap<ObjNo, Option<ObjRow>>,
@@ -32,7 +32,8 @@ pub(crate) fn next_linked_of_either<R: Rows>(
     )
 }
 
-/// The least property past `after` that x defines in the base, or may define among the changes; `None` if there is none. Takes no memory.
+/// The least property past `after` that x defines in the base, or may define among the changes; `None` if there is no such property. Takes
+/// no memory.
 pub(crate) fn next_defined_of_either<R: Rows>(
     base: &R,
     definers: &BTreeMap<(ObjNo, PropId), ()>,
@@ -48,7 +49,7 @@ pub(crate) fn next_defined_of_either<R: Rows>(
 }
 
 /// The least property past `after` that x defines under the name in the base, or may define so among the changes, where it is kept for the
-/// hash of the name; `None` if there is none. Takes no memory.
+/// hash of the name; `None` if there is no such property. Takes no memory.
 pub(crate) fn next_named_of_either<R: Rows>(
     base: &R,
     names: &BTreeMap<((ObjNo, u64), PropId), ()>,

@@ -76,7 +76,7 @@ pub fn row_defined(row: Option<&PropRow>, x: ObjNo) -> bool
     }
 }
 
-/// The least object past `after` that is paired with x, or `None` if there is none.
+/// The least object past `after` that is paired with x, or `None` if there is no such object.
 fn next_tied(pairs: &BTreeMap<(ObjNo, ObjNo), ()>, x: ObjNo, after: ObjNo) -> Option<ObjNo>
     ensures { IsFirst object_cmp (λ q. has_key tie_cmp pairs.now (x, q)) after result }
 {
@@ -84,14 +84,14 @@ fn next_tied(pairs: &BTreeMap<(ObjNo, ObjNo), ()>, x: ObjNo, after: ObjNo) -> Op
     if of == x { Some(key) } else { None }
 }
 
-/// The least object past `after` that is a key of the map, or `None` if there is none.
+/// The least object past `after` that is a key of the map, or `None` if there is no such object.
 fn next_of<V>(objects: &BTreeMap<ObjNo, V>, after: ObjNo) -> Option<ObjNo>
     ensures { IsFirst object_cmp (λ q. has_key object_cmp objects.now q) after result }
 {
     ordered::next(objects, Some(after))
 }
 
-/// The least property past `after` that is paired with x, as its definer, or `None` if there is none.
+/// The least property past `after` that is paired with x, as its definer, or `None` if there is no such property.
 pub fn next_defined(
     pairs: &BTreeMap<(ObjNo, PropId), ()>,
     x: ObjNo,
@@ -173,7 +173,7 @@ impl Links {
         })
     }
 
-    /// The least object past `after` that is kept for the link, or `None` if there is none. Takes no memory.
+    /// The least object past `after` that is kept for the link, or `None` if there is no such object. Takes no memory.
     fn next_kept(&self, link: Link, after: ObjNo) -> Option<ObjNo>
         ensures { IsFirst object_cmp (is_kept self.now link) after result }
     {
@@ -184,8 +184,8 @@ impl Links {
         }
     }
 
-    /// The least object past `after` that is to be looked at for the link, or `None` if there is none: of all held objects if the link is
-    /// to `#-1`, else of those that are kept for it. Takes no memory.
+    /// The least object past `after` that is to be looked at for the link, or `None` if there is no such object: of all held objects if the
+    /// link is to `#-1`, else of those that are kept for it. Takes no memory.
     pub fn next<V>(&self, held: &BTreeMap<ObjNo, V>, link: Link, after: ObjNo) -> Option<ObjNo>
         ensures { IsFirst object_cmp (is_candidate self.now (contents object_cmp held.now) link) after result }
     {

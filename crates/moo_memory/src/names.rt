@@ -51,7 +51,7 @@ fn same_tag(one: (ObjNo, u64), other: (ObjNo, u64)) -> bool
     one == other
 }
 
-/// The least property past `after` that is kept for a tag, or `None` if there is none. Takes no memory.
+/// The least property past `after` that is kept for a tag, or `None` if there is no such property. Takes no memory.
 pub fn next_tagged(
     names: &BTreeMap<((ObjNo, u64), PropId), ()>,
     tag: (ObjNo, u64),

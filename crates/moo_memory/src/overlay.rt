@@ -11,7 +11,7 @@ use moo_rows::{KeyedRow, Rows, ordered};
 use std::alloc::AllocError;
 use std::collections::BTreeMap;
 
-/// The row of a key: if it is changed its new row, and else that of the base. `None` if there is none. Takes no memory.
+/// The row of a key: if it is changed its new row, and else that of the base. `None` if there is no such row. Takes no memory.
 pub fn get<'a, R: Rows, V: KeyedRow>(
     base: &'a R,
     changes: &'a BTreeMap<V::Key, Option<V>>,
@@ -27,7 +27,7 @@ pub fn get<'a, R: Rows, V: KeyedRow>(
     }
 }
 
-/// The least key past `from` that is in the base or changed, though it may be removed; `None` if there is none. Takes no memory.
+/// The least key past `from` that is in the base or changed, though it may be removed; `None` if there is no such key. Takes no memory.
 fn next_of_either<R: Rows, V: KeyedRow>(
     base: &R,
     changes: &BTreeMap<V::Key, Option<V>>,
@@ -38,7 +38,7 @@ fn next_of_either<R: Rows, V: KeyedRow>(
     ordered::least(V::next(base, from), ordered::next(changes, from))
 }
 
-/// The least key past `from` that has a row, or the least of all if no `from` is given; `None` if there is none. Takes no memory.
+/// The least key past `from` that has a row, or the least of all if no `from` is given; `None` if there is no such key. Takes no memory.
 pub fn next<R: Rows, V: KeyedRow>(
     base: &R,
     changes: &BTreeMap<V::Key, Option<V>>,

@@ -67,7 +67,7 @@ impl OwnLinks {
         self.others.add(key, ties)
     }
 
-    /// The least changed object past `after` that is to be looked at for the link, or `None` if there is none. Takes no memory.
+    /// The least changed object past `after` that is to be looked at for the link, or `None` if there is no such object. Takes no memory.
     pub(crate) fn next(
         &self,
         changes: &BTreeMap<ObjNo, Option<ObjRow>>,

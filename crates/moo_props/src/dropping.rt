@@ -130,7 +130,7 @@ fn verbs_among<R: Rows>(
     Ok(found)
 }
 
-/// The least object past `last` whose parent or location is x, or `None` if there is none. Takes no memory.
+/// The least object past `last` whose parent or location is x, or `None` if there is no such object. Takes no memory.
 fn next_linked_to<R: Rows>(rows: &R, x: ObjNo, last: ObjNo) -> Option<ObjNo>
     ensures { IsFirst object_cmp (λ y. row_linked x (get (R.held rows.now).maps.objects y)) last result }
 {

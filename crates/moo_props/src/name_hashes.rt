@@ -48,7 +48,7 @@ pub(crate) fn names_of<R: Rows>(
     Ok(names)
 }
 
-/// The least property past `after` that is kept for a hash, or `None` if there is none. Takes no memory.
+/// The least property past `after` that is kept for a hash, or `None` if there is no such property. Takes no memory.
 fn next_hashed(names: &BTreeMap<(u64, PropId), ()>, hash: u64, after: PropId) -> Option<PropId>
     ensures { IsFirst prop_cmp (λ id. is_some (get (contents hashed_cmp names.now) (hash, id))) after result }
 {

@@ -20,7 +20,7 @@ fn unasked_name(held: &Value) -> Option<&Value> {
     }
 }
 
-/// The first name in a petition that isn't of a call that a petition may ask for; `None` if there is none.
+/// The first name in a petition that isn't of a call that a petition may ask for; `None` if there is no such name.
 pub(crate) fn first_unasked(calls: &ValueList) -> Option<&Value> {
     calls.items().iter().find_map(unasked_name)
 }

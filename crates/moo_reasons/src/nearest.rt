@@ -22,8 +22,8 @@ fn nearest<'a>(word: &MooStr, names: &'a [MooStr]) -> Option<&'a MooStr> {
     found
 }
 
-/// Says which property a call may have meant, if it fails since there is none of the name that it gives: one whose name is disclosed. The
-/// only error is a lack of memory.
+/// Says which property a call may have meant, if it fails since no property has the name that it gives: a property whose name is disclosed.
+/// The only error is a lack of memory.
 pub(crate) fn tell_nearest(
     said: &mut Said,
     given: Given<'_>,

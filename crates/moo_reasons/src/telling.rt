@@ -183,7 +183,7 @@ fn checked_value<'a>(given: Given<'a>, reason: Reason) -> Option<&'a Value> {
     }
 }
 
-/// Says a value; nothing if there is none. The only error is a lack of memory.
+/// Says a value; nothing if there is no value. The only error is a lack of memory.
 pub(crate) fn put_some(said: &mut Said, value: Option<&Value>) -> Result<(), AllocError> {
     match value {
         Some(value) => said.put_value(value),

@@ -88,7 +88,7 @@ impl Whys {
         Ok(Some(format!(in self.alloc; "call {call}: over {ticks} ticks (moo serve --ticks)")?))
     }
 
-    /// Takes the first line that wasn't taken yet; `None` if there is none.
+    /// Takes the first line that wasn't taken yet; `None` if there is no such line.
     fn next_line(&mut self) -> Option<String>
         ensures { IsFirstLine self.old.seen.items result self.new.seen.items }
     {

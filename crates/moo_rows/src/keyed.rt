@@ -46,7 +46,7 @@ pub trait KeyedRow: Row {
     /// The maps with another map of this kind.
     ghost with_map: { Maps → FinMap order Self → Maps };
 
-    /// The row of a key, or `None` if there is none. Takes no memory.
+    /// The row of a key, or `None` if there is no such row. Takes no memory.
     fn find<R: Rows>(rows: &R, key: Self::Key) -> Option<&Self>
         ensures { option_map (λ row. row.now) result ≡ map.get (map_of (R.held rows.now).maps) key };
 

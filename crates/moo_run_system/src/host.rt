@@ -106,8 +106,8 @@ impl<'a, T: Start> WorldFiles<T> for System<'a> {
     }
 }
 
-/// Makes a file that only its owner may read, if there is none. `sqlite_std_file` would make one that everybody may read, and gives its log
-/// the rights that the file has.
+/// Makes a file that only its owner may read, if no file is there. `sqlite_std_file` would make one that everybody may read, and gives its
+/// log the rights that the file has.
 fn make_private(rt: &HostRuntime, path: &str) {
     let _made = OpenOptions::new()
         .write(true)

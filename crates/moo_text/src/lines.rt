@@ -17,7 +17,7 @@ pub const LONGEST_TEXT: usize = 1073741824;
 /// The most bytes of a line that are kept: its limit, a carriage return that may be dropped, and a byte by which it is seen to be too long.
 const MOST_KEPT: usize = LONGEST_LINE + 2;
 
-/// The place of the first line end, from 0; `None` if there is none.
+/// The place of the first line end, from 0; `None` if there is no such line end.
 fn newline_at(text: &[u8]) -> Option<usize>
     ensures first { result ≡ position_from (λ byte. byte == 10) 0 text.now }
     ensures within { IfSome result (λ at. at < length text.now) }

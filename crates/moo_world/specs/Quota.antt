@@ -12,12 +12,12 @@ use Rattle.moo_world.specs.{Objects.{Name, nothing, same_object, same_text, -1},
 abbrev pub quota_name : Name
 quota_name = codes "ownership_quota"
 
--- the value as a quota: an integer, or there is none
+-- the value as a quota: an integer, or there is no quota
 abbrev pub quota_in : Option Value → Option ℤ
 quota_in (Some (Int quota)) = Some quota
 quota_in other = None
 
--- the integer that an owner reads as its quota; there is none if it reads anything else
+-- the integer that an owner reads as its quota; there is no quota if it reads anything else
 abbrev pub quota_of : World → ObjNo → Option ℤ
 quota_of world owner = quota_in (read_of world owner quota_name)
 
