@@ -157,11 +157,16 @@ def mark(function: Function, bug: Bug, text: str) -> str:
 
 def bugs_of(function: Function, text: str, declared: Declared) -> list[Bug]:
     """The bugs of a body, those of different kinds first; otherwise in an order that stays."""
-    left = sorted(set(all_bugs(function, text, declared)), key=lambda bug: mark(function, bug, text))
+
+    def place(bug: Bug) -> tuple[str, int]:
+        """Two bugs with one text have one mark: the first in the body comes first."""
+        return mark(function, bug, text), bug.begin
+
+    left = sorted(set(all_bugs(function, text, declared)), key=place)
     ordered: list[Bug] = []
     while left:
         kinds = {bug.kind: bug for bug in reversed(left)}
-        ordered += sorted(kinds.values(), key=lambda bug: mark(function, bug, text))
+        ordered += sorted(kinds.values(), key=place)
         left = [bug for bug in left if bug not in ordered]
     return ordered
 

@@ -7,7 +7,7 @@ import tempfile
 import time
 from dataclasses import dataclass
 from pathlib import Path
-from typing import Iterator, NamedTuple
+from typing import Callable, Iterator, NamedTuple
 
 from checking.compiling import ERROR, refused
 from checking.copies import Change, Copy, change_of, linked
@@ -25,6 +25,8 @@ GONE = re.compile(r"proofs/.*(has no field|is not in scope|has no `|was not admi
 TOLD = re.compile(r": error|^note: ")
 # A note of a function whose goals wait for another function, and no fault of its own.
 NOT_TRIED = "has not tried the goals of"
+# What is done after a check with the bugs that stay proved by it.
+Keep = Callable[[list[Survivor]], None]
 
 
 @dataclass
@@ -104,8 +106,8 @@ def plants_of(crate: str, only: str = "") -> Iterator[tuple[Function, list[Plant
 class Trial:
     """A crate's plants, tried in a room of their own."""
 
-    def __init__(self, crate: str, room: Path) -> None:
-        self.copy, self.room, self.checks = Copy(crate, room), room, 0
+    def __init__(self, crate: str, room: Path, keep: Keep) -> None:
+        self.copy, self.room, self.checks, self.keep = Copy(crate, room), room, 0, keep
         self.kept = room / "kept"
         own = CRATES / crate / "out/incremental"
         if own.is_dir():
@@ -153,6 +155,7 @@ class Trial:
             # Alone it waits for nothing but what is its own, as a closure.
             if each.kind == WAITS and len(plants) == 1:
                 each.kind = REFUSED
+        self.keep([each.survivor for each in plants if each.kind == STAYS])
         waiting = sum(each.kind == WAITS for each in plants)
         print(f"check {self.checks}: {len(plants)} bugs, {waiting} wait, {time.monotonic() - began:.0f} s", file=sys.stderr, flush=True)
 
@@ -201,12 +204,12 @@ class Tried(NamedTuple):
         return len({each.survivor.place for each in self.plants if each.kind in (STAYS, REFUSED, BY_A_NAME)})
 
 
-def try_plants(crate: str, per: int, only: str, known: set[Survivor], minutes: float) -> Tried:
-    """Tries so many plants of each function of a crate."""
+def try_plants(crate: str, per: int, only: str, known: set[Survivor], minutes: float, keep: Keep) -> Tried:
+    """Tries so many plants of each function of a crate. After each check `keep` is given those that stay proved by it."""
     ends = time.monotonic() + 60 * minutes
     plants = [found for _, found in plants_of(crate, only)]
     with tempfile.TemporaryDirectory(prefix="moo-plants-") as folder:
-        trial = Trial(crate, Path(folder))
+        trial = Trial(crate, Path(folder), keep)
         trial.begin()
         while time.monotonic() < ends and (some := trial.ready(plants, per, known)):
             trial.judge_all(some, ends)

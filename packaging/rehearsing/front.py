@@ -93,7 +93,8 @@ def restarts(machine: Machine, chance: random.Random) -> Iterator[None]:
         ["systemctl kill --signal=KILL moo@world moo-web@world"],
         ["systemctl stop moo@world", "systemctl start moo-watch@world --no-block", "sleep 0.3", "systemctl start moo@world"],
         [
-            "systemctl stop moo@world moo-web@world", "systemctl start moo-watch@world --no-block", "sleep 0.3",
+            # A visitor may start both by the socket before they have ended. Then systemd gives the stop up, with status 1.
+            "systemctl stop moo@world moo-web@world || true", "systemctl start moo-watch@world --no-block", "sleep 0.3",
             "systemctl start moo-web@world moo@world"
         ],
         ["systemctl start moo-backup@world", "systemctl start moo-copy@world"],

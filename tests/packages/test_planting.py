@@ -111,6 +111,12 @@ class Bugs(unittest.TestCase):
         found = bugs.bugs_of(functions_of("src/lib.rt", text)[0], text, DECLARED)
         self.assertEqual(sorted(bug.new for bug in found if bug.kind == "another form"), ["Coal", "Oil", "Wax"])
 
+    def test_of_two_with_one_text_the_first_comes_first(self) -> None:
+        text = "fn f(less: u8, more: u8) -> bool { less < more && more < 9 && more < 7 }"
+        (function,) = functions_of("src/lib.rt", text)
+        places = [bug.begin for bug in bugs.bugs_of(function, text, DECLARED) if bug.new == "<="]
+        self.assertEqual(places, [text.index(" <") + 1, text.index("< 9"), text.index("< 7")])
+
     def test_only_the_body_is_changed_and_lines_stay(self) -> None:
         for function in FUNCTIONS:
             for bug in bugs.bugs_of(function, SOURCE, DECLARED):
