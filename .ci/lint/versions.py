@@ -37,3 +37,4 @@ def cases() -> Iterator[tuple[str, object]]:
     for manual in manuals:
         yield f"{manual.name} is of this version", others(str(manual.relative_to(TOP)), r'^\.TH .* "moo (.*)" "')
     yield "the client for Python is of this version", others("pyproject.toml", r'^version = "(.*)"$')
+    yield "each program in Python is of this version", others("tools/moolib/__init__.py", r'^__version__ = "(.*)"$')

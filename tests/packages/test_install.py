@@ -214,6 +214,16 @@ class Install(InFolder):
         for name in ("moo-replay", "moo-web"):
             self.assertIn(f"usage: {name} FOLDER ", ran(prefix / "bin" / name, "--help"))
 
+    @unittest.skipUnless(pathlib.Path(DEBIANS_PYTHON).exists(), "Debian's Python is missing")
+    def test_each_program_says_its_version(self):
+        """That of `moo`."""
+        prefix = self.install()
+        version = ran(prefix / "bin/moo", "--version").split()[1]
+        for path in sorted((prefix / "bin").glob("moo-*")):
+            name = "moo" if path.name == "moo-shell" else path.name
+            with self.subTest(path.name):
+                self.assertEqual(ran(path, "--version"), f"{name} {version}\n")
+
     @unittest.skipIf(lacking(), "Debian's Python or waitress is missing")
     def test_each_module_of_the_front_finds_what_it_needs(self):
         """In what is installed, and nowhere else. What Debian's packages lack here is left out."""

@@ -14,4 +14,7 @@ from moolib.errors import MooError
 from moolib.service import Service
 from moolib.values import ErrorValue, Obj, Value, read, written
 
+# That of `moo --version`, and of the packages.
+__version__ = "1.1.0"
+
 __all__ = ["Call", "ErrorValue", "Moo", "MooError", "Obj", "Service", "Value", "read", "written"]

@@ -12,6 +12,7 @@ import time
 from pathlib import Path
 from typing import TYPE_CHECKING, Any, Callable
 
+from moolib import __version__
 from moolib.errors import Failed
 
 from moo_web.api import Api, token_of
@@ -73,6 +74,7 @@ It needs a world that `moo serve FILE M` keeps, and that nobody else writes to. 
 def read_words(words: list[str]) -> argparse.Namespace:
     """What the command line says."""
     parser = argparse.ArgumentParser(prog="moo-web", usage=USAGE, description="The front of one world.", epilog=MORE)
+    parser.add_argument("--version", action="version", version=f"%(prog)s {__version__}")
     parser.add_argument("folder", metavar="FOLDER", help="the accounts and the journal; made if it isn't there")
     parser.add_argument("--moo-port", metavar="M", type=port_number, required=True, help="the port of `moo serve` on this machine")
     parser.add_argument("--port", metavar="P", type=port_number, default=PORT, help=f"the port of the front ({PORT}); 0 is a free one")

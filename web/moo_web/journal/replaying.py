@@ -13,6 +13,7 @@ import sys
 from pathlib import Path
 from typing import Callable, Optional
 
+from moolib import __version__
 from moolib.calls import Call, call_name
 from moolib.copies import Place
 from moolib.errors import Failed
@@ -50,6 +51,7 @@ more.
 def read_words(words: list[str]) -> argparse.Namespace:
     """What the command line says."""
     parser = argparse.ArgumentParser(prog="moo-replay", usage=USAGE, description="Brings a world up to a journal.", epilog=MORE)
+    parser.add_argument("--version", action="version", version=f"%(prog)s {__version__}")
     parser.add_argument("folder", metavar="FOLDER", type=Path, help="the folder of the journal")
     parser.add_argument("file", metavar="FILE", nargs="?", help="the world")
     parser.add_argument("--to", metavar="S", type=batch_number, help="up to number S of the world")

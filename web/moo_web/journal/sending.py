@@ -21,6 +21,7 @@ import time
 from pathlib import Path
 from typing import Any, Iterator
 
+from moolib import __version__
 from moolib.errors import Failed
 from moolib.service import packed
 
@@ -178,6 +179,7 @@ def bring_copy_up(folder: Path, target: str) -> None:
 def main() -> None:
     """Runs the program with the words of the command line."""
     parser = argparse.ArgumentParser(prog="moo-send", usage=USAGE, description="Gives the journal of a front.", epilog=MORE)
+    parser.add_argument("--version", action="version", version=f"%(prog)s {__version__}")
     parser.add_argument("folder", metavar="FOLDER", type=Path)
     parser.add_argument("copy", metavar="COPY", nargs="?")
     said = parser.parse_args()

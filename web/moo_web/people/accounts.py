@@ -10,6 +10,7 @@ import sys
 from pathlib import Path
 from typing import Callable
 
+from moolib import __version__
 from moolib.errors import Failed
 
 from moo_web.people.audit import audit_to_system
@@ -40,6 +41,7 @@ SHORT = 8
 def read_words(words: list[str]) -> argparse.Namespace:
     """What the command line says."""
     parser = argparse.ArgumentParser(prog="moo-people", usage=USAGE, description="The people of a front.", epilog=MORE)
+    parser.add_argument("--version", action="version", version=f"%(prog)s {__version__}")
     parser.add_argument("folder", metavar="FOLDER")
     commands = parser.add_subparsers(dest="command", required=True, metavar="COMMAND", prog="moo-people FOLDER")
 
