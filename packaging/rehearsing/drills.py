@@ -31,6 +31,18 @@ def disk_died(two: Machine, token: str, made: Made) -> None:
     has_all(token, made)
 
 
+def both_folders_died(two: Machine, token: str, made: Made) -> None:
+    """The drill without a second folder: the journal's copy takes its place, and the next copy goes on from it."""
+    two.run(block("copy the journal"))
+    gone = "/var/lib/moo/* /var/lib/moo-web/world /srv/journal2/world/*"
+    two.run([f"systemctl kill --signal=KILL moo@world moo-web@world; rm -rf {gone}"])
+    two.run(block("from the journal")[:2] + block("from the journal's copy") + block("put in place"))
+    has_all(token, made)
+    with visits(token, made):
+        two.run(block("copy the journal"))
+    has_all(token, made)
+
+
 def back_to_noon(two: Machine, token: str, made: Made) -> None:
     """The drill: what came after a moment isn't in the world any more, and what came before is. A copy was made of what is given up."""
     time.sleep(1)
@@ -163,6 +175,7 @@ def disk_filled(disk: Disk) -> Callable[[Machine, str, Made], None]:
 # The drills of the page in their order, by names. Each begins on a machine whose world has a front, and all but the last one leave it so.
 DRILLS: dict[str, Callable[[Served], None]] = {
     "the disk died": stepped("the disk died", disk_died),
+    "no second folder": stepped("the disk died, and there is no second folder", both_folders_died),
     "back to noon": after_noon,
     "a text of batches": stepped("a text of batches", text_of_batches),
     "somebody left": stepped("somebody left", somebody_left),

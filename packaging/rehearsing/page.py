@@ -38,6 +38,7 @@ BLOCKS = {
     "restore": ("Restore", "ls /var/backups/moo"),
     "begin the journal anew": ("Restore", "echo ONCE=--rebase"),
     "from the journal": ("Drills", "systemctl stop moo-web@world.socket moo-web@world moo@world moo-watch"),
+    "from the journal's copy": ("Drills", "moo-replay /var/backups/moo-web/world"),
     "put in place": ("Drills", "install -o moo -g moo -m 600 /srv/again/world.db "),
     "end the standby": ("Drills", "systemctl disable --now moo-follow@world"),
     "become the world": ("Drills", "install -o moo -g moo -m 600 /var/lib/moo-web/world/standby.db "),
