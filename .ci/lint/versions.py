@@ -32,7 +32,8 @@ def cases() -> Iterator[tuple[str, object]]:
     yield "CHANGELOG begins with the program's version", others("CHANGELOG.md", r"\A(?:(?!^## ).*\n)*## (.*)$")
     for page in ("README.md", "docs/OPERATING.md"):
         yield f"{page} names packages of this version", others(page, PACKAGES)
-    yield "README says which version is the last", others("README.md", r"The last version is (\S+),")
+    for page in ("README.md", "docs/BENCHMARKS.md"):
+        yield f"{page} has the figures of this version", others(page, r"\bversion (\d[\d.]*\d)[.,]")
     manuals = [path for folder in ("docs", "packaging", "packaging/web") for path in sorted((TOP / folder).glob("*.1"))]
     for manual in manuals:
         yield f"{manual.name} is of this version", others(str(manual.relative_to(TOP)), r'^\.TH .* "moo (.*)" "')
