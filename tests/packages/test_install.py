@@ -57,6 +57,7 @@ INSTALLED = {
     "share/bash-completion/completions/moo-shell": 0o644,
     "share/doc/moo/examples/builders.moo": 0o644,
     "share/doc/moo/examples/classes.moo": 0o644,
+    "share/doc/moo/examples/lantern.txt": 0o644,
     "share/doc/moo/examples/village.moo": 0o644,
     "share/man/man1/moo.1.gz": 0o644,
     "share/man/man1/moo-backup.1.gz": 0o644,
@@ -95,6 +96,12 @@ INSTALLED_WEB = {
         if path.is_file() and "__pycache__" not in path.parts
     },
 }
+# The pages and pictures that the packages have besides, below share/doc.
+PAGES = {
+    **{f"moo/{name}.md": 0o644 for name in ("CALLS", "CHANGELOG", "ERRORS", "HTTP", "OPERATING")},
+    **{f"moo-web/{name}.md": 0o644 for name in ("JOURNAL", "PAGES", "WEB")},
+    **{f"moo-web/page-{name}.png": 0o644 for name in ("map-dark", "object", "petitions", "preview")},
+}
 # A link to the client that packaging/install puts there.
 CLIENT_LINK = {"lib/moo-web/moo_client.py": 0o644}
 CLIENT = "import moo_client; print(moo_client.Moo({port}).run([('create', moo_client.Obj(1))], as_=3))"
@@ -128,6 +135,12 @@ def modes(top):
 def wants(command):
     """Leaves a test out if a command is missing."""
     return unittest.skipUnless(shutil.which(command), f"the command {command} is missing")
+
+
+def without_links(text):
+    """The text of a page with the text alone of each link, and with each manual page by its name."""
+    text = re.sub(r"\[[^]]*\]\([^)]*/([a-z-]+)\.1\)", r"\1(1)", text)
+    return re.sub(r"\[([^]]*)\]\([^)]*\)", r"\1", text)
 
 
 def lacks_networks():
@@ -795,6 +808,64 @@ class Package(InFolder):
         self.assertEqual({name.rpartition("/")[0] for name in held}, {"usr/share/doc/moo", "usr/share/lintian/overrides"})
         self.assertEqual(sums(self.room / "top/usr/bin/moo"), sums(pathlib.Path(MOO)))
         self.assertEqual(ran(self.room / "top/usr/bin/moo", "init", ":memory:"), "created\n")
+
+    def both(self):
+        """The folder of the documents of both packages."""
+        for path in (self.package, self.web):
+            ran("dpkg-deb", "-x", path, self.room / "both")
+        return self.room / "both/usr/share/doc"
+
+    def test_the_pages_and_the_pictures_on_them(self):
+        """The pictures are those of the sources."""
+        top = self.both()
+        self.assertEqual({name: mode for name, mode in modes(top).items() if name.endswith((".md", ".png"))}, PAGES)
+        pictures = list(top.rglob("*.png"))
+        self.assertEqual(sums(*pictures), sums(*(TOP / "docs" / path.name for path in pictures)))
+
+    def test_each_link_leads_to_a_file_of_the_packages(self):
+        """And to a heading of it, if the link names one."""
+        anchors = tool("front_page.py", TOP / ".ci/lint").anchors
+        top = self.both()
+        for page in top.rglob("*.md"):
+            for target, anchor in re.findall(r"\]\((?!https?:)([^)#]*)#?([^)]*)\)", page.read_text()):
+                with self.subTest(page=page.name, target=target, anchor=anchor):
+                    file = (page.parent / target).resolve() if target else page
+                    self.assertTrue(file.is_file() and file.is_relative_to(top))
+                    self.assertTrue(not anchor or anchor in anchors(file))
+
+    def test_no_page_is_changed_but_for_its_links(self):
+        """Once on a page is said of another that it is in the sources."""
+        for page in self.both().rglob("*.md"):
+            text = page.read_text()
+            source = TOP / page.name if page.name == "CHANGELOG.md" else TOP / "docs" / page.name
+            with self.subTest(page.name):
+                self.assertEqual(without_links(text).replace(" (in the sources)", ""), without_links(source.read_text()))
+                told = re.findall(r"(\w+) \(in the sources\)", text)
+                self.assertEqual(len(told), len(set(told)))
+
+    def test_what_becomes_of_links(self):
+        """In code nothing is one. What neither package has is said to be in the sources once, and not in brackets."""
+        put = tool("put-pages", TOP / "packaging")
+        page, packages = TOP / "docs/CALLS.md", put.packed()
+        cases = (
+            ("[A](HTTP.md) [A](HTTP.md#ticks) [A](#a)", "[A](HTTP.md) [A](HTTP.md#ticks) [A](#a)"),
+            ("[a\nb](WEB.md#people), [`A`](../CHANGELOG.md)", "[a\nb](../moo-web/WEB.md#people), [`A`](CHANGELOG.md)"),
+            ("![A](page-object.png)", "![A](../moo-web/page-object.png)"),
+            ("[moo-shell](../packaging/moo-shell.1) [A](https://x.org/A.md)", "moo-shell(1) [A](https://x.org/A.md)"),
+            ("([A](GATE.md)) [A](GATE.md#a) [A](GATE.md), [B](TOUR.md)", "(A) A (in the sources) A, B (in the sources)"),
+            ("`[A](WEB.md)` `` ` [A](WEB.md)`` [A](WEB.md)", "`[A](WEB.md)` `` ` [A](WEB.md)`` [A](../moo-web/WEB.md)"),
+            ("```\n[A](WEB.md)\n```\n\n    [A](WEB.md)\n", "```\n[A](WEB.md)\n```\n\n    [A](WEB.md)\n"),
+            ("a ` alone\n\n[A](WEB.md) ` b", "a ` alone\n\n[A](../moo-web/WEB.md) ` b"),
+        )
+        for text, wanted in cases:
+            with self.subTest(text):
+                self.assertEqual(put.with_links(page, text, packages), wanted)
+
+    def test_wrong_words_for_the_pages(self):
+        for words in ((), ("moo",), ("docs", self.room), ("moo", self.room, "a")):
+            done = subprocess.run([TOP / "packaging/put-pages", *words], stderr=subprocess.PIPE, text=True, timeout=SECONDS)
+            self.assertEqual((done.returncode, done.stderr), (2, "usage: packaging/put-pages moo|moo-web FOLDER\n"))
+        self.assertEqual(list(self.room.iterdir()), [])
 
     def test_its_checksums(self):
         for path in (self.package, self.web):
