@@ -5,6 +5,7 @@ import os
 import re
 import shutil
 import subprocess
+import unittest
 from pathlib import Path
 
 from tests.support.cases import ProgramTest
@@ -23,12 +24,12 @@ ELSEWHERE = {
     "make": "packages.front_page",
     "make test": "packages.front_page",
     'make test SUBJECTS="shell web.forms"': "packages.front_page",
-    "make deb && apt-get install ./out/moo_1.1.0_amd64.deb": "packages.install",
+    "make deb && apt-get install ./out/moo_1.1.0_amd64.deb": "packages.apt",
     "make demo": "web.demo",
-    "apt-get install python3-waitress python3-jinja2": "packages.install",
+    "apt-get install python3-waitress python3-jinja2": "packages.apt",
     # The gate itself.
     "make prove": "",
-    "man packaging/moo-shell.1": "packages.install",
+    "man packaging/moo-shell.1": "packages.front_page",
     "./moo init village.db": "packages.front_page",
     "tools/moo-shell -f examples/village.moo village.db": "packages.front_page",
     "./moo apply :memory: examples/lantern.txt": "packages.front_page",
@@ -111,6 +112,14 @@ class FrontPage(ProgramTest):
         came = self.shown("./moo apply :memory: examples/lantern.txt")
         self.case("a text of batches", came, (TOP / "examples/lantern.replies").read_text().splitlines())
         self.case("the help", self.shown("./moo --help")[0] != "", True)
+
+    @unittest.skipUnless(shutil.which("man"), "the command man is missing")
+    def test_the_manual(self) -> None:
+        """All of it, without a warning."""
+        words = ["man", "--warnings", TOP / "packaging/moo-shell.1"]
+        ran = subprocess.run(words, env={**os.environ, "MANPAGER": "cat", "MANWIDTH": "120"}, capture_output=True, text=True, timeout=PATIENCE)
+        self.case("its status and its warnings", (ran.returncode, ran.stderr), (0, ""))
+        self.case("its last part", "SEE ALSO" in ran.stdout, True)
 
     def test_each_command_is_run(self) -> None:
         played = {line[2:] for first in ("$ ./moo init world.db", "$ ./moo serve world.db 8080 &") for line, _ in session(first)}
