@@ -144,7 +144,7 @@ def restored_elsewhere(served: Served) -> None:
         own_port(four)
     with step("both machines are gone"):
         four.run(block("both are gone"))
-        four.run(block("start the front")[1:5] + [block("a second journal")[0], *block("a second journal")[2:5]])
+        four.run(block("its own network")[1:5] + [block("a second journal")[0], *block("a second journal")[2:5]])
         four.run([*block("put in place"), *block("at each boot"), *ALONE])
         has_all(token, made)
     with visits(token, made), step("go on there, kill it and boot it"):

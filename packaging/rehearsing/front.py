@@ -56,7 +56,8 @@ def let_people_in(one: Machine, version: str = NEW) -> str:
     one.run(["cd moo", *of_version(block("install the front"), version), "apt-get install curl"])
     own_port(one)
     one.run(SLOW_WATCH)
-    one.run(block("start the front"), text=f"{PASSWORD}\n")
+    one.run(block("its own network"), text=f"{PASSWORD}\n")
+    one.run(block("start the front"))
     one.run(ALONE)
     one.run(block("a second journal"))
     run_to_answer(one, [*block("get at it")[:2], f"seq {number(one)}"])
@@ -73,7 +74,7 @@ def number(machine: Machine) -> int:
 
 def stay_inside(machine: Machine) -> None:
     """If a watch runs outside, the world isn't served there: it waits until it gets a network of its own."""
-    start = block("start the front")
+    start = block("its own network")
     outside = "rm /etc/systemd/system/moo@world.service.d/alone.conf /etc/systemd/system/moo-watch@world.service.d/alone.conf"
     front = "moo-web@world.socket moo-web@world"
     machine.run([f"systemctl stop {front}", start[0], outside, "systemctl daemon-reload", "systemctl start moo@world", *SLOW_WATCH])

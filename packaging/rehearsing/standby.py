@@ -87,7 +87,7 @@ def machine_died(two: Machine, token: str, made: Made) -> None:
     two.run([*block("settings"), "echo 'WEB=--journal /srv/journal2/world' >>/etc/moo/world.conf"])
     own_port(two)
     two.run(block("a second journal")[2:5])
-    lines = [line for line in block("start the front") if "moo-people" not in line]
+    lines = [line for line in block("its own network") + block("start the front") if "moo-people" not in line]
     two.run([*lines, "systemctl enable --now moo@world moo-watch@world.timer"])
     has_all(token, made)
 
